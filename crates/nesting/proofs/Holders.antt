@@ -1,7 +1,7 @@
 -- Which session is on a pool: at the start, and by the holder or the depth that is told.
-use Rattle.std.proofs.Common.{◌≡◌, ℕ, zero, suc, List, Option, Some, None, option_map, replicate, refl, sym, ap, ◌∙◌, arith}
+use Rattle.std.proofs.Common.{◌≡◌, ℕ, zero, suc, List, Option, Some, None, option_map, replicate, refl, sym, ◌∙◌, arith}
 use Rattle.std.proofs.lemmas.List.{length-replicate}
-use Rattle.std.proofs.lemmas.Option.{none-some, same_Some}
+use Rattle.std.proofs.lemmas.Option.{none-some}
 use Rattle.pud_defs.specs.declared.records.TheConstants.{POOL_RECORDS}
 use Rattle.nesting.specs.declared.Session.{Session}
 use Rattle.nesting.specs.Sessions.{session_in, client_in, session_depth, holder_in, depth_in, count_of, IsSession, AreSessions}
@@ -32,15 +32,6 @@ none_held (Some session) e = absurd (none-some session.client (sym e))
 -- a pool that nobody holds has no session
 pub session_in-no_holder : (sessions : List (Option Session)) (pool : ℕ) → holder_in sessions pool ≡ None → session_in sessions pool ≡ None
 session_in-no_holder sessions pool none = none_held (session_in sessions pool) none
-
-one_held : (o : Option Session) (client : ℕ) → option_map client_in o ≡ Some client → o ≡ Some (record { client = client; depth = session_depth o })
-one_held None client e = absurd (none-some client e)
-one_held (Some session) client e = ap (λ (n : ℕ). Some (record { client = n; depth = session.depth })) (same_Some session.client client e)
-
--- a pool that a client holds has a session of the client, at its depth
-pub session_in-holder : (sessions : List (Option Session)) (pool client : ℕ) → holder_in sessions pool ≡ Some client
-    → session_in sessions pool ≡ Some (record { client = client; depth = depth_in sessions pool })
-session_in-holder sessions pool client held = one_held (session_in sessions pool) client held
 
 none_begun : (o : Option Session) → ((session : Session) → o ≡ Some session → IsSession session) → session_depth o ≡ 0 → o ≡ None
 none_begun None each e = refl

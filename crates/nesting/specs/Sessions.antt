@@ -1,7 +1,8 @@
--- Whose transaction is open on each pool, by the slot of its record, and how often it was begun.
+-- Whose transaction is open on each pool, by the slot of its record, with which log, and how often it was begun.
 use Rattle.std.specs.Prelude.{◌≡◌, ℕ, ◌+◌, ◌-◌, ◌<◌, ◌≤◌, Bool, false, ◌==◌, nat_le, cond, List, length, Option, Some, None, option_map, count_by, slice_index_or, set}
 use Rattle.pud_defs.specs.declared.layout.TheConstants.{CLIENTS, MAX_DEPTH}
 use Rattle.pud_defs.specs.declared.records.TheConstants.{POOL_RECORDS}
+use Rattle.pud_defs.specs.Settled.{ALL_LOGS}
 use Rattle.nesting.specs.declared.Session.{Session}
 
 -- the session on the pool in this slot
@@ -13,6 +14,10 @@ session_in sessions pool = slice_index_or sessions pool None
 -- whose it is
 abbrev pub client_in : Session → ℕ
 client_in session = session.client
+
+-- the number of its log
+abbrev pub number_in : Session → ℕ
+number_in session = session.number
 
 -- how often it was begun
 abbrev pub session_depth : Option Session → ℕ
@@ -35,6 +40,11 @@ lowered_session (Some session) = cond (nat_le session.depth 1) None (Some (recor
 abbrev pub holder_in : List (Option Session) → (pool : ℕ) → Option ℕ
 holder_in sessions pool = option_map client_in (session_in sessions pool)
 
+-- the number of the log of the client's own transaction on the pool, where it is open
+abbrev pub own_in : (client : ℕ) → Option Session → Option ℕ
+own_in client None = None
+own_in client (Some session) = cond (session.client == client) (Some session.number) None
+
 -- how often the transaction on the pool was begun, 0 where none is open
 abbrev pub depth_in : List (Option Session) → (pool : ℕ) → ℕ
 depth_in sessions pool = session_depth (session_in sessions pool)
@@ -43,17 +53,18 @@ depth_in sessions pool = session_depth (session_in sessions pool)
 abbrev pub count_of : (client : ℕ) → List (Option Session) → ℕ
 count_of client sessions = count_by (is_of client) sessions
 
--- the client's on the pool, one deeper
-abbrev pub entered : (client pool : ℕ) → List (Option Session) → List (Option Session)
-entered client pool sessions = set sessions pool (Some (record { client = client; depth = depth_in sessions pool + 1 }))
+-- the client's on the pool, with the log of this number, one deeper
+abbrev pub entered : (client pool number : ℕ) → List (Option Session) → List (Option Session)
+entered client pool number sessions = set sessions pool (Some (record { client = client; number = number; depth = depth_in sessions pool + 1 }))
 
 -- the one on the pool, one less deep
 abbrev pub left : (pool : ℕ) → List (Option Session) → List (Option Session)
 left pool sessions = set sessions pool (lowered_session (session_in sessions pool))
 
--- a session of one of the clients, begun at least once and no more often than it may be
+-- a session of one of the clients, with one of the logs, begun at least once and no more often than it may be
 pub record IsSession (session : Session) : Type 0 where
   pub client : session.client < CLIENTS
+  pub number : session.number < ALL_LOGS
   pub begun : 1 ≤ session.depth
   pub few : session.depth ≤ MAX_DEPTH
 

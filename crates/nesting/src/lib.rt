@@ -1,13 +1,14 @@
-//! Sessions of clients on pools: whose transaction is open on each pool, and how often it was begun.
+//! Sessions of clients on pools: whose transaction is open on each pool, with which log, and how often it was begun.
 //!
-//! A pool is given by the slot of its record in the pool table, 0 to 31, and a client by its number, 0 to 7. On each pool the transaction of at most
-//! one client is open. No call takes memory or touches a device.
+//! A pool is given by the slot of its record in the pool table, 0 to 31, a client by its number, 0 to 7, and a log by its number among those of all
+//! clients, 0 to 31. On each pool the transaction of at most one client is open. No call takes memory or touches a device.
 #![tactic(auto)]
 
 ghost use Rattle.std.specs.Prelude.{◌≡◌, ◌+◌, ◌<◌, ◌≤◌, ◌↔◌, replicate, set, Option, Result, IfOk, IfSome, OnErr};
 ghost use Rattle.pud_defs.specs.declared.layout.TheConstants.{CLIENTS, CLIENT_LOGS, MAX_DEPTH};
 ghost use Rattle.pud_defs.specs.declared.records.TheConstants.{POOL_RECORDS};
-ghost use Rattle.nesting.specs.Sessions.{session_in, holder_in, depth_in, is_of, count_of, entered, left, AreSessions};
+ghost use Rattle.pud_defs.specs.Settled.{ALL_LOGS};
+ghost use Rattle.nesting.specs.Sessions.{session_in, holder_in, depth_in, is_of, count_of, entered, lowered_session, left, IsSession, AreSessions};
 
 use pud_defs::layout::{CLIENT_LOGS, MAX_DEPTH};
 use pud_defs::records::POOL_RECORDS;
@@ -15,11 +16,13 @@ use std::marker::Model;
 
 /// A transaction that is open on a pool.
 #[derive(Clone, Copy)]
-struct Session {
+pub struct Session {
     /// Whose it is, 0 to 7.
-    client: u8,
+    pub client: u8,
+    /// The number of its log, 0 to 31.
+    pub number: u32,
     /// How often it was begun, 1 to 16.
-    depth: u32,
+    pub depth: u32,
 }
 
 /// Why no session begins or is one deeper. Nothing changed.
@@ -56,6 +59,20 @@ fn is_of(client: u8, session: Option<Session>) -> bool
     ensures { result ≡ is_of client session }
 {
     session.is_some_and(|session| session.client == client)
+}
+
+/// The session one less deep, or none where it was begun once.
+fn lowered(session: Session) -> Option<Session>
+    requires { 1 ≤ session.depth }
+    ensures { result ≡ lowered_session (Option.Some session) }
+{
+    if session.depth <= 1 {
+        return None;
+    }
+    Some(Session {
+        depth: session.depth - 1,
+        ..session
+    })
 }
 
 impl Sessions {
@@ -100,25 +117,30 @@ impl Sessions {
         }
     }
 
-    /// The client's transaction is open on the pool and begun once, or once more where it was open.
+    /// The client's transaction is open on the pool with the log of this number, 0 to 31, and begun once, or once more where it was open.
     ///
     /// `Deep` comes exactly where it was begun 16 times. `Logs` comes exactly where none is open on the pool and the client's are open on four
     /// pools. After an error nothing changed.
-    pub fn enter(&mut self, client: u8, pool: u32) -> Result<(), EnterFault>
+    pub fn enter(&mut self, client: u8, pool: u32, number: u32) -> Result<(), EnterFault>
         requires known { client < CLIENTS }
         requires slot { pool < POOL_RECORDS }
+        requires log { number < ALL_LOGS }
         // No other client's transaction is open on the pool.
         requires own { IfSome (session_in self.old pool) (λ session. session.client ≡ client) }
         ensures deep { (result ≡ Result.Err EnterFault.Deep) ↔ (depth_in self.old pool ≡ MAX_DEPTH) }
         ensures logs { (result ≡ Result.Err EnterFault.Logs) ↔ ((session_in self.old pool ≡ Option.None) × (CLIENT_LOGS ≤ count_of client self.old)) }
-        ensures entered { IfOk result (λ _. self.new ≡ entered client pool self.old) }
+        ensures entered { IfOk result (λ _. self.new ≡ entered client pool number self.old) }
         ensures stays { OnErr result (self.new ≡ self.old) }
     {
         if let Some(fault) = self.fault_to_enter(client, pool) {
             return Err(fault);
         }
         let depth = self.depth(pool) + 1;
-        self.pools[pool as usize] = Some(Session { client, depth });
+        self.pools[pool as usize] = Some(Session {
+            client,
+            number,
+            depth,
+        });
         Ok(())
     }
 
@@ -131,11 +153,7 @@ impl Sessions {
         ensures left { self.new ≡ left pool self.old }
     {
         let depth = self.depth(pool) - 1;
-        self.pools[pool as usize] = if depth == 0 {
-            None
-        } else {
-            Some(Session { client, depth })
-        };
+        self.pools[pool as usize] = self.pools[pool as usize].and_then(lowered);
         depth
     }
 
@@ -145,6 +163,16 @@ impl Sessions {
         ensures { self.new ≡ set self.old pool Option.None }
     {
         self.pools[pool as usize] = None;
+    }
+
+    /// The session on the pool, or None where no transaction is open on it.
+    pub fn session(&self, pool: u32) -> Option<Session>
+        requires { pool < POOL_RECORDS }
+        ensures session { result ≡ session_in self.now pool }
+        ensures one { IfSome result IsSession }
+        ensures within { AreSessions self.now }
+    {
+        self.pools[pool as usize]
     }
 
     /// Whose transaction is open on the pool, 0 to 7, or None where none is.

@@ -12,7 +12,8 @@ fn enter(
     if let Some(holder) = sessions.holder(pool) {
         assert!(rt; holder == client);
     }
-    sessions.enter(client, pool)
+    // The number of the log is that of the pool: only that it is one of the 32 counts here.
+    sessions.enter(client, pool, pool)
 }
 
 /// How often the client's transaction on the pool is begun behind a commit.

@@ -2,7 +2,6 @@
 use Rattle.std.proofs.Common.{◌≡◌, ◌≢◌, inl, inr, ℕ, ◌+◌, ◌*◌, ◌/◌, ◌<◌, ◌≤◌, true, false, leb, ltb, List, [], length, Option, Some, None, refl, sym, ap, ap₂, subst, ◌∙◌, arith}
 use Rattle.std.specs.Prelude.{unwrap_or, set}
 use Rattle.std.proofs.lemmas.Bool.{cases_eq, cases_lt, and_from, le-leb, lt-ltb, false_from_ne_true}
-use Rattle.std.proofs.lemmas.List.{length-map}
 use Rattle.std.proofs.lemmas.Option.{none-some}
 use Rattle.pm_model.specs.declared.host.HostFault.{HostFault}
 use Rattle.pm_model.specs.Words.{Has, values, Cell, reads, Picks, HasOnly}
@@ -45,19 +44,21 @@ use Rattle.batch.proofs.Tables.{HasDurableTables-kept, reads_kept}
 use Rattle.word_transaction.specs.Ground.{Ground, IsGround}
 use Rattle.word_transaction.specs.Running.{IsIdle, nothing, begun, SettlesTo, Runs}
 use Rattle.hybrid_tx.specs.Grounds.{pool_mine, pool_ground, IsPlaced}
-use Rattle.hybrid_tx.specs.Masks.{OpenPool, is_open_record, open_mask, IsOpenPool}
-use Rattle.hybrid_tx.specs.ManyOpen.{OpenTransaction, AreLeftOpen, AreOpenPools, HasRecords, IsOneMore, MasksAll, Opens, open_masks, with_transaction}
-use Rattle.hybrid_tx.proofs.OpenIdle.{unnamed_idle}
-use Rattle.hybrid_tx.proofs.Opening.{IsOpenOn-begun}
-use Rattle.hybrid_tx.proofs.OpenMasks.{open_record_place, mine_behind, mask_of_others}
+use Rattle.hybrid_tx.specs.Open.Masks.{OpenPool, is_open_record, open_mask, ArePuddlesOf, IsOpenPool}
+use Rattle.hybrid_tx.specs.Open.ManyOpen.{OpenTransaction, AreLeftOpen, AreOpenPools, HasRecords, IsOneMore, MasksAll, Opens, open_masks, with_transaction}
+use Rattle.hybrid_tx.proofs.Open.OpenIdle.{unnamed_idle}
+use Rattle.hybrid_tx.proofs.Objects.Opening.{IsOpenOn-begun}
+use Rattle.hybrid_tx.proofs.Open.OpenMasks.{open_record_place, mine_behind, mask_of_others}
 use Rattle.hybrid_tx.proofs.PoolGrounds.{pool_mine-each, is_ground}
-use Rattle.hybrid_tx.proofs.OpenPools.{placed_by_tables, open_on_device}
-use Rattle.hybrid_tx.proofs.ManyIdle.{idle_world_begun, left_more, masks_elsewhere, one_begun, opens_more, records_more}
-use Rattle.hybrid_tx.proofs.ManyMasks.{masks_below, masks_beside_log, masks_of_gate, masks_same, open_masks_all}
-use Rattle.hybrid_tx.proofs.OpenSettled.{nothing_given}
+use Rattle.hybrid_tx.proofs.Open.OpenPools.{placed_by_tables, open_on_device}
+use Rattle.hybrid_tx.proofs.Open.PoolPlaces.{are_puddles_in_turn}
+use Rattle.hybrid_tx.proofs.Open.ManyIdle.{idle_world_begun, left_more, masks_elsewhere, one_begun, opens_more, records_more}
+use Rattle.hybrid_tx.proofs.Open.ManyMasks.{masks_below, masks_beside_log, masks_of_gate, masks_same, open_masks_all}
+use Rattle.hybrid_tx.proofs.Open.OpenSettled.{nothing_given}
 use Rattle.ready_daemon.specs.Memory.{Held, Memory, held_under}
-use Rattle.ready_daemon.specs.Held.{puddles_in, IsHeld, Holds, HasDurableFrames, HasIdleLogs, HasSessions, IsHeldUnder, open_held, pool_held}
+use Rattle.ready_daemon.specs.Held.{IsHeld, Holds, HasDurableFrames, HasIdleLogs, HasSessions, IsHeldUnder, open_held, pool_held}
 use Rattle.ready_daemon.specs.Beginning.{MayBegin, begins_as}
+use Rattle.ready_daemon.specs.Judged.{known_in}
 use Rattle.ready_daemon.specs.KnownPools.{KnowsPools}
 use Rattle.ready_daemon.specs.Ready.{IsReady, RefusesNone, StandsBetween, Applies}
 use Rattle.ready_daemon.proofs.Beside.{Leaves-from, ready_idle, IsApart, still_under, left_all, left_apart, names_none_idle, opened_as, others_apart, records_all, unmasked_by_all}
@@ -65,14 +66,16 @@ use Rattle.ready_daemon.proofs.Beneath.{ready_gate, gate_kept, idle_kept}
 use Rattle.ready_daemon.proofs.Counting.{log_free}
 use Rattle.pool_transaction.proofs.Ending.{world_now, left_stands, idle_now, records_now}
 use Rattle.ready_daemon.proofs.InTurn.{pool_in_slot}
+use Rattle.ready_daemon.proofs.JudgedKept.{KeepsPools}
 use Rattle.ready_daemon.proofs.JudgedOpen.{KeepsPools-begun, KnowsPools-begun}
 use Rattle.ready_daemon.proofs.TablesBeside.{header_read, types_read, sound_read, owner_under}
 use Rattle.ready_daemon.proofs.HeldMore.{HasSessions-more, Holds-more, keeps_others, other_number}
 use Rattle.ready_daemon.proofs.OpenBeside.{not_named, pool_unmasked, unmasked_frames}
 use Rattle.ready_daemon.proofs.OpenNames.{open_there}
-use Rattle.ready_daemon.proofs.Sessions.{none_held}
-use Rattle.log_space.specs.FreeLogs.{first_closed, IsLogOf}
+use Rattle.ready_daemon.proofs.Sessions.{none_held, session_shut}
+use Rattle.log_space.specs.FreeLogs.{IsLogOf}
 use Rattle.nesting.specs.Sessions.{entered, session_in}
+use Rattle.pool_transaction.specs.Lifetime.{MayBeginIn, with_begun}
 
 -- ---- words that are masked
 
@@ -90,8 +93,9 @@ graph_held-sound st o g is = ap (λ (x : Option Graph). graph_held (held_as st x
 gate_inside : (F number k : ℕ) → k ≡ log_number_at F number → is_in_log (log_number_at F number) k ≡ true
 gate_inside F number k here = and_from (leb (log_number_at F number) k) (ltb k (log_number_at F number + LOG_WORDS)) (le-leb _ _ (omega arith)) (lt-ltb _ _ (omega arith))
 
--- A transaction of the client is to begin on the pool of the name, in its log of this number, in which none is open, as none is on the pool.
-pub record IsVacant (w : World) (memory : Memory) (client : ℕ) (name : List ℕ) (slot number : ℕ) : Type 0 where
+-- A transaction of the client is to begin on the pool of the name, in its log of this number, in which none is open, as none is on the pool, which is
+-- known by these puddles.
+pub record IsVacant (w : World) (memory : Memory) (client : ℕ) (name : List ℕ) (slot number : ℕ) (at : List (ℕ × Puddle)) : Type 0 where
   pub slot_below : slot < POOL_RECORDS
   pub known : number < ALL_LOGS
   pub whose : client_of_log number ≡ client
@@ -99,9 +103,10 @@ pub record IsVacant (w : World) (memory : Memory) (client : ℕ) (name : List �
   pub free : held_under memory.held number ≡ None
   pub unheld : session_in memory.sessions slot ≡ None
   pub shut : open_on name w ≡ None
+  pub is_known : known_in memory.judged slot ≡ Some at
 
 module _ (size : ℕ) (w : World) (memory : Memory) (old : State) (ready : IsReady size w memory old) (client : ℕ) (name : List ℕ) (slot number : ℕ) (at : List (ℕ × Puddle))
-    (vacant : IsVacant w memory client name slot number) (may : MayBegin w.stored.frames client name (reads old.now.words) slot at) where
+    (vacant : IsVacant w memory client name slot number at) (may : MayBegin w.stored.frames client name (reads old.now.words) slot at) where
   abbrev n : ℕ
   n = w.stored.frames
 
@@ -129,8 +134,11 @@ module _ (size : ℕ) (w : World) (memory : Memory) (old : State) (ready : IsRea
   low_client : client < CLIENTS
   low_client = let few = known in let whose = vacant.whose in omega arith
 
+  puddles : ArePuddlesOf (tables_of n now) slot at
+  puddles = subst (ArePuddlesOf (tables_of n now) slot) may.puddles (are_puddles_in_turn w.stored.next_number (tables_of n now) slot (sound_read size w memory old ready))
+
   opened : IsOpenPool n p now
-  opened = record { known = known; slot = within; used = may.used; at = may.puddles; owned = ap (owner_of now) vacant.whose ∙ may.owned; right = may.right }
+  opened = record { known = known; slot = within; used = may.used; puddles = puddles; owned = ap (owner_of now) vacant.whose ∙ may.owned; right = may.right }
 
   placed : IsPlaced n at
   placed = placed_by_tables w.stored.next_number n now slot at (sound_read size w memory old ready) may.puddles
@@ -240,11 +248,6 @@ module _ (size : ℕ) (w : World) (memory : Memory) (old : State) (ready : IsRea
       (ap (λ (puddles : List (ℕ × Puddle)). graph_of w.stored.types (stored_in n puddles under)) (sym pool.in_turn) ∙ ap (graph_of w.stored.types) read
       ∙ ap (λ (puddles : List (ℕ × Puddle)). graph_of w.stored.types (stored_in n puddles now)) may.puddles ∙ graph_now)
 
-  pool_count : puddles_in (pool_named name w.stored) ≡ length at
-  pool_count =
-      let pool = pool_in_slot size w memory old ready slot may.rec within may.used in
-      ap (λ (x : List ℕ). puddles_in (pool_named x w.stored)) (sym may.name_is) ∙ pool.count ∙ sym (length-map (puddles_of (tables_of n now) slot) (λ (e : ℕ × (ℕ × Puddle)). e.1)) ∙ ap length (sym pool.in_turn ∙ may.puddles)
-
   -- ---- images
 
   records_there : (i : Image) → Picks old.now.words i → HasRecords opens_then i
@@ -282,7 +285,7 @@ module _ (size : ℕ) (w : World) (memory : Memory) (old : State) (ready : IsRea
   off : (k v : ℕ) → By k v → ready.mask k ≡ None
   off k v wrote = ap ready.mask (only_at gate RUNNING_GATE k v wrote) ∙ gate_unmasked
 
-  begun_apart : (h : Held) (is : IsHeld w h ready.mask old.now.words) → IsApart n h (pool_held h is.rec is.who) By
+  begun_apart : (h : Held) (is : IsHeld w h ready.mask old.now.words) → IsApart n h (pool_held h is.at is.rec is.who) By
   begun_apart h is =
       let a = others_apart w h ready.mask old.now.words is in
       record {
@@ -400,10 +403,18 @@ module _ (size : ℕ) (w : World) (memory : Memory) (old : State) (ready : IsRea
         ];
       }
 
+      -- ---- what is known then
+
+      keeps : KeepsPools n None now (reads new.now.words)
+      keeps = KeepsPools-begun n number RUNNING_GATE old new known (subst (λ (f : Option HostFault). Persists (only gate RUNNING_GATE) f old new) done persists)
+
+      knows_begun : KnowsPools n memory.judged opens_then (reads new.now.words)
+      knows_begun = KnowsPools-begun n memory.judged number o opens opens_then now (reads new.now.words) more keeps vacant.is_known ready.knows
+
       -- ---- what is held then
 
       abbrev begun_held : Held
-      begun_held = begins_as client name slot at n number
+      begun_held = begins_as client name slot n number
 
       abbrev all : List (Option Held)
       all = set memory.held number (Some begun_held)
@@ -411,10 +422,11 @@ module _ (size : ℕ) (w : World) (memory : Memory) (old : State) (ready : IsRea
       abbrev next : World
       next = record w { transactions = with_open name (Some begun_transaction) w.transactions }
 
-      held_begun : IsHeld next begun_held mask_then new.now.words
+      abbrev held_begun : IsHeld next begun_held mask_then new.now.words
       held_begun = record {
         rec = may.rec;
         who = may.who;
+        at = at;
         before = now;
         undone = may.graph;
         transaction = begun_transaction;
@@ -426,7 +438,6 @@ module _ (size : ℕ) (w : World) (memory : Memory) (old : State) (ready : IsRea
         gate = refl;
         name = may.name_is;
         stored = pool_graph;
-        count = pool_count;
         pool = opened;
         records = λ k of. let place = open_record_place n p k within known on_device of in kept k (before_logs k place.high);
         running = IsOpenOn-begun n size at w.stored.types now gate may.graph old new ground idle graph_now (subst (λ (f : Option HostFault). Runs g (begun gate) [] now nothing f old new) done runs);
@@ -439,26 +450,19 @@ module _ (size : ℕ) (w : World) (memory : Memory) (old : State) (ready : IsRea
           let opened_then = more.same m (other_number w memory.held ready.mask old.now.words ready.held number begun_held begun_transaction placed_there vacant.free vacant.shut m h there) ∙ under.opened in
           still_under w next h ready.mask mask_then old new under.is
           (keeps_others w memory.held ready.mask old.now.words ready.held number begun_held begun_transaction placed_there vacant.free vacant.shut m h there)
-          By (begun_apart h under.is) changed (masks_then.has m (open_held h under.is.rec under.is.who under.is.before) opened_then) opens_then m under.number_is opened_then
+          By (begun_apart h under.is) changed (masks_then.has m (open_held h under.is.at under.is.rec under.is.who under.is.before) opened_then) opens_then m under.number_is opened_then
 
-      holds_begun : Holds next all mask_then new.now.words
-      unfolding held_begun
+      abbrev holds_begun : Holds next all mask_then new.now.words
       holds_begun =
           Holds-more w memory.held ready.mask old.now.words ready.held number begun_held begun_transaction placed_there vacant.free vacant.shut mask_then new.now.words opens_then are_then masks_then
           (record { is = held_begun; number_is = refl; opened = more.here }) other_held (λ m apart none. more.same m apart ∙ none)
 
-      sessions_begun : HasSessions next all (entered client slot memory.sessions)
+      sessions_begun : HasSessions next all (entered client slot number memory.sessions)
       sessions_begun =
           HasSessions-more w memory.held ready.mask old.now.words ready.held number begun_held begun_transaction placed_there vacant.free vacant.shut memory.sessions ready.sessions vacant.fits vacant.unheld
           client refl refl
 
-      -- and its pool is known no more
-      knows_begun : KnowsPools n (set memory.judged slot None) all (reads new.now.words)
-      knows_begun =
-          KnowsPools-begun n memory.judged memory.held number begun_held now (reads new.now.words)
-          (KeepsPools-begun n number RUNNING_GATE old new known (subst (λ (f : Option HostFault). Persists (only gate RUNNING_GATE) f old new) done persists)) ready.knows
-
-      ready_begun : IsReady size next (record { frames = memory.frames; held = all; sessions = entered client slot memory.sessions; judged = set memory.judged slot None }) new
+      ready_begun : IsReady size next (with_begun begun_held memory) new
       ready_begun = record {
         mask = mask_then;
         settled = settled_begun;
@@ -479,54 +483,47 @@ module _ (size : ℕ) (w : World) (memory : Memory) (old : State) (ready : IsRea
         let graph : graph_at_begin w name ≡ may.graph = ap (λ (o : Option Graph). unwrap_or o empty_graph) pool_graph in
         ap₂ (λ (x : Graph) (o : Option Transaction). record w { transactions = with_open name (transactions.begun client x o) w.transactions }) graph vacant.shut
 
-    pub Applies-begun : (behind : Memory) → (fault ≡ None → number < length memory.held)
-        → (fault ≡ None → behind ≡ record { frames = memory.frames; held = set memory.held number (Some (begins_as client name slot at n number)); sessions = entered client slot memory.sessions; judged = set memory.judged slot None })
-        → Applies size w (after w (commands.Begin client name)) behind fault old new
-    Applies-begun behind placed_there is =
-        subst (λ (v : World). Applies size w v behind fault old new) (sym begun_world)
+    pub Applies-begun : (fault ≡ None → number < length memory.held) → Applies size w (after w (commands.Begin client name)) (with_begun (begins_as client name slot n number) memory) fault old new
+    Applies-begun placed_there =
+        subst (λ (v : World). Applies size w v (with_begun (begins_as client name slot n number) memory) fault old new) (sym begun_world)
         (record {
           moments = all_moments (record w { transactions = with_open name (Some begun_transaction) w.transactions });
           quiet = Changes-said By fault old new c;
-          ready = λ done. subst (λ (m : Memory). IsReady size (record w { transactions = with_open name (Some begun_transaction) w.transactions }) m new) (sym (is done)) (ready_begun done (placed_there done));
+          ready = λ done. ready_begun done (placed_there done);
           rests = c.rests;
           script = c.script;
         })
 
 -- ---- in the lowest closed log, on as many frames as the daemon holds
 
-pub Applies-begins : (size : ℕ) (w : World) (memory behind : Memory) (client : ℕ) (name : List ℕ) (slot number : ℕ) (at : List (ℕ × Puddle)) (fault : Option HostFault) (old new : State) → slot < POOL_RECORDS → client < CLIENTS
-    → (fault ≡ None → number < length memory.held) → slot < length memory.sessions → IsLogOf client number → Some number ≡ first_closed (reads old.now.words) memory.frames client
-    → session_in memory.sessions slot ≡ None → open_on name w ≡ None
-    → (fault ≡ None → behind ≡ record {
-      frames = memory.frames;
-      held = set memory.held number (Some (begins_as client name slot at memory.frames number));
-      sessions = entered client slot memory.sessions;
-      judged = set memory.judged slot None;
-    })
-    → Persists (only (log_number_at memory.frames number) RUNNING_GATE) fault old new
-    → ((pool : List (ℕ × Puddle)) (before : Image) → IsPlaced memory.frames pool → IsIdle (pool_ground memory.frames pool) (log_number_at memory.frames number) before old.now.words
-    → Runs (pool_ground memory.frames pool) (begun (log_number_at memory.frames number)) [] before nothing fault old new)
-    → IsReady size w memory old → MayBegin memory.frames client name (reads old.now.words) slot at → Applies size w (after w (commands.Begin client name)) behind fault old new
-Applies-begins size w memory behind client name slot number at fault old new below few within fits of found unheld shut is persists runs ready may =
-    let low = of.low in
-    let high = of.high in
-    let vacant : IsVacant w memory client name slot number = record {
-      slot_below = below;
-      known = omega arith;
-      whose = (let e : number / CLIENT_LOGS ≡ client = omega arith in e);
-      fits = fits;
-      free = log_free size w memory old ready client memory.frames number ready.frames of found;
-      unheld = unheld;
-      shut = shut;
-    } in
-    subst (λ (F : ℕ).
-    (fault ≡ None → behind ≡ record { frames = memory.frames; held = set memory.held number (Some (begins_as client name slot at F number)); sessions = entered client slot memory.sessions; judged = set memory.judged slot None })
+pub Applies-begins : (size : ℕ) (w : World) (memory : Memory) (F client : ℕ) (name : List ℕ) (slot number : ℕ) (fault : Option HostFault) (old new : State) → memory.frames ≡ F → slot < POOL_RECORDS → client < CLIENTS
+    → IsLogOf client number → MayBeginIn memory (reads old.now.words) client name slot number → (fault ≡ None → number < length memory.held) → IsReady size w memory old
     → Persists (only (log_number_at F number) RUNNING_GATE) fault old new
     → ((pool : List (ℕ × Puddle)) (before : Image) → IsPlaced F pool → IsIdle (pool_ground F pool) (log_number_at F number) before old.now.words
     → Runs (pool_ground F pool) (begun (log_number_at F number)) [] before nothing fault old new)
-    → MayBegin F client name (reads old.now.words) slot at → Applies size w (after w (commands.Begin client name)) behind fault old new)
-    (sym ready.frames)
-    (λ is persists runs may.
-    Applies-begun size w memory old ready client name slot number at vacant may fault new persists
-    (runs at (reads old.now.words) (placed size w memory old ready client name slot number at vacant may) (idle size w memory old ready client name slot number at vacant may)) behind within is)
-    is persists runs may
+    → Applies size w (after w (commands.Begin client name)) (with_begun (begins_as client name slot F number) memory) fault old new
+Applies-begins size w memory F client name slot number fault old new on below few of m place ready persists runs =
+    let low = of.low in
+    let high = of.high in
+    let n = w.stored.frames in
+    let same : n ≡ F = sym ready.frames ∙ on in
+    let may : MayBegin n client name (reads old.now.words) slot m.at = subst (λ (k : ℕ). MayBegin k client name (reads old.now.words) slot m.at) ready.frames m.may in
+    let vacant : IsVacant w memory client name slot number m.at = record {
+      slot_below = below;
+      known = omega arith;
+      whose = (let e : number / CLIENT_LOGS ≡ client = omega arith in e);
+      fits = m.fits;
+      free = log_free size w memory old ready client memory.frames number ready.frames of m.lowest;
+      unheld = m.unheld;
+      shut = session_shut size w memory old ready name slot (record { rec = may.rec; used = may.used; name_is = may.name_is }) m.unheld;
+      is_known = m.known;
+    } in
+    subst (λ (k : ℕ).
+    Persists (only (log_number_at k number) RUNNING_GATE) fault old new
+    → ((pool : List (ℕ × Puddle)) (before : Image) → IsPlaced k pool → IsIdle (pool_ground k pool) (log_number_at k number) before old.now.words
+    → Runs (pool_ground k pool) (begun (log_number_at k number)) [] before nothing fault old new)
+    → Applies size w (after w (commands.Begin client name)) (with_begun (begins_as client name slot k number) memory) fault old new) same
+    (λ persists runs.
+    Applies-begun size w memory old ready client name slot number m.at vacant may fault new persists
+    (runs m.at (reads old.now.words) (placed size w memory old ready client name slot number m.at vacant may) (idle size w memory old ready client name slot number m.at vacant may)) place)
+    persists runs

@@ -1,6 +1,6 @@
 -- A transaction that is held ends, committed or undone: what each image stands for that may be left meanwhile, and the daemon that is ready behind it.
 use Rattle.std.proofs.Common.{◌≡◌, ◌≢◌, ◌⊎◌, inl, inr, ℕ, ◌+◌, ◌*◌, ◌<◌, ◌≤◌, true, false, cond, List, Option, Some, None, refl, sym, ap, subst, ◌∙◌, arith}
-use Rattle.std.specs.Prelude.{unwrap_or, set}
+use Rattle.std.specs.Prelude.{unwrap_or}
 use Rattle.std.proofs.lemmas.Bool.{cases_Bool, cases_eq, cases_lt, cond-true, false_from_ne_true}
 use Rattle.std.proofs.lemmas.Option.{none-some, same_Some}
 use Rattle.pm_model.specs.declared.host.HostFault.{HostFault}
@@ -37,26 +37,26 @@ use Rattle.word_transaction.specs.Ground.{Ground}
 use Rattle.word_transaction.specs.Running.{ByTransaction, SettlesTo, Closes, Ends}
 use Rattle.word_transaction.proofs.Ended.{beside_transaction, Ends-either}
 use Rattle.hybrid_tx.specs.Grounds.{pool_mine, pool_ground}
-use Rattle.hybrid_tx.specs.Masks.{OpenPool, is_open_record, IsOpenPool, IsLeftOpen}
-use Rattle.hybrid_tx.specs.ManyOpen.{OpenTransaction, Opens, with_transaction, open_masks, AreOpenPools, MasksAll, HasRecords, AreLeftOpen, IsOneMore}
-use Rattle.hybrid_tx.proofs.ManyIdle.{one_put, others_records, opens_more, records_more, left_more, masks_elsewhere, idle_world_ended}
-use Rattle.hybrid_tx.proofs.ManyMasks.{masks_below, masks_beside_log, masks_of_log, masks_of_mine, masks_same, open_masks_all}
-use Rattle.hybrid_tx.proofs.Opening.{stored_in-mine}
-use Rattle.hybrid_tx.proofs.OpenIdle.{unnamed_idle, IsOpenPool-same}
-use Rattle.hybrid_tx.proofs.OpenMasks.{open_record_place, mine_behind, mask_of_others}
-use Rattle.hybrid_tx.proofs.OpenPools.{open_on_device}
-use Rattle.hybrid_tx.proofs.OpenWorlds.{world_with_many, none_refused_with_many}
+use Rattle.hybrid_tx.specs.Open.Masks.{OpenPool, is_open_record, IsOpenPool, IsLeftOpen}
+use Rattle.hybrid_tx.specs.Open.ManyOpen.{OpenTransaction, Opens, with_transaction, open_masks, AreOpenPools, MasksAll, HasRecords, AreLeftOpen, IsOneMore}
+use Rattle.hybrid_tx.proofs.Open.ManyIdle.{one_put, others_records, opens_more, records_more, left_more, masks_elsewhere, idle_world_ended}
+use Rattle.hybrid_tx.proofs.Open.ManyMasks.{masks_below, masks_beside_log, masks_of_log, masks_of_mine, masks_same, open_masks_all}
+use Rattle.hybrid_tx.proofs.Objects.Opening.{stored_in-mine}
+use Rattle.hybrid_tx.proofs.Open.OpenIdle.{unnamed_idle, IsOpenPool-same}
+use Rattle.hybrid_tx.proofs.Open.OpenMasks.{open_record_place, mine_behind, mask_of_others}
+use Rattle.hybrid_tx.proofs.Open.OpenPools.{open_on_device}
+use Rattle.hybrid_tx.proofs.Open.OpenWorlds.{world_with_many, none_refused_with_many}
 use Rattle.ready_daemon.specs.Memory.{Held, Memory, held_under}
 use Rattle.ready_daemon.specs.Held.{pool_held, open_held, IsHeld, IsHeldUnder, HasIdleLogs}
 use Rattle.ready_daemon.specs.KnownPools.{KnowsPools}
 use Rattle.ready_daemon.specs.Ready.{IsReady, RefusesNone, StandsBetween, Applies}
 use Rattle.ready_daemon.proofs.Beside.{Leaves-from, names_none_idle, records_all, opened_as, own_apart, left_apart, ready_idle}
 use Rattle.ready_daemon.proofs.Beneath.{ready_gate, gate_kept, idle_kept}
+use Rattle.pool_transaction.specs.Lifetime.{with_ended}
 use Rattle.pool_transaction.proofs.HeldRuns.{stands_within}
 use Rattle.ready_daemon.proofs.InTurn.{held_in_turn}
 use Rattle.ready_daemon.proofs.JudgedKept.{HasGraphIn}
 use Rattle.ready_daemon.proofs.JudgedOpen.{KnowsPools-ended, KeepsPools-held, graph_held_in}
-use Rattle.ready_daemon.proofs.PoolsBeside.{one_slot}
 use Rattle.ready_daemon.proofs.OthersHeld.{one_of_all, others_are, others_mask, holds_others, sessions_others}
 use Rattle.ready_daemon.proofs.TablesBeside.{types_read}
 
@@ -155,10 +155,6 @@ EndsBy-ends g at before after fault old new e = record {
 
 -- ---- the daemon
 
--- what is in memory once this one is held no more: its session has ended, and its pool's puddles are known again
-abbrev pub ended : (number : ℕ) → Held → Memory → Memory
-ended number held memory = record memory { held = set memory.held number None; sessions = set memory.sessions held.slot None; judged = set memory.judged held.slot (Some held.at) }
-
 -- what is open under another number
 pub record IsOpenElsewhere (number : ℕ) (opens : Opens) (m : ℕ) (r : OpenTransaction) : Type 0 where
   pub apart : m ≢ number
@@ -178,13 +174,13 @@ module _ (size : ℕ) (w : World) (memory : Memory) (number : ℕ) (held : Held)
   is_held = under.is
 
   abbrev pool : OpenPool
-  pool = pool_held held is_held.rec is_held.who
+  pool = pool_held held is_held.at is_held.rec is_held.who
 
   abbrev before : Image
   before = is_held.before
 
   abbrev pub own : OpenTransaction
-  own = open_held held is_held.rec is_held.who before
+  own = open_held held is_held.at is_held.rec is_held.who before
 
   abbrev others : Opens
   others = with_transaction number None opens
@@ -193,12 +189,12 @@ module _ (size : ℕ) (w : World) (memory : Memory) (number : ℕ) (held : Held)
   rest = open_masks n others
 
   abbrev g : Ground
-  g = pool_ground n held.at
+  g = pool_ground n is_held.at
 
   abbrev may : Footprint
-  may = ByTransaction g held.log.at
+  may = ByTransaction g held.tx.log.at
 
-  gate_is : held.log.at ≡ log_number_at n number
+  gate_is : held.tx.log.at ≡ log_number_at n number
   gate_is = is_held.gate ∙ ap (log_number_at n) under.number_is
 
   pub more : IsOneMore number own others opens
@@ -234,23 +230,23 @@ module _ (size : ℕ) (w : World) (memory : Memory) (number : ℕ) (held : Held)
   world_there i picked =
       ap (λ (m : Write). idle_world_of size (masked_image m i)) (sym mask_is) ∙ ready.settled.stands (masked_image ready.mask i) (Picks-masked ready.mask old.now.words i picked)
 
-  below_mine : (k : ℕ) → k < tables_end n → pool_mine n held.at k ≡ false
-  below_mine k below = mine_behind n held.at k (omega arith)
+  below_mine : (k : ℕ) → k < tables_end n → pool_mine n is_held.at k ≡ false
+  below_mine k below = mine_behind n is_held.at k (omega arith)
 
-  below_log : (k : ℕ) → k < tables_end n → is_in_log held.log.at k ≡ false
-  below_log k below = let gate = is_held.gate in outside_log held.log.at k (inl (omega arith))
+  below_log : (k : ℕ) → k < tables_end n → is_in_log held.tx.log.at k ≡ false
+  below_log k below = let gate = is_held.gate in outside_log held.tx.log.at k (inl (omega arith))
 
-  above_log : (k : ℕ) → frames_at n ≤ k → is_in_log held.log.at k ≡ false
-  above_log k above = let gate = is_held.gate in let few = is_held.pool.known in outside_log held.log.at k (inr (omega arith))
+  above_log : (k : ℕ) → frames_at n ≤ k → is_in_log held.tx.log.at k ≡ false
+  above_log k above = let gate = is_held.gate in let few = is_held.pool.known in outside_log held.tx.log.at k (inr (omega arith))
 
   not_below : (k v : ℕ) → k < tables_end n → may k v → ⊥
-  not_below k v below wrote = beside_transaction g held.log.at k v (below_log k below) (below_mine k below) wrote
+  not_below k v below wrote = beside_transaction g held.tx.log.at k v (below_log k below) (below_mine k below) wrote
 
   record_below : (k : ℕ) → is_open_record pool k ≡ true → k < tables_end n
   record_below k of = (open_record_place n pool k is_held.pool.slot is_held.pool.known (open_on_device n pool before is_held.pool) of).high
 
   -- a word behind the tables that is none of its own is masked as it is with the words of the others alone
-  rest_same : (k : ℕ) → is_in_log held.log.at k ≡ false → pool_mine n held.at k ≡ false → tables_end n ≤ k → ready.mask k ≡ rest k
+  rest_same : (k : ℕ) → is_in_log held.tx.log.at k ≡ false → pool_mine n is_held.at k ≡ false → tables_end n ≤ k → ready.mask k ≡ rest k
   rest_same k outside other above =
       masks_elsewhere number own others opens more n ready.mask rest ready.held.masks rest_masks k
       (mask_of_others n pool before k (ap (λ (at : ℕ). is_in_log at k) (sym is_held.gate) ∙ outside) other
@@ -264,10 +260,10 @@ module _ (size : ℕ) (w : World) (memory : Memory) (number : ℕ) (held : Held)
   -- ---- an image that is left by its calls
 
   module _ (j : Image) (f : HasOrigin may old.now.words j) where
-    from_same : (k : ℕ) → is_in_log held.log.at k ≡ false → pool_mine n held.at k ≡ false → j k ≡ f.before k
-    from_same k outside other = elim (f.from.each k) [ inl same ↦ same | inr wrote ↦ absurd (beside_transaction g held.log.at k (j k) outside other wrote) ]
+    from_same : (k : ℕ) → is_in_log held.tx.log.at k ≡ false → pool_mine n is_held.at k ≡ false → j k ≡ f.before k
+    from_same k outside other = elim (f.from.each k) [ inl same ↦ same | inr wrote ↦ absurd (beside_transaction g held.tx.log.at k (j k) outside other wrote) ]
 
-    from_number : (k : ℕ) → is_in_log (log_number_at n number) k ≡ false → pool_mine n held.at k ≡ false → j k ≡ f.before k
+    from_number : (k : ℕ) → is_in_log (log_number_at n number) k ≡ false → pool_mine n is_held.at k ≡ false → j k ≡ f.before k
     from_number k outside other = from_same k (ap (λ (at : ℕ). is_in_log at k) gate_is ∙ outside) other
 
     idle_left : is_idle_gate (j DAEMON_LOG) ≡ true
@@ -285,13 +281,13 @@ module _ (size : ℕ) (w : World) (memory : Memory) (number : ℕ) (held : Held)
           let x = open_elsewhere m r has in
           let a = opened_as w memory.held ready.mask old.now.words ready.held m r x.was in
           let u = ready.held.each m a.one a.there in
-          subst (λ (t : OpenTransaction). IsLeftOpen n t.pool t.before j) (same_Some (open_held a.one u.is.rec u.is.who u.is.before) r (sym u.opened ∙ x.was))
+          subst (λ (t : OpenTransaction). IsLeftOpen n t.pool t.before j) (same_Some (open_held a.one u.is.at u.is.rec u.is.who u.is.before) r (sym u.opened ∙ x.was))
           (left_apart w a.one ready.mask old.now.words u.is may (own_apart w memory.held ready.mask old.now.words ready.held number m held a.one there a.there (λ same. x.apart (sym same))) ready.tables j f
           (names_none_idle ready.mask j idle_left));
     }
 
     -- and this one is, as if it had begun with the values to which it settles
-    own_left : (values : Image) → ((k : ℕ) → is_open_record pool k ≡ true → j k ≡ values k) → SettlesTo g held.log.at values j → IsLeftOpen n pool values j
+    own_left : (values : Image) → ((k : ℕ) → is_open_record pool k ≡ true → j k ≡ values k) → SettlesTo g held.tx.log.at values j → IsLeftOpen n pool values j
     own_left values records settles = record {
       unnamed = λ k v is. unnamed_idle j k idle_left;
       records = records;
@@ -313,7 +309,7 @@ module _ (size : ℕ) (w : World) (memory : Memory) (number : ℕ) (held : Held)
 
   -- ---- other values of its frames
 
-  module _ (after : Image) (agrees : (k : ℕ) → pool_mine n held.at k ≡ false → after k ≡ before k) where
+  module _ (after : Image) (agrees : (k : ℕ) → pool_mine n is_held.at k ≡ false → after k ≡ before k) where
     abbrev pub later : OpenTransaction
     later = record { pool = pool; before = after }
 
@@ -343,7 +339,7 @@ module _ (size : ℕ) (w : World) (memory : Memory) (number : ℕ) (held : Held)
 
     module _ (ps : List (List ℕ × Pool)) (stands : (i : Image) → Picks old.now.words i → idle_world_of size (masked_image (open_masks n all_later) i) ≡ Some (record w.stored { pools = ps }))
         (kept : (name : List ℕ) → name ≢ held.name → pool_named name (record w.stored { pools = ps }) ≡ pool_named name w.stored)
-        (left : Graph) (graph : graph_of w.stored.types (stored_in n held.at after) ≡ Some left) (fault : Option HostFault) (new : State) (e : EndsBy g held.log.at before after fault old new) where
+        (left : Graph) (graph : graph_of w.stored.types (stored_in n is_held.at after) ≡ Some left) (fault : Option HostFault) (new : State) (e : EndsBy g held.tx.log.at before after fault old new) where
       abbrev s : StoredWorld
       s = record w.stored { pools = ps }
 
@@ -351,18 +347,18 @@ module _ (size : ℕ) (w : World) (memory : Memory) (number : ℕ) (held : Held)
       next = record w { stored = s; transactions = with_open held.name None w.transactions }
 
       -- an image that settles to them stands for the next world
-      stands_after : (j : Image) → HasOrigin may old.now.words j → SettlesTo g held.log.at after j → (world_of size j ≡ Some s) × RefusesNone j
+      stands_after : (j : Image) → HasOrigin may old.now.words j → SettlesTo g held.tx.log.at after j → (world_of size j ≡ Some s) × RefusesNone j
       stands_after j f settles =
           left_stands size s number later others all_later later_more later_are f.before j (idle_there f.before f.picked) (from_number j f) (later_records f.before f.picked) (stands f.before f.picked)
           (left_more number later others all_later later_more n j (others_left j f) (own_left j f after (λ k of. record_left j f k of ∙ sym (agrees k (below_mine k (record_below k of)))) settles))
 
-      image_stands : (j : Image) → SettlesTo g held.log.at before j ⊎ SettlesTo g held.log.at after j → HasOrigin may old.now.words j → StandsBetween size w next j
+      image_stands : (j : Image) → SettlesTo g held.tx.log.at before j ⊎ SettlesTo g held.tx.log.at after j → HasOrigin may old.now.words j → StandsBetween size w next j
       image_stands j (inl settles) f = let both = stands_within size w memory held old number there ready j f settles in (inl both.0, both.1)
       image_stands j (inr settles) f = let both = stands_after j f settles in (inr both.0, both.1)
 
       all_moments : Leaves (Silently (StandsBetween size w next)) old new
       all_moments =
-          let P = λ (image : Image). SettlesTo g held.log.at before image ⊎ SettlesTo g held.log.at after image in
+          let P = λ (image : Image). SettlesTo g held.tx.log.at before image ⊎ SettlesTo g held.tx.log.at after image in
           Leaves-weaker (Silently (λ image. P image × HasOrigin may old.now.words image)) (Silently (StandsBetween size w next)) old new
           (λ bytes image m. (m.0, image_stands image m.1.0 m.1.1)) (Leaves-from P may fault old new e.changes e.moments)
 
@@ -378,7 +374,7 @@ module _ (size : ℕ) (w : World) (memory : Memory) (number : ℕ) (held : Held)
         ended_world j picked =
             let f = origin may old.now.words new.now.words j (Changes-now may None old new changed) picked in
             ended_stands size s number later others all_later later_more later_are f.before j (idle_there f.before f.picked) (from_number j f) (later_records f.before f.picked) (stands f.before f.picked)
-            (closed_by_gate j (log_number_at n number) (ap j (sym gate_is) ∙ (e.closed done).each (j held.log.at) (picked.each held.log.at)))
+            (closed_by_gate j (log_number_at n number) (ap j (sym gate_is) ∙ (e.closed done).each (j held.tx.log.at) (picked.each held.tx.log.at)))
             (λ k mine. (e.durable done k mine).each (j k) (picked.each k))
 
         gate_idle : HasIdleGate DAEMON_LOG new.now.words
@@ -391,17 +387,17 @@ module _ (size : ℕ) (w : World) (memory : Memory) (number : ℕ) (held : Held)
         }
 
         frames_single : (k : ℕ) → frames_at n ≤ k → HasOnly (masked rest new.now.words k) (masked rest new.now.words k).newest
-        frames_single k above = elim (cases_Bool (pool_mine n held.at k)) [
+        frames_single k above = elim (cases_Bool (pool_mine n is_held.at k)) [
           | inl mine ↦ HasOnly-own_masked rest new.now.words k (HasOnly-own (new.now.words k) (after k) (e.durable done k mine))
           | inr other ↦
               let outside = above_log k above in
               let was = subst (λ (x : Option ℕ). HasOnly (masked_cell x (old.now.words k)) (masked_cell x (old.now.words k)).newest) (rest_same k outside other (omega arith)) (ready.rest.each k above) in
               HasOnly-own (masked rest new.now.words k) (masked rest old.now.words k).newest
-              (HasOnly-kept may None (masked_state rest old) (masked_state rest new) k (masked rest old.now.words k).newest changed_under (λ v. beside_transaction g held.log.at k v outside other) was)
+              (HasOnly-kept may None (masked_state rest old) (masked_state rest new) k (masked rest old.now.words k).newest changed_under (λ v. beside_transaction g held.tx.log.at k v outside other) was)
         ]
 
         -- its own log is closed, and each other as it was
-        own_idle : (at : ℕ) → held.log.at ≡ at → rest at ≡ None → HasIdleGate at (masked rest new.now.words)
+        own_idle : (at : ℕ) → held.tx.log.at ≡ at → rest at ≡ None → HasIdleGate at (masked rest new.now.words)
         own_idle at here none = record {
           each = λ v had. ap is_idle_gate ((subst (λ (k : ℕ). HasOnly (new.now.words k) CLOSED_GATE) here (e.closed done)).each v (subst (λ (c : Cell). Has (values c) v) (masked-elsewhere rest new.now.words at none) had));
         }
@@ -419,28 +415,27 @@ module _ (size : ℕ) (w : World) (memory : Memory) (number : ℕ) (held : Held)
                     (masks_beside_log n others rest rest_are rest_masks number gate more.none (omega (arith, known, under.number_is)) (record { low = omega (arith, here); high = omega (arith, here) }))
                 | inr apart ↦
                     let its = gate_is in
-                    let outside : is_in_log held.log.at gate ≡ false = outside_log held.log.at gate (elim (cases_lt gate held.log.at) [ inl low ↦ inl low | inr high ↦ inr (omega arith) ]) in
-                    let other : pool_mine n held.at gate ≡ false = mine_behind n held.at gate (omega arith) in
-                    idle_kept gate may None (masked_state rest old) (masked_state rest new) changed_under (λ v wrote. absurd (beside_transaction g held.log.at gate v outside other wrote))
+                    let outside : is_in_log held.tx.log.at gate ≡ false = outside_log held.tx.log.at gate (elim (cases_lt gate held.tx.log.at) [ inl low ↦ inl low | inr high ↦ inr (omega arith) ]) in
+                    let other : pool_mine n is_held.at gate ≡ false = mine_behind n is_held.at gate (omega arith) in
+                    idle_kept gate may None (masked_state rest old) (masked_state rest new) changed_under (λ v wrote. absurd (beside_transaction g held.tx.log.at gate v outside other wrote))
                     (record {
                       each = λ v had. (ready.logs.each client number_of low few present).each v (subst (λ (x : Option ℕ). Has (values (masked_cell x (old.now.words gate))) v) (sym (rest_same gate outside other (omega arith))) had);
                     })
               ];
         }
 
-        -- its pool has a graph, and its puddles are known again
-        graph_ended : HasGraphIn n held.slot (reads new.now.words) held.at
+        -- its pool has a graph
+        graph_ended : HasGraphIn n held.slot (reads new.now.words) is_held.at
         graph_ended =
             graph_held_in w held ready.mask old new is_held changed left (types_read size w memory old ready).types (held_in_turn size w memory old ready number held there)
-            (ap (graph_of w.stored.types) (stored_in-mine n held.at after (reads new.now.words) (λ k mine. HasOnly-newest (new.now.words k) (after k) (e.durable done k mine))) ∙ graph)
+            (ap (graph_of w.stored.types) (stored_in-mine n is_held.at after (reads new.now.words) (λ k mine. HasOnly-newest (new.now.words k) (after k) (e.durable done k mine))) ∙ graph)
 
-        knows_ended : KnowsPools n (set memory.judged held.slot (Some held.at)) (set memory.held number None) (reads new.now.words)
+        -- and is known as it was
+        knows_ended : KnowsPools n memory.judged others (reads new.now.words)
         knows_ended =
-            KnowsPools-ended n memory.judged memory.held number held (reads old.now.words) (reads new.now.words) there
-            (λ other h here same. one_slot w memory.held ready.mask old.now.words ready.held other number h held here there same)
-            (KeepsPools-held w held ready.mask old new is_held changed) graph_ended ready.knows
+            KnowsPools-ended n memory.judged number own others opens (reads old.now.words) (reads new.now.words) more (KeepsPools-held w held ready.mask old new is_held changed) graph_ended ready.knows
 
-        ready_ended : IsReady size next (ended number held memory) new
+        ready_ended : IsReady size next (with_ended number held memory) new
         ready_ended = record {
           mask = rest;
           settled = settled_ended;
@@ -456,7 +451,7 @@ module _ (size : ℕ) (w : World) (memory : Memory) (number : ℕ) (held : Held)
           knows = knows_ended;
         }
 
-      pub Applies-ended : Applies size w next (ended number held memory) fault old new
+      pub Applies-ended : Applies size w next (with_ended number held memory) fault old new
       Applies-ended = record {
         moments = all_moments;
         quiet = Changes-said may fault old new e.changes;

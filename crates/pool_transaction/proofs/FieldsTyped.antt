@@ -25,10 +25,10 @@ use Rattle.pud_defs.specs.Step.{misses, are_of_two_kinds, refusal_of}
 use Rattle.pud_defs.specs.World.{Transaction, World, open_on}
 use Rattle.pud_defs.proofs.Keyed.{find-keyed, first_from_some}
 use Rattle.pud_defs.proofs.Graphs.{graph_of-each, under_serial-free, under_serial-used}
-use Rattle.hybrid_tx.specs.Transactions.{MayHold, MaySet, MayFree}
-use Rattle.pool_transaction.specs.declared.changing.Change.{Change}
-use Rattle.pool_transaction.specs.declared.changing.Change.TheVariants.{Set, Later, Root, Free}
-use Rattle.pool_transaction.specs.Changing.{line_of, MayChange}
+use Rattle.hybrid_tx.specs.Objects.Transactions.{MayHold, MaySet, MayFree}
+use Rattle.pool_transaction.specs.declared.changing.Update.{Update}
+use Rattle.pool_transaction.specs.declared.changing.Update.TheVariants.{Set, Later, Root, Free}
+use Rattle.pool_transaction.specs.Changing.{update_line, MayChange}
 use Rattle.pool_transaction.proofs.TransactionRefusals.{IsSettable, freeing_refusal, change_refusal, settable_by, change_parts, unless, some_there}
 
 -- ---- of which kind a field is
@@ -158,13 +158,13 @@ may_free t s none =
     let o = some_there (object_in s t.now) object.0 in
     (record { object = o.0; live = o.1; spared = spared.0 }, spared.1)
 
-may_change : (types : List (ℕ × ℕ)) (st : Stored) (t : Transaction) (change : Change) → graph_of types st ≡ Some t.now → change_refusal change (Some t.now) t.laters t.units ≡ None → MayChange types t change
+may_change : (types : List (ℕ × ℕ)) (st : Stored) (t : Transaction) (change : Update) → graph_of types st ≡ Some t.now → change_refusal change (Some t.now) t.laters t.units ≡ None → MayChange types t change
 may_change types st t (Set s f x) is none = may_set types st t.now t.units s f x is (settable_by t.now t.units s f x none)
 may_change types st t (Later s f x) is none = may_set types st t.now t.units s f x is (settable_by t.now t.units s f x none)
 may_change types st t (Root s) is none = live_or_null s (object_in s t.now) (unless (misses (Some t.now) (Ref s)) refusals.Object _ none).0
 may_change types st t (Free s) is none = may_free t s none
 
 -- a line that is not refused changes what may be changed
-pub may_change_unrefused : (w : World) (client : ℕ) (name : List ℕ) (change : Change) (st : Stored) (t : Transaction) → open_on name w ≡ Some t → graph_of w.stored.types st ≡ Some t.now
-    → refusal_of w (line_of change client name) ≡ None → MayChange w.stored.types t change
+pub may_change_unrefused : (w : World) (client : ℕ) (name : List ℕ) (change : Update) (st : Stored) (t : Transaction) → open_on name w ≡ Some t → graph_of w.stored.types st ≡ Some t.now
+    → refusal_of w (update_line change client name) ≡ None → MayChange w.stored.types t change
 may_change_unrefused w client name change st t there is none = may_change w.stored.types st t change is (change_parts w client name t there change none)

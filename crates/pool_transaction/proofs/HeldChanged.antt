@@ -5,23 +5,18 @@ use Rattle.std.proofs.lemmas.Bool.{cases_eq}
 use Rattle.std.proofs.lemmas.Option.{none-some, same_Some}
 use Rattle.pm_model.specs.Changes.{Write}
 use Rattle.pm_model.specs.Words.{Words}
-use Rattle.pud_defs.specs.declared.records.Puddle.{Puddle}
-use Rattle.pud_defs.specs.Image.{Image}
 use Rattle.pud_defs.specs.World.{World}
-use Rattle.hybrid_tx.specs.ManyOpen.{Opens, MasksAll, AreOpenPools}
+use Rattle.hybrid_tx.specs.Open.ManyOpen.{Opens, MasksAll, AreOpenPools}
 use Rattle.nesting.specs.declared.Session.{Session}
 use Rattle.nesting.specs.Sessions.{session_in}
 use Rattle.pool_transaction.specs.Changing.{StaysOpen}
-use Rattle.ready_daemon.specs.Judged.{known_in}
-use Rattle.ready_daemon.specs.KnownPools.{KnowsPools}
 use Rattle.ready_daemon.specs.Memory.{Held, held_under}
 use Rattle.ready_daemon.specs.Held.{IsHeldUnder, IsOpenUnder, IsHeldOn, Holds, HasSessions}
-use Rattle.ready_daemon.proofs.JudgedKept.{KeepsPools, AreJudged-but}
 use Rattle.ready_daemon.proofs.HeldUnder.{held_within, held_here, held_there, held_then}
 use Rattle.ready_daemon.proofs.OpenNames.{WereOpen}
 
 -- One on the pool of this one is held under the number.
-record HoldsSame (held : List (Option Held)) (number : ℕ) (now : Held) : Type 0 where
+pub record HoldsSame (held : List (Option Held)) (number : ℕ) (now : Held) : Type 0 where
   pub one : Held
   pub there : held_under held number ≡ Some one
   pub name : now.name ≡ one.name
@@ -31,28 +26,28 @@ module _ (held : List (Option Held)) (number : ℕ) (h later : Held) (there : he
   abbrev next : List (Option Held)
   next = set held number (Some later)
 
-  later_here : held_under next number ≡ Some later
+  pub later_here : held_under next number ≡ Some later
   later_here = held_here held number (Some later) (held_within held number h there)
 
   -- what is so of it and of each of the others is so of each
-  each_later : (P : ℕ → Held → Type 0) → P number later → ((n : ℕ) (g : Held) → n ≢ number → held_under held n ≡ Some g → P n g) → (n : ℕ) (g : Held) → held_under next n ≡ Some g → P n g
+  pub each_later : (P : ℕ → Held → Type 0) → P number later → ((n : ℕ) (g : Held) → n ≢ number → held_under held n ≡ Some g → P n g) → (n : ℕ) (g : Held) → held_under next n ≡ Some g → P n g
   each_later P its others n g is = elim (held_then held number (Some later) n g is) [
     | inl here ↦ subst (λ (m : ℕ). P m g) (sym here.0) (subst (λ (x : Held). P number x) (same_Some later g here.1) its)
     | inr still ↦ others n g still.0 still.1
   ]
 
-  was_held : (n : ℕ) (g : Held) → held_under next n ≡ Some g → HoldsSame held n g
+  pub was_held : (n : ℕ) (g : Held) → held_under next n ≡ Some g → HoldsSame held n g
   was_held = each_later (HoldsSame held) (record { one = h; there = there; name = stays.name; slot = stays.slot }) (λ n g apart is. record { one = g; there = is; name = refl; slot = refl })
 
   -- none is held but where none was
-  none_later : (n : ℕ) → held_under next n ≡ None → (n ≢ number) × (held_under held n ≡ None)
+  pub none_later : (n : ℕ) → held_under next n ≡ None → (n ≢ number) × (held_under held n ≡ None)
   none_later n none = elim (cases_eq n number) [
     | inl same ↦ absurd (none-some later (sym none ∙ ap (held_under next) same ∙ later_here))
     | inr apart ↦ (apart, sym (held_there held number (Some later) n apart) ∙ none)
   ]
 
   -- what was held there, under the number or another, is held there still, on the same pool
-  still_held : (n : ℕ) (g : Held) → held_under held n ≡ Some g → HoldsSame next n g
+  pub still_held : (n : ℕ) (g : Held) → held_under held n ≡ Some g → HoldsSame next n g
   still_held n g is = elim (cases_eq n number) [
     | inl same ↦
         let one : h ≡ g = same_Some h g (sym there ∙ ap (held_under held) (sym same) ∙ is) in
@@ -60,15 +55,15 @@ module _ (held : List (Option Held)) (number : ℕ) (h later : Held) (there : he
     | inr apart ↦ record { one = g; there = held_there held number (Some later) n apart ∙ is; name = refl; slot = refl }
   ]
 
-  open_under_later : (name : List ℕ) → IsOpenUnder held name → IsOpenUnder next name
+  pub open_under_later : (name : List ℕ) → IsOpenUnder held name → IsOpenUnder next name
   open_under_later name o = let still = still_held o.number o.mine o.is in record { number = o.number; mine = still.one; is = still.there; name_is = sym still.name ∙ o.name_is }
 
-  held_on_later : (slot : ℕ) → IsHeldOn held slot → IsHeldOn next slot
-  held_on_later slot o = let still = still_held o.number o.mine o.is in record { number = o.number; mine = still.one; is = still.there; slot_is = sym still.slot ∙ o.slot_is }
+  held_on_later : (slot n : ℕ) → IsHeldOn held slot n → IsHeldOn next slot n
+  held_on_later slot n o = let still = still_held n o.mine o.is in record { mine = still.one; is = still.there; slot_is = sym still.slot ∙ o.slot_is }
 
   module _ (w then : World) (were : WereOpen w.transactions then.transactions) where
     -- what is held then stands for what is open then
-    pub Holds-later : (mask anew : Write) (words after : Words) (holds : Holds w held mask words) (opens : Opens) → AreOpenPools then.stored.frames opens → MasksAll then.stored.frames opens anew
+    abbrev pub Holds-later : (mask anew : Write) (words after : Words) (holds : Holds w held mask words) (opens : Opens) → AreOpenPools then.stored.frames opens → MasksAll then.stored.frames opens anew
         → IsHeldUnder then opens anew after number later → ((n : ℕ) (g : Held) → n ≢ number → held_under held n ≡ Some g → IsHeldUnder then opens anew after n g)
         → ((n : ℕ) → n ≢ number → holds.opens n ≡ None → opens n ≡ None) → Holds then next anew after
     Holds-later mask anew words after holds opens are masks its others free = record {
@@ -92,13 +87,6 @@ module _ (held : List (Option Held)) (number : ℕ) (h later : Held) (there : he
           let before = were.each g.name t opened in
           ap (session_in sessions) was.slot
           ∙ has.each n was.one before.was was.there (ap w.transactions (sym was.name) ∙ before.is)
-          ∙ (λ i. Some (record { client = before.client i; depth = before.depth i }));
-      only = λ slot s is. held_on_later slot (has.only slot s is);
+          ∙ (λ i. Some (record { client = before.client i; number = n; depth = before.depth i }));
+      only = λ slot s is. held_on_later slot s.number (has.only slot s is);
     }
-
-  -- what is known of pools is so where its own pool alone changes
-  pub KnowsPools-later : (F : ℕ) (judged : List (Option (List (ℕ × Puddle)))) (before after : Image) → KeepsPools F (Some h.slot) before after → KnowsPools F judged held before → KnowsPools F judged next after
-  KnowsPools-later F judged before after keeps knows = record {
-    judged = AreJudged-but F h.slot judged before after keeps (knows.apart number h there) knows.judged;
-    apart = λ n g is. let was = was_held n g is in ap (known_in judged) was.slot ∙ knows.apart n was.one was.there;
-  }

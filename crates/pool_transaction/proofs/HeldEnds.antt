@@ -1,10 +1,9 @@
 -- What is held is committed or undone: what the calls that do so ask of the device, and the world that they give.
 use Rattle.std.proofs.Common.{◌≡◌, ◌≢◌, inl, inr, ℕ, ◌+◌, ◌<◌, ◌≤◌, true, false, ◌||◌, cond, leb, eqb, List, [], Option, Some, None, option_map, refl, sym, ap, ap₂, subst, ◌∙◌, arith}
-use Rattle.std.specs.Prelude.{All, unwrap_or, set}
+use Rattle.std.specs.Prelude.{All, unwrap_or}
 use Rattle.std.specs.FinMap.Entries.{find, put}
 use Rattle.std.proofs.lemmas.Bool.{cond-true, cond-false, le-leb}
 use Rattle.std.proofs.lemmas.List.{set-get_or}
-use Rattle.std.proofs.lemmas.Option.{none-some, same_Some}
 use Rattle.pm_model.specs.declared.host.HostFault.{HostFault}
 use Rattle.pm_model.specs.Words.{reads, Picks}
 use Rattle.pm_model.specs.Moments.{State}
@@ -36,31 +35,30 @@ use Rattle.pud_defs.proofs.TablesOf.{tables_of-same}
 use Rattle.log_store.specs.Store.{OpenLog}
 use Rattle.nesting.specs.Sessions.{session_depth, depth_in}
 use Rattle.word_transaction.specs.Running.{ByTransaction, HasPlaces, HasOneTable, CanRedo}
-use Rattle.hybrid_tx.specs.Grounds.{pool_mine, pool_ground, IsPlaced}
-use Rattle.hybrid_tx.specs.Masks.{OpenPool, is_open_record, open_mask}
-use Rattle.hybrid_tx.specs.ManyOpen.{open_masks}
-use Rattle.hybrid_tx.specs.Transactions.{OpenTx, IsRewrittenFor, IsOpenOn, ClosesOn, EndsOn}
-use Rattle.hybrid_tx.proofs.RewrittenPools.{rewritten_for}
-use Rattle.hybrid_tx.proofs.ManyIdle.{masks_changed, places_beside}
-use Rattle.hybrid_tx.proofs.Opening.{stored_in-mine}
-use Rattle.hybrid_tx.proofs.OpenMasks.{mask_of_mine}
+use Rattle.hybrid_tx.specs.Grounds.{pool_mine, pool_ground, IsPlaced, IsRewritten}
+use Rattle.hybrid_tx.specs.Open.Masks.{OpenPool, is_open_record, open_mask}
+use Rattle.hybrid_tx.specs.Open.ManyOpen.{open_masks}
+use Rattle.hybrid_tx.specs.Objects.Transactions.{IsRewrittenFor, IsOpenOn, ClosesOn, EndsOn}
+use Rattle.hybrid_tx.proofs.Objects.RewrittenPools.{rewritten_for}
+use Rattle.hybrid_tx.proofs.Open.ManyIdle.{masks_changed, places_beside}
+use Rattle.hybrid_tx.proofs.Objects.Opening.{stored_in-mine}
+use Rattle.hybrid_tx.proofs.Open.OpenMasks.{mask_of_mine}
 use Rattle.hybrid_tx.proofs.PoolGrounds.{pool_mine-each}
-use Rattle.ready_daemon.specs.Memory.{Held, Memory, held_under}
-use Rattle.ready_daemon.specs.Beginning.{tx_held, judged_behind}
-use Rattle.ready_daemon.specs.Leaving.{BehindTables, sessions_behind, world_without_log}
+use Rattle.ready_daemon.specs.Memory.{Held, Memory, held_under, with_held}
+use Rattle.ready_daemon.specs.Leaving.{BehindTables, world_without_log}
 use Rattle.ready_daemon.specs.Held.{pool_held, IsHeld, IsOwn}
-use Rattle.ready_daemon.specs.Holding.{IsOwnOn}
 use Rattle.ready_daemon.specs.Ready.{IsReady, Applies}
 use Rattle.ready_daemon.proofs.Applying.{Applies-idle}
 use Rattle.ready_daemon.proofs.Beneath.{table_reads}
 use Rattle.ready_daemon.proofs.Beside.{daemon_log_unmasked}
 use Rattle.ready_daemon.proofs.Committing.{idle_world_with_graph}
-use Rattle.pool_transaction.proofs.Ending.{EndsBy-closes, EndsBy-ends, mixed, ended, is_held, own, rest, more, rest_masks, later, all_later, later_more, later_masks, records_there, idle_there, world_there, world_before, Applies-ended}
+use Rattle.pool_transaction.specs.Lifetime.{with_ended}
+use Rattle.pool_transaction.proofs.Ending.{EndsBy-closes, EndsBy-ends, mixed, is_held, own, rest, more, rest_masks, later, all_later, later_more, later_masks, records_there, idle_there, world_there, world_before, Applies-ended}
 use Rattle.pool_transaction.proofs.HeldRuns.{held_placed}
-use Rattle.ready_daemon.proofs.InTurn.{held_in_turn}
+use Rattle.ready_daemon.proofs.InTurn.{held_in_turn, held_there_known}
 use Rattle.ready_daemon.proofs.PoolsApart.{found_beside_put}
 use Rattle.ready_daemon.proofs.PoolsBeside.{used_still}
-use Rattle.ready_daemon.proofs.Rewritten.{held_rewritten}
+use Rattle.ready_daemon.proofs.Rewritten.{known_rewritten}
 use Rattle.ready_daemon.proofs.TablesBeside.{header_read}
 
 -- ---- pools of other names
@@ -112,15 +110,15 @@ module _ (size : ℕ) (w : World) (memory : Memory) (number : ℕ) (held : Held)
   n = w.stored.frames
 
   abbrev p : OpenPool
-  p = pool_held held is.rec is.who
+  p = pool_held held is.at is.rec is.who
 
   abbrev now : Image
   now = reads old.now.words
 
-  placed : IsPlaced n held.at
+  placed : IsPlaced n is.at
   placed = held_placed size w memory held old number there ready
 
-  held_places : HasPlaces (pool_ground n held.at) (puddle_word (tables_of n now))
+  held_places : HasPlaces (pool_ground n is.at) (puddle_word (tables_of n now))
   held_places =
       let picked = Picks-reads old.now.words in
       places_beside size n w.stored ready.held.opens now refl ready.held.are (idle_there size w memory number held old ready there now picked) (records_there size w memory number held old ready there now picked)
@@ -129,35 +127,39 @@ module _ (size : ℕ) (w : World) (memory : Memory) (number : ℕ) (held : Held)
   held_table : HasOneTable n old.now.words
   held_table = record { each = λ k within. let low = within.low in let high = within.high in ready.tables.each k (inr (omega arith)) high }
 
-  can_redo : CanRedo (pool_ground n held.at) n held.log.at old.now.words
+  can_redo : CanRedo (pool_ground n is.at) n held.tx.log.at old.now.words
   can_redo = record { before = let gate = is.gate in omega arith; table = held_table; places = held_places }
 
-  log_apart : held.log.at + LOG_WORDS ≤ frames_at n
+  log_apart : held.tx.log.at + LOG_WORDS ≤ frames_at n
   log_apart = let gate = is.gate in let few = is.pool.known in omega arith
 
   room : device_words n ≤ size
   room = (header_read size w memory old ready).room
 
+  -- its pool is known, so that it is rewritten
+  rewritten : IsRewritten is.at
+  rewritten = known_rewritten size w memory old ready held.slot is.at (held_there_known size w memory old ready number held there)
+
   -- its session says how often it was begun
-  pub depth_is : depth_in memory.sessions held.slot ≡ is.transaction.depth
+  depth_is : depth_in memory.sessions held.slot ≡ is.transaction.depth
   depth_is = ap session_depth (ready.sessions.each number held is.transaction there is.is)
 
   -- ---- undone
 
-  module _ (F sz : ℕ) (fault : Option HostFault) (new : State) (on : F ≡ n) (same : size ≡ sz) (undoes : Undoes F sz held.log fault old new) where
-    closes : ClosesOn n held.at w.stored.types held.log.at is.before is.undone fault old new
+  module _ (F sz : ℕ) (fault : Option HostFault) (new : State) (on : F ≡ n) (same : size ≡ sz) (undoes : Undoes F sz held.tx.log fault old new) where
+    closes : ClosesOn n is.at w.stored.types held.tx.log.at is.before is.undone fault old new
     closes =
-        subst (λ (m : ℕ). Undoes m sz held.log fault old new) on undoes held.at w.stored.types is.before is.undone is.transaction.now is.transaction.laters placed (omega (arith, same, room)) log_apart is.running held_places held_table
+        subst (λ (m : ℕ). Undoes m sz held.tx.log fault old new) on undoes is.at w.stored.types is.before is.undone is.transaction.now is.transaction.laters placed (omega (arith, same, room)) log_apart is.running held_places held_table
 
     pub undone_behind : Changes (BehindTables n) fault old new
     undone_behind =
-        Changes-wider (ByTransaction (pool_ground n held.at) held.log.at) (BehindTables n) fault old new
-        (λ k v may. behind_tables n held.number held.at k v (subst (λ (at : ℕ). ByTransaction (pool_ground n held.at) at k v) is.gate may)) closes.closes.changes
+        Changes-wider (ByTransaction (pool_ground n is.at) held.tx.log.at) (BehindTables n) fault old new
+        (λ k v may. behind_tables n held.number is.at k v (subst (λ (at : ℕ). ByTransaction (pool_ground n is.at) at k v) is.gate may)) closes.closes.changes
 
-    pub Applies-aborted : Applies size w (world_without_log (Some held) w) (ended number held memory) fault old new
+    pub Applies-aborted : Applies size w (world_without_log (Some held) w) (with_ended number held memory) fault old new
     Applies-aborted =
         Applies-ended size w memory number held old ready there is.before (λ k other. refl) w.stored.pools (world_before size w memory number held old ready there) (λ name apart. refl) is.undone is.running.was fault new
-        (EndsBy-closes (pool_ground n held.at) held.log.at is.before fault old new closes.closes)
+        (EndsBy-closes (pool_ground n is.at) held.tx.log.at is.before fault old new closes.closes)
 
   -- ---- committed
 
@@ -173,33 +175,33 @@ module _ (size : ℕ) (w : World) (memory : Memory) (number : ℕ) (held : Held)
   abbrev made : Graph
   made = with_laters is.transaction.laters is.transaction.now
 
-  module _ (x : Image) (graph : graph_of w.stored.types (stored_in n held.at x) ≡ Some made) where
+  module _ (x : Image) (graph : graph_of w.stored.types (stored_in n is.at x) ≡ Some made) where
     abbrev values : Image
-    values = mixed (pool_ground n held.at) x is.before
+    values = mixed (pool_ground n is.at) x is.before
 
     abbrev pools_after : List (List ℕ × Pool)
     pools_after = changed_pool is.rec.name (holding_graph made) w.stored.pools
 
-    values_beside : (k : ℕ) → pool_mine n held.at k ≡ false → values k ≡ is.before k
+    values_beside : (k : ℕ) → pool_mine n is.at k ≡ false → values k ≡ is.before k
     values_beside k other = cond-false _ _ _ other
 
-    graph_after : graph_of w.stored.types (stored_in n held.at values) ≡ Some made
-    graph_after = ap (graph_of w.stored.types) (stored_in-mine n held.at x values (λ k mine. cond-true _ _ _ mine)) ∙ graph
+    graph_after : graph_of w.stored.types (stored_in n is.at values) ≡ Some made
+    graph_after = ap (graph_of w.stored.types) (stored_in-mine n is.at x values (λ k mine. cond-true _ _ _ mine)) ∙ graph
 
     -- all are masked, with these values of its frames
     abbrev anew : Write
     anew = open_masks n (all_later size w memory number held old ready there values values_beside)
 
-    values_graph : (i : Image) → Picks old.now.words i → graph_of w.stored.types (stored_in n held.at (masked_image anew i)) ≡ Some made
+    values_graph : (i : Image) → Picks old.now.words i → graph_of w.stored.types (stored_in n is.at (masked_image anew i)) ≡ Some made
     values_graph i picked =
         let masks = later_masks size w memory number held old ready there values values_beside i picked in
         let its = later_more size w memory number held old ready there values values_beside in
-        ap (graph_of w.stored.types) (stored_in-mine n held.at x (masked_image anew i) (λ k mine.
+        ap (graph_of w.stored.types) (stored_in-mine n is.at x (masked_image anew i) (λ k mine.
         masked_image-there anew i k (values k) (masks.has number (later size w memory number held old ready there values values_beside) its.here k (values k) (mask_of_mine n p values k is.pool.known mine))
         ∙ cond-true _ _ _ mine)) ∙ graph
 
     -- beside its frames they are masked as they were
-    anew_beside : (i : Image) → Picks old.now.words i → (k : ℕ) → pool_mine n held.at k ≡ false → anew k ≡ ready.mask k
+    anew_beside : (i : Image) → Picks old.now.words i → (k : ℕ) → pool_mine n is.at k ≡ false → anew k ≡ ready.mask k
     anew_beside i picked k other =
         masks_changed number (own size w memory number held old ready there) (later size w memory number held old ready there values values_beside) _ ready.held.opens
         (all_later size w memory number held old ready there values values_beside) (more size w memory number held old ready there) (later_more size w memory number held old ready there values values_beside) n ready.mask anew
@@ -209,7 +211,7 @@ module _ (size : ℕ) (w : World) (memory : Memory) (number : ℕ) (held : Held)
     stands_after : (i : Image) → Picks old.now.words i → idle_world_of size (masked_image anew i) ≡ Some (record w.stored { pools = pools_after })
     stands_after i picked =
         let tables = masked_tables i picked in
-        idle_world_with_graph size w.stored (masked_image ready.mask i) (masked_image anew i) held.slot is.rec held.at made
+        idle_world_with_graph size w.stored (masked_image ready.mask i) (masked_image anew i) held.slot is.rec is.at made
         (ap is_idle_gate (masked_image-elsewhere ready.mask i DAEMON_LOG (daemon_log_unmasked w memory.held ready.mask old.now.words ready.held)) ∙ idle_there size w memory number held old ready there i picked)
         (ready.settled.stands (masked_image ready.mask i) (Picks-masked ready.mask old.now.words i picked)) is.pool.slot
         (ap (λ (t : Tables). t.pools held.slot) tables ∙ used_still w held ready.mask old.now.words is)
@@ -219,25 +221,25 @@ module _ (size : ℕ) (w : World) (memory : Memory) (number : ℕ) (held : Held)
     pools_beside : (name : List ℕ) → name ≢ held.name → pool_named name (record w.stored { pools = pools_after }) ≡ pool_named name w.stored
     pools_beside name apart = changed_beside is.rec.name name (holding_graph made) w.stored.pools (λ same. apart (same ∙ is.name))
 
-  module _ (client : ℕ) (last : is.transaction.depth ≤ 1) where
+  module _ (client : ℕ) (last : depth_in memory.sessions held.slot ≤ 1) where
     -- the world that the last commit gives
     committed_world : after w (Commit client held.name)
         ≡ record w { stored = record w.stored { pools = changed_pool is.rec.name (holding_graph made) w.stored.pools }; transactions = with_open held.name None w.transactions }
     unfolding after
     committed_world =
-        let one : leb is.transaction.depth 1 ≡ true = le-leb is.transaction.depth 1 last in
+        let one : leb is.transaction.depth 1 ≡ true = le-leb is.transaction.depth 1 (omega (arith, depth_is, last)) in
         ap₂ (λ (ps : List (List ℕ × Pool)) (t : Option Transaction). record w { stored = record w.stored { pools = ps }; transactions = with_open held.name t w.transactions })
         (ap (λ (o : Option Transaction). committed_pools held.name o w.stored.pools) is.is ∙ cond-true _ _ _ one ∙ ap (λ (name : List ℕ). changed_pool name (holding_graph made) w.stored.pools) (sym is.name))
         (ap lowered is.is ∙ cond-true _ _ _ one)
 
-    pub Applies-committed : (F sz : ℕ) (fault : Option HostFault) (new : State) → F ≡ n → size ≡ sz → Commits F sz held.log fault old new
-        → Applies size w (after w (Commit client held.name)) (ended number held memory) fault old new
+    pub Applies-committed : (F sz : ℕ) (fault : Option HostFault) (new : State) → F ≡ n → size ≡ sz → Commits F sz held.tx.log fault old new
+        → Applies size w (after w (Commit client held.name)) (with_ended number held memory) fault old new
     Applies-committed F sz fault new on same commits =
-        let e = subst (λ (m : ℕ). Commits m sz held.log fault old new) on commits held.at w.stored.types is.before is.undone is.transaction.now is.transaction.laters placed (omega (arith, same, room)) log_apart is.running
-        (λ n d below. rewritten_for held.at (held_rewritten size w memory old ready number held there) _ _ _) (λ some. can_redo) in
-        subst (λ (v : World). Applies size w v (ended number held memory) fault old new) (sym committed_world)
+        let e = subst (λ (m : ℕ). Commits m sz held.tx.log fault old new) on commits is.at w.stored.types is.before is.undone is.transaction.now is.transaction.laters placed (omega (arith, same, room)) log_apart is.running
+        (λ n d below. rewritten_for is.at rewritten _ _ _) (λ some. can_redo) in
+        subst (λ (v : World). Applies size w v (with_ended number held memory) fault old new) (sym committed_world)
         (Applies-ended size w memory number held old ready there (values e.after e.is) (values_beside e.after e.is) (pools_after e.after e.is) (stands_after e.after e.is) (pools_beside e.after e.is) made
-        (graph_after e.after e.is) fault new (EndsBy-ends (pool_ground n held.at) held.log.at is.before e.after fault old new e.ends))
+        (graph_after e.after e.is) fault new (EndsBy-ends (pool_ground n is.at) held.tx.log.at is.before e.after fault old new e.ends))
 
 -- the client's own is undone
 aborted_world : (w : World) (client : ℕ) (name : List ℕ) (number : ℕ) (held : List (Option Held)) → IsOwn client name number held → world_without_log (held_under held number) w ≡ after w (Abort client name)
@@ -250,77 +252,11 @@ pub Applies-own : (size : ℕ) (w : World) (client : ℕ) (name : List ℕ) (num
 Applies-own size w client name number memory first behind fault old new own same applies =
     subst (λ (v : World). Applies size w v behind fault old new) (ap (λ (l : List (Option Held)). world_without_log (held_under l number) w) same ∙ aborted_world w client name number memory.held own) applies
 
--- ---- whatever is held under the number
-
--- what is let go of has this transaction
-pub record HasTx (o : Option Held) (tx : OpenTx) : Type 0 where
-  pub mine : Held
-  pub is : o ≡ Some mine
-  pub tx_is : tx ≡ tx_held mine
-
-has_tx : (o : Option Held) (tx : OpenTx) → option_map tx_held o ≡ Some tx → HasTx o tx
-has_tx None tx is = absurd (none-some tx is)
-has_tx (Some held) tx is = record { mine = held; is = refl; tx_is = same_Some tx (tx_held held) (sym is) }
-
-nothing_held : (o : Option Held) → option_map tx_held o ≡ None → o ≡ None
-nothing_held None none = refl
-nothing_held (Some held) none = absurd (none-some (tx_held held) (sym none))
-
--- What is in memory behind it: nothing is held under the number, its session has ended, and its pool's puddles are known again.
-pub record IsReleased (number : ℕ) (memory behind : Memory) : Type 0 where
-  pub frames : behind.frames ≡ memory.frames
-  pub held : behind.held ≡ set memory.held number None
-  pub sessions : behind.sessions ≡ sessions_behind (held_under memory.held number) memory.sessions
-  pub judged : behind.judged ≡ judged_behind (held_under memory.held number) memory.judged
-
-released_one : (number : ℕ) (memory behind : Memory) (mine : Held) → held_under memory.held number ≡ Some mine → IsReleased number memory behind → ended number mine memory ≡ behind
-released_one number memory behind mine is r =
-    let sessions : set memory.sessions mine.slot None ≡ behind.sessions = sym (r.sessions ∙ ap (λ (o : Option Held). sessions_behind o memory.sessions) is) in
-    let judged : set memory.judged mine.slot (Some mine.at) ≡ behind.judged = sym (r.judged ∙ ap (λ (o : Option Held). judged_behind o memory.judged) is) in
-    let frames = sym r.frames in
-    let held = sym r.held in
-    λ i. record { frames = frames i; held = held i; sessions = sessions i; judged = judged i }
-
-released_none : (number : ℕ) (memory behind : Memory) → held_under memory.held number ≡ None → IsReleased number memory behind → memory ≡ behind
-released_none number memory behind none r =
-    let sessions : memory.sessions ≡ behind.sessions = sym (r.sessions ∙ ap (λ (o : Option Held). sessions_behind o memory.sessions) none) in
-    let judged : memory.judged ≡ behind.judged = sym (r.judged ∙ ap (λ (o : Option Held). judged_behind o memory.judged) none) in
-    let frames = sym r.frames in
-    let held : memory.held ≡ behind.held = sym (r.held ∙ ap (set memory.held number) (sym none) ∙ set-get_or memory.held number None) in
-    λ i. record { frames = frames i; held = held i; sessions = sessions i; judged = judged i }
-
-module _ (size : ℕ) (w : World) (memory behind : Memory) (number : ℕ) (fault : Option HostFault) (old new : State) (released : IsReleased number memory behind) (ready : IsReady size w memory old) where
-  -- nothing is
-  pub Applies-unheld : option_map tx_held (held_under memory.held number) ≡ None → Applies size w (world_without_log (held_under memory.held number) w) behind None old old
-  Applies-unheld none =
-      let free = nothing_held (held_under memory.held number) none in
-      subst (λ (o : Option Held). Applies size w (world_without_log o w) behind None old old) (sym free)
-      (subst (λ (m : Memory). Applies size w w m None old old) (released_none number memory behind free released) (Applies-idle size w memory old old ready refl))
-
-  module _ (sz : ℕ) (tx : OpenTx) (same : size ≡ sz) (held_tx : option_map tx_held (held_under memory.held number) ≡ Some tx) where
-    one : HasTx (held_under memory.held number) tx
-    one = has_tx (held_under memory.held number) tx held_tx
-
-    -- it was undone
-    pub Applies-undone : Undoes memory.frames sz tx.log fault old new → Applies size w (world_without_log (held_under memory.held number) w) behind fault old new
-    Applies-undone undoes =
-        subst (λ (o : Option Held). Applies size w (world_without_log o w) behind fault old new) (sym one.is)
-        (subst (λ (m : Memory). Applies size w (world_without_log (Some one.mine) w) m fault old new) (released_one number memory behind one.mine one.is released)
-        (Applies-aborted size w memory number one.mine old ready one.is memory.frames sz fault new ready.frames same (subst (λ (x : OpenTx). Undoes memory.frames sz x.log fault old new) one.tx_is undoes)))
-
-    pub behind_undone : Undoes memory.frames sz tx.log fault old new → Changes (BehindTables w.stored.frames) fault old new
-    behind_undone undoes =
-        undone_behind size w memory number one.mine old ready one.is memory.frames sz fault new ready.frames same (subst (λ (x : OpenTx). Undoes memory.frames sz x.log fault old new) one.tx_is undoes)
-
-  -- it was committed, where it was begun once
-  pub Applies-kept : (sz client : ℕ) (name : List ℕ) (slot : ℕ) (tx : OpenTx) → size ≡ sz → IsOwnOn client name slot number memory.held → option_map tx_held (held_under memory.held number) ≡ Some tx
-      → depth_in memory.sessions slot ≤ 1 → Commits memory.frames sz tx.log fault old new → Applies size w (after w (Commit client name)) behind fault old new
-  Applies-kept sz client name slot tx same on held_tx last commits =
-      let mine = on.own.mine in
-      let there = on.own.is in
-      let its : tx ≡ tx_held mine = same_Some tx (tx_held mine) (sym held_tx ∙ ap (option_map tx_held) there) in
-      let depth = sym (ap (depth_in memory.sessions) on.slot_is) ∙ depth_is size w memory number mine old ready there in
-      subst (λ (n : List ℕ). Applies size w (after w (Commit client n)) behind fault old new) on.own.pool
-      (subst (λ (m : Memory). Applies size w (after w (Commit client mine.name)) m fault old new) (released_one number memory behind mine there released)
-      (Applies-committed size w memory number mine old ready there client (omega (arith, depth, last)) memory.frames sz fault new ready.frames same
-      (subst (λ (x : OpenTx). Commits memory.frames sz x.log fault old new) its commits)))
+-- where nothing is held under the number, nothing is undone
+pub Applies-unheld : (size : ℕ) (w : World) (memory : Memory) (number : ℕ) (s : State) → IsReady size w memory s → held_under memory.held number ≡ None
+    → Applies size w (world_without_log (held_under memory.held number) w) (with_held number None memory) None s s
+Applies-unheld size w memory number s ready none =
+    let same : with_held number None memory ≡ memory =
+    ap (λ (o : Option Held). with_held number o memory) (sym none) ∙ ap (λ (held : List (Option Held)). record memory { held = held }) (set-get_or memory.held number None) in
+    subst (λ (o : Option Held). Applies size w (world_without_log o w) (with_held number None memory) None s s) (sym none)
+    (subst (λ (m : Memory). Applies size w w m None s s) (sym same) (Applies-idle size w memory s s ready refl))

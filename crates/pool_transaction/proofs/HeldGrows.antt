@@ -16,6 +16,7 @@ use Rattle.pm_model.specs.Changes.{Write, Leaves, Silently}
 use Rattle.pm_model.specs.Masks.{masked, masked_state}
 use Rattle.pm_model.proofs.Changes.{Changes-said}
 use Rattle.pm_model.proofs.Masks.{reads-masked}
+use Rattle.pm_model.proofs.Words.{Picks-reads}
 use Rattle.pud_defs.specs.declared.layout.TheConstants.{DAEMON_LOG, NEXT_NUMBER_WORD}
 use Rattle.pud_defs.specs.declared.records.Puddle.{Puddle}
 use Rattle.pud_defs.specs.Frames.{IsFreshFrame}
@@ -27,12 +28,17 @@ use Rattle.pud_defs.specs.SoundTables.{HasSoundTables}
 use Rattle.pud_defs.specs.Spaces.{owner_of}
 use Rattle.pud_defs.specs.Step.{graph_in}
 use Rattle.pud_defs.specs.Tables.{Tables, Pool, tables_of, puddles_in_turn}
-use Rattle.pud_defs.specs.Types.{map_of}
+use Rattle.pud_defs.specs.Stored.{stored_in}
+use Rattle.pud_defs.specs.Types.{map_of, types_of}
 use Rattle.pud_defs.specs.World.{StoredWorld, World}
-use Rattle.pud_defs.proofs.PoolMembers.{IsMemberOf, HasMembers}
-use Rattle.pud_defs.proofs.PoolsChanged.{changed_here}
+use Rattle.pud_defs.proofs.PoolMembers.{IsMemberOf, HasMembers, members_in_turn}
+use Rattle.pud_defs.proofs.PoolsChanged.{changed_here, changed_elsewhere}
 use Rattle.pud_defs.proofs.PoolsCounted.{length_puddles}
 use Rattle.pud_defs.proofs.TablesOf.{frames_of_tables}
+use Rattle.pud_defs.proofs.IdleWorlds.{standing_beside, standing_idle}
+use Rattle.pud_defs.proofs.Keyed.{first_free_some}
+use Rattle.pud_defs.proofs.Parts.{Holds-same}
+use Rattle.pud_defs.proofs.Parts.Part.{Types}
 use Rattle.graph_laws.proofs.Grown.{slice_get-front, slice_get-push}
 use Rattle.batch.specs.Batches.{HasIdleGate}
 use Rattle.registry.specs.declared.adding.Added.{Added}
@@ -43,26 +49,31 @@ use Rattle.registry.specs.Growth.{puddle_count, IsGrowthFor, growing, added_pudd
 use Rattle.registry.proofs.Changed.{changed_there}
 use Rattle.registry.proofs.PuddlesCounted.{puddle_count_by_world}
 use Rattle.registry.proofs.Moved.{ReadsWorld, reads_world}
-use Rattle.ready_daemon.specs.Memory.{Held, Memory, held_under, with_held}
-use Rattle.ready_daemon.specs.Held.{puddles_in, IsHeld, Holds, HasDurableFrames, ByOthers, IsBeside}
+use Rattle.hybrid_tx.specs.Open.ManyOpen.{OpenTransaction, Opens, with_transaction, IsOneMore}
+use Rattle.hybrid_tx.proofs.Open.ManyIdle.{one_ended, one_put}
+use Rattle.ready_daemon.specs.Memory.{Held, Memory, held_under}
+use Rattle.ready_daemon.specs.Held.{open_held, IsHeld, IsHeldUnder, Holds, HasDurableFrames, ByOthers, IsBeside}
+use Rattle.ready_daemon.specs.Judged.{known_in}
 use Rattle.ready_daemon.specs.KnownPools.{KnowsPools}
-use Rattle.pool_transaction.specs.Changing.{StaysOpen, GrowsBy, with_more}
+use Rattle.pool_transaction.specs.Changing.{with_opened, GrowsBy, with_more}
 use Rattle.ready_daemon.specs.Ready.{IsReady, StandsBetween, AppliesMasked, Applies}
 use Rattle.ready_daemon.proofs.Beside.{KeepsOne, holds_still, durable_frames_still, moments_beside}
 use Rattle.ready_daemon.proofs.Beneath.{ready_gate, keeps_tables}
-use Rattle.ready_daemon.proofs.PoolsBeside.{used_still, members_still}
+use Rattle.ready_daemon.proofs.PoolsBeside.{used_still}
 use Rattle.ready_daemon.proofs.PoolsApart.{frame_below, found_beside_put, IsBeside-adds, AppliesMasked-pools}
-use Rattle.ready_daemon.proofs.TablesBeside.{HasDurableTables-masked, header_read, tables_read, under_durable}
+use Rattle.ready_daemon.proofs.TablesBeside.{HasDurableTables-masked, mask_beside, header_read, tables_read, under_durable}
 use Rattle.pool_transaction.proofs.HeldRuns.{is_held}
 use Rattle.pool_transaction.proofs.HeldPools.{its_pool, its_graph, count_held, puddles_counted, some_held}
-use Rattle.ready_daemon.proofs.InTurn.{all_members}
+use Rattle.ready_daemon.proofs.AllMembers.{all_members}
+use Rattle.ready_daemon.proofs.GraphLonger.{graph_longer}
+use Rattle.ready_daemon.proofs.InTurn.{held_known, held_in_turn}
+use Rattle.ready_daemon.proofs.JudgedOpen.{IsShut, KnowsPools-grown}
 use Rattle.ready_daemon.proofs.JudgedPools.{KeepsPools-grow}
-use Rattle.pool_transaction.proofs.HeldChanged.{KnowsPools-later}
 use Rattle.ready_daemon.proofs.PoolsGrown.{off_growing, grown_read}
-use Rattle.ready_daemon.proofs.JudgedKept.{KeepsPools}
+use Rattle.ready_daemon.proofs.JudgedKept.{HasGraphIn, KeepsPools}
 use Rattle.pud_defs.specs.Puts.{member_by, with_puddle_at}
 use Rattle.pud_defs.specs.declared.records.TheConstants.{POOL_RECORDS}
-use Rattle.pool_transaction.proofs.Widened.{GrowsHeld, wide, holds_more, sessions_more, settled_more, rest_more, logs_more}
+use Rattle.pool_transaction.proofs.Widened.{GrowsHeld, opened_more, wide, holds_more, sessions_more, settled_more, rest_more, logs_more}
 
 -- ---- the world
 
@@ -114,7 +125,7 @@ module _ (size : ℕ) (w : World) (memory : Memory) (held : Held) (old : State) 
   abbrev pub OwesWorld : ℕ → Option HostFault → State → Type 0
   OwesWorld n fault new = (mask : Write) → GrowsAt size w.stored (with_grown_pool held.name w.stored) n a mask old.now.words → ChangesMasked mask size w.stored (with_grown_pool held.name w.stored) (IsFilled n a) fault old new
 
-  module _ (by : GrowsBy F held image a) where
+  module _ (by : GrowsBy F held.slot is.at image a) where
     slot_is : a.puddle.pool ≡ held.slot
     slot_is = by.puddle.slot_is
 
@@ -133,7 +144,7 @@ module _ (size : ℕ) (w : World) (memory : Memory) (held : Held) (old : State) 
     next_read : IsNext (tables_of F image) (image NEXT_NUMBER_WORD)
     next_read =
         subst (λ (n : ℕ). IsGrowthFor (tables_of F image) (image NEXT_NUMBER_WORD) a.puddle.pool n a) (sym (count_held size w memory held old number there ready) ∙ ap (puddle_count (tables_of F image)) (sym slot_is))
-        (subst (λ (n : ℕ). IsGrowthFor (tables_of F image) (image NEXT_NUMBER_WORD) n (length held.at) a) (sym slot_is) by)
+        (subst (λ (n : ℕ). IsGrowthFor (tables_of F image) (image NEXT_NUMBER_WORD) n (length is.at) a) (sym slot_is) by)
 
     grows_at : GrowsAt size w.stored (with_grown_pool held.name w.stored) F a ready.mask old.now.words
     grows_at = record {
@@ -149,7 +160,7 @@ module _ (size : ℕ) (w : World) (memory : Memory) (held : Held) (old : State) 
       grown = inl (is.undone, its_graph size w memory held old number there ready, ap (λ (name : List ℕ). with_grown_pool name w.stored) (sym is.name));
     }
 
-  module _ (by : GrowsBy F held image a) (fault : Option HostFault) (new : State) (grows : OwesGrowth F fault new) (worlds : OwesWorld F fault new) where
+  module _ (by : GrowsBy F held.slot is.at image a) (fault : Option HostFault) (new : State) (grows : OwesGrowth F fault new) (worlds : OwesWorld F fault new) where
     beside : IsBeside ready.mask fault old new
     beside = IsBeside-adds ready.mask F a (growing a) fault old new (off by) (ready_gate size w memory old ready) (grows (ready_gate size w memory old ready))
 
@@ -175,7 +186,7 @@ module _ (size : ℕ) (w : World) (memory : Memory) (held : Held) (old : State) 
 
   -- ---- the transaction has the puddle too
 
-  module _ (by : GrowsBy F held image a) (new : State) (grows : OwesGrowth F None new) (worlds : OwesWorld F None new) where
+  module _ (by : GrowsBy F held.slot is.at image a) (new : State) (grows : OwesGrowth F None new) (worlds : OwesWorld F None new) where
     abbrev words : Words
     words = new.now.words
 
@@ -189,10 +200,10 @@ module _ (size : ℕ) (w : World) (memory : Memory) (held : Held) (old : State) 
     done = masks by None new grows worlds
 
     -- what is held is so of the world before still
-    holds_then : Holds w memory.held ready.mask words
+    abbrev holds_then : Holds w memory.held ready.mask words
     holds_then =
         holds_still w w memory.held ready.mask old new ready.held
-        (record { frames = refl; transactions = refl; present = λ n h has. refl; stored = λ n h has. refl; puddles = λ n h has. refl; types = λ id m is. is; graphs = λ st g is. is }) done.beside.changes
+        (record { frames = refl; transactions = refl; present = λ n h has. refl; stored = λ n h has. refl; types = λ id m is. is; graphs = λ st g is. is }) done.beside.changes
 
     abbrev is_then : IsHeld w held ready.mask words
     is_then = (holds_then.each number held there).is
@@ -214,6 +225,16 @@ module _ (size : ℕ) (w : World) (memory : Memory) (held : Held) (old : State) 
         subst (λ (u : Tables). HasSoundTables (with_grown_pool held.name w.stored).next_number u) tables_then
         (subst (λ (n : ℕ). HasSoundTables (with_grown_pool held.name w.stored).next_number (tables_of n under)) (grown_frames held.name w.stored) world_then.sound)
 
+    types_then : types_of (reads words) ≡ w.stored.types
+    types_then =
+        let s = with_grown_pool held.name w.stored in
+        let settled = done.settled refl in
+        let standing = standing_beside size under s (standing_idle size under s (settled.idle (under DAEMON_LOG) (inl refl)) (settled.stands under (Picks-reads (masked ready.mask words)))) in
+        let beside = mask_beside w memory.held ready.mask words holds_then in
+        (Holds-same Types size s under (reads words)
+        (λ k of. let high = of.high in sym (ap (λ (i : Image). i k) (reads-masked ready.mask words) ∙ beside.same k (omega arith))) (standing.holds Types)).types
+        ∙ grown_types held.name w.stored
+
     moved : reads words NEXT_NUMBER_WORD ≡ image NEXT_NUMBER_WORD → ⊥
     moved same =
         let was = (header_read size w memory old ready).next_number in
@@ -230,39 +251,15 @@ module _ (size : ℕ) (w : World) (memory : Memory) (held : Held) (old : State) 
     e = (a.frame, added_puddle a)
 
     abbrev at : List (ℕ × Puddle)
-    at = held.at ++ e ∷ []
+    at = is.at ++ e ∷ []
 
-    last : a.puddle.ordinal ≡ length held.at
+    last : a.puddle.ordinal ≡ length is.at
     last = by.puddle.ordinal_is
-
-    comes : (i : ℕ) → i ≡ length held.at → IsMemberOf t held.slot i e
-    comes i same =
-        let below = known by in
-        record {
-          below = omega (arith, below, frames_of_tables F (reads words));
-          member = member_by a.puddle;
-          used = ap (λ (u : Tables). u.puddles a.frame) grown.0 ∙ changed_here a.frame (Some (member_by a.puddle)) (tables_of F image).puddles;
-          pool = ap (λ (n : ℕ). n + 1) (slot_is by);
-          ordinal_is = last ∙ sym same;
-          puddle = refl;
-        }
-
-    all_there : HasMembers t held.slot at
-    all_there = record {
-      each = λ i x there. elim (cases_lt i (length held.at)) [
-        | inl below ↦ (members_still w held ready.mask words is_then).each i x (sym (slice_get-front held.at (e ∷ []) i below) ∙ there)
-        | inr past ↦
-            let within = slice_get_within at i x there in
-            let same : i ≡ length held.at = omega (arith, within, past, length_push held.at e) in
-            let is_last : e ≡ x = same_Some e x (sym (slice_get-push held.at e) ∙ ap (slice_get at) (sym same) ∙ there) in
-            subst (λ (y : ℕ × Puddle). IsMemberOf t held.slot i y) is_last (comes i same)
-      ];
-    }
 
     used_then : t.pools held.slot ≡ Some is_then.rec
     used_then = used_still w held ready.mask words is_then
 
-    counted_then : puddle_count t held.slot ≡ length held.at + 1
+    counted_then : puddle_count t held.slot ≡ length is.at + 1
     counted_then =
         let p = its_pool size w memory held old number there ready in
         let s = with_grown_pool held.name w.stored in
@@ -275,12 +272,54 @@ module _ (size : ℕ) (w : World) (memory : Memory) (held : Held) (old : State) 
         ∙ subst (λ (n : ℕ). puddle_count (tables_of n under) held.slot ≡ p.pool.puddles + 1) (grown_frames held.name w.stored) now
         ∙ ap (λ (n : ℕ). n + 1) (puddles_counted size w memory held old number there ready)
 
+    comes : (i : ℕ) → i ≡ length is.at → IsMemberOf t held.slot i e
+    comes i same =
+        let below = known by in
+        record {
+          below = omega (arith, below, frames_of_tables F (reads words));
+          member = member_by a.puddle;
+          used = ap (λ (u : Tables). u.puddles a.frame) grown.0 ∙ changed_here a.frame (Some (member_by a.puddle)) (tables_of F image).puddles;
+          pool = ap (λ (n : ℕ). n + 1) (slot_is by);
+          ordinal_is = last ∙ sym same;
+          puddle = refl;
+        }
+
+    -- one that it had is in no free frame, and has its record still
+    stays_there : (i : ℕ) (x : ℕ × Puddle) → slice_get is.at i ≡ Some x → IsMemberOf t held.slot i x
+    stays_there i x has =
+        let turn = held_in_turn size w memory old ready number held there in
+        let m = (members_in_turn (tables_of F image) held.slot).each i x (ap (λ (ps : List (ℕ × Puddle)). slice_get ps i) turn ∙ has) in
+        let below = m.below in
+        record {
+          below = omega (arith, below, frames_of_tables F image, frames_of_tables F (reads words));
+          member = m.member;
+          used = ap (λ (u : Tables). u.puddles x.0) grown.0
+              ∙ changed_elsewhere a.frame (Some (member_by a.puddle)) (tables_of F image).puddles x.0
+              (λ same. none-some m.member (sym (first_free_some (tables_of F image).puddles 0 (tables_of F image).frames a.frame by.puddle.frame).free ∙ ap (tables_of F image).puddles (sym same) ∙ m.used))
+              ∙ m.used;
+          pool = m.pool;
+          ordinal_is = m.ordinal_is;
+          puddle = m.puddle;
+        }
+
+    all_there : HasMembers t held.slot at
+    all_there = record {
+      each = λ i x there. elim (cases_lt i (length is.at)) [
+        | inl below ↦ stays_there i x (sym (slice_get-front is.at (e ∷ []) i below) ∙ there)
+        | inr past ↦
+            let within = slice_get_within at i x there in
+            let same : i ≡ length is.at = omega (arith, within, past, length_push is.at e) in
+            let is_last : e ≡ x = same_Some e x (sym (slice_get-push is.at e) ∙ ap (slice_get at) (sym same) ∙ there) in
+            subst (λ (y : ℕ × Puddle). IsMemberOf t held.slot i y) is_last (comes i same)
+      ];
+    }
+
     listed_then : puddles_in_turn t held.slot ≡ at
     listed_then =
         all_members (with_grown_pool held.name w.stored).next_number t sound_then held.slot is.pool.slot is_then.rec at used_then all_there
-        (length_puddles (with_grown_pool held.name w.stored).next_number t sound_then held.slot is.pool.slot ∙ counted_then ∙ sym (length_push held.at e))
+        (length_puddles (with_grown_pool held.name w.stored).next_number t sound_then held.slot is.pool.slot ∙ counted_then ∙ sym (length_push is.at e))
 
-    fresh : IsFreshFrame F e.0 e.1.number (length held.at) (reads words)
+    fresh : IsFreshFrame F e.0 e.1.number (length is.at) (reads words)
     fresh = subst (λ (n : ℕ). IsFreshFrame F a.frame a.puddle.number n (reads words)) last grown.1
 
     owners : owner_of (reads words) held.client ≡ w.clients held.client
@@ -299,7 +338,6 @@ module _ (size : ℕ) (w : World) (memory : Memory) (held : Held) (old : State) 
           transactions = refl;
           clients = refl;
           stored = ap graph_in more ∙ sym (ap graph_in p.there);
-          puddles = ap puddles_in more ∙ sym (ap (λ (found : Option Pool). puddles_in found + 1) p.there);
         }
 
     -- the others are on pools of other names
@@ -312,7 +350,6 @@ module _ (size : ℕ) (w : World) (memory : Memory) (held : Held) (old : State) 
           transaction = refl;
           present = refl;
           stored = ap graph_in same;
-          puddles = ap puddles_in same;
           types = λ id m defined. ap (map_of id) (grown_types held.name w.stored) ∙ defined;
           graphs = λ st graph stored. ap (λ (ts : List (ℕ × ℕ)). graph_of ts st) (grown_types held.name w.stored) ∙ stored;
         }
@@ -323,16 +360,44 @@ module _ (size : ℕ) (w : World) (memory : Memory) (held : Held) (old : State) 
     abbrev mask_then : Write
     mask_then = wide w memory.held ready.mask new holds_then held number there e number_then sound_then owners listed_then rest_then
 
-    stays : StaysOpen held (record held { at = at })
-    stays = record { client = refl; name = refl; slot = refl; number = refl; gate = refl }
+    abbrev one : OpenTransaction
+    one = open_held held is.at is.rec is.who is.before
+
+    -- where it is open then
+    abbrev more : OpenTransaction
+    more = opened_more w held ready.mask words is_then e
+
+    abbrev others : Opens
+    others = with_transaction number None ready.held.opens
+
+    abbrev its : IsHeldUnder w ready.held.opens ready.mask old.now.words number held
+    its = ready.held.each number held there
+
+    was : IsOneMore number one others ready.held.opens
+    was = one_ended number one ready.held.opens its.opened
+
+    -- no other is open on its pool
+    shut : IsShut others held.slot
+    shut m o here same =
+        let elsewhere : m ≢ number = λ it. none-some o (sym was.none ∙ ap others (sym it) ∙ here) in
+        elsewhere (ready.held.are.slots m number o one (was.same m elsewhere ∙ here) its.opened same)
+
+    -- the pool has the graph that it had
+    graph_then : HasGraphIn F held.slot (reads words) at
+    graph_then = record {
+      graph = is_then.transaction.now;
+      turn = listed_then;
+      stored = ap (λ (ts : List (ℕ × ℕ)). graph_of ts (stored_in F at (reads words))) types_then
+          ∙ graph_longer w.stored.types F (reads words) is.at e is_then.transaction.now (some_held size w memory held old number there ready) fresh is_then.running.is;
+    }
 
     -- all other pools stay
-    knows_then : KnowsPools F memory.judged (set memory.held number (Some (record held { at = at }))) (reads words)
+    knows_then : KnowsPools F (set memory.judged held.slot (Some at)) (with_transaction number (Some more) ready.held.opens) (reads words)
     knows_then =
-        KnowsPools-later memory.held number held (record held { at = at }) there stays F memory.judged image (reads words)
-        (subst (λ (n : ℕ). KeepsPools F (Some n) image (reads words)) (slot_is by) (KeepsPools-grow F a old new (within by) by.puddle.frame commits)) ready.knows
+        KnowsPools-grown F memory.judged number one more others ready.held.opens (with_transaction number (Some more) ready.held.opens) image (reads words) was (one_put number more ready.held.opens) refl shut
+        (subst (λ (n : ℕ). KeepsPools F (Some n) image (reads words)) (slot_is by) (KeepsPools-grow F a old new (within by) by.puddle.frame commits)) graph_then ready.knows
 
-    ready_then : IsReady size next (with_held number (Some (record held { at = at })) memory) new
+    ready_then : IsReady size next (with_opened number held.slot held at memory) new
     ready_then =
         let same = grown_frames held.name w.stored in
         let some = some_held size w memory held old number there ready in
@@ -347,26 +412,28 @@ module _ (size : ℕ) (w : World) (memory : Memory) (held : Held) (old : State) 
           sessions = sessions_more w memory.held ready.mask new holds_then held number there e number_then sound_then owners listed_then rest_then some fresh next grows_held keeps_others memory.sessions ready.sessions;
           rest = subst (λ (n : ℕ). HasDurableFrames n (masked mask_then words)) (sym same) (rest_more w memory.held ready.mask new holds_then held number there e number_then sound_then owners listed_then rest_then);
           logs = logs_more w memory.held ready.mask new holds_then held number there e number_then sound_then owners listed_then rest_then next.stored.frames next.clients (done.logs refl);
-          knows = subst (λ (n : ℕ). KnowsPools n memory.judged (set memory.held number (Some (record held { at = at }))) (reads words)) (sym same) knows_then;
+          knows = subst (λ (n : ℕ). KnowsPools n (set memory.judged held.slot (Some at)) (with_transaction number (Some more) ready.held.opens) (reads words)) (sym same) knows_then;
         }
 
     -- whatever a scan gives
-    pub Applies-wide : (puddles : List (ℕ × Puddle)) → puddles ≡ puddles_in_turn t held.slot → Applies size w next (with_held number (Some (record held { at = puddles })) memory) None old new
+    pub Applies-wide : (puddles : List (ℕ × Puddle)) → puddles ≡ puddles_in_turn t held.slot → Applies size w next (with_opened number held.slot held puddles memory) None old new
     Applies-wide puddles scanned =
         let all : puddles ≡ at = scanned ∙ listed_then in
         record {
           moments = moments_grown by None new grows worlds;
           quiet = Changes-said (ByOthers ready.mask) None old new done.beside.changes;
-          ready = λ _. subst (λ (ps : List (ℕ × Puddle)). IsReady size next (with_held number (Some (record held { at = ps })) memory) new) (sym all) ready_then;
+          ready = λ _. subst (λ (ps : List (ℕ × Puddle)). IsReady size next (with_opened number held.slot held ps memory) new) (sym all) ready_then;
           rests = done.beside.changes.rests;
           script = done.beside.changes.script;
         }
 
   -- ---- what the calls owe, on so many frames
 
-  module _ (n : ℕ) (same : n ≡ F) (by : GrowsBy n held image a) where
-    by_world : GrowsBy F held image a
-    by_world = subst (λ (m : ℕ). GrowsBy m held image a) same by
+  module _ (n : ℕ) (same : n ≡ F) (pool : List (ℕ × Puddle)) (known : known_in memory.judged held.slot ≡ Some pool) (by : GrowsBy n held.slot pool image a) where
+    by_world : GrowsBy F held.slot is.at image a
+    by_world =
+        subst (λ (ps : List (ℕ × Puddle)). GrowsBy F held.slot ps image a) (sym (held_known size w memory old ready number held there pool known))
+        (subst (λ (m : ℕ). GrowsBy m held.slot pool image a) same by)
 
     growth_there : (fault : Option HostFault) (new : State) → OwesGrowth n fault new → OwesGrowth F fault new
     growth_there fault new = subst (λ (m : ℕ). OwesGrowth m fault new) same
@@ -389,8 +456,8 @@ module _ (size : ℕ) (w : World) (memory : Memory) (held : Held) (old : State) 
 
     -- it was read
     pub grows_done : (puddles : List (ℕ × Puddle)) (mid new : State) → OwesGrowth n None mid → OwesWorld n None mid → new ≡ mid → puddles ≡ puddles_in_turn (tables_of n (reads mid.now.words)) held.slot
-        → Applies size w next (with_held number (Some (record held { at = puddles })) memory) None old new
+        → Applies size w next (with_opened number held.slot held puddles memory) None old new
     grows_done puddles mid new grows worlds still scanned =
-        subst (λ (s : State). Applies size w next (with_held number (Some (record held { at = puddles })) memory) None old s) (sym still)
+        subst (λ (s : State). Applies size w next (with_opened number held.slot held puddles memory) None old s) (sym still)
         (Applies-wide by_world mid (growth_there None mid grows) (worlds_there None mid worlds) puddles
         (subst (λ (m : ℕ). puddles ≡ puddles_in_turn (tables_of m (reads mid.now.words)) held.slot) same scanned))

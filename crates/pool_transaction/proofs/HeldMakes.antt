@@ -23,7 +23,7 @@ use Rattle.pud_defs.specs.World.{Transaction, World, open_on}
 use Rattle.graph_laws.specs.Slots.{AreAllLive, IsLowestFreeSlot}
 use Rattle.puddle_header.specs.Places.{place_of_slot, IsSlotOf}
 use Rattle.hybrid_tx.specs.Grounds.{IsPlaced}
-use Rattle.hybrid_tx.specs.Transactions.{OpenTx, IsOpenOn, RunsOn, MakesIn}
+use Rattle.hybrid_tx.specs.Objects.Transactions.{OpenTx, IsOpenOn, RunsOn, MakesIn}
 use Rattle.ready_daemon.specs.Memory.{Held, Memory, held_under, with_held}
 use Rattle.ready_daemon.specs.Held.{IsHeld}
 use Rattle.pool_transaction.specs.Changing.{refusal_to_make, refusal_by_world, with_made}
@@ -59,8 +59,8 @@ may_make map units next none =
     record { is = there.0; defined = there.1; fits = ltb-false LOG_ENTRY_WORDS (units + NEW_UNITS) big.0; left = leb-false NUMBER_LIMIT next full.0 }
 
 -- the units of what is not refused fit
-pub units_fit : (w : World) (held : Held) (id : ℕ) → refusal_by_world w held id ≡ None → held.units + NEW_UNITS ≤ LOG_ENTRY_WORDS
-units_fit w held id none = (may_make (map_of id w.stored.types) held.units (next_in (graph_seen (open_on held.name w) (pool_named held.name w.stored))) none).fits
+pub units_fit : (w : World) (held : Held) (id : ℕ) → refusal_by_world w held id ≡ None → held.tx.units + NEW_UNITS ≤ LOG_ENTRY_WORDS
+units_fit w held id none = (may_make (map_of id w.stored.types) held.tx.units (next_in (graph_seen (open_on held.name w) (pool_named held.name w.stored))) none).fits
 
 module _ (size : ℕ) (w : World) (memory : Memory) (held : Held) (old : State) (number : ℕ) (there : held_under memory.held number ≡ Some held) (ready : IsReady size w memory old) where
   abbrev is : IsHeld w held ready.mask old.now.words
@@ -70,16 +70,16 @@ module _ (size : ℕ) (w : World) (memory : Memory) (held : Held) (old : State) 
   pub next_serial : next_in (graph_seen (open_on held.name w) (pool_named held.name w.stored)) ≡ is.transaction.now.next_serial
   next_serial = ap (λ (o : Option Transaction). next_in (graph_seen o (pool_named held.name w.stored))) is.is
 
-  module _ (F : ℕ) (at : List (ℕ × Puddle)) (same : F ≡ w.stored.frames) (listed : at ≡ held.at) where
-    live_there : AreAllLive (stored_in F at (reads old.now.words)) → AreAllLive (stored_in w.stored.frames held.at (reads old.now.words))
+  module _ (F : ℕ) (at : List (ℕ × Puddle)) (same : F ≡ w.stored.frames) (listed : at ≡ is.at) where
+    live_there : AreAllLive (stored_in F at (reads old.now.words)) → AreAllLive (stored_in w.stored.frames is.at (reads old.now.words))
     live_there live =
-        subst (λ (n : ℕ). AreAllLive (stored_in n held.at (reads old.now.words))) same (subst (λ (puddles : List (ℕ × Puddle)). AreAllLive (stored_in F puddles (reads old.now.words))) listed live)
+        subst (λ (n : ℕ). AreAllLive (stored_in n is.at (reads old.now.words))) same (subst (λ (puddles : List (ℕ × Puddle)). AreAllLive (stored_in F puddles (reads old.now.words))) listed live)
 
     -- each slot is live where the pool is to grow, and not all where it is not
     pub all_live : grows w held.name ≡ true → AreAllLive (stored_in F at (reads old.now.words))
     all_live more =
         subst (λ (puddles : List (ℕ × Puddle)). AreAllLive (stored_in F puddles (reads old.now.words))) (sym listed)
-        (subst (λ (n : ℕ). AreAllLive (stored_in n held.at (reads old.now.words))) (sym same) (grows_live size w memory held old number there ready more))
+        (subst (λ (n : ℕ). AreAllLive (stored_in n is.at (reads old.now.words))) (sym same) (grows_live size w memory held old number there ready more))
 
     pub not_live : grows w held.name ≡ false → AreAllLive (stored_in F at (reads old.now.words)) → ⊥
     not_live less live = grows_not size w memory held old number there ready less (live_there live)
@@ -90,28 +90,29 @@ module _ (size : ℕ) (w : World) (memory : Memory) (held : Held) (old : State) 
         → IfOk done (λ serial. serial ≡ next_in (graph_seen (open_on held.name w) (pool_named held.name w.stored)))
     serial_made done less told =
         let graph = subst (λ (puddles : List (ℕ × Puddle)). graph_of w.stored.types (stored_in F puddles (reads old.now.words)) ≡ Some is.transaction.now) (sym listed)
-        (subst (λ (n : ℕ). graph_of w.stored.types (stored_in n held.at (reads old.now.words)) ≡ Some is.transaction.now) (sym same) is.running.is) in
+        (subst (λ (n : ℕ). graph_of w.stored.types (stored_in n is.at (reads old.now.words)) ≡ Some is.transaction.now) (sym same) is.running.is) in
         subst (λ (n : ℕ). IfOk done (λ serial. serial ≡ n)) (sym next_serial) (told graph (not_live less))
 
     -- what a call owes that makes an object in a slot, on these puddles
     abbrev OwesMakes : (slot : Slot) (id : ℕ) → Option HostFault → State → List (ℕ × Puddle) → Type 0
     OwesMakes slot id fault new puddles =
-        IsPlaced F puddles → IsOpenOn F puddles w.stored.types held.log is.before is.undone is.transaction.now is.transaction.laters old.now.words → is.transaction.now.next_serial < NUMBER_LIMIT
-        → IsSlotOf puddles slot → IsLowestFreeSlot (stored_in F puddles (reads old.now.words)) (place_of_slot slot) → MakesIn F puddles held.log.at slot id fault old new
+        IsPlaced F puddles → IsOpenOn F puddles w.stored.types held.tx.log is.before is.undone is.transaction.now is.transaction.laters old.now.words → is.transaction.now.next_serial < NUMBER_LIMIT
+        → IsSlotOf puddles slot → IsLowestFreeSlot (stored_in F puddles (reads old.now.words)) (place_of_slot slot) → MakesIn F puddles held.tx.log.at slot id fault old new
 
     -- it makes it in the lowest free one
-    pub made_lowest : (id : ℕ) → refusal_by_world w held id ≡ None → (fault : Option HostFault) (new : State) (slot : Slot) → OwesMakes slot id fault new at → IsSlotOf held.at slot
-        → IsLowestFreeSlot (stored_in F held.at (reads old.now.words)) (place_of_slot slot) → MakesIn F held.at held.log.at slot id fault old new
+    pub made_lowest : (id : ℕ) → refusal_by_world w held id ≡ None → (fault : Option HostFault) (new : State) (slot : Slot) → OwesMakes slot id fault new at → IsSlotOf at slot
+        → IsLowestFreeSlot (stored_in F at (reads old.now.words)) (place_of_slot slot) → MakesIn F at held.tx.log.at slot id fault old new
     made_lowest id none fault new slot owes of lowest =
-        let may = may_make (map_of id w.stored.types) held.units (next_in (graph_seen (open_on held.name w) (pool_named held.name w.stored))) none in
-        subst (λ (puddles : List (ℕ × Puddle)). OwesMakes slot id fault new puddles) listed owes
-        (subst (λ (n : ℕ). IsPlaced n held.at) (sym same) (held_placed size w memory held old number there ready))
-        (subst (λ (n : ℕ). IsOpenOn n held.at w.stored.types held.log is.before is.undone is.transaction.now is.transaction.laters old.now.words) (sym same) is.running)
+        let may = may_make (map_of id w.stored.types) held.tx.units (next_in (graph_seen (open_on held.name w) (pool_named held.name w.stored))) none in
+        owes
+        (subst (IsPlaced F) (sym listed) (subst (λ (n : ℕ). IsPlaced n is.at) (sym same) (held_placed size w memory held old number there ready)))
+        (subst (λ (puddles : List (ℕ × Puddle)). IsOpenOn F puddles w.stored.types held.tx.log is.before is.undone is.transaction.now is.transaction.laters old.now.words) (sym listed)
+        (subst (λ (n : ℕ). IsOpenOn n is.at w.stored.types held.tx.log is.before is.undone is.transaction.now is.transaction.laters old.now.words) (sym same) is.running))
         (subst (λ (n : ℕ). n < NUMBER_LIMIT) next_serial may.left) of lowest
 
-    module _ (id : ℕ) (none : refusal_by_world w held id ≡ None) (tx : OpenTx) (new : State) (gate : tx.log.at ≡ held.log.at) where
-      may : MayMake (map_of id w.stored.types) held.units (next_in (graph_seen (open_on held.name w) (pool_named held.name w.stored)))
-      may = may_make (map_of id w.stored.types) held.units (next_in (graph_seen (open_on held.name w) (pool_named held.name w.stored))) none
+    module _ (id : ℕ) (none : refusal_by_world w held id ≡ None) (tx : OpenTx) (new : State) (gate : tx.log.at ≡ held.tx.log.at) where
+      may : MayMake (map_of id w.stored.types) held.tx.units (next_in (graph_seen (open_on held.name w) (pool_named held.name w.stored)))
+      may = may_make (map_of id w.stored.types) held.tx.units (next_in (graph_seen (open_on held.name w) (pool_named held.name w.stored))) none
 
       the_object : with_new (blank_object id may.is) ≡ with_new (object_made w id)
       the_object = ap (λ (o : Option ℕ). with_new (blank_object id (unwrap_or o 0))) (sym may.defined)
@@ -119,11 +120,11 @@ module _ (size : ℕ) (w : World) (memory : Memory) (held : Held) (old : State) 
       pub Applies-made : (done : Result ℕ HostFault) → grows w held.name ≡ false
           → ((m : ℕ) → map_of id w.stored.types ≡ Some m → is.transaction.now.next_serial < NUMBER_LIMIT → (AreAllLive (stored_in F at (reads old.now.words)) → ⊥)
           → OwesRuns size w memory held old number there ready F at same listed tx new gate F at (charged NEW_UNITS (with_new (blank_object id m))) (fault_of done))
-          → ((AreAllLive (stored_in F at (reads old.now.words)) → ⊥) → IfOk done (λ _. tx.units ≡ held.units + NEW_UNITS))
+          → ((AreAllLive (stored_in F at (reads old.now.words)) → ⊥) → IfOk done (λ _. tx.units ≡ held.tx.units + NEW_UNITS))
           → Applies size w (with_made held.name id w) (with_held number (Some (with_tx tx held)) memory) (fault_of done) old new
       Applies-made done less runs used =
           let left = subst (λ (n : ℕ). n < NUMBER_LIMIT) next_serial may.left in
           let at_first = owed size w memory held old number there ready F at same listed tx new gate (charged NEW_UNITS (with_new (blank_object id may.is))) (fault_of done) (runs may.is may.defined left (not_live less)) in
           Applies-runs size w memory held old number there ready tx NEW_UNITS (charged NEW_UNITS (with_new (object_made w id))) (Charges-charged NEW_UNITS (with_new (object_made w id))) (fault_of done) new gate
-          (used_more done NEW_UNITS tx.units held.units (used (not_live less)))
-          (subst (λ (change : Graph → Graph). RunsOn w.stored.frames held.at w.stored.types tx.log is.before is.undone (change is.transaction.now) is.transaction.laters (fault_of done) old new) the_object at_first)
+          (used_more done NEW_UNITS tx.units held.tx.units (used (not_live less)))
+          (subst (λ (change : Graph → Graph). RunsOn w.stored.frames is.at w.stored.types tx.log is.before is.undone (change is.transaction.now) is.transaction.laters (fault_of done) old new) the_object at_first)

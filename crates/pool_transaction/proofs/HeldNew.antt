@@ -23,6 +23,7 @@ use Rattle.pud_defs.specs.Step.Answer.{of_reply}
 use Rattle.pud_defs.specs.Stored.{stored_in}
 use Rattle.pud_defs.specs.Tables.{Tables, Pool, Reader, tables_of}
 use Rattle.pud_defs.specs.Transactions.{units_of, with_changed, charged}
+use Rattle.pud_defs.specs.declared.records.Puddle.{Puddle}
 use Rattle.pud_defs.specs.GraphChanges.{with_new}
 use Rattle.pud_defs.specs.Types.{map_of, types_of}
 use Rattle.pud_defs.specs.World.{Transaction, World, open_on}
@@ -31,15 +32,14 @@ use Rattle.pud_defs.proofs.PoolRefusals.{space_by_table}
 use Rattle.pud_defs.proofs.Steps.{done_answer, done_world}
 use Rattle.pud_defs.proofs.TablesOf.{pools_beyond, frames_of_tables}
 use Rattle.registry.specs.Growth.{has_room}
-use Rattle.hybrid_tx.specs.Transactions.{OpenTx}
-use Rattle.hybrid_tx.proofs.OpenPools.{open_on_device}
+use Rattle.hybrid_tx.specs.Objects.Transactions.{OpenTx}
+use Rattle.hybrid_tx.proofs.Open.OpenPools.{open_on_device}
 use Rattle.ready_daemon.specs.Memory.{Held, Memory, held_under}
 use Rattle.ready_daemon.specs.Held.{pool_held, IsHeld}
 use Rattle.pool_transaction.specs.Changing.{refusal_to_make, refusal_by_tables, refusal_by_world, with_more, with_made}
 use Rattle.ready_daemon.specs.Ready.{IsReady}
 use Rattle.ready_daemon.proofs.TablesBeside.{header_read, types_read, pools_read, sound_read}
 use Rattle.pool_transaction.proofs.TransactionRefusals.{making_refusal, refusal_of-new, own_is_open}
-use Rattle.ready_daemon.specs.Beginning.{tx_held}
 use Rattle.pool_transaction.proofs.HeldRuns.{is_held}
 use Rattle.pool_transaction.proofs.HeldPools.{its_pool, grows_by, objects_fit, puddles_counted}
 use Rattle.pool_transaction.proofs.HeldGrows.{found_more}
@@ -107,8 +107,8 @@ module _ (size : ℕ) (w : World) (memory : Memory) (held : Held) (s : State) (n
       ap₂ (λ n ps. ltb n (sum_by (λ (e : List ℕ × Pool). e.1.puddles) ps + 1)) (sym (frames_of_tables F image)) (sym (pools_read size w memory s ready))
       ∙ sym (space_by_table hold w.stored.next_number t (sound_read size w memory s ready) (record { beyond = λ slot beyond. pools_beyond F image slot beyond }))
 
-  few_held : length held.at ≤ MAX_PUDDLES
-  few_held = (open_on_device F (pool_held held is.rec is.who) is.before is.pool).few
+  few_held : length is.at ≤ MAX_PUDDLES
+  few_held = (open_on_device F (pool_held held is.at is.rec is.who) is.before is.pool).few
 
   -- the client's own transaction is open
   own : refusal_of w (Commit held.client held.name) ≡ None
@@ -122,20 +122,20 @@ module _ (size : ℕ) (w : World) (memory : Memory) (held : Held) (s : State) (n
 
   less_by : grows w held.name ≡ false → many ≡ false
   less_by less =
-      most_objects (length is.transaction.now.objects) (length held.at) (objects_fit size w memory held s number there ready) few_held (sym (grows_by size w memory held s number there ready) ∙ less)
+      most_objects (length is.transaction.now.objects) (length is.at) (objects_fit size w memory held s number there ready) few_held (sym (grows_by size w memory held s number there ready) ∙ less)
 
-  all_by : grows w held.name ≡ true → length is.transaction.now.objects ≡ slots_among (length held.at)
-  all_by more = eqb-true (length is.transaction.now.objects) (slots_among (length held.at)) (sym (grows_by size w memory held s number there ready) ∙ more)
+  all_by : grows w held.name ≡ true → length is.transaction.now.objects ≡ slots_among (length is.at)
+  all_by more = eqb-true (length is.transaction.now.objects) (slots_among (length is.at)) (sym (grows_by size w memory held s number there ready) ∙ more)
 
-  more_by : grows w held.name ≡ true → (many || lacks_a_number w.stored.next_number) ≡ not (has_room (length held.at) (image NEXT_NUMBER_WORD))
+  more_by : grows w held.name ≡ true → (many || lacks_a_number w.stored.next_number) ≡ not (has_room (length is.at) (image NEXT_NUMBER_WORD))
   more_by more =
-      full_or_room (length is.transaction.now.objects) (length held.at) w.stored.next_number (all_by more)
-      ∙ ap (λ (n : ℕ). not (has_room (length held.at) n)) (sym (header_read size w memory s ready).next_number)
+      full_or_room (length is.transaction.now.objects) (length is.at) w.stored.next_number (all_by more)
+      ∙ ap (λ (n : ℕ). not (has_room (length is.at) n)) (sym (header_read size w memory s ready).next_number)
 
   -- Its refusals are those that count whatever slots there are, and behind them, where each slot is live, those of a puddle more.
-  pub refusal_new : refusal_of w line ≡ option_or (refusal_by_world w held id) (cond (grows w held.name) (refusal_by_tables F held image) None)
+  pub refusal_new : refusal_of w line ≡ option_or (refusal_by_world w held id) (cond (grows w held.name) (refusal_by_tables F is.at image) None)
   refusal_new =
-      let units : units_of (open_on held.name w) ≡ held.units = ap units_of opened ∙ is.units in
+      let units : units_of (open_on held.name w) ≡ held.tx.units = ap units_of opened ∙ is.units in
       let full : is_full_graph (graph_seen (open_on held.name w) (pool_named held.name w.stored)) ≡ (leb NUMBER_LIMIT is.transaction.now.next_serial || many) =
       ap (λ (o : Option Transaction). is_full_graph (graph_seen o (pool_named held.name w.stored))) opened in
       let next = next_serial size w memory held s number there ready in
@@ -143,37 +143,38 @@ module _ (size : ℕ) (w : World) (memory : Memory) (held : Held) (s : State) (n
       ∙ ap (λ (first : Option Refusal). option_or first (making_refusal (map_of id w.stored.types) (units_of (open_on held.name w)) (lacks_room w held.name) (grows w held.name && lacks_frames w.stored 1))) own
       ∙ (λ p. cond (is_none (map_of id w.stored.types)) (Some refusals.NoType) (cond (ltb LOG_ENTRY_WORDS (units p + NEW_UNITS)) (Some refusals.TooBig)
       (cond (full p || (grows w held.name && lacks_a_number w.stored.next_number)) (Some refusals.Full) (cond (grows w held.name && lacks_frames w.stored 1) (Some refusals.Space) None))))
-      ∙ joined (is_none (map_of id w.stored.types)) (ltb LOG_ENTRY_WORDS (held.units + NEW_UNITS)) (leb NUMBER_LIMIT is.transaction.now.next_serial) many (lacks_a_number w.stored.next_number) (lacks_frames w.stored 1)
-      (grows w held.name) (has_room (length held.at) (image NEXT_NUMBER_WORD)) (is_none (first_free t.puddles 0 t.frames)) less_by more_by frames_lack
-      ∙ ap (λ (n : ℕ). option_or (refusal_to_make (map_of id w.stored.types) held.units n) (cond (grows w held.name) (refusal_by_tables F held image) None)) (sym next)
+      ∙ joined (is_none (map_of id w.stored.types)) (ltb LOG_ENTRY_WORDS (held.tx.units + NEW_UNITS)) (leb NUMBER_LIMIT is.transaction.now.next_serial) many (lacks_a_number w.stored.next_number) (lacks_frames w.stored 1)
+      (grows w held.name) (has_room (length is.at) (image NEXT_NUMBER_WORD)) (is_none (first_free t.puddles 0 t.frames)) less_by more_by frames_lack
+      ∙ ap (λ (n : ℕ). option_or (refusal_to_make (map_of id w.stored.types) held.tx.units n) (cond (grows w held.name) (refusal_by_tables F is.at image) None)) (sym next)
 
   -- what is read gives those that count whatever slots there are
-  refusal_read : (n : ℕ) → n ≡ F → refusal_to_make (map_of id (types_of image)) held.units (next_serial_of (stored_in n held.at image)) ≡ refusal_by_world w held id
+  refusal_read : (n : ℕ) → n ≡ F → refusal_to_make (map_of id (types_of image)) held.tx.units (next_serial_of (stored_in n is.at image)) ≡ refusal_by_world w held id
   refusal_read n same =
-      let has = graph_of-each w.stored.types (stored_in F held.at image) is.transaction.now is.running.is in
+      let has = graph_of-each w.stored.types (stored_in F is.at image) is.transaction.now is.running.is in
       let types : types_of image ≡ w.stored.types = (types_read size w memory s ready).types in
-      let serial : next_serial_of (stored_in n held.at image) ≡ next_in (graph_seen (open_on held.name w) (pool_named held.name w.stored)) =
-      ap (λ (m : ℕ). next_serial_of (stored_in m held.at image)) same ∙ ap (λ (g : Graph). g.next_serial) has.is ∙ sym (next_serial size w memory held s number there ready) in
-      ap₂ (λ (ts : List (ℕ × ℕ)) (v : ℕ). refusal_to_make (map_of id ts) held.units v) types serial
+      let serial : next_serial_of (stored_in n is.at image) ≡ next_in (graph_seen (open_on held.name w) (pool_named held.name w.stored)) =
+      ap (λ (m : ℕ). next_serial_of (stored_in m is.at image)) same ∙ ap (λ (g : Graph). g.next_serial) has.is ∙ sym (next_serial size w memory held s number there ready) in
+      ap₂ (λ (ts : List (ℕ × ℕ)) (v : ℕ). refusal_to_make (map_of id ts) held.tx.units v) types serial
 
-  pub refusal_found : (n : ℕ) → n ≡ F → (found refused : Option Refusal) → found ≡ refusal_to_make (map_of id (types_of image)) held.units (next_serial_of (stored_in n held.at image)) → found ≡ refused
-      → refusal_by_world w held id ≡ refused
-  refusal_found n same found refused read is = sym (refusal_read n same) ∙ sym read ∙ is
+  pub refusal_found : (n : ℕ) → n ≡ F → (at : List (ℕ × Puddle)) → at ≡ is.at → (found refused : Option Refusal)
+      → found ≡ refusal_to_make (map_of id (types_of image)) held.tx.units (next_serial_of (stored_in n at image)) → found ≡ refused → refusal_by_world w held id ≡ refused
+  refusal_found n same at listed found refused read so =
+      sym (refusal_read n same) ∙ ap (λ (ps : List (ℕ × Puddle)). refusal_to_make (map_of id (types_of image)) held.tx.units (next_serial_of (stored_in n ps image))) (sym listed) ∙ sym read ∙ so
 
   -- ---- what it gives
 
   pub refused_whatever : (r : Refusal) → refusal_by_world w held id ≡ Some r → refusal_of w line ≡ Some r
-  refused_whatever r is = refusal_new ∙ ap (λ (o : Option Refusal). option_or o (cond (grows w held.name) (refusal_by_tables F held image) None)) is
+  refused_whatever r refused = refusal_new ∙ ap (λ (o : Option Refusal). option_or o (cond (grows w held.name) (refusal_by_tables F is.at image) None)) refused
 
   module _ (none : refusal_by_world w held id ≡ None) where
-    behind_it : refusal_of w line ≡ cond (grows w held.name) (refusal_by_tables F held image) None
-    behind_it = refusal_new ∙ ap (λ (o : Option Refusal). option_or o (cond (grows w held.name) (refusal_by_tables F held image) None)) none
+    behind_it : refusal_of w line ≡ cond (grows w held.name) (refusal_by_tables F is.at image) None
+    behind_it = refusal_new ∙ ap (λ (o : Option Refusal). option_or o (cond (grows w held.name) (refusal_by_tables F is.at image) None)) none
 
     pub refused_less : grows w held.name ≡ false → refusal_of w line ≡ None
-    refused_less less = behind_it ∙ ap (λ (b : Bool). cond b (refusal_by_tables F held image) None) less
+    refused_less less = behind_it ∙ ap (λ (b : Bool). cond b (refusal_by_tables F is.at image) None) less
 
-    pub refused_more : grows w held.name ≡ true → refusal_of w line ≡ refusal_by_tables F held image
-    refused_more more = behind_it ∙ ap (λ (b : Bool). cond b (refusal_by_tables F held image) None) more
+    pub refused_more : grows w held.name ≡ true → refusal_of w line ≡ refusal_by_tables F is.at image
+    refused_more more = behind_it ∙ ap (λ (b : Bool). cond b (refusal_by_tables F is.at image) None) more
 
   -- the reply is the serial
   pub answer_new : refusal_of w line ≡ None → answer_by w (Some line) ≡ of_reply (replies.Ref (next_in (graph_seen (open_on held.name w) (pool_named held.name w.stored))))
@@ -201,8 +202,8 @@ module _ (size : ℕ) (w : World) (memory : Memory) (held : Held) (s : State) (n
   -- there is a next serial
   pub serial_is_some : 1 ≤ next_in (graph_seen (open_on held.name w) (pool_named held.name w.stored))
   serial_is_some =
-      let has = graph_of-each w.stored.types (stored_in F held.at image) is.transaction.now is.running.is in
-      let n = next_serial_of (stored_in F held.at image) in
+      let has = graph_of-each w.stored.types (stored_in F is.at image) is.transaction.now is.running.is in
+      let n = next_serial_of (stored_in F is.at image) in
       let legal = leb-true 1 n (and_parts (leb 1 n) (leb n NUMBER_LIMIT) has.graph.legal).0 in
       let same = ap (λ (g : Graph). g.next_serial) has.is in
       omega (arith, legal, same, next_serial size w memory held s number there ready)
@@ -219,12 +220,12 @@ module _ (size : ℕ) (w : World) (memory : Memory) (held : Held) (s : State) (n
       ∙ ne_eqb (length is.transaction.now.objects) (slots_among (p.pool.puddles + 1)) (λ same. absurd (omega (arith, same, counted, all)))
 
   -- and the same is refused whatever slots there are
-  pub grown_refusal : (now : Held) → now.name ≡ held.name → tx_held now ≡ tx_held held → refusal_by_world w held id ≡ None → refusal_by_world (with_more held.name w) now id ≡ None
+  pub grown_refusal : (now : Held) → now.name ≡ held.name → now.tx ≡ held.tx → refusal_by_world w held id ≡ None → refusal_by_world (with_more held.name w) now id ≡ None
   unfolding with_grown_pool
   grown_refusal now name tx none =
       ap₂ (λ (n : List ℕ) (x : OpenTx). refusal_to_make (map_of id w.stored.types) x.units (next_in (graph_seen (open_on n w) (pool_named n (with_grown_pool held.name w.stored))))) name tx
-      ∙ ap (λ (o : Option Transaction). refusal_to_make (map_of id w.stored.types) held.units (next_in (graph_seen o (pool_named held.name (with_grown_pool held.name w.stored))))) opened
-      ∙ sym (ap (λ (o : Option Transaction). refusal_to_make (map_of id w.stored.types) held.units (next_in (graph_seen o (pool_named held.name w.stored)))) opened)
+      ∙ ap (λ (o : Option Transaction). refusal_to_make (map_of id w.stored.types) held.tx.units (next_in (graph_seen o (pool_named held.name (with_grown_pool held.name w.stored))))) opened
+      ∙ sym (ap (λ (o : Option Transaction). refusal_to_make (map_of id w.stored.types) held.tx.units (next_in (graph_seen o (pool_named held.name w.stored)))) opened)
       ∙ none
 
   pub grown_next : next_in (graph_seen (open_on held.name (with_more held.name w)) (pool_named held.name (with_more held.name w).stored)) ≡ next_in (graph_seen (open_on held.name w) (pool_named held.name w.stored))

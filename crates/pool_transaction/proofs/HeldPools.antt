@@ -12,16 +12,18 @@ use Rattle.pud_defs.specs.Holdings.Holding.{Sound, Wild}
 use Rattle.pud_defs.specs.PoolChanges.{pool_named}
 use Rattle.pud_defs.specs.Step.{graph_in, graph_seen, is_all_live, grows}
 use Rattle.pud_defs.specs.Stored.{Stored, places_of, stored_in}
-use Rattle.pud_defs.specs.Tables.{Tables, Pool, tables_of}
+use Rattle.pud_defs.specs.Tables.{Tables, Pool, tables_of, puddles_of}
 use Rattle.pud_defs.specs.World.{Transaction, World}
 use Rattle.pud_defs.proofs.PoolsCounted.{few_members, length_puddles}
+use Rattle.pud_defs.proofs.PuddlesListed.{puddles_in_turn-listed}
 use Rattle.graph_laws.specs.Slots.{AreAllLive}
 use Rattle.graph_laws.proofs.LiveSlots.{objects-most, objects-live}
 use Rattle.registry.specs.Growth.{puddle_count, HoldsGraph}
 use Rattle.registry.proofs.PuddlesCounted.{puddle_count_by_world}
 use Rattle.ready_daemon.specs.Memory.{Held, Memory, held_under}
-use Rattle.ready_daemon.specs.Held.{puddles_in, IsHeld}
+use Rattle.ready_daemon.specs.Held.{IsHeld}
 use Rattle.ready_daemon.specs.Ready.{IsReady}
+use Rattle.ready_daemon.proofs.InTurn.{held_in_turn}
 use Rattle.ready_daemon.proofs.PoolsBeside.{used_still}
 use Rattle.ready_daemon.proofs.TablesBeside.{tables_read, world_under, sound_read}
 use Rattle.pool_transaction.proofs.HeldRuns.{is_held}
@@ -51,7 +53,7 @@ module _ (size : ℕ) (w : World) (memory : Memory) (held : Held) (s : State) (n
   t = tables_of F (reads s.now.words)
 
   abbrev st : Stored
-  st = stored_in F held.at (reads s.now.words)
+  st = stored_in F is.at (reads s.now.words)
 
   -- the world has it
   pub its_pool : HasPool (pool_named held.name w.stored) is.undone
@@ -70,14 +72,17 @@ module _ (size : ℕ) (w : World) (memory : Memory) (held : Held) (s : State) (n
       ∙ puddle_count_by_world w.stored _ held.slot is.rec its_pool.pool (world_under size w memory s ready) is.pool.slot
       (ap (λ (u : Tables). u.pools held.slot) (tables_read size w memory s ready) ∙ used_still w held ready.mask s.now.words is) by_record
 
-  -- which are those that are held
-  pub puddles_counted : its_pool.pool.puddles ≡ length held.at
-  puddles_counted = sym (ap puddles_in its_pool.there) ∙ is.count
+  -- which are those on which it is open
+  pub count_held : puddle_count t held.slot ≡ length is.at
+  count_held =
+      let turn = puddles_in_turn-listed w.stored.next_number t held.slot is.rec (sound_read size w memory s ready) is.pool.slot (used_still w held ready.mask s.now.words is) in
+      sym (length_puddles w.stored.next_number t (sound_read size w memory s ready) held.slot is.pool.slot)
+      ∙ sym (length-map (puddles_of t held.slot) (λ (e : ℕ × (ℕ × Puddle)). e.1)) ∙ sym (ap length turn) ∙ ap length (held_in_turn size w memory s ready number held there)
 
-  pub count_held : puddle_count t held.slot ≡ length held.at
-  count_held = its_count ∙ puddles_counted
+  pub puddles_counted : its_pool.pool.puddles ≡ length is.at
+  puddles_counted = sym its_count ∙ count_held
 
-  pub some_held : 1 ≤ length held.at
+  pub some_held : 1 ≤ length is.at
   some_held =
       let sound = sound_read size w memory s ready in
       let few = few_members w.stored.next_number t sound held.slot is.rec is.pool.slot (used_still w held ready.mask s.now.words is) in
@@ -85,11 +90,11 @@ module _ (size : ℕ) (w : World) (memory : Memory) (held : Held) (s : State) (n
       let counted = length_puddles w.stored.next_number t sound held.slot is.pool.slot in
       omega (arith, counted, count_held, some)
 
-  places : places_of st ≡ places_among (length held.at)
-  places = ap (λ n. places_among n) (length-map held.at (λ (e : ℕ × Puddle). e.1))
+  places : places_of st ≡ places_among (length is.at)
+  places = ap (λ n. places_among n) (length-map is.at (λ (e : ℕ × Puddle). e.1))
 
   -- a pool that grows has as many objects as slots
-  pub grows_by : grows w held.name ≡ (length is.transaction.now.objects == slots_among (length held.at))
+  pub grows_by : grows w held.name ≡ (length is.transaction.now.objects == slots_among (length is.at))
   grows_by =
       ap₂ (λ (o : Option Transaction) (found : Option Pool). is_all_live (graph_seen o found) found) is.is its_pool.there
       ∙ ap (λ n. length is.transaction.now.objects == slots_among n) puddles_counted
@@ -97,14 +102,14 @@ module _ (size : ℕ) (w : World) (memory : Memory) (held : Held) (s : State) (n
   -- and no free slot
   pub grows_live : grows w held.name ≡ true → AreAllLive st
   grows_live more =
-      let many = eqb-true (length is.transaction.now.objects) (slots_among (length held.at)) (sym grows_by ∙ more) in
+      let many = eqb-true (length is.transaction.now.objects) (slots_among (length is.at)) (sym grows_by ∙ more) in
       (objects-live w.stored.types st is.transaction.now is.running.is).1 (many ∙ sym places)
 
   pub grows_not : grows w held.name ≡ false → AreAllLive st → ⊥
   grows_not less all =
       let many = (objects-live w.stored.types st is.transaction.now is.running.is).0 all in
-      let no : true ≡ false = sym (eq-eqb (length is.transaction.now.objects) (slots_among (length held.at)) (many ∙ places)) ∙ sym grows_by ∙ less in
+      let no : true ≡ false = sym (eq-eqb (length is.transaction.now.objects) (slots_among (length is.at)) (many ∙ places)) ∙ sym grows_by ∙ less in
       cc
 
-  pub objects_fit : length is.transaction.now.objects ≤ slots_among (length held.at)
+  pub objects_fit : length is.transaction.now.objects ≤ slots_among (length is.at)
   objects_fit = let most = objects-most w.stored.types st is.transaction.now is.running.is in omega (arith, most, places)

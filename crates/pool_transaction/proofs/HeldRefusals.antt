@@ -28,12 +28,12 @@ use Rattle.ready_daemon.specs.Memory.{Held, Memory, held_under}
 use Rattle.ready_daemon.specs.Held.{IsHeld}
 use Rattle.log_store.specs.Store.{OpenLog}
 use Rattle.hybrid_tx.specs.Grounds.{IsPlaced}
-use Rattle.hybrid_tx.specs.Stores.{address_at, word_for, IsPlaceAndWord, LacksPlaceOrWord}
-use Rattle.hybrid_tx.specs.Transactions.{IsOpenOn}
-use Rattle.hybrid_tx.proofs.FieldsSet.{object_by_place}
-use Rattle.pool_transaction.specs.declared.changing.Change.{Change}
-use Rattle.pool_transaction.specs.declared.changing.Change.TheVariants as changes
-use Rattle.pool_transaction.specs.Changing.{line_of}
+use Rattle.hybrid_tx.specs.Objects.Stores.{address_at, word_for, IsPlaceAndWord, LacksPlaceOrWord}
+use Rattle.hybrid_tx.specs.Objects.Transactions.{IsOpenOn}
+use Rattle.hybrid_tx.proofs.Objects.FieldsSet.{object_by_place}
+use Rattle.pool_transaction.specs.declared.changing.Update.{Update}
+use Rattle.pool_transaction.specs.declared.changing.Update.TheVariants as changes
+use Rattle.pool_transaction.specs.Changing.{update_line}
 use Rattle.pool_transaction.specs.Refusing.{room_refusal, field_refusal, refusal_to_free}
 use Rattle.ready_daemon.specs.Ready.{IsReady}
 use Rattle.ready_daemon.proofs.Beside.{held_is}
@@ -79,21 +79,21 @@ module _ (size : ℕ) (w : World) (memory : Memory) (s : State) (ready : IsReady
   own_held = own_is_open w memory.held ready.mask s.now.words held.client held.name number ready.held (record { mine = held; is = there; whose = refl; pool = refl })
 
   -- its puddles have the graph that its client sees
-  graph_held : (frames : ℕ) → frames ≡ w.stored.frames → graph_of (types_of image) (stored_in frames held.at image) ≡ Some is.transaction.now
-  graph_held frames on = (λ p. graph_of ((types_read size w memory s ready).types p) (stored_in (on p) held.at image)) ∙ is.running.is
+  graph_held : (frames : ℕ) → frames ≡ w.stored.frames → graph_of (types_of image) (stored_in frames is.at image) ≡ Some is.transaction.now
+  graph_held frames on = (λ p. graph_of ((types_read size w memory s ready).types p) (stored_in (on p) is.at image)) ∙ is.running.is
 
   -- and lie as those of a ground
-  pub placed_at : (frames : ℕ) → frames ≡ w.stored.frames → IsPlaced frames held.at
-  placed_at frames on = subst (λ (n : ℕ). IsPlaced n held.at) (sym on) (held_placed size w memory held s number there ready)
+  pub placed_at : (frames : ℕ) → frames ≡ w.stored.frames → IsPlaced frames is.at
+  placed_at frames on = subst (λ (n : ℕ). IsPlaced n is.at) (sym on) (held_placed size w memory held s number there ready)
 
   -- a change of it is refused by its own causes alone
-  refused_by : (change : Change) → change_refusal change (Some is.transaction.now) is.transaction.laters is.transaction.units ≡ refusal_of w (line_of change held.client held.name)
+  refused_by : (change : Update) → change_refusal change (Some is.transaction.now) is.transaction.laters is.transaction.units ≡ refusal_of w (update_line change held.client held.name)
   refused_by change =
       ap (λ (o : Option Transaction). change_refusal change (graph_seen o (pool_named held.name w.stored)) (laters_of o) (units_of o)) (sym is.is)
       ∙ ap (λ (r : Option Refusal). option_or r (change_refusal change (graph_seen (open_on held.name w) (pool_named held.name w.stored)) (laters_of (open_on held.name w)) (units_of (open_on held.name w)))) (sym own_held)
       ∙ sym (refusal_of-change w held.client held.name change)
 
-  module _ (frames : ℕ) (at : List (ℕ × Puddle)) (on : frames ≡ w.stored.frames) (same : at ≡ held.at) where
+  module _ (frames : ℕ) (at : List (ℕ × Puddle)) (on : frames ≡ w.stored.frames) (same : at ≡ is.at) where
     abbrev now : Graph
     now = is.transaction.now
 
@@ -110,7 +110,7 @@ module _ (size : ℕ) (w : World) (memory : Memory) (s : State) (ready : IsReady
         ap (λ (o : Option Object). not (eqb r 0) && is_none o) (object_is r) ∙ missed_when (eqb r 0) (place_in_pool frames at image r) (object_at (table_in frames at image)) (address_at at)
 
     -- why a field of it is not set, by where the object stands, and by the word of the value
-    by_found : (serial f units : ℕ) (x : Val) → units ≡ held.units
+    by_found : (serial f units : ℕ) (x : Val) → units ≡ held.tx.units
         → by_places (is_none (word_for frames at image x)) (option_map (object_at (table_in frames at image)) (place_in_pool frames at image serial)) f x units ≡ refusal_of w (Set held.client held.name serial f x)
     by_found serial f units x used =
         (λ p. by_places (sym (missed_is x) p) (sym (object_is serial) p) f x ((used ∙ sym is.units) p)) ∙ refused_by (changes.Set serial f x)
@@ -126,15 +126,15 @@ module _ (size : ℕ) (w : World) (memory : Memory) (s : State) (ready : IsReady
     refused_unfound serial f x lacks =
         elim (lacks placed) [
           | inl none ↦
-              missing (is_none (word_for frames at image x)) f x held.units
-              ∙ ap (λ (p : Option ℕ). by_places (is_none (word_for frames at image x)) (option_map (object_at (table_in frames at image)) p) f x held.units) (sym none)
-          | inr none ↦ ap (λ (v : Option ℕ). by_places (is_none v) (option_map (object_at (table_in frames at image)) (place_in_pool frames at image serial)) f x held.units) (sym none)
+              missing (is_none (word_for frames at image x)) f x held.tx.units
+              ∙ ap (λ (p : Option ℕ). by_places (is_none (word_for frames at image x)) (option_map (object_at (table_in frames at image)) p) f x held.tx.units) (sym none)
+          | inr none ↦ ap (λ (v : Option ℕ). by_places (is_none v) (option_map (object_at (table_in frames at image)) (place_in_pool frames at image serial)) f x held.tx.units) (sym none)
         ]
-        ∙ by_found serial f held.units x refl
+        ∙ by_found serial f held.tx.units x refl
 
     -- both are: by what was read of the field
     pub refused_to_set : (serial f units : ℕ) (x : Val) (slot : Slot) (word : ℕ) (read : FieldRead) (found : Option (Slot × ℕ)) → found ≡ Some (slot, word)
-        → (Placed → IfSome found (IsPlaceAndWord frames at image serial x)) → read ≡ read_by (Some (object_at (table_in frames at image) (place_of_slot slot))) f → units ≡ held.units
+        → (Placed → IfSome found (IsPlaceAndWord frames at image serial x)) → read ≡ read_by (Some (object_at (table_in frames at image) (place_of_slot slot))) f → units ≡ held.tx.units
         → field_refusal read x units ≡ refusal_of w (Set held.client held.name serial f x)
     refused_to_set serial f units x slot word read found is_found found_so is_read used =
         let there = subst (λ (o : Option (Slot × ℕ)). IfSome o (IsPlaceAndWord frames at image serial x)) is_found (found_so placed) in
@@ -144,14 +144,14 @@ module _ (size : ℕ) (w : World) (memory : Memory) (s : State) (ready : IsReady
         ∙ by_found serial f units x used
 
     -- why an object is not made the root: no word stands for it
-    by_word : (serial : ℕ) → cond (is_none (word_for frames at image (Ref serial))) (Some refusals.Object) (room_refusal held.units) ≡ refusal_of w (Root held.client held.name serial)
+    by_word : (serial : ℕ) → cond (is_none (word_for frames at image (Ref serial))) (Some refusals.Object) (room_refusal held.tx.units) ≡ refusal_of w (Root held.client held.name serial)
     by_word serial = (λ p. cond (sym (missed_is (Ref serial)) p) (Some refusals.Object) (room_refusal (sym is.units p))) ∙ refused_by (changes.Root serial)
 
     pub refused_unrooted : (serial : ℕ) → (Placed → word_for frames at image (Ref serial) ≡ None) → Some refusals.Object ≡ refusal_of w (Root held.client held.name serial)
-    refused_unrooted serial none = (λ p. cond (is_none (sym (none placed) p)) (Some refusals.Object) (room_refusal held.units)) ∙ by_word serial
+    refused_unrooted serial none = (λ p. cond (is_none (sym (none placed) p)) (Some refusals.Object) (room_refusal held.tx.units)) ∙ by_word serial
 
     -- or one does
-    pub refused_to_root : (serial units word : ℕ) → (Placed → word_for frames at image (Ref serial) ≡ Some word) → units ≡ held.units → room_refusal units ≡ refusal_of w (Root held.client held.name serial)
+    pub refused_to_root : (serial units word : ℕ) → (Placed → word_for frames at image (Ref serial) ≡ Some word) → units ≡ held.tx.units → room_refusal units ≡ refusal_of w (Root held.client held.name serial)
     refused_to_root serial units word is_word used = (λ p. cond (is_none (sym (is_word placed) p)) (Some refusals.Object) (room_refusal (used p))) ∙ by_word serial
 
     -- why an object is not freed: there is none
@@ -166,19 +166,19 @@ module _ (size : ℕ) (w : World) (memory : Memory) (s : State) (ready : IsReady
   IsOpenIn then frames at types log = IsOpenOn frames at types log is.before is.undone is.transaction.now is.transaction.laters then.now.words
 
   -- so it is by the types that are read, and its puddles lie as those of a ground
-  open_read : (then : State) (frames : ℕ) (at : List (ℕ × Puddle)) (log : OpenLog) → then ≡ s → frames ≡ w.stored.frames → at ≡ held.at → log ≡ held.log
+  open_read : (then : State) (frames : ℕ) (at : List (ℕ × Puddle)) (log : OpenLog) → then ≡ s → frames ≡ w.stored.frames → at ≡ is.at → log ≡ held.tx.log
       → IsPlaced frames at × IsOpenIn then frames at (types_of image) log
   open_read then frames at log still on same logged =
-      let typed = subst (λ (types : List (ℕ × ℕ)). IsOpenIn s w.stored.frames held.at types log) (sym (types_read size w memory s ready).types) (subst (IsOpenIn s w.stored.frames held.at w.stored.types) (sym logged) is.running) in
-      let opened = subst (λ (x : State). IsOpenIn x w.stored.frames held.at (types_of image) log) (sym still) typed in
+      let typed = subst (λ (types : List (ℕ × ℕ)). IsOpenIn s w.stored.frames is.at types log) (sym (types_read size w memory s ready).types) (subst (IsOpenIn s w.stored.frames is.at w.stored.types) (sym logged) is.running) in
+      let opened = subst (λ (x : State). IsOpenIn x w.stored.frames is.at (types_of image) log) (sym still) typed in
       subst (λ (n : ℕ). IsPlaced n at × IsOpenIn then n at (types_of image) log) (sym on)
       (subst (λ (puddles : List (ℕ × Puddle)). IsPlaced w.stored.frames puddles × IsOpenIn then w.stored.frames puddles (types_of image) log) (sym same) (held_placed size w memory held s number there ready, opened))
 
   -- or by what names one that is there
-  pub refused_to_free : (then : State) (frames serial units place : ℕ) (at : List (ℕ × Puddle)) (log : OpenLog) (named asked : Bool) → then ≡ s → (on : frames ≡ w.stored.frames) (same : at ≡ held.at) → log ≡ held.log
+  pub refused_to_free : (then : State) (frames serial units place : ℕ) (at : List (ℕ × Puddle)) (log : OpenLog) (named asked : Bool) → then ≡ s → (on : frames ≡ w.stored.frames) (same : at ≡ is.at) → log ≡ held.tx.log
       → place_in_pool frames at image serial ≡ Some place
       → ((g : Graph) → graph_of (types_of image) (stored_in frames at image) ≡ Some g → named ≡ is_held serial g)
-      → (IsPlaced frames at → IsOpenIn then frames at (types_of image) log → asked ≡ laters_name serial is.transaction.laters) → units ≡ held.units
+      → (IsPlaced frames at → IsOpenIn then frames at (types_of image) log → asked ≡ laters_name serial is.transaction.laters) → units ≡ held.tx.units
       → refusal_to_free named asked units ≡ refusal_of w (Free held.client held.name serial)
   refused_to_free then frames serial units place at log named asked still on same logged found names laters used =
       let now : Graph = is.transaction.now in

@@ -14,7 +14,6 @@ use Rattle.pud_defs.specs.declared.layout.TheConstants.{DAEMON_LOG}
 use Rattle.pud_defs.specs.Image.{Image}
 use Rattle.pud_defs.specs.Entries.{is_idle_gate}
 use Rattle.pud_defs.specs.Layout.{tables_end, log_at}
-use Rattle.pud_defs.specs.Stored.{IsOnDevice}
 use Rattle.pud_defs.specs.Tables.{tables_of}
 use Rattle.pud_defs.specs.Transactions.{with_changed}
 use Rattle.pud_defs.specs.World.{Transaction, World, world_of, idle_world_of, closed}
@@ -24,12 +23,12 @@ use Rattle.batch.specs.Worlds.{IsSettled}
 use Rattle.batch.proofs.Tables.{reads_kept, HasDurableTables-kept}
 use Rattle.word_transaction.specs.Running.{SettlesTo, ByTransaction}
 use Rattle.hybrid_tx.specs.Grounds.{pool_ground, IsPlaced}
-use Rattle.hybrid_tx.specs.ManyOpen.{OpenTransaction, AreLeftOpen}
-use Rattle.hybrid_tx.specs.Masks.{OpenPool, IsLeftOpen}
-use Rattle.hybrid_tx.specs.Transactions.{OpenTx, RunsOn}
-use Rattle.hybrid_tx.proofs.OpenMasks.{open_record_place, mine_behind}
-use Rattle.hybrid_tx.proofs.OpenPools.{open_on_device}
-use Rattle.hybrid_tx.proofs.PoolPlaces.{placed_of_members}
+use Rattle.hybrid_tx.specs.Open.ManyOpen.{OpenTransaction, AreLeftOpen}
+use Rattle.hybrid_tx.specs.Open.Masks.{OpenPool, IsLeftOpen}
+use Rattle.hybrid_tx.specs.Objects.Transactions.{OpenTx, RunsOn}
+use Rattle.hybrid_tx.proofs.Open.OpenMasks.{open_record_place, mine_behind}
+use Rattle.hybrid_tx.proofs.Open.OpenPools.{open_on_device}
+use Rattle.hybrid_tx.proofs.Open.PoolPlaces.{placed_of_puddles}
 use Rattle.pool_transaction.specs.Changing.{StaysOpen}
 use Rattle.ready_daemon.specs.Memory.{Held, Memory, held_under, with_held}
 use Rattle.ready_daemon.specs.Held.{pool_held, open_held, IsHeld, IsHeldUnder, Holds, HasDurableFrames, HasIdleLogs}
@@ -37,14 +36,16 @@ use Rattle.ready_daemon.specs.KnownPools.{KnowsPools}
 use Rattle.ready_daemon.specs.Ready.{IsReady, RefusesNone, StandsBetween, Applies}
 use Rattle.ready_daemon.proofs.Beside.{IsApart, KeepsOne, Leaves-from, log_masked, own_masked, record_picked, left_apart, left_all, under_left, own_apart, held_still, names_none_idle, ready_idle}
 use Rattle.ready_daemon.proofs.OpenNames.{changed_there, changed_elsewhere, WereOpen, WereOpen-changed, Charges}
-use Rattle.pool_transaction.proofs.HeldChanged.{Holds-later, HasSessions-later, KnowsPools-later}
-use Rattle.ready_daemon.proofs.PoolsBeside.{members_still}
-use Rattle.ready_daemon.proofs.JudgedOpen.{KeepsPools-held}
-use Rattle.ready_daemon.proofs.TablesBeside.{sound_read}
+use Rattle.pool_transaction.proofs.HeldChanged.{Holds-later, HasSessions-later}
+use Rattle.ready_daemon.proofs.PoolsBeside.{puddles_still}
+use Rattle.ready_daemon.proofs.InTurn.{held_in_turn}
+use Rattle.ready_daemon.proofs.JudgedKept.{HasGraphIn}
+use Rattle.ready_daemon.proofs.JudgedOpen.{KeepsPools-held, graph_held_in, KnowsPools-later}
+use Rattle.ready_daemon.proofs.TablesBeside.{sound_read, types_read}
 
 -- it, with this transaction on the pool's objects
 abbrev pub with_tx : OpenTx → Held → Held
-with_tx tx held = record held { log = tx.log; units = tx.units }
+with_tx tx held = record held { tx = tx }
 
 -- ---- a daemon that is ready, and holds it
 
@@ -62,24 +63,21 @@ module _ (size : ℕ) (w : World) (memory : Memory) (held : Held) (old : State) 
   is = is_held
 
   abbrev p : OpenPool
-  p = pool_held held is.rec is.who
+  p = pool_held held is.at is.rec is.who
 
   abbrev now : Image
   now = reads old.now.words
 
   -- its puddles lie as those of a ground
-  pub held_placed : IsPlaced F held.at
+  pub held_placed : IsPlaced F is.at
   held_placed =
-      let on_device = open_on_device F p is.before is.pool in
-      let frames = frames_of_tables F now in
-      subst (λ (n : ℕ). IsPlaced n held.at) frames
-      (placed_of_members w.stored.next_number (tables_of F now) (sound_read size w memory old ready) held.slot held.at (members_still w held ready.mask old.now.words is)
-      (subst (λ (n : ℕ). IsOnDevice n held.at) (sym frames) on_device))
+      subst (λ (n : ℕ). IsPlaced n is.at) (frames_of_tables F now)
+      (placed_of_puddles w.stored.next_number (tables_of F now) (sound_read size w memory old ready) held.slot is.at (puddles_still w held ready.mask old.now.words is))
 
   -- ---- what it may write
 
   abbrev own : Footprint
-  own = ByTransaction (pool_ground F held.at) held.log.at
+  own = ByTransaction (pool_ground F is.at) held.tx.log.at
 
   -- every such word is masked
   written_masked : (k v : ℕ) → own k v → ready.mask k ≡ None → ⊥
@@ -92,11 +90,11 @@ module _ (size : ℕ) (w : World) (memory : Memory) (held : Held) (old : State) 
       let gate = is.gate in
       let low = inside.low in
       absurd (omega arith)
-  own_behind k v below (inr mine) = let no : true ≡ false = sym mine ∙ mine_behind F held.at k (omega arith) in cc
+  own_behind k v below (inr mine) = let no : true ≡ false = sym mine ∙ mine_behind F is.at k (omega arith) in cc
 
   -- and none is one of another that is held
   its_own : (n : ℕ) (g : Held) (has : held_under memory.held n ≡ Some g) → n ≢ number
-      → IsApart F g (pool_held g (ready.held.each n g has).is.rec (ready.held.each n g has).is.who) own
+      → IsApart F g (pool_held g (ready.held.each n g has).is.at (ready.held.each n g has).is.rec (ready.held.each n g has).is.who) own
   its_own n g has apart = own_apart w memory.held ready.mask old.now.words ready.held number n held g there has (λ same. apart (sym same))
 
   -- masked, an image left meanwhile is the one that it is from
@@ -121,33 +119,33 @@ module _ (size : ℕ) (w : World) (memory : Memory) (held : Held) (old : State) 
     log_idle : is_idle_gate (image DAEMON_LOG) ≡ true
     log_idle = ap is_idle_gate (same_before DAEMON_LOG (omega arith)) ∙ ready_idle size w memory old ready o.before o.picked
 
-    left_open : SettlesTo (pool_ground F held.at) held.log.at is.before image → IsLeftOpen F p is.before image
+    left_open : SettlesTo (pool_ground F is.at) held.tx.log.at is.before image → IsLeftOpen F p is.before image
     left_open settles = record {
       unnamed = λ k v e. (names_none_idle ready.mask image log_idle).each k v (is.masked k v e);
       records = λ k of.
           let place = open_record_place F p k is.pool.slot is.pool.known (open_on_device F p is.before is.pool) of in
           same_before k place.high ∙ record_picked w held ready.mask old.now.words is ready.tables o.before o.picked k of;
-      settles = subst (λ (n : ℕ). SettlesTo (pool_ground F held.at) n is.before image) is.gate settles;
+      settles = subst (λ (n : ℕ). SettlesTo (pool_ground F is.at) n is.before image) is.gate settles;
     }
 
     -- each is left open: it by its log, and any other since none of its words was written
-    each_open : SettlesTo (pool_ground F held.at) held.log.at is.before image → (n : ℕ) (g : Held) (there : held_under memory.held n ≡ Some g) (is : IsHeldUnder w ready.held.opens ready.mask old.now.words n g)
-        → IsLeftOpen F (pool_held g is.is.rec is.is.who) is.is.before image
+    each_open : SettlesTo (pool_ground F is.at) held.tx.log.at is.before image → (n : ℕ) (g : Held) (there : held_under memory.held n ≡ Some g) (is : IsHeldUnder w ready.held.opens ready.mask old.now.words n g)
+        → IsLeftOpen F (pool_held g is.is.at is.is.rec is.is.who) is.is.before image
     each_open settles n g has other = elim (cases_eq n number) [
       | inl same ↦
-          let one : open_held held is.rec is.who is.before ≡ open_held g other.is.rec other.is.who other.is.before =
-          same_Some (open_held held is.rec is.who is.before) (open_held g other.is.rec other.is.who other.is.before) (sym under.opened ∙ ap ready.held.opens (sym same) ∙ other.opened) in
+          let one : open_held held is.at is.rec is.who is.before ≡ open_held g other.is.at other.is.rec other.is.who other.is.before =
+          same_Some (open_held held is.at is.rec is.who is.before) (open_held g other.is.at other.is.rec other.is.who other.is.before) (sym under.opened ∙ ap ready.held.opens (sym same) ∙ other.opened) in
           subst (λ (t : OpenTransaction). IsLeftOpen F t.pool t.before image) one (left_open settles)
       | inr apart ↦
           let its = ready.held.each n g has in
-          let one : open_held g its.is.rec its.is.who its.is.before ≡ open_held g other.is.rec other.is.who other.is.before =
-          same_Some (open_held g its.is.rec its.is.who its.is.before) (open_held g other.is.rec other.is.who other.is.before) (sym its.opened ∙ other.opened) in
+          let one : open_held g its.is.at its.is.rec its.is.who its.is.before ≡ open_held g other.is.at other.is.rec other.is.who other.is.before =
+          same_Some (open_held g its.is.at its.is.rec its.is.who its.is.before) (open_held g other.is.at other.is.rec other.is.who other.is.before) (sym its.opened ∙ other.opened) in
           subst (λ (t : OpenTransaction). IsLeftOpen F t.pool t.before image) one
           (left_apart w g ready.mask old.now.words its.is own (its_own n g has apart) ready.tables image o (names_none_idle ready.mask image log_idle))
     ]
 
     -- so it stands for the world, where its log gives back what was there at the beginning
-    pub stands_within : SettlesTo (pool_ground F held.at) held.log.at is.before image → (world_of size image ≡ Some (closed w)) × RefusesNone image
+    pub stands_within : SettlesTo (pool_ground F is.at) held.tx.log.at is.before image → (world_of size image ≡ Some (closed w)) × RefusesNone image
     stands_within settles =
         let left : AreLeftOpen F ready.held.opens image = left_all w memory.held ready.mask old.now.words ready.held image (each_open settles) in
         let it = under_left w memory.held ready.mask old.now.words ready.held size image left in
@@ -157,11 +155,11 @@ module _ (size : ℕ) (w : World) (memory : Memory) (held : Held) (old : State) 
 
   module _ (fault : Option HostFault) (new : State) (changes : Changes own fault old new) where
     -- each image left stands for the world
-    pub moments_within : Leaves (Silently (SettlesTo (pool_ground F held.at) held.log.at is.before)) old new → Leaves (Silently (λ image. (world_of size image ≡ Some (closed w)) × RefusesNone image)) old new
+    pub moments_within : Leaves (Silently (SettlesTo (pool_ground F is.at) held.tx.log.at is.before)) old new → Leaves (Silently (λ image. (world_of size image ≡ Some (closed w)) × RefusesNone image)) old new
     moments_within moments =
-        Leaves-weaker (Silently (λ image. SettlesTo (pool_ground F held.at) held.log.at is.before image × HasOrigin own old.now.words image)) (Silently (λ image. (world_of size image ≡ Some (closed w)) × RefusesNone image)) old new
+        Leaves-weaker (Silently (λ image. SettlesTo (pool_ground F is.at) held.tx.log.at is.before image × HasOrigin own old.now.words image)) (Silently (λ image. (world_of size image ≡ Some (closed w)) × RefusesNone image)) old new
         (λ bytes image m. (m.0, stands_within image m.1.1 m.1.0))
-        (Leaves-from (SettlesTo (pool_ground F held.at) held.log.at is.before) own fault old new changes moments)
+        (Leaves-from (SettlesTo (pool_ground F is.at) held.tx.log.at is.before) own fault old new changes moments)
 
     -- masked, a word has no value that it had not
     masked_value : (k v : ℕ) (x : Option ℕ) → ready.mask k ≡ x → Has (values (masked ready.mask new.now.words k)) v → Has (values (masked ready.mask old.now.words k)) v
@@ -196,9 +194,9 @@ module _ (size : ℕ) (w : World) (memory : Memory) (held : Held) (old : State) 
     }
 
   -- the transaction was changed, and used so many units more
-  module _ (tx : OpenTx) (units : ℕ) (change : Transaction → Transaction) (charges : Charges units change) (fault : Option HostFault) (new : State) (at : tx.log.at ≡ held.log.at)
-      (used : fault ≡ None → tx.units ≡ held.units + units)
-      (runs : RunsOn F held.at w.stored.types tx.log is.before is.undone (change is.transaction).now (change is.transaction).laters fault old new) where
+  module _ (tx : OpenTx) (units : ℕ) (change : Transaction → Transaction) (charges : Charges units change) (fault : Option HostFault) (new : State) (at : tx.log.at ≡ held.tx.log.at)
+      (used : fault ≡ None → tx.units ≡ held.tx.units + units)
+      (runs : RunsOn F is.at w.stored.types tx.log is.before is.undone (change is.transaction).now (change is.transaction).laters fault old new) where
     abbrev next : World
     next = record w { transactions = with_changed held.name change w.transactions }
 
@@ -206,13 +204,13 @@ module _ (size : ℕ) (w : World) (memory : Memory) (held : Held) (old : State) 
     later = with_tx tx held
 
     changes_own : Changes own fault old new
-    changes_own = subst (λ (n : ℕ). Changes (ByTransaction (pool_ground F held.at) n) fault old new) at runs.saves.runs.changes
+    changes_own = subst (λ (n : ℕ). Changes (ByTransaction (pool_ground F is.at) n) fault old new) at runs.saves.runs.changes
 
     moments_own : Leaves (Silently (StandsBetween size w next)) old new
     moments_own =
         Leaves-weaker (Silently (λ image. (world_of size image ≡ Some (closed w)) × RefusesNone image)) (Silently (StandsBetween size w next)) old new
         (λ bytes image m. (m.0, (inl m.1.0, m.1.1)))
-        (moments_within fault new changes_own (subst (λ (n : ℕ). Leaves (Silently (SettlesTo (pool_ground F held.at) n is.before)) old new) at runs.saves.runs.moments))
+        (moments_within fault new changes_own (subst (λ (n : ℕ). Leaves (Silently (SettlesTo (pool_ground F is.at) n is.before)) old new) at runs.saves.runs.moments))
 
     kept_within : fault ≡ None → (k : ℕ) → k < tables_end F → reads new.now.words k ≡ now k
     kept_within none k below =
@@ -222,6 +220,7 @@ module _ (size : ℕ) (w : World) (memory : Memory) (held : Held) (old : State) 
     held_within none = record {
       rec = is.rec;
       who = is.who;
+      at = is.at;
       before = is.before;
       undone = is.undone;
       transaction = change is.transaction;
@@ -233,7 +232,6 @@ module _ (size : ℕ) (w : World) (memory : Memory) (held : Held) (old : State) 
       gate = at ∙ is.gate;
       name = is.name;
       stored = is.stored;
-      count = is.count;
       pool = is.pool;
       records = λ k of.
           let place = open_record_place F p k is.pool.slot is.pool.known (open_on_device F p is.before is.pool) of in
@@ -258,7 +256,6 @@ module _ (size : ℕ) (w : World) (memory : Memory) (held : Held) (old : State) 
       transaction = changed_elsewhere held.name w.transactions change g.name (λ same. apart (ready.held.names n number g held has there same));
       present = refl;
       stored = refl;
-      puddles = refl;
       types = λ id m defined. defined;
       graphs = λ st graph stored. stored;
     }
@@ -275,16 +272,22 @@ module _ (size : ℕ) (w : World) (memory : Memory) (held : Held) (old : State) 
     were : WereOpen w.transactions next.transactions
     were = WereOpen-changed held.name change w.transactions (λ t. sym (charges.client t)) (λ t. sym (charges.depth t))
 
-    holds_within : fault ≡ None → Holds next (with_held number (Some later) memory).held ready.mask new.now.words
+    abbrev holds_within : fault ≡ None → Holds next (with_held number (Some later) memory).held ready.mask new.now.words
     holds_within none =
         Holds-later memory.held number held later there same_pool w next were ready.mask ready.mask old.now.words new.now.words ready.held ready.held.opens ready.held.are ready.held.masks
         (record { is = held_within none; number_is = under.number_is; opened = under.opened }) (other_within none) (λ n apart free. free)
 
+    -- its pool has the graph that it shows
+    graph_within : fault ≡ None → HasGraphIn F held.slot (reads new.now.words) is.at
+    graph_within none =
+        graph_held_in w held ready.mask old new is (subst (λ (f : Option HostFault). Changes own f old new) none changes_own) (change is.transaction).now (types_read size w memory old ready).types (held_in_turn size w memory old ready number held there) (runs.is none)
+
     -- all other pools stay
-    knows_within : fault ≡ None → KnowsPools F memory.judged (with_held number (Some later) memory).held (reads new.now.words)
+    knows_within : fault ≡ None → KnowsPools F memory.judged ready.held.opens (reads new.now.words)
     knows_within none =
-        KnowsPools-later memory.held number held later there same_pool F memory.judged now (reads new.now.words)
-        (KeepsPools-held w held ready.mask old new is (subst (λ (f : Option HostFault). Changes own f old new) none changes_own)) ready.knows
+        KnowsPools-later F memory.judged number (open_held held is.at is.rec is.who is.before) ready.held.opens now (reads new.now.words) under.opened
+        (KeepsPools-held w held ready.mask old new is (subst (λ (f : Option HostFault). Changes own f old new) none changes_own))
+        (graph_within none) ready.knows
 
     ready_within : fault ≡ None → IsReady size next (with_held number (Some later) memory) new
     ready_within none = record {

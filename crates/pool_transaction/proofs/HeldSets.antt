@@ -13,10 +13,10 @@ use Rattle.pud_defs.specs.Stored.{stored_in}
 use Rattle.pud_defs.specs.Transactions.{with_changed}
 use Rattle.pud_defs.specs.World.{Transaction, World}
 use Rattle.hybrid_tx.specs.Grounds.{IsPlaced, IsRewritten}
-use Rattle.hybrid_tx.specs.Transactions.{OpenTx, IsOpenOn, RunsOn}
-use Rattle.pool_transaction.specs.declared.changing.Change.{Change}
-use Rattle.pool_transaction.specs.declared.changing.Change.TheVariants.{Set, Later, Root, Free}
-use Rattle.pool_transaction.specs.Changing.{line_of, changed_by, MayChange}
+use Rattle.hybrid_tx.specs.Objects.Transactions.{OpenTx, IsOpenOn, RunsOn}
+use Rattle.pool_transaction.specs.declared.changing.Update.{Update}
+use Rattle.pool_transaction.specs.declared.changing.Update.TheVariants.{Set, Later, Root, Free}
+use Rattle.pool_transaction.specs.Changing.{update_line, changed_by, MayChange}
 use Rattle.ready_daemon.specs.Memory.{Held, Memory, held_under, with_held}
 use Rattle.ready_daemon.specs.Held.{IsHeld}
 use Rattle.ready_daemon.specs.Ready.{IsReady, Applies}
@@ -30,14 +30,14 @@ used_more (Ok x) units now old told none = told
 used_more (Err fault) units now old told none = absurd (let no : Some fault ≡ None = none in cc)
 
 -- what a line makes of the world
-after_line : (w : World) (client : ℕ) (name : List ℕ) (change : Change) → after w (line_of change client name) ≡ record w { transactions = with_changed name (changed_by change) w.transactions }
+after_line : (w : World) (client : ℕ) (name : List ℕ) (change : Update) → after w (update_line change client name) ≡ record w { transactions = with_changed name (changed_by change) w.transactions }
 unfolding after
 after_line w client name (Set s f x) = refl
 after_line w client name (Later s f x) = refl
 after_line w client name (Root s) = refl
 after_line w client name (Free s) = refl
 
-Charges-change : (change : Change) → Charges SET_UNITS (changed_by change)
+Charges-change : (change : Update) → Charges SET_UNITS (changed_by change)
 Charges-change (Set s f x) = Charges-charged SET_UNITS (with_field s f x)
 Charges-change (Later s f x) = Charges-asked SET_UNITS (record { s = s; f = f; x = x })
 Charges-change (Root s) = Charges-charged SET_UNITS (with_root s)
@@ -47,39 +47,39 @@ module _ (size : ℕ) (w : World) (memory : Memory) (held : Held) (old : State) 
   abbrev is : IsHeld w held ready.mask old.now.words
   is = is_held size w memory held old number there ready
 
-  module _ (F : ℕ) (at : List (ℕ × Puddle)) (same : F ≡ w.stored.frames) (listed : at ≡ held.at) (tx : OpenTx) (new : State) (gate : tx.log.at ≡ held.log.at) where
+  module _ (F : ℕ) (at : List (ℕ × Puddle)) (same : F ≡ w.stored.frames) (listed : at ≡ is.at) (tx : OpenTx) (new : State) (gate : tx.log.at ≡ held.tx.log.at) where
     -- what a call owes that changes the transaction so, on these puddles
     abbrev pub OwesRuns : ℕ → List (ℕ × Puddle) → (change : Transaction → Transaction) → Option HostFault → Type 0
     OwesRuns n puddles change fault =
-        IsPlaced n puddles → IsOpenOn n puddles w.stored.types held.log is.before is.undone is.transaction.now is.transaction.laters old.now.words
+        IsPlaced n puddles → IsOpenOn n puddles w.stored.types held.tx.log is.before is.undone is.transaction.now is.transaction.laters old.now.words
         → RunsOn n puddles w.stored.types tx.log is.before is.undone (change is.transaction).now (change is.transaction).laters fault old new
 
     -- and where it did not fail these units
     abbrev pub OwesUsed : ℕ → List (ℕ × Puddle) → {X : Type 0} → (units : ℕ) → Result X HostFault → Type 0
     OwesUsed n puddles units done =
-        IsPlaced n puddles → IsOpenOn n puddles w.stored.types held.log is.before is.undone is.transaction.now is.transaction.laters old.now.words → IfOk done (λ _. tx.units ≡ held.units + units)
+        IsPlaced n puddles → IsOpenOn n puddles w.stored.types held.tx.log is.before is.undone is.transaction.now is.transaction.laters old.now.words → IfOk done (λ _. tx.units ≡ held.tx.units + units)
 
-    pub told : {X : Type 0} (units : ℕ) (done : Result X HostFault) → OwesUsed F at units done → IfOk done (λ _. tx.units ≡ held.units + units)
+    pub told : {X : Type 0} (units : ℕ) (done : Result X HostFault) → OwesUsed F at units done → IfOk done (λ _. tx.units ≡ held.tx.units + units)
     told units done used =
-        subst (λ (n : ℕ). OwesUsed n held.at units done) same (subst (λ (puddles : List (ℕ × Puddle)). OwesUsed F puddles units done) listed used) (held_placed size w memory held old number there ready) is.running
+        subst (λ (n : ℕ). OwesUsed n is.at units done) same (subst (λ (puddles : List (ℕ × Puddle)). OwesUsed F puddles units done) listed used) (held_placed size w memory held old number there ready) is.running
 
     pub owed : (change : Transaction → Transaction) (fault : Option HostFault) → OwesRuns F at change fault
-        → RunsOn w.stored.frames held.at w.stored.types tx.log is.before is.undone (change is.transaction).now (change is.transaction).laters fault old new
+        → RunsOn w.stored.frames is.at w.stored.types tx.log is.before is.undone (change is.transaction).now (change is.transaction).laters fault old new
     owed change fault runs =
-        subst (λ (n : ℕ). OwesRuns n held.at change fault) same (subst (λ (puddles : List (ℕ × Puddle)). OwesRuns F puddles change fault) listed runs) (held_placed size w memory held old number there ready) is.running
+        subst (λ (n : ℕ). OwesRuns n is.at change fault) same (subst (λ (puddles : List (ℕ × Puddle)). OwesRuns F puddles change fault) listed runs) (held_placed size w memory held old number there ready) is.running
 
     -- a call that owes this carries the change out
     pub Applies-changed : (units : ℕ) (change : Transaction → Transaction) → Charges units change → (done : Result Unit HostFault) → OwesRuns F at change (fault_of done) → OwesUsed F at units done
         → Applies size w (record w { transactions = with_changed held.name change w.transactions }) (with_held number (Some (with_tx tx held)) memory) (fault_of done) old new
     Applies-changed units change charges done runs used =
-        Applies-runs size w memory held old number there ready tx units change charges (fault_of done) new gate (used_more done units tx.units held.units (told units done used)) (owed change (fault_of done) runs)
+        Applies-runs size w memory held old number there ready tx units change charges (fault_of done) new gate (used_more done units tx.units held.tx.units (told units done used)) (owed change (fault_of done) runs)
 
     -- a line that is not refused is carried out by a call that makes its change, where it may be made
-    pub Applies-line : (change : Change) (done : Result Unit HostFault) → IsRewritten held.at → refusal_of w (line_of change held.client held.name) ≡ None
+    pub Applies-line : (change : Update) (done : Result Unit HostFault) → IsRewritten at → refusal_of w (update_line change held.client held.name) ≡ None
         → (IsRewritten at → MayChange w.stored.types is.transaction change → OwesRuns F at (changed_by change) (fault_of done))
         → OwesUsed F at SET_UNITS done
-        → Applies size w (after w (line_of change held.client held.name)) (with_held number (Some (with_tx tx held)) memory) (fault_of done) old new
+        → Applies size w (after w (update_line change held.client held.name)) (with_held number (Some (with_tx tx held)) memory) (fault_of done) old new
     Applies-line change done rewritten free runs used =
-        let may = may_change_unrefused w held.client held.name change (stored_in w.stored.frames held.at (reads old.now.words)) is.transaction is.is is.running.is free in
+        let may = may_change_unrefused w held.client held.name change (stored_in w.stored.frames is.at (reads old.now.words)) is.transaction is.is is.running.is free in
         subst (λ (v : World). Applies size w v (with_held number (Some (with_tx tx held)) memory) (fault_of done) old new) (sym (after_line w held.client held.name change))
-        (Applies-changed SET_UNITS (changed_by change) (Charges-change change) done (runs (subst IsRewritten (sym listed) rewritten) may) used)
+        (Applies-changed SET_UNITS (changed_by change) (Charges-change change) done (runs rewritten may) used)

@@ -4,7 +4,6 @@ use Rattle.std.specs.Prelude.{set, slice_get}
 use Rattle.std.specs.List.{list_any}
 use Rattle.std.proofs.lemmas.Bool.{cases_Bool, cases_eq, cond-true, cond-false, or_cases, or_parts, or_left, or_right}
 use Rattle.std.proofs.lemmas.Option.{none-some, same_Some, slice_get_within}
-use Rattle.std.proofs.lemmas.List.{length_push}
 use Rattle.std.proofs.lemmas.List.Folds.{list_any-append}
 use Rattle.pm_model.specs.declared.host.HostFault.TheVariants.{Cut}
 use Rattle.pm_model.specs.Words.{Has, Cell, single, values, Words, HasOnly, reads}
@@ -25,7 +24,6 @@ use Rattle.pud_defs.specs.Settled.{ALL_LOGS, client_of_log, log_number_at}
 use Rattle.pud_defs.specs.Spaces.{Owner, owner_of}
 use Rattle.pud_defs.specs.SoundTables.{HasSoundTables}
 use Rattle.pud_defs.specs.Step.{graph_in}
-use Rattle.pud_defs.specs.Stored.{IsOnDevice}
 use Rattle.pud_defs.specs.Tables.{Tables, tables_of, puddles_in_turn}
 use Rattle.pud_defs.specs.World.{Transaction, StoredWorld, World}
 use Rattle.pud_defs.proofs.Replay.{outside_log}
@@ -36,26 +34,26 @@ use Rattle.graph_laws.proofs.Grown.{slice_get-front, slice_get-push}
 use Rattle.word_transaction.specs.Ground.{IsGround}
 use Rattle.word_transaction.proofs.Growing.{IsWider, IsRunning-values, IsRunning-wider}
 use Rattle.hybrid_tx.specs.Grounds.{is_in_frame, pool_mine, pool_ground, IsPlaced}
-use Rattle.hybrid_tx.specs.Masks.{OpenPool, is_in_pool_record, is_in_space_record, is_in_puddle_record, is_open_record, open_mask, IsOpenPool}
-use Rattle.hybrid_tx.specs.ManyOpen.{OpenTransaction, Opens, with_transaction, open_masks, MasksAll, AreOpenPools, HasRecords, IsOneMore}
-use Rattle.hybrid_tx.specs.Transactions.{IsOpenOn}
-use Rattle.hybrid_tx.proofs.ManyMasks.{masks_of_others, opens_apart, open_masks_all}
-use Rattle.hybrid_tx.proofs.ManyIdle.{one_ended, one_put, others_open, others_records, opens_more, records_more, masks_elsewhere, masks_changed}
-use Rattle.hybrid_tx.proofs.OpenMasks.{mine_behind, open_record_place, mask_of_own, mask_of_mine, mask_of_record, mask_of_others}
-use Rattle.hybrid_tx.proofs.LatersKept.{KeepsObjects-same, AreLaters-wider}
-use Rattle.hybrid_tx.proofs.Opening.{stored_in-mine}
-use Rattle.hybrid_tx.proofs.OpenPools.{open_on_device, placed_by_tables}
-use Rattle.hybrid_tx.proofs.PoolPlaces.{placed_of_members}
+use Rattle.hybrid_tx.specs.Open.Masks.{OpenPool, is_in_pool_record, is_in_space_record, is_in_puddle_record, is_open_record, open_mask, ArePuddlesOf, IsOpenPool}
+use Rattle.hybrid_tx.specs.Open.ManyOpen.{OpenTransaction, Opens, with_transaction, open_masks, MasksAll, AreOpenPools, HasRecords, IsOneMore}
+use Rattle.hybrid_tx.specs.Objects.Transactions.{IsOpenOn}
+use Rattle.hybrid_tx.proofs.Open.ManyMasks.{masks_of_others, opens_apart, open_masks_all}
+use Rattle.hybrid_tx.proofs.Open.ManyIdle.{one_ended, one_put, others_open, others_records, opens_more, records_more, masks_elsewhere, masks_changed}
+use Rattle.hybrid_tx.proofs.Open.OpenMasks.{mine_behind, open_record_place, mask_of_own, mask_of_mine, mask_of_record, mask_of_others}
+use Rattle.hybrid_tx.proofs.Objects.LatersKept.{KeepsObjects-same, AreLaters-wider}
+use Rattle.hybrid_tx.proofs.Objects.Opening.{stored_in-mine}
+use Rattle.hybrid_tx.proofs.Open.OpenPools.{open_on_device, placed_by_tables}
+use Rattle.hybrid_tx.proofs.Open.PoolPlaces.{placed_of_puddles, are_puddles_in_turn}
 use Rattle.hybrid_tx.proofs.PoolGrounds.{pool_mine-each, pool_may-named, pool_may-from, pool_place-there, is_ground}
 use Rattle.nesting.specs.declared.Session.{Session}
 use Rattle.pool_transaction.specs.Changing.{StaysOpen}
 use Rattle.ready_daemon.specs.Memory.{Held, held_under}
-use Rattle.ready_daemon.specs.Held.{pool_held, open_held, puddles_in, IsHeld, IsHeldUnder, Holds, HasSessions, HasDurableFrames, HasIdleLogs, ByOthers}
+use Rattle.ready_daemon.specs.Held.{pool_held, open_held, IsHeld, IsHeldUnder, Holds, HasSessions, HasDurableFrames, HasIdleLogs, ByOthers}
 use Rattle.ready_daemon.proofs.Beside.{KeepsOne, others_apart, held_still, records_all}
 use Rattle.ready_daemon.proofs.GraphLonger.{graph_longer, places_longer}
 use Rattle.pool_transaction.proofs.HeldChanged.{Holds-later, HasSessions-later}
 use Rattle.ready_daemon.proofs.OpenNames.{WereOpen, WereOpen-same}
-use Rattle.ready_daemon.proofs.PoolsBeside.{used_still, members_still}
+use Rattle.ready_daemon.proofs.PoolsBeside.{used_still, puddles_still}
 
 -- ---- masks
 
@@ -84,14 +82,13 @@ one_more mask wide words k more one = elim (wide_cell mask wide words k more) [
 
 -- ---- what is held
 
--- The next world has the same of what is held, and its pool one puddle more.
+-- The next world has the same of what is held, while its pool has one puddle more.
 pub record GrowsHeld (w next : World) (held : Held) : Type 0 where
   pub frames : next.stored.frames ≡ w.stored.frames
   pub types : next.stored.types ≡ w.stored.types
   pub transactions : next.transactions ≡ w.transactions
   pub clients : next.clients ≡ w.clients
   pub stored : graph_in (pool_named held.name next.stored) ≡ graph_in (pool_named held.name w.stored)
-  pub puddles : puddles_in (pool_named held.name next.stored) ≡ puddles_in (pool_named held.name w.stored) + 1
 
 module _ (w : World) (held : Held) (mask : Write) (words : Words) (is : IsHeld w held mask words) (e : ℕ × Puddle) where
   abbrev F : ℕ
@@ -101,50 +98,47 @@ module _ (w : World) (held : Held) (mask : Write) (words : Words) (is : IsHeld w
   now = reads words
 
   abbrev p : OpenPool
-  p = pool_held held is.rec is.who
+  p = pool_held held is.at is.rec is.who
 
   -- its puddles with this one
   abbrev at : List (ℕ × Puddle)
-  at = held.at ++ e ∷ []
-
-  abbrev pub with_one_more : Held
-  with_one_more = record held { at = at }
+  at = is.at ++ e ∷ []
 
   abbrev q : OpenPool
-  q = pool_held with_one_more is.rec is.who
+  q = pool_held held at is.rec is.who
 
   -- the values of its beginning, and of the words that come to be its own those that are read
   abbrev before : Image
-  before k = cond (pool_mine F held.at k) (is.before k) (now k)
+  before k = cond (pool_mine F is.at k) (is.before k) (now k)
 
   abbrev pub opened_more : OpenTransaction
-  opened_more = open_held with_one_more is.rec is.who before
+  opened_more = open_held held at is.rec is.who before
 
-  own_word : (k : ℕ) → pool_mine F held.at k ≡ true → before k ≡ is.before k
+  own_word : (k : ℕ) → pool_mine F is.at k ≡ true → before k ≡ is.before k
   own_word k own = cond-true _ _ _ own
 
-  other_word : (k : ℕ) → pool_mine F held.at k ≡ false → before k ≡ now k
+  other_word : (k : ℕ) → pool_mine F is.at k ≡ false → before k ≡ now k
   other_word k other = cond-false _ _ _ other
 
   table_word : (k : ℕ) → k < frames_at F → before k ≡ now k
-  table_word k below = other_word k (mine_behind F held.at k below)
+  table_word k below = other_word k (mine_behind F is.at k below)
 
   same_tables : tables_of F before ≡ tables_of F now
   same_tables = tables_of-same F before now (λ k low high. table_word k (omega arith)) (λ k low high. table_word k (omega arith))
 
-  front : (i : ℕ) (d : ℕ × Puddle) → slice_get held.at i ≡ Some d → slice_get at i ≡ Some d
-  front i d there = slice_get-front held.at (e ∷ []) i (slice_get_within held.at i d there) ∙ there
+  front : (i : ℕ) (d : ℕ × Puddle) → slice_get is.at i ≡ Some d → slice_get at i ≡ Some d
+  front i d there = slice_get-front is.at (e ∷ []) i (slice_get_within is.at i d there) ∙ there
 
   -- its own words, and those of this one's frame
-  mine_split : (k : ℕ) → pool_mine F at k ≡ (pool_mine F held.at k || (is_in_frame F k e || false))
+  mine_split : (k : ℕ) → pool_mine F at k ≡ (pool_mine F is.at k || (is_in_frame F k e || false))
   unfolding pool_mine
-  mine_split k = list_any-append (is_in_frame F k) held.at (e ∷ [])
+  mine_split k = list_any-append (is_in_frame F k) is.at (e ∷ [])
 
-  mine_before : (k : ℕ) → pool_mine F held.at k ≡ true → pool_mine F at k ≡ true
-  mine_before k own = mine_split k ∙ or_left (pool_mine F held.at k) _ own
+  mine_before : (k : ℕ) → pool_mine F is.at k ≡ true → pool_mine F at k ≡ true
+  mine_before k own = mine_split k ∙ or_left (pool_mine F is.at k) _ own
 
-  in_frame : (k : ℕ) → pool_mine F at k ≡ true → pool_mine F held.at k ≡ false → is_in_frame F k e ≡ true
-  in_frame k own other = elim (or_cases (pool_mine F held.at k) _ (sym (mine_split k) ∙ own)) [
+  in_frame : (k : ℕ) → pool_mine F at k ≡ true → pool_mine F is.at k ≡ false → is_in_frame F k e ≡ true
+  in_frame k own other = elim (or_cases (pool_mine F is.at k) _ (sym (mine_split k) ∙ own)) [
     | inl was ↦ absurd (let no : true ≡ false = sym was ∙ other in cc)
     | inr new ↦ elim (or_cases (is_in_frame F k e) false new) [ inl here ↦ here | inr never ↦ absurd (let it : false ≡ true = never in cc) ]
   ]
@@ -154,23 +148,23 @@ module _ (w : World) (held : Held) (mask : Write) (words : Words) (is : IsHeld w
     placed : IsPlaced F at
     placed = placed_by_tables number F now held.slot at sound listed
 
-    placed_before : IsPlaced F held.at
+    placed_before : IsPlaced F is.at
     placed_before =
         let frames = frames_of_tables F now in
-        subst (λ (n : ℕ). IsPlaced n held.at) frames
-        (placed_of_members number (tables_of F now) sound held.slot held.at (members_still w held mask words is) (subst (λ (n : ℕ). IsOnDevice n held.at) (sym frames) (open_on_device F p is.before is.pool)))
+        subst (λ (n : ℕ). IsPlaced n is.at) frames
+        (placed_of_puddles number (tables_of F now) sound held.slot is.at (puddles_still w held mask words is))
 
     -- no word of its frame was the transaction's own
-    apart : (k : ℕ) → k < FRAME_WORDS → pool_mine F held.at (frame_at F e.0 + k) ≡ false
-    apart k below = elim (cases_Bool (pool_mine F held.at (frame_at F e.0 + k))) [
+    apart : (k : ℕ) → k < FRAME_WORDS → pool_mine F is.at (frame_at F e.0 + k) ≡ false
+    apart k below = elim (cases_Bool (pool_mine F is.at (frame_at F e.0 + k))) [
       | inr other ↦ other
       | inl own ↦
-          let m = pool_mine-each F held.at (frame_at F e.0 + k) own in
+          let m = pool_mine-each F is.at (frame_at F e.0 + k) own in
           let low = m.low in
           let high = m.high in
           let frame : m.puddle.0 ≡ e.0 = omega arith in
-          let within = slice_get_within held.at m.ordinal m.puddle m.there in
-          let same = placed.frames.each m.ordinal (length held.at) m.puddle e (front m.ordinal m.puddle m.there) (slice_get-push held.at e) frame in
+          let within = slice_get_within is.at m.ordinal m.puddle m.there in
+          let same = placed.frames.each m.ordinal (length is.at) m.puddle e (front m.ordinal m.puddle m.there) (slice_get-push is.at e) frame in
           absurd (omega (arith, within, same))
     ]
 
@@ -190,7 +184,7 @@ module _ (w : World) (held : Held) (mask : Write) (words : Words) (is : IsHeld w
       known = is.pool.known;
       slot = is.pool.slot;
       used = ap (λ (t : Tables). t.pools held.slot) same_tables ∙ used_still w held mask words is;
-      at = ap (λ (t : Tables). puddles_in_turn t held.slot) same_tables ∙ listed;
+      puddles = subst (λ (t : Tables). ArePuddlesOf t held.slot at) (sym same_tables) (subst (λ (ps : List (ℕ × Puddle)). ArePuddlesOf (tables_of F now) held.slot ps) listed (are_puddles_in_turn number (tables_of F now) held.slot sound));
       owned = owner_there;
       right = is.pool.right;
     }
@@ -200,7 +194,7 @@ module _ (w : World) (held : Held) (mask : Write) (words : Words) (is : IsHeld w
 
     -- ---- its words
 
-    mask_outside : (k : ℕ) → is_in_log (log_number_at F held.number) k ≡ false → pool_mine F held.at k ≡ false → open_mask F p is.before k ≡ None → IsMaskedMore (open_mask F p is.before) (open_mask F q before) words k
+    mask_outside : (k : ℕ) → is_in_log (log_number_at F held.number) k ≡ false → pool_mine F is.at k ≡ false → open_mask F p is.before k ≡ None → IsMaskedMore (open_mask F p is.before) (open_mask F q before) words k
     mask_outside k outside other none = elim (cases_Bool (pool_mine F at k || is_open_record q k)) [
       | inl own ↦ inr (none, mask_of_own F q before k outside own ∙ ap (λ (v : ℕ). Some v) (other_word k other))
       | inr not ↦ let parts = or_parts (pool_mine F at k) (is_open_record q k) not in inl (mask_of_others F q before k outside parts.0 parts.1 ∙ sym none)
@@ -213,16 +207,16 @@ module _ (w : World) (held : Held) (mask : Write) (words : Words) (is : IsHeld w
     -- a record that it rested on is one still
     record_before : (k : ℕ) → is_open_record p k ≡ true → is_open_record q k ≡ true
     unfolding is_open_record
-    record_before k of = elim (or_cases (is_in_pool_record held.slot k || is_in_space_record (client_of_log held.number) k) (list_any (is_in_puddle_record k) held.at) of) [
+    record_before k of = elim (or_cases (is_in_pool_record held.slot k || is_in_space_record (client_of_log held.number) k) (list_any (is_in_puddle_record k) is.at) of) [
       | inl first ↦ or_left _ _ first
-      | inr puddle ↦ or_right (is_in_pool_record held.slot k || is_in_space_record (client_of_log held.number) k) _ (list_any-append (is_in_puddle_record k) held.at (e ∷ []) ∙ or_left _ _ puddle)
+      | inr puddle ↦ or_right (is_in_pool_record held.slot k || is_in_space_record (client_of_log held.number) k) _ (list_any-append (is_in_puddle_record k) is.at (e ∷ []) ∙ or_left _ _ puddle)
     ]
 
     -- they are those that it had, with their values, and others, with what is read of them
     pub mask_more : (k : ℕ) → IsMaskedMore (open_mask F p is.before) (open_mask F q before) words k
     mask_more k = elim (cases_Bool (is_in_log (log_number_at F held.number) k)) [
       | inl inside ↦ inl (mask_in_log k inside)
-      | inr outside ↦ elim (cases_Bool (pool_mine F held.at k)) [
+      | inr outside ↦ elim (cases_Bool (pool_mine F is.at k)) [
         | inl own ↦
             inl (mask_of_mine F q before k is.pool.known (mine_before k own) ∙ ap (λ (v : ℕ). Some v) (own_word k own) ∙ sym (mask_of_mine F p is.before k is.pool.known own))
         | inr other ↦ elim (cases_Bool (is_open_record p k)) [
@@ -240,57 +234,58 @@ module _ (w : World) (held : Held) (mask : Write) (words : Words) (is : IsHeld w
 
     -- ---- what is open
 
-    module _ (some : 1 ≤ length held.at) (fresh : IsFreshFrame F e.0 e.1.number (length held.at) now) (one_value : (k : ℕ) → pool_mine F at k ≡ true → pool_mine F held.at k ≡ false → HasOnly (words k) (now k)) where
-      wider : IsWider (pool_ground F held.at) (pool_ground F at)
+    module _ (some : 1 ≤ length is.at) (fresh : IsFreshFrame F e.0 e.1.number (length is.at) now) (one_value : (k : ℕ) → pool_mine F at k ≡ true → pool_mine F is.at k ≡ false → HasOnly (words k) (now k)) where
+      wider : IsWider (pool_ground F is.at) (pool_ground F at)
       wider = record {
         may = λ address count may.
-            let n = pool_may-named held.at address count may in
+            let n = pool_may-named is.at address count may in
             pool_may-from at address count (record { ordinal = n.ordinal; puddle = n.puddle; there = front n.ordinal n.puddle n.there; low = n.low; high = n.high; aligned = n.aligned; some = n.some });
         place = λ address count may.
-            let n = pool_may-named held.at address count may in
+            let n = pool_may-named is.at address count may in
             let low = n.low in
             let high = n.high in
             let least = n.some in
             pool_place-there F at n.ordinal n.puddle address placed.bases (front n.ordinal n.puddle n.there) low (omega arith)
-            ∙ sym (pool_place-there F held.at n.ordinal n.puddle address placed_before.bases n.there low (omega arith));
+            ∙ sym (pool_place-there F is.at n.ordinal n.puddle address placed_before.bases n.there low (omega arith));
         mine = mine_before;
       }
 
-      fresh_word : (k : ℕ) → pool_mine F at k ≡ true → pool_mine F held.at k ≡ false → HasOnly (words k) (before k)
+      fresh_word : (k : ℕ) → pool_mine F at k ≡ true → pool_mine F is.at k ≡ false → HasOnly (words k) (before k)
       fresh_word k own other = subst (λ (v : ℕ). HasOnly (words k) v) (sym (other_word k other)) (one_value k own other)
 
-      ground : IsGround (device_words F) held.log.at (pool_ground F held.at)
+      ground : IsGround (device_words F) held.tx.log.at (pool_ground F is.at)
       ground =
           let gate = is.gate in
           let known = is.pool.known in
-          is_ground F (device_words F) held.log.at held.at placed_before (omega arith) (omega arith)
+          is_ground F (device_words F) held.tx.log.at is.at placed_before (omega arith) (omega arith)
 
-      running_more : IsOpenOn F at w.stored.types held.log before is.undone is.transaction.now is.transaction.laters words
+      pub running_more : IsOpenOn F at w.stored.types held.tx.log before is.undone is.transaction.now is.transaction.laters words
       running_more =
           let r = is.running in
-          let g = pool_ground F held.at in
-          let fresh_before : IsFreshFrame F e.0 e.1.number (length held.at) before = record { each = λ k below. other_word (frame_at F e.0 + k) (apart k below) ∙ fresh.each k below } in
+          let g = pool_ground F is.at in
+          let fresh_before : IsFreshFrame F e.0 e.1.number (length is.at) before = record { each = λ k below. other_word (frame_at F e.0 + k) (apart k below) ∙ fresh.each k below } in
           record {
             redo = r.redo;
             saving = record {
               es = r.saving.es;
-              running = IsRunning-wider g (pool_ground F at) held.log r.saving.es before words wider fresh_word
-                  (IsRunning-values (device_words F) g held.log r.saving.es is.before before words ground (λ k own. sym (own_word k own)) r.saving.running);
+              running = IsRunning-wider g (pool_ground F at) held.tx.log r.saving.es before words wider fresh_word
+                  (IsRunning-values (device_words F) g held.tx.log r.saving.es is.before before words ground (λ k own. sym (own_word k own)) r.saving.running);
               asks = r.saving.asks;
             };
-            was = graph_longer w.stored.types F before held.at e is.undone some fresh_before (ap (graph_of w.stored.types) (stored_in-mine F held.at is.before before own_word) ∙ r.was);
-            is = graph_longer w.stored.types F now held.at e is.transaction.now some fresh r.is;
-            are = AreLaters-wider F held.at at w.stored.types w.stored.types now now is.transaction.now is.transaction.now (record { each = front }) (record { each = λ id m is. is })
-                (places_longer w.stored.types F now held.at e is.transaction.now r.is) (KeepsObjects-same is.transaction.now) is.transaction.laters r.redo r.are;
+            was = graph_longer w.stored.types F before is.at e is.undone some fresh_before (ap (graph_of w.stored.types) (stored_in-mine F is.at is.before before own_word) ∙ r.was);
+            is = graph_longer w.stored.types F now is.at e is.transaction.now some fresh r.is;
+            are = AreLaters-wider F is.at at w.stored.types w.stored.types now now is.transaction.now is.transaction.now (record { each = front }) (record { each = λ id m is. is })
+                (places_longer w.stored.types F now is.at e is.transaction.now r.is) (KeepsObjects-same is.transaction.now) is.transaction.laters r.redo r.are;
           }
 
       -- The next world holds it with that puddle, where its words are masked.
-      pub held_more : (next : World) → GrowsHeld w next held → (anew : Write) → ((k v : ℕ) → open_mask F q before k ≡ Some v → anew k ≡ Some v) → IsHeld next with_one_more anew words
+      abbrev pub held_more : (next : World) → GrowsHeld w next held → (anew : Write) → ((k v : ℕ) → open_mask F q before k ≡ Some v → anew k ≡ Some v) → IsHeld next held anew words
       held_more next grows anew masks =
           let back = sym grows.frames in
           record {
             rec = is.rec;
             who = is.who;
+            at = at;
             before = before;
             undone = is.undone;
             transaction = is.transaction;
@@ -302,11 +297,10 @@ module _ (w : World) (held : Held) (mask : Write) (words : Words) (is : IsHeld w
             gate = is.gate ∙ ap (λ (m : ℕ). log_number_at m held.number) back;
             name = is.name;
             stored = grows.stored ∙ is.stored;
-            count = grows.puddles ∙ (let had = is.count in omega (arith, had, length_push held.at e));
             pool = subst (λ (m : ℕ). IsOpenPool m q before) back pool_more;
             records = records_then;
-            running = subst (λ (m : ℕ). IsOpenOn m at next.stored.types held.log before is.undone is.transaction.now is.transaction.laters words) back
-                (subst (λ (types : List (ℕ × ℕ)). IsOpenOn F at types held.log before is.undone is.transaction.now is.transaction.laters words) (sym grows.types) running_more);
+            running = subst (λ (m : ℕ). IsOpenOn m at next.stored.types held.tx.log before is.undone is.transaction.now is.transaction.laters words) back
+                (subst (λ (types : List (ℕ × ℕ)). IsOpenOn F at types held.tx.log before is.undone is.transaction.now is.transaction.laters words) (sym grows.types) running_more);
             masked = subst (λ (m : ℕ). (k v : ℕ) → open_mask m q before k ≡ Some v → anew k ≡ Some v) back masks;
           }
 
@@ -314,7 +308,7 @@ module _ (w : World) (held : Held) (mask : Write) (words : Words) (is : IsHeld w
 
 module _ (w : World) (all : List (Option Held)) (mask : Write) (s : State) (holds : Holds w all mask s.now.words) (held : Held) (number : ℕ) (there : held_under all number ≡ Some held) (e : ℕ × Puddle)
     (next_number : ℕ) (sound : HasSoundTables next_number (tables_of w.stored.frames (reads s.now.words))) (owners : owner_of (reads s.now.words) held.client ≡ w.clients held.client)
-    (listed : puddles_in_turn (tables_of w.stored.frames (reads s.now.words)) held.slot ≡ held.at ++ e ∷ []) (rest : HasDurableFrames w.stored.frames (masked mask s.now.words)) where
+    (listed : puddles_in_turn (tables_of w.stored.frames (reads s.now.words)) held.slot ≡ (holds.each number held there).is.at ++ e ∷ []) (rest : HasDurableFrames w.stored.frames (masked mask s.now.words)) where
   abbrev n : ℕ
   n = w.stored.frames
 
@@ -325,7 +319,7 @@ module _ (w : World) (all : List (Option Held)) (mask : Write) (s : State) (hold
   under = holds.each number held there
 
   abbrev o : OpenTransaction
-  o = open_held held under.is.rec under.is.who under.is.before
+  o = open_held held under.is.at under.is.rec under.is.who under.is.before
 
   abbrev more : OpenTransaction
   more = opened_more w held mask s.now.words under.is e
@@ -340,11 +334,11 @@ module _ (w : World) (all : List (Option Held)) (mask : Write) (s : State) (hold
   was : IsOneMore number o others holds.opens
   was = one_ended number o holds.opens under.opened
 
-  then_one : IsOneMore number more others opens
+  pub then_one : IsOneMore number more others opens
   then_one = one_put number more holds.opens
 
   -- one of the others
-  other_is : (m : ℕ) → m ≢ number → opens m ≡ holds.opens m
+  pub other_is : (m : ℕ) → m ≢ number → opens m ≡ holds.opens m
   other_is m apart = then_one.same m apart ∙ sym (was.same m apart)
 
   never_it : (m : ℕ) (q : OpenTransaction) → others m ≡ Some q → m ≢ number
@@ -353,7 +347,7 @@ module _ (w : World) (all : List (Option Held)) (mask : Write) (s : State) (hold
   are_others : AreOpenPools n others
   are_others = others_open number o others holds.opens was n holds.are
 
-  are_more : AreOpenPools n opens
+  pub are_more : AreOpenPools n opens
   are_more =
       opens_more number more others opens then_one n are_others under.number_is (pool_more w held mask s.now.words under.is e next_number sound owners listed)
       (λ m q has same. never_it m q has (holds.are.slots m number q o (was.same m (never_it m q has) ∙ has) under.opened same))
@@ -368,7 +362,7 @@ module _ (w : World) (all : List (Option Held)) (mask : Write) (s : State) (hold
   abbrev pub wide : Write
   wide = open_masks n opens
 
-  masks_more : MasksAll n opens wide
+  pub masks_more : MasksAll n opens wide
   masks_more = open_masks_all n opens image are_more records_opened
 
   abbrev rest_mask : Write
@@ -406,7 +400,7 @@ module _ (w : World) (all : List (Option Held)) (mask : Write) (s : State) (hold
     | inr other ↦ other
   ]
 
-  of_no_other : (k : ℕ) → pool_mine n (held.at ++ e ∷ []) k ≡ true → pool_mine n held.at k ≡ false → (m : ℕ) (q : OpenTransaction) → holds.opens m ≡ Some q → pool_mine n q.pool.at k ≡ false
+  of_no_other : (k : ℕ) → pool_mine n (under.is.at ++ e ∷ []) k ≡ true → pool_mine n under.is.at k ≡ false → (m : ℕ) (q : OpenTransaction) → holds.opens m ≡ Some q → pool_mine n q.pool.at k ≡ false
   of_no_other k own other m q has = elim (cases_eq m number) [
     | inl same ↦
         let one : o ≡ q = same_Some o q (sym under.opened ∙ ap holds.opens (sym same) ∙ has) in
@@ -419,9 +413,9 @@ module _ (w : World) (all : List (Option Held)) (mask : Write) (s : State) (hold
       let known : m < ALL_LOGS = omega (arith, holds.are.number m q has, (holds.are.pool m q has).known) in
       outside_log (log_number_at n m) k (inr (omega arith))
 
-  one_value : (k : ℕ) → pool_mine n (held.at ++ e ∷ []) k ≡ true → pool_mine n held.at k ≡ false → HasOnly (s.now.words k) (image k)
+  pub one_value : (k : ℕ) → pool_mine n (under.is.at ++ e ∷ []) k ≡ true → pool_mine n under.is.at k ≡ false → HasOnly (s.now.words k) (image k)
   one_value k own other =
-      let low = (pool_mine-each n (held.at ++ e ∷ []) k own).low in
+      let low = (pool_mine-each n (under.is.at ++ e ∷ []) k own).low in
       let above : frames_at n ≤ k = omega arith in
       let none : mask k ≡ None =
       masks_of_others n holds.opens mask holds.are holds.masks k (record { log = no_log k above; frames = of_no_other k own other }) (no_record k above) in
@@ -429,41 +423,37 @@ module _ (w : World) (all : List (Option Held)) (mask : Write) (s : State) (hold
 
   -- ---- the next world
 
-  module _ (some : 1 ≤ length held.at) (fresh : IsFreshFrame n e.0 e.1.number (length held.at) image) (next : World) (grows : GrowsHeld w next held)
+  module _ (some : 1 ≤ length under.is.at) (fresh : IsFreshFrame n e.0 e.1.number (length under.is.at) image) (next : World) (grows : GrowsHeld w next held)
       (keeps : (m : ℕ) (g : Held) → m ≢ number → held_under all m ≡ Some g → KeepsOne w next g) where
-    abbrev later : Held
-    later = with_one_more w held mask s.now.words under.is e
-
-    same_pool : StaysOpen held later
+    pub same_pool : StaysOpen held held
     same_pool = record { client = refl; name = refl; slot = refl; number = refl; gate = refl }
 
-    it_has_more : IsHeld next later wide s.now.words
+    abbrev pub it_has_more : IsHeld next held wide s.now.words
     it_has_more =
         held_more w held mask s.now.words under.is e next_number sound owners listed some fresh one_value next grows wide (λ k v is. masks_more.has number more then_one.here k v is)
 
-    other_stays : (m : ℕ) (g : Held) → m ≢ number → held_under all m ≡ Some g → IsHeldUnder next opens wide s.now.words m g
+    pub other_stays : (m : ℕ) (g : Held) → m ≢ number → held_under all m ≡ Some g → IsHeldUnder next opens wide s.now.words m g
     other_stays m g apart has =
         let other = holds.each m g has in
         let opened = other_is m apart ∙ other.opened in
         record {
           is = held_still w next g mask wide s s other.is (keeps m g apart has) (ByOthers mask) (others_apart w g mask s.now.words other.is) (Changes-still (ByOthers mask) None s s (λ cut. none-some Cut cut) refl)
-              (λ k v is. masks_more.has m (open_held g other.is.rec other.is.who other.is.before) opened k v is);
+              (λ k v is. masks_more.has m (open_held g other.is.at other.is.rec other.is.who other.is.before) opened k v is);
           number_is = other.number_is;
           opened = opened;
         }
 
     -- The next world holds it with that puddle, and the others as they are.
-    pub holds_more : Holds next (set all number (Some later)) wide s.now.words
-    unfolding it_has_more held_more
+    abbrev pub holds_more : Holds next (set all number (Some held)) wide s.now.words
     holds_more =
         let back = sym grows.frames in
-        Holds-later all number held later there same_pool w next (subst (λ (t : List ℕ → Option Transaction). WereOpen w.transactions t) (sym grows.transactions) (WereOpen-same w.transactions))
+        Holds-later all number held held there same_pool w next (subst (λ (t : List ℕ → Option Transaction). WereOpen w.transactions t) (sym grows.transactions) (WereOpen-same w.transactions))
         mask wide s.now.words s.now.words holds opens (subst (λ (m : ℕ). AreOpenPools m opens) back are_more) (subst (λ (m : ℕ). MasksAll m opens wide) back masks_more)
         (record { is = it_has_more; number_is = under.number_is; opened = then_one.here }) other_stays (λ m apart free. other_is m apart ∙ free)
 
-    pub sessions_more : (sessions : List (Option Session)) → HasSessions w all sessions → HasSessions next (set all number (Some later)) sessions
+    pub sessions_more : (sessions : List (Option Session)) → HasSessions w all sessions → HasSessions next (set all number (Some held)) sessions
     sessions_more sessions =
-        HasSessions-later all number held later there same_pool w next (subst (λ (t : List ℕ → Option Transaction). WereOpen w.transactions t) (sym grows.transactions) (WereOpen-same w.transactions)) sessions
+        HasSessions-later all number held held there same_pool w next (subst (λ (t : List ℕ → Option Transaction). WereOpen w.transactions t) (sym grows.transactions) (WereOpen-same w.transactions)) sessions
 
   -- What was so with the words masked is so with those of that puddle masked too.
   pub settled_more : (size : ℕ) (next : StoredWorld) → IsSettled size next (masked mask s.now.words) → IsSettled size next (masked wide s.now.words)

@@ -1,5 +1,5 @@
 -- What a line changes in a transaction that is held, and what stays of it while it goes on; why an object is not made in it, and what making one leaves.
-use Rattle.std.specs.Prelude.{◌≡◌, ℕ, Bool, ◌+◌, ◌<◌, ◌≤◌, false, nat_le, nat_lt, cond, List, length, Option, Some, None, is_none}
+use Rattle.std.specs.Prelude.{◌≡◌, ℕ, Bool, ◌+◌, ◌<◌, ◌≤◌, false, nat_le, nat_lt, cond, List, length, set, Option, Some, None, is_none}
 use Rattle.pud_defs.specs.declared.layout.TheConstants.{LOG_ENTRY_WORDS, MAX_FIELDS, SET_UNITS, NEW_UNITS, NUMBER_LIMIT, NEXT_NUMBER_WORD}
 use Rattle.pud_defs.specs.declared.machine.Command.{Command}
 use Rattle.pud_defs.specs.declared.machine.Command.TheVariants as commands
@@ -22,39 +22,63 @@ use Rattle.registry.specs.declared.adding.Added.{Added}
 use Rattle.registry.specs.Growth.{grow_refusal, IsGrowthFor}
 use Rattle.puddle_header.specs.Places.{place_of_slot, IsSlotOf}
 use Rattle.graph_read.specs.Reading.{place_in_pool}
-use Rattle.hybrid_tx.specs.Stores.{word_for, IsPlaceAndWord}
-use Rattle.hybrid_tx.specs.Transactions.{MayName, MaySet, MayFree}
+use Rattle.hybrid_tx.specs.Objects.Stores.{word_for, IsPlaceAndWord}
+use Rattle.hybrid_tx.specs.Objects.Transactions.{MayName, MaySet, MayFree}
 use Rattle.pool_transaction.specs.declared.changing.Change.{Change}
-use Rattle.pool_transaction.specs.declared.changing.Change.TheVariants.{Set, Later, Root, Free}
+use Rattle.pool_transaction.specs.declared.changing.Change.TheVariants as changes
+use Rattle.pool_transaction.specs.declared.changing.Update.{Update}
+use Rattle.pool_transaction.specs.declared.changing.Update.TheVariants.{Set, Later, Root, Free}
 use Rattle.pool_transaction.specs.declared.changing.Found.{Found}
 use Rattle.pool_transaction.specs.declared.changing.Found.TheVariants as founds
-use Rattle.ready_daemon.specs.Memory.{Held}
+use Rattle.ready_daemon.specs.Judged.{known_in}
+use Rattle.ready_daemon.specs.Memory.{Held, Memory, held_under}
+
+-- ---- where it is held
+
+-- The memory of a device of so many frames holds the transaction under its number, and knows its pool by these puddles.
+pub record IsHeldIn (F : ℕ) (held : Held) (at : List (ℕ × Puddle)) (memory : Memory) : Type 0 where
+  pub frames : memory.frames ≡ F
+  pub there : held_under memory.held held.number ≡ Some held
+  pub known : known_in memory.judged held.slot ≡ Some at
+
+-- the memory that holds this one under the number, and knows the pool in the slot by these puddles
+abbrev pub with_opened : (number slot : ℕ) → Held → List (ℕ × Puddle) → Memory → Memory
+with_opened number slot held at memory = record memory { held = set memory.held number (Some held); judged = set memory.judged slot (Some at) }
 
 -- ---- a line of three units
 
--- the line of a client, on the pool of a name, that asks for the change
-abbrev pub line_of : Change → (client : ℕ) → List ℕ → Command
-line_of (Set s f x) client name = commands.Set client name s f x
-line_of (Later s f x) client name = commands.Later client name s f x
-line_of (Root s) client name = commands.Root client name s
-line_of (Free s) client name = commands.Free client name s
+-- the line of a client, on the pool of a name, that asks for the update
+abbrev pub update_line : Update → (client : ℕ) → List ℕ → Command
+update_line (Set s f x) client name = commands.Set client name s f x
+update_line (Later s f x) client name = commands.Later client name s f x
+update_line (Root s) client name = commands.Root client name s
+update_line (Free s) client name = commands.Free client name s
 
 -- a field is one that an object may have, and the serial of what is freed is not 0
+abbrev pub IsLegalUpdate : Update → Type 0
+IsLegalUpdate (Set s f x) = f < MAX_FIELDS
+IsLegalUpdate (Later s f x) = f < MAX_FIELDS
+IsLegalUpdate (Root s) = Unit {0}
+IsLegalUpdate (Free s) = 1 ≤ s
+
+-- a line that makes an object, or updates one or the root
+abbrev pub line_of : Change → (client : ℕ) → List ℕ → Command
+line_of (changes.New t) client name = commands.New client name t
+line_of (changes.Update update) client name = update_line update client name
+
 abbrev pub IsLegalChange : Change → Type 0
-IsLegalChange (Set s f x) = f < MAX_FIELDS
-IsLegalChange (Later s f x) = f < MAX_FIELDS
-IsLegalChange (Root s) = Unit {0}
-IsLegalChange (Free s) = 1 ≤ s
+IsLegalChange (changes.New t) = Unit {0}
+IsLegalChange (changes.Update update) = IsLegalUpdate update
 
 -- the transaction with it
-abbrev pub changed_by : Change → Transaction → Transaction
+abbrev pub changed_by : Update → Transaction → Transaction
 changed_by (Set s f x) = charged SET_UNITS (with_field s f x)
 changed_by (Later s f x) = asked SET_UNITS (record { s = s; f = f; x = x })
 changed_by (Root s) = charged SET_UNITS (with_root s)
 changed_by (Free s) = charged SET_UNITS (without_object s)
 
 -- By the graph of the transaction, and by what is asked for later, the change may be made.
-abbrev pub MayChange : List (ℕ × ℕ) → Transaction → Change → Type 0
+abbrev pub MayChange : List (ℕ × ℕ) → Transaction → Update → Type 0
 MayChange types t (Set s f x) = MaySet types t.now s f x
 MayChange types t (Later s f x) = MaySet types t.now s f x
 MayChange types t (Root s) = MayName t.now s
@@ -63,30 +87,30 @@ MayChange types t (Free s) = MayFree t.now s × (laters_name s t.laters ≡ fals
 -- ---- what was found of it
 
 -- the change of a field, at once or at the commit
-abbrev pub field_change : (later : Bool) → (s f : ℕ) → Val → Change
+abbrev pub field_change : (later : Bool) → (s f : ℕ) → Val → Update
 field_change later s f x = cond later (Later s f x) (Set s f x)
 
 -- A field is to be set, or its value asked for: by this image of the pool the slot is that of its object, and the word stands for the value.
-pub record IsFieldFound (F : ℕ) (at : List (ℕ × Puddle)) (image : Image) (change : Change) (slot : Slot) (f word : ℕ) (later : Bool) : Type 0 where
+pub record IsFieldFound (F : ℕ) (at : List (ℕ × Puddle)) (image : Image) (change : Update) (slot : Slot) (f word : ℕ) (later : Bool) : Type 0 where
   pub s : ℕ
   pub x : Val
   pub is : change ≡ field_change later s f x
   pub found : IsPlaceAndWord F at image s x (slot, word)
 
 -- The root is to be set: the word stands for a pointer to it.
-pub record IsRootFound (F : ℕ) (at : List (ℕ × Puddle)) (image : Image) (change : Change) (word : ℕ) : Type 0 where
+pub record IsRootFound (F : ℕ) (at : List (ℕ × Puddle)) (image : Image) (change : Update) (word : ℕ) : Type 0 where
   pub s : ℕ
   pub is : change ≡ Root s
   pub found : word_for F at image (Ref s) ≡ Some word
 
 -- An object is to be freed: the slot is its.
-pub record IsObjectFound (F : ℕ) (at : List (ℕ × Puddle)) (image : Image) (change : Change) (slot : Slot) : Type 0 where
+pub record IsObjectFound (F : ℕ) (at : List (ℕ × Puddle)) (image : Image) (change : Update) (slot : Slot) : Type 0 where
   pub s : ℕ
   pub is : change ≡ Free s
   pub found : place_in_pool F at image s ≡ Some (place_of_slot slot)
 
 -- what was found is so of the change
-abbrev pub IsFoundBy : ℕ → List (ℕ × Puddle) → Image → Change → Found → Type 0
+abbrev pub IsFoundBy : ℕ → List (ℕ × Puddle) → Image → Update → Found → Type 0
 IsFoundBy F at image change (founds.Field slot f word later) = IsFieldFound F at image change slot f word later
 IsFoundBy F at image change (founds.Root word) = IsRootFound F at image change word
 IsFoundBy F at image change (founds.Object slot) = IsObjectFound F at image change slot
@@ -105,7 +129,7 @@ pub record StaysOpen (old new : Held) : Type 0 where
   pub name : new.name ≡ old.name
   pub slot : new.slot ≡ old.slot
   pub number : new.number ≡ old.number
-  pub gate : new.log.at ≡ old.log.at
+  pub gate : new.tx.log.at ≡ old.tx.log.at
 
 -- ---- an object is made
 
@@ -114,17 +138,17 @@ abbrev pub refusal_to_make : (map : Option ℕ) → (units next : ℕ) → Optio
 refusal_to_make map units next =
     cond (is_none map) (Some refusals.NoType) (cond (nat_lt LOG_ENTRY_WORDS (units + NEW_UNITS)) (Some refusals.TooBig) (cond (nat_le NUMBER_LIMIT next) (Some refusals.Full) None))
 
--- why its pool does not grow for it, by the words of an image of so many frames
-abbrev pub refusal_by_tables : ℕ → Held → Image → Option Refusal
-refusal_by_tables F held image = grow_refusal (tables_of F image) (image NEXT_NUMBER_WORD) (length held.at)
+-- why its pool, which has these puddles, does not grow for it, by the words of an image of so many frames
+abbrev pub refusal_by_tables : ℕ → List (ℕ × Puddle) → Image → Option Refusal
+refusal_by_tables F at image = grow_refusal (tables_of F image) (image NEXT_NUMBER_WORD) (length at)
 
--- the puddle is the one by which its pool grows, by them
-abbrev pub GrowsBy : ℕ → Held → Image → Added → Type 0
-GrowsBy F held image a = IsGrowthFor (tables_of F image) (image NEXT_NUMBER_WORD) held.slot (length held.at) a
+-- the puddle is the one by which the pool in the slot grows, by them
+abbrev pub GrowsBy : ℕ → (slot : ℕ) → List (ℕ × Puddle) → Image → Added → Type 0
+GrowsBy F slot at image a = IsGrowthFor (tables_of F image) (image NEXT_NUMBER_WORD) slot (length at) a
 
 -- by the world, of an object of this type
 abbrev pub refusal_by_world : World → Held → ℕ → Option Refusal
-refusal_by_world w held id = refusal_to_make (map_of id w.stored.types) held.units (next_in (graph_seen (open_on held.name w) (pool_named held.name w.stored)))
+refusal_by_world w held id = refusal_to_make (map_of id w.stored.types) held.tx.units (next_in (graph_seen (open_on held.name w) (pool_named held.name w.stored)))
 
 -- the world with a puddle more in the pool of the name
 abbrev pub with_more : List ℕ → World → World

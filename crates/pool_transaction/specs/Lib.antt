@@ -1,2 +1,3 @@
 pub mod Changing
 pub mod Refusing
+pub mod Lifetime

@@ -21,13 +21,12 @@ ghost use Rattle.graph_laws.specs.Slots.{IsLowestFreeSlot};
 ghost use Rattle.puddle_header.specs.Places.{place_of_slot, IsSlotOf};
 ghost use Rattle.word_transaction.specs.Running.{ByTransaction};
 ghost use Rattle.hybrid_tx.specs.Grounds.{pool_ground, IsPlaced, IsRewritten};
-ghost use Rattle.hybrid_tx.specs.Transactions.{IsOpenOn, RunsOn, MakesIn};
-ghost use Rattle.ready_daemon.specs.Beginning.{tx_held};
-ghost use Rattle.ready_daemon.specs.Memory.{Memory, held_under, with_held};
+ghost use Rattle.hybrid_tx.specs.Objects.Transactions.{IsOpenOn, RunsOn, MakesIn};
+ghost use Rattle.ready_daemon.specs.Memory.{Memory, with_held};
 ghost use Rattle.ready_daemon.specs.Held.{IsHeldWithin};
 ghost use Rattle.registry.specs.Adding.{IsAddedWithin};
 ghost use Rattle.registry.specs.Places.{refusal_in};
-ghost use Rattle.pool_transaction.specs.Changing.{line_of, changed_by, IsLegalChange, IsFoundWithin, IsFoundBy, MayChange, StaysOpen, refusal_to_make, refusal_by_tables, GrowsBy, refusal_by_world, with_more, with_made};
+ghost use Rattle.pool_transaction.specs.Changing.{IsHeldIn, with_opened, line_of, update_line, changed_by, IsLegalChange, IsLegalUpdate, IsFoundWithin, IsFoundBy, MayChange, StaysOpen, refusal_to_make, refusal_by_tables, GrowsBy, refusal_by_world, with_more, with_made};
 ghost use Rattle.ready_daemon.specs.Ready.{KeepsRest, IsReady, Applies};
 
 use crate::opened::Opened;
@@ -38,13 +37,22 @@ use pud_defs::machine::{Refusal, Reply};
 use pud_defs::objects::Val;
 use pud_defs::records::{Puddle, Slot};
 use puddle_header::next_serial;
-use puddle_table::find_puddles;
+use puddle_table::{Puddles, find_puddles};
 use registry::{Added, grow_pool};
 use type_maps::find;
 
-/// What a line changes within a transaction that is open, where it is answered with `ok` alone.
+/// What a line changes within a transaction that is open.
 #[derive(Clone, Copy)]
 pub enum Change {
+    /// An object of type `t` is made: its serial is answered.
+    New { t: u32 },
+    /// An object or the root is updated: the answer is `ok` alone.
+    Update(Update),
+}
+
+/// What a line updates.
+#[derive(Clone, Copy)]
+pub enum Update {
     /// Field `f` of the object of serial `s` gets the value.
     Set { s: u64, f: u32, x: Val },
     /// It gets it at the commit, behind all that is set and all that was asked for before.
@@ -55,7 +63,7 @@ pub enum Change {
     Free { s: u64 },
 }
 
-/// A change that may be made, with what was found of the objects that its line names.
+/// An update that may be made, with what was found of the objects that its line names.
 #[derive(Clone, Copy)]
 pub(crate) enum Found {
     /// Field `f` of the object in the slot gets the word of the value: at once, or at the commit.
@@ -107,7 +115,7 @@ fn refusal_to_make(map: Option<u64>, units: u32, next: u64) -> Option<Refusal>
     }
 }
 
-/// Makes the change that was found within the transaction on the pool of these puddles. Nothing is searched.
+/// Makes the update that was found within the transaction on the pool of these puddles. Nothing is searched.
 fn carry_out<H: Host>(
     tx: &mut Tx,
     h: &mut H,
@@ -123,10 +131,10 @@ fn carry_out<H: Host>(
     requires room { (tx.old).units + SET_UNITS ≤ LOG_ENTRY_WORDS }
     ensures at { (tx.new).log.at ≡ (tx.old).log.at }
     ensures changes { H.tells → Changes (ByTransaction (pool_ground frames pool.now) (tx.old).log.at) (fault_of result) (H.state h.old) (H.state h.new) }
-    ensures runs { H.tells → (types : List (ℕ × ℕ)) (before : Image) (undone : Graph) (t : Transaction) (change : Change) → IsPlaced frames pool.now → IsRewritten pool.now
-        → IsOpenOn frames pool.now types (tx.old).log before undone t.now t.laters (H.state h.old).now.words → MayChange types t change
-        → IsFoundBy frames pool.now (reads (H.state h.old).now.words) change found
-        → RunsOn frames pool.now types (tx.new).log before undone (changed_by change t).now (changed_by change t).laters (fault_of result) (H.state h.old) (H.state h.new) }
+    ensures runs { H.tells → (types : List (ℕ × ℕ)) (before : Image) (undone : Graph) (t : Transaction) (update : Update) → IsPlaced frames pool.now → IsRewritten pool.now
+        → IsOpenOn frames pool.now types (tx.old).log before undone t.now t.laters (H.state h.old).now.words → MayChange types t update
+        → IsFoundBy frames pool.now (reads (H.state h.old).now.words) update found
+        → RunsOn frames pool.now types (tx.new).log before undone (changed_by update t).now (changed_by update t).laters (fault_of result) (H.state h.old) (H.state h.new) }
     ensures counts { H.tells → (types : List (ℕ × ℕ)) (before : Image) (undone : Graph) (now : Graph) (laters : List Later)
         → IsOpenOn frames pool.now types (tx.old).log before undone now laters (H.state h.old).now.words → IfOk result (λ _. (tx.new).units ≡ (tx.old).units + SET_UNITS) }
     ensures cause { H.counts h.new ≡ after_fault (fault_of result) (H.counts h.old) }
@@ -145,63 +153,69 @@ fn carry_out<H: Host>(
 }
 
 impl Opened {
-    /// Makes the change that was found, where the line that asks for it is not refused.
+    /// Makes the update that was found, where the line that asks for it is not refused.
     ///
     /// The device has so many frames, and three units are left. Two fences.
-    fn change<H: Host>(&mut self, h: &mut H, frames: u32, found: Found) -> Result<(), HostFault>
+    fn update<H: Host>(
+        &mut self,
+        h: &mut H,
+        frames: u32,
+        pool: &[(u32, Puddle)],
+        found: Found,
+    ) -> Result<(), HostFault>
         requires few { frames ≤ MAX_FRAMES }
         requires room { device_words frames ≤ (H.counts h.old).size }
         requires within { IsHeldWithin frames self.old }
-        requires found { IsFoundWithin (self.old).at found }
-        requires units { (self.old).units + SET_UNITS ≤ LOG_ENTRY_WORDS }
-        ensures applies { H.tells → (change : Change) → (size : ℕ) → size ≡ (H.counts h.old).size → (w : World) → (memory : Memory) → memory.frames ≡ frames → held_under memory.held (self.old).number ≡ Option.Some self.old
-            → IsReady size w memory (H.state h.old) → IsRewritten (self.old).at → refusal_of w (line_of change (self.old).client (self.old).name) ≡ Option.None
-            → IsFoundBy frames (self.old).at (reads (H.state h.old).now.words) change found
-            → Applies size w (after w (line_of change (self.old).client (self.old).name)) (with_held (self.old).number (Option.Some self.new) memory) (fault_of result) (H.state h.old) (H.state h.new) }
+        requires known { IsOnDevice frames pool.now }
+        requires found { IsFoundWithin pool.now found }
+        requires units { (self.old).tx.units + SET_UNITS ≤ LOG_ENTRY_WORDS }
+        ensures applies { H.tells → (update : Update) → (size : ℕ) → size ≡ (H.counts h.old).size → (w : World) → (memory : Memory) → IsHeldIn frames self.old pool.now memory
+            → IsReady size w memory (H.state h.old) → IsRewritten pool.now → refusal_of w (update_line update (self.old).client (self.old).name) ≡ Option.None
+            → IsFoundBy frames pool.now (reads (H.state h.old).now.words) update found
+            → Applies size w (after w (update_line update (self.old).client (self.old).name)) (with_held (self.old).number (Option.Some self.new) memory) (fault_of result) (H.state h.old) (H.state h.new) }
         ensures within { IsHeldWithin frames self.new }
         ensures stays { StaysOpen self.old self.new }
-        ensures puddles { self.new.at ≡ self.old.at }
         ensures rest { H.tells → KeepsRest (H.state h.old) (H.state h.new) }
         ensures rests { H.tells → fault_of result ≡ Option.Some HostFault.Cut → IsRested (H.state h.new).now.words }
         ensures cause { H.counts h.new ≡ after_fault (fault_of result) (H.counts h.old) }
     {
-        let done = carry_out(&mut self.tx, h, frames, self.puddles.as_slice(), found);
+        let done = carry_out(&mut self.tx, h, frames, pool, found);
         // With a use of `tx` the proof has its invariant behind the call: what was charged is at most what a log has.
         let _units = self.tx.units();
         done
     }
 
-    /// Makes the change, or refuses to, as its line of the transaction's client does.
+    /// Makes the update, or refuses to, as its line of the transaction's client does.
     ///
     /// The device has so many frames. Two fences; a refused one changes nothing.
-    pub fn change_or_refuse<H: Host>(
+    fn update_or_refuse<H: Host>(
         &mut self,
         h: &mut H,
         frames: u32,
-        change: Change,
+        pool: &[(u32, Puddle)],
+        update: Update,
     ) -> Result<Reply, HostFault>
         requires few { frames ≤ MAX_FRAMES }
         requires room { device_words frames ≤ (H.counts h.old).size }
         requires within { IsHeldWithin frames self.old }
-        requires legal { IsLegalChange change }
-        ensures reply { H.tells → (size : ℕ) → (w : World) → (memory : Memory) → memory.frames ≡ frames → held_under memory.held (self.old).number ≡ Option.Some self.old → IsReady size w memory (H.state h.old)
-            → IfOk result (λ reply. of_reply reply ≡ answer_by w (Option.Some (line_of change (self.old).client (self.old).name))) }
-        ensures applies { H.tells → (size : ℕ) → size ≡ (H.counts h.old).size → (w : World) → (memory : Memory) → memory.frames ≡ frames → held_under memory.held (self.old).number ≡ Option.Some self.old
-            → IsReady size w memory (H.state h.old)
-            → Applies size w (world_by w (Option.Some (line_of change (self.old).client (self.old).name))) (with_held (self.old).number (Option.Some self.new) memory) (fault_of result)
+        requires known { IsOnDevice frames pool.now }
+        requires legal { IsLegalUpdate update }
+        ensures reply { H.tells → (size : ℕ) → (w : World) → (memory : Memory) → IsHeldIn frames self.old pool.now memory → IsReady size w memory (H.state h.old)
+            → IfOk result (λ reply. of_reply reply ≡ answer_by w (Option.Some (update_line update (self.old).client (self.old).name))) }
+        ensures applies { H.tells → (size : ℕ) → size ≡ (H.counts h.old).size → (w : World) → (memory : Memory) → IsHeldIn frames self.old pool.now memory → IsReady size w memory (H.state h.old)
+            → Applies size w (world_by w (Option.Some (update_line update (self.old).client (self.old).name))) (with_held (self.old).number (Option.Some self.new) memory) (fault_of result)
             (H.state h.old) (H.state h.new) }
         ensures within { IsHeldWithin frames self.new }
         ensures stays { StaysOpen self.old self.new }
-        ensures puddles { self.new.at ≡ self.old.at }
         ensures rest { H.tells → KeepsRest (H.state h.old) (H.state h.new) }
         ensures rests { H.tells → fault_of result ≡ Option.Some HostFault.Cut → IsRested (H.state h.new).now.words }
         ensures cause { H.counts h.new ≡ after_fault (fault_of result) (H.counts h.old) }
     {
-        let found = match self.find_change(h, frames, change)? {
+        let found = match self.find_update(h, frames, pool, update)? {
             Ok(found) => found,
             Err(refusal) => return Ok(Reply::No(refusal)),
         };
-        self.change(h, frames, found)?;
+        self.update(h, frames, pool, found)?;
         Ok(Reply::Ok)
     }
 
@@ -210,18 +224,20 @@ impl Opened {
         &self,
         h: &mut H,
         frames: u32,
+        pool: &[(u32, Puddle)],
         t: u32,
     ) -> Result<Option<Refusal>, HostFault>
         requires few { frames ≤ MAX_FRAMES }
         requires room { device_words frames ≤ (H.counts h.old).size }
         requires within { IsHeldWithin frames self.now }
+        requires known { IsOnDevice frames pool.now }
         ensures refusal { H.tells → (image : Image) → reads (H.state h.old).now.words ≡ image
-            → IfOk result (λ refusal. refusal ≡ refusal_to_make (map_of t (types_of image)) (self.now).units (next_serial_of (stored_in frames (self.now).at image))) }
-        ensures fits { IfOk result (λ refusal. IfNone refusal ((self.now).units + NEW_UNITS ≤ LOG_ENTRY_WORDS)) }
+            → IfOk result (λ refusal. refusal ≡ refusal_to_make (map_of t (types_of image)) (self.now).tx.units (next_serial_of (stored_in frames pool.now image))) }
+        ensures fits { IfOk result (λ refusal. IfNone refusal ((self.now).tx.units + NEW_UNITS ≤ LOG_ENTRY_WORDS)) }
         ensures only_reads { OnlyReads H.tells H.state H.counts (fault_of result) h.old h.new }
     {
         let map = find(h, u64::from(t))?;
-        let next = serial_to_give(h, frames, self.puddles.as_slice())?;
+        let next = serial_to_give(h, frames, pool)?;
         Ok(refusal_to_make(map, self.tx.units(), next))
     }
 
@@ -231,103 +247,117 @@ impl Opened {
         &self,
         h: &mut H,
         frames: u32,
+        pool: &[(u32, Puddle)],
     ) -> Result<Result<Added, Refusal>, HostFault>
         requires few { frames ≤ MAX_FRAMES }
         requires room { device_words frames ≤ (H.counts h.old).size }
         requires held { IsHeldWithin frames self.now }
-        ensures refusal { H.tells → (image : Image) → reads (H.state h.old).now.words ≡ image → (self.now).units + NEW_UNITS ≤ LOG_ENTRY_WORDS
-            → IfOk result (λ found. refusal_in found ≡ refusal_by_tables frames self.now image) }
-        ensures growth { H.tells → (image : Image) → reads (H.state h.old).now.words ≡ image → IfOk result (λ found. IfOk found (GrowsBy frames self.now image)) }
-        ensures fits { IfOk result (λ found. IfOk found (λ _. (self.now).units + NEW_UNITS ≤ LOG_ENTRY_WORDS)) }
+        requires known { IsOnDevice frames pool.now }
+        ensures refusal { H.tells → (image : Image) → reads (H.state h.old).now.words ≡ image → (self.now).tx.units + NEW_UNITS ≤ LOG_ENTRY_WORDS
+            → IfOk result (λ found. refusal_in found ≡ refusal_by_tables frames pool.now image) }
+        ensures growth { H.tells → (image : Image) → reads (H.state h.old).now.words ≡ image → IfOk result (λ found. IfOk found (GrowsBy frames (self.now).slot pool.now image)) }
+        ensures fits { IfOk result (λ found. IfOk found (λ _. (self.now).tx.units + NEW_UNITS ≤ LOG_ENTRY_WORDS)) }
         ensures within { IfOk result (λ found. IfOk found (IsAddedWithin frames)) }
         ensures only_reads { OnlyReads H.tells H.state H.counts (fault_of result) h.old h.new }
     {
         if self.tx.units() + NEW_UNITS > LOG_ENTRY_WORDS {
             return Ok(Err(Refusal::TooBig));
         }
-        let puddles = self.puddles.as_slice().len() as u32;
-        registry::find_growth(h, frames, self.slot, puddles)
+        registry::find_growth(h, frames, self.slot, pool.len() as u32)
     }
 
     /// Makes an object of type `t` in the lowest free slot, where it is not refused whatever slots there are. The answer is its serial, or 0 where
     /// each slot is live, and then nothing is done.
     ///
     /// The device has so many frames, and 37 units are left. Four fences.
-    fn make<H: Host>(&mut self, h: &mut H, frames: u32, t: u32) -> Result<u64, HostFault>
+    fn make<H: Host>(
+        &mut self,
+        h: &mut H,
+        frames: u32,
+        pool: &[(u32, Puddle)],
+        t: u32,
+    ) -> Result<u64, HostFault>
         requires few { frames ≤ MAX_FRAMES }
         requires room { device_words frames ≤ (H.counts h.old).size }
         requires within { IsHeldWithin frames self.old }
-        requires units { (self.old).units + NEW_UNITS ≤ LOG_ENTRY_WORDS }
-        ensures makes { H.tells → (size : ℕ) → (w : World) → (memory : Memory) → memory.frames ≡ frames → held_under memory.held (self.old).number ≡ Option.Some self.old
-            → IsReady size w memory (H.state h.old) → refusal_by_world w self.old t ≡ Option.None → grows w (self.old).name ≡ false
+        requires known { IsOnDevice frames pool.now }
+        requires units { (self.old).tx.units + NEW_UNITS ≤ LOG_ENTRY_WORDS }
+        ensures makes { H.tells → (size : ℕ) → (w : World) → (memory : Memory) → IsHeldIn frames self.old pool.now memory → IsReady size w memory (H.state h.old) → refusal_by_world w self.old t ≡ Option.None → grows w (self.old).name ≡ false
             → Applies size w (with_made (self.old).name t w) (with_held (self.old).number (Option.Some self.new) memory) (fault_of result) (H.state h.old) (H.state h.new) }
-        ensures serial { H.tells → (size : ℕ) → (w : World) → (memory : Memory) → memory.frames ≡ frames → held_under memory.held (self.old).number ≡ Option.Some self.old
-            → IsReady size w memory (H.state h.old) → grows w (self.old).name ≡ false
+        ensures serial { H.tells → (size : ℕ) → (w : World) → (memory : Memory) → IsHeldIn frames self.old pool.now memory → IsReady size w memory (H.state h.old) → grows w (self.old).name ≡ false
             → IfOk result (λ serial. serial ≡ next_in (graph_seen (open_on (self.old).name w) (pool_named (self.old).name w.stored))) }
-        ensures full { H.tells → (size : ℕ) → (w : World) → (memory : Memory) → memory.frames ≡ frames → held_under memory.held (self.old).number ≡ Option.Some self.old
-            → IsReady size w memory (H.state h.old) → grows w (self.old).name ≡ true
+        ensures full { H.tells → (size : ℕ) → (w : World) → (memory : Memory) → IsHeldIn frames self.old pool.now memory → IsReady size w memory (H.state h.old) → grows w (self.old).name ≡ true
             → IfOk result (λ serial. serial ≡ 0) × (H.state h.new ≡ H.state h.old) × (self.new ≡ self.old) }
-        ensures lowest { H.tells → (size : ℕ) → (w : World) → (memory : Memory) → memory.frames ≡ frames → held_under memory.held (self.old).number ≡ Option.Some self.old
-            → IsReady size w memory (H.state h.old) → refusal_by_world w self.old t ≡ Option.None
-            → (slot : Slot) → IsSlotOf (self.old).at slot → IsLowestFreeSlot (stored_in frames (self.old).at (reads (H.state h.old).now.words)) (place_of_slot slot)
-            → MakesIn frames (self.old).at (self.old).log.at slot t (fault_of result) (H.state h.old) (H.state h.new) }
+        ensures lowest { H.tells → (size : ℕ) → (w : World) → (memory : Memory) → IsHeldIn frames self.old pool.now memory → IsReady size w memory (H.state h.old) → refusal_by_world w self.old t ≡ Option.None
+            → (slot : Slot) → IsSlotOf pool.now slot → IsLowestFreeSlot (stored_in frames pool.now (reads (H.state h.old).now.words)) (place_of_slot slot)
+            → MakesIn frames pool.now (self.old).tx.log.at slot t (fault_of result) (H.state h.old) (H.state h.new) }
         ensures within { IsHeldWithin frames self.new }
         ensures stays { StaysOpen self.old self.new }
         ensures rest { H.tells → KeepsRest (H.state h.old) (H.state h.new) }
         ensures rests { H.tells → fault_of result ≡ Option.Some HostFault.Cut → IsRested (H.state h.new).now.words }
         ensures cause { H.counts h.new ≡ after_fault (fault_of result) (H.counts h.old) }
     {
-        let made = self.tx.new(h, frames, self.puddles.as_slice(), t);
-        // As in `change`.
+        let made = self.tx.new(h, frames, pool, t);
+        // As in `update`.
         let _units = self.tx.units();
         made
     }
 
-    /// Adds the puddle to the pool, and takes it to those of the transaction.
-    fn grow<H: Host>(&mut self, h: &mut H, frames: u32, added: Added) -> Result<(), HostFault>
+    /// Adds the puddle to the pool, and to those that are known of it. The transaction goes on with it.
+    fn grow<H: Host>(
+        &self,
+        h: &mut H,
+        frames: u32,
+        pool: &mut Puddles,
+        added: Added,
+    ) -> Result<(), HostFault>
         requires few { frames ≤ MAX_FRAMES }
         requires room { device_words frames ≤ (H.counts h.old).size }
-        requires within { IsHeldWithin frames self.old }
+        requires within { IsHeldWithin frames self.now }
+        requires known { IsOnDevice frames pool.old }
         requires puddle { IsAddedWithin frames added }
-        ensures grows { H.tells → (size : ℕ) → size ≡ (H.counts h.old).size → (w : World) → (memory : Memory) → memory.frames ≡ frames → held_under memory.held (self.old).number ≡ Option.Some self.old
-            → IsReady size w memory (H.state h.old) → GrowsBy frames self.old (reads (H.state h.old).now.words) added
-            → Applies size w (with_more (self.old).name w) (with_held (self.old).number (Option.Some self.new) memory) (fault_of result) (H.state h.old) (H.state h.new) }
-        ensures within { IsHeldWithin frames self.new }
-        ensures stays { StaysOpen self.old self.new }
-        ensures tx { tx_held self.new ≡ tx_held self.old }
+        ensures grows { H.tells → (size : ℕ) → size ≡ (H.counts h.old).size → (w : World) → (memory : Memory) → IsHeldIn frames self.now pool.old memory → IsReady size w memory (H.state h.old) → GrowsBy frames (self.now).slot pool.old (reads (H.state h.old).now.words) added
+            → Applies size w (with_more (self.now).name w) (with_opened (self.now).number (self.now).slot self.now pool.new memory) (fault_of result) (H.state h.old) (H.state h.new) }
+        ensures known { IsOnDevice frames pool.new }
         ensures rest { H.tells → KeepsRest (H.state h.old) (H.state h.new) }
         ensures rests { H.tells → fault_of result ≡ Option.Some HostFault.Cut → IsRested (H.state h.new).now.words }
         ensures cause { H.counts h.new ≡ after_fault (fault_of result) (H.counts h.old) }
     {
         grow_pool(h, frames, added)?;
-        self.puddles = find_puddles(h, frames, self.slot)?;
+        *pool = find_puddles(h, frames, self.slot)?;
         Ok(())
     }
 
     /// Makes an object of type `t` where each slot is live, in one puddle more, or refuses to. A refused one changes nothing.
-    fn make_in_more<H: Host>(&mut self, h: &mut H, frames: u32, t: u32) -> Result<Reply, HostFault>
+    fn make_in_more<H: Host>(
+        &mut self,
+        h: &mut H,
+        frames: u32,
+        pool: &mut Puddles,
+        t: u32,
+    ) -> Result<Reply, HostFault>
         requires few { frames ≤ MAX_FRAMES }
         requires room { device_words frames ≤ (H.counts h.old).size }
         requires within { IsHeldWithin frames self.old }
-        ensures reply { H.tells → (size : ℕ) → size ≡ (H.counts h.old).size → (w : World) → (memory : Memory) → memory.frames ≡ frames → held_under memory.held (self.old).number ≡ Option.Some self.old
-            → IsReady size w memory (H.state h.old) → refusal_by_world w self.old t ≡ Option.None → grows w (self.old).name ≡ true
+        requires known { IsOnDevice frames pool.old }
+        ensures reply { H.tells → (size : ℕ) → size ≡ (H.counts h.old).size → (w : World) → (memory : Memory) → IsHeldIn frames self.old pool.old memory → IsReady size w memory (H.state h.old) → refusal_by_world w self.old t ≡ Option.None → grows w (self.old).name ≡ true
             → IfOk result (λ reply. of_reply reply ≡ answer_by w (Option.Some (commands.New (self.old).client (self.old).name t))) }
-        ensures applies { H.tells → (size : ℕ) → size ≡ (H.counts h.old).size → (w : World) → (memory : Memory) → memory.frames ≡ frames → held_under memory.held (self.old).number ≡ Option.Some self.old
-            → IsReady size w memory (H.state h.old) → refusal_by_world w self.old t ≡ Option.None → grows w (self.old).name ≡ true
-            → Applies size w (world_by w (Option.Some (commands.New (self.old).client (self.old).name t))) (with_held (self.old).number (Option.Some self.new) memory) (fault_of result)
+        ensures applies { H.tells → (size : ℕ) → size ≡ (H.counts h.old).size → (w : World) → (memory : Memory) → IsHeldIn frames self.old pool.old memory → IsReady size w memory (H.state h.old) → refusal_by_world w self.old t ≡ Option.None → grows w (self.old).name ≡ true
+            → Applies size w (world_by w (Option.Some (commands.New (self.old).client (self.old).name t))) (with_opened (self.old).number (self.old).slot self.new pool.new memory) (fault_of result)
             (H.state h.old) (H.state h.new) }
         ensures within { IsHeldWithin frames self.new }
+        ensures known { IsOnDevice frames pool.new }
         ensures stays { StaysOpen self.old self.new }
         ensures rest { H.tells → KeepsRest (H.state h.old) (H.state h.new) }
         ensures rests { H.tells → fault_of result ≡ Option.Some HostFault.Cut → IsRested (H.state h.new).now.words }
         ensures cause { H.counts h.new ≡ after_fault (fault_of result) (H.counts h.old) }
     {
-        let added = match self.find_growth(h, frames)? {
+        let added = match self.find_growth(h, frames, pool.as_slice())? {
             Ok(added) => added,
             Err(refusal) => return Ok(Reply::No(refusal)),
         };
-        self.grow(h, frames, added)?;
-        let serial = self.make(h, frames, t)?;
+        self.grow(h, frames, pool, added)?;
+        let serial = self.make(h, frames, pool.as_slice(), t)?;
         Ok(Reply::Ref(serial))
     }
 
@@ -335,34 +365,70 @@ impl Opened {
     ///
     /// The device has so many frames. Where each slot is live the pool grows by a puddle first. Four fences, and those of a batch and of a fresh
     /// frame where it grows.
-    pub fn new_object<H: Host>(
+    fn new_object<H: Host>(
         &mut self,
         h: &mut H,
         frames: u32,
+        pool: &mut Puddles,
         t: u32,
     ) -> Result<Reply, HostFault>
         requires few { frames ≤ MAX_FRAMES }
         requires room { device_words frames ≤ (H.counts h.old).size }
         requires within { IsHeldWithin frames self.old }
-        ensures reply { H.tells → (size : ℕ) → size ≡ (H.counts h.old).size → (w : World) → (memory : Memory) → memory.frames ≡ frames → held_under memory.held (self.old).number ≡ Option.Some self.old
-            → IsReady size w memory (H.state h.old) → IfOk result (λ reply. of_reply reply ≡ answer_by w (Option.Some (commands.New (self.old).client (self.old).name t))) }
-        ensures applies { H.tells → (size : ℕ) → size ≡ (H.counts h.old).size → (w : World) → (memory : Memory) → memory.frames ≡ frames → held_under memory.held (self.old).number ≡ Option.Some self.old
-            → IsReady size w memory (H.state h.old)
-            → Applies size w (world_by w (Option.Some (commands.New (self.old).client (self.old).name t))) (with_held (self.old).number (Option.Some self.new) memory) (fault_of result)
+        requires known { IsOnDevice frames pool.old }
+        ensures reply { H.tells → (size : ℕ) → size ≡ (H.counts h.old).size → (w : World) → (memory : Memory) → IsHeldIn frames self.old pool.old memory → IsReady size w memory (H.state h.old) → IfOk result (λ reply. of_reply reply ≡ answer_by w (Option.Some (commands.New (self.old).client (self.old).name t))) }
+        ensures applies { H.tells → (size : ℕ) → size ≡ (H.counts h.old).size → (w : World) → (memory : Memory) → IsHeldIn frames self.old pool.old memory → IsReady size w memory (H.state h.old)
+            → Applies size w (world_by w (Option.Some (commands.New (self.old).client (self.old).name t))) (with_opened (self.old).number (self.old).slot self.new pool.new memory) (fault_of result)
             (H.state h.old) (H.state h.new) }
         ensures within { IsHeldWithin frames self.new }
+        ensures known { IsOnDevice frames pool.new }
         ensures stays { StaysOpen self.old self.new }
         ensures rest { H.tells → KeepsRest (H.state h.old) (H.state h.new) }
         ensures rests { H.tells → fault_of result ≡ Option.Some HostFault.Cut → IsRested (H.state h.new).now.words }
         ensures cause { H.counts h.new ≡ after_fault (fault_of result) (H.counts h.old) }
     {
-        if let Some(refusal) = self.find_refusal_to_make(h, frames, t)? {
+        if let Some(refusal) = self.find_refusal_to_make(h, frames, pool.as_slice(), t)? {
             return Ok(Reply::No(refusal));
         }
-        let serial = self.make(h, frames, t)?;
+        let serial = self.make(h, frames, pool.as_slice(), t)?;
         if serial > 0 {
             return Ok(Reply::Ref(serial));
         }
-        self.make_in_more(h, frames, t)
+        self.make_in_more(h, frames, pool, t)
+    }
+
+    /// Makes the change in the transaction, on the pool of which these puddles are known, or refuses to, as its line of the transaction's client does.
+    /// A refused one changes nothing.
+    ///
+    /// The device has so many frames. An update takes two fences. An object takes four, and where each slot is live the pool grows by a puddle first,
+    /// which takes those of a batch and of a fresh frame; the puddle is then known.
+    pub fn change<H: Host>(
+        &mut self,
+        h: &mut H,
+        frames: u32,
+        pool: &mut Puddles,
+        change: Change,
+    ) -> Result<Reply, HostFault>
+        requires few { frames ≤ MAX_FRAMES }
+        requires room { device_words frames ≤ (H.counts h.old).size }
+        requires within { IsHeldWithin frames self.old }
+        requires known { IsOnDevice frames pool.old }
+        requires legal { IsLegalChange change }
+        ensures reply { H.tells → (size : ℕ) → size ≡ (H.counts h.old).size → (w : World) → (memory : Memory) → IsHeldIn frames self.old pool.old memory → IsReady size w memory (H.state h.old)
+            → IfOk result (λ reply. of_reply reply ≡ answer_by w (Option.Some (line_of change (self.old).client (self.old).name))) }
+        ensures applies { H.tells → (size : ℕ) → size ≡ (H.counts h.old).size → (w : World) → (memory : Memory) → IsHeldIn frames self.old pool.old memory → IsReady size w memory (H.state h.old)
+            → Applies size w (world_by w (Option.Some (line_of change (self.old).client (self.old).name))) (with_opened (self.old).number (self.old).slot self.new pool.new memory) (fault_of result)
+            (H.state h.old) (H.state h.new) }
+        ensures within { IsHeldWithin frames self.new }
+        ensures known { IsOnDevice frames pool.new }
+        ensures stays { StaysOpen self.old self.new }
+        ensures rest { H.tells → KeepsRest (H.state h.old) (H.state h.new) }
+        ensures rests { H.tells → fault_of result ≡ Option.Some HostFault.Cut → IsRested (H.state h.new).now.words }
+        ensures cause { H.counts h.new ≡ after_fault (fault_of result) (H.counts h.old) }
+    {
+        match change {
+            Change::New { t } => self.new_object(h, frames, pool, t),
+            Change::Update(update) => self.update_or_refuse(h, frames, pool.as_slice(), update),
+        }
     }
 }

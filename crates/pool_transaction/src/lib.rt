@@ -1,9 +1,10 @@
-//! A transaction that is open on a pool, as the daemon holds it: why a line in it is refused, and what the line changes.
+//! A transaction that is open on a pool, as the daemon holds it: how it begins and ends, why a line in it is refused, and what the line changes.
 #![tactic(auto)]
 
 mod changing;
+mod lifetime;
 mod opened;
 mod refusals;
 
-pub use changing::Change;
-pub use opened::{AllOpened, Opened, lose, lose_all, none_opened, number_on, puddles_on};
+pub use changing::{Change, Update};
+pub use opened::{AllOpened, Opened, lose, lose_all, none_opened};

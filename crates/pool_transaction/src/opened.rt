@@ -1,16 +1,11 @@
 //! Transactions that are open, as the daemon holds them.
 
-ghost use Rattle.std.specs.Prelude.{◌≡◌, ◌<◌, ℕ, true, false, Option, IfSome, replicate};
+ghost use Rattle.std.specs.Prelude.{◌≡◌, Option, replicate};
 ghost use Rattle.pud_defs.specs.Settled.{ALL_LOGS};
-ghost use Rattle.pud_defs.specs.Stored.{IsOnDevice};
-ghost use Rattle.ready_daemon.specs.Memory.{held_under};
-ghost use Rattle.ready_daemon.specs.Held.{AreHeldWithin};
-ghost use Rattle.ready_daemon.specs.Holding.{is_held_on, FindsPuddles};
 
 use hybrid_tx::Tx;
 use pud_defs::layout::LOGS;
-use pud_defs::records::{Name, Puddle};
-use puddle_table::Puddles;
+use pud_defs::records::Name;
 use std::array;
 use std::marker::Model;
 
@@ -22,8 +17,6 @@ pub struct Opened {
     pub name: Name,
     /// The slot of the pool's record.
     pub slot: u32,
-    /// The pool's puddles by their ordinals, each with its frame.
-    pub puddles: Puddles,
     /// The number of its log among those of all clients, 0 to 31.
     pub number: u32,
     /// What it changes.
@@ -35,7 +28,7 @@ impl Model for Opened {
 
     ghost Value = { Held };
 
-    ghost view = { λ o. record { client = o.client; name = o.name; slot = o.slot; at = o.puddles; number = o.number; log = o.tx.log; units = o.tx.units } };
+    ghost view = { λ o. record { client = o.client; name = o.name; slot = o.slot; number = o.number; tx = o.tx } };
 }
 
 /// The transactions that are open, by the numbers of their logs.
@@ -48,44 +41,6 @@ pub fn none_opened() -> AllOpened
     array::from_fn(|_| None)
 }
 
-/// Whether it is a transaction on the pool in this slot.
-fn is_on(opened: &Option<Opened>, slot: u32) -> bool
-    ensures { result ≡ is_held_on slot opened.now }
-{
-    match opened {
-        Some(opened) => opened.slot == slot,
-        None => false,
-    }
-}
-
-/// The number of the log of the transaction that is open on the pool in this slot, 0 to 31, where one is.
-pub fn number_on(opened: &AllOpened, slot: u32) -> Option<u32>
-    ensures known { IfSome result (λ number. number < ALL_LOGS) }
-    ensures there { IfSome result (λ number. is_held_on slot (held_under opened.now number) ≡ true) }
-    ensures none { result ≡ Option.None → (number : ℕ) → is_held_on slot (held_under opened.now number) ≡ false }
-{
-    for number in 0..LOGS as u32 {
-        if is_on(&opened[number as usize], slot) {
-            return Some(number);
-        }
-    }
-    None
-}
-
-/// The puddles of the pool in this slot, each with its frame, where a transaction is open on it, and else none.
-pub fn puddles_on(opened: &AllOpened, slot: u32) -> &[(u32, Puddle)]
-    ensures found { FindsPuddles opened.now slot result.now }
-    ensures within { (F : ℕ) → AreHeldWithin F opened.now → IsOnDevice F result.now }
-{
-    let Some(number) = number_on(opened, slot) else {
-        return &[];
-    };
-    match &opened[number as usize] {
-        Some(opened) => opened.puddles.as_slice(),
-        None => &[],
-    }
-}
-
 /// Gives up what is open, where something is: power was lost, or the daemon ends. No device is touched.
 pub fn lose(opened: Option<Opened>) {
     match opened {
@@ -94,7 +49,6 @@ pub fn lose(opened: Option<Opened>) {
                 client: _client,
                 name: _name,
                 slot: _slot,
-                puddles: _puddles,
                 number: _number,
                 tx,
             } = opened;

@@ -7,17 +7,18 @@ ghost use Rattle.pud_defs.specs.declared.layout.TheConstants.{LOG_ENTRY_WORDS, M
 ghost use Rattle.pud_defs.specs.declared.machine.Command.TheVariants as commands;
 ghost use Rattle.pud_defs.specs.Image.{Image};
 ghost use Rattle.pud_defs.specs.Layout.{device_words};
+ghost use Rattle.pud_defs.specs.Stored.{IsOnDevice};
 ghost use Rattle.pud_defs.specs.World.{World};
 ghost use Rattle.pud_defs.specs.Step.{are_of_two_kinds, refusal_of};
-ghost use Rattle.ready_daemon.specs.Memory.{Held, Memory, held_under};
+ghost use Rattle.ready_daemon.specs.Memory.{Memory};
 ghost use Rattle.ready_daemon.specs.Held.{IsHeldWithin};
 ghost use Rattle.hybrid_tx.specs.Grounds.{IsPlaced};
 ghost use Rattle.registry.specs.Places.{refusal_in};
-ghost use Rattle.pool_transaction.specs.Changing.{line_of, field_change, IsLegalChange, IsFoundWithin, IsFoundBy};
+ghost use Rattle.pool_transaction.specs.Changing.{IsHeldIn, update_line, field_change, IsLegalUpdate, IsFoundWithin, IsFoundBy};
 ghost use Rattle.pool_transaction.specs.Refusing.{room_refusal, field_refusal, refusal_to_free};
 ghost use Rattle.ready_daemon.specs.Ready.{IsReady};
 
-use crate::changing::{Change, Found};
+use crate::changing::{Found, Update};
 use crate::opened::Opened;
 use graph_read::{FieldRead, field_at, find_serial, is_held};
 use hybrid_tx::{place_and_word, word_for};
@@ -25,6 +26,7 @@ use pm_model::{Host, HostFault};
 use pud_defs::layout::{LOG_ENTRY_WORDS, SET_UNITS};
 use pud_defs::machine::Refusal;
 use pud_defs::objects::Val;
+use pud_defs::records::Puddle;
 
 /// Whether one is a number and the other a reference.
 fn are_of_two_kinds(was: Val, x: Val) -> bool
@@ -36,7 +38,7 @@ fn are_of_two_kinds(was: Val, x: Val) -> bool
     }
 }
 
-/// Why a change of three units is not made that may be made else, by how many are used.
+/// Why an update is not made that may be made else, by how many are used.
 fn room_refusal(units: u32) -> Option<Refusal>
     requires { units ≤ LOG_ENTRY_WORDS }
     ensures refusal { result ≡ room_refusal units }
@@ -89,6 +91,7 @@ impl Opened {
         &self,
         h: &mut H,
         frames: u32,
+        pool: &[(u32, Puddle)],
         s: u64,
         f: u32,
         x: Val,
@@ -97,16 +100,16 @@ impl Opened {
         requires few { frames ≤ MAX_FRAMES }
         requires device { device_words frames ≤ (H.counts h.old).size }
         requires within { IsHeldWithin frames self.now }
+        requires known { IsOnDevice frames pool.now }
         requires field { f < MAX_FIELDS }
-        ensures refusal { H.tells → (size : ℕ) → (w : World) → (memory : Memory) → memory.frames ≡ frames → held_under memory.held (self.now).number ≡ Option.Some self.now → IsReady size w memory (H.state h.old)
+        ensures refusal { H.tells → (size : ℕ) → (w : World) → (memory : Memory) → IsHeldIn frames self.now pool.now memory → IsReady size w memory (H.state h.old)
             → IfOk result (λ found. refusal_in found ≡ refusal_of w (commands.Set (self.now).client (self.now).name s f x)) }
-        ensures found { H.tells → (image : Image) → reads (H.state h.old).now.words ≡ image → IsPlaced frames (self.now).at
-            → IfOk result (λ found. IfOk found (IsFoundBy frames (self.now).at image (field_change later s f x))) }
-        ensures within { IfOk result (λ found. IfOk found (IsFoundWithin (self.now).at)) }
-        ensures room { IfOk result (λ found. IfOk found (λ _. (self.now).units + SET_UNITS ≤ LOG_ENTRY_WORDS)) }
+        ensures found { H.tells → (image : Image) → reads (H.state h.old).now.words ≡ image → IsPlaced frames pool.now
+            → IfOk result (λ found. IfOk found (IsFoundBy frames pool.now image (field_change later s f x))) }
+        ensures within { IfOk result (λ found. IfOk found (IsFoundWithin pool.now)) }
+        ensures room { IfOk result (λ found. IfOk found (λ _. (self.now).tx.units + SET_UNITS ≤ LOG_ENTRY_WORDS)) }
         ensures only_reads { OnlyReads H.tells H.state H.counts (fault_of result) h.old h.new }
     {
-        let pool = self.puddles.as_slice();
         let Some((at, word)) = place_and_word(h, frames, pool, s, x)? else {
             return Ok(Err(Refusal::Object));
         };
@@ -125,20 +128,21 @@ impl Opened {
         &self,
         h: &mut H,
         frames: u32,
+        pool: &[(u32, Puddle)],
         s: u64,
     ) -> Result<Result<Found, Refusal>, HostFault>
         requires few { frames ≤ MAX_FRAMES }
         requires device { device_words frames ≤ (H.counts h.old).size }
         requires within { IsHeldWithin frames self.now }
-        ensures refusal { H.tells → (size : ℕ) → (w : World) → (memory : Memory) → memory.frames ≡ frames → held_under memory.held (self.now).number ≡ Option.Some self.now → IsReady size w memory (H.state h.old)
+        requires known { IsOnDevice frames pool.now }
+        ensures refusal { H.tells → (size : ℕ) → (w : World) → (memory : Memory) → IsHeldIn frames self.now pool.now memory → IsReady size w memory (H.state h.old)
             → IfOk result (λ found. refusal_in found ≡ refusal_of w (commands.Root (self.now).client (self.now).name s)) }
-        ensures found { H.tells → (image : Image) → reads (H.state h.old).now.words ≡ image → IsPlaced frames (self.now).at
-            → IfOk result (λ found. IfOk found (IsFoundBy frames (self.now).at image (Change.Root s))) }
-        ensures within { IfOk result (λ found. IfOk found (IsFoundWithin (self.now).at)) }
-        ensures room { IfOk result (λ found. IfOk found (λ _. (self.now).units + SET_UNITS ≤ LOG_ENTRY_WORDS)) }
+        ensures found { H.tells → (image : Image) → reads (H.state h.old).now.words ≡ image → IsPlaced frames pool.now
+            → IfOk result (λ found. IfOk found (IsFoundBy frames pool.now image (Update.Root s))) }
+        ensures within { IfOk result (λ found. IfOk found (IsFoundWithin pool.now)) }
+        ensures room { IfOk result (λ found. IfOk found (λ _. (self.now).tx.units + SET_UNITS ≤ LOG_ENTRY_WORDS)) }
         ensures only_reads { OnlyReads H.tells H.state H.counts (fault_of result) h.old h.new }
     {
-        let pool = self.puddles.as_slice();
         let Some(word) = word_for(h, frames, pool, Val::Ref(s))? else {
             return Ok(Err(Refusal::Object));
         };
@@ -156,21 +160,22 @@ impl Opened {
         &self,
         h: &mut H,
         frames: u32,
+        pool: &[(u32, Puddle)],
         s: u64,
     ) -> Result<Result<Found, Refusal>, HostFault>
         requires few { frames ≤ MAX_FRAMES }
         requires device { device_words frames ≤ (H.counts h.old).size }
         requires within { IsHeldWithin frames self.now }
+        requires known { IsOnDevice frames pool.now }
         requires serial { 1 ≤ s }
-        ensures refusal { H.tells → (size : ℕ) → (w : World) → (memory : Memory) → memory.frames ≡ frames → held_under memory.held (self.now).number ≡ Option.Some self.now → IsReady size w memory (H.state h.old)
+        ensures refusal { H.tells → (size : ℕ) → (w : World) → (memory : Memory) → IsHeldIn frames self.now pool.now memory → IsReady size w memory (H.state h.old)
             → IfOk result (λ found. refusal_in found ≡ refusal_of w (commands.Free (self.now).client (self.now).name s)) }
-        ensures found { H.tells → (image : Image) → reads (H.state h.old).now.words ≡ image → IsPlaced frames (self.now).at
-            → IfOk result (λ found. IfOk found (IsFoundBy frames (self.now).at image (Change.Free s))) }
-        ensures within { IfOk result (λ found. IfOk found (IsFoundWithin (self.now).at)) }
-        ensures room { IfOk result (λ found. IfOk found (λ _. (self.now).units + SET_UNITS ≤ LOG_ENTRY_WORDS)) }
+        ensures found { H.tells → (image : Image) → reads (H.state h.old).now.words ≡ image → IsPlaced frames pool.now
+            → IfOk result (λ found. IfOk found (IsFoundBy frames pool.now image (Update.Free s))) }
+        ensures within { IfOk result (λ found. IfOk found (IsFoundWithin pool.now)) }
+        ensures room { IfOk result (λ found. IfOk found (λ _. (self.now).tx.units + SET_UNITS ≤ LOG_ENTRY_WORDS)) }
         ensures only_reads { OnlyReads H.tells H.state H.counts (fault_of result) h.old h.new }
     {
-        let pool = self.puddles.as_slice();
         let Some(at) = find_serial(h, frames, pool, s)? else {
             return Ok(Err(Refusal::Object));
         };
@@ -182,32 +187,34 @@ impl Opened {
         }
     }
 
-    /// What was found of the change, or why it is not made. What is asked for later is refused as what is set. The device has so many frames.
+    /// What was found of the update, or why it is not made. What is asked for later is refused as what is set. The device has so many frames.
     ///
     /// The only errors are the host's own, and nothing changes.
-    pub(crate) fn find_change<H: Host>(
+    pub(crate) fn find_update<H: Host>(
         &self,
         h: &mut H,
         frames: u32,
-        change: Change,
+        pool: &[(u32, Puddle)],
+        update: Update,
     ) -> Result<Result<Found, Refusal>, HostFault>
         requires few { frames ≤ MAX_FRAMES }
         requires device { device_words frames ≤ (H.counts h.old).size }
         requires within { IsHeldWithin frames self.now }
-        requires legal { IsLegalChange change }
-        ensures refusal { H.tells → (size : ℕ) → (w : World) → (memory : Memory) → memory.frames ≡ frames → held_under memory.held (self.now).number ≡ Option.Some self.now → IsReady size w memory (H.state h.old)
-            → IfOk result (λ found. refusal_in found ≡ refusal_of w (line_of change (self.now).client (self.now).name)) }
-        ensures found { H.tells → (image : Image) → reads (H.state h.old).now.words ≡ image → IsPlaced frames (self.now).at
-            → IfOk result (λ found. IfOk found (IsFoundBy frames (self.now).at image change)) }
-        ensures within { IfOk result (λ found. IfOk found (IsFoundWithin (self.now).at)) }
-        ensures room { IfOk result (λ found. IfOk found (λ _. (self.now).units + SET_UNITS ≤ LOG_ENTRY_WORDS)) }
+        requires known { IsOnDevice frames pool.now }
+        requires legal { IsLegalUpdate update }
+        ensures refusal { H.tells → (size : ℕ) → (w : World) → (memory : Memory) → IsHeldIn frames self.now pool.now memory → IsReady size w memory (H.state h.old)
+            → IfOk result (λ found. refusal_in found ≡ refusal_of w (update_line update (self.now).client (self.now).name)) }
+        ensures found { H.tells → (image : Image) → reads (H.state h.old).now.words ≡ image → IsPlaced frames pool.now
+            → IfOk result (λ found. IfOk found (IsFoundBy frames pool.now image update)) }
+        ensures within { IfOk result (λ found. IfOk found (IsFoundWithin pool.now)) }
+        ensures room { IfOk result (λ found. IfOk found (λ _. (self.now).tx.units + SET_UNITS ≤ LOG_ENTRY_WORDS)) }
         ensures only_reads { OnlyReads H.tells H.state H.counts (fault_of result) h.old h.new }
     {
-        match change {
-            Change::Set { s, f, x } => self.find_field(h, frames, s, f, x, false),
-            Change::Later { s, f, x } => self.find_field(h, frames, s, f, x, true),
-            Change::Root { s } => self.find_root(h, frames, s),
-            Change::Free { s } => self.find_free(h, frames, s),
+        match update {
+            Update::Set { s, f, x } => self.find_field(h, frames, pool, s, f, x, false),
+            Update::Later { s, f, x } => self.find_field(h, frames, pool, s, f, x, true),
+            Update::Root { s } => self.find_root(h, frames, pool, s),
+            Update::Free { s } => self.find_free(h, frames, pool, s),
         }
     }
 }

@@ -1,7 +1,6 @@
 -- A line of a transaction: refused by what was read, or carried out behind calls that read.
-use Rattle.std.proofs.Common.{◌≡◌, inl, ℕ, List, Option, Some, None, Result, Ok, Err, refl, sym, ap, ap₂, subst, ◌∙◌}
+use Rattle.std.proofs.Common.{◌≡◌, inl, ℕ, List, Some, None, Result, Ok, Err, refl, sym, ap, subst, ◌∙◌}
 use Rattle.std.specs.Prelude.{IfOk}
-use Rattle.std.proofs.lemmas.Option.{same_Some}
 use Rattle.pm_model.specs.declared.host.HostFault.{HostFault}
 use Rattle.pm_model.specs.declared.host.HostFault.TheVariants.{Cut}
 use Rattle.pm_model.specs.Counts.{Counts, after_fault, fault_of}
@@ -20,13 +19,13 @@ use Rattle.pud_defs.proofs.Steps.{refused_answer, done_world}
 use Rattle.puddled.specs.Answered.{as_answered}
 use Rattle.pool_transaction.specs.declared.changing.Change.{Change}
 use Rattle.pool_transaction.specs.declared.changing.Change.TheVariants as changes
+use Rattle.pool_transaction.specs.declared.changing.Update.TheVariants as updates
 use Rattle.pool_transaction.specs.Changing.{line_of}
 use Rattle.ready_daemon.specs.Ready.{KeepsRest, IsReady, Applies}
 use Rattle.puddled.specs.Daemon.{CarriesOut}
 use Rattle.puddled.specs.Faults.{kind_of}
 use Rattle.puddled.specs.Faults.Kind.{ordinary}
-use Rattle.ready_daemon.specs.Held.{IsOwn}
-use Rattle.ready_daemon.specs.Memory.{Held, Memory, held_under}
+use Rattle.ready_daemon.specs.Memory.{Memory}
 use Rattle.ready_daemon.proofs.Applying.{Applies-failed, Applies-refused}
 use Rattle.ready_daemon.proofs.Beside.{ready_stands}
 use Rattle.ready_daemon.proofs.Keeping.{KeepsRest-still}
@@ -84,20 +83,13 @@ module _ (size : ℕ) (w : World) (memory : Memory) (first mid last : Counts) (a
   CarriesOut-ok (Ok reply) is replied applies cause = CarriesOut-done reply (ap of_reply is ∙ replied) applies cause
   CarriesOut-ok (Err fault) is replied applies cause = CarriesOut-stopped fault applies cause
 
--- Behind calls that read it is carried out, or refused, by a call on the client's own transaction, which is held under this number.
-module _ (size : ℕ) (w : World) (memory : Memory) (first mid last : Counts) (a b d : State) (line : ℕ → List ℕ → Command) (client : ℕ) (name : List ℕ) (plain : IsPlain (line client name)) (same : b ≡ a)
-    (counted : mid ≡ first) where
-  pub CarriesOut-own : (all : List (Option Held)) (number : ℕ) (held : Held) (done : Result Reply HostFault) → IsOwn client name number all → held_under all number ≡ Some held
-      → IfOk done (λ reply. of_reply reply ≡ answer_by w (Some (line held.client held.name))) → Applies size w (world_by w (Some (line held.client held.name))) memory (fault_of done) b d → KeepsRest b d
-      → last ≡ after_fault (fault_of done) mid → CarriesOut size w memory (Some (line client name)) (as_answered done) first last a d
-  CarriesOut-own all number held done own is replied applies rest cause =
-      let mine : held ≡ own.mine = same_Some held own.mine (sym is ∙ own.is) in
-      let asked : line held.client held.name ≡ line client name = ap₂ line (ap (λ (h : Held). h.client) mine ∙ own.whose) (ap (λ (h : Held). h.name) mine ∙ own.pool) in
-      subst (λ (s : State). CarriesOut size w memory (Some (line client name)) (as_answered done) first last s d) same
-      (CarriesOut-plain size w memory first last b d (line client name) done plain.kind plain.file
-      (subst (λ (c : Command). IfOk done (λ reply. of_reply reply ≡ answer_by w (Some c))) asked replied)
-      (subst (λ (c : Command). Applies size w (world_by w (Some c)) memory (fault_of done) b d) asked applies)
-      (ClosesLogs-other w (Some (line client name)) b d plain.stays) rest (cause ∙ ap (after_fault (fault_of done)) counted))
+-- behind calls that read it is carried out, or refused, by a call that replies to it
+pub CarriesOut-replied : (size : ℕ) (w : World) (memory : Memory) (first mid last : Counts) (a b d : State) (c : Command) → IsPlain c → b ≡ a → mid ≡ first → KeepsRest b d → (done : Result Reply HostFault)
+    → IfOk done (λ reply. of_reply reply ≡ answer_by w (Some c)) → Applies size w (world_by w (Some c)) memory (fault_of done) b d → last ≡ after_fault (fault_of done) mid
+    → CarriesOut size w memory (Some c) (as_answered done) first last a d
+CarriesOut-replied size w memory first mid last a b d c plain same counted rest done replied applies cause =
+    subst (λ (s : State). CarriesOut size w memory (Some c) (as_answered done) first last s d) same
+    (CarriesOut-plain size w memory first last b d c done plain.kind plain.file replied applies (ClosesLogs-other w (Some c) b d plain.stays) rest (cause ∙ ap (after_fault (fault_of done)) counted))
 
 -- no device was touched
 pub Applies-untouched : (size : ℕ) (w next : World) (memory behind : Memory) (s : State) → IsReady size w memory s → IsReady size next behind s → Applies size w next behind None s s
@@ -121,11 +113,12 @@ module _ (client : ℕ) (name : List ℕ) where
   pub abort_is_plain : IsPlain (Abort client name)
   abort_is_plain = record { kind = refl; file = refl; stays = λ other is. cc }
 
-  pub new_is_plain : (t : ℕ) → IsPlain (New client name t)
+  new_is_plain : (t : ℕ) → IsPlain (New client name t)
   new_is_plain t = record { kind = refl; file = refl; stays = λ other is. cc }
 
   pub change_is_plain : (change : Change) → IsPlain (line_of change client name)
-  change_is_plain (changes.Set s f x) = record { kind = refl; file = refl; stays = λ other is. cc }
-  change_is_plain (changes.Later s f x) = record { kind = refl; file = refl; stays = λ other is. cc }
-  change_is_plain (changes.Root s) = record { kind = refl; file = refl; stays = λ other is. cc }
-  change_is_plain (changes.Free s) = record { kind = refl; file = refl; stays = λ other is. cc }
+  change_is_plain (changes.New t) = new_is_plain t
+  change_is_plain (changes.Update (updates.Set s f x)) = record { kind = refl; file = refl; stays = λ other is. cc }
+  change_is_plain (changes.Update (updates.Later s f x)) = record { kind = refl; file = refl; stays = λ other is. cc }
+  change_is_plain (changes.Update (updates.Root s)) = record { kind = refl; file = refl; stays = λ other is. cc }
+  change_is_plain (changes.Update (updates.Free s)) = record { kind = refl; file = refl; stays = λ other is. cc }

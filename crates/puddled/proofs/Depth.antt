@@ -10,13 +10,12 @@ use Rattle.pud_defs.specs.Tables.{Pool}
 use Rattle.pud_defs.specs.Transactions.{with_open, lowered, committed_pools}
 use Rattle.pud_defs.specs.World.{Transaction, World, open_on}
 use Rattle.nesting.specs.declared.Session.{Session}
-use Rattle.nesting.specs.Sessions.{lowered_session, depth_in, left}
+use Rattle.nesting.specs.Sessions.{lowered_session, session_depth, depth_in, left}
 use Rattle.ready_daemon.specs.Memory.{Held, Memory, held_under}
 use Rattle.ready_daemon.specs.Holding.{IsOwnOn}
 use Rattle.ready_daemon.specs.Ready.{IsReady, Applies}
 use Rattle.ready_daemon.proofs.AtDepth.{its, t, its_session, next, sessions_at, ready_at}
 use Rattle.puddled.proofs.Commanding.{Applies-untouched}
-use Rattle.pool_transaction.proofs.HeldEnds.{depth_is}
 
 module _ (size : ℕ) (w : World) (memory : Memory) (s : State) (ready : IsReady size w memory s) (number : ℕ) (held : Held) (there : held_under memory.held number ≡ Some held) (client : ℕ)
     (deep : 1 < (t size w memory s ready number held there).depth) where
@@ -50,13 +49,18 @@ module _ (size : ℕ) (w : World) (memory : Memory) (s : State) (ready : IsReady
       (Applies-untouched size w then memory (record memory { sessions = left held.slot memory.sessions }) s ready
       (ready_at size w memory s ready number held there fewer (left held.slot memory.sessions) risen_sessions))
 
+-- how often it was begun, its session says
+depth_is : (size : ℕ) (w : World) (memory : Memory) (s : State) (ready : IsReady size w memory s) (number : ℕ) (held : Held) (there : held_under memory.held number ≡ Some held)
+    → depth_in memory.sessions held.slot ≡ (t size w memory s ready number held there).depth
+depth_is size w memory s ready number held there = ap session_depth (its_session size w memory s ready number held there)
+
 -- the client's own, whose session has that depth
 pub Applies-rises : (size : ℕ) (w : World) (memory behind : Memory) (s : State) (client : ℕ) (name : List ℕ) (slot number : ℕ) → 1 < depth_in memory.sessions slot
     → record memory { sessions = left slot memory.sessions } ≡ behind → IsReady size w memory s → IsOwnOn client name slot number memory.held → Applies size w (after w (commands.Commit client name)) behind None s s
 Applies-rises size w memory behind s client name slot number deep same ready on =
     let mine = on.own.mine in
     let there = on.own.is in
-    let depth = sym (ap (depth_in memory.sessions) on.slot_is) ∙ depth_is size w memory number mine s ready there in
+    let depth = sym (ap (depth_in memory.sessions) on.slot_is) ∙ depth_is size w memory s ready number mine there in
     subst (λ (m : Memory). Applies size w (after w (commands.Commit client name)) m None s s) same
     (subst (λ (n : List ℕ). Applies size w (after w (commands.Commit client n)) (record memory { sessions = left slot memory.sessions }) None s s) on.own.pool
     (subst (λ (k : ℕ). Applies size w (after w (commands.Commit client mine.name)) (record memory { sessions = left k memory.sessions }) None s s) on.slot_is
@@ -70,5 +74,5 @@ depth_by_world size w memory s client name slot number ready on running found =
     let there = on.own.is in
     let is = (its size w memory s ready number mine there).is in
     ap (depth_in memory.sessions) (sym on.slot_is)
-    ∙ depth_is size w memory number mine s ready there
+    ∙ depth_is size w memory s ready number mine there
     ∙ ap (λ (x : Transaction). x.depth) (same_Some is.transaction running (sym is.is ∙ ap w.transactions on.own.pool ∙ found))

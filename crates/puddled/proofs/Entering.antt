@@ -1,28 +1,36 @@
 -- Why a session of a client that may write the pool does not begin, or is not one deeper: so the line is refused, and else it is not.
-use Rattle.std.proofs.Common.{◌≡◌, inl, inr, ℕ, ◌<◌, ◌≤◌, true, false, cond, ◌&&◌, not, leb, eqb, List, Option, Some, None, Result, Err, is_some, refl, sym, ap, ◌∙◌, arith, eq-eqb}
+use Rattle.std.proofs.Common.{◌≡◌, inl, inr, ℕ, ◌<◌, ◌≤◌, true, false, cond, ◌&&◌, not, leb, eqb, List, Option, Some, None, is_some, Result, Err, refl, sym, ap, subst, ◌∙◌, arith, eq-eqb}
 use Rattle.std.specs.Option.{option_or}
-use Rattle.std.proofs.lemmas.Bool.{cases_Bool, cases_lt, le-leb, lt-leb}
+use Rattle.std.specs.Prelude.{unwrap_or}
+use Rattle.std.proofs.lemmas.Bool.{cases_lt, le-leb, lt-leb}
 use Rattle.std.proofs.lemmas.Option.{none-some}
+use Rattle.pm_model.specs.Words.{reads}
 use Rattle.pm_model.specs.Moments.{State}
-use Rattle.pud_defs.specs.declared.layout.TheConstants.{CLIENT_LOGS, MAX_DEPTH}
+use Rattle.pud_defs.specs.declared.layout.TheConstants.{CLIENTS, CLIENT_LOGS, MAX_DEPTH}
 use Rattle.pud_defs.specs.declared.machine.Command.TheVariants.{Begin}
 use Rattle.pud_defs.specs.declared.machine.Refusal.{Refusal}
 use Rattle.pud_defs.specs.declared.machine.Refusal.TheVariants as refusals
+use Rattle.pud_defs.specs.declared.records.Puddle.{Puddle}
+use Rattle.pud_defs.specs.declared.records.TheConstants.{POOL_RECORDS}
 use Rattle.pud_defs.specs.Step.{open_elsewhere, refusal_of}
+use Rattle.pud_defs.specs.Tables.{tables_of}
 use Rattle.pud_defs.specs.World.{Transaction, World, open_on}
+use Rattle.log_space.specs.FreeLogs.{first_closed}
 use Rattle.nesting.specs.declared.EnterFault.{EnterFault}
 use Rattle.nesting.specs.declared.EnterFault.TheVariants.{Deep, Logs}
-use Rattle.nesting.specs.declared.Session.{Session}
 use Rattle.nesting.specs.Sessions.{session_in, session_depth, depth_in, count_of, AreSessions}
-use Rattle.nesting.proofs.Holders.{session_in-no_holder, session_in-holder}
-use Rattle.ready_daemon.specs.Memory.{Memory}
+use Rattle.pool_transaction.specs.Lifetime.{MayBeginIn}
+use Rattle.ready_daemon.specs.Beginning.{MayBegin}
+use Rattle.ready_daemon.specs.Held.{session_of}
 use Rattle.ready_daemon.specs.Holding.{IsOwnOn}
+use Rattle.ready_daemon.specs.Judged.{known_in}
+use Rattle.ready_daemon.specs.Memory.{Memory}
+use Rattle.ready_daemon.specs.Ready.{IsReady}
 use Rattle.puddled.specs.declared.finding.Need.TheVariants as needs
-use Rattle.puddled.specs.declared.finding.Found.{Found}
-use Rattle.puddled.specs.Finding.{refusal_to_enter}
+use Rattle.puddled.specs.Finding.{refusal_to, refusal_to_enter}
 use Rattle.ready_daemon.proofs.AtDepth.{its_session}
-use Rattle.ready_daemon.proofs.Counting.{counted}
-use Rattle.puddled.proofs.Found.{Finds}
+use Rattle.ready_daemon.proofs.Counting.{counted, log_found}
+use Rattle.ready_daemon.proofs.Sessions.{session_shut}
 use Rattle.puddled.proofs.Needs.{entering_refusal, refusal_of-begin}
 
 -- the client's own is as deep as it may be
@@ -35,99 +43,103 @@ own_free : (client elsewhere : ℕ) (t : Transaction) → t.client ≡ client �
 own_free client elsewhere t whose low =
     (λ p. cond (eq-eqb t.client client whose p && lt-leb MAX_DEPTH t.depth low p) (Some refusals.Deep) (cond (not (eq-eqb t.client client whose p) && leb CLIENT_LOGS elsewhere) (Some refusals.Logs) None))
 
-module _ (size : ℕ) (w : World) (memory : Memory) (s : State) (client : ℕ) (name : List ℕ) (found : Found) (finds : Finds size w needs.Write client name memory s found) (are : AreSessions memory.sessions) where
-  abbrev slot : ℕ
-  slot = found.slot
-
-  abbrev session : Option Session
-  session = session_in memory.sessions slot
-
-  -- where it is open the client has a session on it, and else nobody has
-  pub session_open : found.is_open ≡ true → session ≡ Some (record { client = client; depth = depth_in memory.sessions slot })
-  session_open on = session_in-holder memory.sessions slot client (finds.whose ∙ ap (λ b. cond b (Some client) None) on)
-
-  pub session_shut : found.is_open ≡ false → session ≡ None
-  session_shut off = session_in-no_holder memory.sessions slot (finds.whose ∙ ap (λ b. cond b (Some client) None) off)
-
-  own : true ≡ is_some session → (number : ℕ) × IsOwnOn client name slot number memory.held
-  own some = elim (cases_Bool found.is_open) [
-    | inl on ↦ finds.is.own on
-    | inr off ↦ absurd (let no : true ≡ false = some ∙ ap is_some (session_shut off) in cc)
-  ]
-
-  writes : session ≡ None → open_on name w ≡ None
-  writes none = elim (cases_Bool found.is_open) [
-    | inl on ↦ absurd (none-some (record { client = client; depth = depth_in memory.sessions slot }) (sym none ∙ session_open on))
-    | inr off ↦ finds.is.none off
-  ]
-
+module _ (size : ℕ) (w : World) (memory : Memory) (s : State) (ready : IsReady size w memory s) (client : ℕ) (name : List ℕ) (free : refusal_to w needs.Write client name ≡ None) where
   by_entering : refusal_of w (Begin client name) ≡ entering_refusal client (open_on name w) (open_elsewhere w client name)
-  by_entering = refusal_of-begin w client name ∙ ap (λ (r : Option Refusal). option_or r (entering_refusal client (open_on name w) (open_elsewhere w client name))) finds.free
+  by_entering = refusal_of-begin w client name ∙ ap (λ (r : Option Refusal). option_or r (entering_refusal client (open_on name w) (open_elsewhere w client name))) free
 
   -- ---- it is open, and the client's own
 
-  record IsOpenAt (depth : ℕ) : Type 0 where
-    t : Transaction
-    there : open_on name w ≡ Some t
-    whose : t.client ≡ client
-    begun : t.depth ≡ depth
+  module _ (slot number : ℕ) (own : IsOwnOn client name slot number memory.held) where
+    abbrev running : Transaction
+    running = (ready.held.each number own.own.mine own.own.is).is.transaction
 
-  open_at : (x : Session) → session ≡ Some x → IsOpenAt (depth_in memory.sessions slot)
-  open_at x is =
-      let mine = own (ap is_some (sym is)) in
-      let h = mine.1.own.mine in
-      let under = finds.ready.held.each mine.0 h mine.1.own.is in
-      record {
-        t = under.is.transaction;
-        there = ap w.transactions (sym mine.1.own.pool) ∙ under.is.is;
-        whose = under.is.client ∙ mine.1.own.whose;
-        begun = sym (ap (λ (i : ℕ). depth_in memory.sessions i) (sym mine.1.slot_is) ∙ ap session_depth (its_session size w memory s finds.ready mine.0 h mine.1.own.is));
-      }
+    there : open_on name w ≡ Some running
+    there = ap w.transactions (sym own.own.pool) ∙ (ready.held.each number own.own.mine own.own.is).is.is
 
-  deep_by : (o : Option Session) → session ≡ o → depth_in memory.sessions slot ≡ MAX_DEPTH → refusal_of w (Begin client name) ≡ Some refusals.Deep
-  deep_by None is deep = absurd (let no : session_depth None ≡ MAX_DEPTH = sym (ap session_depth is) ∙ deep in omega arith)
-  deep_by (Some x) is deep =
-      let o = open_at x is in
-      by_entering ∙ ap (λ (t : Option Transaction). entering_refusal client t (open_elsewhere w client name)) o.there ∙ deep_refused client (open_elsewhere w client name) o.t o.whose (o.begun ∙ deep)
+    whose : running.client ≡ client
+    whose = (ready.held.each number own.own.mine own.own.is).is.client ∙ own.own.whose
 
-  -- it may be begun once more
-  free_by : (o : Option Session) → session ≡ o → true ≡ is_some o → depth_in memory.sessions slot < MAX_DEPTH → refusal_of w (Begin client name) ≡ None
-  free_by None is some low = absurd (let no : true ≡ false = some in cc)
-  free_by (Some x) is some low =
-      let o = open_at x is in
-      let begun = o.begun in
-      by_entering ∙ ap (λ (t : Option Transaction). entering_refusal client t (open_elsewhere w client name)) o.there ∙ own_free client (open_elsewhere w client name) o.t o.whose (omega arith)
+    session_is : session_in memory.sessions slot ≡ Some (session_of number running)
+    session_is = ap (session_in memory.sessions) (sym own.slot_is) ∙ its_session size w memory s ready number own.own.mine own.own.is
+
+    begun : depth_in memory.sessions slot ≡ running.depth
+    begun = ap session_depth session_is
+
+    by_running : refusal_of w (Begin client name) ≡ entering_refusal client (Some running) (open_elsewhere w client name)
+    by_running = by_entering ∙ ap (λ (t : Option Transaction). entering_refusal client t (open_elsewhere w client name)) there
+
+    -- the machine refuses for the cause that the session's beginning answers
+    pub refused_deeper : (fault : EnterFault) (result : Result (Unit {0}) EnterFault) → result ≡ Err fault → (result ≡ Err Deep → depth_in memory.sessions slot ≡ MAX_DEPTH)
+        → (result ≡ Err Logs → (session_in memory.sessions slot ≡ None) × (CLIENT_LOGS ≤ count_of client memory.sessions)) → refusal_of w (Begin client name) ≡ Some (refusal_to_enter fault)
+    refused_deeper Deep result is deep logs = by_running ∙ deep_refused client (open_elsewhere w client name) running whose (sym begun ∙ deep is)
+    refused_deeper Logs result is deep logs = absurd (none-some (session_of number running) (sym (logs is).0 ∙ session_is))
+
+    -- begun before, and not as often as it may be
+    pub begun_again : AreSessions memory.sessions → (depth_in memory.sessions slot ≡ MAX_DEPTH → ⊥) → refusal_of w (Begin client name) ≡ None
+    begun_again are apart =
+        let most = (are.each slot (session_of number running) session_is).few in
+        let low : running.depth < MAX_DEPTH = elim (cases_lt running.depth MAX_DEPTH) [ inl low ↦ low | inr high ↦ absurd (apart (omega (arith, begun, most, high))) ] in
+        by_running ∙ own_free client (open_elsewhere w client name) running whose low
 
   -- ---- none is open
 
-  many : session ≡ None → CLIENT_LOGS ≤ count_of client memory.sessions → refusal_of w (Begin client name) ≡ Some refusals.Logs
-  many none all =
-      let shut = writes none in
-      by_entering ∙ ap (λ (t : Option Transaction). entering_refusal client t (open_elsewhere w client name)) shut
-      ∙ ap (λ b. cond b (Some refusals.Logs) None) (ap (leb CLIENT_LOGS) (counted size w memory s finds.ready client name shut are.slots) ∙ le-leb CLIENT_LOGS (count_of client memory.sessions) all)
+  module _ (slot : ℕ) (at : List (ℕ × Puddle)) (may : MayBegin memory.frames client name (reads s.now.words) slot at) (none : session_in memory.sessions slot ≡ None) (are : AreSessions memory.sessions) where
+    pub shut : open_on name w ≡ None
+    shut =
+        session_shut size w memory s ready name slot
+        (record { rec = may.rec; used = (λ p. (tables_of (sym ready.frames p) (reads s.now.words)).pools slot) ∙ may.used; name_is = may.name_is }) none
 
-  pub few : session ≡ None → count_of client memory.sessions < CLIENT_LOGS → refusal_of w (Begin client name) ≡ None
-  few none less =
-      let shut = writes none in
-      by_entering ∙ ap (λ (t : Option Transaction). entering_refusal client t (open_elsewhere w client name)) shut
-      ∙ ap (λ b. cond b (Some refusals.Logs) None) (ap (leb CLIENT_LOGS) (counted size w memory s finds.ready client name shut are.slots) ∙ lt-leb CLIENT_LOGS (count_of client memory.sessions) less)
+    by_count : refusal_of w (Begin client name) ≡ cond (leb CLIENT_LOGS (count_of client memory.sessions)) (Some refusals.Logs) None
+    by_count =
+        by_entering ∙ ap (λ (t : Option Transaction). entering_refusal client t (open_elsewhere w client name)) shut
+        ∙ ap (λ (n : ℕ). cond (leb CLIENT_LOGS n) (Some refusals.Logs) None) (counted size w memory s ready client name shut are.slots)
 
-  -- ---- by what the session's beginning answers
+    many : CLIENT_LOGS ≤ count_of client memory.sessions → refusal_of w (Begin client name) ≡ Some refusals.Logs
+    many all = by_count ∙ ap (λ b. cond b (Some refusals.Logs) None) (le-leb CLIENT_LOGS (count_of client memory.sessions) all)
 
-  -- the machine refuses for the same cause
-  pub refused_to_enter : (fault : EnterFault) (result : Result (Unit {0}) EnterFault) → result ≡ Err fault → (result ≡ Err Deep → depth_in memory.sessions slot ≡ MAX_DEPTH)
-      → (result ≡ Err Logs → (session ≡ None) × (CLIENT_LOGS ≤ count_of client memory.sessions)) → refusal_of w (Begin client name) ≡ Some (refusal_to_enter fault)
-  refused_to_enter Deep result is deep logs = deep_by session refl (deep is)
-  refused_to_enter Logs result is deep logs = many (logs is).0 (logs is).1
+    few : count_of client memory.sessions < CLIENT_LOGS → refusal_of w (Begin client name) ≡ None
+    few less = by_count ∙ ap (λ b. cond b (Some refusals.Logs) None) (lt-leb CLIENT_LOGS (count_of client memory.sessions) less)
 
-  -- begun before, and not as often as it may be
-  pub begun_again : found.is_open ≡ true → (depth_in memory.sessions slot ≡ MAX_DEPTH → ⊥) → refusal_of w (Begin client name) ≡ None
-  begun_again on apart =
-      let there = session_open on in
-      let most = (are.each slot (record { client = client; depth = depth_in memory.sessions slot }) there).few in
-      let low : depth_in memory.sessions slot < MAX_DEPTH = elim (cases_lt (depth_in memory.sessions slot) MAX_DEPTH) [ inl low ↦ low | inr high ↦ absurd (apart (omega arith)) ] in
-      free_by session refl (sym (ap is_some there)) low
+    -- no log of the client is closed
+    pub refused_without_log : client < CLIENTS → None ≡ first_closed (reads s.now.words) memory.frames client → refusal_of w (Begin client name) ≡ Some refusals.Logs
+    refused_without_log known missed = elim (cases_lt (count_of client memory.sessions) CLIENT_LOGS) [
+      | inl less ↦ absurd (log_found size w memory s ready client may.who known (sym (ready.clients client known) ∙ may.owned) memory.frames ready.frames less missed)
+      | inr all ↦ many all
+    ]
 
-  -- and a log is left
-  pub less : session ≡ None → ((session ≡ None) × (CLIENT_LOGS ≤ count_of client memory.sessions) → ⊥) → count_of client memory.sessions < CLIENT_LOGS
-  less none apart = elim (cases_lt (count_of client memory.sessions) CLIENT_LOGS) [ inl low ↦ low | inr high ↦ absurd (apart (none, high)) ]
+    -- the machine refuses for the cause that the session's beginning answers
+    pub refused_to_begin : (fault : EnterFault) (result : Result (Unit {0}) EnterFault) → result ≡ Err fault → (result ≡ Err Deep → depth_in memory.sessions slot ≡ MAX_DEPTH)
+        → (result ≡ Err Logs → (session_in memory.sessions slot ≡ None) × (CLIENT_LOGS ≤ count_of client memory.sessions)) → refusal_of w (Begin client name) ≡ Some (refusal_to_enter fault)
+    refused_to_begin Deep result is deep logs = absurd (let no : session_depth None ≡ MAX_DEPTH = sym (ap session_depth none) ∙ deep is in omega arith)
+    refused_to_begin Logs result is deep logs = many (logs is).1
+
+    -- a log is left
+    pub begins_free : ((session_in memory.sessions slot ≡ None) × (CLIENT_LOGS ≤ count_of client memory.sessions) → ⊥) → refusal_of w (Begin client name) ≡ None
+    begins_free apart = elim (cases_lt (count_of client memory.sessions) CLIENT_LOGS) [ inl less ↦ few less | inr all ↦ absurd (apart (none, all)) ]
+
+-- The line is not refused, and its transaction may begin in the log of the number.
+pub record Begins (size : ℕ) (w : World) (memory : Memory) (s : State) (client : ℕ) (name : List ℕ) (slot number : ℕ) : Type 0 where
+  pub free : refusal_of w (Begin client name) ≡ None
+  pub ready : IsReady size w memory s
+  pub may : MayBeginIn memory (reads s.now.words) client name slot number
+
+-- behind calls that read, where a log is left that is the lowest that is closed
+pub begins_in : (size : ℕ) (w : World) (memory view : Memory) (s mid : State) → IsReady size w memory s → (client : ℕ) (name : List ℕ) → refusal_to w needs.Write client name ≡ None → (slot : ℕ) (at : List (ℕ × Puddle))
+    → MayBegin memory.frames client name (reads s.now.words) slot at → session_in memory.sessions slot ≡ None → AreSessions memory.sessions → memory ≡ view → mid ≡ s → known_in memory.judged slot ≡ Some at
+    → ((session_in view.sessions slot ≡ None) × (CLIENT_LOGS ≤ count_of client view.sessions) → ⊥) → (number : ℕ) → Some number ≡ first_closed (reads s.now.words) view.frames client
+    → slot < POOL_RECORDS → Begins size w view mid client name slot number
+begins_in size w memory view s mid ready client name free slot at may none are same stays known apart number lowest within =
+    let then : IsReady size w view s = subst (λ (m : Memory). IsReady size w m s) same ready in
+    let might = subst (λ (m : Memory). MayBegin m.frames client name (reads s.now.words) slot at) same may in
+    let there = subst (λ (m : Memory). AreSessions m.sessions) same are in
+    let shut_in = subst (λ (m : Memory). session_in m.sessions slot ≡ None) same none in
+    subst (λ (x : State). Begins size w view x client name slot number) (sym stays) (record {
+      free = begins_free size w view s then client name free slot at might shut_in there apart;
+      ready = then;
+      may = record { lowest = lowest; unheld = shut_in; at = at; known = subst (λ (m : Memory). known_in m.judged slot ≡ Some at) same known; may = might; fits = omega (arith, there.slots, within) };
+    })
+
+-- what is there is known by what it is
+pub there_is : {A : Type 0} (o : Option A) (d : A) → true ≡ is_some o → o ≡ Some (unwrap_or o d)
+there_is None d there = absurd (let no : true ≡ false = there in cc)
+there_is (Some x) d there = refl

@@ -1,5 +1,5 @@
 -- The line that writes a pool into a file: what it owes, by what its calls did.
-use Rattle.std.proofs.Common.{◌≡◌, ℕ, true, false, List, [], Some, None, is_none, Result, Ok, Err, refl, sym, ap, ap₂, subst, ◌∙◌, eq-eqb}
+use Rattle.std.proofs.Common.{◌≡◌, ℕ, true, List, [], Some, None, is_none, Result, Ok, Err, refl, sym, ap, ap₂, subst, ◌∙◌, eq-eqb}
 use Rattle.std.specs.Prelude.{IfOk, unwrap_or}
 use Rattle.pm_model.specs.declared.host.HostFault.TheVariants as hosts
 use Rattle.pm_model.specs.declared.host.FileFault.{FileFault}
@@ -44,13 +44,13 @@ own_is_open size w memory s ready client name number own =
 -- ---- none is
 
 -- the pool as it is known, on a device of so many frames
-pub stored_found : (size : ℕ) (w : World) (client : ℕ) (name : List ℕ) (memory : Memory) (s : State) (found : Found) (here : Finds size w needs.Read client name memory s found) → found.is_open ≡ false
+pub stored_found : (size : ℕ) (w : World) (client : ℕ) (name : List ℕ) (memory : Memory) (s : State) (found : Found) (here : Finds size w needs.Read client name memory s found) → found.own ≡ None
     → IsStoredPool w memory.frames name (reads s.now.words) found.number (unwrap_or (known_in memory.judged found.slot) [])
 stored_found size w client name memory s found here off =
     let at = unwrap_or (known_in memory.judged found.slot) [] in
     subst (λ (n : ℕ). IsStoredPool w n name (reads s.now.words) found.number at) (sym here.ready.frames)
     (subst (λ (n : ℕ). IsStoredPool w w.stored.frames name (reads s.now.words) n at) (sym here.is.number_is)
-    (stored_pool size w memory s here.ready client name found.slot here.is.rec here.is.is (here.is.none off) at (here.is.known off refl)))
+    (stored_pool size w memory s here.ready client name found.slot here.is.rec here.is.is (here.is.none off) at (here.is.known refl)))
 
 -- ---- the file was to be written
 

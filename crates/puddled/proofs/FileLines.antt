@@ -202,7 +202,7 @@ module _ (size : ℕ) (w : World) (memory : Memory) (shelf : Shelf) (s : State) 
   beside = record w { shelf = shelf }
 
   keeps : KeepsHeld w beside memory.held
-  keeps = record { frames = refl; transactions = refl; present = λ number h is. refl; stored = λ number h is. refl; puddles = λ number h is. refl; types = λ id m is. is; graphs = λ st g is. is }
+  keeps = record { frames = refl; transactions = refl; present = λ number h is. refl; stored = λ number h is. refl; types = λ id m is. is; graphs = λ st g is. is }
 
   -- the daemon is ready in the world that has it
   ready_shelved : IsReady size beside memory (with_shelf shelf s)

@@ -1,5 +1,5 @@
 -- The pool that a line names: why the line is refused, and what is found.
-use Rattle.std.proofs.Common.{◌≡◌, ◌≢◌, ℕ, ◌<◌, Bool, true, false, not, cond, List, length, Option, Some, None, Result, Ok, Err, is_some, is_none, option_map, eqb, eqb-true, eq-eqb, refl, sym, ap, ap₂, subst, ◌∙◌}
+use Rattle.std.proofs.Common.{◌≡◌, ℕ, ◌<◌, Bool, true, false, not, cond, List, [], length, unwrap_or, Option, Some, None, Result, Ok, Err, is_some, is_none, option_map, eqb, eqb-true, refl, sym, ap, ap₂, subst, ◌∙◌}
 use Rattle.std.specs.Prelude.{IfOk, IfSome}
 use Rattle.std.specs.FinMap.Entries.{find}
 use Rattle.std.proofs.lemmas.Bool.{not-false}
@@ -15,6 +15,7 @@ use Rattle.pud_defs.specs.declared.records.Puddle.{Puddle}
 use Rattle.pud_defs.specs.declared.machine.Refusal.{Refusal}
 use Rattle.pud_defs.specs.declared.machine.Refusal.TheVariants as refusals
 use Rattle.pud_defs.specs.Image.{Image}
+use Rattle.pud_defs.specs.Settled.{ALL_LOGS}
 use Rattle.pud_defs.specs.Spaces.{Owner, owner}
 use Rattle.pud_defs.specs.Names.{name_cmp}
 use Rattle.pud_defs.specs.Rights.{may_read, may_write}
@@ -35,11 +36,10 @@ use Rattle.pud_defs.proofs.PoolRefusals.{pool_by_record, found_record}
 use Rattle.pud_defs.proofs.RecordsPlaced.{legal_mode, mode_read}
 use Rattle.pud_defs.proofs.SoundChanged.{legal_pool}
 use Rattle.nesting.specs.declared.Session.{Session}
-use Rattle.nesting.specs.Sessions.{client_in, holder_in, depth_in}
-use Rattle.nesting.proofs.Holders.{session_in-no_holder, session_in-holder}
-use Rattle.ready_daemon.specs.Memory.{Held, Memory, held_under}
+use Rattle.nesting.specs.Sessions.{client_in, session_in, session_depth, IsSession}
+use Rattle.ready_daemon.specs.Memory.{Memory}
 use Rattle.ready_daemon.specs.Held.{IsHeld}
-use Rattle.ready_daemon.specs.Holding.{is_held_on, IsOwnOn}
+use Rattle.ready_daemon.specs.Holding.{IsOwnOn}
 use Rattle.ready_daemon.specs.Judged.{known_in, AreJudged, puddles_with_graph}
 use Rattle.ready_daemon.specs.Owning.{refusal_found, IsSlotOf}
 use Rattle.ready_daemon.specs.Beginning.{MayBegin}
@@ -47,10 +47,10 @@ use Rattle.ready_daemon.specs.Ready.{IsReady}
 use Rattle.ready_daemon.proofs.Applying.{IsReady-beside}
 use Rattle.ready_daemon.proofs.Beside.{held_is}
 use Rattle.ready_daemon.proofs.Known.{judged_puddles}
+use Rattle.ready_daemon.proofs.InTurn.{held_there_known}
 use Rattle.ready_daemon.proofs.JudgedOpen.{KnowsPools-read}
-use Rattle.ready_daemon.proofs.PoolsBeside.{one_slot}
 use Rattle.ready_daemon.proofs.OpenBeside.{not_named, pool_unmasked}
-use Rattle.ready_daemon.proofs.Sessions.{IsSessionOf, own_on, none_held, session_open, session_shut}
+use Rattle.ready_daemon.proofs.Sessions.{IsSessionOf, own_on, session_open, session_shut}
 use Rattle.ready_daemon.proofs.TablesBeside.{types_read, sound_read}
 use Rattle.ready_daemon.proofs.Pooling.{IsNamed, no_record, named_by, pool_there}
 use Rattle.pool_transaction.proofs.TransactionRefusals.{unless}
@@ -58,7 +58,7 @@ use Rattle.puddled.specs.declared.finding.Need.{Need}
 use Rattle.puddled.specs.declared.finding.Need.TheVariants as needs
 use Rattle.puddled.specs.declared.finding.Found.{Found}
 use Rattle.puddled.specs.Files.{IsStoredPool}
-use Rattle.puddled.specs.Finding.{needs_graph, lacks_graph, has_right, right_by, need_refusal, refusal_to, beside, holder_found, IsRecordOf, IsFound}
+use Rattle.puddled.specs.Finding.{needs_graph, lacks_graph, has_right, right_by, need_refusal, refusal_to, beside, session_found, IsRecordOf, IsFound}
 use Rattle.puddled.specs.Reading.{HoldsGraph}
 use Rattle.pud_defs.proofs.DistinctKeys.{none_by_some}
 use Rattle.ready_daemon.proofs.GraphLonger.{graph_as}
@@ -81,29 +81,30 @@ puddles_judged frames slot image puddles slice sound turned same judged =
 pub judged_ready : (size : ℕ) (w : World) (memory : Memory) (s : State) → IsReady size w memory s → AreJudged memory.frames memory.judged (reads s.now.words)
 judged_ready size w memory s ready = subst (λ (n : ℕ). AreJudged n memory.judged (reads s.now.words)) (sym ready.frames) ready.knows.judged
 
--- no transaction is held on the pool in a slot that no client holds
-apart_from : (size : ℕ) (w : World) (memory : Memory) (s : State) (ready : IsReady size w memory s) (slot : ℕ) → holder_in memory.sessions slot ≡ None → (number : ℕ) (mine : Held) → held_under memory.held number ≡ Some mine
-    → mine.slot ≢ slot
-apart_from size w memory s ready slot shut = none_held w memory.held ready.mask s.now.words ready.held memory.sessions ready.sessions slot (session_in-no_holder memory.sessions slot shut)
-
 -- ---- by whose a transaction is
 
--- it is nobody's
-nobody_by : (o : Option ℕ) → is_some o ≡ false → o ≡ None
-nobody_by None none = refl
-nobody_by (Some holder) none = absurd (let no : true ≡ false = none in cc)
-
-pub nobody : (sessions : List (Option Session)) (slot : ℕ) → is_some (holder_in sessions slot) ≡ false → holder_in sessions slot ≡ None
-nobody sessions slot = nobody_by (holder_in sessions slot)
-
 -- it is the client's own, or none is open
-pub whose_found : (o : Option ℕ) (client slot number : ℕ) → IfOk (beside o client slot number) (λ found. o ≡ holder_found found client)
-whose_found None client slot number = refl
-whose_found (Some other) client slot number = by_own (eqb other client) refl
+whose_own : (sessions : List (Option Session)) (client slot number : ℕ) (s : Session) → session_in sessions slot ≡ Some s → (own : Bool) → eqb s.client client ≡ own
+    → IfOk {T = Found} (cond own (Ok (record { slot = slot; number = number; own = Some s.number })) (Err refusals.Busy)) (λ found. session_in sessions found.slot ≡ session_found sessions client found)
+whose_own sessions client slot number s is false e = tt
+whose_own sessions client slot number s is true e = is ∙ ap₂ (λ (c d : ℕ). Some (record { client = c; number = s.number; depth = d })) (eqb-true s.client client e) (sym (ap session_depth is))
+
+whose_by : (sessions : List (Option Session)) (client slot number : ℕ) (o : Option Session) → session_in sessions slot ≡ o
+    → IfOk (beside o client slot number) (λ found. session_in sessions found.slot ≡ session_found sessions client found)
+whose_by sessions client slot number None is = is
+whose_by sessions client slot number (Some s) is = whose_own sessions client slot number s is (eqb s.client client) refl
+
+pub whose_found : (sessions : List (Option Session)) (client slot number : ℕ) → IfOk (beside (session_in sessions slot) client slot number) (λ found. session_in sessions found.slot ≡ session_found sessions client found)
+whose_found sessions client slot number = whose_by sessions client slot number (session_in sessions slot) refl
+
+-- with the log of a number that there is
+pub number_found : (o : Option Session) (client slot number : ℕ) → IfSome o IsSession → IfOk (beside o client slot number) (λ found. IfSome found.own (λ n. n < ALL_LOGS))
+number_found None client slot number is = tt
+number_found (Some s) client slot number is = by_own (eqb s.client client)
   where
-    by_own : (own : Bool) → eqb other client ≡ own → IfOk (cond own (Ok (record { slot = slot; number = number; is_open = true })) (Err refusals.Busy)) (λ found. Some other ≡ holder_found found client)
-    by_own false e = tt
-    by_own true e = ap (λ (n : ℕ). Some n) (eqb-true other client e)
+    by_own : (own : Bool) → IfOk {T = Found} (cond own (Ok (record { slot = slot; number = number; own = Some s.number })) (Err refusals.Busy)) (λ found. IfSome found.own (λ n. n < ALL_LOGS))
+    by_own false = tt
+    by_own true = is.number
 
 -- ---- whether a graph is lacking
 
@@ -150,12 +151,6 @@ unfolding puddles_with_graph
 are_with_graph F slot image at is =
     let found = with_graph F image at (puddles_in_turn (tables_of F image) slot) (graph_of (types_of image) (stored_in F (puddles_in_turn (tables_of F image) slot) image)) refl is in
     record { graph = found.0; turned = found.1; stored = found.2 }
-
--- ---- what is held on the pool in a slot
-
-held_on_slot : (slot : ℕ) (o : Option Held) → is_held_on slot o ≡ true → (h : Held) × (o ≡ Some h) × (h.slot ≡ slot)
-held_on_slot slot None on = absurd (let no : false ≡ true = on in cc)
-held_on_slot slot (Some h) on = (h, refl, eqb-true h.slot slot on)
 
 -- ---- what a client has that may write a pool
 
@@ -265,8 +260,8 @@ module _ (size : ℕ) (w : World) (memory : Memory) (s : State) (ready : IsReady
 
     -- ---- none is open on it
 
-    pub shut_by : holder_in memory.sessions slot ≡ None → open_on name w ≡ None
-    shut_by shut = session_shut size w memory s ready name slot slot_is (session_in-no_holder memory.sessions slot shut)
+    pub shut_by : session_in memory.sessions slot ≡ None → open_on name w ≡ None
+    shut_by shut = session_shut size w memory s ready name slot slot_is shut
 
     module _ (shut : open_on name w ≡ None) where
       stored_read : stored_in F (puddles_in_turn t slot) under ≡ stored_in F (puddles_in_turn t slot) image
@@ -327,87 +322,89 @@ module _ (size : ℕ) (w : World) (memory : Memory) (s : State) (ready : IsReady
           }
 
       -- it lacks a graph that is needed where it was judged to have none
-      pub lacks_judged : (need : Need) (judged_sound : Bool) → needs_graph need ≡ true → judged_sound ≡ is_some (puddles_with_graph F image slot) → not judged_sound ≡ lacks_graph need (pool_named name w.stored)
-      lacks_judged need judged_sound needed judged =
+      lacks_shut : (need : Need) (judged_sound : Bool) → needs_graph need ≡ true → judged_sound ≡ is_some (puddles_with_graph F image slot) → not judged_sound ≡ lacks_graph need (pool_named name w.stored)
+      lacks_shut need judged_sound needed judged =
           ap not (judged ∙ has_graph F slot image ∙ ap is_some (sym graph_read)) ∙ none_needed need needed (graph_in (pool_named name w.stored)) (pool_named name w.stored) refl
 
     -- ---- one is open on it
 
-    module _ (other : ℕ) (at : holder_in memory.sessions slot ≡ Some other) where
-      pub open_on : IsSessionOf w memory.held name slot (record { client = other; depth = depth_in memory.sessions slot })
-      open_on = session_open size w memory s ready name slot slot_is (record { client = other; depth = depth_in memory.sessions slot }) (session_in-holder memory.sessions slot other at)
+    module _ (session : Session) (at : session_in memory.sessions slot ≡ Some session) where
+      abbrev pub of_session : IsSessionOf w memory.held name slot session
+      of_session = session_open size w memory s ready name slot slot_is session at
 
-      pub its_client : open_on.transaction.client ≡ other
-      its_client = sym (ap client_in open_on.session_is)
+      pub its_client : of_session.transaction.client ≡ session.client
+      its_client = sym (ap client_in of_session.session_is)
 
-      pub its : IsHeld w open_on.mine ready.mask s.now.words
-      its = held_is w memory.held ready.mask s.now.words ready.held open_on.number open_on.mine open_on.is
+      abbrev pub its : IsHeld w of_session.mine ready.mask s.now.words
+      its = held_is w memory.held ready.mask s.now.words ready.held session.number of_session.mine of_session.is
 
       pub its_graph : graph_in (pool_named name w.stored) ≡ Some its.undone
-      its_graph = ap (λ (n : List ℕ). graph_in (pool_named n w.stored)) (sym open_on.name_is) ∙ its.stored
+      its_graph = ap (λ (n : List ℕ). graph_in (pool_named n w.stored)) (sym of_session.name_is) ∙ its.stored
 
-      -- so it lacks none
-      pub lacks_none : (need : Need) → false ≡ lacks_graph need (pool_named name w.stored)
-      lacks_none need = none_lacking need _ (pool_named name w.stored) its_graph
-
-      -- the client's own is held on it
-      module _ (own : eqb other client ≡ true) where
-        pub own_there : (number : ℕ) × IsOwnOn client name slot number memory.held
-        own_there = (open_on.number, own_on w memory.held client name slot (record { client = other; depth = depth_in memory.sessions slot }) open_on (eqb-true other client own))
+      -- so it lacks none, as it is judged
+      pub its_puddles : puddles_with_graph F image slot ≡ Some its.at
+      its_puddles =
+          subst (λ (i : ℕ). puddles_with_graph F image i ≡ Some its.at) of_session.slot_is
+          (ready.knows.judged.each of_session.mine.slot its.at (held_there_known size w memory s ready session.number of_session.mine of_session.is))
 
     -- ---- by whose it is
 
-    open_lacks_none : (need : Need) (o : Option ℕ) → holder_in memory.sessions slot ≡ o → is_some o ≡ true → false ≡ lacks_graph need (pool_named name w.stored)
-    open_lacks_none need None at some = absurd (let no : false ≡ true = some in cc)
-    open_lacks_none need (Some other) at some = lacks_none other at need
+    lacks_by : (need : Need) (judged_sound : Bool) → needs_graph need ≡ true → judged_sound ≡ is_some (puddles_with_graph F image slot) → (o : Option Session) → session_in memory.sessions slot ≡ o
+        → not judged_sound ≡ lacks_graph need (pool_named name w.stored)
+    lacks_by need judged_sound needed judged None at = lacks_shut (shut_by at) need judged_sound needed judged
+    lacks_by need judged_sound needed judged (Some session) at =
+        ap not (judged ∙ ap is_some (its_puddles session at)) ∙ none_lacking need _ (pool_named name w.stored) (its_graph session at)
 
-    -- where one is open it lacks no graph
-    pub none_lacking_open : (need : Need) → is_some (holder_in memory.sessions slot) ≡ true → false ≡ lacks_graph need (pool_named name w.stored)
-    none_lacking_open need = open_lacks_none need (holder_in memory.sessions slot) refl
+    -- it lacks a graph that is needed where it was judged to have none
+    pub lacks_judged : (need : Need) (judged_sound : Bool) → needs_graph need ≡ true → judged_sound ≡ is_some (puddles_with_graph F image slot) → not judged_sound ≡ lacks_graph need (pool_named name w.stored)
+    lacks_judged need judged_sound needed judged = lacks_by need judged_sound needed judged (session_in memory.sessions slot) refl
 
-    others_by : (o : Option ℕ) → holder_in memory.sessions slot ≡ o → (number : ℕ) → refusal_found (beside o client slot number) ≡ cond (is_others client (open_on name w)) (Some refusals.Busy) None
+    others_by : (o : Option Session) → session_in memory.sessions slot ≡ o → (number : ℕ) → refusal_found (beside o client slot number) ≡ cond (is_others client (open_on name w)) (Some refusals.Busy) None
     others_by None at number = ap (λ (t : Option Transaction). cond (is_others client t) (Some refusals.Busy) None) (sym (shut_by at))
-    others_by (Some other) at number =
-        busy_by (eqb other client)
-        ∙ ap (λ (n : ℕ). cond (not (eqb n client)) (Some refusals.Busy) None) (sym (its_client other at))
-        ∙ ap (λ (t : Option Transaction). cond (is_others client t) (Some refusals.Busy) None) (sym (open_on other at).there)
+    others_by (Some session) at number =
+        busy_by (eqb session.client client)
+        ∙ ap (λ (n : ℕ). cond (not (eqb n client)) (Some refusals.Busy) None) (sym (its_client session at))
+        ∙ ap (λ (t : Option Transaction). cond (is_others client t) (Some refusals.Busy) None) (sym (of_session session at).there)
       where
-        busy_by : (own : Bool) → refusal_found {A = Found} (cond own (Ok (record { slot = slot; number = number; is_open = true })) (Err refusals.Busy)) ≡ cond (not own) (Some refusals.Busy) None
+        busy_by : (own : Bool) → refusal_found {A = Found} (cond own (Ok (record { slot = slot; number = number; own = Some session.number })) (Err refusals.Busy)) ≡ cond (not own) (Some refusals.Busy) None
         busy_by true = refl
         busy_by false = refl
 
-    pub refusal_beside_it : (number : ℕ) → refusal_found (beside (holder_in memory.sessions slot) client slot number) ≡ cond (is_others client (open_on name w)) (Some refusals.Busy) None
-    refusal_beside_it = others_by (holder_in memory.sessions slot) refl
+    pub refusal_beside_it : (number : ℕ) → refusal_found (beside (session_in memory.sessions slot) client slot number) ≡ cond (is_others client (open_on name w)) (Some refusals.Busy) None
+    refusal_beside_it = others_by (session_in memory.sessions slot) refl
 
     -- what is known of it, where it was judged
-    module _ (need : Need) (known : needs_graph need ≡ true → holder_in memory.sessions slot ≡ None → true ≡ is_some (known_in memory.judged slot)) where
-      judged_here : AreJudged F memory.judged image
-      judged_here = ready.knows.judged
+    module _ (need : Need) (known : needs_graph need ≡ true → true ≡ is_some (known_in memory.judged slot)) where
+      known_here : needs_graph need ≡ true → Some (unwrap_or (known_in memory.judged slot) []) ≡ puddles_with_graph F image slot
+      known_here needed = judged_puddles F slot image memory.judged (known needed) ready.knows.judged
 
-      found_by : (o : Option ℕ) → holder_in memory.sessions slot ≡ o → IfOk (beside o client slot rec.number) (IsFound w need client name image memory)
+      found_by : (o : Option Session) → session_in memory.sessions slot ≡ o → IfOk (beside o client slot rec.number) (IsFound w need client name image memory)
       found_by None at = record {
         rec = rec;
         is = is;
         number_is = refl;
-        own = λ open_here. absurd (let no : false ≡ true = open_here in cc);
+        own = λ number own. absurd (none-some number own);
         none = λ shut. shut_by at;
-        known = λ shut needed. judged_puddles F slot image memory.judged (known needed at) judged_here;
+        known = known_here;
       }
-      found_by (Some other) at = own_by (eqb other client) refl
+      found_by (Some session) at = own_by (eqb session.client client) refl
         where
-          own_by : (own : Bool) → eqb other client ≡ own → IfOk (cond own (Ok (record { slot = slot; number = rec.number; is_open = true })) (Err refusals.Busy)) (IsFound w need client name image memory)
+          own_by : (own : Bool) → eqb session.client client ≡ own
+              → IfOk {T = Found} (cond own (Ok (record { slot = slot; number = rec.number; own = Some session.number })) (Err refusals.Busy)) (IsFound w need client name image memory)
           own_by false e = tt
           own_by true e = record {
             rec = rec;
             is = is;
             number_is = refl;
-            own = λ open_here. own_there other at e;
-            none = λ shut. absurd (let no : true ≡ false = shut in cc);
-            known = λ shut. absurd (let no : true ≡ false = shut in cc);
+            own = λ number own.
+                subst (λ (n : ℕ). IsOwnOn client name slot n memory.held) (same_Some session.number number own)
+                (own_on w memory.held client name slot session (of_session session at) (eqb-true session.client client e));
+            none = λ shut. absurd (none-some session.number (sym shut));
+            known = known_here;
           }
 
-      pub found_beside : IfOk (beside (holder_in memory.sessions slot) client slot rec.number) (IsFound w need client name image memory)
-      found_beside = found_by (holder_in memory.sessions slot) refl
+      pub found_beside : IfOk (beside (session_in memory.sessions slot) client slot rec.number) (IsFound w need client name image memory)
+      found_beside = found_by (session_in memory.sessions slot) refl
 
     -- a transaction of a client that may write it may begin
     pub may_begin : (at : List (ℕ × Puddle)) → client < CLIENTS → refusal_to w needs.Write client name ≡ None → Some at ≡ puddles_with_graph F image slot → MayBegin F client name image slot at
@@ -428,55 +425,41 @@ module _ (size : ℕ) (w : World) (memory : Memory) (s : State) (ready : IsReady
           right = (λ p. writes (sym may.there p) (sym named p)) ∙ may.right;
         }
 
--- ---- the client's own transaction is held on the pool in a slot
+-- ---- whether the client's own transaction is open on what was found
 
-module _ (size : ℕ) (w : World) (memory : Memory) (s : State) (ready : IsReady size w memory s) (client : ℕ) (name : List ℕ) (slot its_number : ℕ) (its : IsOwnOn client name slot its_number memory.held) where
-  -- whatever is held on it is that
-  pub own_number : (number : ℕ) → is_held_on slot (held_under memory.held number) ≡ true → IsOwnOn client name slot number memory.held
-  own_number number on =
-      let mine = held_on_slot slot (held_under memory.held number) on in
-      let same : its_number ≡ number =
-      one_slot w memory.held ready.mask s.now.words ready.held its_number number its.own.mine mine.0 its.own.is mine.1 (its.slot_is ∙ sym mine.2) in
-      subst (λ (n : ℕ). IsOwnOn client name slot n memory.held) same its
+pub its_number : (own : Option ℕ) → is_some own ≡ true → (number : ℕ) × (own ≡ Some number)
+its_number None there = absurd (let no : false ≡ true = there in cc)
+its_number (Some number) there = (number, refl)
 
-  -- it is not missed
-  pub own_missed : ((number : ℕ) → is_held_on slot (held_under memory.held number) ≡ false) → ⊥
-  own_missed none =
-      let it : true ≡ false = sym (ap (is_held_on slot) its.own.is ∙ eq-eqb its.own.mine.slot slot its.slot_is) ∙ none its_number in
-      cc
+pub no_number : (own : Option ℕ) → is_some own ≡ false → own ≡ None
+no_number None none = refl
+no_number (Some number) none = absurd (let no : true ≡ false = none in cc)
 
 -- ---- more is known of pools
 
--- by a call that judges one on which no transaction is open
-pub judged_more : (size : ℕ) (w : World) (memory : Memory) (judged : List (Option (List (ℕ × Puddle)))) (old : State) (slot : ℕ) → IsReady size w memory old → AreJudged memory.frames judged (reads old.now.words)
-    → holder_in memory.sessions slot ≡ None → ((i : ℕ) → i ≢ slot → known_in judged i ≡ known_in memory.judged i) → IsReady size w (record memory { judged = judged }) old
-judged_more size w memory judged old slot ready right shut others =
-    let there = subst (λ (n : ℕ). AreJudged n judged (reads old.now.words)) ready.frames right in
-    let apart : (number : ℕ) (h : Held) → held_under memory.held number ≡ Some h → known_in judged h.slot ≡ known_in memory.judged h.slot = λ number h is. others h.slot (apart_from size w memory old ready slot shut number h is) in
-    let knows = KnowsPools-read w.stored.frames memory.judged judged memory.held (reads old.now.words) there apart ready.knows in
-    IsReady-beside size w memory (record memory { judged = judged }) old refl refl refl knows ready
+-- by a call that judges one, and forgets none
+pub judged_more : (size : ℕ) (w : World) (memory : Memory) (judged : List (Option (List (ℕ × Puddle)))) (old : State) → IsReady size w memory old → AreJudged memory.frames judged (reads old.now.words)
+    → ((i : ℕ) (at : List (ℕ × Puddle)) → known_in memory.judged i ≡ Some at → known_in judged i ≡ Some at) → IsReady size w (record memory { judged = judged }) old
+judged_more size w memory judged old ready right kept =
+    IsReady-beside size w memory (record memory { judged = judged }) old refl refl refl ready
+    (KnowsPools-read w.stored.frames memory.judged judged ready.held.opens (reads old.now.words) (subst (λ (n : ℕ). AreJudged n judged (reads old.now.words)) ready.frames right) kept ready.knows)
 
 -- ---- behind the call that finds a pool
-
--- no other client has a session on the pool
-pub own_session : (o : Option Session) (client : ℕ) (is_open : Bool) → option_map client_in o ≡ cond is_open (Some client) None → IfSome o (λ session. session.client ≡ client)
-own_session None client is_open e = tt
-own_session (Some session) client true e = same_Some session.client client e
-own_session (Some session) client false e = absurd (none-some session.client (sym e))
 
 -- The daemon is ready, what was found is the pool of the name, and no line of the client that needs so much is refused for the pool.
 pub record Finds (size : ℕ) (w : World) (need : Need) (client : ℕ) (name : List ℕ) (memory : Memory) (s : State) (found : Found) : Type 0 where
   pub ready : IsReady size w memory s
   pub is : IsFound w need client name (reads s.now.words) memory found
-  pub whose : holder_in memory.sessions found.slot ≡ holder_found found client
+  pub whose : session_in memory.sessions found.slot ≡ session_found memory.sessions client found
   pub free : refusal_to w need client name ≡ None
 
 pub finds : (size : ℕ) (w : World) (need : Need) (client : ℕ) (name : List ℕ) (old now : Memory) (a b : State) (result : Result Found Refusal) (found : Found) → result ≡ Ok found → b ≡ a
     → now.sessions ≡ old.sessions → IsReady size w now a → refusal_found result ≡ refusal_to w need client name → IfOk result (IsFound w need client name (reads a.now.words) now)
-    → IfOk result (λ f. holder_in old.sessions f.slot ≡ holder_found f client) → Finds size w need client name now b found
+    → IfOk result (λ f. session_in old.sessions f.slot ≡ session_found old.sessions client f) → Finds size w need client name now b found
 finds size w need client name old now a b result found ok same sessions ready refusal is whose = record {
   ready = subst (IsReady size w now) (sym same) ready;
   is = subst (λ (s : State). IsFound w need client name (reads s.now.words) now found) (sym same) (subst (λ (r : Result Found Refusal). IfOk r (IsFound w need client name (reads a.now.words) now)) ok is);
-  whose = ap (λ (ss : List (Option Session)). holder_in ss found.slot) sessions ∙ subst (λ (r : Result Found Refusal). IfOk r (λ f. holder_in old.sessions f.slot ≡ holder_found f client)) ok whose;
+  whose = subst (λ (ss : List (Option Session)). session_in ss found.slot ≡ session_found ss client found) (sym sessions)
+      (subst (λ (r : Result Found Refusal). IfOk r (λ f. session_in old.sessions f.slot ≡ session_found old.sessions client f)) ok whose);
   free = sym refusal ∙ ap refusal_found ok;
 }

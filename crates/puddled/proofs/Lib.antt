@@ -7,6 +7,8 @@ pub mod FileNames
 pub mod FileLines
 pub mod ExportLines
 pub mod Entering
+pub mod Changing
+pub mod Releasing
 pub mod Counted
 pub mod Emptied
 pub mod Restarts

@@ -9,7 +9,6 @@ use Rattle.pm_model.specs.Calls.{Says}
 use Rattle.pm_model.specs.Changes.{Leaves, Silently}
 use Rattle.pm_model.proofs.Leaves.{Leaves-then, Leaves-weaker, Leaves-now, Leaves-says, IsPrefix}
 use Rattle.pm_model.proofs.Said.{words-all_said, said-all_said, script-all_said, shelf-all_said}
-use Rattle.pud_defs.specs.Spaces.{owner_of}
 use Rattle.pud_defs.specs.Image.{Image}
 use Rattle.pud_defs.specs.World.{World, world_of, closed}
 use Rattle.pud_defs.specs.Grammar.{command_of}
@@ -19,17 +18,12 @@ use Rattle.pud_defs.specs.Texts.{answer_text, begins_with_ok}
 use Rattle.pud_defs.specs.Stands.{StandsAfter, StandsWith}
 use Rattle.pud_defs.proofs.Lines.{newlines_part}
 use Rattle.pud_defs.proofs.Said.{newlines-answer_text}
-use Rattle.batch.specs.Tables.{HasDurableTables}
-use Rattle.batch.specs.Worlds.{IsSettled}
 use Rattle.puddled.specs.declared.daemon.RunFault.{RunFault}
 use Rattle.puddled.specs.declared.daemon.RunFault.TheVariants.{NotSound}
 use Rattle.ready_daemon.specs.Memory.{Memory}
-use Rattle.ready_daemon.specs.KnownPools.{KnowsPools}
 use Rattle.puddled.specs.declared.answers.Answered.{Answered}
 use Rattle.puddled.specs.Answered.{answer_of, said_text}
 use Rattle.puddled.specs.Faults.{run_fault, CountsLine}
-use Rattle.pm_model.specs.Masks.{masked}
-use Rattle.ready_daemon.specs.Held.{Holds, HasDurableFrames, HasIdleLogs}
 use Rattle.ready_daemon.proofs.Beside.{ready_stands}
 use Rattle.ready_daemon.specs.Ready.{KeepsRest, KeepsInput, IsReady, IsClosedIfFree, ClosesFirst, ClosesLogs, RefusesNone}
 use Rattle.puddled.specs.Saying.{EndsIn, SaysPart}
@@ -81,19 +75,19 @@ shelf_said text fault old new s = ap (λ (x : State). x.shelf) s.is ∙ shelf-al
 
 pub IsReady-said : (size : ℕ) (w : World) (memory : Memory) (old new : State) → new.now.words ≡ old.now.words → new.shelf ≡ old.shelf → IsReady size w memory old → IsReady size w memory new
 IsReady-said size w memory old new words shelf ready =
-    record {
+    subst (λ (x : Words). IsReady size w memory (record new { now = record new.now { words = x } })) (sym words) (record {
       mask = ready.mask;
-      settled = subst (λ (x : Words). IsSettled size (closed w) (masked ready.mask x)) (sym words) ready.settled;
-      tables = subst (λ (x : Words). HasDurableTables w.stored.frames x) (sym words) ready.tables;
-      clients = λ client low. ap (λ (x : Words). owner_of (reads x) client) words ∙ ready.clients client low;
+      settled = ready.settled;
+      tables = ready.tables;
+      clients = ready.clients;
       frames = ready.frames;
       shelf = shelf ∙ ready.shelf;
-      held = subst (λ (x : Words). Holds w memory.held ready.mask x) (sym words) ready.held;
+      held = ready.held;
       sessions = ready.sessions;
-      logs = subst (λ (x : Words). HasIdleLogs w.stored.frames w.clients (masked ready.mask x)) (sym words) ready.logs;
-      rest = subst (λ (x : Words). HasDurableFrames w.stored.frames (masked ready.mask x)) (sym words) ready.rest;
-      knows = subst (λ (x : Words). KnowsPools w.stored.frames memory.judged memory.held (reads x)) (sym words) ready.knows;
-    }
+      logs = ready.logs;
+      rest = ready.rest;
+      knows = ready.knows;
+    })
 
 -- nothing was said yet
 silent_moments : (size : ℕ) (w : World) (t : Turn) (old new : State) → Leaves (Silently (Between size w t.under)) old new → Leaves (StandsWith size w (t ∷ [])) old new

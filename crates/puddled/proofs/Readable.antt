@@ -1,8 +1,7 @@
 -- Lines that read a pool: the graph of its puddles, and what is replied.
-use Rattle.std.proofs.Common.{◌≡◌, inl, inr, ℕ, Bool, true, false, cond, List, [], Option, Some, None, is_none, refl, sym, ap, subst, ◌∙◌}
+use Rattle.std.proofs.Common.{◌≡◌, ℕ, cond, List, [], Option, Some, None, is_none, refl, sym, ap, subst, ◌∙◌}
 use Rattle.std.specs.Prelude.{unwrap_or}
 use Rattle.std.specs.Option.{option_or}
-use Rattle.std.proofs.lemmas.Option.{same_Some}
 use Rattle.pm_model.specs.declared.host.HostFault.{HostFault}
 use Rattle.pm_model.specs.declared.host.HostFault.TheVariants.{Cut}
 use Rattle.pm_model.specs.Words.{reads}
@@ -24,12 +23,12 @@ use Rattle.pud_defs.specs.Step.{graph_seen, object_of, field_of, value_or_ok, te
 use Rattle.pud_defs.specs.Step.Answer.{of_reply}
 use Rattle.graph_read.specs.declared.fields.FieldRead.{FieldRead}
 use Rattle.graph_read.specs.Reading.{read_value, read_by}
-use Rattle.ready_daemon.specs.Memory.{Held, Memory, held_under}
-use Rattle.ready_daemon.specs.Holding.{FindsPuddles, IsOwnOn}
+use Rattle.ready_daemon.specs.Memory.{Memory}
+use Rattle.ready_daemon.specs.Holding.{IsOwnOn}
 use Rattle.ready_daemon.specs.Judged.{known_in}
 use Rattle.ready_daemon.specs.Ready.{IsReady, Applies}
 use Rattle.ready_daemon.proofs.Applying.{Applies-still}
-use Rattle.ready_daemon.proofs.PoolsBeside.{one_slot}
+use Rattle.ready_daemon.proofs.InTurn.{held_there_known}
 use Rattle.ready_daemon.proofs.OpenBeside.{open_here}
 use Rattle.ready_daemon.proofs.TablesBeside.{types_read}
 use Rattle.puddled.specs.declared.finding.Need.TheVariants as needs
@@ -42,15 +41,13 @@ use Rattle.puddled.proofs.Needs.{refusal_of-get as refusal_by_need}
 -- ---- the puddles of what was found
 
 module _ (size : ℕ) (w : World) (memory : Memory) (s : State) (ready : IsReady size w memory s) (client : ℕ) (name : List ℕ) where
-  -- the client's own transaction has the graph that is read of its puddles
-  holds_own : (slot number : ℕ) (at : List (ℕ × Puddle)) → FindsPuddles memory.held slot at → IsOwnOn client name slot number memory.held → HoldsGraph w w.stored.frames name (reads s.now.words) at
-  holds_own slot number at (inr none) own = absurd (none number own.own.mine own.own.is own.slot_is)
-  holds_own slot number at (inl found) own =
+  -- the client's own transaction has the graph that is read of the puddles that are known
+  holds_own : (slot number : ℕ) (at : List (ℕ × Puddle)) → at ≡ unwrap_or (known_in memory.judged slot) [] → IsOwnOn client name slot number memory.held → HoldsGraph w w.stored.frames name (reads s.now.words) at
+  holds_own slot number at is own =
       let mine = own.own.mine in
       let here = open_here w memory.held ready.mask s.now.words name client number ready.held own.own in
-      let same : found.number ≡ number = one_slot w memory.held ready.mask s.now.words ready.held found.number number found.mine mine found.is own.own.is (found.slot_is ∙ sym own.slot_is) in
-      let one : found.mine ≡ mine = same_Some found.mine mine (sym found.is ∙ ap (held_under memory.held) same ∙ own.own.is) in
-      let has : at ≡ mine.at = sym found.at_is ∙ ap (λ (h : Held). h.at) one in
+      let known = sym (ap (known_in memory.judged) own.slot_is) ∙ held_there_known size w memory s ready number mine own.own.is in
+      let has = is ∙ ap (λ (o : Option (List (ℕ × Puddle))). unwrap_or o []) known in
       record {
         graph = here.transaction.now;
         stored = (λ p. graph_of ((types_read size w memory s ready).types p) (stored_in w.stored.frames (has p) (reads s.now.words))) ∙ here.now;
@@ -58,13 +55,13 @@ module _ (size : ℕ) (w : World) (memory : Memory) (s : State) (ready : IsReady
       }
 
   -- they hold the graph of the pool
-  pub holds_found : (found : Found) (at : List (ℕ × Puddle)) → IsFound w needs.Read client name (reads s.now.words) memory found
-      → (found.is_open ≡ true → FindsPuddles memory.held found.slot at) → (found.is_open ≡ false → at ≡ unwrap_or (known_in memory.judged found.slot) []) → HoldsGraph w w.stored.frames name (reads s.now.words) at
-  holds_found found at is finds known = by_open found.is_open refl
+  pub holds_found : (found : Found) (at : List (ℕ × Puddle)) → IsFound w needs.Read client name (reads s.now.words) memory found → at ≡ unwrap_or (known_in memory.judged found.slot) []
+      → HoldsGraph w w.stored.frames name (reads s.now.words) at
+  holds_found found at is known = by_own found.own refl
     where
-      by_open : (b : Bool) → found.is_open ≡ b → HoldsGraph w w.stored.frames name (reads s.now.words) at
-      by_open true on = let mine = is.own on in holds_own found.slot mine.0 at (finds on) mine.1
-      by_open false off = subst (HoldsGraph w w.stored.frames name (reads s.now.words)) (sym (known off)) (holds_graph size w memory s ready client name found.slot is.rec is.is (is.none off) _ (is.known off refl))
+      by_own : (o : Option ℕ) → found.own ≡ o → HoldsGraph w w.stored.frames name (reads s.now.words) at
+      by_own (Some number) own = holds_own found.slot number at known (is.own number own)
+      by_own None shut = subst (HoldsGraph w w.stored.frames name (reads s.now.words)) (sym known) (holds_graph size w memory s ready client name found.slot is.rec is.is (is.none shut) _ (is.known refl))
 
 -- ---- what is replied
 

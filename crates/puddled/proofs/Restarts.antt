@@ -1,5 +1,5 @@
 -- A device brought up to date behind a power loss or at a start, as the daemon has it.
-use Rattle.std.proofs.Common.{◌≡◌, ◌≢◌, ◌⊎◌, ◌↔◌, inl, inr, ⊎_elim, ℕ, ◌<◌, ◌≤◌, Bool, true, false, ◌&&◌, ltb, [], List, replicate, Option, Some, None, Result, Ok, Err, IfOk, refl, sym, ap, subst, ◌∙◌, arith}
+use Rattle.std.proofs.Common.{◌≡◌, ◌≢◌, ◌⊎◌, ◌↔◌, inl, inr, ⊎_elim, ℕ, ◌<◌, ◌≤◌, Bool, true, false, ◌&&◌, ltb, [], List, Option, Some, None, Result, Ok, Err, IfOk, refl, sym, ap, subst, ◌∙◌, arith}
 use Rattle.std.proofs.lemmas.Bool.{lt-leb}
 use Rattle.std.proofs.lemmas.List.{append-nil}
 use Rattle.pm_model.specs.declared.host.HostFault.{HostFault}
@@ -198,7 +198,7 @@ ready_behind size w i world b c behind empties frames counted shelf =
       sessions = HasSessions-none (restart w) ALL_LOGS POOL_RECORDS;
       logs = record { each = λ client number low few present. absurd (let it : false ≡ true = present in cc) };
       rest = record { each = λ k above. single k (outside_log DAEMON_LOG k (inr (omega arith))) };
-      knows = KnowsPools-none w.stored.frames POOL_RECORDS (replicate ALL_LOGS None) (reads c.now.words);
+      knows = KnowsPools-none w.stored.frames POOL_RECORDS (reads c.now.words);
     }
 
 -- it is not refused

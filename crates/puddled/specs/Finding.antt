@@ -15,12 +15,13 @@ use Rattle.pud_defs.specs.Transactions.{is_others}
 use Rattle.pud_defs.specs.World.{Transaction, World, open_on}
 use Rattle.nesting.specs.declared.EnterFault.{EnterFault}
 use Rattle.nesting.specs.declared.EnterFault.TheVariants.{Deep, Logs}
-use Rattle.nesting.specs.Sessions.{client_in, session_in}
+use Rattle.nesting.specs.declared.Session.{Session}
+use Rattle.nesting.specs.Sessions.{session_in, depth_in}
 use Rattle.puddled.specs.declared.finding.Own.{Own}
 use Rattle.puddled.specs.declared.finding.Need.{Need}
 use Rattle.puddled.specs.declared.finding.Need.TheVariants as needs
 use Rattle.puddled.specs.declared.finding.Found.{Found}
-use Rattle.ready_daemon.specs.Memory.{Memory, held_under}
+use Rattle.ready_daemon.specs.Memory.{Memory}
 use Rattle.ready_daemon.specs.Holding.{IsOwnOn}
 use Rattle.ready_daemon.specs.Judged.{known_in, puddles_with_graph}
 
@@ -71,35 +72,34 @@ refusal_to w need client name = need_refusal need (w.clients client) (pool_named
 
 -- ---- what is found
 
--- by whose transaction is open on the pool
-abbrev pub beside : Option ℕ → (client slot number : ℕ) → Result Found Refusal
-beside None client slot number = Ok (record { slot = slot; number = number; is_open = false })
-beside (Some holder) client slot number = cond (holder == client) (Ok (record { slot = slot; number = number; is_open = true })) (Err refusals.Busy)
+-- by the session on the pool
+abbrev pub beside : Option Session → (client slot number : ℕ) → Result Found Refusal
+beside None client slot number = Ok (record { slot = slot; number = number; own = None })
+beside (Some session) client slot number = cond (session.client == client) (Ok (record { slot = slot; number = number; own = Some session.number })) (Err refusals.Busy)
 
 -- the pool of the name has this record, as it is read, in the slot
 abbrev pub IsRecordOf : (F : ℕ) → List ℕ → Image → (slot : ℕ) → PoolRec → Type 0
 IsRecordOf F name image slot rec = ◌≡◌ {A = Option (ℕ × PoolRec)} (Some (slot, rec)) (pool_in (tables_of F image) name)
 
--- whose transaction is open on it then
-abbrev pub holder_found : Found → (client : ℕ) → Option ℕ
-holder_found found client = cond found.is_open (Some client) None
+-- the session on it then
+abbrev pub session_found : List (Option Session) → (client : ℕ) → Found → Option Session
+session_found sessions client found = option_map (λ number. record { client = client; number = number; depth = depth_in sessions found.slot }) found.own
 
--- The pool that was found is that of the name, by its record. Where a transaction is open on it that is the client's own; else, where it needs a graph,
--- what is known of it is its puddles, and that they have one.
+-- The pool that was found is that of the name, by its record. Where a transaction is open on it that is the client's own, with the log of the number.
+-- Where it needs a graph, what is known of it is its puddles, and that they have one.
 pub record IsFound (w : World) (need : Need) (client : ℕ) (name : List ℕ) (image : Image) (memory : Memory) (found : Found) : Type 0 where
   pub rec : PoolRec
   pub is : IsRecordOf w.stored.frames name image found.slot rec
   pub number_is : found.number ≡ rec.number
-  pub own : found.is_open ≡ true → (number : ℕ) × IsOwnOn client name found.slot number memory.held
-  pub none : found.is_open ≡ false → open_on name w ≡ None
-  pub known : found.is_open ≡ false → needs_graph need ≡ true → Some (unwrap_or (known_in memory.judged found.slot) []) ≡ puddles_with_graph w.stored.frames image found.slot
+  pub own : (number : ℕ) → found.own ≡ Some number → IsOwnOn client name found.slot number memory.held
+  pub none : found.own ≡ None → open_on name w ≡ None
+  pub known : needs_graph need ≡ true → Some (unwrap_or (known_in memory.judged found.slot) []) ≡ puddles_with_graph w.stored.frames image found.slot
 
 -- What was found of the client's own transaction lies within the tables, and is the client's by its session.
 pub record FindsOwn (client : ℕ) (memory : Memory) (own : Own) : Type 0 where
   pub slot : own.slot < POOL_RECORDS
   pub number : own.number < ALL_LOGS
-  pub whose : option_map client_in (session_in memory.sessions own.slot) ≡ Some client
-  pub there : true ≡ is_some (held_under memory.held own.number)
+  pub whose : session_in memory.sessions own.slot ≡ Some (record { client = client; number = own.number; depth = depth_in memory.sessions own.slot })
 
 -- why the session of a transaction does not begin, or is not one deeper
 abbrev pub refusal_to_enter : EnterFault → Refusal

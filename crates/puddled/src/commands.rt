@@ -1,23 +1,72 @@
 //! The calls that answer the commands of a transaction: it is begun, committed and undone, an object is made or freed in it, a field or the root is
 //! set, and a field's value asked for later.
-ghost use Rattle.std.specs.Prelude.{◌≡◌, ◌<◌, ◌≤◌, ℕ, Option};
+ghost use Rattle.std.specs.Prelude.{◌≡◌, ◌<◌, ◌≤◌, ℕ, List, Option, IfOk};
 ghost use Rattle.pm_model.specs.Words.{IsRested};
 ghost use Rattle.pm_model.specs.Counts.{after_fault, fault_of};
-ghost use Rattle.pud_defs.specs.declared.layout.TheConstants.{CLIENTS};
+ghost use Rattle.pud_defs.specs.declared.layout.TheConstants.{CLIENTS, MAX_FRAMES};
+ghost use Rattle.pud_defs.specs.declared.records.TheConstants.{POOL_RECORDS};
 ghost use Rattle.pud_defs.specs.declared.machine.Command.TheVariants as commands;
 ghost use Rattle.pud_defs.specs.Layout.{device_words};
+ghost use Rattle.pud_defs.specs.Settled.{ALL_LOGS};
+ghost use Rattle.pud_defs.specs.Step.{answer_by, world_by};
+ghost use Rattle.pud_defs.specs.Step.Answer.{of_reply};
 ghost use Rattle.pud_defs.specs.World.{Transaction, World, open_on};
+ghost use Rattle.nesting.specs.declared.Session.{Session};
 ghost use Rattle.puddled.specs.Answered.{as_answered};
 ghost use Rattle.pool_transaction.specs.Changing.{line_of, IsLegalChange};
-ghost use Rattle.ready_daemon.specs.Ready.{KeepsRest, IsReady};
+ghost use Rattle.ready_daemon.specs.Held.{AreHeldWithin};
+ghost use Rattle.ready_daemon.specs.Holding.{IsOwnOn};
+ghost use Rattle.ready_daemon.specs.Judged.{AreOnDevice};
+ghost use Rattle.ready_daemon.specs.Ready.{KeepsRest, IsReady, Applies};
 ghost use Rattle.puddled.specs.Daemon.{CarriesOut};
 
 use crate::daemon::Daemon;
-use crate::finding::{Need, refusal_to_enter};
+use crate::finding::{Need, Own};
+use crate::judged::Judged;
 use pm_model::{Host, HostFault};
-use pool_transaction::Change;
-use pud_defs::machine::Reply;
+use pool_transaction::{AllOpened, Change};
+use pud_defs::machine::{Refusal, Reply};
 use pud_defs::records::Name;
+
+/// Makes the change in the transaction that is held under the number, on the pool that is known in the slot.
+///
+/// The device has so many frames. The only errors are the host's own.
+fn change_in<H: Host>(
+    h: &mut H,
+    frames: u32,
+    all: &mut AllOpened,
+    judged: &mut Judged,
+    own: Own,
+    change: Change,
+) -> Result<Reply, HostFault>
+    requires few { frames ≤ MAX_FRAMES }
+    requires room { device_words frames ≤ (H.counts h.old).size }
+    requires slot { own.slot < POOL_RECORDS }
+    requires number { own.number < ALL_LOGS }
+    requires within { AreHeldWithin frames all.old }
+    requires known { AreOnDevice frames judged.old }
+    requires legal { IsLegalChange change }
+    ensures reply { H.tells → (size : ℕ) → size ≡ (H.counts h.old).size → (w : World) → (sessions : List (Option Session)) → (client : ℕ) → (name : List ℕ)
+        → IsReady size w (record { frames = frames; held = all.old; sessions = sessions; judged = judged.old }) (H.state h.old) → IsOwnOn client name own.slot own.number all.old
+        → IfOk result (λ reply. of_reply reply ≡ answer_by w (Option.Some (line_of change client name))) }
+    ensures applies { H.tells → (size : ℕ) → size ≡ (H.counts h.old).size → (w : World) → (sessions : List (Option Session)) → (client : ℕ) → (name : List ℕ)
+        → IsReady size w (record { frames = frames; held = all.old; sessions = sessions; judged = judged.old }) (H.state h.old) → IsOwnOn client name own.slot own.number all.old
+        → Applies size w (world_by w (Option.Some (line_of change client name))) (record { frames = frames; held = all.new; sessions = sessions; judged = judged.new }) (fault_of result)
+        (H.state h.old) (H.state h.new) }
+    ensures within { AreHeldWithin frames all.new }
+    ensures known { AreOnDevice frames judged.new }
+    ensures rest { H.tells → KeepsRest (H.state h.old) (H.state h.new) }
+    ensures rests { H.tells → fault_of result ≡ Option.Some HostFault.Cut → IsRested (H.state h.new).now.words }
+    ensures cause { H.counts h.new ≡ after_fault (fault_of result) (H.counts h.old) }
+{
+    match &mut all[own.number as usize] {
+        Some(opened) => match &mut judged.pools[own.slot as usize] {
+            Some(pool) => opened.change(h, frames, pool, change),
+            None => Ok(Reply::No(Refusal::Wild)),
+        },
+        None => Ok(Reply::No(Refusal::Tx)),
+    }
+}
 
 impl Daemon {
     /// Begins a transaction of the client, 0 to 7, on the pool of this name, in the lowest closed log of the client; or, where the client's own is
@@ -49,14 +98,10 @@ impl Daemon {
             Err(refusal) => return Ok(Reply::No(refusal)),
             Ok(found) => found,
         };
-        let slot = found.slot;
-        if let Err(fault) = self.sessions.enter(client, slot) {
-            return Ok(Reply::No(refusal_to_enter(fault)));
+        match found.own {
+            Some(number) => Ok(self.begin_deeper(client, found.slot, number)),
+            None => self.begin_on(h, client, name, found.slot),
         }
-        if found.is_open {
-            return Ok(Reply::Ok);
-        }
-        self.begin_on(h, client, name, slot)
     }
 
     /// Commits the client's own transaction on the pool of this name: what it changed is then durable, or, where it was begun more often than once,
@@ -121,50 +166,17 @@ impl Daemon {
         Ok(Reply::Ok)
     }
 
-    /// Makes an object of type `t` in the client's own transaction on the pool of this name, with each field zero or null: the client sees it at once,
-    /// and others once it is committed. Where the pool has no free slot it grows by a puddle first, which it keeps also where the transaction is
-    /// undone. The client is one of 0 to 7. The reply is the object's serial, or says why none was made, by the first of these that holds: `Client`,
-    /// the client is not present; `Pool`, there is no pool of the name; `Wild`, the pool has no graph; `Busy`, another client's transaction is open
-    /// on it; `Tx`, none is; `Type`, the type is not defined; `TooBig`, the transaction's log has no room for 37 units more; `Full`, the pool has no
-    /// serial left, or as many objects as it may have, or is to grow where no UUID is left; `Space`, it is to grow and no frame is free.
-    ///
-    /// The only errors are the host's own: `Failed` where a call of it failed, `Cut` where power was lost. At either the device stands for what it
-    /// stood for before the call or for what the line gives, and the daemon is to be stopped, and to start anew.
-    pub(crate) fn new_object<H: Host>(
-        &mut self,
-        h: &mut H,
-        client: u8,
-        name: Name,
-        t: u32,
-    ) -> Result<Reply, HostFault>
-        requires known { client < CLIENTS }
-        requires room { device_words (self.old).frames ≤ (H.counts h.old).size }
-        ensures carries { H.tells → (size : ℕ) → size ≡ (H.counts h.old).size → (w : World) → IsReady size w self.old (H.state h.old)
-            → CarriesOut size w self.new (Option.Some (commands.New client name t)) (as_answered result) (H.counts h.old) (H.counts h.new) (H.state h.old) (H.state h.new) }
-        ensures frames { (self.new).frames ≡ (self.old).frames }
-        ensures rest { H.tells → KeepsRest (H.state h.old) (H.state h.new) }
-        ensures rests { H.tells → fault_of result ≡ Option.Some HostFault.Cut → IsRested (H.state h.new).now.words }
-        ensures cause { H.counts h.new ≡ after_fault (fault_of result) (H.counts h.old) }
-    {
-        let own = match self.find_own(h, client, name)? {
-            Err(refusal) => return Ok(Reply::No(refusal)),
-            Ok(own) => own,
-        };
-        let frames = self.frames;
-        match &mut self.opened[own.number as usize] {
-            Some(opened) => opened.new_object(h, frames, t),
-            None => unreachable!(),
-        }
-    }
-
     /// Makes the change in the client's own transaction on the pool of this name: the client sees it at once, and others once it is committed; but what is
-    /// asked for later comes at the commit, behind all that is set in it and all that was asked for before, and nobody sees it until then. The client is
-    /// one of 0 to 7. The reply is `Ok`, or says why nothing changes, by the first of these that holds: `Client`, the client is not present; `Pool`, there
-    /// is no pool of the name; `Wild`, the pool has no graph; `Busy`, another client's transaction is open on it; `Tx`, none is; `Object`, there is no
-    /// object of the serial that is named, or of that which is to be the value; `Field`, the object has no such field; `Kind`, the field holds a number
-    /// and the value is a reference, or the other way round; `Held`, the object is to be freed and the root is it, or a pointer of an object, itself
-    /// included, leads to it, or a value that was asked for later is one of its fields or leads to it; `TooBig`, the transaction's log has no room for
-    /// three units more.
+    /// asked for later comes at the commit, behind all that is set in it and all that was asked for before, and nobody sees it until then. An object that
+    /// is made has each field zero or null; where the pool has no free slot it grows by a puddle first, which it keeps also where the transaction is
+    /// undone. The client is one of 0 to 7. The reply is `Ok`, or the serial of the object that was made, or says why nothing changes, by the first of
+    /// these that holds: `Client`, the client is not present; `Pool`, there is no pool of the name; `Wild`, the pool has no graph; `Busy`, another
+    /// client's transaction is open on it; `Tx`, none is; and then of an object that is to be made: `Type`, the type is not defined; `TooBig`, the
+    /// transaction's log has no room for 37 units more; `Full`, the pool has no serial left, or as many objects as it may have, or is to grow where no
+    /// UUID is left; `Space`, it is to grow and no frame is free; and of an update: `Object`, there is no object of the serial that is named, or of that
+    /// which is to be the value; `Field`, the object has no such field; `Kind`, the field holds a number and the value is a reference, or the other way
+    /// round; `Held`, the object is to be freed and the root is it, or a pointer of an object, itself included, leads to it, or a value that was asked for
+    /// later is one of its fields or leads to it; `TooBig`, the transaction's log has no room for three units more.
     ///
     /// The only errors are the host's own: `Failed` where a call of it failed, `Cut` where power was lost. At either the device stands for what it
     /// stood for before the call or for what the line gives, and the daemon is to be stopped, and to start anew.
@@ -190,9 +202,6 @@ impl Daemon {
             Ok(own) => own,
         };
         let frames = self.frames;
-        match &mut self.opened[own.number as usize] {
-            Some(opened) => opened.change_or_refuse(h, frames, change),
-            None => unreachable!(),
-        }
+        change_in(h, frames, &mut self.opened, &mut self.judged, own, change)
     }
 }

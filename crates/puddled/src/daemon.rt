@@ -24,7 +24,7 @@ use crate::types::define_type;
 use log_space::clear_spaces;
 use nesting::Sessions;
 use pm_model::{Host, HostFault};
-use pool_transaction::{AllOpened, Change, lose_all, none_opened};
+use pool_transaction::{AllOpened, Change, Update, lose_all, none_opened};
 use pud_defs::machine::{Command, Refusal, Reply};
 use recover::{RecoverFault, recover};
 use script::parse_line;
@@ -99,9 +99,9 @@ pub struct Daemon {
     pub(crate) frames: u32,
     /// The transactions that are open, by the numbers of their logs.
     pub(crate) opened: AllOpened,
-    /// Whose transactions they are, and how often each was begun, by the slots of their pools' records.
+    /// Whose transactions they are, with which logs, and how often each was begun, by the slots of their pools' records.
     pub(crate) sessions: Sessions,
-    /// Which pools were judged since the start, but for those on which a transaction is open.
+    /// Which pools were judged since the start, those on which a transaction is open among them, and their puddles.
     pub(crate) judged: Judged,
 }
 
@@ -208,26 +208,38 @@ fn apply<H: Host>(
         Command::Begin { client, name } => with_reply(daemon.begin(h, client, name)),
         Command::Commit { client, name } => with_reply(daemon.commit(h, client, name)),
         Command::Abort { client, name } => with_reply(daemon.abort(h, client, name)),
-        Command::New { client, name, t } => with_reply(daemon.new_object(h, client, name, t)),
+        Command::New { client, name, t } => {
+            with_reply(daemon.change_own(h, client, name, Change::New { t }))
+        }
         Command::Set {
             client,
             name,
             s,
             f,
             x,
-        } => with_reply(daemon.change_own(h, client, name, Change::Set { s, f, x })),
+        } => with_reply(daemon.change_own(
+            h,
+            client,
+            name,
+            Change::Update(Update::Set { s, f, x }),
+        )),
         Command::Later {
             client,
             name,
             s,
             f,
             x,
-        } => with_reply(daemon.change_own(h, client, name, Change::Later { s, f, x })),
+        } => with_reply(daemon.change_own(
+            h,
+            client,
+            name,
+            Change::Update(Update::Later { s, f, x }),
+        )),
         Command::Root { client, name, s } => {
-            with_reply(daemon.change_own(h, client, name, Change::Root { s }))
+            with_reply(daemon.change_own(h, client, name, Change::Update(Update::Root { s })))
         }
         Command::Free { client, name, s } => {
-            with_reply(daemon.change_own(h, client, name, Change::Free { s }))
+            with_reply(daemon.change_own(h, client, name, Change::Update(Update::Free { s })))
         }
         Command::Dump { client, name } => daemon.dump_for(alloc, h, client, name),
         Command::Export { client, name, file } => {

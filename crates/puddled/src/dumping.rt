@@ -44,7 +44,7 @@ impl Daemon {
             Err(refusal) => return Ok(Answered::Reply(Reply::No(refusal))),
             Ok(found) => found,
         };
-        match dump_json(alloc, h, self.frames, self.puddles_of(found)) {
+        match dump_json(alloc, h, self.frames, self.puddles_of(found.slot)) {
             Ok(bytes) => Ok(Answered::Text(Text::new(bytes))),
             Err(DumpFault::Memory) => Ok(Answered::Reply(Reply::No(Refusal::Memory))),
             Err(DumpFault::Host(fault)) => Err(fault),

@@ -123,7 +123,7 @@ impl Daemon {
             Err(refusal) => return Ok(Answered::Reply(Reply::No(refusal))),
             Ok(found) => found,
         };
-        if found.is_open {
+        if found.own.is_some() {
             return Ok(Answered::Reply(Reply::No(Refusal::OpenHere)));
         }
         let puddles = self.judged.puddles(found.slot);

@@ -1,5 +1,5 @@
 //! The pool that a line names: why the line is refused before what else it asks is looked at, and what is found. Nothing is written.
-ghost use Rattle.std.specs.Prelude.{◌≡◌, ◌<◌, ◌≤◌, ℕ, List, true, false, is_some, Option, Result, IfOk};
+ghost use Rattle.std.specs.Prelude.{◌≡◌, ◌<◌, ◌≤◌, ℕ, List, true, false, is_some, Option, Result, IfOk, IfSome};
 ghost use Rattle.pm_model.specs.Words.{reads};
 ghost use Rattle.pm_model.specs.Counts.{fault_of};
 ghost use Rattle.pm_model.specs.Reads.{OnlyReads};
@@ -8,24 +8,25 @@ ghost use Rattle.pud_defs.specs.declared.records.PoolRec.{PoolRec};
 ghost use Rattle.pud_defs.specs.declared.records.TheConstants.{POOL_RECORDS};
 ghost use Rattle.pud_defs.specs.declared.machine.Command.TheVariants as commands;
 ghost use Rattle.pud_defs.specs.Layout.{device_words};
+ghost use Rattle.pud_defs.specs.Image.{Image};
 ghost use Rattle.pud_defs.specs.PoolChanges.{pool_named};
+ghost use Rattle.pud_defs.specs.Settled.{ALL_LOGS};
 ghost use Rattle.pud_defs.specs.Spaces.{owner as owner_and};
 ghost use Rattle.pud_defs.specs.Step.{refusal_of};
 ghost use Rattle.pud_defs.specs.World.{World};
-ghost use Rattle.nesting.specs.Sessions.{holder_in, AreSessions};
+ghost use Rattle.nesting.specs.Sessions.{session_in, AreSessions};
 ghost use Rattle.ready_daemon.specs.Holding.{IsOwnOn};
-ghost use Rattle.ready_daemon.specs.Judged.{known_in};
+ghost use Rattle.ready_daemon.specs.Judged.{known_in, AreJudged};
 ghost use Rattle.ready_daemon.specs.Owning.{refusal_found};
 ghost use Rattle.ready_daemon.specs.Ready.{IsReady};
-ghost use Rattle.puddled.specs.Finding.{needs_graph, lacks_graph, right_by, refusal_to, beside, holder_found, IsRecordOf, IsFound, FindsOwn, refusal_to_enter};
+ghost use Rattle.puddled.specs.Finding.{needs_graph, lacks_graph, right_by, refusal_to, beside, session_found, IsRecordOf, IsFound, FindsOwn, refusal_to_enter};
 
 use crate::daemon::Daemon;
 use log_space::owner;
-use nesting::EnterFault;
+use nesting::{EnterFault, Session};
 use owner_modes::{may_read, may_write};
 use pm_model::{Host, HostFault};
 use pool_table::find;
-use pool_transaction::number_on;
 use pud_defs::machine::Refusal;
 use pud_defs::records::{Name, Owner, PoolRec};
 
@@ -49,8 +50,8 @@ pub(crate) struct Found {
     pub(crate) slot: u32,
     /// Its UUID number.
     pub(crate) number: u64,
-    /// Whether the client's own transaction is open on it. Else none is.
-    pub(crate) is_open: bool,
+    /// The number of the log of the client's own transaction, 0 to 31, where that is open on it. Else none is.
+    pub(crate) own: Option<u32>,
 }
 
 /// The client's own transaction on a pool: the slot of the pool's record, and the number of its log.
@@ -84,22 +85,22 @@ fn has_right(need: Need, rec: &PoolRec, who: Owner) -> bool
     }
 }
 
-/// The pool that was found, where no other client's transaction is open on it.
-fn beside(holder: Option<u8>, client: u8, slot: u32, number: u64) -> Result<Found, Refusal>
-    ensures { result ≡ beside holder client slot number }
+/// The pool that was found, where no other client's transaction is open on it by this session.
+fn beside(session: Option<Session>, client: u8, slot: u32, number: u64) -> Result<Found, Refusal>
+    ensures { result ≡ beside session client slot number }
 {
-    match holder {
+    match session {
         None => Ok(Found {
             slot,
             number,
-            is_open: false,
+            own: None,
         }),
-        Some(holder) => {
-            if holder == client {
+        Some(session) => {
+            if session.client == client {
                 Ok(Found {
                     slot,
                     number,
-                    is_open: true,
+                    own: Some(session.number),
                 })
             } else {
                 Err(Refusal::Busy)
@@ -119,7 +120,7 @@ pub(crate) fn refusal_to_enter(fault: EnterFault) -> Refusal
 }
 
 impl Daemon {
-    /// Whether the pool in this slot has no graph, where one is needed. It is judged, unless it is known to have one, or a transaction is open on it.
+    /// Whether the pool in this slot has no graph, where one is needed. It is judged, unless it is known to have one.
     ///
     /// The only errors are the host's own, and nothing changes on the device.
     fn lacks_graph<H: Host>(&mut self, h: &mut H, slot: u32, need: Need) -> Result<bool, HostFault>
@@ -127,8 +128,9 @@ impl Daemon {
         requires room { device_words (self.old).frames ≤ (H.counts h.old).size }
         ensures lacks { H.tells → (size : ℕ) → (w : World) → IsReady size w self.old (H.state h.old) → (name : List ℕ) (rec : PoolRec) → IsRecordOf w.stored.frames name (reads (H.state h.old).now.words) slot rec
             → IfOk result (λ lacks. lacks ≡ lacks_graph need (pool_named name w.stored)) }
-        ensures known { IfOk result (λ lacks. lacks ≡ false → needs_graph need ≡ true → holder_in (self.old).sessions slot ≡ Option.None → true ≡ is_some (known_in (self.new).judged slot)) }
+        ensures known { IfOk result (λ lacks. lacks ≡ false → needs_graph need ≡ true → true ≡ is_some (known_in (self.new).judged slot)) }
         ensures ready { H.tells → (size : ℕ) → (w : World) → IsReady size w self.old (H.state h.old) → IsReady size w self.new (H.state h.old) }
+        ensures judged { H.tells → (image : Image) → reads (H.state h.old).now.words ≡ image → AreJudged (self.old).frames (self.old).judged image → AreJudged (self.old).frames (self.new).judged image }
         ensures unjudged { needs_graph need ≡ false → (self.new).judged ≡ (self.old).judged }
         ensures frames { (self.new).frames ≡ (self.old).frames }
         ensures held { (self.new).held ≡ (self.old).held }
@@ -138,9 +140,6 @@ impl Daemon {
         if !needs_graph(need) {
             return Ok(false);
         }
-        if self.sessions.holder(slot).is_some() {
-            return Ok(false);
-        }
         let sound = self.judged.judge(h, self.frames, slot)?;
         Ok(!sound)
     }
@@ -148,7 +147,7 @@ impl Daemon {
     /// The pool of this name, where the client has what the line needs of it and no other client's transaction is open on it; or why the line is refused,
     /// by the first of these that holds: `Client`, the client is not present; `Pool`, there is no pool of the name; `Wild`, the pool has no graph, where
     /// one is needed; `Denied`, the client has not the right that is needed; `Busy`, another client's transaction is open on it. A pool that needs a
-    /// graph, and on which none is open, is judged, unless it is known, and then is known.
+    /// graph is judged, unless it is known, and then is known.
     ///
     /// The only errors are the host's own, and nothing changes on the device.
     pub(crate) fn find_pool<H: Host>(
@@ -165,11 +164,13 @@ impl Daemon {
         ensures found { H.tells → (size : ℕ) → (w : World) → IsReady size w self.old (H.state h.old)
             → IfOk result (λ found. IfOk found (IsFound w need client name (reads (H.state h.old).now.words) self.new)) }
         ensures slot { IfOk result (λ found. IfOk found (λ found. found.slot < POOL_RECORDS)) }
-        ensures whose { IfOk result (λ found. IfOk found (λ found. holder_in (self.old).sessions found.slot ≡ holder_found found client)) }
+        ensures whose { IfOk result (λ found. IfOk found (λ found. session_in (self.old).sessions found.slot ≡ session_found (self.old).sessions client found)) }
+        ensures number { IfOk result (λ found. IfOk found (λ found. IfSome found.own (λ number. number < ALL_LOGS))) }
         ensures within { IfOk result (λ found. IfOk found (λ _. AreSessions (self.old).sessions)) }
-        ensures known { IfOk result (λ found. IfOk found (λ found. found.is_open ≡ false → needs_graph need ≡ true → true ≡ is_some (known_in (self.new).judged found.slot))) }
+        ensures known { IfOk result (λ found. IfOk found (λ found. needs_graph need ≡ true → true ≡ is_some (known_in (self.new).judged found.slot))) }
         // One pool more may be known, where a graph is needed, and nothing else changes.
         ensures ready { H.tells → (size : ℕ) → (w : World) → IsReady size w self.old (H.state h.old) → IsReady size w self.new (H.state h.old) }
+        ensures judged { H.tells → (image : Image) → reads (H.state h.old).now.words ≡ image → AreJudged (self.old).frames (self.old).judged image → AreJudged (self.old).frames (self.new).judged image }
         ensures unjudged { needs_graph need ≡ false → (self.new).judged ≡ (self.old).judged }
         ensures frames { (self.new).frames ≡ (self.old).frames }
         ensures held { (self.new).held ≡ (self.old).held }
@@ -188,7 +189,7 @@ impl Daemon {
         if !has_right(need, &rec, who) {
             return Ok(Err(Refusal::Denied));
         }
-        Ok(beside(self.sessions.holder(slot), client, slot, rec.number))
+        Ok(beside(self.sessions.session(slot), client, slot, rec.number))
     }
 
     /// The client's own transaction on the pool of this name, or why a line on it is refused before what it asks is looked at.
@@ -217,10 +218,7 @@ impl Daemon {
             Err(refusal) => return Ok(Err(refusal)),
             Ok(found) => found,
         };
-        if !found.is_open {
-            return Ok(Err(Refusal::Tx));
-        }
-        match number_on(&self.opened, found.slot) {
+        match found.own {
             Some(number) => Ok(Ok(Own {
                 slot: found.slot,
                 number,

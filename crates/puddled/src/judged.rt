@@ -1,9 +1,10 @@
 //! Which pools were judged, and where their puddles stand.
-ghost use Rattle.std.specs.Prelude.{◌≡◌, ◌≢◌, ◌<◌, ◌≤◌, ℕ, true, false, replicate, set, is_some, unwrap_or, [], Option, IfOk, IfSome};
+ghost use Rattle.std.specs.Prelude.{◌≡◌, ◌≢◌, ◌<◌, ◌≤◌, ℕ, List, true, false, replicate, set, is_some, unwrap_or, [], Option, IfOk, IfSome};
 ghost use Rattle.pm_model.specs.Words.{reads};
 ghost use Rattle.pm_model.specs.Counts.{fault_of};
 ghost use Rattle.pm_model.specs.Reads.{OnlyReads};
 ghost use Rattle.pud_defs.specs.declared.layout.TheConstants.{MAX_FRAMES};
+ghost use Rattle.pud_defs.specs.declared.records.Puddle.{Puddle};
 ghost use Rattle.pud_defs.specs.declared.records.TheConstants.{POOL_RECORDS};
 ghost use Rattle.pud_defs.specs.Image.{Image};
 ghost use Rattle.pud_defs.specs.Layout.{device_words};
@@ -21,7 +22,7 @@ use std::marker::Model;
 /// The puddles of the pools that were found to have a graph, by the slots of the pools' records.
 #[derive(Drop)]
 pub(crate) struct Judged {
-    pools: [Option<Puddles>; POOL_RECORDS as usize],
+    pub(crate) pools: [Option<Puddles>; POOL_RECORDS as usize],
 }
 
 impl Model for Judged {
@@ -71,7 +72,8 @@ impl Judged {
     /// The puddles of the pool in this slot by their ordinals, each with its frame, where it is known to have a graph, and else none.
     pub(crate) fn puddles(&self, slot: u32) -> &[(u32, Puddle)]
         requires { slot < POOL_RECORDS }
-        ensures { result.now ≡ unwrap_or (known_in self.now slot) [] }
+        ensures puddles { result.now ≡ unwrap_or (known_in self.now slot) [] }
+        ensures within { (F : ℕ) → AreOnDevice F self.now → IsOnDevice F result.now }
     {
         match &self.pools[slot as usize] {
             Some(puddles) => puddles.as_slice(),
@@ -86,15 +88,6 @@ impl Judged {
         ensures known { known_in self.new slot ≡ Option.Some puddles }
     {
         self.pools[slot as usize] = Some(puddles);
-    }
-
-    /// Gives the puddles of the pool in this slot away, where it is known to have a graph: then it is to be judged anew.
-    pub(crate) fn take(&mut self, slot: u32) -> Option<Puddles>
-        requires { slot < POOL_RECORDS }
-        ensures puddles { result ≡ known_in self.old slot }
-        ensures forgotten { self.new ≡ set self.old slot Option.None }
-    {
-        self.pools[slot as usize].take()
     }
 
     /// Forgets what is known of the pool in this slot.
@@ -119,6 +112,7 @@ impl Judged {
             → IfOk result (λ sound. sound ≡ is_some (puddles_with_graph frames image slot)) }
         ensures puddles { IfOk result (λ sound. sound ≡ is_some (known_in self.new slot)) }
         ensures judged { H.tells → (image : Image) → reads (H.state h.old).now.words ≡ image → AreJudged frames self.old image → AreJudged frames self.new image }
+        ensures kept { (i : ℕ) → (at : List (ℕ × Puddle)) → known_in self.old i ≡ Option.Some at → known_in self.new i ≡ Option.Some at }
         ensures others { (i : ℕ) → i ≢ slot → known_in self.new i ≡ known_in self.old i }
         ensures known { AreOnDevice frames self.old → AreOnDevice frames self.new }
         ensures only_reads { OnlyReads H.tells H.state H.counts (fault_of result) h.old h.new }

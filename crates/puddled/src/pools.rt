@@ -90,7 +90,7 @@ impl Daemon {
             Err(refusal) => return Ok(Err(refusal)),
             Ok(found) => found,
         };
-        if found.is_open {
+        if found.own.is_some() {
             return Ok(Err(Refusal::OpenHere));
         }
         Ok(Ok(found.slot))

@@ -1,5 +1,5 @@
 //! Fields of objects that are read.
-ghost use Rattle.std.specs.Prelude.{◌≡◌, ◌<◌, ◌≤◌, ℕ, true, false, [], unwrap_or, Option, IfOk};
+ghost use Rattle.std.specs.Prelude.{◌≡◌, ◌<◌, ◌≤◌, ℕ, [], unwrap_or, Option, IfOk};
 ghost use Rattle.pm_model.specs.Counts.{fault_of};
 ghost use Rattle.pm_model.specs.Reads.{OnlyReads};
 ghost use Rattle.pud_defs.specs.declared.layout.TheConstants.{CLIENTS, MAX_FIELDS};
@@ -10,16 +10,14 @@ ghost use Rattle.pud_defs.specs.Stored.{IsOnDevice};
 ghost use Rattle.pud_defs.specs.World.{World};
 ghost use Rattle.pud_defs.specs.Step.{answer_by, world_by};
 ghost use Rattle.pud_defs.specs.Step.Answer.{of_reply};
-ghost use Rattle.ready_daemon.specs.Holding.{FindsPuddles};
 ghost use Rattle.puddled.specs.Reading.{reply_of_read};
 ghost use Rattle.ready_daemon.specs.Judged.{known_in};
 ghost use Rattle.ready_daemon.specs.Ready.{IsReady, Applies};
 
 use crate::daemon::Daemon;
-use crate::finding::{Found, Need};
+use crate::finding::Need;
 use graph_read::{FieldRead, read_field};
 use pm_model::{Host, HostFault};
-use pool_transaction::puddles_on;
 use pud_defs::machine::{Refusal, Reply};
 use pud_defs::objects::Val;
 use pud_defs::records::{Name, Puddle};
@@ -37,18 +35,13 @@ fn reply_of(read: FieldRead) -> Reply
 }
 
 impl Daemon {
-    /// The puddles of the pool that was found, each with its frame.
-    pub(crate) fn puddles_of(&self, found: Found) -> &[(u32, Puddle)]
-        requires { found.slot < POOL_RECORDS }
-        ensures own { found.is_open ≡ true → FindsPuddles (self.now).held found.slot result.now }
-        ensures known { found.is_open ≡ false → result.now ≡ unwrap_or (known_in (self.now).judged found.slot) [] }
+    /// The puddles of the pool in this slot, each with its frame, where it is known to have a graph, and else none.
+    pub(crate) fn puddles_of(&self, slot: u32) -> &[(u32, Puddle)]
+        requires { slot < POOL_RECORDS }
+        ensures known { result.now ≡ unwrap_or (known_in (self.now).judged slot) [] }
         ensures within { IsOnDevice (self.now).frames result.now }
     {
-        if found.is_open {
-            puddles_on(&self.opened, found.slot)
-        } else {
-            self.judged.puddles(found.slot)
-        }
+        self.judged.puddles(slot)
     }
 
     /// Reads field `f`, 0 to 29, of the object of serial `s` in the pool of this name for the client, or refuses to. Nothing on the device
@@ -78,7 +71,7 @@ impl Daemon {
             Err(refusal) => return Ok(Reply::No(refusal)),
             Ok(found) => found,
         };
-        let read = read_field(h, self.frames, self.puddles_of(found), s, f)?;
+        let read = read_field(h, self.frames, self.puddles_of(found.slot), s, f)?;
         Ok(reply_of(read))
     }
 }

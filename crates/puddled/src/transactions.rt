@@ -1,27 +1,31 @@
 //! Transactions that are begun, committed and undone.
-ghost use Rattle.std.specs.Prelude.{length, ◌≡◌, ◌+◌, ◌<◌, ◌≤◌, ℕ, List, true, set, is_some, unwrap_or, [], option_map, Option, IfOk, IfSome};
+ghost use Rattle.std.specs.Prelude.{length, ◌≡◌, ◌+◌, ◌<◌, ◌≤◌, ℕ, List, set, Option, IfOk, IfSome};
 ghost use Rattle.pm_model.specs.Words.{IsRested, reads};
 ghost use Rattle.pm_model.specs.Counts.{after_fault, fault_of};
 ghost use Rattle.pm_model.specs.Changes.{Changes};
-ghost use Rattle.pud_defs.specs.declared.layout.TheConstants.{CLIENTS, CLIENT_LOGS, LOG_WORDS};
+ghost use Rattle.pm_model.specs.Moments.{State};
+ghost use Rattle.pud_defs.specs.declared.layout.TheConstants.{CLIENTS};
+ghost use Rattle.pud_defs.specs.declared.records.Puddle.{Puddle};
 ghost use Rattle.pud_defs.specs.declared.records.TheConstants.{POOL_RECORDS};
 ghost use Rattle.pud_defs.specs.declared.machine.Command.TheVariants as commands;
-ghost use Rattle.pud_defs.specs.Layout.{device_words, frames_at};
+ghost use Rattle.pud_defs.specs.Layout.{device_words};
 ghost use Rattle.pud_defs.specs.Settled.{ALL_LOGS};
-ghost use Rattle.pud_defs.specs.World.{World, open_on};
-ghost use Rattle.pud_defs.specs.Step.{after};
-ghost use Rattle.nesting.specs.declared.Session.{Session};
-ghost use Rattle.nesting.specs.Sessions.{AreSessions, client_in, session_in, depth_in, count_of, entered};
+ghost use Rattle.pud_defs.specs.World.{World};
+ghost use Rattle.pud_defs.specs.Step.{after, answer_by, world_by};
+ghost use Rattle.pud_defs.specs.Step.Answer.{of_reply};
+ghost use Rattle.nesting.specs.Sessions.{session_in, depth_in, AreSessions};
 ghost use Rattle.ready_daemon.specs.Memory.{held_under};
 ghost use Rattle.ready_daemon.specs.Holding.{IsOwnOn};
 ghost use Rattle.ready_daemon.specs.Judged.{known_in};
-ghost use Rattle.ready_daemon.specs.Beginning.{MayBegin, tx_held, judged_behind};
+ghost use Rattle.ready_daemon.specs.Beginning.{MayBegin};
+ghost use Rattle.ready_daemon.specs.Held.{IsHeldWithin};
 ghost use Rattle.ready_daemon.specs.Leaving.{BehindTables, sessions_behind, world_without, world_without_log};
 ghost use Rattle.ready_daemon.specs.Ready.{KeepsRest, IsReady, Applies};
+ghost use Rattle.puddled.specs.declared.finding.Need.TheVariants as needs;
+ghost use Rattle.puddled.specs.Finding.{refusal_to};
 
 use crate::daemon::Daemon;
-use crate::finding::Own;
-use hybrid_tx::Tx;
+use crate::finding::{Own, refusal_to_enter};
 use log_space::free_log;
 use pm_model::{Host, HostFault};
 use pool_transaction::{AllOpened, Opened, lose};
@@ -40,8 +44,30 @@ fn hold(all: &mut AllOpened, number: u32, opened: Opened)
 }
 
 impl Daemon {
-    /// Begins a transaction of the client on the pool of this name, in the lowest closed log of the client, and holds it. The pool's record has this
-    /// slot, and the pool is known to have a graph; its session has begun.
+    /// Begins the client's own transaction once more on the pool in this slot, which is open with the log of this number; or says why not. No device is
+    /// touched.
+    pub(crate) fn begin_deeper(&mut self, client: u8, slot: u32, number: u32) -> Reply
+        requires present { client < CLIENTS }
+        requires slot { slot < POOL_RECORDS }
+        requires number { number < ALL_LOGS }
+        requires within { AreSessions (self.old).sessions }
+        requires own { session_in (self.old).sessions slot ≡ Option.Some (record { client = client; number = number; depth = depth_in (self.old).sessions slot }) }
+        ensures reply { (size : ℕ) → (w : World) → (name : List ℕ) → (s : State) → IsReady size w self.old s → IsOwnOn client name slot number (self.old).held
+            → refusal_to w needs.Write client name ≡ Option.None → of_reply result ≡ answer_by w (Option.Some (commands.Begin client name)) }
+        ensures ready { (size : ℕ) → (w : World) → (name : List ℕ) → (s : State) → IsReady size w self.old s → IsOwnOn client name slot number (self.old).held
+            → refusal_to w needs.Write client name ≡ Option.None → IsReady size (world_by w (Option.Some (commands.Begin client name))) self.new s }
+        ensures held { (self.new).held ≡ (self.old).held }
+        ensures judged { (self.new).judged ≡ (self.old).judged }
+        ensures frames { (self.new).frames ≡ (self.old).frames }
+    {
+        match self.sessions.enter(client, slot, number) {
+            Ok(()) => Reply::Ok,
+            Err(fault) => Reply::No(refusal_to_enter(fault)),
+        }
+    }
+
+    /// Begins a transaction of the client on the pool of this name, in the lowest closed log of the client, and holds it; or says why not: each log of
+    /// the client has an open transaction. The pool's record has this slot, the pool is known to have a graph, and none is open on it.
     pub(crate) fn begin_on<H: Host>(
         &mut self,
         h: &mut H,
@@ -52,63 +78,45 @@ impl Daemon {
         requires room { device_words (self.old).frames ≤ (H.counts h.old).size }
         requires present { client < CLIENTS }
         requires slot { slot < POOL_RECORDS }
-        requires known { true ≡ is_some (known_in (self.old).judged slot) }
-        // The device was ready before the session began.
-        ensures begins { H.tells → (size : ℕ) → size ≡ (H.counts h.old).size → (w : World) → (sessions : List (Option Session)) → IsReady size w (record self.old { sessions = sessions }) (H.state h.old)
-            → AreSessions sessions → session_in sessions slot ≡ Option.None → count_of client sessions < CLIENT_LOGS → (self.old).sessions ≡ entered client slot sessions → open_on name w ≡ Option.None
-            → MayBegin (self.old).frames client name (reads (H.state h.old).now.words) slot (unwrap_or (known_in (self.old).judged slot) [])
-            → IfOk result (λ reply. reply ≡ Reply.Ok) × Applies size w (after w (commands.Begin client name)) self.new (fault_of result) (H.state h.old) (H.state h.new) }
+        requires within { AreSessions (self.old).sessions }
+        requires shut { session_in (self.old).sessions slot ≡ Option.None }
+        ensures reply { H.tells → (size : ℕ) → size ≡ (H.counts h.old).size → (w : World) → (at : List (ℕ × Puddle)) → IsReady size w self.old (H.state h.old)
+            → refusal_to w needs.Write client name ≡ Option.None → known_in (self.old).judged slot ≡ Option.Some at → MayBegin (self.old).frames client name (reads (H.state h.old).now.words) slot at
+            → IfOk result (λ reply. of_reply reply ≡ answer_by w (Option.Some (commands.Begin client name))) }
+        ensures applies { H.tells → (size : ℕ) → size ≡ (H.counts h.old).size → (w : World) → (at : List (ℕ × Puddle)) → IsReady size w self.old (H.state h.old)
+            → refusal_to w needs.Write client name ≡ Option.None → known_in (self.old).judged slot ≡ Option.Some at → MayBegin (self.old).frames client name (reads (H.state h.old).now.words) slot at
+            → Applies size w (world_by w (Option.Some (commands.Begin client name))) self.new (fault_of result) (H.state h.old) (H.state h.new) }
         ensures frames { (self.new).frames ≡ (self.old).frames }
         ensures rest { H.tells → KeepsRest (H.state h.old) (H.state h.new) }
         ensures rests { H.tells → fault_of result ≡ Option.Some HostFault.Cut → IsRested (H.state h.new).now.words }
         ensures cause { H.counts h.new ≡ after_fault (fault_of result) (H.counts h.old) }
     {
         let Some(number) = free_log(h, self.frames, client as u32)? else {
-            self.sessions.end(slot);
             return Ok(Reply::No(Refusal::Logs));
         };
-        let Some(puddles) = self.judged.take(slot) else {
-            unreachable!()
-        };
-        let tx = Tx::begin(h, self.frames, number)?;
-        let opened = Opened {
-            client,
-            name,
-            slot,
-            puddles,
-            number,
-            tx,
-        };
+        if let Err(fault) = self.sessions.enter(client, slot, number) {
+            return Ok(Reply::No(refusal_to_enter(fault)));
+        }
+        let opened = Opened::begin(h, self.frames, client, name, slot, number)?;
         hold(&mut self.opened, number, opened);
         Ok(Reply::Ok)
     }
 
-    /// Lets go of what is held under the number: its session ends, and its pool's puddles are known again.
-    fn release(&mut self, number: u32) -> Option<Tx>
+    /// Lets go of what is held under the number: its session ends. Its pool is known still.
+    fn release(&mut self, number: u32) -> Option<Opened>
         requires { number < ALL_LOGS }
-        ensures tx { result ≡ option_map tx_held (held_under (self.old).held number) }
-        ensures place { IfSome result (λ tx. tx.log.at + LOG_WORDS ≤ frames_at (self.old).frames) }
+        ensures opened { result ≡ held_under (self.old).held number }
+        ensures within { IfSome result (IsHeldWithin (self.old).frames) }
         ensures held { (self.new).held ≡ set (self.old).held number Option.None }
         ensures sessions { (self.new).sessions ≡ sessions_behind (held_under (self.old).held number) (self.old).sessions }
-        ensures judged { (self.new).judged ≡ judged_behind (held_under (self.old).held number) (self.old).judged }
+        ensures judged { (self.new).judged ≡ (self.old).judged }
         ensures frames { (self.new).frames ≡ (self.old).frames }
     {
-        match self.opened[number as usize].take() {
-            Some(opened) => {
-                let Opened {
-                    client: _client,
-                    name: _name,
-                    slot,
-                    puddles,
-                    number: _number,
-                    tx,
-                } = opened;
-                self.sessions.end(slot);
-                self.judged.put(slot, puddles);
-                Some(tx)
-            }
-            None => None,
+        let opened = self.opened[number as usize].take();
+        if let Some(opened) = &opened {
+            self.sessions.end(opened.slot);
         }
+        opened
     }
 
     /// Commits the client's own transaction on the pool of the name. Where it was begun more often than once it is held still, begun
@@ -122,7 +130,7 @@ impl Daemon {
         requires room { device_words (self.old).frames ≤ (H.counts h.old).size }
         requires number { own.number < ALL_LOGS }
         requires slot { own.slot < POOL_RECORDS }
-        requires whose { option_map client_in (session_in (self.old).sessions own.slot) ≡ Option.Some client }
+        requires whose { session_in (self.old).sessions own.slot ≡ Option.Some (record { client = client; number = own.number; depth = depth_in (self.old).sessions own.slot }) }
         ensures applies { H.tells → (size : ℕ) → size ≡ (H.counts h.old).size → (w : World) → (name : List ℕ) → IsReady size w self.old (H.state h.old)
             → IsOwnOn client name own.slot own.number (self.old).held
             → Applies size w (after w (commands.Commit client name)) self.new (fault_of result) (H.state h.old) (H.state h.new) }
@@ -139,7 +147,7 @@ impl Daemon {
         }
         let frames = self.frames;
         match self.release(own.number) {
-            Some(tx) => tx.commit(h, frames),
+            Some(opened) => opened.commit(h, frames),
             None => Ok(()),
         }
     }
@@ -161,7 +169,7 @@ impl Daemon {
     {
         let frames = self.frames;
         match self.release(number) {
-            Some(tx) => tx.abort(h, frames),
+            Some(opened) => opened.abort(h, frames),
             None => Ok(()),
         }
     }

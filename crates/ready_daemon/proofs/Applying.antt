@@ -14,9 +14,7 @@ use Rattle.pud_defs.specs.Image.{Image}
 use Rattle.pud_defs.specs.World.{StoredWorld, World, world_of, closed}
 use Rattle.pud_defs.specs.Step.{refusal_of, after, unless_refused, world_by}
 use Rattle.pud_defs.proofs.Steps.{done_world}
-use Rattle.nesting.specs.declared.Session.{Session}
-use Rattle.ready_daemon.specs.Memory.{Held, Memory}
-use Rattle.ready_daemon.specs.Held.{Holds, HasSessions}
+use Rattle.ready_daemon.specs.Memory.{Memory}
 use Rattle.ready_daemon.specs.KnownPools.{KnowsPools}
 use Rattle.ready_daemon.specs.Ready.{IsReady, StandsBetween, Applies}
 use Rattle.ready_daemon.proofs.Beside.{ready_stands}
@@ -101,21 +99,21 @@ Applies-then size w mid next first behind fault a b c same p q = record {
 }
 
 -- What is known of pools alone changes.
-pub IsReady-beside : (size : ℕ) (w : World) (memory next : Memory) (s : State) → next.frames ≡ memory.frames → next.held ≡ memory.held → next.sessions ≡ memory.sessions → KnowsPools w.stored.frames next.judged next.held (reads s.now.words)
-    → IsReady size w memory s → IsReady size w next s
-IsReady-beside size w memory next s frames held same knows ready = record {
+pub IsReady-beside : (size : ℕ) (w : World) (memory next : Memory) (s : State) → next.frames ≡ memory.frames → next.held ≡ memory.held → next.sessions ≡ memory.sessions → (ready : IsReady size w memory s)
+    → KnowsPools w.stored.frames next.judged ready.held.opens (reads s.now.words) → IsReady size w next s
+IsReady-beside size w memory next s frames held same ready knows = subst (λ (m : Memory). IsReady size w m s) (λ i. record { frames = sym frames i; held = sym held i; sessions = sym same i; judged = next.judged }) (record {
   mask = ready.mask;
   settled = ready.settled;
   tables = ready.tables;
   clients = ready.clients;
-  frames = frames ∙ ready.frames;
+  frames = ready.frames;
   shelf = ready.shelf;
-  held = subst (λ (o : List (Option Held)). Holds w o ready.mask s.now.words) (sym held) ready.held;
-  sessions = subst (λ (o : List (Option Held)). HasSessions w o next.sessions) (sym held) (subst (λ (o : List (Option Session)). HasSessions w memory.held o) (sym same) ready.sessions);
+  held = ready.held;
+  sessions = ready.sessions;
   rest = ready.rest;
   logs = ready.logs;
   knows = knows;
-}
+})
 
 -- what is known may be given by what it equals
 pub Applies-known : (size : ℕ) (w next : World) (memory : Memory) (fault : Option HostFault) (old new : State) (judged known : List (Option (List (ℕ × Puddle)))) → judged ≡ known

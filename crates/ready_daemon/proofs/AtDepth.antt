@@ -12,11 +12,11 @@ use Rattle.pud_defs.specs.Laters.{Later}
 use Rattle.pud_defs.specs.Step.{graph_at_begin, after}
 use Rattle.pud_defs.specs.Transactions.{with_open, begun}
 use Rattle.pud_defs.specs.World.{Transaction, World, open_on}
-use Rattle.hybrid_tx.specs.Transactions.{IsOpenOn}
+use Rattle.hybrid_tx.specs.Objects.Transactions.{IsOpenOn}
 use Rattle.nesting.specs.declared.Session.{Session}
-use Rattle.nesting.specs.Sessions.{session_in, session_depth, entered}
+use Rattle.nesting.specs.Sessions.{session_in, number_in, session_depth, entered}
 use Rattle.ready_daemon.specs.Memory.{Held, Memory, held_under}
-use Rattle.ready_daemon.specs.Held.{IsHeld, IsHeldUnder, IsOpenUnder, Holds, HasSessions}
+use Rattle.ready_daemon.specs.Held.{IsHeld, IsHeldUnder, IsOpenUnder, Holds, session_of, HasSessions}
 use Rattle.ready_daemon.specs.Holding.{IsOwnOn}
 use Rattle.ready_daemon.specs.Ready.{IsReady}
 use Rattle.ready_daemon.proofs.OpenNames.{open_there, open_elsewhere}
@@ -29,13 +29,13 @@ module _ (size : ℕ) (w : World) (memory : Memory) (s : State) (ready : IsReady
   abbrev pub t : Transaction
   t = its.is.transaction
 
-  pub its_session : session_in memory.sessions held.slot ≡ Some (record { client = t.client; depth = t.depth })
+  pub its_session : session_in memory.sessions held.slot ≡ Some (session_of number t)
   its_session = ready.sessions.each number held t there its.is.is
 
   session_within : held.slot < length memory.sessions
   session_within = elim (cases_lt held.slot (length memory.sessions)) [
     | inl within ↦ within
-    | inr past ↦ absurd (let one : Session = record { client = t.client; depth = t.depth } in none-some one (sym (get_or_past memory.sessions held.slot None past) ∙ its_session))
+    | inr past ↦ absurd (none-some (session_of number t) (sym (get_or_past memory.sessions held.slot None past) ∙ its_session))
   ]
 
   -- each other that is held is so on another pool
@@ -65,6 +65,7 @@ module _ (size : ℕ) (w : World) (memory : Memory) (s : State) (ready : IsReady
           is = record {
             rec = i.rec;
             who = i.who;
+            at = i.at;
             before = i.before;
             undone = i.undone;
             transaction = x;
@@ -76,11 +77,10 @@ module _ (size : ℕ) (w : World) (memory : Memory) (s : State) (ready : IsReady
             gate = i.gate;
             name = i.name;
             stored = i.stored;
-            count = i.count;
             pool = i.pool;
             records = i.records;
-            running = subst (λ (ls : List Later). IsOpenOn w.stored.frames h.at w.stored.types h.log i.before i.undone x.now ls s.now.words) laters
-                (subst (λ (g : Graph). IsOpenOn w.stored.frames h.at w.stored.types h.log i.before i.undone g i.transaction.laters s.now.words) now i.running);
+            running = subst (λ (ls : List Later). IsOpenOn w.stored.frames i.at w.stored.types h.tx.log i.before i.undone x.now ls s.now.words) laters
+                (subst (λ (g : Graph). IsOpenOn w.stored.frames i.at w.stored.types h.tx.log i.before i.undone g i.transaction.laters s.now.words) now i.running);
             masked = i.masked;
           };
           number_is = u.number_is;
@@ -95,7 +95,7 @@ module _ (size : ℕ) (w : World) (memory : Memory) (s : State) (ready : IsReady
           ready.held.known name x (sym (open_elsewhere held.name w.transactions (Some (record t { depth = depth })) name differs) ∙ is)
     ]
 
-    holds_at : Holds next memory.held ready.mask s.now.words
+    abbrev holds_at : Holds next memory.held ready.mask s.now.words
     holds_at = record {
       opens = ready.held.opens;
       are = ready.held.are;
@@ -112,22 +112,24 @@ module _ (size : ℕ) (w : World) (memory : Memory) (s : State) (ready : IsReady
 
     -- the sessions with its one so
     abbrev pub sessions_at : List (Option Session)
-    sessions_at = set memory.sessions held.slot (Some (record { client = t.client; depth = depth }))
+    sessions_at = set memory.sessions held.slot (Some (session_of number (record t { depth = depth })))
 
     has_sessions_at : HasSessions next memory.held sessions_at
     has_sessions_at = record {
-      each = λ m h x is there. each_of (λ i g. open_on g.name next ≡ Some x → session_in sessions_at g.slot ≡ Some (record { client = x.client; depth = x.depth }))
+      each = λ m h x is there. each_of (λ i g. open_on g.name next ≡ Some x → session_in sessions_at g.slot ≡ Some (session_of i x))
           (λ on.
           let one : record t { depth = depth } ≡ x = same_Some (record t { depth = depth }) x (sym (open_there held.name w.transactions (Some (record t { depth = depth }))) ∙ on) in
-          get_or-set_same memory.sessions held.slot (Some (record { client = t.client; depth = depth })) None session_within
-          ∙ ap (λ (y : Transaction). Some (record { client = y.client; depth = y.depth })) one)
+          get_or-set_same memory.sessions held.slot (Some (session_of number (record t { depth = depth }))) None session_within ∙ ap (λ (y : Transaction). Some (session_of number y)) one)
           (λ i g was apart on.
-          get_or-set_other memory.sessions held.slot g.slot (Some (record { client = t.client; depth = depth })) None (other_slot i g was apart)
+          get_or-set_other memory.sessions held.slot g.slot (Some (session_of number (record t { depth = depth }))) None (other_slot i g was apart)
           ∙ ready.sessions.each i g x was (sym (open_elsewhere held.name w.transactions (Some (record t { depth = depth })) g.name (other_name i g was apart)) ∙ on))
           m h is there;
       only = λ slot session is. elim (cases_eq slot held.slot) [
-        | inl same ↦ record { number = number; mine = held; is = there; slot_is = sym same }
-        | inr apart ↦ ready.sessions.only slot session (sym (get_or-set_other memory.sessions held.slot slot (Some (record { client = t.client; depth = depth })) None apart) ∙ is)
+        | inl same ↦
+            let one : session_of number (record t { depth = depth }) ≡ session = same_Some (session_of number (record t { depth = depth })) session
+            (sym (get_or-set_same memory.sessions held.slot (Some (session_of number (record t { depth = depth }))) None session_within) ∙ ap (session_in sessions_at) (sym same) ∙ is) in
+            record { mine = held; is = ap (held_under memory.held) (sym (ap number_in one)) ∙ there; slot_is = sym same }
+        | inr apart ↦ ready.sessions.only slot session (sym (get_or-set_other memory.sessions held.slot slot (Some (session_of number (record t { depth = depth }))) None apart) ∙ is)
       ];
     }
 
@@ -153,20 +155,20 @@ module _ (size : ℕ) (w : World) (memory : Memory) (s : State) (ready : IsReady
   deeper_world client =
       ap (λ (o : Option Transaction). record w { transactions = with_open held.name (begun client (graph_at_begin w held.name) o) w.transactions }) its.is.is
 
-  deeper_sessions : (client : ℕ) → client ≡ t.client → entered client held.slot memory.sessions ≡ sessions_at (t.depth + 1)
+  deeper_sessions : (client : ℕ) → client ≡ t.client → entered client held.slot number memory.sessions ≡ sessions_at (t.depth + 1)
   deeper_sessions client whose =
-      ap₂ (λ (c : ℕ) (o : Option Session). set memory.sessions held.slot (Some (record { client = c; depth = session_depth o + 1 }))) whose its_session
+      ap₂ (λ (c : ℕ) (o : Option Session). set memory.sessions held.slot (Some (record { client = c; number = number; depth = session_depth o + 1 }))) whose its_session
 
-  pub ready_deeper : (client : ℕ) → client ≡ held.client → IsReady size (after w (commands.Begin client held.name)) (record memory { sessions = entered client held.slot memory.sessions }) s
+  pub ready_deeper : (client : ℕ) → client ≡ held.client → IsReady size (after w (commands.Begin client held.name)) (record memory { sessions = entered client held.slot number memory.sessions }) s
   ready_deeper client whose =
-      subst (λ (v : World). IsReady size v (record memory { sessions = entered client held.slot memory.sessions }) s) (sym (deeper_world client))
-      (ready_at (t.depth + 1) (entered client held.slot memory.sessions) (deeper_sessions client (whose ∙ sym its.is.client)))
+      subst (λ (v : World). IsReady size v (record memory { sessions = entered client held.slot number memory.sessions }) s) (sym (deeper_world client))
+      (ready_at (t.depth + 1) (entered client held.slot number memory.sessions) (deeper_sessions client (whose ∙ sym its.is.client)))
 
 -- the client's own is begun once more
 pub ready_begun_again : (size : ℕ) (w : World) (memory : Memory) (s : State) (client : ℕ) (name : List ℕ) (slot number : ℕ) → IsReady size w memory s → IsOwnOn client name slot number memory.held
-    → IsReady size (after w (commands.Begin client name)) (record memory { sessions = entered client slot memory.sessions }) s
+    → IsReady size (after w (commands.Begin client name)) (record memory { sessions = entered client slot number memory.sessions }) s
 ready_begun_again size w memory s client name slot number ready own =
     let mine = own.own.mine in
-    subst (λ (n : List ℕ). IsReady size (after w (commands.Begin client n)) (record memory { sessions = entered client slot memory.sessions }) s) own.own.pool
-    (subst (λ (i : ℕ). IsReady size (after w (commands.Begin client mine.name)) (record memory { sessions = entered client i memory.sessions }) s) own.slot_is
+    subst (λ (n : List ℕ). IsReady size (after w (commands.Begin client n)) (record memory { sessions = entered client slot number memory.sessions }) s) own.own.pool
+    (subst (λ (i : ℕ). IsReady size (after w (commands.Begin client mine.name)) (record memory { sessions = entered client i number memory.sessions }) s) own.slot_is
     (ready_deeper size w memory s ready number mine own.own.is client (sym own.own.whose)))

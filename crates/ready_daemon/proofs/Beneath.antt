@@ -27,8 +27,8 @@ use Rattle.batch.proofs.Tables.{StaysDurable, reads_kept}
 use Rattle.batch.proofs.Writes.{new_value-committed}
 use Rattle.registry.specs.Pools.{KeepsTables}
 use Rattle.hybrid_tx.specs.Grounds.{pool_mine}
-use Rattle.hybrid_tx.specs.Masks.{is_open_record}
-use Rattle.hybrid_tx.proofs.OpenMasks.{mine_behind, mask_cases}
+use Rattle.hybrid_tx.specs.Open.Masks.{is_open_record}
+use Rattle.hybrid_tx.proofs.Open.OpenMasks.{mine_behind, mask_cases}
 use Rattle.ready_daemon.specs.Memory.{Held, Memory}
 use Rattle.ready_daemon.specs.Held.{Holds, HasIdleLogs, ByOthers, NamesNone, StaysSingle, IsBeside}
 use Rattle.ready_daemon.specs.Ready.{IsReady}

@@ -23,23 +23,23 @@ use Rattle.pud_defs.specs.Types.{map_of}
 use Rattle.pud_defs.specs.World.{Transaction, World, StoredWorld, world_of, idle_world_of, closed, open_on}
 use Rattle.pud_defs.proofs.Replay.{empty_range_of, new_value-closed, outside_log}
 use Rattle.hybrid_tx.specs.Grounds.{pool_mine, pool_ground}
-use Rattle.hybrid_tx.specs.Masks.{OpenPool, is_open_record, open_mask, IsOpenPool, IsLeftOpen}
-use Rattle.hybrid_tx.specs.ManyOpen.{OpenTransaction, Opens, MasksAll, AreOpenPools, HasRecords, AreLeftOpen}
-use Rattle.hybrid_tx.proofs.ManyMasks.{masks_below, opens_apart, two_logs, log_or_own, mine_or_record}
-use Rattle.hybrid_tx.proofs.OpenMasks.{open_record_place, mask_of_mine, mask_of_record, mask_of_log}
-use Rattle.hybrid_tx.proofs.OpenPools.{open_on_device}
-use Rattle.hybrid_tx.proofs.OpenSettled.{nothing_given}
-use Rattle.hybrid_tx.proofs.OpenWorlds.{world_with_masked, none_refused_with_masked}
-use Rattle.hybrid_tx.specs.Transactions.{IsOpenOn}
-use Rattle.hybrid_tx.proofs.Opening.{stored_in-mine}
-use Rattle.hybrid_tx.proofs.LatersKept.{KeepsObjects-same, place_in_pool-stored, AreLaters-wider}
+use Rattle.hybrid_tx.specs.Open.Masks.{OpenPool, is_open_record, open_mask, IsOpenPool, IsLeftOpen}
+use Rattle.hybrid_tx.specs.Open.ManyOpen.{OpenTransaction, Opens, MasksAll, AreOpenPools, HasRecords, AreLeftOpen}
+use Rattle.hybrid_tx.proofs.Open.ManyMasks.{masks_below, opens_apart, two_logs, log_or_own, mine_or_record}
+use Rattle.hybrid_tx.proofs.Open.OpenMasks.{open_record_place, mask_of_mine, mask_of_record, mask_of_log}
+use Rattle.hybrid_tx.proofs.Open.OpenPools.{open_on_device}
+use Rattle.hybrid_tx.proofs.Open.OpenSettled.{nothing_given}
+use Rattle.hybrid_tx.proofs.Open.OpenWorlds.{world_with_masked, none_refused_with_masked}
+use Rattle.hybrid_tx.specs.Objects.Transactions.{IsOpenOn}
+use Rattle.hybrid_tx.proofs.Objects.Opening.{stored_in-mine}
+use Rattle.hybrid_tx.proofs.Objects.LatersKept.{KeepsObjects-same, place_in_pool-stored, AreLaters-wider}
 use Rattle.batch.specs.Tables.{HasDurableTables}
 use Rattle.nesting.specs.declared.Session.{Session}
 use Rattle.word_transaction.specs.Running.{SettlesTo, ByTransaction}
 use Rattle.word_transaction.proofs.Calls.{IsRunning-kept}
 use Rattle.word_transaction.proofs.Images.{SettlesTo-local, IsRunning-settles}
 use Rattle.ready_daemon.specs.Memory.{Held, Memory, held_under}
-use Rattle.ready_daemon.specs.Held.{pool_held, open_held, puddles_in, IsHeld, IsHeldUnder, Holds, HasSessions, HasDurableFrames, ByOthers, NamesNone, StaysSingle, KeepsHeld}
+use Rattle.ready_daemon.specs.Held.{pool_held, open_held, IsHeld, IsHeldUnder, Holds, HasSessions, HasDurableFrames, ByOthers, NamesNone, StaysSingle, KeepsHeld}
 use Rattle.ready_daemon.specs.KnownPools.{KnowsPools}
 use Rattle.ready_daemon.specs.Ready.{IsReady, RefusesNone, StandsBetween, AppliesMasked, Applies}
 use Rattle.batch.proofs.Tables.{reads_kept}
@@ -65,8 +65,8 @@ in_log at k inside = and_from _ _ (le-leb at k inside.low) (lt-ltb k (at + LOG_W
 
 -- no word that may be written is one of its log, of its frames, or of the records that it rests on
 pub record IsApart (F : ℕ) (held : Held) (p : OpenPool) (may : Footprint) : Type 0 where
-  pub log : (k v : ℕ) → may k v → IsInLog held.log.at k → ⊥
-  pub mine : (k v : ℕ) → may k v → pool_mine F held.at k ≡ true → ⊥
+  pub log : (k v : ℕ) → may k v → IsInLog held.tx.log.at k → ⊥
+  pub mine : (k v : ℕ) → may k v → pool_mine F p.at k ≡ true → ⊥
   pub records : (k v : ℕ) → may k v → is_open_record p k ≡ true → ⊥
 
 -- The next world has the same of one transaction that is held.
@@ -75,7 +75,6 @@ pub record KeepsOne (w next : World) (held : Held) : Type 0 where
   pub transaction : open_on held.name next ≡ open_on held.name w
   pub present : next.clients held.client ≡ w.clients held.client
   pub stored : graph_in (pool_named held.name next.stored) ≡ graph_in (pool_named held.name w.stored)
-  pub puddles : puddles_in (pool_named held.name next.stored) ≡ puddles_in (pool_named held.name w.stored)
   pub types : (id m : ℕ) → map_of id w.stored.types ≡ Some m → map_of id next.stored.types ≡ Some m
   pub graphs : (st : Stored) (g : Graph) → graph_of w.stored.types st ≡ Some g → graph_of next.stored.types st ≡ Some g
 
@@ -85,7 +84,6 @@ keeps_one w next held keeps number h there = record {
   transaction = ap (λ (o : List ℕ → Option Transaction). o h.name) keeps.transactions;
   present = keeps.present number h there;
   stored = keeps.stored number h there;
-  puddles = keeps.puddles number h there;
   types = keeps.types;
   graphs = keeps.graphs;
 }
@@ -95,19 +93,19 @@ module _ (w : World) (held : Held) (mask : Write) (words : Words) (is : IsHeld w
   F = w.stored.frames
 
   abbrev p : OpenPool
-  p = pool_held held is.rec is.who
+  p = pool_held held is.at is.rec is.who
 
-  on_device : IsOnDevice F held.at
+  on_device : IsOnDevice F is.at
   on_device = open_on_device F p is.before is.pool
 
   -- every word of the log, of the pool's frames and of its records is masked
-  pub log_masked : (k : ℕ) → IsInLog held.log.at k → mask k ≡ None → ⊥
+  pub log_masked : (k : ℕ) → IsInLog held.tx.log.at k → mask k ≡ None → ⊥
   log_masked k inside none =
       let there = subst (λ (n : ℕ). IsInLog n k) is.gate inside in
       let m = mask_of_log F p is.before k (in_log (log_number_at F held.number) k there) in
       none-some m.0 (sym none ∙ is.masked k m.0 m.1)
 
-  pub own_masked : (k : ℕ) → pool_mine F held.at k ≡ true → mask k ≡ None → ⊥
+  pub own_masked : (k : ℕ) → pool_mine F is.at k ≡ true → mask k ≡ None → ⊥
   own_masked k mine none = none-some (is.before k) (sym none ∙ is.masked k (is.before k) (mask_of_mine F p is.before k is.pool.known mine))
 
   pub record_masked : (k : ℕ) → is_open_record p k ≡ true → mask k ≡ None → ⊥
@@ -143,39 +141,39 @@ module _ (w : World) (held : Held) (mask : Write) (words : Words) (is : IsHeld w
       left_apart = record {
         unnamed = λ k v e. names.each k v (is.masked k v e);
         records = λ k of. same k (λ v wrote. apart.records k v wrote of) ∙ was_record k of;
-        settles = subst (λ (n : ℕ). SettlesTo (pool_ground F held.at) n is.before image) is.gate
-            (SettlesTo-local (pool_ground F held.at) held.log.at is.before o.before image
+        settles = subst (λ (n : ℕ). SettlesTo (pool_ground F is.at) n is.before image) is.gate
+            (SettlesTo-local (pool_ground F is.at) held.tx.log.at is.before o.before image
             (λ k inside. same k (λ v wrote. apart.log k v wrote inside)) (λ k mine. same k (λ v wrote. apart.mine k v wrote mine))
-            (IsRunning-settles (pool_ground F held.at) held.log is.running.saving.es is.before o.before words is.running.saving.running o.picked));
+            (IsRunning-settles (pool_ground F is.at) held.tx.log is.running.saving.es is.before o.before words is.running.saving.running o.picked));
       }
 
 -- ---- what is held stays
 
 module _ (w next : World) (held : Held) (mask anew : Write) (old new : State) (is : IsHeld w held mask old.now.words) (keeps : KeepsOne w next held) (may : Footprint)
-    (apart : IsApart w.stored.frames held (pool_held held is.rec is.who) may) (c : Changes may None old new)
-    (masked_so : (k v : ℕ) → open_mask w.stored.frames (pool_held held is.rec is.who) is.before k ≡ Some v → anew k ≡ Some v) where
+    (apart : IsApart w.stored.frames held (pool_held held is.at is.rec is.who) may) (c : Changes may None old new)
+    (masked_so : (k v : ℕ) → open_mask w.stored.frames (pool_held held is.at is.rec is.who) is.before k ≡ Some v → anew k ≡ Some v) where
   abbrev n : ℕ
   n = w.stored.frames
 
-  stored_still : stored_in n held.at (reads new.now.words) ≡ stored_in n held.at (reads old.now.words)
-  stored_still = stored_in-mine n held.at (reads old.now.words) (reads new.now.words) (λ k mine. reads_kept may old new k c (λ v wrote. apart.mine k v wrote mine))
+  stored_still : stored_in n is.at (reads new.now.words) ≡ stored_in n is.at (reads old.now.words)
+  stored_still = stored_in-mine n is.at (reads old.now.words) (reads new.now.words) (λ k mine. reads_kept may old new k c (λ v wrote. apart.mine k v wrote mine))
 
-  pub still_running : IsOpenOn n held.at next.stored.types held.log is.before is.undone is.transaction.now is.transaction.laters new.now.words
+  pub still_running : IsOpenOn n is.at next.stored.types held.tx.log is.before is.undone is.transaction.now is.transaction.laters new.now.words
   still_running =
       let r = is.running in
       record {
         redo = r.redo;
         saving = record {
           es = r.saving.es;
-          running = IsRunning-kept (pool_ground n held.at) held.log r.saving.es is.before may None old new c
+          running = IsRunning-kept (pool_ground n is.at) held.tx.log r.saving.es is.before may None old new c
               (λ k v inside wrote. apart.log k v wrote inside) (λ k v mine wrote. apart.mine k v wrote mine) r.saving.running;
           asks = r.saving.asks;
         };
-        was = keeps.graphs (stored_in n held.at is.before) is.undone r.was;
-        is = keeps.graphs (stored_in n held.at (reads new.now.words)) is.transaction.now
+        was = keeps.graphs (stored_in n is.at is.before) is.undone r.was;
+        is = keeps.graphs (stored_in n is.at (reads new.now.words)) is.transaction.now
             (ap (graph_of w.stored.types) stored_still ∙ r.is);
-        are = AreLaters-wider n held.at held.at w.stored.types next.stored.types (reads old.now.words) (reads new.now.words) is.transaction.now is.transaction.now (record { each = λ o e there. there })
-            (record { each = keeps.types }) (record { each = λ s o live. place_in_pool-stored n held.at (reads old.now.words) (reads new.now.words) stored_still s }) (KeepsObjects-same is.transaction.now)
+        are = AreLaters-wider n is.at is.at w.stored.types next.stored.types (reads old.now.words) (reads new.now.words) is.transaction.now is.transaction.now (record { each = λ o e there. there })
+            (record { each = keeps.types }) (record { each = λ s o live. place_in_pool-stored n is.at (reads old.now.words) (reads new.now.words) stored_still s }) (KeepsObjects-same is.transaction.now)
             is.transaction.laters r.redo r.are;
       }
 
@@ -186,6 +184,7 @@ module _ (w next : World) (held : Held) (mask anew : Write) (old new : State) (i
       record {
         rec = is.rec;
         who = is.who;
+        at = is.at;
         before = is.before;
         undone = is.undone;
         transaction = is.transaction;
@@ -197,15 +196,14 @@ module _ (w next : World) (held : Held) (mask anew : Write) (old new : State) (i
         gate = is.gate ∙ ap (λ (m : ℕ). log_number_at m held.number) back;
         name = is.name;
         stored = keeps.stored ∙ is.stored;
-        count = keeps.puddles ∙ is.count;
-        pool = subst (λ (m : ℕ). IsOpenPool m (pool_held held is.rec is.who) is.before) back is.pool;
+        pool = subst (λ (m : ℕ). IsOpenPool m (pool_held held is.at is.rec is.who) is.before) back is.pool;
         records = λ k of. reads_kept may old new k c (λ v wrote. apart.records k v wrote of) ∙ is.records k of;
-        running = subst (λ (m : ℕ). IsOpenOn m held.at next.stored.types held.log is.before is.undone is.transaction.now is.transaction.laters new.now.words) back still_running;
-        masked = subst (λ (m : ℕ). (k v : ℕ) → open_mask m (pool_held held is.rec is.who) is.before k ≡ Some v → anew k ≡ Some v) back masked_so;
+        running = subst (λ (m : ℕ). IsOpenOn m is.at next.stored.types held.tx.log is.before is.undone is.transaction.now is.transaction.laters new.now.words) back still_running;
+        masked = subst (λ (m : ℕ). (k v : ℕ) → open_mask m (pool_held held is.at is.rec is.who) is.before k ≡ Some v → anew k ≡ Some v) back masked_so;
       }
 
   -- and it is held so under its number, where it is open under that
-  pub still_under : (opens : Opens) (number : ℕ) → held.number ≡ number → opens number ≡ Some (open_held held is.rec is.who is.before) → IsHeldUnder next opens anew new.now.words number held
+  abbrev pub still_under : (opens : Opens) (number : ℕ) → held.number ≡ number → opens number ≡ Some (open_held held is.at is.rec is.who is.before) → IsHeldUnder next opens anew new.now.words number held
   still_under opens number its opened = record { is = held_still; number_is = its; opened = opened }
 
 -- ---- all that is held
@@ -215,27 +213,33 @@ pub record IsOpenAs (w : World) (opens : Opens) (held : List (Option Held)) (mas
   pub one : Held
   pub there : held_under held number ≡ Some one
   pub under : IsHeldUnder w opens mask words number one
-  pub same : open_held one under.is.rec under.is.who under.is.before ≡ o
+  pub same : open_held one under.is.at under.is.rec under.is.who under.is.before ≡ o
 
 module _ (w : World) (held : List (Option Held)) (mask : Write) (words : Words) (holds : Holds w held mask words) where
   abbrev N : ℕ
   N = w.stored.frames
 
   -- each is open so
-  pub held_is : (number : ℕ) (h : Held) → held_under held number ≡ Some h → IsHeld w h mask words
+  abbrev pub held_is : (number : ℕ) (h : Held) → held_under held number ≡ Some h → IsHeld w h mask words
   held_is number h there = (holds.each number h there).is
 
   opened_by : (number : ℕ) (o : OpenTransaction) (x : Option Held) → held_under held number ≡ x → holds.opens number ≡ Some o → IsOpenAs w holds.opens held mask words number o
   opened_by number o None e there = absurd (none-some o (sym (holds.none number e) ∙ there))
   opened_by number o (Some h) e there =
       let under = holds.each number h e in
-      record { one = h; there = e; under = under; same = same_Some (open_held h under.is.rec under.is.who under.is.before) o (sym under.opened ∙ there) }
+      record { one = h; there = e; under = under; same = same_Some (open_held h under.is.at under.is.rec under.is.who under.is.before) o (sym under.opened ∙ there) }
 
   pub opened_as : (number : ℕ) (o : OpenTransaction) → holds.opens number ≡ Some o → IsOpenAs w holds.opens held mask words number o
   opened_as number o there = opened_by number o (held_under held number) refl there
 
+  -- none is open on a pool on which none is held
+  pub opens_apart_from : (slot : ℕ) → ((number : ℕ) (h : Held) → held_under held number ≡ Some h → h.slot ≢ slot) → (number : ℕ) (o : OpenTransaction) → holds.opens number ≡ Some o → o.pool.slot ≢ slot
+  opens_apart_from slot apart number o there same =
+      let a = opened_as number o there in
+      apart number a.one a.there (ap (λ (t : OpenTransaction). t.pool.slot) a.same ∙ same)
+
   -- each is open in the image, where each that is held is
-  module _ (image : Image) (each : (number : ℕ) (h : Held) (there : held_under held number ≡ Some h) (under : IsHeldUnder w holds.opens mask words number h) → IsLeftOpen N (pool_held h under.is.rec under.is.who) under.is.before image) where
+  module _ (image : Image) (each : (number : ℕ) (h : Held) (there : held_under held number ≡ Some h) (under : IsHeldUnder w holds.opens mask words number h) → IsLeftOpen N (pool_held h under.is.at under.is.rec under.is.who) under.is.before image) where
     pub left_all : AreLeftOpen N holds.opens image
     left_all = record {
       each = λ number o there.
@@ -252,7 +256,7 @@ module _ (w : World) (held : List (Option Held)) (mask : Write) (words : Words) 
   }
 
   -- a word that none has is not masked
-  pub unmasked_by_all : (k : ℕ) → ((number : ℕ) (h : Held) (there : held_under held number ≡ Some h) (is : IsHeld w h mask words) → open_mask N (pool_held h is.rec is.who) is.before k ≡ None) → mask k ≡ None
+  pub unmasked_by_all : (k : ℕ) → ((number : ℕ) (h : Held) (there : held_under held number ≡ Some h) (is : IsHeld w h mask words) → open_mask N (pool_held h is.at is.rec is.who) is.before k ≡ None) → mask k ≡ None
   unmasked_by_all k each = nothing_given (mask k) (λ v given.
       let m = holds.masks.each k v given in
       let a = opened_as m.number m.transaction m.there in
@@ -286,30 +290,30 @@ module _ (w : World) (held : List (Option Held)) (mask : Write) (words : Words) 
     others = holds.each other g there
 
     abbrev o : OpenTransaction
-    o = open_held h its.is.rec its.is.who its.is.before
+    o = open_held h its.is.at its.is.rec its.is.who its.is.before
 
     abbrev q : OpenTransaction
-    q = open_held g others.is.rec others.is.who others.is.before
+    q = open_held g others.is.at others.is.rec others.is.who others.is.before
 
-    in_its_log : (k : ℕ) → IsInLog h.log.at k → is_in_log (log_number_at N h.number) k ≡ true
+    in_its_log : (k : ℕ) → IsInLog h.tx.log.at k → is_in_log (log_number_at N h.number) k ≡ true
     in_its_log k inside = in_log (log_number_at N h.number) k (subst (λ (n : ℕ). IsInLog n k) its.is.gate inside)
 
-    in_others_log : (k : ℕ) → IsInLog g.log.at k → is_in_log (log_number_at N g.number) k ≡ true
+    in_others_log : (k : ℕ) → IsInLog g.tx.log.at k → is_in_log (log_number_at N g.number) k ≡ true
     in_others_log k inside = in_log (log_number_at N g.number) k (subst (λ (n : ℕ). IsInLog n k) others.is.gate inside)
 
     -- are no words of another
-    pub own_apart : IsApart N g (pool_held g others.is.rec others.is.who) (ByTransaction (pool_ground N h.at) h.log.at)
+    pub own_apart : IsApart N g (pool_held g others.is.at others.is.rec others.is.who) (ByTransaction (pool_ground N its.is.at) h.tx.log.at)
     own_apart = record {
       log = λ k v wrote inside. elim wrote [
         | inl log ↦ two_logs N holds.opens (reads words) holds.are records_all number other o q its.opened others.opened apart k (in_its_log k log) (in_others_log k inside)
-        | inr mine ↦ log_or_own N holds.opens (reads words) holds.are records_all other number q o others.opened its.opened (λ same. apart (sym same)) k (in_others_log k inside) (or_left (pool_mine N h.at k) _ mine)
+        | inr mine ↦ log_or_own N holds.opens (reads words) holds.are records_all other number q o others.opened its.opened (λ same. apart (sym same)) k (in_others_log k inside) (or_left (pool_mine N its.is.at k) _ mine)
       ];
       mine = λ k v wrote also. elim wrote [
-        | inl log ↦ log_or_own N holds.opens (reads words) holds.are records_all number other o q its.opened others.opened apart k (in_its_log k log) (or_left (pool_mine N g.at k) _ also)
+        | inl log ↦ log_or_own N holds.opens (reads words) holds.are records_all number other o q its.opened others.opened apart k (in_its_log k log) (or_left (pool_mine N others.is.at k) _ also)
         | inr mine ↦ let no : true ≡ false = sym also ∙ (opens_apart N holds.opens (reads words) holds.are records_all).each number other o q its.opened others.opened apart k mine in cc
       ];
       records = λ k v wrote of. elim wrote [
-        | inl log ↦ log_or_own N holds.opens (reads words) holds.are records_all number other o q its.opened others.opened apart k (in_its_log k log) (or_right (pool_mine N g.at k) _ of)
+        | inl log ↦ log_or_own N holds.opens (reads words) holds.are records_all number other o q its.opened others.opened apart k (in_its_log k log) (or_right (pool_mine N others.is.at k) _ of)
         | inr mine ↦ mine_or_record N holds.opens (reads words) holds.are records_all number other o q its.opened others.opened apart k mine of
       ];
     }
@@ -321,13 +325,13 @@ daemon_log_unmasked w held mask words holds = unmasked_front w held mask words h
 -- ---- what is held stays beside others
 
 module _ (w next : World) (held : List (Option Held)) (mask : Write) (old new : State) (holds : Holds w held mask old.now.words) (keeps : KeepsHeld w next held) (c : Changes (ByOthers mask) None old new) where
-  under_still : (number : ℕ) (h : Held) → held_under held number ≡ Some h → IsHeldUnder next holds.opens mask new.now.words number h
+  abbrev pub under_still : (number : ℕ) (h : Held) → held_under held number ≡ Some h → IsHeldUnder next holds.opens mask new.now.words number h
   under_still number h there =
       let under = holds.each number h there in
       still_under w next h mask mask old new under.is (keeps_one w next held keeps number h there) (ByOthers mask) (others_apart w h mask old.now.words under.is) c under.is.masked holds.opens number
       under.number_is under.opened
 
-  pub holds_still : Holds next held mask new.now.words
+  abbrev pub holds_still : Holds next held mask new.now.words
   holds_still =
       let back = sym keeps.frames in
       record {
@@ -388,26 +392,24 @@ module _ (size : ℕ) (w next : World) (memory : Memory) (fault : Option HostFau
     (a : AppliesMasked size w next ready.mask fault old new) where
   -- with this memory behind it, which holds the same
   pub Applies-beside : (behind : Memory) → behind.frames ≡ memory.frames → behind.held ≡ memory.held → behind.sessions ≡ memory.sessions
-      → (fault ≡ None → KnowsPools next.stored.frames behind.judged behind.held (reads new.now.words))
+      → (fault ≡ None → KnowsPools w.stored.frames behind.judged ready.held.opens (reads new.now.words))
       → Applies size w next behind fault old new
-  Applies-beside behind frames holds same knows = record {
+  Applies-beside behind frames holds same_sessions knows = record {
     moments = moments_beside size w next memory fault old new ready keeps.frames a;
     quiet = Changes-said (ByOthers ready.mask) fault old new a.beside.changes;
-    ready = λ none. record {
+    ready = λ none. subst (λ (m : Memory). IsReady size next m new) (λ i. record { frames = behind.frames; held = sym holds i; sessions = sym same_sessions i; judged = behind.judged }) (record {
       mask = ready.mask;
       settled = a.settled none;
       tables = a.tables none;
       clients = a.clients none;
       frames = frames ∙ ready.frames ∙ sym keeps.frames;
       shelf = a.beside.changes.shelf ∙ ready.shelf ∙ sym a.shelf;
-      held = subst (λ (o : List (Option Held)). Holds next o ready.mask new.now.words) (sym holds)
-          (holds_still w next memory.held ready.mask old new ready.held keeps (subst (λ (f : Option HostFault). Changes (ByOthers ready.mask) f old new) none a.beside.changes));
-      sessions = subst (λ (o : List (Option Held)). HasSessions next o behind.sessions) (sym holds)
-          (subst (λ (o : List (Option Session)). HasSessions next memory.held o) (sym same) (sessions_still w next memory.held memory.sessions keeps.transactions ready.sessions));
+      held = holds_still w next memory.held ready.mask old new ready.held keeps (subst (λ (f : Option HostFault). Changes (ByOthers ready.mask) f old new) none a.beside.changes);
+      sessions = sessions_still w next memory.held memory.sessions keeps.transactions ready.sessions;
       rest = subst (λ (n : ℕ). HasDurableFrames n (masked ready.mask new.now.words)) (sym keeps.frames) (durable_frames_still w.stored.frames ready.mask old new (a.beside.single none) ready.rest);
       logs = a.logs none;
-      knows = knows none;
-    };
+      knows = subst (λ (n : ℕ). KnowsPools n behind.judged ready.held.opens (reads new.now.words)) (sym keeps.frames) (knows none);
+    });
     rests = a.beside.changes.rests;
     script = a.beside.changes.script;
   }

@@ -197,10 +197,10 @@ module _ (size : ℕ) (w : World) (memory : Memory) (slot : ℕ) (known : slot <
           (Leaves-weaker (Silently (MayHaveOwner size (closed w) slot now es (masked ready.mask b.now.words))) P (masked_state ready.mask b) (masked_state ready.mask c) (λ bytes image m. (m.0, inl m.1.stands)) q.moments)
 
       -- each pool that was judged stays
-      knows_changed : fault ≡ None → KnowsPools w.stored.frames memory.judged memory.held (reads c.now.words)
+      knows_changed : fault ≡ None → KnowsPools w.stored.frames memory.judged ready.held.opens (reads c.now.words)
       knows_changed none =
           let committed = subst (λ (f : Option HostFault). Commits DAEMON_LOG es f b c) none k in
-          KnowsPools-all w.stored.frames memory.judged memory.held (reads a.now.words) (reads c.now.words)
+          KnowsPools-all w.stored.frames memory.judged ready.held.opens (reads a.now.words) (reads c.now.words)
           (subst (λ (n : ℕ). KeepsPools n None (reads a.now.words) (reads c.now.words)) is (KeepsPools-client F slot vals a b c known few gates committed)) ready.knows
 
       -- the record was changed, or not, for a fault

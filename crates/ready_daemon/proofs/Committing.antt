@@ -40,8 +40,8 @@ use Rattle.pud_defs.proofs.SoundChanged.{distinct_names, sound_from}
 use Rattle.pud_defs.proofs.TablesOf.{tables_of-same}
 use Rattle.registry.proofs.Changed.{found_pool, changed_there}
 use Rattle.hybrid_tx.specs.Grounds.{pool_mine}
-use Rattle.hybrid_tx.proofs.OpenMasks.{mine_behind}
-use Rattle.hybrid_tx.proofs.Opening.{stored_in-mine}
+use Rattle.hybrid_tx.proofs.Open.OpenMasks.{mine_behind}
+use Rattle.hybrid_tx.proofs.Objects.Opening.{stored_in-mine}
 use Rattle.hybrid_tx.proofs.PoolGrounds.{pool_mine-each}
 
 -- ---- pools that are read of two images

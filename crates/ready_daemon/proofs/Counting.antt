@@ -30,17 +30,17 @@ use Rattle.pud_defs.proofs.PoolsChanged.{entry_of, distinct_entries}
 use Rattle.pud_defs.proofs.PoolsCounted.{sum_places, sum_places-same, worth, sum-keyed}
 use Rattle.pud_defs.proofs.SoundChanged.{distinct_names}
 use Rattle.pud_defs.proofs.Spaces.{is_closed_log-same}
-use Rattle.hybrid_tx.proofs.ManyMasks.{masks_beside_log}
+use Rattle.hybrid_tx.proofs.Open.ManyMasks.{masks_beside_log}
 use Rattle.log_space.specs.FreeLogs.{first_from, first_closed, log_number, IsLogOf}
 use Rattle.log_space.proofs.FirstFrom.{first_from-found, first_from-each}
 use Rattle.nesting.specs.declared.Session.{Session}
-use Rattle.nesting.specs.Sessions.{session_in, is_of, count_of}
+use Rattle.nesting.specs.Sessions.{client_in, session_in, is_of, count_of}
 use Rattle.nesting.proofs.Counts.{count_of-set_fewer}
 use Rattle.ready_daemon.specs.Memory.{Held, Memory, held_under}
 use Rattle.ready_daemon.specs.Ready.{IsReady}
 use Rattle.ready_daemon.proofs.Beside.{held_is}
 use Rattle.ready_daemon.proofs.PoolsBeside.{one_slot, held_pool}
-use Rattle.ready_daemon.proofs.Sessions.{session_of, session_held, session_is}
+use Rattle.ready_daemon.proofs.Sessions.{session_held, holder_is}
 use Rattle.ready_daemon.proofs.TablesBeside.{standing, pools_read, sound_read, owner_under}
 
 -- ---- a list and its places
@@ -57,9 +57,11 @@ module _ {A : Type 0} (f : A → ℕ) (xs : List A) (d : A) where
 abbrev number_of : Bool → ℕ
 number_of b = cond b 1 0
 
-same_owner : (client : ℕ) (o : Option Transaction) → is_of client (option_map session_of o) ≡ is_own client o
-same_owner client None = refl
-same_owner client (Some t) = refl
+same_owner : (client : ℕ) (s : Option Session) (o : Option Transaction) → option_map client_in s ≡ option_map (λ (t : Transaction). t.client) o → is_of client s ≡ is_own client o
+same_owner client None None e = refl
+same_owner client None (Some t) e = absurd (none-some t.client e)
+same_owner client (Some s) None e = absurd (none-some s.client (sym e))
+same_owner client (Some s) (Some t) e = ap (λ (n : ℕ). eqb n client) (same_Some s.client t.client e)
 
 module _ (size : ℕ) (w : World) (memory : Memory) (s : State) (ready : IsReady size w memory s) (client : ℕ) (name : List ℕ) (shut : open_on name w ≡ None) where
   abbrev F : ℕ
@@ -88,14 +90,14 @@ module _ (size : ℕ) (w : World) (memory : Memory) (s : State) (ready : IsReady
   free_slot slot None free e = refl
   free_slot slot (Some x) free e =
       let on = ready.sessions.only slot x e in
-      let pool = held_pool w memory.held ready.mask s.now.words ready.held on.number on.mine on.is in
+      let pool = held_pool w memory.held ready.mask s.now.words ready.held x.number on.mine on.is in
       absurd (none-some pool.rec (sym free ∙ ap t.pools (sym on.slot_is) ∙ pool.used))
 
   each_slot : (slot : ℕ) (r : Option PoolRec) → t.pools slot ≡ r → worth name_cmp counts (entry_of hold (puddles_of t slot) r) ≡ number_of (is_of client (session slot))
   each_slot slot None free = ap number_of (sym (free_slot slot (session slot) free refl))
   each_slot slot (Some r) used =
-      let here = session_is size w memory s ready r.name slot (record { rec = r; used = used; name_is = refl }) in
-      ap number_of (own_elsewhere r.name (bytes_eq r.name name) refl ∙ sym (ap (is_of client) here ∙ same_owner client (open_on r.name w)))
+      let here = holder_is size w memory s ready r.name slot (record { rec = r; used = used; name_is = refl }) in
+      ap number_of (own_elsewhere r.name (bytes_eq r.name name) refl ∙ sym (same_owner client (session slot) (open_on r.name w) here))
 
   -- so the client has as many sessions as transactions on other pools
   pub counted : length memory.sessions ≡ POOL_RECORDS → open_elsewhere w client name ≡ count_of client memory.sessions
@@ -140,10 +142,10 @@ module _ (size : ℕ) (w : World) (memory : Memory) (s : State) (ready : IsReady
   runs_not_closed number h there closed =
       let under = ready.held.each number h there in
       let r = under.is.running.saving.running in
-      let at : log_number_at w.stored.frames number ≡ h.log.at = ap (log_number_at w.stored.frames) (sym under.number_is) ∙ sym under.is.gate in
-      let range = (and_parts (is_closed_range (image h.log.at)) _ (ap (is_closed_log image) (sym at) ∙ closed)).0 in
-      let lo : gate_lo (image h.log.at) ≡ h.log.lo = ap (λ (l : Log). l.lo) r.opened.says in
-      let hi : gate_hi (image h.log.at) ≡ h.log.hi = ap (λ (l : Log). l.hi) r.opened.says in
+      let at : log_number_at w.stored.frames number ≡ h.tx.log.at = ap (log_number_at w.stored.frames) (sym under.number_is) ∙ sym under.is.gate in
+      let range = (and_parts (is_closed_range (image h.tx.log.at)) _ (ap (is_closed_log image) (sym at) ∙ closed)).0 in
+      let lo : gate_lo (image h.tx.log.at) ≡ h.tx.log.lo = ap (λ (l : Log). l.lo) r.opened.says in
+      let hi : gate_hi (image h.tx.log.at) ≡ h.tx.log.hi = ap (λ (l : Log). l.hi) r.opened.says in
       let no : false ≡ true = ap₂ (λ (a b : ℕ). eqb a b && (eqb b 4 || eqb b 0)) (sym (lo ∙ r.lo)) (sym (hi ∙ r.hi)) ∙ range in
       cc
 

@@ -50,7 +50,7 @@ use Rattle.batch.specs.Tables.{HasDurableTables}
 use Rattle.batch.specs.Worlds.{IsSettled}
 use Rattle.batch.proofs.Tables.{reads_kept, HasDurableTables-persisted}
 use Rattle.ready_daemon.specs.Memory.{Held, Memory}
-use Rattle.ready_daemon.specs.Held.{puddles_in, HasIdleLogs, Holds, ByOthers, NamesNone, KeepsHeld}
+use Rattle.ready_daemon.specs.Held.{HasIdleLogs, Holds, ByOthers, NamesNone, KeepsHeld}
 use Rattle.ready_daemon.proofs.Beneath.{single_changes, persisted_single, logs_kept}
 use Rattle.ready_daemon.specs.Defined.{reply_of}
 use Rattle.ready_daemon.specs.Ready.{KeepsRest, IsReady, AppliesMasked, Applies}
@@ -249,15 +249,6 @@ pool_kept id map s name g is =
     let more = with_type id map s.types in
     ap graph_in (find-mapped name_cmp (read_by more) name s.pools) ∙ graph_kept more (pool_named name s) g is
 
-read_puddles : (more : List (ℕ × ℕ)) (o : Option Pool) → puddles_in (option_map (read_by more) o) ≡ puddles_in o
-read_puddles more None = refl
-read_puddles more (Some p) = refl
-
--- and as many puddles as it has
-puddles_kept : (id map : ℕ) (s : StoredWorld) (name : List ℕ) → puddles_in (pool_named name (with_type_defined id map s)) ≡ puddles_in (pool_named name s)
-unfolding with_type_defined
-puddles_kept id map s name = ap puddles_in (find-mapped name_cmp (read_by (with_type id map s.types)) name s.pools) ∙ read_puddles (with_type id map s.types) (pool_named name s)
-
 graphs_kept : (id map : ℕ) (s : StoredWorld) → map_of id s.types ≡ None → (st : Stored) (g : Graph) → graph_of s.types st ≡ Some g → graph_of (with_type_defined id map s).types st ≡ Some g
 unfolding with_type_defined
 graphs_kept id map s none st g is = graph_of-more id map s.types st g none is
@@ -279,7 +270,6 @@ KeepsHeld-define w held mask words id map holds none = record {
   stored = λ number h there.
       let is = held_is w held mask words holds number h there in
       pool_kept id map w.stored h.name is.undone is.stored ∙ sym is.stored;
-  puddles = λ number h there. puddles_kept id map w.stored h.name;
   types = types_kept id map w.stored none;
   graphs = graphs_kept id map w.stored none;
 }
@@ -360,10 +350,9 @@ module _ (size : ℕ) (w : World) (memory : Memory) (id map r : ℕ) (old : Stat
       shelf = shelf_next;
     }
 
-    knows_now : place_for (reads old.now.words) id ≡ Some r → fault ≡ None → KnowsPools next.stored.frames memory.judged memory.held (reads new.now.words)
+    knows_now : place_for (reads old.now.words) id ≡ Some r → fault ≡ None → KnowsPools F memory.judged ready.held.opens (reads new.now.words)
     knows_now place none =
-        subst (λ (n : ℕ). KnowsPools n memory.judged memory.held (reads new.now.words)) (sym frames_next)
-        (KnowsPools-all F memory.judged memory.held (reads old.now.words) (reads new.now.words) (KeepsPools-defined r id map old new place legal_id (now_done none) F) ready.knows)
+        KnowsPools-all F memory.judged ready.held.opens (reads old.now.words) (reads new.now.words) (KeepsPools-defined r id map old new place legal_id (now_done none) F) ready.knows
 
     new_applies : place_for (reads old.now.words) id ≡ Some r → Applies size w (world_by w (Some (Define id map))) memory fault old new
     new_applies place = subst (λ (v : World). Applies size w v memory fault old new) (sym is_new.world)

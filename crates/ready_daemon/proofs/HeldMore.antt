@@ -9,11 +9,11 @@ use Rattle.pm_model.specs.Changes.{Write}
 use Rattle.pm_model.specs.Words.{Words}
 use Rattle.pud_defs.specs.Transactions.{with_open}
 use Rattle.pud_defs.specs.World.{Transaction, World, open_on}
-use Rattle.hybrid_tx.specs.ManyOpen.{Opens, MasksAll, AreOpenPools}
+use Rattle.hybrid_tx.specs.Open.ManyOpen.{Opens, MasksAll, AreOpenPools}
 use Rattle.nesting.specs.declared.Session.{Session}
-use Rattle.nesting.specs.Sessions.{session_in, session_depth, entered}
+use Rattle.nesting.specs.Sessions.{session_in, number_in, session_depth, entered}
 use Rattle.ready_daemon.specs.Memory.{Held, held_under}
-use Rattle.ready_daemon.specs.Held.{IsHeldUnder, IsOpenUnder, Holds, HasSessions}
+use Rattle.ready_daemon.specs.Held.{IsHeldUnder, IsOpenUnder, Holds, session_of, HasSessions}
 use Rattle.ready_daemon.proofs.Beside.{KeepsOne}
 use Rattle.ready_daemon.proofs.HeldUnder.{held_here, held_there, held_then}
 use Rattle.ready_daemon.proofs.OpenBeside.{not_named}
@@ -47,25 +47,24 @@ module _ (w : World) (held : List (Option Held)) (mask : Write) (words : Words) 
     transaction = open_elsewhere begun.name w.transactions (Some t) h.name (other_name m h there);
     present = refl;
     stored = refl;
-    puddles = refl;
     types = λ id m is. is;
     graphs = λ st g is. is;
   }
 
   -- what is so of it and of each that was held is so of each
-  each_more : (P : ℕ → Held → Type 0) → P number begun → ((m : ℕ) (h : Held) → held_under held m ≡ Some h → P m h) → (m : ℕ) (h : Held) → held_under all m ≡ Some h → P m h
+  pub each_more : (P : ℕ → Held → Type 0) → P number begun → ((m : ℕ) (h : Held) → held_under held m ≡ Some h → P m h) → (m : ℕ) (h : Held) → held_under all m ≡ Some h → P m h
   each_more P its others m h there = elim (held_then held number (Some begun) m h there) [
     | inl here ↦ subst (λ (n : ℕ). P n h) (sym here.0) (subst (λ (x : Held). P number x) (same_Some begun h here.1) its)
     | inr still ↦ others m h still.1
   ]
 
-  none_more : (m : ℕ) → held_under all m ≡ None → (m ≢ number) × (held_under held m ≡ None)
+  pub none_more : (m : ℕ) → held_under all m ≡ None → (m ≢ number) × (held_under held m ≡ None)
   none_more m none = elim (cases_eq m number) [
     | inl same ↦ absurd (none-some begun (sym none ∙ ap (held_under all) same ∙ begun_there))
     | inr apart ↦ (apart, sym (held_there held number (Some begun) m apart) ∙ none)
   ]
 
-  known_more : (name : List ℕ) (x : Transaction) → open_on name next ≡ Some x → IsOpenUnder all name
+  pub known_more : (name : List ℕ) (x : Transaction) → open_on name next ≡ Some x → IsOpenUnder all name
   known_more name x is = elim (cases_Bool (bytes_eq name begun.name)) [
     | inl same ↦ record { number = number; mine = begun; is = begun_there; name_is = sym ((bytes_eq-Decides name begun.name).0 same) }
     | inr other ↦
@@ -74,14 +73,14 @@ module _ (w : World) (held : List (Option Held)) (mask : Write) (words : Words) 
         record { number = open_under.number; mine = open_under.mine; is = still_there open_under.number open_under.mine open_under.is; name_is = open_under.name_is }
   ]
 
-  names_more : (n m : ℕ) (h g : Held) → held_under all n ≡ Some h → held_under all m ≡ Some g → h.name ≡ g.name → n ≡ m
+  pub names_more : (n m : ℕ) (h g : Held) → held_under all n ≡ Some h → held_under all m ≡ Some g → h.name ≡ g.name → n ≡ m
   names_more n m h g here there = each_more (λ i x. x.name ≡ g.name → i ≡ m)
       (each_more (λ j y. begun.name ≡ y.name → number ≡ j) (λ same. refl) (λ j y is same. absurd (other_name j y is (sym same))) m g there)
       (λ i x is. each_more (λ j y. x.name ≡ y.name → i ≡ j) (λ same. absurd (other_name i x is same)) (λ j y also same. holds.names i j x y is also same) m g there)
       n h here
 
   -- what is held then stands for what is open then
-  pub Holds-more : (anew : Write) (after : Words) (opens : Opens) → AreOpenPools w.stored.frames opens → MasksAll w.stored.frames opens anew → IsHeldUnder next opens anew after number begun
+  abbrev pub Holds-more : (anew : Write) (after : Words) (opens : Opens) → AreOpenPools w.stored.frames opens → MasksAll w.stored.frames opens anew → IsHeldUnder next opens anew after number begun
       → ((m : ℕ) (h : Held) → held_under held m ≡ Some h → IsHeldUnder next opens anew after m h) → ((m : ℕ) → m ≢ number → holds.opens m ≡ None → opens m ≡ None) → Holds next all anew after
   Holds-more anew after opens are masks its others none = record {
     opens = opens;
@@ -98,35 +97,37 @@ module _ (w : World) (held : List (Option Held)) (mask : Write) (words : Words) 
   module _ (sessions : List (Option Session)) (has : HasSessions w held sessions) (fits : begun.slot < length sessions) (unheld : session_in sessions begun.slot ≡ None) (client : ℕ)
       (whose : t.client ≡ client) (once : t.depth ≡ 1) where
     abbrev then_sessions : List (Option Session)
-    then_sessions = entered client begun.slot sessions
+    then_sessions = entered client begun.slot number sessions
 
     abbrev its_session : Session
-    its_session = record { client = client; depth = 1 }
+    its_session = record { client = client; number = number; depth = 1 }
 
     session_here : session_in then_sessions begun.slot ≡ Some its_session
     session_here =
-        get_or-set_same sessions begun.slot (Some (record { client = client; depth = session_depth (session_in sessions begun.slot) + 1 })) None fits
-        ∙ ap (λ (o : Option Session). Some (record { client = client; depth = session_depth o + 1 })) unheld
+        get_or-set_same sessions begun.slot (Some (record { client = client; number = number; depth = session_depth (session_in sessions begun.slot) + 1 })) None fits
+        ∙ ap (λ (o : Option Session). Some (record { client = client; number = number; depth = session_depth o + 1 })) unheld
 
     session_elsewhere : (slot : ℕ) → slot ≢ begun.slot → session_in then_sessions slot ≡ session_in sessions slot
-    session_elsewhere slot apart = get_or-set_other sessions begun.slot slot (Some (record { client = client; depth = session_depth (session_in sessions begun.slot) + 1 })) None apart
+    session_elsewhere slot apart = get_or-set_other sessions begun.slot slot (Some (record { client = client; number = number; depth = session_depth (session_in sessions begun.slot) + 1 })) None apart
 
     pub HasSessions-more : HasSessions next all then_sessions
     HasSessions-more = record {
-      each = λ m h x there is. each_more (λ i y. open_on y.name next ≡ Some x → session_in then_sessions y.slot ≡ Some (record { client = x.client; depth = x.depth }))
-          (λ open_on.
-          let one : t ≡ x = same_Some t x (sym (open_there begun.name w.transactions (Some t)) ∙ open_on) in
-          let its : its_session ≡ record { client = x.client; depth = x.depth } =
-          ap₂ (λ (c d : ℕ). record { client = c; depth = d }) (sym whose ∙ ap (λ (y : Transaction). y.client) one) (sym once ∙ ap (λ (y : Transaction). y.depth) one) in
+      each = λ m h x there is. each_more (λ i y. open_on y.name next ≡ Some x → session_in then_sessions y.slot ≡ Some (session_of i x))
+          (λ on.
+          let one : t ≡ x = same_Some t x (sym (open_there begun.name w.transactions (Some t)) ∙ on) in
+          let its : its_session ≡ session_of number x =
+          ap₂ (λ (c d : ℕ). record { client = c; number = number; depth = d }) (sym whose ∙ ap (λ (y : Transaction). y.client) one) (sym once ∙ ap (λ (y : Transaction). y.depth) one) in
           session_here ∙ ap (λ (s : Session). Some s) its)
-          (λ i y was open_on.
+          (λ i y was on.
           session_elsewhere y.slot (none_held w held mask words holds sessions has begun.slot unheld i y was)
-          ∙ has.each i y x was (sym (open_elsewhere begun.name w.transactions (Some t) y.name (other_name i y was)) ∙ open_on))
+          ∙ has.each i y x was (sym (open_elsewhere begun.name w.transactions (Some t) y.name (other_name i y was)) ∙ on))
           m h there is;
       only = λ slot s there. elim (cases_eq slot begun.slot) [
-        | inl same ↦ record { number = number; mine = begun; is = begun_there; slot_is = sym same }
+        | inl same ↦
+            let one : its_session ≡ s = same_Some its_session s (sym session_here ∙ ap (session_in then_sessions) (sym same) ∙ there) in
+            record { mine = begun; is = ap (held_under all) (sym (ap number_in one)) ∙ begun_there; slot_is = sym same }
         | inr apart ↦
             let on = has.only slot s (sym (session_elsewhere slot apart) ∙ there) in
-            record { number = on.number; mine = on.mine; is = still_there on.number on.mine on.is; slot_is = on.slot_is }
+            record { mine = on.mine; is = still_there s.number on.mine on.is; slot_is = on.slot_is }
       ];
     }

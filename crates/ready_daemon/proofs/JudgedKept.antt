@@ -19,13 +19,13 @@ use Rattle.pud_defs.specs.Stored.{Stored, stored_in}
 use Rattle.pud_defs.specs.Graph.{Graph, graph_of}
 use Rattle.pud_defs.specs.Tables.{tables_of, members, member_of, puddles_of, in_turn, puddles_in_turn}
 use Rattle.pud_defs.proofs.Keyed.{keyed-same}
-use Rattle.pud_defs.proofs.PoolMembers.{HasMembers, members_in_turn}
 use Rattle.pud_defs.proofs.TablesOf.{puddles_below, frames_of_tables, puddle_at-same}
 use Rattle.pud_defs.proofs.TypeTable.{type_at-same}
 use Rattle.batch.proofs.Tables.{reads_kept}
 use Rattle.hybrid_tx.specs.Grounds.{pool_mine}
-use Rattle.hybrid_tx.proofs.Opening.{stored_in-mine}
+use Rattle.hybrid_tx.proofs.Objects.Opening.{stored_in-mine}
 use Rattle.hybrid_tx.proofs.PoolGrounds.{pool_mine-each}
+use Rattle.hybrid_tx.proofs.Open.PoolPlaces.{EachIsOf, each_in_turn}
 use Rattle.ready_daemon.specs.Judged.{known_in, AreJudged}
 use Rattle.ready_daemon.specs.Judged.{puddles_with_graph}
 
@@ -121,10 +121,10 @@ pub record IsOwnWord (F slot : ℕ) (image : Image) (k : ℕ) : Type 0 where
   pub low : frame_at F frame ≤ k
   pub high : k < frame_at F frame + FRAME_WORDS
 
-pub own_by : (F slot : ℕ) (image : Image) (at : List (ℕ × Puddle)) (k : ℕ) → HasMembers (tables_of F image) slot at → pool_mine F at k ≡ true → IsOwnWord F slot image k
+pub own_by : (F slot : ℕ) (image : Image) (at : List (ℕ × Puddle)) (k : ℕ) → EachIsOf (tables_of F image) slot at → pool_mine F at k ≡ true → IsOwnWord F slot image k
 own_by F slot image at k has mine =
     let own = pool_mine-each F at k mine in
-    let is = has.each own.ordinal own.puddle own.there in
+    let is = has own.ordinal own.puddle own.there in
     let within = is.below in
     record {
       frame = own.puddle.0;
@@ -137,7 +137,7 @@ own_by F slot image at k has mine =
     }
 
 pub own_word : (F slot : ℕ) (image : Image) (k : ℕ) → pool_mine F (puddles_in_turn (tables_of F image) slot) k ≡ true → IsOwnWord F slot image k
-own_word F slot image k mine = own_by F slot image (puddles_in_turn (tables_of F image) slot) k (members_in_turn (tables_of F image) slot) mine
+own_word F slot image k mine = own_by F slot image (puddles_in_turn (tables_of F image) slot) k (each_in_turn (tables_of F image) slot) mine
 
 -- a word is not one of two pools
 pub words_apart : (F slot other : ℕ) (image : Image) (k : ℕ) → IsOwnWord F slot image k → IsOwnWord F other image k → slot ≡ other

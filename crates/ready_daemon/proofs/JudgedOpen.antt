@@ -1,7 +1,7 @@
 -- What is known of pools beside open transactions: as one begins and ends, and while lines do that touch none.
-use Rattle.std.proofs.Common.{◌≡◌, ◌≢◌, inl, inr, ℕ, ◌+◌, ◌<◌, ◌≤◌, List, replicate, set, Option, Some, None, sym, ap, subst, ◌∙◌, arith}
-use Rattle.std.proofs.lemmas.Bool.{cases_eq}
-use Rattle.std.proofs.lemmas.List.{get_or-set_other}
+use Rattle.std.proofs.Common.{◌≡◌, ◌≢◌, inl, inr, ℕ, ◌+◌, ◌<◌, ◌≤◌, List, length, replicate, set, Option, Some, None, sym, ap, subst, ◌∙◌, arith}
+use Rattle.std.proofs.lemmas.Bool.{cases_eq, cases_lt}
+use Rattle.std.proofs.lemmas.List.{get_or_past, get_or-set_same, get_or-set_other, set-set}
 use Rattle.std.proofs.lemmas.Option.{none-some, same_Some}
 use Rattle.pm_model.specs.Words.{reads}
 use Rattle.pm_model.specs.Moments.{State}
@@ -17,18 +17,19 @@ use Rattle.pud_defs.specs.Stored.{stored_in}
 use Rattle.pud_defs.specs.Graph.{Graph, graph_of}
 use Rattle.pud_defs.specs.Tables.{tables_of, member_of, puddles_in_turn}
 use Rattle.pud_defs.specs.World.{World}
-use Rattle.pud_defs.proofs.PoolMembers.{HasMembers}
 use Rattle.batch.proofs.Tables.{reads_kept}
 use Rattle.word_transaction.specs.Running.{ByTransaction}
 use Rattle.hybrid_tx.specs.Grounds.{pool_ground}
-use Rattle.ready_daemon.specs.Memory.{Held, held_under}
+use Rattle.hybrid_tx.specs.Open.ManyOpen.{OpenTransaction, Opens, none_open, IsOneMore}
+use Rattle.hybrid_tx.proofs.Open.PoolPlaces.{EachIsOf}
+use Rattle.ready_daemon.specs.Memory.{Held}
 use Rattle.ready_daemon.specs.Held.{IsHeld}
-use Rattle.ready_daemon.specs.Judged.{known_in, AreJudged}
+use Rattle.ready_daemon.specs.Judged.{known_in, puddles_with_graph, AreJudged}
 use Rattle.ready_daemon.specs.KnownPools.{KnowsPools}
-use Rattle.ready_daemon.proofs.JudgedKept.{HasGraphIn, graph_from, KeepsPools, KeepsPools-changes, KeepsPools-apart, SparesTables, AreJudged-all, AreJudged-but, in_turn_kept, types_same, puddles_same, own_by, words_apart, IsOwnWord}
-use Rattle.ready_daemon.proofs.Known.{none_known_in, AreJudged-none, AreJudged-set, AreJudged-forgotten}
-use Rattle.ready_daemon.proofs.HeldUnder.{nothing_there, held_then}
-use Rattle.ready_daemon.proofs.PoolsBeside.{members_still}
+use Rattle.ready_daemon.proofs.JudgedKept.{HasGraphIn, graph_parts, graph_from, KeepsPools, KeepsPools-changes, KeepsPools-apart, SparesTables, AreJudged-all, AreJudged-but, in_turn_kept, types_same, puddles_same, own_by, words_apart, IsOwnWord}
+use Rattle.ready_daemon.proofs.Known.{AreJudged-none, AreJudged-set, AreJudged-forgotten}
+use Rattle.ready_daemon.proofs.HeldUnder.{nothing_there}
+use Rattle.ready_daemon.proofs.PoolsBeside.{puddles_still}
 
 -- ---- words of one transaction
 
@@ -52,7 +53,7 @@ KeepsPools-begun F number gate old new known p =
     (λ k v from may. let is = here k v may in absurd (omega arith))
 
 -- words of its log and of its pool's frames are written
-module _ (F slot log : ℕ) (at : List (ℕ × Puddle)) (old new : State) (beside : IsLogBeside F log) (has : HasMembers (tables_of F (reads old.now.words)) slot at)
+module _ (F slot log : ℕ) (at : List (ℕ × Puddle)) (old new : State) (beside : IsLogBeside F log) (has : EachIsOf (tables_of F (reads old.now.words)) slot at)
     (c : Changes (ByTransaction (pool_ground F at) log) None old new) where
   abbrev may : Footprint
   may = ByTransaction (pool_ground F at) log
@@ -74,7 +75,7 @@ module _ (F slot log : ℕ) (at : List (ℕ × Puddle)) (old new : State) (besid
       KeepsPools-changes F (Some slot) may old new c spares (λ s k v apart own wrote. others_apart s k v (λ same. apart (ap (λ (n : ℕ). Some n) same)) wrote own)
 
   -- and what its own puddles are
-  pub turn_within : puddles_in_turn (tables_of F (reads new.now.words)) slot ≡ puddles_in_turn (tables_of F (reads old.now.words)) slot
+  turn_within : puddles_in_turn (tables_of F (reads new.now.words)) slot ≡ puddles_in_turn (tables_of F (reads old.now.words)) slot
   turn_within =
       in_turn_kept F slot (reads old.now.words) (reads new.now.words)
       (λ frame below. ap (member_of slot frame) (puddles_same F (reads old.now.words) (reads new.now.words) (λ k low high. reads_kept may old new k c (λ v. spares.puddles k v low high)) frame below))
@@ -84,66 +85,118 @@ module _ (F slot log : ℕ) (at : List (ℕ × Puddle)) (old new : State) (besid
 
 -- ---- what is known beside it
 
-forgotten_still : (judged : List (Option (List (ℕ × Puddle)))) (slot other : ℕ) → known_in judged other ≡ None → known_in (set judged slot None) other ≡ None
-forgotten_still judged slot other none = elim (cases_eq other slot) [
-  | inl same ↦ ap (known_in (set judged slot None)) same ∙ nothing_there judged slot
-  | inr apart ↦ get_or-set_other judged slot other None None apart ∙ none
+-- a slot in which a pool is known is one of the list
+pub known_within : (judged : List (Option (List (ℕ × Puddle)))) (slot : ℕ) (at : List (ℕ × Puddle)) → known_in judged slot ≡ Some at → slot < length judged
+known_within judged slot at known = elim (cases_lt slot (length judged)) [
+  | inl within ↦ within
+  | inr past ↦ absurd (none-some at (sym (get_or_past judged slot None past) ∙ known))
 ]
 
--- a start knows nothing
-pub KnowsPools-none : (F n : ℕ) (held : List (Option Held)) (image : Image) → KnowsPools F (replicate n None) held image
-KnowsPools-none F n held image = record { judged = AreJudged-none F n image; apart = λ number h there. none_known_in n h.slot }
+-- a start knows nothing, and nothing is open
+pub KnowsPools-none : (F n : ℕ) (image : Image) → KnowsPools F (replicate n None) none_open image
+KnowsPools-none F n image = record { judged = AreJudged-none F n image; open_pools = λ number o there. absurd (none-some o there) }
 
--- some are judged, of which none is open
-pub KnowsPools-read : (F : ℕ) (judged next : List (Option (List (ℕ × Puddle)))) (held : List (Option Held)) (image : Image) → AreJudged F next image
-    → ((number : ℕ) (h : Held) → held_under held number ≡ Some h → known_in next h.slot ≡ known_in judged h.slot) → KnowsPools F judged held image → KnowsPools F next held image
-KnowsPools-read F judged next held image right same knows = record { judged = right; apart = λ number h there. same number h there ∙ knows.apart number h there }
+-- some more are judged
+pub KnowsPools-read : (F : ℕ) (judged next : List (Option (List (ℕ × Puddle)))) (opens : Opens) (image : Image) → AreJudged F next image
+    → ((slot : ℕ) (at : List (ℕ × Puddle)) → known_in judged slot ≡ Some at → known_in next slot ≡ Some at) → KnowsPools F judged opens image → KnowsPools F next opens image
+KnowsPools-read F judged next opens image right kept knows = record { judged = right; open_pools = λ number o there. kept o.pool.slot o.pool.at (knows.open_pools number o there) }
 
--- one is forgotten
-pub KnowsPools-forgotten : (F slot : ℕ) (judged : List (Option (List (ℕ × Puddle)))) (held : List (Option Held)) (image : Image) → KnowsPools F judged held image
-    → KnowsPools F (set judged slot None) held image
-KnowsPools-forgotten F slot judged held image knows = record {
+-- no transaction is open on the pool in the slot
+abbrev pub IsShut : Opens → (slot : ℕ) → Type 0
+IsShut opens slot = (number : ℕ) (o : OpenTransaction) → opens number ≡ Some o → o.pool.slot ≢ slot
+
+-- one is forgotten, on which none is open
+pub KnowsPools-forgotten : (F slot : ℕ) (judged : List (Option (List (ℕ × Puddle)))) (opens : Opens) (image : Image) → IsShut opens slot → KnowsPools F judged opens image
+    → KnowsPools F (set judged slot None) opens image
+KnowsPools-forgotten F slot judged opens image shut knows = record {
   judged = AreJudged-forgotten F judged slot image knows.judged;
-  apart = λ number h there. forgotten_still judged slot h.slot (knows.apart number h there);
+  open_pools = λ number o there. get_or-set_other judged slot o.pool.slot None None (shut number o there) ∙ knows.open_pools number o there;
 }
 
 -- ---- lines that leave what is held
 
 -- each pool stays
-pub KnowsPools-all : (F : ℕ) (judged : List (Option (List (ℕ × Puddle)))) (held : List (Option Held)) (before after : Image) → KeepsPools F None before after → KnowsPools F judged held before
-    → KnowsPools F judged held after
-KnowsPools-all F judged held before after keeps knows = record { judged = AreJudged-all F judged before after keeps knows.judged; apart = knows.apart }
+pub KnowsPools-all : (F : ℕ) (judged : List (Option (List (ℕ × Puddle)))) (opens : Opens) (before after : Image) → KeepsPools F None before after → KnowsPools F judged opens before
+    → KnowsPools F judged opens after
+KnowsPools-all F judged opens before after keeps knows = record { judged = AreJudged-all F judged before after keeps knows.judged; open_pools = knows.open_pools }
 
--- one is dropped, and forgotten
-pub KnowsPools-dropped : (F slot : ℕ) (judged : List (Option (List (ℕ × Puddle)))) (held : List (Option Held)) (before after : Image) → KeepsPools F (Some slot) before after → KnowsPools F judged held before
-    → KnowsPools F (set judged slot None) held after
-KnowsPools-dropped F slot judged held before after keeps knows =
-    let less = KnowsPools-forgotten F slot judged held before knows in
-    record { judged = AreJudged-but F slot (set judged slot None) before after keeps (nothing_there judged slot) less.judged; apart = less.apart }
+-- one is dropped, and forgotten, on which none is open
+pub KnowsPools-dropped : (F slot : ℕ) (judged : List (Option (List (ℕ × Puddle)))) (opens : Opens) (before after : Image) → IsShut opens slot → KeepsPools F (Some slot) before after
+    → KnowsPools F judged opens before → KnowsPools F (set judged slot None) opens after
+KnowsPools-dropped F slot judged opens before after shut keeps knows =
+    let less = KnowsPools-forgotten F slot judged opens before shut knows in
+    record { judged = AreJudged-but F slot (set judged slot None) before after keeps (nothing_there judged slot) less.judged; open_pools = less.open_pools }
 
--- ---- a transaction begins, and ends
+-- ---- a transaction begins, goes on and ends
 
-module _ (F : ℕ) (judged : List (Option (List (ℕ × Puddle)))) (held : List (Option Held)) (number : ℕ) (h : Held) where
-  -- it takes the puddles of its pool, which is forgotten
-  pub KnowsPools-begun : (before after : Image) → KeepsPools F None before after → KnowsPools F judged held before → KnowsPools F (set judged h.slot None) (set held number (Some h)) after
-  KnowsPools-begun before after keeps knows = record {
-    judged = AreJudged-forgotten F judged h.slot after (AreJudged-all F judged before after keeps knows.judged);
-    apart = λ other x there. elim (held_then held number (Some h) other x there) [
-      | inl here ↦ subst (λ (y : Held). known_in (set judged h.slot None) y.slot ≡ None) (same_Some h x here.1) (nothing_there judged h.slot)
-      | inr still ↦ forgotten_still judged h.slot x.slot (knows.apart other x still.1)
-    ];
-  }
+-- its pool has a graph, and each other stays
+pub AreJudged-own : (F slot : ℕ) (judged : List (Option (List (ℕ × Puddle)))) (before after : Image) → KeepsPools F (Some slot) before after
+    → ((at : List (ℕ × Puddle)) → known_in judged slot ≡ Some at → HasGraphIn F slot after at) → AreJudged F judged before → AreJudged F judged after
+AreJudged-own F slot judged before after keeps has are = record {
+  each = λ i at known. elim (cases_eq i slot) [
+    | inl same ↦ subst (λ (j : ℕ). puddles_with_graph F after j ≡ Some at) (sym same) (graph_from F slot after at (has at (ap (known_in judged) (sym same) ∙ known)))
+    | inr other ↦ graph_from F i after at (keeps.each i at (λ same. other (sym (same_Some slot i same))) (graph_parts F i before at (are.each i at known)))
+  ];
+}
 
-  -- it ends, and its pool has a graph: its puddles are known again. No other is held on that pool.
-  pub KnowsPools-ended : (before after : Image) → held_under held number ≡ Some h → ((other : ℕ) (g : Held) → held_under held other ≡ Some g → g.slot ≡ h.slot → other ≡ number)
-      → KeepsPools F (Some h.slot) before after → HasGraphIn F h.slot after h.at → KnowsPools F judged held before → KnowsPools F (set judged h.slot (Some h.at)) (set held number None) after
-  KnowsPools-ended before after mine alone keeps has knows = record {
-    judged = AreJudged-set F judged h.slot h.at after (graph_from F h.slot after h.at has) (AreJudged-but F h.slot judged before after keeps (knows.apart number h mine) knows.judged);
-    apart = λ other x there. elim (held_then held number None other x there) [
-      | inl here ↦ absurd (none-some x here.1)
-      | inr still ↦ get_or-set_other judged h.slot x.slot (Some h.at) None (λ same. still.0 (alone other x still.1 same)) ∙ knows.apart other x still.1
-    ];
-  }
+-- and where it has other puddles, these are kept
+pub AreJudged-grown : (F slot : ℕ) (judged : List (Option (List (ℕ × Puddle)))) (more : List (ℕ × Puddle)) (before after : Image) → KeepsPools F (Some slot) before after
+    → HasGraphIn F slot after more → AreJudged F judged before → AreJudged F (set judged slot (Some more)) after
+AreJudged-grown F slot judged more before after keeps has are =
+    let less = AreJudged-but F slot (set judged slot None) before after keeps (nothing_there judged slot) (AreJudged-forgotten F judged slot before are) in
+    subst (λ (js : List (Option (List (ℕ × Puddle)))). AreJudged F js after) (set-set judged slot None (Some more))
+    (AreJudged-set F (set judged slot None) slot more after (graph_from F slot after more has) less)
+
+-- one of those that are open, and the others as they were
+each_opened : (number : ℕ) (one : OpenTransaction) (others opens : Opens) → IsOneMore number one others opens → (P : OpenTransaction → Type 0) → P one
+    → ((m : ℕ) (o : OpenTransaction) → others m ≡ Some o → P o) → (m : ℕ) (o : OpenTransaction) → opens m ≡ Some o → P o
+each_opened number one others opens more P its each m o there = elim (cases_eq m number) [
+  | inl same ↦ subst P (same_Some one o (sym more.here ∙ ap opens (sym same) ∙ there)) its
+  | inr apart ↦ each m o (sym (more.same m apart) ∙ there)
+]
+
+-- one more is open, on a pool that is known
+pub KnowsPools-begun : (F : ℕ) (judged : List (Option (List (ℕ × Puddle)))) (number : ℕ) (one : OpenTransaction) (others opens : Opens) (before after : Image) → IsOneMore number one others opens
+    → KeepsPools F None before after → known_in judged one.pool.slot ≡ Some one.pool.at → KnowsPools F judged others before → KnowsPools F judged opens after
+KnowsPools-begun F judged number one others opens before after more keeps known knows = record {
+  judged = AreJudged-all F judged before after keeps knows.judged;
+  open_pools = each_opened number one others opens more (λ o. known_in judged o.pool.slot ≡ Some o.pool.at) known knows.open_pools;
+}
+
+-- one of all ends: its pool has a graph, and is known still
+pub KnowsPools-ended : (F : ℕ) (judged : List (Option (List (ℕ × Puddle)))) (number : ℕ) (one : OpenTransaction) (others opens : Opens) (before after : Image) → IsOneMore number one others opens
+    → KeepsPools F (Some one.pool.slot) before after → HasGraphIn F one.pool.slot after one.pool.at → KnowsPools F judged opens before → KnowsPools F judged others after
+KnowsPools-ended F judged number one others opens before after more keeps has knows = record {
+  judged = AreJudged-own F one.pool.slot judged before after keeps
+      (λ at known. subst (HasGraphIn F one.pool.slot after) (same_Some one.pool.at at (sym (knows.open_pools number one more.here) ∙ known)) has) knows.judged;
+  open_pools = λ m o there. elim (cases_eq m number) [
+    | inl same ↦ absurd (none-some o (sym more.none ∙ ap others (sym same) ∙ there))
+    | inr apart ↦ knows.open_pools m o (more.same m apart ∙ there)
+  ];
+}
+
+-- one goes on, on the same puddles: its pool has a graph
+pub KnowsPools-later : (F : ℕ) (judged : List (Option (List (ℕ × Puddle)))) (number : ℕ) (one : OpenTransaction) (opens : Opens) (before after : Image) → opens number ≡ Some one
+    → KeepsPools F (Some one.pool.slot) before after → HasGraphIn F one.pool.slot after one.pool.at → KnowsPools F judged opens before → KnowsPools F judged opens after
+KnowsPools-later F judged number one opens before after there keeps has knows = record {
+  judged = AreJudged-own F one.pool.slot judged before after keeps
+      (λ at known. subst (HasGraphIn F one.pool.slot after) (same_Some one.pool.at at (sym (knows.open_pools number one there) ∙ known)) has) knows.judged;
+  open_pools = knows.open_pools;
+}
+
+-- or on more, which are known then
+pub KnowsPools-grown : (F : ℕ) (judged : List (Option (List (ℕ × Puddle)))) (number : ℕ) (one more : OpenTransaction) (others opens then : Opens) (before after : Image) → IsOneMore number one others opens
+    → IsOneMore number more others then → more.pool.slot ≡ one.pool.slot → IsShut others one.pool.slot → KeepsPools F (Some one.pool.slot) before after
+    → HasGraphIn F one.pool.slot after more.pool.at → KnowsPools F judged opens before → KnowsPools F (set judged one.pool.slot (Some more.pool.at)) then after
+KnowsPools-grown F judged number one more others opens then before after was now same shut keeps has knows =
+    let slot : ℕ = one.pool.slot in
+    let at : List (ℕ × Puddle) = more.pool.at in
+    record {
+      judged = AreJudged-grown F slot judged at before after keeps has knows.judged;
+      open_pools = each_opened number more others then now (λ o. known_in (set judged slot (Some at)) o.pool.slot ≡ Some o.pool.at)
+          (ap (known_in (set judged slot (Some at))) same ∙ get_or-set_same judged slot (Some at) None (known_within judged slot one.pool.at (knows.open_pools number one was.here)))
+          (λ m o there. get_or-set_other judged slot o.pool.slot (Some at) None (shut m o there) ∙ knows.open_pools m o (was.same m (λ here. none-some o (sym was.none ∙ ap others (sym here) ∙ there)) ∙ there));
+    }
 
 -- what its calls do
 module _ (w : World) (h : Held) (mask : Write) (old new : State) (is : IsHeld w h mask old.now.words) where
@@ -151,21 +204,21 @@ module _ (w : World) (h : Held) (mask : Write) (old new : State) (is : IsHeld w 
   F = w.stored.frames
 
   -- its log is a client's
-  pub held_log : IsLogBeside F h.log.at
+  pub held_log : IsLogBeside F h.tx.log.at
   held_log = subst (IsLogBeside F) (sym is.gate) (log_beside F h.number is.pool.known)
 
-  module _ (c : Changes (ByTransaction (pool_ground F h.at) h.log.at) None old new) where
+  module _ (c : Changes (ByTransaction (pool_ground F is.at) h.tx.log.at) None old new) where
     -- words of it are set
     pub KeepsPools-held : KeepsPools F (Some h.slot) (reads old.now.words) (reads new.now.words)
-    KeepsPools-held = KeepsPools-within F h.slot h.log.at h.at old new held_log (members_still w h mask old.now.words is) c
+    KeepsPools-held = KeepsPools-within F h.slot h.tx.log.at is.at old new held_log (puddles_still w h mask old.now.words is).each c
 
     -- what its pool has then
-    pub graph_held_in : (g : Graph) → types_of (reads old.now.words) ≡ w.stored.types → puddles_in_turn (tables_of F (reads old.now.words)) h.slot ≡ h.at
-        → graph_of w.stored.types (stored_in F h.at (reads new.now.words)) ≡ Some g → HasGraphIn F h.slot (reads new.now.words) h.at
+    pub graph_held_in : (g : Graph) → types_of (reads old.now.words) ≡ w.stored.types → puddles_in_turn (tables_of F (reads old.now.words)) h.slot ≡ is.at
+        → graph_of w.stored.types (stored_in F is.at (reads new.now.words)) ≡ Some g → HasGraphIn F h.slot (reads new.now.words) is.at
     graph_held_in g types turn stored =
-        let members = members_still w h mask old.now.words is in
+        let members = (puddles_still w h mask old.now.words is).each in
         record {
           graph = g;
-          turn = turn_within F h.slot h.log.at h.at old new held_log members c ∙ turn;
-          stored = ap (λ ts. graph_of ts (stored_in F h.at (reads new.now.words))) (types_within F h.slot h.log.at h.at old new held_log members c ∙ types) ∙ stored;
+          turn = turn_within F h.slot h.tx.log.at is.at old new held_log members c ∙ turn;
+          stored = ap (λ ts. graph_of ts (stored_in F is.at (reads new.now.words))) (types_within F h.slot h.tx.log.at is.at old new held_log members c ∙ types) ∙ stored;
         }

@@ -14,6 +14,7 @@ pub mod Rewritten
 pub mod JudgedKept
 pub mod JudgedLines
 pub mod JudgedPools
+pub mod AllMembers
 pub mod InTurn
 pub mod GraphLonger
 pub mod PoolsGrown

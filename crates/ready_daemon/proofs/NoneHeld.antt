@@ -6,7 +6,7 @@ use Rattle.std.proofs.lemmas.Option.{none-some}
 use Rattle.pm_model.specs.Masks.{no_mask}
 use Rattle.pm_model.specs.Words.{Words}
 use Rattle.pud_defs.specs.World.{World, nothing_open}
-use Rattle.hybrid_tx.specs.ManyOpen.{none_open}
+use Rattle.hybrid_tx.specs.Open.ManyOpen.{none_open}
 use Rattle.nesting.proofs.Holders.{session_in-replicate}
 use Rattle.ready_daemon.specs.Memory.{Held, held_under}
 use Rattle.ready_daemon.specs.Held.{Holds, HasSessions, AreHeldWithin}
@@ -17,11 +17,11 @@ none_held n number = elim (cases_lt number n) [
   | inr past ↦ get_or_past (replicate n None) number None (omega (arith, past, length-replicate {A = Option Held} n None))
 ]
 
-not_held : (n number : ℕ) (h : Held) → held_under (replicate n None) number ≡ Some h → ⊥
+pub not_held : (n number : ℕ) (h : Held) → held_under (replicate n None) number ≡ Some h → ⊥
 not_held n number h there = none-some h (sym (none_held n number) ∙ there)
 
 -- nothing is masked
-pub Holds-none : (w : World) (n : ℕ) (words : Words) → w.transactions ≡ nothing_open → Holds w (replicate n None) no_mask words
+abbrev pub Holds-none : (w : World) (n : ℕ) (words : Words) → w.transactions ≡ nothing_open → Holds w (replicate n None) no_mask words
 Holds-none w n words none = record {
   opens = none_open;
   are = record {

@@ -15,19 +15,18 @@ use Rattle.pud_defs.specs.Step.{graph_in}
 use Rattle.pud_defs.specs.Stored.{stored_in}
 use Rattle.pud_defs.specs.Tables.{Tables, tables_of, puddles_in_turn}
 use Rattle.pud_defs.specs.World.{Transaction, World, open_on}
-use Rattle.pud_defs.proofs.PoolMembers.{members_in_turn}
 use Rattle.pud_defs.proofs.Replay.{outside_log}
 use Rattle.hybrid_tx.specs.Grounds.{pool_mine}
-use Rattle.hybrid_tx.specs.Masks.{OpenPool, is_open_record, open_mask}
-use Rattle.hybrid_tx.proofs.OpenMasks.{open_record_place, mask_of_others}
-use Rattle.hybrid_tx.proofs.Opening.{stored_in-mine}
-use Rattle.hybrid_tx.proofs.OpenPools.{open_on_device}
+use Rattle.hybrid_tx.specs.Open.Masks.{OpenPool, is_open_record, open_mask}
+use Rattle.hybrid_tx.proofs.Open.OpenMasks.{open_record_place, mask_of_others}
+use Rattle.hybrid_tx.proofs.Objects.Opening.{stored_in-mine}
+use Rattle.hybrid_tx.proofs.Open.OpenPools.{open_on_device}
 use Rattle.hybrid_tx.proofs.PoolGrounds.{pool_mine-each}
-use Rattle.hybrid_tx.proofs.PoolPlaces.{members_apart}
+use Rattle.hybrid_tx.proofs.Open.PoolPlaces.{each_in_turn, puddles_apart}
 use Rattle.ready_daemon.specs.Memory.{Held, held_under}
 use Rattle.ready_daemon.specs.Held.{pool_held, IsHeld, Holds, IsOwn}
 use Rattle.ready_daemon.proofs.Beside.{held_is, unmasked_by_all}
-use Rattle.ready_daemon.proofs.PoolsBeside.{used_still, members_still}
+use Rattle.ready_daemon.proofs.PoolsBeside.{used_still, puddles_still}
 
 -- ---- which pool it is
 
@@ -41,8 +40,8 @@ pub record IsOpenHere (w : World) (at : List (ℕ × Puddle)) (image : Image) (n
   pub now : graph_of w.stored.types (stored_in w.stored.frames at image) ≡ Some transaction.now
 
 -- where its own is held
-pub open_here : (w : World) (held : List (Option Held)) (mask : Write) (words : Words) (name : List ℕ) (client number : ℕ) → Holds w held mask words → (own : IsOwn client name number held)
-    → IsOpenHere w own.mine.at (reads words) name client
+pub open_here : (w : World) (held : List (Option Held)) (mask : Write) (words : Words) (name : List ℕ) (client number : ℕ) (holds : Holds w held mask words) (own : IsOwn client name number held)
+    → IsOpenHere w (held_is w held mask words holds number own.mine own.is).at (reads words) name client
 open_here w held mask words name client number holds own =
     let is = held_is w held mask words holds number own.mine own.is in
     record {
@@ -74,15 +73,15 @@ module _ (w : World) (held : Held) (mask : Write) (words : Words) (is : IsHeld w
   t = tables_of F now
 
   abbrev p : OpenPool
-  p = pool_held held is.rec is.who
+  p = pool_held held is.at is.rec is.who
 
   module _ (slot : ℕ) (r : PoolRec) (used : t.pools slot ≡ Some r) (other : r.name ≢ held.name) where
     -- it does not stand in the slot of the held one
     pub other_slot : slot ≡ held.slot → ⊥
     other_slot same = other (ap (λ (x : PoolRec). x.name) (same_Some r is.rec (sym used ∙ ap t.pools same ∙ used_still w held mask words is)) ∙ is.name)
 
-    not_mine : (k : ℕ) → pool_mine F (puddles_in_turn t slot) k ≡ true → pool_mine F held.at k ≡ false
-    not_mine = members_apart F t slot held.slot (puddles_in_turn t slot) held.at (members_in_turn t slot) (members_still w held mask words is) other_slot
+    not_mine : (k : ℕ) → pool_mine F (puddles_in_turn t slot) k ≡ true → pool_mine F is.at k ≡ false
+    not_mine = puddles_apart F t slot held.slot (puddles_in_turn t slot) is.at (each_in_turn t slot) (puddles_still w held mask words is).each other_slot
 
     not_record : (k : ℕ) (of : Bool) → is_open_record p k ≡ of → pool_mine F (puddles_in_turn t slot) k ≡ true → of ≡ false
     not_record k false e mine = refl

@@ -19,10 +19,10 @@ use Rattle.pud_defs.specs.World.{Transaction, World, open_on}
 use Rattle.pud_defs.specs.declared.machine.Command.TheVariants.{Leave}
 use Rattle.pud_defs.specs.Step.{after}
 use Rattle.pud_defs.proofs.Replay.{outside_log}
-use Rattle.hybrid_tx.specs.Masks.{OpenPool, is_in_pool_record, is_in_space_record, is_in_puddle_record, is_open_record, open_mask}
-use Rattle.hybrid_tx.proofs.OpenMasks.{mine_behind, mask_below, mask_of_others, open_record_place}
-use Rattle.hybrid_tx.proofs.OpenPools.{open_on_device}
-use Rattle.hybrid_tx.proofs.OpenSettled.{other_log_apart}
+use Rattle.hybrid_tx.specs.Open.Masks.{OpenPool, is_in_pool_record, is_in_space_record, is_in_puddle_record, is_open_record, open_mask}
+use Rattle.hybrid_tx.proofs.Open.OpenMasks.{mine_behind, mask_below, mask_of_others, open_record_place}
+use Rattle.hybrid_tx.proofs.Open.OpenPools.{open_on_device}
+use Rattle.hybrid_tx.proofs.Open.OpenSettled.{other_log_apart}
 use Rattle.hybrid_tx.proofs.PoolGrounds.{any_element}
 use Rattle.batch.specs.Batches.{batch_write, ByBatch}
 use Rattle.log_space.specs.Closed.{ByClosing}
@@ -50,9 +50,9 @@ module _ (w : World) (held : Held) (mask : Write) (words : Words) (is : IsHeld w
   F = w.stored.frames
 
   abbrev p : OpenPool
-  p = pool_held held is.rec is.who
+  p = pool_held held is.at is.rec is.who
 
-  on_device : IsOnDevice F held.at
+  on_device : IsOnDevice F is.at
   on_device = open_on_device F p is.before is.pool
 
   -- its logs are others
@@ -66,7 +66,7 @@ module _ (w : World) (held : Held) (mask : Write) (words : Words) (is : IsHeld w
       let inside : IsInLog (log_number_at F (CLIENT_LOGS * client + gate.0.number)) k = record { low = omega arith; high = omega arith } in
       mask_of_others F p is.before k
       (other_log_apart F held.number (CLIENT_LOGS * client + gate.0.number) k (other_number gate.0.number below) inside)
-      (mine_behind F held.at k (omega arith))
+      (mine_behind F is.at k (omega arith))
       (false_from_ne_true (is_open_record p k) (λ of. let place = open_record_place F p k is.pool.slot is.pool.known on_device of in let high = place.high in absurd (omega arith)))
 
   -- and so is its record
@@ -96,7 +96,7 @@ module _ (w : World) (held : Held) (mask : Write) (words : Words) (is : IsHeld w
 
   space_unmasked : (k : ℕ) → space_record_at client ≤ k → k < space_record_at (client + 1) → open_mask F p is.before k ≡ None
   space_unmasked k low high =
-      mask_of_others F p is.before k (outside_log (log_number_at F held.number) k (inl (omega arith))) (mine_behind F held.at k (omega arith)) (record_unmasked k low high)
+      mask_of_others F p is.before k (outside_log (log_number_at F held.number) k (inl (omega arith))) (mine_behind F is.at k (omega arith)) (record_unmasked k low high)
 
   batch_unmasked : (vals : List ℕ) → length vals ≤ SPACE_RECORD_WORDS → (k v : ℕ) → ByBatch DAEMON_LOG (record_batch client vals) k v → open_mask F p is.before k ≡ None
   batch_unmasked vals few k v (inl log) = let high = log.high in mask_below F p is.before is.pool.slot is.pool.known on_device k (omega arith)
@@ -131,7 +131,6 @@ keeps_held w held client now others = record {
   transactions = refl;
   present = λ number h there. cond-false _ _ _ (ne_eqb h.client client (others.each number h there));
   stored = λ number h there. refl;
-  puddles = λ number h there. refl;
   types = λ id m is. is;
   graphs = λ st g is. is;
 }

@@ -13,14 +13,14 @@ use Rattle.pud_defs.specs.Tables.{Pool}
 use Rattle.pud_defs.specs.Transactions.{Opened, with_open}
 use Rattle.pud_defs.specs.World.{Transaction, World, open_on}
 use Rattle.hybrid_tx.specs.Grounds.{pool_ground}
-use Rattle.hybrid_tx.specs.ManyOpen.{OpenTransaction, Opens, with_transaction, open_masks, AreOpenPools, MasksAll, IsOneMore}
-use Rattle.hybrid_tx.proofs.ManyIdle.{one_ended, others_open, others_records}
-use Rattle.hybrid_tx.proofs.ManyMasks.{open_masks_all}
+use Rattle.hybrid_tx.specs.Open.ManyOpen.{OpenTransaction, Opens, with_transaction, open_masks, AreOpenPools, MasksAll, IsOneMore}
+use Rattle.hybrid_tx.proofs.Open.ManyIdle.{one_ended, others_open, others_records}
+use Rattle.hybrid_tx.proofs.Open.ManyMasks.{open_masks_all}
 use Rattle.nesting.specs.declared.Session.{Session}
 use Rattle.nesting.specs.Sessions.{session_in}
 use Rattle.word_transaction.specs.Running.{ByTransaction}
 use Rattle.ready_daemon.specs.Memory.{Held, held_under}
-use Rattle.ready_daemon.specs.Held.{open_held, puddles_in, IsHeldUnder, IsOpenUnder, Holds, HasSessions}
+use Rattle.ready_daemon.specs.Held.{open_held, IsHeldUnder, IsOpenUnder, Holds, HasSessions}
 use Rattle.ready_daemon.proofs.Beside.{KeepsOne, still_under, records_all, own_apart}
 use Rattle.ready_daemon.proofs.HeldUnder.{nothing_there, held_there}
 use Rattle.ready_daemon.proofs.OpenNames.{open_there, open_elsewhere}
@@ -49,7 +49,7 @@ module _ (w : World) (list : List (Option Held)) (mask : Write) (old : State) (h
   its = holds.each number held there
 
   abbrev own : OpenTransaction
-  own = open_held held its.is.rec its.is.who its.is.before
+  own = open_held held its.is.at its.is.rec its.is.who its.is.before
 
   abbrev others : Opens
   others = with_transaction number None holds.opens
@@ -91,37 +91,36 @@ module _ (w : World) (list : List (Option Held)) (mask : Write) (old : State) (h
       transaction = open_elsewhere held.name w.transactions None h.name a.name;
       present = refl;
       stored = ap graph_in (kept h.name a.name);
-      puddles = ap puddles_in (kept h.name a.name);
       types = λ id m is. is;
       graphs = λ st g is. is;
     }
 
-    known_still : (name : List ℕ) (t : Transaction) → open_on name next ≡ Some t → IsOpenUnder (set list number None) name
+    pub known_still : (name : List ℕ) (t : Transaction) → open_on name next ≡ Some t → IsOpenUnder (set list number None) name
     known_still name t is =
         let apart = open_beside held.name name w.transactions t is in
         let u = holds.known name t (sym (open_elsewhere held.name w.transactions None name apart) ∙ is) in
         let elsewhere : u.number ≢ number = λ same. apart (sym u.name_is ∙ ap (λ (h : Held). h.name) (same_Some u.mine held (sym u.is ∙ ap (held_under list) same ∙ there))) in
         record { number = u.number; mine = u.mine; is = held_there list number None u.number elsewhere ∙ u.is; name_is = u.name_is }
 
-    none_still : (m : ℕ) → held_under (set list number None) m ≡ None → others m ≡ None
+    pub none_still : (m : ℕ) → held_under (set list number None) m ≡ None → others m ≡ None
     none_still m e = elim (cases_eq m number) [
       | inl same ↦ ap others same ∙ one_of_all.none
       | inr apart ↦ sym (one_of_all.same m apart) ∙ holds.none m (sym (held_there list number None m apart) ∙ e)
     ]
 
-    module _ (new : State) (c : Changes (ByTransaction (pool_ground F held.at) held.log.at) None old new) where
+    module _ (new : State) (c : Changes (ByTransaction (pool_ground F its.is.at) held.tx.log.at) None old new) where
       abbrev may : Footprint
-      may = ByTransaction (pool_ground F held.at) held.log.at
+      may = ByTransaction (pool_ground F its.is.at) held.tx.log.at
 
-      under_still : (m : ℕ) (h : Held) → held_under (set list number None) m ≡ Some h → IsHeldUnder next others (open_masks F others) new.now.words m h
+      pub under_still : (m : ℕ) (h : Held) → held_under (set list number None) m ≡ Some h → IsHeldUnder next others (open_masks F others) new.now.words m h
       under_still m h e =
           let a = was_held m h e in
           let u = holds.each m h a.was in
           let opened = sym (one_of_all.same m a.apart) ∙ u.opened in
           still_under w next h mask (open_masks F others) old new u.is (keeps_other m h a) may (own_apart w list mask old.now.words holds number m held h there a.was (λ same. a.apart (sym same))) c
-          (others_mask.has m (open_held h u.is.rec u.is.who u.is.before) opened) others m u.number_is opened
+          (others_mask.has m (open_held h u.is.at u.is.rec u.is.who u.is.before) opened) others m u.number_is opened
 
-      pub holds_others : Holds next (set list number None) (open_masks F others) new.now.words
+      abbrev pub holds_others : Holds next (set list number None) (open_masks F others) new.now.words
       holds_others = record {
         opens = others;
         are = others_are;
@@ -142,6 +141,6 @@ module _ (w : World) (list : List (Option Held)) (mask : Write) (old : State) (h
       only = λ slot s e.
           let apart : slot ≢ held.slot = λ same. none-some s (sym (nothing_there sessions held.slot) ∙ ap (session_in (set sessions held.slot None)) (sym same) ∙ e) in
           let on = has.only slot s (sym (get_or-set_other sessions held.slot slot None None apart) ∙ e) in
-          let elsewhere : on.number ≢ number = λ same. apart (sym on.slot_is ∙ ap (λ (h : Held). h.slot) (same_Some on.mine held (sym on.is ∙ ap (held_under list) same ∙ there))) in
-          record { number = on.number; mine = on.mine; is = held_there list number None on.number elsewhere ∙ on.is; slot_is = on.slot_is };
+          let elsewhere : s.number ≢ number = λ same. apart (sym on.slot_is ∙ ap (λ (h : Held). h.slot) (same_Some on.mine held (sym on.is ∙ ap (held_under list) same ∙ there))) in
+          record { mine = on.mine; is = held_there list number None s.number elsewhere ∙ on.is; slot_is = on.slot_is };
     }

@@ -51,20 +51,19 @@ use Rattle.registry.specs.Puts.{puts_batch}
 use Rattle.registry.specs.Places.{make_fault, refusal_in, make_refusal}
 use Rattle.registry.specs.Pools.{changing, dropping, OrStill, CommitsPuts, MakesSomewhere, KeepsTables, IsOffMaking, IsPoolAt, ChangesPools}
 use Rattle.registry.proofs.Joined.{few_puddles}
-use Rattle.nesting.specs.declared.Session.{Session}
-use Rattle.nesting.specs.Sessions.{client_in, session_in, holder_in}
+use Rattle.nesting.specs.Sessions.{holder_in}
 use Rattle.ready_daemon.specs.Memory.{Held, Memory, held_under}
 use Rattle.ready_daemon.specs.Held.{Holds, IsBeside}
 use Rattle.ready_daemon.specs.KnownPools.{KnowsPools}
 use Rattle.ready_daemon.specs.Owning.{reply_of_making, refusal_beside, IsSlotOf}
 use Rattle.ready_daemon.specs.Ready.{IsReady, Applies}
 use Rattle.ready_daemon.proofs.Applying.{Applies-still}
-use Rattle.ready_daemon.proofs.Beside.{held_is, Applies-beside}
+use Rattle.ready_daemon.proofs.Beside.{held_is, opens_apart_from, Applies-beside}
 use Rattle.ready_daemon.proofs.Beneath.{ready_gate, keeps_tables}
 use Rattle.ready_daemon.proofs.PoolsBeside.{held_pool}
 use Rattle.ready_daemon.proofs.PoolsApart.{off_making, off_changing, off_dropping, IsBeside-makes, IsBeside-puts, AppliesMasked-pools, KeepsHeld-stored, found_beside_put, found_beside_without}
 use Rattle.ready_daemon.proofs.OpenBeside.{not_named}
-use Rattle.ready_daemon.proofs.Sessions.{session_of, slot_within, session_is}
+use Rattle.ready_daemon.proofs.Sessions.{slot_within, holder_is}
 use Rattle.ready_daemon.proofs.JudgedKept.{KeepsPools}
 use Rattle.ready_daemon.proofs.JudgedPools.{KeepsPools-or_still, KeepsPools-making, KeepsPools-mode, KeepsPools-drop}
 use Rattle.ready_daemon.proofs.JudgedOpen.{KnowsPools-all, KnowsPools-dropped}
@@ -211,7 +210,7 @@ IsNotNamed name held = (number : ℕ) (h : Held) → held_under held number ≡ 
 -- pools were changed: the command gives the world with the next stored one
 pub Applies-pools : (size : ℕ) (w : World) (memory : Memory) (c : Command) (next : StoredWorld) (also : Image → Type 0) (fault : Option HostFault) (old new : State) (ready : IsReady size w memory old)
     → refusal_of w c ≡ None → after w c ≡ record w { stored = next } → KeepsPool w.stored next memory.held → ChangesBeside size w.stored next also ready.mask fault old new
-    → (judged : List (Option (List (ℕ × Puddle)))) → (fault ≡ None → KnowsPools w.stored.frames judged memory.held (reads new.now.words))
+    → (judged : List (Option (List (ℕ × Puddle)))) → (fault ≡ None → KnowsPools w.stored.frames judged ready.held.opens (reads new.now.words))
     → Applies size w (world_by w (Some c)) (record memory { judged = judged }) fault old new
 Applies-pools size w memory c next also fault old new ready free gives keeps b judged knows =
     let behind : Memory = record memory { judged = judged } in
@@ -219,12 +218,12 @@ Applies-pools size w memory c next also fault old new ready free gives keeps b j
     (Applies-beside size w (record w { stored = next }) memory fault old new ready
     (KeepsHeld-stored w next memory.held keeps.frames keeps.types keeps.pool)
     (AppliesMasked-pools size w memory next also fault old new ready b.beside b.pools keeps.frames)
-    behind refl refl refl (λ none. subst (λ (n : ℕ). KnowsPools n judged memory.held (reads new.now.words)) (sym keeps.frames) (knows none)))
+    behind refl refl refl knows)
 
 -- each pool that was judged stays
-knows_still : (size : ℕ) (w : World) (memory : Memory) (old new : State) → IsReady size w memory old → KeepsPools w.stored.frames None (reads old.now.words) (reads new.now.words)
-    → KnowsPools w.stored.frames memory.judged memory.held (reads new.now.words)
-knows_still size w memory old new ready keeps = KnowsPools-all w.stored.frames memory.judged memory.held (reads old.now.words) (reads new.now.words) keeps ready.knows
+knows_still : (size : ℕ) (w : World) (memory : Memory) (old new : State) (ready : IsReady size w memory old) → KeepsPools w.stored.frames None (reads old.now.words) (reads new.now.words)
+    → KnowsPools w.stored.frames memory.judged ready.held.opens (reads new.now.words)
+knows_still size w memory old new ready keeps = KnowsPools-all w.stored.frames memory.judged ready.held.opens (reads old.now.words) (reads new.now.words) keeps ready.knows
 
 -- behind calls that changed nothing
 pub Applies-behind : (size : ℕ) (w next : World) (memory behind : Memory) (fault : Option HostFault) (a b d : State) → b ≡ a → (IsReady size w memory b → Applies size w next behind fault b d)
@@ -390,9 +389,9 @@ by_holder true = refl
 by_holder false = refl
 
 -- they are those by the session of the pool
-open_beside : (client : ℕ) (on : Option Transaction) (session : Option Session) → session ≡ option_map session_of on → open_refusal client on ≡ refusal_beside (option_map client_in session) client
-open_beside client None session is = ap (λ (o : Option Session). refusal_beside (option_map client_in o) client) (sym is)
-open_beside client (Some t) session is = by_holder (eqb t.client client) ∙ ap (λ (o : Option Session). refusal_beside (option_map client_in o) client) (sym is)
+open_beside : (client : ℕ) (on : Option Transaction) (holder : Option ℕ) → holder ≡ option_map (λ (t : Transaction). t.client) on → open_refusal client on ≡ refusal_beside holder client
+open_beside client None holder is = ap (λ (o : Option ℕ). refusal_beside o client) (sym is)
+open_beside client (Some t) holder is = by_holder (eqb t.client client) ∙ ap (λ (o : Option ℕ). refusal_beside o client) (sym is)
 
 some_open : (own : Bool) → cond (not own) (Some refusals.Busy) (cond own (Some refusals.OpenHere) None) ≡ None → ⊥
 some_open true none = let no : Some refusals.OpenHere ≡ None = none in cc
@@ -496,7 +495,7 @@ module _ (size : ℕ) (w : World) (memory : Memory) (s : State) (ready : IsReady
     pub not_denied : eqb uid rec.uid ≡ true → refusal_of w asked ≡ refusal_beside (holder_in memory.sessions slot) client
     not_denied same =
         by_uid ∙ ap (λ b. cond (not b) (Some refusals.Denied) beside_open) same
-        ∙ open_beside client (open_on name w) (session_in memory.sessions slot) (session_is size w memory s ready name slot slot_is)
+        ∙ open_beside client (open_on name w) (holder_in memory.sessions slot) (holder_is size w memory s ready name slot slot_is)
 
 -- ---- a pool that was found is changed, or dropped
 
@@ -574,7 +573,8 @@ module _ (size : ℕ) (w : World) (memory : Memory) (client slot : ℕ) (name : 
             (drops (keeps_tables w memory.held m old.now.words ready.held) off ready.settled at.rec masked_at);
       }) (set memory.judged slot None)
       (λ done.
-      KnowsPools-dropped N slot memory.judged memory.held (reads old.now.words) (reads new.now.words)
+      KnowsPools-dropped N slot memory.judged ready.held.opens (reads old.now.words) (reads new.now.words)
+      (opens_apart_from w memory.held m old.now.words ready.held slot (λ number h there same. slot_apart number h there (sym same)))
       (KeepsPools-drop N slot old new within (subst (λ (f : Option HostFault). OrStill (CommitsPuts (dropping (tables_of N (reads old.now.words)) slot)) f old new) done (frees idle few))) ready.knows)
 
   pub Applies-drop : (F : ℕ) → F ≡ w.stored.frames → (fault ≡ Some Cut → IsRested new.now.words) → Frees F → Drops F → Applies size w (world_by w (Some (commands.Drop client name))) less fault old new

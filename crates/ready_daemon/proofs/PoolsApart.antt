@@ -1,5 +1,5 @@
 -- Changes of pools that write no word of an open transaction: what they do with the words of all masked, they do beside them.
-use Rattle.std.proofs.Common.{◌≡◌, ◌⊎◌, inl, inr, ℕ, zero, suc, ◌+◌, ◌-◌, ◌<◌, ◌≤◌, true, false, not, List, [], ◌∷◌, take, Option, Some, None, refl, sym, ap, subst, ◌∙◌, arith, length-take-le, eqb-true, ne_eqb}
+use Rattle.std.proofs.Common.{◌≡◌, ◌⊎◌, inl, inr, ℕ, zero, suc, ◌+◌, ◌<◌, ◌≤◌, true, false, not, List, [], ◌∷◌, take, Option, Some, None, refl, sym, ap, subst, ◌∙◌, arith, length-take-le, eqb-true, ne_eqb}
 use Rattle.std.specs.Prelude.{⊤}
 use Rattle.std.specs.Ordering.{eq_by_cmp}
 use Rattle.std.specs.Cmp.{Equal-is}
@@ -49,7 +49,7 @@ use Rattle.registry.proofs.PutBatches.{puts_batched, lies_fit, either_some}
 use Rattle.registry.proofs.Made.{making_of}
 use Rattle.registry.proofs.Changed.{changing_of, dropping_of}
 use Rattle.ready_daemon.specs.Memory.{Held, Memory, held_under}
-use Rattle.ready_daemon.specs.Held.{puddles_in, Holds, HasIdleLogs, ByOthers, NamesNone, IsBeside, KeepsHeld}
+use Rattle.ready_daemon.specs.Held.{Holds, HasIdleLogs, ByOthers, NamesNone, IsBeside, KeepsHeld}
 use Rattle.ready_daemon.specs.Ready.{IsReady, AppliesMasked}
 use Rattle.ready_daemon.proofs.Beside.{unmasked_front, names_none_idle}
 use Rattle.ready_daemon.proofs.Beneath.{IsBeside-changes, IsBeside-commits, IsBeside-then, table_reads, table_reads-kept, persisted_single, logs_kept}
@@ -237,7 +237,6 @@ KeepsHeld-stored w next held frames types pool = record {
   transactions = refl;
   present = λ number h there. refl;
   stored = λ number h there. ap graph_in (pool number h there);
-  puddles = λ number h there. ap puddles_in (pool number h there);
   types = λ id m is. ap (map_of id) types ∙ is;
   graphs = λ st g is. ap (λ (ts : List (ℕ × ℕ)). graph_of ts st) types ∙ is;
 }

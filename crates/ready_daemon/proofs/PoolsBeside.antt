@@ -1,5 +1,5 @@
 -- Pools made, changed and dropped beside open transactions: which words of the tables these mask, and what stays of the pool of each.
-use Rattle.std.proofs.Common.{◌≡◌, ◌⊎◌, inl, inr, ℕ, ◌+◌, ◌<◌, ◌≤◌, true, false, ◌||◌, leb, ltb, List, Option, Some, None, sym, ap, subst, ◌∙◌, arith, eq-eqb}
+use Rattle.std.proofs.Common.{◌≡◌, ◌⊎◌, inl, inr, ℕ, ◌+◌, ◌<◌, ◌≤◌, true, false, ◌||◌, leb, ltb, List, Option, Some, None, sym, ap, ◌∙◌, arith, eq-eqb}
 use Rattle.std.specs.Prelude.{slice_get}
 use Rattle.std.specs.List.{list_any}
 use Rattle.std.proofs.lemmas.Bool.{and_parts, and_from, or_cases, or_left, or_right, leb-true, ltb-true, le-leb, lt-ltb, false_from_ne_true}
@@ -17,14 +17,14 @@ use Rattle.pud_defs.specs.Settled.{client_of_log, log_number_at}
 use Rattle.pud_defs.specs.Spaces.{space_record_at}
 use Rattle.pud_defs.specs.Tables.{Tables, tables_of}
 use Rattle.pud_defs.specs.World.{World}
-use Rattle.pud_defs.proofs.PoolMembers.{HasMembers, members_in_turn, HasMembers-same}
 use Rattle.pud_defs.proofs.Replay.{outside_log}
 use Rattle.pud_defs.proofs.TablesOf.{pools_below, puddles_below, frames_of_tables, pool_at-same, puddle_at-same}
 use Rattle.hybrid_tx.specs.Grounds.{pool_mine}
-use Rattle.hybrid_tx.specs.Masks.{OpenPool, is_in_pool_record, is_in_space_record, is_in_puddle_record, is_open_record, open_mask}
-use Rattle.hybrid_tx.proofs.OpenMasks.{mine_behind, mask_of_others}
-use Rattle.hybrid_tx.proofs.OpenPools.{open_on_device}
+use Rattle.hybrid_tx.specs.Open.Masks.{OpenPool, is_in_pool_record, is_in_space_record, is_in_puddle_record, is_open_record, ArePuddlesOf, open_mask}
+use Rattle.hybrid_tx.proofs.Open.OpenMasks.{mine_behind, mask_of_others}
+use Rattle.hybrid_tx.proofs.Open.OpenPools.{open_on_device}
 use Rattle.hybrid_tx.proofs.PoolGrounds.{all_there, any_element, element_passes, pool_mine-each}
+use Rattle.hybrid_tx.proofs.Open.PoolPlaces.{ArePuddlesOf-same}
 use Rattle.ready_daemon.specs.Memory.{Held, held_under}
 use Rattle.ready_daemon.specs.Held.{pool_held, open_held, IsHeld, Holds}
 use Rattle.ready_daemon.proofs.Beside.{held_is, unmasked_by_all}
@@ -75,7 +75,7 @@ module _ (w : World) (held : Held) (mask : Write) (words : Words) (is : IsHeld w
   F = w.stored.frames
 
   abbrev p : OpenPool
-  p = pool_held held is.rec is.who
+  p = pool_held held is.at is.rec is.who
 
   abbrev now : Tables
   now = tables_of F (reads words)
@@ -83,7 +83,7 @@ module _ (w : World) (held : Held) (mask : Write) (words : Words) (is : IsHeld w
   -- a word of the tables that is none of its records
   not_record : (k : ℕ) → k < tables_end F → (is_open_record p k ≡ true → ⊥) → open_mask F p is.before k ≡ None
   not_record k below never =
-      mask_of_others F p is.before k (outside_log (log_number_at F held.number) k (inl (omega arith))) (mine_behind F held.at k (omega arith)) (false_from_ne_true (is_open_record p k) never)
+      mask_of_others F p is.before k (outside_log (log_number_at F held.number) k (inl (omega arith))) (mine_behind F is.at k (omega arith)) (false_from_ne_true (is_open_record p k) never)
 
   -- its record is read as it was
   pub used_still : now.pools held.slot ≡ Some is.rec
@@ -92,18 +92,18 @@ module _ (w : World) (held : Held) (mask : Write) (words : Words) (is : IsHeld w
       ∙ sym (pools_below F is.before held.slot is.pool.slot) ∙ is.pool.used
 
   -- and so are those of its puddles
-  pub members_still : HasMembers now held.slot held.at
-  members_still =
-      HasMembers-same (tables_of F is.before) now held.slot held.at (frames_of_tables F is.before ∙ sym (frames_of_tables F (reads words)))
+  pub puddles_still : ArePuddlesOf now held.slot is.at
+  puddles_still =
+      ArePuddlesOf-same (tables_of F is.before) now held.slot is.at (frames_of_tables F is.before ∙ sym (frames_of_tables F (reads words)))
       (λ o e there.
-      let below = all_there (λ (d : ℕ × Puddle). d.0 < F) held.at o e (open_on_device F p is.before is.pool).frames there in
+      let below = all_there (λ (d : ℕ × Puddle). d.0 < F) is.at o e (open_on_device F p is.before is.pool).frames there in
       puddles_below F (reads words) e.0 below ∙ puddle_at-same (reads words) is.before e.0 (λ k low high. is.records k (of_puddle_record p k o e there low high)) ∙ sym (puddles_below F is.before e.0 below))
-      (subst (λ at. HasMembers (tables_of F is.before) held.slot at) is.pool.at (members_in_turn (tables_of F is.before) held.slot))
+      is.pool.puddles
 
   -- a frame that is none of its puddles'
-  not_its_own : (frame o : ℕ) (e : ℕ × Puddle) → is_of_pool held.slot (now.puddles frame) ≡ false → slice_get held.at o ≡ Some e → frame ≡ e.0 → ⊥
+  not_its_own : (frame o : ℕ) (e : ℕ × Puddle) → is_of_pool held.slot (now.puddles frame) ≡ false → slice_get is.at o ≡ Some e → frame ≡ e.0 → ⊥
   not_its_own frame o e other there same =
-      let m = members_still.each o e there in
+      let m = puddles_still.each o e there in
       let of : is_of_pool held.slot (now.puddles frame) ≡ true = ap (λ n. is_of_pool held.slot (now.puddles n)) same ∙ ap (is_of_pool held.slot) m.used ∙ eq-eqb m.member.pool (held.slot + 1) m.pool in
       let no : true ≡ false = sym of ∙ other in
       cc
@@ -133,15 +133,15 @@ module _ (w : World) (held : Held) (mask : Write) (words : Words) (is : IsHeld w
       let few = is.pool.known in
       let slot = is.pool.slot in
       mask_of_others F p is.before k (outside_log (log_number_at F held.number) k (inr (omega arith)))
-      (false_from_ne_true (pool_mine F held.at k) (λ mine.
-      let m = pool_mine-each F held.at k mine in
+      (false_from_ne_true (pool_mine F is.at k) (λ mine.
+      let m = pool_mine-each F is.at k mine in
       let from = m.low in let to = m.high in
       not_its_own frame m.ordinal m.puddle other m.there (omega arith)))
       (false_from_ne_true (is_open_record p k) (λ of. elim (open_record_of p k of) [
         | inl pool ↦ let to = pool.high in absurd (omega arith)
         | inr (inl space) ↦ let to = space.high in absurd (omega arith)
         | inr (inr puddle) ↦
-            let frames = all_there (λ (d : ℕ × Puddle). d.0 < F) held.at puddle.index puddle.element (open_on_device F p is.before is.pool).frames puddle.there in
+            let frames = all_there (λ (d : ℕ × Puddle). d.0 < F) is.at puddle.index puddle.element (open_on_device F p is.before is.pool).frames puddle.there in
             let to = puddle.within.high in absurd (omega arith)
       ]))
 
@@ -177,7 +177,7 @@ pub one_slot : (w : World) (held : List (Option Held)) (mask : Write) (words : W
 one_slot w held mask words holds n m h g here there same =
     let its = holds.each n h here in
     let others = holds.each m g there in
-    holds.are.slots n m (open_held h its.is.rec its.is.who its.is.before) (open_held g others.is.rec others.is.who others.is.before) its.opened others.opened same
+    holds.are.slots n m (open_held h its.is.at its.is.rec its.is.who its.is.before) (open_held g others.is.at others.is.rec others.is.who others.is.before) its.opened others.opened same
 
 -- the record of the slot is used, and has the name
 pub record IsHeldPool (t : Tables) (h : Held) : Type 0 where

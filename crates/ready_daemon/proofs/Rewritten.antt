@@ -1,5 +1,5 @@
--- Each pointer of a pool on which a transaction is open stands over the pool's bases: the tables are sound, so each frontier is the last one.
-use Rattle.std.proofs.Common.{◌≡◌, ℕ, true, List, get_or, Some, sym, ap, ◌∙◌, eqb-true}
+-- Each pointer of a pool that is known stands over the pool's bases: the tables are sound, so each frontier is the last one.
+use Rattle.std.proofs.Common.{◌≡◌, ℕ, true, List, get_or, Some, sym, ap, subst, ◌∙◌, eqb-true}
 use Rattle.std.proofs.lemmas.Bool.{and_parts}
 use Rattle.std.proofs.lemmas.Option.{slice_get-get_or}
 use Rattle.pm_model.specs.Words.{reads}
@@ -10,13 +10,13 @@ use Rattle.pud_defs.specs.Puddles.{Member, is_legal_puddle}
 use Rattle.pud_defs.specs.SoundTables.{is_sound_puddle, is_legal_member, HasSoundTables}
 use Rattle.pud_defs.specs.Tables.{Tables, tables_of}
 use Rattle.pud_defs.specs.World.{World}
-use Rattle.pud_defs.proofs.PoolMembers.{IsMemberOf, HasMembers}
+use Rattle.pud_defs.proofs.PoolMembers.{IsMemberOf, HasMembers, members_in_turn}
 use Rattle.pud_defs.proofs.SoundChanged.{legal_puddle}
 use Rattle.hybrid_tx.specs.Grounds.{IsRewritten}
-use Rattle.ready_daemon.specs.Memory.{Held, Memory, held_under}
+use Rattle.ready_daemon.specs.Judged.{known_in}
+use Rattle.ready_daemon.specs.Memory.{Memory}
 use Rattle.ready_daemon.specs.Ready.{IsReady}
-use Rattle.ready_daemon.proofs.Beside.{held_is}
-use Rattle.ready_daemon.proofs.PoolsBeside.{members_still}
+use Rattle.ready_daemon.proofs.InTurn.{known_in_turn}
 use Rattle.ready_daemon.proofs.TablesBeside.{sound_read}
 
 last_by_member : (next : ℕ) (t : Tables) (m : Member) → is_legal_member next t m ≡ true → m.puddle.frontier ≡ steps_of m.puddle
@@ -32,8 +32,9 @@ module _ (next : ℕ) (t : Tables) (sound : HasSoundTables next t) (slot : ℕ) 
   rewritten_members : IsRewritten at
   rewritten_members = record { each = λ n d below. last_of_member n (get_or at n d) (has.each n (get_or at n d) (slice_get-get_or at n d below)) }
 
--- so are those of each pool that is held by a daemon that is ready
-pub held_rewritten : (size : ℕ) (w : World) (memory : Memory) (s : State) → IsReady size w memory s → (number : ℕ) (held : Held) → held_under memory.held number ≡ Some held → IsRewritten held.at
-held_rewritten size w memory s ready number held there =
-    rewritten_members w.stored.next_number (tables_of w.stored.frames (reads s.now.words)) (sound_read size w memory s ready) held.slot held.at
-    (members_still w held ready.mask s.now.words (held_is w memory.held ready.mask s.now.words ready.held number held there))
+-- so are those of each pool that is known to a daemon that is ready
+pub known_rewritten : (size : ℕ) (w : World) (memory : Memory) (s : State) → IsReady size w memory s → (slot : ℕ) (at : List (ℕ × Puddle)) → known_in memory.judged slot ≡ Some at → IsRewritten at
+known_rewritten size w memory s ready slot at known =
+    let t = tables_of w.stored.frames (reads s.now.words) in
+    rewritten_members w.stored.next_number t (sound_read size w memory s ready) slot at
+    (subst (λ (puddles : List (ℕ × Puddle)). HasMembers t slot puddles) (known_in_turn size w memory s ready slot at known) (members_in_turn t slot))

@@ -17,9 +17,9 @@ use Rattle.pud_defs.specs.World.{Transaction, World, open_on}
 use Rattle.pud_defs.proofs.Keyed.{HasDistinctKeys, distinct_keys, find-keyed_place}
 use Rattle.pud_defs.proofs.TablesOf.{pools_beyond}
 use Rattle.nesting.specs.declared.Session.{Session}
-use Rattle.nesting.specs.Sessions.{client_in, session_in}
+use Rattle.nesting.specs.Sessions.{client_in, session_in, holder_in}
 use Rattle.ready_daemon.specs.Memory.{Held, Memory, held_under}
-use Rattle.ready_daemon.specs.Held.{Holds, HasSessions}
+use Rattle.ready_daemon.specs.Held.{Holds, session_of, HasSessions}
 use Rattle.ready_daemon.specs.Holding.{IsOwnOn}
 use Rattle.ready_daemon.specs.Owning.{IsSlotOf}
 use Rattle.ready_daemon.specs.Ready.{IsReady}
@@ -27,25 +27,20 @@ use Rattle.ready_daemon.proofs.Beside.{held_is}
 use Rattle.ready_daemon.proofs.PoolsBeside.{used_still}
 use Rattle.ready_daemon.proofs.TablesBeside.{sound_read}
 
--- the session that a transaction has
-abbrev pub session_of : Transaction → Session
-session_of t = record { client = t.client; depth = t.depth }
-
--- The session in the slot is that of a transaction on the pool of the name, which is held under a number.
+-- The session in the slot is that of a transaction on the pool of the name, which is held under its number.
 pub record IsSessionOf (w : World) (held : List (Option Held)) (name : List ℕ) (slot : ℕ) (session : Session) : Type 0 where
-  pub number : ℕ
   pub mine : Held
-  pub is : held_under held number ≡ Some mine
+  pub is : held_under held session.number ≡ Some mine
   pub slot_is : mine.slot ≡ slot
   pub name_is : mine.name ≡ name
   pub transaction : Transaction
   pub there : open_on name w ≡ Some transaction
-  pub session_is : session ≡ session_of transaction
+  pub session_is : session ≡ session_of session.number transaction
   pub client : transaction.client ≡ mine.client
 
 -- where it is the client's, so is that transaction
 pub own_on : (w : World) (held : List (Option Held)) (client : ℕ) (name : List ℕ) (slot : ℕ) (session : Session) (of : IsSessionOf w held name slot session) → session.client ≡ client
-    → IsOwnOn client name slot of.number held
+    → IsOwnOn client name slot session.number held
 own_on w held client name slot session of whose = record {
   own = record { mine = of.mine; is = of.is; whose = sym of.client ∙ sym (ap client_in of.session_is) ∙ whose; pool = of.name_is };
   slot_is = of.slot_is;
@@ -88,7 +83,7 @@ module _ (w : World) (held : List (Option Held)) (mask : Write) (words : Words) 
   -- ---- the session of one
 
   module _ (sessions : List (Option Session)) (has : HasSessions w held sessions) where
-    pub session_held : (number : ℕ) (h : Held) (there : held_under held number ≡ Some h) → session_in sessions h.slot ≡ Some (session_of (held_is w held mask words holds number h there).transaction)
+    pub session_held : (number : ℕ) (h : Held) (there : held_under held number ≡ Some h) → session_in sessions h.slot ≡ Some (session_of number (held_is w held mask words holds number h there).transaction)
     session_held number h there =
         let is = held_is w held mask words holds number h there in
         has.each number h is.transaction there is.is
@@ -96,24 +91,23 @@ module _ (w : World) (held : List (Option Held)) (mask : Write) (words : Words) 
     -- none is held on a pool that has no session
     pub none_held : (slot : ℕ) → session_in sessions slot ≡ None → (number : ℕ) (h : Held) → held_under held number ≡ Some h → h.slot ≢ slot
     none_held slot none number h there same =
-        none-some (session_of (held_is w held mask words holds number h there).transaction) (sym none ∙ ap (session_in sessions) (sym same) ∙ session_held number h there)
+        none-some (session_of number (held_is w held mask words holds number h there).transaction) (sym none ∙ ap (session_in sessions) (sym same) ∙ session_held number h there)
 
     -- the session on the pool of a name is that of the transaction that is open on it
     pub session_there : (name : List ℕ) (slot : ℕ) (r : PoolRec) (s : Session) → t.pools slot ≡ Some r → r.name ≡ name → session_in sessions slot ≡ Some s → IsSessionOf w held name slot s
     session_there name slot r s used named there =
         let on = has.only slot s there in
-        let is = held_is w held mask words holds on.number on.mine on.is in
+        let is = held_is w held mask words holds s.number on.mine on.is in
         let rec : is.rec ≡ r = same_Some is.rec r (sym (used_still w on.mine mask words is) ∙ ap t.pools on.slot_is ∙ used) in
         let same : on.mine.name ≡ name = sym is.name ∙ ap (λ (x : PoolRec). x.name) rec ∙ named in
         record {
-          number = on.number;
           mine = on.mine;
           is = on.is;
           slot_is = on.slot_is;
           name_is = same;
           transaction = is.transaction;
           there = ap w.transactions (sym same) ∙ is.is;
-          session_is = same_Some s (session_of is.transaction) (sym there ∙ ap (session_in sessions) (sym on.slot_is) ∙ session_held on.number on.mine on.is);
+          session_is = same_Some s (session_of s.number is.transaction) (sym there ∙ ap (session_in sessions) (sym on.slot_is) ∙ session_held s.number on.mine on.is);
           client = is.client;
         }
 
@@ -121,12 +115,12 @@ module _ (w : World) (held : List (Option Held)) (mask : Write) (words : Words) 
         → (o : Option Transaction) → open_on name w ≡ o → o ≡ None
     shut_by next sound name slot r used named none None e = refl
     shut_by next sound name slot r used named none (Some x) e =
-        let open_on = holds.known name x e in
-        let is = held_is w held mask words holds open_on.number open_on.mine open_on.is in
-        let there = used_still w open_on.mine mask words is in
-        let here : open_on.mine.slot ≡ slot =
-        slot_by_name next t sound open_on.mine.slot slot is.rec r is.pool.slot (slot_within F slot (reads words) r used) there used (is.name ∙ open_on.name_is ∙ sym named) in
-        absurd (none_held slot none open_on.number open_on.mine open_on.is here)
+        let under = holds.known name x e in
+        let is = held_is w held mask words holds under.number under.mine under.is in
+        let there = used_still w under.mine mask words is in
+        let here : under.mine.slot ≡ slot =
+        slot_by_name next t sound under.mine.slot slot is.rec r is.pool.slot (slot_within F slot (reads words) r used) there used (is.name ∙ under.name_is ∙ sym named) in
+        absurd (none_held slot none under.number under.mine under.is here)
 
     -- and none is open where it has none
     pub no_session : (next : ℕ) → HasSoundTables next t → (name : List ℕ) (slot : ℕ) (r : PoolRec) → t.pools slot ≡ Some r → r.name ≡ name → session_in sessions slot ≡ None → open_on name w ≡ None
@@ -144,12 +138,12 @@ module _ (size : ℕ) (w : World) (memory : Memory) (s : State) (ready : IsReady
   session_shut none =
       no_session w memory.held ready.mask s.now.words ready.held memory.sessions ready.sessions w.stored.next_number (sound_read size w memory s ready) name slot at.rec at.used at.name_is none
 
-  session_by : (o : Option Session) → session_in memory.sessions slot ≡ o → session_in memory.sessions slot ≡ option_map session_of (open_on name w)
-  session_by None e = e ∙ ap (option_map session_of) (sym (session_shut e))
-  session_by (Some session) e =
+  holder_by : (o : Option Session) → session_in memory.sessions slot ≡ o → holder_in memory.sessions slot ≡ option_map (λ t. t.client) (open_on name w)
+  holder_by None e = ap (option_map client_in) e ∙ ap (option_map (λ (t : Transaction). t.client)) (sym (session_shut e))
+  holder_by (Some session) e =
       let of = session_open session e in
-      e ∙ ap (λ (x : Session). Some x) of.session_is ∙ ap (option_map session_of) (sym of.there)
+      ap (option_map client_in) e ∙ ap (λ (x : Session). Some x.client) of.session_is ∙ ap (option_map (λ (t : Transaction). t.client)) (sym of.there)
 
-  -- so it tells what is open on the pool
-  pub session_is : session_in memory.sessions slot ≡ option_map session_of (open_on name w)
-  session_is = session_by (session_in memory.sessions slot) refl
+  -- so it tells whose transaction is open on the pool
+  pub holder_is : holder_in memory.sessions slot ≡ option_map (λ t. t.client) (open_on name w)
+  holder_is = holder_by (session_in memory.sessions slot) refl

@@ -1,5 +1,5 @@
 -- What the open transactions that the daemon holds stand for: parts of the world, and words of the device.
-use Rattle.std.specs.Prelude.{◌≡◌, ◌≢◌, ◌<◌, ◌≤◌, ℕ, true, false, List, length, Option, Some, None, is_some}
+use Rattle.std.specs.Prelude.{◌≡◌, ◌≢◌, ◌<◌, ◌≤◌, ℕ, true, false, List, Option, Some, None, is_some}
 use Rattle.pm_model.specs.Words.{Words, reads, HasOnly}
 use Rattle.pm_model.specs.declared.host.HostFault.{HostFault}
 use Rattle.pm_model.specs.Moments.{State}
@@ -11,64 +11,59 @@ use Rattle.pud_defs.specs.Image.{Image}
 use Rattle.pud_defs.specs.Entries.{log_of}
 use Rattle.pud_defs.specs.Replay.{device_word, new_value, is_in_log}
 use Rattle.pud_defs.specs.Layout.{frames_at, log_at}
-use Rattle.pud_defs.specs.Stored.{Stored, IsOnDevice}
+use Rattle.pud_defs.specs.Stored.{Stored}
 use Rattle.pud_defs.specs.Spaces.{Owner}
 use Rattle.pud_defs.specs.Graph.{Graph, graph_of}
 use Rattle.pud_defs.specs.Settled.{ALL_LOGS, client_of_log, log_number_at}
-use Rattle.pud_defs.specs.Tables.{Pool}
+use Rattle.pud_defs.specs.declared.records.Puddle.{Puddle}
 use Rattle.pud_defs.specs.PoolChanges.{pool_named}
 use Rattle.pud_defs.specs.Step.{graph_in}
 use Rattle.pud_defs.specs.Types.{map_of}
 use Rattle.pud_defs.specs.World.{Transaction, World, open_on}
 use Rattle.batch.specs.Batches.{HasIdleGate}
-use Rattle.hybrid_tx.specs.Masks.{OpenPool, is_open_record, IsOpenPool, open_mask}
-use Rattle.hybrid_tx.specs.ManyOpen.{OpenTransaction, Opens, MasksAll, AreOpenPools}
-use Rattle.hybrid_tx.specs.Transactions.{IsOpenOn}
+use Rattle.hybrid_tx.specs.Open.Masks.{OpenPool, is_open_record, IsOpenPool, open_mask}
+use Rattle.hybrid_tx.specs.Open.ManyOpen.{OpenTransaction, Opens, MasksAll, AreOpenPools}
+use Rattle.hybrid_tx.specs.Objects.Transactions.{IsOpenOn}
 use Rattle.nesting.specs.declared.Session.{Session}
 use Rattle.nesting.specs.Sessions.{session_in}
 use Rattle.ready_daemon.specs.Memory.{Held, held_under}
 
 -- where it is open
-abbrev pub pool_held : Held → PoolRec → Owner → OpenPool
-pool_held held rec who = record { slot = held.slot; rec = rec; at = held.at; number = held.number; who = who }
+abbrev pub pool_held : Held → List (ℕ × Puddle) → PoolRec → Owner → OpenPool
+pool_held held at rec who = record { slot = held.slot; rec = rec; at = at; number = held.number; who = who }
 
 -- and from which image
-abbrev pub open_held : Held → PoolRec → Owner → Image → OpenTransaction
-open_held held rec who before = record { pool = pool_held held rec who; before = before }
+abbrev pub open_held : Held → List (ℕ × Puddle) → PoolRec → Owner → Image → OpenTransaction
+open_held held at rec who before = record { pool = pool_held held at rec who; before = before }
 
--- how many puddles the pool has, where there is one
-abbrev pub puddles_in : Option Pool → ℕ
-puddles_in None = 0
-puddles_in (Some p) = p.puddles
-
--- The transaction is the one that is open in the world on its pool. By what the words held at its beginning its pool had the graph that the stored
--- world has, and is the world's pool of the name, with as many puddles; by what is read it has the graph that its client sees. Its records are read
--- as they were. Its words are masked, by what they held.
+-- The transaction is the one that is open in the world on its pool, which has these puddles. By what the words held at its beginning the pool had the
+-- graph that the stored world has; by what is read it has the graph that its client sees. Its records are read as they were. Its words are masked, by
+-- what they held.
 pub record IsHeld (w : World) (held : Held) (mask : Write) (words : Words) : Type 0 where
   pub rec : PoolRec
   pub who : Owner
+  pub at : List (ℕ × Puddle)
   pub before : Image
   pub undone : Graph
   pub transaction : Transaction
   pub is : open_on held.name w ≡ Some transaction
   pub client : transaction.client ≡ held.client
-  pub units : transaction.units ≡ held.units
+  pub units : transaction.units ≡ held.tx.units
   pub present : w.clients held.client ≡ Some who
   pub owner : client_of_log held.number ≡ held.client
-  pub gate : held.log.at ≡ log_number_at w.stored.frames held.number
+  pub gate : held.tx.log.at ≡ log_number_at w.stored.frames held.number
   pub name : rec.name ≡ held.name
   pub stored : graph_in (pool_named held.name w.stored) ≡ Some undone
-  pub count : puddles_in (pool_named held.name w.stored) ≡ length held.at
-  pub pool : IsOpenPool w.stored.frames (pool_held held rec who) before
-  pub records : (k : ℕ) → is_open_record (pool_held held rec who) k ≡ true → reads words k ≡ before k
-  pub running : IsOpenOn w.stored.frames held.at w.stored.types held.log before undone transaction.now transaction.laters words
-  pub masked : (k v : ℕ) → open_mask w.stored.frames (pool_held held rec who) before k ≡ Some v → mask k ≡ Some v
+  pub pool : IsOpenPool w.stored.frames (pool_held held at rec who) before
+  pub records : (k : ℕ) → is_open_record (pool_held held at rec who) k ≡ true → reads words k ≡ before k
+  pub running : IsOpenOn w.stored.frames at w.stored.types held.tx.log before undone transaction.now transaction.laters words
+  pub masked : (k v : ℕ) → open_mask w.stored.frames (pool_held held at rec who) before k ≡ Some v → mask k ≡ Some v
 
 -- It is held under this number, that of its log, and is one of these that are open.
 pub record IsHeldUnder (w : World) (opens : Opens) (mask : Write) (words : Words) (number : ℕ) (held : Held) : Type 0 where
   pub is : IsHeld w held mask words
   pub number_is : held.number ≡ number
-  pub opened : opens number ≡ Some (open_held held is.rec is.who is.before)
+  pub opened : opens number ≡ Some (open_held held is.at is.rec is.who is.before)
 
 -- one is held on the pool of the name
 pub record IsOpenUnder (held : List (Option Held)) (name : List ℕ) : Type 0 where
@@ -87,27 +82,29 @@ pub record Holds (w : World) (held : List (Option Held)) (mask : Write) (words :
   pub known : (name : List ℕ) (t : Transaction) → open_on name w ≡ Some t → IsOpenUnder held name
   pub names : (n m : ℕ) (h g : Held) → held_under held n ≡ Some h → held_under held m ≡ Some g → h.name ≡ g.name → n ≡ m
 
--- one is held on the pool whose record has this slot
-pub record IsHeldOn (held : List (Option Held)) (slot : ℕ) : Type 0 where
-  pub number : ℕ
+-- one is held under the number, on the pool whose record has this slot
+pub record IsHeldOn (held : List (Option Held)) (slot number : ℕ) : Type 0 where
   pub mine : Held
   pub is : held_under held number ≡ Some mine
   pub slot_is : mine.slot ≡ slot
 
--- Each transaction that is held has the session of its pool, of its client and begun as often as it was; and there is no other.
-pub record HasSessions (w : World) (held : List (Option Held)) (sessions : List (Option Session)) : Type 0 where
-  pub each : (number : ℕ) (h : Held) (t : Transaction) → held_under held number ≡ Some h → open_on h.name w ≡ Some t → session_in sessions h.slot ≡ Some (record { client = t.client; depth = t.depth })
-  pub only : (slot : ℕ) (s : Session) → session_in sessions slot ≡ Some s → IsHeldOn held slot
+-- the session of a transaction with the log of a number
+abbrev pub session_of : (number : ℕ) → Transaction → Session
+session_of number t = record { client = t.client; number = number; depth = t.depth }
 
--- A transaction that is held lies in a device of so many frames: its pool's slot is one of the table, its puddles stand in frames, and its log is that
--- of its number, one of its client's. It has taken no more units than there are.
+-- Each transaction that is held has the session of its pool, of its client, with its log, and begun as often as it was; and there is no other.
+pub record HasSessions (w : World) (held : List (Option Held)) (sessions : List (Option Session)) : Type 0 where
+  pub each : (number : ℕ) (h : Held) (t : Transaction) → held_under held number ≡ Some h → open_on h.name w ≡ Some t → session_in sessions h.slot ≡ Some (session_of number t)
+  pub only : (slot : ℕ) (s : Session) → session_in sessions slot ≡ Some s → IsHeldOn held slot s.number
+
+-- A transaction that is held lies in a device of so many frames: its pool's slot is one of the table, and its log is that of its number, one of its
+-- client's. It has taken no more units than there are.
 pub record IsHeldWithin (F : ℕ) (held : Held) : Type 0 where
   pub slot : held.slot < POOL_RECORDS
-  pub puddles : IsOnDevice F held.at
   pub client : held.client < CLIENTS
   pub number : held.number < ALL_LOGS
-  pub gate : held.log.at ≡ log_number_at F held.number
-  pub units : held.units ≤ LOG_ENTRY_WORDS
+  pub gate : held.tx.log.at ≡ log_number_at F held.number
+  pub units : held.tx.units ≤ LOG_ENTRY_WORDS
 
 -- and so does each that is held
 pub record AreHeldWithin (F : ℕ) (held : List (Option Held)) : Type 0 where
@@ -152,13 +149,12 @@ pub record IsBeside (mask : Write) (fault : Option HostFault) (old new : State) 
   pub names : Leaves (Silently (NamesNone mask)) old new
   pub single : fault ≡ None → StaysSingle old new
 
--- The next world has the same of what is held: the transactions, and of each its client, its pool's graph of the beginning and number of puddles, and
--- what its words stand for, by types that are defined still.
+-- The next world has the same of what is held: the transactions, and of each its client, its pool's graph of the beginning, and what its words stand
+-- for, by types that are defined still.
 pub record KeepsHeld (w next : World) (held : List (Option Held)) : Type 0 where
   pub frames : next.stored.frames ≡ w.stored.frames
   pub transactions : next.transactions ≡ w.transactions
   pub present : (number : ℕ) (h : Held) → held_under held number ≡ Some h → next.clients h.client ≡ w.clients h.client
   pub stored : (number : ℕ) (h : Held) → held_under held number ≡ Some h → graph_in (pool_named h.name next.stored) ≡ graph_in (pool_named h.name w.stored)
-  pub puddles : (number : ℕ) (h : Held) → held_under held number ≡ Some h → puddles_in (pool_named h.name next.stored) ≡ puddles_in (pool_named h.name w.stored)
   pub types : (id m : ℕ) → map_of id w.stored.types ≡ Some m → map_of id next.stored.types ≡ Some m
   pub graphs : (st : Stored) (g : Graph) → graph_of w.stored.types st ≡ Some g → graph_of next.stored.types st ≡ Some g

@@ -1,28 +1,26 @@
 -- What the daemon holds in memory between two lines.
 use Rattle.std.specs.Prelude.{ℕ, List, set, slice_index_or, Option, None}
 use Rattle.pud_defs.specs.declared.records.Puddle.{Puddle}
-use Rattle.log_store.specs.Store.{OpenLog}
+use Rattle.hybrid_tx.specs.Objects.Transactions.{OpenTx}
 use Rattle.nesting.specs.declared.Session.{Session}
 
--- A transaction that is open: whose it is, the name of its pool, the slot of the pool's record, the pool's puddles by their ordinals, each with its
--- frame, the number of its log among those of all clients, that log, and how many units it has taken.
+-- A transaction that is open: whose it is, the name of its pool, the slot of the pool's record, the number of its log among those of all clients, and
+-- what is open with that log on the pool's objects.
 pub record Held : Type 0 where
   pub client : ℕ
   pub name : List ℕ
   pub slot : ℕ
-  pub at : List (ℕ × Puddle)
   pub number : ℕ
-  pub log : OpenLog
-  pub units : ℕ
+  pub tx : OpenTx
 
 pub record Memory : Type 0 where
   -- how many frames the device has, as the start found it
   pub frames : ℕ
   -- the transactions that are open, by the numbers of their logs
   pub held : List (Option Held)
-  -- whose transaction is open on a pool, and how often it was begun, by the slots of the pools' records
+  -- whose transaction is open on a pool, with which log, and how often it was begun, by the slots of the pools' records
   pub sessions : List (Option Session)
-  -- the puddles of pools that have a graph, by the slots of the pools' records, as far as they were asked for
+  -- the puddles of pools that have a graph, by their ordinals, each with its frame, by the slots of the pools' records, as far as they were asked for
   pub judged : List (Option (List (ℕ × Puddle)))
 
 -- the transaction that is open with the log of this number

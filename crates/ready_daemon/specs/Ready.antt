@@ -37,7 +37,7 @@ pub record KeepsInput (old new : State) : Type 0 where
 -- stands for the closed world with nothing under way, each registered log and the daemon log closed in it, and the daemon log counts no word. The
 -- tables are durable, and what is read of them has the clients that are present. Masked, each word of the frames has one value, and each log of a
 -- client that is present counts nothing. The number of frames is the one that the daemon holds, and the shelf is the world's. Each transaction has its
--- session. What it knows of pools that it judged is what a scan gives, and nothing of those on which a transaction is open.
+-- session. What it knows of pools that it judged is what a scan gives, and it knows each on which a transaction is open.
 pub record IsReady (size : ℕ) (w : World) (memory : Memory) (s : State) : Type 0 where
   pub mask : Write
   pub settled : IsSettled size (closed w) (masked mask s.now.words)
@@ -49,7 +49,7 @@ pub record IsReady (size : ℕ) (w : World) (memory : Memory) (s : State) : Type
   pub sessions : HasSessions w memory.held memory.sessions
   pub rest : HasDurableFrames w.stored.frames (masked mask s.now.words)
   pub logs : HasIdleLogs w.stored.frames w.clients (masked mask s.now.words)
-  pub knows : KnowsPools w.stored.frames memory.judged memory.held (reads s.now.words)
+  pub knows : KnowsPools w.stored.frames memory.judged held.opens (reads s.now.words)
 
 -- no registered log of the image is refused: a start on it says `ready` alone
 pub record RefusesNone (image : Image) : Type 0 where

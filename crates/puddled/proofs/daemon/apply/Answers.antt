@@ -80,13 +80,13 @@ returns-in-Abort-clause-carries g c = λ t size e w ready.
 
 pub returns-in-New-clause-carries : goal.returns-in-New-clause-carries
 returns-in-New-clause-carries g c = λ t size e w ready.
-    CarriesOut-as size w c.new_object.new.self _ _ _ _ c.args.command (New c.in-New.client c.in-New.name c.in-New.t) c.with_reply-in-New.result c.new_object.result c.in-New.is c.with_reply-in-New.ensures
-    (c.new_object.ensures.carries t size e w ready)
+    CarriesOut-as size w c.change_own.new.self _ _ _ _ c.args.command (New c.in-New.client c.in-New.name c.in-New.t) c.with_reply-in-New.result c.change_own.result c.in-New.is c.with_reply-in-New.ensures
+    (c.change_own.ensures.carries t size e w ready)
 
 pub returns-in-Set-clause-carries : goal.returns-in-Set-clause-carries
 returns-in-Set-clause-carries g c = λ t size e w ready.
-    CarriesOut-as size w c.change_own.new.self _ _ _ _ c.args.command (Set c.in-Set.client c.in-Set.name c.in-Set.s c.in-Set.f c.in-Set.x) c.with_reply-in-Set.result c.change_own.result c.in-Set.is c.with_reply-in-Set.ensures
-    (c.change_own.ensures.carries t size e w ready)
+    CarriesOut-as size w c.change_own-in-Set.new.self _ _ _ _ c.args.command (Set c.in-Set.client c.in-Set.name c.in-Set.s c.in-Set.f c.in-Set.x) c.with_reply-in-Set.result c.change_own-in-Set.result c.in-Set.is c.with_reply-in-Set.ensures
+    (c.change_own-in-Set.ensures.carries t size e w ready)
 
 pub returns-in-Later-clause-carries : goal.returns-in-Later-clause-carries
 returns-in-Later-clause-carries g c = λ t size e w ready.

@@ -1,6 +1,6 @@
 use Rattle.std.proofs.Common.{◌+◌, Some, refl, sym, ap, ◌∙◌}
 use Rattle.std.proofs.lemmas.Result.{err_from_is_err_and}
-use Rattle.pm_model.specs.Counts.{Counts, fault_of}
+use Rattle.pm_model.specs.Counts.{fault_of}
 use Rattle.pm_model.specs.Words.{reads}
 use Rattle.pm_model.specs.Moments.{State}
 use Rattle.pud_defs.specs.Tables.{tables_of}

@@ -1,49 +1,37 @@
-use Rattle.std.proofs.Common.{◌≡◌, ℕ, List, Some, None, sym, ◌∙◌, subst, arith}
+use Rattle.std.proofs.Common.{◌≡◌, Some, IfOk, sym, subst}
 use Rattle.pm_model.specs.Counts.{fault_of}
-use Rattle.pm_model.specs.Words.{reads}
-use Rattle.pud_defs.specs.declared.records.Puddle.{Puddle}
-use Rattle.pud_defs.specs.Step.{refusal_of, after}
-use Rattle.hybrid_tx.specs.Grounds.{IsRewritten}
-use Rattle.pool_transaction.specs.Changing.{line_of, IsFoundBy}
-use Rattle.ready_daemon.specs.Memory.{Held, held_under, with_held}
-use Rattle.ready_daemon.specs.Held.{IsHeldWithin}
+use Rattle.pud_defs.specs.Step.{answer_by, world_by}
+use Rattle.pud_defs.specs.Step.Answer.{of_reply}
+use Rattle.ready_daemon.specs.Memory.{Memory}
 use Rattle.ready_daemon.specs.Ready.{Applies}
-use Rattle.pool_transaction.proofs.HeldRuns.{with_tx, is_held}
-use Rattle.pool_transaction.proofs.HeldSets.{Applies-line}
-use Rattle.ready_daemon.proofs.Keeping.{KeepsRest-changes}
+use Rattle.pool_transaction.specs.declared.changing.Change.{Change}
+use Rattle.pool_transaction.specs.Changing.{IsHeldIn, with_opened, line_of, update_line}
+use Rattle.pool_transaction.proofs.HeldLines.{known_same}
 use Rattle.pool_transaction.proofs.opened.Opened.change.Goals as goal
 
-pub returns-clause-applies : goal.returns-clause-applies
-returns-clause-applies g c = λ t change size e w memory frames there ready rewritten free found.
-    let i = c.self.inside in
-    let held : Held = record { client = i.client; name = i.name; slot = i.slot; at = i.puddles; number = i.number; log = i.tx.log; units = i.tx.units } in
+pub returns-in-New-clause-reply : goal.returns-in-New-clause-reply
+returns-in-New-clause-reply g c = λ t size e w memory its ready.
+    subst (λ (change : Change). IfOk c.new_object.result (λ reply. of_reply reply ≡ answer_by w (Some (line_of change c.args.self.now.client c.args.self.now.name)))) (sym c.in-New.is)
+    (c.new_object.ensures.reply t size e w memory its ready)
+
+pub returns-in-New-clause-applies : goal.returns-in-New-clause-applies
+returns-in-New-clause-applies g c = λ t size e w memory its ready.
+    let held = c.args.self.now in
+    subst (λ (change : Change). Applies size w (world_by w (Some (line_of change held.client held.name))) (with_opened held.number held.slot c.new_object.new.self c.new_object.new.pool memory) (fault_of c.new_object.result)
+    (g.H.Host.state c.args.h.now) (g.H.Host.state c.new_object.new.h)) (sym c.in-New.is)
+    (c.new_object.ensures.applies t size e w memory its ready)
+
+pub returns-in-Update-clause-reply : goal.returns-in-Update-clause-reply
+returns-in-Update-clause-reply g c = λ t size e w memory its ready.
+    subst (λ (change : Change). IfOk c.update_or_refuse.result (λ reply. of_reply reply ≡ answer_by w (Some (line_of change c.args.self.now.client c.args.self.now.name)))) (sym c.in-Update.is)
+    (c.update_or_refuse.ensures.reply t size w memory (subst (λ at. IsHeldIn c.args.frames c.args.self.now at memory) (sym c.as_slice.ensures.puddles) its) ready)
+
+pub returns-in-Update-clause-applies : goal.returns-in-Update-clause-applies
+returns-in-Update-clause-applies g c = λ t size e w memory its ready.
+    let held = c.args.self.now in
     let old = g.H.Host.state c.args.h.now in
-    let new = g.H.Host.state c.carry_out-done.new.h in
-    let image = reads old.now.words in
-    subst (λ (o : Held).
-    held_under memory.held o.number ≡ Some o → IsRewritten o.at → refusal_of w (line_of change o.client o.name) ≡ None → IsFoundBy c.args.frames o.at image change c.args.found
-    → Applies size w (after w (line_of change o.client o.name)) (with_held o.number (Some (with_tx c.carry_out-done.new.tx held)) memory) (fault_of c.carry_out-done.result) old new)
-    c.self.view_is
-    (λ there rewritten free found.
-    Applies-line size w memory held old held.number there ready c.args.frames c.as_slice.result.now (sym frames ∙ ready.frames) c.as_slice.ensures.puddles c.carry_out-done.new.tx new c.carry_out-done.ensures.at change c.carry_out-done.result rewritten free
-    (λ rewritten may placed running. c.carry_out-done.ensures.runs t _ _ _ (is_held size w memory held old held.number there ready).transaction change placed rewritten running may
-    (subst (λ (at : List (ℕ × Puddle)). IsFoundBy c.args.frames at image change c.args.found) (sym c.as_slice.ensures.puddles) found))
-    (λ placed running. c.carry_out-done.ensures.counts t _ _ _ _ _ running))
-    there rewritten free found
-
-pub returns-clause-within : goal.returns-clause-within
-returns-clause-within g c =
-    let was = subst (IsHeldWithin c.args.frames) (sym c.self.view_is) c.requires.within in
-    let counted = c.units-units.ensures.units in
-    let few = c.units-units.ensures.within in
-    record {
-      slot = was.slot;
-      puddles = was.puddles;
-      client = was.client;
-      number = was.number;
-      gate = c.carry_out-done.ensures.at ∙ was.gate;
-      units = omega (arith, counted, few);
-    }
-
-pub returns-clause-rest : goal.returns-clause-rest
-returns-clause-rest g c = λ t. KeepsRest-changes _ _ _ _ (c.carry_out-done.ensures.changes t)
+    let new = g.H.Host.state c.update_or_refuse.new.h in
+    let fault = fault_of c.update_or_refuse.result in
+    subst (λ (change : Change). Applies size w (world_by w (Some (line_of change held.client held.name))) (with_opened held.number held.slot c.update_or_refuse.new.self c.args.pool.now memory) fault old new) (sym c.in-Update.is)
+    (subst (λ (m : Memory). Applies size w (world_by w (Some (update_line c.in-Update.update held.client held.name))) m fault old new) (sym (known_same held.number held.slot c.update_or_refuse.new.self c.args.pool.now memory its.known))
+    (c.update_or_refuse.ensures.applies t size e w memory (subst (λ at. IsHeldIn c.args.frames held at memory) (sym c.as_slice.ensures.puddles) its) ready))

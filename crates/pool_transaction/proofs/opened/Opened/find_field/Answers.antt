@@ -1,36 +1,36 @@
-use Rattle.std.proofs.Common.{ℕ, List, Option, IfSome, refl, sym, ap, subst, ◌∙◌}
+use Rattle.std.proofs.Common.{ℕ, Option, IfSome, refl, sym, ap, subst, ◌∙◌}
 use Rattle.pm_model.proofs.Reading.{still_reads}
-use Rattle.pud_defs.specs.declared.records.Puddle.{Puddle}
 use Rattle.pud_defs.specs.declared.records.Slot.{Slot}
-use Rattle.hybrid_tx.specs.Grounds.{IsPlaced}
-use Rattle.hybrid_tx.specs.Stores.{IsPlaceAndWord}
+use Rattle.hybrid_tx.specs.Objects.Stores.{IsPlaceAndWord}
 use Rattle.ready_daemon.specs.Memory.{Held}
+use Rattle.ready_daemon.proofs.InTurn.{held_known}
 use Rattle.pool_transaction.proofs.HeldRefusals.{refused_unfound, refused_to_set}
 use Rattle.pool_transaction.proofs.opened.Opened.find_field.Goals as goal
 
 pub returns-in_default-clause-refusal : goal.returns-in_default-clause-refusal
-returns-in_default-clause-refusal g c = λ t size w memory frames held ready.
-    refused_unfound size w memory _ ready c.args.self.now c.args.self.now.number held c.args.frames c.as_slice-pool.result.now (sym frames ∙ ready.frames) (c.as_slice-pool.ensures.puddles ∙ ap (λ (h : Held). h.at) c.self.view_is)
+returns-in_default-clause-refusal g c = λ t size w memory its ready.
+    refused_unfound size w memory _ ready c.args.self.now c.args.self.now.number its.there c.args.frames c.args.pool.now (sym its.frames ∙ ready.frames) (sym (held_known size w memory _ ready c.args.self.now.number c.args.self.now its.there c.args.pool.now its.known))
     c.args.s c.args.f c.args.x (λ placed. c.in_ok-at.ensures.none t placed.legal _ refl c.in_default.is)
 
 pub returns-in-Some-field_refusal-clause-refusal : goal.returns-in-Some-field_refusal-clause-refusal
-returns-in-Some-field_refusal-clause-refusal g c = λ t size w memory frames held ready.
+returns-in-Some-field_refusal-clause-refusal g c = λ t size w memory its ready.
     sym c.in-Some-field_refusal.is ∙ c.field_refusal.ensures.refusal
-    ∙ refused_to_set size w memory _ ready c.args.self.now c.args.self.now.number held c.args.frames c.as_slice-pool.result.now (sym frames ∙ ready.frames) (c.as_slice-pool.ensures.puddles ∙ ap (λ (h : Held). h.at) c.self.view_is)
+    ∙ refused_to_set size w memory _ ready c.args.self.now c.args.self.now.number its.there c.args.frames c.args.pool.now (sym its.frames ∙ ready.frames) (sym (held_known size w memory _ ready c.args.self.now.number c.args.self.now its.there c.args.pool.now its.known))
     c.args.s c.args.f c.units.result c.args.x c.in-Some.at c.in-Some.word c.in_ok-read.read _ c.in-Some.is (λ placed. c.in_ok-at.ensures.found t placed.legal _ refl)
-    (c.in_ok-read.ensures.read t _ (still_reads c.in_ok-at.ensures.only_reads t refl)) (c.units.ensures.units ∙ ap (λ (h : Held). h.units) c.self.view_is)
+    (c.in_ok-read.ensures.read t _ (still_reads c.in_ok-at.ensures.only_reads t refl)) (c.units.ensures.units ∙ ap (λ (h : Held). h.tx.units) c.self.view_is)
 
 pub returns-in-None-clause-refusal : goal.returns-in-None-clause-refusal
-returns-in-None-clause-refusal g c = λ t size w memory frames held ready.
+returns-in-None-clause-refusal g c = λ t size w memory its ready.
     sym c.in-None.is ∙ c.field_refusal.ensures.refusal
-    ∙ refused_to_set size w memory _ ready c.args.self.now c.args.self.now.number held c.args.frames c.as_slice-pool.result.now (sym frames ∙ ready.frames) (c.as_slice-pool.ensures.puddles ∙ ap (λ (h : Held). h.at) c.self.view_is)
+    ∙ refused_to_set size w memory _ ready c.args.self.now c.args.self.now.number its.there c.args.frames c.args.pool.now (sym its.frames ∙ ready.frames) (sym (held_known size w memory _ ready c.args.self.now.number c.args.self.now its.there c.args.pool.now its.known))
     c.args.s c.args.f c.units.result c.args.x c.in-Some.at c.in-Some.word c.in_ok-read.read _ c.in-Some.is (λ placed. c.in_ok-at.ensures.found t placed.legal _ refl)
-    (c.in_ok-read.ensures.read t _ (still_reads c.in_ok-at.ensures.only_reads t refl)) (c.units.ensures.units ∙ ap (λ (h : Held). h.units) c.self.view_is)
+    (c.in_ok-read.ensures.read t _ (still_reads c.in_ok-at.ensures.only_reads t refl)) (c.units.ensures.units ∙ ap (λ (h : Held). h.tx.units) c.self.view_is)
 
 pub returns-in-None-clause-found : goal.returns-in-None-clause-found
 returns-in-None-clause-found g c = λ t image same placed.
-    let its : List (ℕ × Puddle) → Type 0 = λ at. IsPlaceAndWord c.args.frames at image c.args.s c.args.x (c.in-Some.at, c.in-Some.word) in
-    let found = subst (λ (at : List (ℕ × Puddle)). IsPlaced c.args.frames at → its at) (c.as_slice-pool.ensures.puddles ∙ ap (λ (h : Held). h.at) c.self.view_is)
-    (λ on_ground. subst (λ (o : Option (Slot × ℕ)). IfSome o (IsPlaceAndWord c.args.frames c.as_slice-pool.result.now image c.args.s c.args.x)) c.in-Some.is (c.in_ok-at.ensures.found t on_ground.legal image same))
-    placed in
-    record { s = c.args.s; x = c.args.x; is = refl; found = found }
+    record {
+      s = c.args.s;
+      x = c.args.x;
+      is = refl;
+      found = subst (λ (o : Option (Slot × ℕ)). IfSome o (IsPlaceAndWord c.args.frames c.args.pool.now image c.args.s c.args.x)) c.in-Some.is (c.in_ok-at.ensures.found t placed.legal image same);
+    }

@@ -1,10 +1,9 @@
 use Rattle.std.proofs.Common.{◌≡◌, Some, None, IfOk, refl, sym, ap, subst, ◌∙◌}
 use Rattle.std.proofs.lemmas.Result.{err_from_is_err_and}
-use Rattle.pm_model.specs.Counts.{Counts}
 use Rattle.pm_model.specs.Words.{reads}
 use Rattle.registry.specs.Places.{refusal_in}
-use Rattle.pool_transaction.specs.Changing.{refusal_by_tables, GrowsBy, with_more}
-use Rattle.pool_transaction.proofs.HeldLines.{memory_with, now_there, new_failed, new_refused, reply_refused, refused_by_tables, new_ungrown, new_in_more, reply_in_more}
+use Rattle.pool_transaction.specs.Changing.{IsHeldIn, refusal_by_tables, GrowsBy, with_more}
+use Rattle.pool_transaction.proofs.HeldLines.{memory_with, new_failed, new_refused, reply_refused, refused_by_tables, new_ungrown, held_then, with_frames, new_in_more, reply_in_more}
 use Rattle.pool_transaction.proofs.HeldMakes.{units_fit}
 use Rattle.pool_transaction.proofs.opened.Opened.make_in_more.Goals as goal
 use Rattle.pm_model.proofs.Reading.{still_size}
@@ -12,71 +11,84 @@ use Rattle.pm_model.proofs.Reading.{still_size}
 pub returns-in_err-added-clause-applies : goal.returns-in_err-added-clause-applies
 returns-in_err-added-clause-applies g c =
     let p = err_from_is_err_and c.from_residual.result c.from_residual.ensures.1 in
-    rw (p.1, p.2) (λ t size e w memory frames there ready none more.
-    new_failed size w memory c.args.self.now (g.H.Host.state c.args.h.now) c.args.self.now.number there ready c.args.t c.args.self.now c.in_err-added.field-0.0 _ (c.in_err-added.ensures.only_reads.stays t) c.in_err-added.ensures.only_reads.never_cut)
+    rw (p.1, p.2) (λ t size e w memory its ready none more.
+    new_failed size w memory c.args.self.now (g.H.Host.state c.args.h.now) c.args.self.now.number its.there ready c.args.t c.args.self.now c.args.pool.now c.in_err-added.field-0.0 _ (c.in_err-added.ensures.only_reads.stays t) c.in_err-added.ensures.only_reads.never_cut)
 
 pub returns-in-Err-clause-reply : goal.returns-in-Err-clause-reply
-returns-in-Err-clause-reply g c = λ t size e w memory frames there ready none more.
+returns-in-Err-clause-reply g c = λ t size e w memory its ready none more.
+    let held = c.args.self.now in
     let old = g.H.Host.state c.args.h.now in
-    let found : Some c.in-Err.refusal ≡ refusal_by_tables c.args.frames c.args.self.now (reads old.now.words) =
-    sym (ap refusal_in c.in-Err.is) ∙ c.in_ok-added.ensures.refusal t (reads old.now.words) refl (units_fit w c.args.self.now c.args.t none) in
-    reply_refused size w memory c.args.self.now old c.args.self.now.number there ready c.args.t c.in-Err.refusal
-    (refused_by_tables size w memory c.args.self.now old c.args.self.now.number there ready c.args.t none more c.args.frames (sym frames ∙ ready.frames) c.in-Err.refusal found)
+    let found : Some c.in-Err.refusal ≡ refusal_by_tables c.args.frames c.args.pool.now (reads old.now.words) =
+    sym (ap refusal_in c.in-Err.is) ∙ c.in_ok-added.ensures.refusal t (reads old.now.words) refl (units_fit w held c.args.t none) ∙ ap (λ at. refusal_by_tables c.args.frames at (reads old.now.words)) c.as_slice.ensures.puddles in
+    reply_refused size w memory held old held.number its.there ready c.args.t c.in-Err.refusal
+    (refused_by_tables size w memory held old held.number its.there ready c.args.t none more c.args.frames (sym its.frames ∙ ready.frames) c.args.pool.now its.known c.in-Err.refusal found)
 
 pub returns-in-Err-clause-applies : goal.returns-in-Err-clause-applies
-returns-in-Err-clause-applies g c = λ t size e w memory frames there ready none more.
+returns-in-Err-clause-applies g c = λ t size e w memory its ready none more.
+    let held = c.args.self.now in
     let old = g.H.Host.state c.args.h.now in
-    let found : Some c.in-Err.refusal ≡ refusal_by_tables c.args.frames c.args.self.now (reads old.now.words) =
-    sym (ap refusal_in c.in-Err.is) ∙ c.in_ok-added.ensures.refusal t (reads old.now.words) refl (units_fit w c.args.self.now c.args.t none) in
-    new_refused size w memory c.args.self.now old c.args.self.now.number there ready c.args.t c.in-Err.refusal _
-    (refused_by_tables size w memory c.args.self.now old c.args.self.now.number there ready c.args.t none more c.args.frames (sym frames ∙ ready.frames) c.in-Err.refusal found) (c.in_ok-added.ensures.only_reads.stays t)
+    let found : Some c.in-Err.refusal ≡ refusal_by_tables c.args.frames c.args.pool.now (reads old.now.words) =
+    sym (ap refusal_in c.in-Err.is) ∙ c.in_ok-added.ensures.refusal t (reads old.now.words) refl (units_fit w held c.args.t none) ∙ ap (λ at. refusal_by_tables c.args.frames at (reads old.now.words)) c.as_slice.ensures.puddles in
+    new_refused size w memory held old held.number its.there ready c.args.t c.in-Err.refusal c.args.pool.now _ its.known
+    (refused_by_tables size w memory held old held.number its.there ready c.args.t none more c.args.frames (sym its.frames ∙ ready.frames) c.args.pool.now its.known c.in-Err.refusal found) (c.in_ok-added.ensures.only_reads.stays t)
 
 pub returns-in_err-grow-clause-applies : goal.returns-in_err-grow-clause-applies
 returns-in_err-grow-clause-applies g c =
     let p = err_from_is_err_and c.from_residual-in_err-grow.result c.from_residual-in_err-grow.ensures.1 in
-    rw (p.1, p.2) (λ t size e w memory frames there ready none more.
+    rw (p.1, p.2) (λ t size e w memory its ready none more.
+    let held = c.args.self.now in
     let old = g.H.Host.state c.args.h.now in
     let same : size ≡ (g.H.Host.counts c.find_growth.new.h).size = still_size c.in_ok-added.ensures.only_reads e in
-    let found : None ≡ refusal_by_tables c.args.frames c.args.self.now (reads old.now.words) =
-    sym (ap refusal_in c.in-Ok.is) ∙ c.in_ok-added.ensures.refusal t (reads old.now.words) refl (units_fit w c.args.self.now c.args.t none) in
-    let by = subst (λ found. IfOk found (GrowsBy c.args.frames c.args.self.now (reads old.now.words))) c.in-Ok.is (c.in_ok-added.ensures.growth t (reads old.now.words) refl) in
-    new_ungrown size w memory c.args.self.now old c.args.self.now.number there ready c.args.t none more c.args.frames (sym frames ∙ ready.frames) found c.in-Ok.added by c.grow.new.self c.in_err-grow.field-0.0 _ _ (c.in_ok-added.ensures.only_reads.stays t)
-    (λ ready_then may. c.in_err-grow.ensures.grows t size same w memory frames there ready_then may))
+    let found : None ≡ refusal_by_tables c.args.frames c.args.pool.now (reads old.now.words) =
+    sym (ap refusal_in c.in-Ok.is) ∙ c.in_ok-added.ensures.refusal t (reads old.now.words) refl (units_fit w held c.args.t none) ∙ ap (λ at. refusal_by_tables c.args.frames at (reads old.now.words)) c.as_slice.ensures.puddles in
+    let by = subst (λ at. GrowsBy c.args.frames held.slot at (reads old.now.words) c.in-Ok.added) c.as_slice.ensures.puddles
+    (subst (λ found. IfOk found (GrowsBy c.args.frames held.slot c.as_slice.result.now (reads old.now.words))) c.in-Ok.is (c.in_ok-added.ensures.growth t (reads old.now.words) refl)) in
+    new_ungrown size w memory held old held.number its.there ready c.args.t none more c.args.frames (sym its.frames ∙ ready.frames) c.args.pool.now its.known found c.in-Ok.added by c.grow.new.pool c.in_err-grow.field-0.0 _ _
+    (c.in_ok-added.ensures.only_reads.stays t) (λ ready_then may. c.in_err-grow.ensures.grows t size same w memory its ready_then may))
 
 pub returns-in_err-serial-clause-applies : goal.returns-in_err-serial-clause-applies
 returns-in_err-serial-clause-applies g c =
     let p = err_from_is_err_and c.from_residual-in_err-serial.result c.from_residual-in_err-serial.ensures.1 in
-    rw (p.1, p.2) (λ t size e w memory frames there ready none more.
+    rw (p.1, p.2) (λ t size e w memory its ready none more.
+    let held = c.args.self.now in
     let old = g.H.Host.state c.args.h.now in
     let same : size ≡ (g.H.Host.counts c.find_growth.new.h).size = still_size c.in_ok-added.ensures.only_reads e in
-    let found : None ≡ refusal_by_tables c.args.frames c.args.self.now (reads old.now.words) =
-    sym (ap refusal_in c.in-Ok.is) ∙ c.in_ok-added.ensures.refusal t (reads old.now.words) refl (units_fit w c.args.self.now c.args.t none) in
-    let by = subst (λ found. IfOk found (GrowsBy c.args.frames c.args.self.now (reads old.now.words))) c.in-Ok.is (c.in_ok-added.ensures.growth t (reads old.now.words) refl) in
-    new_in_more size w memory c.args.self.now old c.args.self.now.number there ready c.args.t none more c.args.frames (sym frames ∙ ready.frames) found c.in-Ok.added by c.grow.new.self c.in_ok-grow.ensures.stays.name c.in_ok-grow.ensures.tx c.in_ok-grow.ensures.stays.number _ _ (c.in_ok-added.ensures.only_reads.stays t)
-    (λ ready_then may. c.in_ok-grow.ensures.grows t size same w memory frames there ready_then may)
+    let found : None ≡ refusal_by_tables c.args.frames c.args.pool.now (reads old.now.words) =
+    sym (ap refusal_in c.in-Ok.is) ∙ c.in_ok-added.ensures.refusal t (reads old.now.words) refl (units_fit w held c.args.t none) ∙ ap (λ at. refusal_by_tables c.args.frames at (reads old.now.words)) c.as_slice.ensures.puddles in
+    let by = subst (λ at. GrowsBy c.args.frames held.slot at (reads old.now.words) c.in-Ok.added) c.as_slice.ensures.puddles
+    (subst (λ found. IfOk found (GrowsBy c.args.frames held.slot c.as_slice.result.now (reads old.now.words))) c.in-Ok.is (c.in_ok-added.ensures.growth t (reads old.now.words) refl)) in
+    let then = held_then size w memory held old held.number its.there ready c.args.t none more c.args.frames (sym its.frames ∙ ready.frames) c.args.pool.now its.known found c.in-Ok.added by c.grow.new.pool _ _ (c.in_ok-added.ensures.only_reads.stays t) (λ ready_then may. c.in_ok-grow.ensures.grows t size same w memory its ready_then may) in
+    new_in_more size w memory held old held.number its.there ready c.args.t none more c.args.frames (sym its.frames ∙ ready.frames) c.args.pool.now its.known found c.in-Ok.added by c.grow.new.pool _ _ (c.in_ok-added.ensures.only_reads.stays t)
+    (λ ready_then may. c.in_ok-grow.ensures.grows t size same w memory its ready_then may)
     c.make.new.self (Some c.in_err-serial.field-0.0) _
-    (λ ready_grown refused less. c.in_err-serial.ensures.makes t size (with_more c.args.self.now.name w) (memory_with size w memory c.args.self.now old c.args.self.now.number there ready c.args.t c.grow.new.self) frames (now_there size w memory c.args.self.now old c.args.self.now.number there ready c.args.t c.grow.new.self c.in_ok-grow.ensures.stays.number) ready_grown refused less))
+    (λ ready_grown refused less. c.in_err-serial.ensures.makes t size (with_more held.name w) (memory_with size w memory held old held.number its.there ready c.args.t held c.grow.new.pool) (subst (λ at. IsHeldIn c.args.frames held at (memory_with size w memory held old held.number its.there ready c.args.t held c.grow.new.pool)) (sym c.as_slice-2.ensures.puddles) (with_frames its.frames then)) ready_grown refused less))
 
 pub returns-clause-reply : goal.returns-clause-reply
-returns-clause-reply g c = λ t size e w memory frames there ready none more.
+returns-clause-reply g c = λ t size e w memory its ready none more.
+    let held = c.args.self.now in
     let old = g.H.Host.state c.args.h.now in
     let same : size ≡ (g.H.Host.counts c.find_growth.new.h).size = still_size c.in_ok-added.ensures.only_reads e in
-    let found : None ≡ refusal_by_tables c.args.frames c.args.self.now (reads old.now.words) =
-    sym (ap refusal_in c.in-Ok.is) ∙ c.in_ok-added.ensures.refusal t (reads old.now.words) refl (units_fit w c.args.self.now c.args.t none) in
-    let by = subst (λ found. IfOk found (GrowsBy c.args.frames c.args.self.now (reads old.now.words))) c.in-Ok.is (c.in_ok-added.ensures.growth t (reads old.now.words) refl) in
-    reply_in_more size w memory c.args.self.now old c.args.self.now.number there ready c.args.t none more c.args.frames (sym frames ∙ ready.frames) found c.in-Ok.added by c.grow.new.self c.in_ok-grow.ensures.stays.name c.in_ok-grow.ensures.tx c.in_ok-grow.ensures.stays.number _ _ (c.in_ok-added.ensures.only_reads.stays t)
-    (λ ready_then may. c.in_ok-grow.ensures.grows t size same w memory frames there ready_then may)
+    let found : None ≡ refusal_by_tables c.args.frames c.args.pool.now (reads old.now.words) =
+    sym (ap refusal_in c.in-Ok.is) ∙ c.in_ok-added.ensures.refusal t (reads old.now.words) refl (units_fit w held c.args.t none) ∙ ap (λ at. refusal_by_tables c.args.frames at (reads old.now.words)) c.as_slice.ensures.puddles in
+    let by = subst (λ at. GrowsBy c.args.frames held.slot at (reads old.now.words) c.in-Ok.added) c.as_slice.ensures.puddles
+    (subst (λ found. IfOk found (GrowsBy c.args.frames held.slot c.as_slice.result.now (reads old.now.words))) c.in-Ok.is (c.in_ok-added.ensures.growth t (reads old.now.words) refl)) in
+    let then = held_then size w memory held old held.number its.there ready c.args.t none more c.args.frames (sym its.frames ∙ ready.frames) c.args.pool.now its.known found c.in-Ok.added by c.grow.new.pool _ _ (c.in_ok-added.ensures.only_reads.stays t) (λ ready_then may. c.in_ok-grow.ensures.grows t size same w memory its ready_then may) in
+    reply_in_more size w memory held old held.number its.there ready c.args.t none more c.args.frames (sym its.frames ∙ ready.frames) c.args.pool.now its.known found c.in-Ok.added by c.grow.new.pool _ _ (c.in_ok-added.ensures.only_reads.stays t)
+    (λ ready_then may. c.in_ok-grow.ensures.grows t size same w memory its ready_then may)
     c.in_ok-serial.serial
-    (λ ready_grown less. c.in_ok-serial.ensures.serial t size (with_more c.args.self.now.name w) (memory_with size w memory c.args.self.now old c.args.self.now.number there ready c.args.t c.grow.new.self) frames (now_there size w memory c.args.self.now old c.args.self.now.number there ready c.args.t c.grow.new.self c.in_ok-grow.ensures.stays.number) ready_grown less)
+    (λ ready_grown less. c.in_ok-serial.ensures.serial t size (with_more held.name w) (memory_with size w memory held old held.number its.there ready c.args.t held c.grow.new.pool) (subst (λ at. IsHeldIn c.args.frames held at (memory_with size w memory held old held.number its.there ready c.args.t held c.grow.new.pool)) (sym c.as_slice-2.ensures.puddles) (with_frames its.frames then)) ready_grown less)
 
 pub returns-clause-applies : goal.returns-clause-applies
-returns-clause-applies g c = λ t size e w memory frames there ready none more.
+returns-clause-applies g c = λ t size e w memory its ready none more.
+    let held = c.args.self.now in
     let old = g.H.Host.state c.args.h.now in
     let same : size ≡ (g.H.Host.counts c.find_growth.new.h).size = still_size c.in_ok-added.ensures.only_reads e in
-    let found : None ≡ refusal_by_tables c.args.frames c.args.self.now (reads old.now.words) =
-    sym (ap refusal_in c.in-Ok.is) ∙ c.in_ok-added.ensures.refusal t (reads old.now.words) refl (units_fit w c.args.self.now c.args.t none) in
-    let by = subst (λ found. IfOk found (GrowsBy c.args.frames c.args.self.now (reads old.now.words))) c.in-Ok.is (c.in_ok-added.ensures.growth t (reads old.now.words) refl) in
-    new_in_more size w memory c.args.self.now old c.args.self.now.number there ready c.args.t none more c.args.frames (sym frames ∙ ready.frames) found c.in-Ok.added by c.grow.new.self c.in_ok-grow.ensures.stays.name c.in_ok-grow.ensures.tx c.in_ok-grow.ensures.stays.number _ _ (c.in_ok-added.ensures.only_reads.stays t)
-    (λ ready_then may. c.in_ok-grow.ensures.grows t size same w memory frames there ready_then may)
+    let found : None ≡ refusal_by_tables c.args.frames c.args.pool.now (reads old.now.words) =
+    sym (ap refusal_in c.in-Ok.is) ∙ c.in_ok-added.ensures.refusal t (reads old.now.words) refl (units_fit w held c.args.t none) ∙ ap (λ at. refusal_by_tables c.args.frames at (reads old.now.words)) c.as_slice.ensures.puddles in
+    let by = subst (λ at. GrowsBy c.args.frames held.slot at (reads old.now.words) c.in-Ok.added) c.as_slice.ensures.puddles
+    (subst (λ found. IfOk found (GrowsBy c.args.frames held.slot c.as_slice.result.now (reads old.now.words))) c.in-Ok.is (c.in_ok-added.ensures.growth t (reads old.now.words) refl)) in
+    let then = held_then size w memory held old held.number its.there ready c.args.t none more c.args.frames (sym its.frames ∙ ready.frames) c.args.pool.now its.known found c.in-Ok.added by c.grow.new.pool _ _ (c.in_ok-added.ensures.only_reads.stays t) (λ ready_then may. c.in_ok-grow.ensures.grows t size same w memory its ready_then may) in
+    new_in_more size w memory held old held.number its.there ready c.args.t none more c.args.frames (sym its.frames ∙ ready.frames) c.args.pool.now its.known found c.in-Ok.added by c.grow.new.pool _ _ (c.in_ok-added.ensures.only_reads.stays t)
+    (λ ready_then may. c.in_ok-grow.ensures.grows t size same w memory its ready_then may)
     c.make.new.self None _
-    (λ ready_grown refused less. c.in_ok-serial.ensures.makes t size (with_more c.args.self.now.name w) (memory_with size w memory c.args.self.now old c.args.self.now.number there ready c.args.t c.grow.new.self) frames (now_there size w memory c.args.self.now old c.args.self.now.number there ready c.args.t c.grow.new.self c.in_ok-grow.ensures.stays.number) ready_grown refused less)
+    (λ ready_grown refused less. c.in_ok-serial.ensures.makes t size (with_more held.name w) (memory_with size w memory held old held.number its.there ready c.args.t held c.grow.new.pool) (subst (λ at. IsHeldIn c.args.frames held at (memory_with size w memory held old held.number its.there ready c.args.t held c.grow.new.pool)) (sym c.as_slice-2.ensures.puddles) (with_frames its.frames then)) ready_grown refused less)

@@ -7,9 +7,10 @@ use Rattle.pm_model.specs.Words.{reads}
 use Rattle.pud_defs.specs.declared.machine.Command.TheVariants.{New}
 use Rattle.pud_defs.specs.Step.{grows, answer_by, world_by}
 use Rattle.pud_defs.specs.Step.Answer.{of_reply}
-use Rattle.ready_daemon.specs.Memory.{Held, held_under, with_held}
-use Rattle.pool_transaction.specs.Changing.{refusal_by_world}
+use Rattle.ready_daemon.specs.Memory.{Held}
+use Rattle.pool_transaction.specs.Changing.{IsHeldIn, with_opened, refusal_by_world}
 use Rattle.ready_daemon.specs.Ready.{IsReady, Applies}
+use Rattle.ready_daemon.proofs.InTurn.{held_known}
 use Rattle.pool_transaction.proofs.HeldNew.{refusal_found, refused_whatever}
 use Rattle.pool_transaction.proofs.HeldLines.{new_failed, new_refused, reply_refused, new_made, reply_made, new_unmade, was_free, was_full}
 use Rattle.pool_transaction.proofs.opened.Opened.new_object.Goals as goal
@@ -18,87 +19,91 @@ use Rattle.pm_model.proofs.Reading.{still_size}
 pub returns-in_err-refusal-clause-applies : goal.returns-in_err-refusal-clause-applies
 returns-in_err-refusal-clause-applies g c =
     let p = err_from_is_err_and c.from_residual.result c.from_residual.ensures.1 in
-    rw (p.1, p.2) (λ t size e w memory frames there ready.
-    new_failed size w memory c.args.self.now (g.H.Host.state c.args.h.now) c.args.self.now.number there ready c.args.t c.args.self.now c.in_err-refusal.field-0.0 _ (c.in_err-refusal.ensures.only_reads.stays t) c.in_err-refusal.ensures.only_reads.never_cut)
+    rw (p.1, p.2) (λ t size e w memory its ready.
+    new_failed size w memory c.args.self.now (g.H.Host.state c.args.h.now) c.args.self.now.number its.there ready c.args.t c.args.self.now c.args.pool.now c.in_err-refusal.field-0.0 _ (c.in_err-refusal.ensures.only_reads.stays t) c.in_err-refusal.ensures.only_reads.never_cut)
 
 pub returns-in-Some-clause-reply : goal.returns-in-Some-clause-reply
-returns-in-Some-clause-reply g c = λ t size e w memory frames there ready.
+returns-in-Some-clause-reply g c = λ t size e w memory its ready.
     let old = g.H.Host.state c.args.h.now in
     let held = c.args.self.now in
     let by_world =
-    refusal_found size w memory held old held.number there ready c.args.t c.args.frames (sym frames ∙ ready.frames) c.in_ok-refusal.field-0 (Some c.in-Some.refusal) (c.in_ok-refusal.ensures.refusal t (reads old.now.words) refl) c.in-Some.is in
-    reply_refused size w memory held old held.number there ready c.args.t c.in-Some.refusal (refused_whatever size w memory held old held.number there ready c.args.t c.in-Some.refusal by_world)
+    refusal_found size w memory held old held.number its.there ready c.args.t c.args.frames (sym its.frames ∙ ready.frames) c.as_slice.result.now (c.as_slice.ensures.puddles ∙ sym (held_known size w memory _ ready c.args.self.now.number c.args.self.now its.there c.args.pool.now its.known)) c.in_ok-refusal.field-0 (Some c.in-Some.refusal) (c.in_ok-refusal.ensures.refusal t (reads old.now.words) refl) c.in-Some.is in
+    reply_refused size w memory held old held.number its.there ready c.args.t c.in-Some.refusal (refused_whatever size w memory held old held.number its.there ready c.args.t c.in-Some.refusal by_world)
 
 pub returns-in-Some-clause-applies : goal.returns-in-Some-clause-applies
-returns-in-Some-clause-applies g c = λ t size e w memory frames there ready.
+returns-in-Some-clause-applies g c = λ t size e w memory its ready.
     let old = g.H.Host.state c.args.h.now in
     let held = c.args.self.now in
     let by_world =
-    refusal_found size w memory held old held.number there ready c.args.t c.args.frames (sym frames ∙ ready.frames) c.in_ok-refusal.field-0 (Some c.in-Some.refusal) (c.in_ok-refusal.ensures.refusal t (reads old.now.words) refl) c.in-Some.is in
-    new_refused size w memory held old held.number there ready c.args.t c.in-Some.refusal _ (refused_whatever size w memory held old held.number there ready c.args.t c.in-Some.refusal by_world) (c.in_ok-refusal.ensures.only_reads.stays t)
+    refusal_found size w memory held old held.number its.there ready c.args.t c.args.frames (sym its.frames ∙ ready.frames) c.as_slice.result.now (c.as_slice.ensures.puddles ∙ sym (held_known size w memory _ ready c.args.self.now.number c.args.self.now its.there c.args.pool.now its.known)) c.in_ok-refusal.field-0 (Some c.in-Some.refusal) (c.in_ok-refusal.ensures.refusal t (reads old.now.words) refl) c.in-Some.is in
+    new_refused size w memory held old held.number its.there ready c.args.t c.in-Some.refusal c.args.pool.now _ its.known (refused_whatever size w memory held old held.number its.there ready c.args.t c.in-Some.refusal by_world) (c.in_ok-refusal.ensures.only_reads.stays t)
 
 pub returns-in_err-serial-clause-applies : goal.returns-in_err-serial-clause-applies
 returns-in_err-serial-clause-applies g c =
     let p = err_from_is_err_and c.from_residual-in_err-serial.result c.from_residual-in_err-serial.ensures.1 in
-    rw (p.1, p.2) (λ t size e w memory frames there ready.
+    rw (p.1, p.2) (λ t size e w memory its ready.
     let old = g.H.Host.state c.args.h.now in
     let held = c.args.self.now in
     let start = g.H.Host.state c.find_refusal_to_make.new.h in
     let new = g.H.Host.state c.make.new.h in
     let still = c.in_ok-refusal.ensures.only_reads.stays t in
     let none =
-    refusal_found size w memory held old held.number there ready c.args.t c.args.frames (sym frames ∙ ready.frames) c.in_ok-refusal.field-0 None (c.in_ok-refusal.ensures.refusal t (reads old.now.words) refl) c.in_default.is in
+    refusal_found size w memory held old held.number its.there ready c.args.t c.args.frames (sym its.frames ∙ ready.frames) c.as_slice.result.now (c.as_slice.ensures.puddles ∙ sym (held_known size w memory _ ready c.args.self.now.number c.args.self.now its.there c.args.pool.now its.known)) c.in_ok-refusal.field-0 None (c.in_ok-refusal.ensures.refusal t (reads old.now.words) refl) c.in_default.is in
     let then = subst (λ (s : State). IsReady size w memory s) (sym still) ready in
-    subst (λ (s : State). Applies size w (world_by w (Some (New held.client held.name c.args.t))) (with_held held.number (Some c.make.new.self) memory) (Some c.in_err-serial.field-0.0) s new) still
-    (new_unmade size w memory held start held.number there then c.args.t none c.make.new.self c.in_err-serial.field-0.0 new
-    (λ less. c.in_err-serial.ensures.makes t size w memory frames there then none less)
-    (λ more. (c.in_err-serial.ensures.full t size w memory frames there then more).1)
+    let slice = subst (λ at. IsHeldIn c.args.frames c.args.self.now at memory) (sym c.as_slice-2.ensures.puddles) its in
+    subst (λ (s : State). Applies size w (world_by w (Some (New held.client held.name c.args.t))) (with_opened held.number held.slot c.make.new.self c.args.pool.now memory) (Some c.in_err-serial.field-0.0) s new) still
+    (new_unmade size w memory held start held.number its.there then c.args.t none c.make.new.self c.args.pool.now c.in_err-serial.field-0.0 new its.known
+    (λ less. c.in_err-serial.ensures.makes t size w memory slice then none less)
+    (λ more. (c.in_err-serial.ensures.full t size w memory slice then more).1)
     (c.in_err-serial.ensures.rests t)))
 
 pub returns-then-serial-gt0-clause-reply : goal.returns-then-serial-gt0-clause-reply
-returns-then-serial-gt0-clause-reply g c = λ t size e w memory frames there ready.
+returns-then-serial-gt0-clause-reply g c = λ t size e w memory its ready.
     let old = g.H.Host.state c.args.h.now in
     let held = c.args.self.now in
     let start = g.H.Host.state c.find_refusal_to_make.new.h in
     let none =
-    refusal_found size w memory held old held.number there ready c.args.t c.args.frames (sym frames ∙ ready.frames) c.in_ok-refusal.field-0 None (c.in_ok-refusal.ensures.refusal t (reads old.now.words) refl) c.in_default.is in
+    refusal_found size w memory held old held.number its.there ready c.args.t c.args.frames (sym its.frames ∙ ready.frames) c.as_slice.result.now (c.as_slice.ensures.puddles ∙ sym (held_known size w memory _ ready c.args.self.now.number c.args.self.now its.there c.args.pool.now its.known)) c.in_ok-refusal.field-0 None (c.in_ok-refusal.ensures.refusal t (reads old.now.words) refl) c.in_default.is in
     let then = subst (λ (s : State). IsReady size w memory s) (sym (c.in_ok-refusal.ensures.only_reads.stays t)) ready in
-    let less = was_free size w memory held start held.number there then c.args.t none c.in_ok-serial.serial c.if-serial-gt0.true (λ more. (c.in_ok-serial.ensures.full t size w memory frames there then more).0) in
-    reply_made size w memory held start held.number there then c.args.t none c.in_ok-serial.serial less (c.in_ok-serial.ensures.serial t size w memory frames there then less)
+    let slice = subst (λ at. IsHeldIn c.args.frames c.args.self.now at memory) (sym c.as_slice-2.ensures.puddles) its in
+    let less = was_free size w memory held start held.number its.there then c.args.t none c.in_ok-serial.serial c.if-serial-gt0.true (λ more. (c.in_ok-serial.ensures.full t size w memory slice then more).0) in
+    reply_made size w memory held start held.number its.there then c.args.t none c.in_ok-serial.serial less (c.in_ok-serial.ensures.serial t size w memory slice then less)
 
 pub returns-then-serial-gt0-clause-applies : goal.returns-then-serial-gt0-clause-applies
-returns-then-serial-gt0-clause-applies g c = λ t size e w memory frames there ready.
+returns-then-serial-gt0-clause-applies g c = λ t size e w memory its ready.
     let old = g.H.Host.state c.args.h.now in
     let held = c.args.self.now in
     let start = g.H.Host.state c.find_refusal_to_make.new.h in
     let new = g.H.Host.state c.make.new.h in
     let still = c.in_ok-refusal.ensures.only_reads.stays t in
     let none =
-    refusal_found size w memory held old held.number there ready c.args.t c.args.frames (sym frames ∙ ready.frames) c.in_ok-refusal.field-0 None (c.in_ok-refusal.ensures.refusal t (reads old.now.words) refl) c.in_default.is in
+    refusal_found size w memory held old held.number its.there ready c.args.t c.args.frames (sym its.frames ∙ ready.frames) c.as_slice.result.now (c.as_slice.ensures.puddles ∙ sym (held_known size w memory _ ready c.args.self.now.number c.args.self.now its.there c.args.pool.now its.known)) c.in_ok-refusal.field-0 None (c.in_ok-refusal.ensures.refusal t (reads old.now.words) refl) c.in_default.is in
     let then = subst (λ (s : State). IsReady size w memory s) (sym still) ready in
-    let less = was_free size w memory held start held.number there then c.args.t none c.in_ok-serial.serial c.if-serial-gt0.true (λ more. (c.in_ok-serial.ensures.full t size w memory frames there then more).0) in
-    subst (λ (s : State). Applies size w (world_by w (Some (New held.client held.name c.args.t))) (with_held held.number (Some c.make.new.self) memory) None s new) still
-    (new_made size w memory held start held.number there then c.args.t none c.make.new.self None new less (c.in_ok-serial.ensures.makes t size w memory frames there then none less))
+    let slice = subst (λ at. IsHeldIn c.args.frames c.args.self.now at memory) (sym c.as_slice-2.ensures.puddles) its in
+    let less = was_free size w memory held start held.number its.there then c.args.t none c.in_ok-serial.serial c.if-serial-gt0.true (λ more. (c.in_ok-serial.ensures.full t size w memory slice then more).0) in
+    subst (λ (s : State). Applies size w (world_by w (Some (New held.client held.name c.args.t))) (with_opened held.number held.slot c.make.new.self c.args.pool.now memory) None s new) still
+    (new_made size w memory held start held.number its.there then c.args.t none c.make.new.self c.args.pool.now None new its.known less (c.in_ok-serial.ensures.makes t size w memory slice then none less))
 
 pub returns-clause-reply : goal.returns-clause-reply
-returns-clause-reply g c = λ t size e w memory frames there ready.
+returns-clause-reply g c = λ t size e w memory its ready.
     let old = g.H.Host.state c.args.h.now in
     let held = c.args.self.now in
     let start = g.H.Host.state c.find_refusal_to_make.new.h in
     let mid = g.H.Host.state c.make.new.h in
     let none =
-    refusal_found size w memory held old held.number there ready c.args.t c.args.frames (sym frames ∙ ready.frames) c.in_ok-refusal.field-0 None (c.in_ok-refusal.ensures.refusal t (reads old.now.words) refl) c.in_default.is in
+    refusal_found size w memory held old held.number its.there ready c.args.t c.args.frames (sym its.frames ∙ ready.frames) c.as_slice.result.now (c.as_slice.ensures.puddles ∙ sym (held_known size w memory _ ready c.args.self.now.number c.args.self.now its.there c.args.pool.now its.known)) c.in_ok-refusal.field-0 None (c.in_ok-refusal.ensures.refusal t (reads old.now.words) refl) c.in_default.is in
     let then = subst (λ (s : State). IsReady size w memory s) (sym (c.in_ok-refusal.ensures.only_reads.stays t)) ready in
-    let more = was_full size w memory held start held.number there then c.args.t none c.in_ok-serial.serial c.if-serial-gt0.false (λ less. c.in_ok-serial.ensures.serial t size w memory frames there then less) in
-    let full = c.in_ok-serial.ensures.full t size w memory frames there then more in
+    let slice = subst (λ at. IsHeldIn c.args.frames c.args.self.now at memory) (sym c.as_slice-2.ensures.puddles) its in
+    let more = was_full size w memory held start held.number its.there then c.args.t none c.in_ok-serial.serial c.if-serial-gt0.false (λ less. c.in_ok-serial.ensures.serial t size w memory slice then less) in
+    let full = c.in_ok-serial.ensures.full t size w memory slice then more in
     let after = subst (λ (s : State). IsReady size w memory s) (sym full.1) then in
     let same : size ≡ (g.H.Host.counts c.make.new.h).size =
     still_size c.in_ok-refusal.ensures.only_reads e ∙ sym (ap (λ (n : Counts). n.size) c.in_ok-serial.ensures.cause) in
-    subst (λ (o : Held). held_under memory.held o.number ≡ Some o → refusal_by_world w o c.args.t ≡ None → grows w o.name ≡ true → IfOk c.make_in_more.result (λ reply. of_reply reply ≡ answer_by w (Some (New o.client o.name c.args.t)))) full.2
-    (λ there none more. c.make_in_more.ensures.reply t size same w memory frames there after none more) there none more
+    subst (λ (o : Held). IsHeldIn c.args.frames o c.args.pool.now memory → refusal_by_world w o c.args.t ≡ None → grows w o.name ≡ true → IfOk c.make_in_more.result (λ reply. of_reply reply ≡ answer_by w (Some (New o.client o.name c.args.t)))) full.2
+    (λ its none more. c.make_in_more.ensures.reply t size same w memory its after none more) its none more
 
 pub returns-clause-applies : goal.returns-clause-applies
-returns-clause-applies g c = λ t size e w memory frames there ready.
+returns-clause-applies g c = λ t size e w memory its ready.
     let old = g.H.Host.state c.args.h.now in
     let held = c.args.self.now in
     let start = g.H.Host.state c.find_refusal_to_make.new.h in
@@ -106,14 +111,15 @@ returns-clause-applies g c = λ t size e w memory frames there ready.
     let new = g.H.Host.state c.make_in_more.new.h in
     let still = c.in_ok-refusal.ensures.only_reads.stays t in
     let none =
-    refusal_found size w memory held old held.number there ready c.args.t c.args.frames (sym frames ∙ ready.frames) c.in_ok-refusal.field-0 None (c.in_ok-refusal.ensures.refusal t (reads old.now.words) refl) c.in_default.is in
+    refusal_found size w memory held old held.number its.there ready c.args.t c.args.frames (sym its.frames ∙ ready.frames) c.as_slice.result.now (c.as_slice.ensures.puddles ∙ sym (held_known size w memory _ ready c.args.self.now.number c.args.self.now its.there c.args.pool.now its.known)) c.in_ok-refusal.field-0 None (c.in_ok-refusal.ensures.refusal t (reads old.now.words) refl) c.in_default.is in
     let then = subst (λ (s : State). IsReady size w memory s) (sym still) ready in
-    let more = was_full size w memory held start held.number there then c.args.t none c.in_ok-serial.serial c.if-serial-gt0.false (λ less. c.in_ok-serial.ensures.serial t size w memory frames there then less) in
-    let full = c.in_ok-serial.ensures.full t size w memory frames there then more in
+    let slice = subst (λ at. IsHeldIn c.args.frames c.args.self.now at memory) (sym c.as_slice-2.ensures.puddles) its in
+    let more = was_full size w memory held start held.number its.there then c.args.t none c.in_ok-serial.serial c.if-serial-gt0.false (λ less. c.in_ok-serial.ensures.serial t size w memory slice then less) in
+    let full = c.in_ok-serial.ensures.full t size w memory slice then more in
     let after = subst (λ (s : State). IsReady size w memory s) (sym full.1) then in
     let same : size ≡ (g.H.Host.counts c.make.new.h).size =
     still_size c.in_ok-refusal.ensures.only_reads e ∙ sym (ap (λ (n : Counts). n.size) c.in_ok-serial.ensures.cause) in
-    subst (λ (s : State). Applies size w (world_by w (Some (New held.client held.name c.args.t))) (with_held held.number (Some c.make_in_more.new.self) memory) (fault_of c.make_in_more.result) s new) (full.1 ∙ still)
-    (subst (λ (o : Held). held_under memory.held o.number ≡ Some o → refusal_by_world w o c.args.t ≡ None → grows w o.name ≡ true
-    → Applies size w (world_by w (Some (New o.client o.name c.args.t))) (with_held o.number (Some c.make_in_more.new.self) memory) (fault_of c.make_in_more.result) mid new) full.2
-    (λ there none more. c.make_in_more.ensures.applies t size same w memory frames there after none more) there none more)
+    subst (λ (s : State). Applies size w (world_by w (Some (New held.client held.name c.args.t))) (with_opened held.number held.slot c.make_in_more.new.self c.make_in_more.new.pool memory) (fault_of c.make_in_more.result) s new) (full.1 ∙ still)
+    (subst (λ (o : Held). IsHeldIn c.args.frames o c.args.pool.now memory → refusal_by_world w o c.args.t ≡ None → grows w o.name ≡ true
+    → Applies size w (world_by w (Some (New o.client o.name c.args.t))) (with_opened o.number o.slot c.make_in_more.new.self c.make_in_more.new.pool memory) (fault_of c.make_in_more.result) mid new) full.2
+    (λ its none more. c.make_in_more.ensures.applies t size same w memory its after none more) its none more)

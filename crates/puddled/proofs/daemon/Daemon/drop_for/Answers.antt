@@ -2,7 +2,6 @@ use Rattle.std.proofs.Common.{ℕ, List, Option, Some, None, Result, refl, sym, 
 use Rattle.std.specs.Prelude.{IfOk, set}
 use Rattle.std.proofs.lemmas.Option.{none-some}
 use Rattle.std.proofs.lemmas.Result.{err_from_is_err_and}
-use Rattle.pm_model.specs.Counts.{Counts}
 use Rattle.pm_model.specs.Words.{reads}
 use Rattle.pm_model.specs.Moments.{State}
 use Rattle.pud_defs.specs.declared.machine.Command.TheVariants as commands

@@ -45,7 +45,7 @@ returns-in-Ok-dump_json-clause-carries g c = λ t size e w ready.
     let line = Dump c.args.client c.args.name in
     let image = reads s.now.words in
     let here = finds size w needs.Read c.args.client c.args.name c.args.self.now now _ s _ c.in-Ok.found c.in-Ok.is (k.only_reads.stays t) k.sessions (k.ready t size w ready) (k.refusal t size w ready) (k.found t size w ready) k.whose in
-    let holds = holds_found size w now _ here.ready c.args.client c.args.name c.in-Ok.found c.puddles_of.result.now here.is c.puddles_of.ensures.own c.puddles_of.ensures.known in
+    let holds = holds_found size w now _ here.ready c.args.client c.args.name c.in-Ok.found c.puddles_of.result.now here.is c.puddles_of.ensures.known in
     let on = ap (λ (m : Memory). m.frames) c.self.view_is ∙ here.ready.frames in
     let is = c.new.ensures ∙ c.in-Ok-dump_json.ensures.text t image refl holds.graph (ap (λ F. graph_of (types_of image) (stored_in F c.puddles_of.result.now image)) on ∙ holds.stored) in
     CarriesOut-read size w now line refl (dump_is_plain c.args.client c.args.name) _ _ _ _ (k.ready t size w ready)

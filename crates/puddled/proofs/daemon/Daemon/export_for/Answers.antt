@@ -19,7 +19,7 @@ use Rattle.ready_daemon.specs.Memory.{Memory}
 use Rattle.ready_daemon.specs.Judged.{known_in}
 use Rattle.ready_daemon.specs.Owning.{refusal_found}
 use Rattle.puddled.proofs.FileLines.{memory_of-export, export_unread, export_open, export_free, refused_step, some_step, export_is_plain, CarriesOut-read}
-use Rattle.puddled.proofs.Found.{finds}
+use Rattle.puddled.proofs.Found.{finds, its_number, no_number}
 use Rattle.puddled.proofs.ExportLines.{own_is_open, stored_found, CarriesOut-written, HoldsOneOf-written}
 use Rattle.puddled.proofs.daemon.Daemon.export_for.Goals as goal
 
@@ -41,16 +41,17 @@ returns-in-Err-clause-carries g c = λ t size e w ready.
     CarriesOut-read size w c.find_pool.new.self line refl (export_is_plain c.args.client c.args.name c.args.file) _ _ _ _ (k.ready t size w ready)
     (of_reply (replies.No c.in-Err.refusal)) (Ok (answers.Reply (replies.No c.in-Err.refusal))) (refused_step w line c.in-Err.refusal refused) refl tt (λ cut. cc) (k.only_reads.stays t) k.only_reads.cause
 
-pub returns-then-found-clause-carries : goal.returns-then-found-clause-carries
-returns-then-found-clause-carries g c = λ t size e w ready.
+pub returns-then-is_some-clause-carries : goal.returns-then-is_some-clause-carries
+returns-then-is_some-clause-carries g c = λ t size e w ready.
     let k = c.in_ok-refusal.ensures in
     let now = c.find_pool.new.self in
     let line = Export c.args.client c.args.name c.args.file in
     let here = finds size w needs.Read c.args.client c.args.name c.args.self.now now _ _ _ c.in-Ok.found c.in-Ok.is refl k.sessions (k.ready t size w ready) (k.refusal t size w ready) (k.found t size w ready) k.whose in
-    let mine = here.is.own c.if-found.true in
-    let own = own_is_open size w now _ here.ready c.args.client c.args.name mine.0 mine.1.own in
+    let mine = its_number c.in-Ok.found.own (sym c.is_some.ensures ∙ c.if-is_some.true) in
+    let own = here.is.own mine.0 mine.1 in
+    let opened = own_is_open size w now _ here.ready c.args.client c.args.name mine.0 own.own in
     CarriesOut-read size w now line refl (export_is_plain c.args.client c.args.name c.args.file) _ _ _ _ here.ready
-    (of_reply (replies.No refusals.OpenHere)) (Ok (answers.Reply (replies.No refusals.OpenHere))) (refused_step w line refusals.OpenHere (export_open w c.args.client c.args.name c.args.file here.free own)) refl tt (λ cut. cc)
+    (of_reply (replies.No refusals.OpenHere)) (Ok (answers.Reply (replies.No refusals.OpenHere))) (refused_step w line refusals.OpenHere (export_open w c.args.client c.args.name c.args.file here.free opened)) refl tt (λ cut. cc)
     (k.only_reads.stays t) k.only_reads.cause
 
 -- ---- the file was to be written
@@ -62,11 +63,11 @@ returns-clause-carries g c = λ t size e w ready.
     let old = g.H.Host.state c.args.h.now in
     let stays = k.only_reads.stays t in
     let here = finds size w needs.Read c.args.client c.args.name c.args.self.now now _ old _ c.in-Ok.found c.in-Ok.is refl k.sessions (k.ready t size w ready) (k.refusal t size w ready) (k.found t size w ready) k.whose in
-    let known = c.puddles-puddles.ensures ∙ ap (λ (m : Memory). unwrap_or (known_in m.judged c.in-Ok.found.slot) []) c.self.view_is in
+    let known = c.puddles-puddles.ensures.puddles ∙ ap (λ (m : Memory). unwrap_or (known_in m.judged c.in-Ok.found.slot) []) c.self.view_is in
     let on = ap (λ (m : Memory). m.frames) c.self.view_is in
     let pool = subst (λ (n : ℕ). IsStoredPool w n c.args.name (reads old.now.words) c.in-Ok.found.number c.puddles-puddles.result.now) (sym on)
-    (subst (λ (at : List (ℕ × Puddle)). IsStoredPool w now.frames c.args.name (reads old.now.words) c.in-Ok.found.number at) (sym known) (stored_found size w c.args.client c.args.name now old c.in-Ok.found here c.if-found.false)) in
-    let free = export_free w c.args.client c.args.name c.args.file here.free (here.is.none c.if-found.false) in
+    (subst (λ (at : List (ℕ × Puddle)). IsStoredPool w now.frames c.args.name (reads old.now.words) c.in-Ok.found.number at) (sym known) (stored_found size w c.args.client c.args.name now old c.in-Ok.found here (no_number c.in-Ok.found.own (sym c.is_some.ensures ∙ c.if-is_some.false)))) in
+    let free = export_free w c.args.client c.args.name c.args.file here.free (here.is.none (no_number c.in-Ok.found.own (sym c.is_some.ensures ∙ c.if-is_some.false))) in
     let written = subst (λ (s : State). IfOk c.write_file-done.result (λ done. HoldsPool c.self.inside.frames c.in-Ok.found.number c.puddles-puddles.result.now pool.graph (reads old.now.words) (name_text c.args.file) s
     (g.H.Host.state c.write_file-done.new.h))) stays
     (c.write_file-done.ensures.written t (reads old.now.words) (still_reads k.only_reads t refl) pool.graph pool.stored pool.exportable) in
@@ -82,11 +83,11 @@ returns-clause-words g c = λ t size w ready.
     let old = g.H.Host.state c.args.h.now in
     let stays = k.only_reads.stays t in
     let here = finds size w needs.Read c.args.client c.args.name c.args.self.now now _ old _ c.in-Ok.found c.in-Ok.is refl k.sessions (k.ready t size w ready) (k.refusal t size w ready) (k.found t size w ready) k.whose in
-    let known = c.puddles-puddles.ensures ∙ ap (λ (m : Memory). unwrap_or (known_in m.judged c.in-Ok.found.slot) []) c.self.view_is in
+    let known = c.puddles-puddles.ensures.puddles ∙ ap (λ (m : Memory). unwrap_or (known_in m.judged c.in-Ok.found.slot) []) c.self.view_is in
     let on = ap (λ (m : Memory). m.frames) c.self.view_is in
     let pool = subst (λ (n : ℕ). IsStoredPool w n c.args.name (reads old.now.words) c.in-Ok.found.number c.puddles-puddles.result.now) (sym on)
-    (subst (λ (at : List (ℕ × Puddle)). IsStoredPool w now.frames c.args.name (reads old.now.words) c.in-Ok.found.number at) (sym known) (stored_found size w c.args.client c.args.name now old c.in-Ok.found here c.if-found.false)) in
-    let free = export_free w c.args.client c.args.name c.args.file here.free (here.is.none c.if-found.false) in
+    (subst (λ (at : List (ℕ × Puddle)). IsStoredPool w now.frames c.args.name (reads old.now.words) c.in-Ok.found.number at) (sym known) (stored_found size w c.args.client c.args.name now old c.in-Ok.found here (no_number c.in-Ok.found.own (sym c.is_some.ensures ∙ c.if-is_some.false)))) in
+    let free = export_free w c.args.client c.args.name c.args.file here.free (here.is.none (no_number c.in-Ok.found.own (sym c.is_some.ensures ∙ c.if-is_some.false))) in
     let written = subst (λ (s : State). IfOk c.write_file-done.result (λ done. HoldsPool c.self.inside.frames c.in-Ok.found.number c.puddles-puddles.result.now pool.graph (reads old.now.words) (name_text c.args.file) s
     (g.H.Host.state c.write_file-done.new.h))) stays
     (c.write_file-done.ensures.written t (reads old.now.words) (still_reads k.only_reads t refl) pool.graph pool.stored pool.exportable) in

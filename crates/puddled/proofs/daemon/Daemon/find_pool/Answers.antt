@@ -1,11 +1,11 @@
-use Rattle.std.proofs.Common.{◌≡◌, ℕ, Option, Result, true, is_some, refl, sym, ap, subst, ◌∙◌}
+use Rattle.std.proofs.Common.{◌≡◌, Option, Result, true, is_some, refl, sym, ap, subst, ◌∙◌}
 use Rattle.std.specs.Prelude.{IfOk}
 use Rattle.pm_model.specs.Words.{reads}
 use Rattle.pm_model.specs.Moments.{State}
 use Rattle.pm_model.proofs.Reading.{still_reads}
 use Rattle.pud_defs.specs.declared.machine.Refusal.{Refusal}
 use Rattle.pud_defs.specs.Spaces.{owner}
-use Rattle.nesting.specs.Sessions.{holder_in}
+use Rattle.nesting.specs.declared.Session.{Session}
 use Rattle.ready_daemon.specs.Memory.{Memory}
 use Rattle.ready_daemon.specs.Judged.{known_in}
 use Rattle.ready_daemon.specs.Owning.{refusal_found}
@@ -55,7 +55,7 @@ returns-clause-refusal g c = λ t size w ready.
     let before = ready_read size w _ _ _ same ready in
     let now = subst (λ (m : Memory). IsReady size w m (g.H.Host.state c.args.h.now)) (sym c.self.view_is) (ready_read size w _ _ _ (sym same) (c.in_ok-lacks_graph.ensures.ready t size w before)) in
     let lacks = c.in_ok-lacks_graph.ensures.lacks t size w before c.args.name c.in-Some-2.rec (subst (λ (s : State). IsRecordOf w.stored.frames c.args.name (reads s.now.words) c.in-Some-2.slot c.in-Some-2.rec) (sym same) there) in
-    ap refusal_found (c.beside.ensures ∙ ap (λ (o : Option ℕ). beside o c.args.client c.in-Some-2.slot c.in-Some-2.rec.number) c.holder.ensures.holder)
+    ap refusal_found (c.beside.ensures ∙ ap (λ (o : Option Session). beside o c.args.client c.in-Some-2.slot c.in-Some-2.rec.number) c.session.ensures.session)
     ∙ refusal_beside_it size w view _ now c.args.client c.args.name c.in-Some-2.slot c.in-Some-2.rec there c.in-Some-2.rec.number
     ∙ sym (need_beside size w view _ now c.args.client c.args.name c.in-Some-2.slot c.in-Some-2.rec there c.args.need c.in-Some.who.uid c.in-Some.who.gid who.is (sym c.if-branch.false ∙ lacks) (sym c.if-not-has_right.false ∙ c.has_right.ensures))
 
@@ -66,10 +66,9 @@ returns-clause-found g c = λ t size w ready.
     let there = sym c.in-Some-2.is ∙ c.in_ok-slot.ensures.found t _ (still_reads c.owner.ensures.only_reads t refl) w.stored.frames in
     let same = c.find.ensures.only_reads.stays t ∙ c.owner.ensures.only_reads.stays t in
     let now = subst (λ (m : Memory). IsReady size w m (g.H.Host.state c.args.h.now)) (sym c.self.view_is) (ready_read size w _ _ _ (sym same) (c.in_ok-lacks_graph.ensures.ready t size w (ready_read size w _ _ _ same ready))) in
-    let sessions = ap (λ (m : Memory). m.sessions) c.self.view_is ∙ c.in_ok-lacks_graph.ensures.sessions in
     let judged = ap (λ (m : Memory). m.judged) c.self.view_is in
     subst (λ (m : Memory). IfOk c.beside.result (IsFound w c.args.need c.args.client c.args.name (reads (g.H.Host.state c.args.h.now).now.words) m)) c.self.view_is
     (subst (λ (r : Result Found Refusal). IfOk r (IsFound w c.args.need c.args.client c.args.name (reads (g.H.Host.state c.args.h.now).now.words) view))
-    (sym (c.beside.ensures ∙ ap (λ (o : Option ℕ). beside o c.args.client c.in-Some-2.slot c.in-Some-2.rec.number) c.holder.ensures.holder))
+    (sym (c.beside.ensures ∙ ap (λ (o : Option Session). beside o c.args.client c.in-Some-2.slot c.in-Some-2.rec.number) c.session.ensures.session))
     (found_beside size w view _ now c.args.client c.args.name c.in-Some-2.slot c.in-Some-2.rec there c.args.need
-    (λ needed shut. subst (λ js. true ≡ is_some (known_in js c.in-Some-2.slot)) (sym judged) (c.in_ok-lacks_graph.ensures.known c.if-branch.false needed (ap (λ ss. holder_in ss c.in-Some-2.slot) (sym sessions) ∙ shut)))))
+    (λ needed. subst (λ js. true ≡ is_some (known_in js c.in-Some-2.slot)) (sym judged) (c.in_ok-lacks_graph.ensures.known c.if-branch.false needed))))

@@ -26,7 +26,7 @@ returns-clause-reply g c = λ t size w ready.
     let now = c.find_pool.new.self in
     let image = reads (g.H.Host.state c.find_pool.new.h).now.words in
     let here = finds size w needs.Read c.args.client c.args.name c.args.self.now now _ _ _ c.in-Ok.found c.in-Ok.is (k.only_reads.stays t) k.sessions (k.ready t size w ready) (k.refusal t size w ready) (k.found t size w ready) k.whose in
-    let holds = holds_found size w now _ here.ready c.args.client c.args.name c.in-Ok.found c.puddles_of.result.now here.is c.puddles_of.ensures.own c.puddles_of.ensures.known in
+    let holds = holds_found size w now _ here.ready c.args.client c.args.name c.in-Ok.found c.puddles_of.result.now here.is c.puddles_of.ensures.known in
     let on = ap (λ (m : Memory). m.frames) c.self.view_is ∙ here.ready.frames in
     ap of_reply c.reply_of.ensures
     ∙ reply_when_read w c.args.client c.args.name c.args.s c.args.f w.stored.frames image _ c.puddles_of.result.now c.in_ok-read.read holds refl

@@ -1,28 +1,17 @@
-use Rattle.std.proofs.Common.{◌≡◌, is_some, refl, sym, ap, subst, ◌∙◌}
+use Rattle.std.proofs.Common.{◌≡◌, is_some, refl, sym, subst, ◌∙◌}
 use Rattle.pm_model.specs.Words.{reads}
 use Rattle.ready_daemon.specs.Memory.{Memory}
 use Rattle.ready_daemon.specs.Judged.{puddles_with_graph}
 use Rattle.ready_daemon.specs.Ready.{IsReady}
-use Rattle.puddled.proofs.Found.{judged_ready, judged_more, shut_by, lacks_judged, none_lacking_open, nobody}
+use Rattle.puddled.proofs.Found.{judged_ready, judged_more, lacks_judged}
 use Rattle.puddled.proofs.daemon.Daemon.lacks_graph.Goals as goal
-
--- a transaction is open on the pool
-pub returns-then-is_some-clause-lacks : goal.returns-then-is_some-clause-lacks
-returns-then-is_some-clause-lacks g c = λ t size w ready name rec is.
-    let i = c.self.inside in
-    let view : Memory = record { frames = i.frames; held = i.opened; sessions = i.sessions; judged = i.judged } in
-    let there = subst (λ (m : Memory). IsReady size w m (g.H.Host.state c.args.h.now)) (sym c.self.view_is) ready in
-    none_lacking_open size w view _ there 0 name c.args.slot rec is c.args.need (ap is_some (sym c.holder.ensures.holder) ∙ sym c.is_some.ensures ∙ c.if-is_some.true)
-
--- ---- none is
 
 pub returns-clause-lacks : goal.returns-clause-lacks
 returns-clause-lacks g c = λ t size w ready name rec is.
     let i = c.self.inside in
     let view : Memory = record { frames = i.frames; held = i.opened; sessions = i.sessions; judged = i.judged } in
     let there = subst (λ (m : Memory). IsReady size w m (g.H.Host.state c.args.h.now)) (sym c.self.view_is) ready in
-    let shut = nobody i.sessions c.args.slot (ap is_some (sym c.holder.ensures.holder) ∙ sym c.is_some.ensures ∙ c.if-is_some.false) in
-    lacks_judged size w view _ there 0 name c.args.slot rec is (shut_by size w view _ there 0 name c.args.slot rec is shut) c.args.need c.in_ok-sound.sound (sym c.needs_graph.ensures ∙ c.if-not-needs_graph.false)
+    lacks_judged size w view _ there 0 name c.args.slot rec is c.args.need c.in_ok-sound.sound (sym c.needs_graph.ensures ∙ c.if-not-needs_graph.false)
     (subst (λ F. c.in_ok-sound.sound ≡ is_some (puddles_with_graph F (reads (g.H.Host.state c.args.h.now).now.words) c.args.slot)) there.frames (c.in_ok-sound.ensures.sound t _ refl (judged_ready size w view _ there)))
 
 pub returns-clause-ready : goal.returns-clause-ready
@@ -30,13 +19,11 @@ returns-clause-ready g c = λ t size w ready.
     let i = c.self.inside in
     let view : Memory = record { frames = i.frames; held = i.opened; sessions = i.sessions; judged = i.judged } in
     let there = subst (λ (m : Memory). IsReady size w m (g.H.Host.state c.args.h.now)) (sym c.self.view_is) ready in
-    let shut = nobody i.sessions c.args.slot (ap is_some (sym c.holder.ensures.holder) ∙ sym c.is_some.ensures ∙ c.if-is_some.false) in
-    judged_more size w view c.judge.new.self _ c.args.slot there (c.in_ok-sound.ensures.judged t _ refl (judged_ready size w view _ there)) shut c.in_ok-sound.ensures.others
+    judged_more size w view c.judge.new.self _ there (c.in_ok-sound.ensures.judged t _ refl (judged_ready size w view _ there)) c.in_ok-sound.ensures.kept
 
 pub returns-in_err-sound-clause-ready : goal.returns-in_err-sound-clause-ready
 returns-in_err-sound-clause-ready g c = λ t size w ready.
     let i = c.self.inside in
     let view : Memory = record { frames = i.frames; held = i.opened; sessions = i.sessions; judged = i.judged } in
     let there = subst (λ (m : Memory). IsReady size w m (g.H.Host.state c.args.h.now)) (sym c.self.view_is) ready in
-    let shut = nobody i.sessions c.args.slot (ap is_some (sym c.holder.ensures.holder) ∙ sym c.is_some.ensures ∙ c.if-is_some.false) in
-    judged_more size w view c.judge.new.self _ c.args.slot there (c.in_err-sound.ensures.judged t _ refl (judged_ready size w view _ there)) shut c.in_err-sound.ensures.others
+    judged_more size w view c.judge.new.self _ there (c.in_err-sound.ensures.judged t _ refl (judged_ready size w view _ there)) c.in_err-sound.ensures.kept

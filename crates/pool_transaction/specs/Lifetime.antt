@@ -1,0 +1,27 @@
+-- When a transaction may begin on a pool, and what is in memory once it has begun, and once it has ended.
+use Rattle.std.specs.Prelude.{◌≡◌, ℕ, ◌<◌, List, length, set, Some, None}
+use Rattle.pud_defs.specs.declared.records.Puddle.{Puddle}
+use Rattle.pud_defs.specs.Image.{Image}
+use Rattle.log_space.specs.FreeLogs.{first_closed}
+use Rattle.nesting.specs.Sessions.{session_in, entered}
+use Rattle.ready_daemon.specs.Beginning.{MayBegin}
+use Rattle.ready_daemon.specs.Judged.{known_in}
+use Rattle.ready_daemon.specs.Memory.{Held, Memory}
+
+-- The client may begin a transaction on the pool of the name, whose record has this slot, and which is known and has no session: in the log of this
+-- number, the lowest of its own that is closed. Memory has a place for its session.
+pub record MayBeginIn (memory : Memory) (image : Image) (client : ℕ) (name : List ℕ) (slot number : ℕ) : Type 0 where
+  pub lowest : Some number ≡ first_closed image memory.frames client
+  pub unheld : session_in memory.sessions slot ≡ None
+  pub at : List (ℕ × Puddle)
+  pub known : known_in memory.judged slot ≡ Some at
+  pub may : MayBegin memory.frames client name image slot at
+  pub fits : slot < length memory.sessions
+
+-- the memory in which this one has begun: it is held under its number, and has its session
+abbrev pub with_begun : Held → Memory → Memory
+with_begun held memory = record memory { held = set memory.held held.number (Some held); sessions = entered held.client held.slot held.number memory.sessions }
+
+-- the memory in which this one, which was held under the number, has ended: it is held no more, and its session has ended
+abbrev pub with_ended : (number : ℕ) → Held → Memory → Memory
+with_ended number held memory = record memory { held = set memory.held number None; sessions = set memory.sessions held.slot None }

@@ -1,0 +1,114 @@
+//! A transaction begins on a pool, and ends there: it is committed or undone.
+ghost use Rattle.std.specs.Prelude.{length, ◌≡◌, ◌<◌, ◌≤◌, ℕ, Option, IfOk};
+ghost use Rattle.pm_model.specs.Words.{IsRested, reads};
+ghost use Rattle.pm_model.specs.Counts.{after_fault, fault_of};
+ghost use Rattle.pm_model.specs.Changes.{Changes};
+ghost use Rattle.pud_defs.specs.declared.layout.TheConstants.{CLIENTS, MAX_FRAMES};
+ghost use Rattle.pud_defs.specs.declared.records.TheConstants.{POOL_RECORDS};
+ghost use Rattle.pud_defs.specs.declared.machine.Command.TheVariants as commands;
+ghost use Rattle.pud_defs.specs.Layout.{device_words};
+ghost use Rattle.pud_defs.specs.Step.{after};
+ghost use Rattle.pud_defs.specs.World.{World};
+ghost use Rattle.log_space.specs.FreeLogs.{IsLogOf};
+ghost use Rattle.nesting.specs.Sessions.{depth_in};
+ghost use Rattle.pool_transaction.specs.Lifetime.{MayBeginIn, with_begun, with_ended};
+ghost use Rattle.ready_daemon.specs.Beginning.{begins_as};
+ghost use Rattle.ready_daemon.specs.Held.{IsHeldWithin};
+ghost use Rattle.ready_daemon.specs.Leaving.{BehindTables, world_without_log};
+ghost use Rattle.ready_daemon.specs.Memory.{Memory, held_under};
+ghost use Rattle.ready_daemon.specs.Ready.{KeepsRest, IsReady, Applies};
+
+use crate::opened::Opened;
+use hybrid_tx::Tx;
+use pm_model::{Host, HostFault};
+use pud_defs::records::Name;
+
+impl Opened {
+    /// Begins a transaction of the client, 0 to 7, on the pool of this name, whose record has this slot, 0 to 31, in its log of this number, 0 to 31
+    /// among those of all clients.
+    ///
+    /// The device has so many frames. The only errors are the host's own. The one word written is the gate of the log. One fence.
+    pub fn begin<H: Host>(
+        h: &mut H,
+        frames: u32,
+        client: u8,
+        name: Name,
+        slot: u32,
+        number: u32,
+    ) -> Result<Opened, HostFault>
+        requires few { frames ≤ MAX_FRAMES }
+        requires room { device_words frames ≤ (H.counts h.old).size }
+        requires client { client < CLIENTS }
+        requires slot { slot < POOL_RECORDS }
+        requires number { IsLogOf client number }
+        ensures opened { IfOk result (λ opened. opened ≡ begins_as client name slot frames number) }
+        ensures applies { H.tells → (size : ℕ) → size ≡ (H.counts h.old).size → (w : World) → (memory : Memory) → memory.frames ≡ frames → IsReady size w memory (H.state h.old)
+            → MayBeginIn memory (reads (H.state h.old).now.words) client name slot number → (fault_of result ≡ Option.None → number < length memory.held)
+            → Applies size w (after w (commands.Begin client name)) (with_begun (begins_as client name slot frames number) memory) (fault_of result) (H.state h.old) (H.state h.new) }
+        ensures within { IfOk result (IsHeldWithin frames) }
+        ensures rest { H.tells → KeepsRest (H.state h.old) (H.state h.new) }
+        ensures rests { H.tells → fault_of result ≡ Option.Some HostFault.Cut → IsRested (H.state h.new).now.words }
+        ensures cause { H.counts h.new ≡ after_fault (fault_of result) (H.counts h.old) }
+    {
+        let tx = Tx::begin(h, frames, number)?;
+        Ok(Opened {
+            client,
+            name,
+            slot,
+            number,
+            tx,
+        })
+    }
+
+    /// Commits the transaction, where it was begun once: what it asked for later comes with all that it changed.
+    ///
+    /// The device has so many frames. The only errors are the host's own. Three fences, and four where something was asked for later.
+    pub fn commit<H: Host>(self, h: &mut H, frames: u32) -> Result<(), HostFault>
+        requires few { frames ≤ MAX_FRAMES }
+        requires room { device_words frames ≤ (H.counts h.old).size }
+        requires within { IsHeldWithin frames self }
+        ensures applies { H.tells → (size : ℕ) → size ≡ (H.counts h.old).size → (w : World) → (memory : Memory) → (number : ℕ) → memory.frames ≡ frames → held_under memory.held number ≡ Option.Some self
+            → IsReady size w memory (H.state h.old) → depth_in memory.sessions self.slot ≤ 1
+            → Applies size w (after w (commands.Commit self.client self.name)) (with_ended number self memory) (fault_of result) (H.state h.old) (H.state h.new) }
+        ensures rest { H.tells → KeepsRest (H.state h.old) (H.state h.new) }
+        ensures rests { H.tells → fault_of result ≡ Option.Some HostFault.Cut → IsRested (H.state h.new).now.words }
+        ensures cause { H.counts h.new ≡ after_fault (fault_of result) (H.counts h.old) }
+    {
+        let Opened {
+            client: _client,
+            name: _name,
+            slot: _slot,
+            number: _number,
+            tx,
+        } = self;
+        tx.commit(h, frames)
+    }
+
+    /// Undoes the transaction, however often it was begun.
+    ///
+    /// The device has so many frames. The only errors are the host's own. One fence, and two where something was set, made or asked for later.
+    pub fn abort<H: Host>(self, h: &mut H, frames: u32) -> Result<(), HostFault>
+        requires few { frames ≤ MAX_FRAMES }
+        requires room { device_words frames ≤ (H.counts h.old).size }
+        requires within { IsHeldWithin frames self }
+        ensures applies { H.tells → (size : ℕ) → size ≡ (H.counts h.old).size → (w : World) → (memory : Memory) → (number : ℕ) → memory.frames ≡ frames → held_under memory.held number ≡ Option.Some self
+            → IsReady size w memory (H.state h.old)
+            → Applies size w (world_without_log (Option.Some self) w) (with_ended number self memory) (fault_of result) (H.state h.old) (H.state h.new) }
+        // No word in front of the clients' logs changes.
+        ensures behind { H.tells → (size : ℕ) → size ≡ (H.counts h.old).size → (w : World) → (memory : Memory) → (number : ℕ) → memory.frames ≡ frames → held_under memory.held number ≡ Option.Some self
+            → IsReady size w memory (H.state h.old)
+            → Changes (BehindTables w.stored.frames) (fault_of result) (H.state h.old) (H.state h.new) }
+        ensures rest { H.tells → KeepsRest (H.state h.old) (H.state h.new) }
+        ensures rests { H.tells → fault_of result ≡ Option.Some HostFault.Cut → IsRested (H.state h.new).now.words }
+        ensures cause { H.counts h.new ≡ after_fault (fault_of result) (H.counts h.old) }
+    {
+        let Opened {
+            client: _client,
+            name: _name,
+            slot: _slot,
+            number: _number,
+            tx,
+        } = self;
+        tx.abort(h, frames)
+    }
+}

@@ -1,0 +1,66 @@
+-- A change is made in the client's own transaction, on the pool that is known in the slot of its session.
+use Rattle.std.proofs.Common.{◌≡◌, ℕ, ◌<◌, List, length, Option, Some, None, set, sym, ap, ap₂, subst, ◌∙◌, refl}
+use Rattle.std.specs.Prelude.{slice_index_or}
+use Rattle.std.proofs.lemmas.List.{get_or_default}
+use Rattle.std.proofs.lemmas.Option.{none-some, same_Some}
+use Rattle.pm_model.specs.declared.host.HostFault.{HostFault}
+use Rattle.pm_model.specs.Moments.{State}
+use Rattle.pud_defs.specs.declared.machine.Command.{Command}
+use Rattle.pud_defs.specs.declared.records.Puddle.{Puddle}
+use Rattle.pud_defs.specs.declared.machine.Command.TheVariants.{Commit}
+use Rattle.pud_defs.specs.declared.machine.Refusal.{Refusal}
+use Rattle.pud_defs.specs.Step.{refusal_of, world_by}
+use Rattle.pud_defs.specs.World.{World}
+use Rattle.nesting.specs.declared.Session.{Session}
+use Rattle.pool_transaction.specs.declared.changing.Change.{Change}
+use Rattle.pool_transaction.specs.declared.changing.Change.TheVariants as changes
+use Rattle.pool_transaction.specs.Changing.{IsHeldIn, with_opened, line_of}
+use Rattle.ready_daemon.specs.Judged.{known_in}
+use Rattle.ready_daemon.specs.Memory.{Held, Memory, held_under}
+use Rattle.ready_daemon.specs.Holding.{IsOwnOn}
+use Rattle.ready_daemon.specs.Ready.{IsReady, Applies}
+use Rattle.pool_transaction.proofs.TransactionRefusals.{refused_change, refused_new}
+use Rattle.ready_daemon.proofs.InTurn.{held_there_known}
+
+-- what was read in a slot of the list is what is known there
+pub known_there : (judged : List (Option (List (ℕ × Puddle)))) (slot : ℕ) (read any : Option (List (ℕ × Puddle))) → slot < length judged → read ≡ slice_index_or judged slot any → known_in judged slot ≡ read
+known_there judged slot read any within is = get_or_default judged slot None any within ∙ sym is
+
+module _ (size : ℕ) (w : World) (F : ℕ) (all : List (Option Held)) (sessions : List (Option Session)) (judged : List (Option (List (ℕ × Puddle)))) (s : State)
+    (ready : IsReady size w (record { frames = F; held = all; sessions = sessions; judged = judged }) s) (client : ℕ) (name : List ℕ) (slot number : ℕ) (own : IsOwnOn client name slot number all) where
+  abbrev memory : Memory
+  memory = record { frames = F; held = all; sessions = sessions; judged = judged }
+
+  -- its pool is known
+  pub is_known : known_in judged slot ≡ None → ⊥
+  is_known none = none-some _ (sym none ∙ ap (known_in judged) (sym own.slot_is) ∙ held_there_known size w memory s ready number own.own.mine own.own.is)
+
+  module _ (mine : Held) (there : held_under all number ≡ Some mine) (at : List (ℕ × Puddle)) (known : known_in judged slot ≡ Some at) where
+    same : mine ≡ own.own.mine
+    same = same_Some mine own.own.mine (sym there ∙ own.own.is)
+
+    slot_is : mine.slot ≡ slot
+    slot_is = ap (λ (h : Held). h.slot) same ∙ own.slot_is
+
+    number_is : mine.number ≡ number
+    number_is = (ready.held.each number mine there).number_is
+
+    pub held_in : IsHeldIn F mine at memory
+    held_in = record { frames = refl; there = ap (held_under all) number_is ∙ there; known = ap (known_in judged) slot_is ∙ known }
+
+    -- it is asked for by the client's line
+    pub asked : (change : Change) → line_of change mine.client mine.name ≡ line_of change client name
+    asked change = ap₂ (line_of change) (ap (λ (h : Held). h.client) same ∙ own.own.whose) (ap (λ (h : Held). h.name) same ∙ own.own.pool)
+
+    pub Applies-changed : (change : Change) (now : Held) (pool : List (ℕ × Puddle)) (fault : Option HostFault) (new : State)
+        → Applies size w (world_by w (Some (line_of change mine.client mine.name))) (with_opened mine.number mine.slot now pool memory) fault s new
+        → Applies size w (world_by w (Some (line_of change client name))) (record { frames = F; held = set all number (Some now); sessions = sessions; judged = set judged slot (Some pool) }) fault s new
+    Applies-changed change now pool fault new applies =
+        subst (λ (c : Command). Applies size w (world_by w (Some c)) (with_opened number slot now pool memory) fault s new) (asked change)
+        (subst (λ (i : ℕ). Applies size w (world_by w (Some (line_of change mine.client mine.name))) (with_opened number i now pool memory) fault s new) slot_is
+        (subst (λ (n : ℕ). Applies size w (world_by w (Some (line_of change mine.client mine.name))) (with_opened n mine.slot now pool memory) fault s new) number_is applies))
+
+-- where a line on the client's own is refused before what it asks is looked at, so is the line of each change
+pub refused_line : (w : World) (client : ℕ) (name : List ℕ) (r : Refusal) → refusal_of w (Commit client name) ≡ Some r → (change : Change) → refusal_of w (line_of change client name) ≡ Some r
+refused_line w client name r refused (changes.New t) = refused_new w client name r refused t
+refused_line w client name r refused (changes.Update update) = refused_change w client name r refused update
