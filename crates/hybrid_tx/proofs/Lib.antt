@@ -1,3 +1,4 @@
 pub mod PoolGrounds
+pub mod FinishedPuddles
 pub mod Objects
 pub mod Open

@@ -15,6 +15,5 @@ pub mod FieldPut
 pub mod LowestSlot
 pub mod ObjectPut
 pub mod SlotFreed
-pub mod RewrittenPools
 pub mod RootPut
 pub mod PoolEnding

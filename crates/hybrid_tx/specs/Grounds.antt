@@ -1,6 +1,6 @@
 -- The ground of a transaction on a pool: its words are those of its puddles' frames, named by global addresses.
 use Rattle.std.specs.Prelude.{◌≡◌, ℕ, ◌+◌, ◌*◌, ◌%◌, Bool, true, ◌&&◌, nat_le, nat_lt, ◌==◌, List, [], ◌∷◌, All, map, slice_get, Option, Some, None, option_map}
-use Rattle.std.specs.List.{list_any}
+use Rattle.std.specs.List.{list_any, filter}
 use Rattle.std.specs.Option.{option_or}
 use Rattle.pud_defs.specs.declared.layout.TheConstants.{FRAME_WORDS}
 use Rattle.pud_defs.specs.declared.space.TheConstants.{RANGE_BYTES, WORD_BYTES}
@@ -61,6 +61,10 @@ pub record IsPlaced (F : ℕ) (at : List (ℕ × Puddle)) : Type 0 where
 pub record IsRewrittenAt (at : List (ℕ × Puddle)) (ordinal : ℕ) : Type 0 where
   pub each : (e : ℕ × Puddle) → slice_get at ordinal ≡ Some e → e.1.frontier ≡ steps_of e.1
 
--- each pointer in these puddles does
-pub record IsRewritten (at : List (ℕ × Puddle)) : Type 0 where
-  pub each : All (λ e. e.1.frontier ≡ steps_of e.1) at
+-- each pointer in the puddle stands over the pool's bases
+abbrev pub is_finished : ℕ × Puddle → Bool
+is_finished e = e.1.frontier == steps_of e.1
+
+-- those of these puddles in which each pointer does
+abbrev pub finished_of : List (ℕ × Puddle) → List (ℕ × Puddle)
+finished_of at = filter is_finished at

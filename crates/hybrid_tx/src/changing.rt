@@ -20,10 +20,10 @@ ghost use Rattle.puddle_header.specs.Places.{place_of_slot, IsSlotOf};
 ghost use Rattle.graph_read.specs.Reading.{place_in_pool};
 ghost use Rattle.object_alloc.specs.Alloc.{serial_word_at};
 ghost use Rattle.word_transaction.specs.Running.{ByTransaction};
-ghost use Rattle.hybrid_tx.specs.Grounds.{pool_ground, IsPlaced, IsRewrittenAt};
+ghost use Rattle.hybrid_tx.specs.Grounds.{pool_ground, finished_of, IsPlaced, IsRewrittenAt};
 ghost use Rattle.pud_defs.specs.Laters.{Later, laters_name};
 ghost use Rattle.hybrid_tx.specs.Objects.Stores.{address_at, word_for, IsPlaceAndWord, LacksPlaceOrWord, new_words};
-ghost use Rattle.hybrid_tx.specs.Objects.Transactions.{MayName, MaySet, IsRewrittenFor, MayFree, IsSaving, IsOpenOn, Saves, RunsOn, MakesIn};
+ghost use Rattle.hybrid_tx.specs.Objects.Transactions.{MayName, MaySet, IsRewrittenFor, IsRewrittenAtLowest, MayFree, IsSaving, IsOpenOn, Saves, RunsOn, MakesIn};
 
 use crate::Tx;
 use graph_read::find_serial;
@@ -190,8 +190,12 @@ impl Tx {
         self.put_in_frame(h, frames, pool, at.ordinal, field, &[word])
     }
 
-    /// Makes an object of type `t` in a slot, under the next serial, and counts that one up. The answer is the serial.
-    fn make<H: Host>(
+    /// Makes an object of type `t` in a free slot, as `new` does, but for the search: under the next serial, which is counted up. The answer is the
+    /// serial.
+    ///
+    /// The log lies before the frames, and 37 units are left. What it does to the pool's graph is said where the slot is free, and where its puddle
+    /// and the first one, which has the next serial, are rewritten. Four fences.
+    pub fn new_at<H: Host>(
         &mut self,
         h: &mut H,
         frames: u32,
@@ -209,10 +213,11 @@ impl Tx {
         ensures changes { H.tells → Changes (ByTransaction (pool_ground frames pool.now) (self.old).log.at) (fault_of result) (H.state h.old) (H.state h.new) }
         ensures runs { H.tells → (types : List (ℕ × ℕ)) (m : ℕ) (before : Image) (undone : Graph) (now : Graph) (laters : List Later) → IsPlaced frames pool.now
             → IsOpenOn frames pool.now types (self.old).log before undone now laters (H.state h.old).now.words → map_of t types ≡ Option.Some m → now.next_serial < NUMBER_LIMIT
-            → IsFreePlace (stored_in frames pool.now (reads (H.state h.old).now.words)) (place_of_slot at.now)
+            → IsRewrittenAt pool.now 0 → IsRewrittenAt pool.now at.now.ordinal → IsFreePlace (stored_in frames pool.now (reads (H.state h.old).now.words)) (place_of_slot at.now)
             → RunsOn frames pool.now types (self.new).log before undone (with_new (blank_object t m) now) laters (fault_of result) (H.state h.old) (H.state h.new) }
         ensures makes { H.tells → (types : List (ℕ × ℕ)) (before : Image) (undone : Graph) (now : Graph) (laters : List Later) → IsPlaced frames pool.now
             → IsOpenOn frames pool.now types (self.old).log before undone now laters (H.state h.old).now.words → now.next_serial < NUMBER_LIMIT
+            → IsRewrittenAt pool.now 0 → IsRewrittenAt pool.now at.now.ordinal
             → MakesIn frames pool.now (self.old).log.at at.now t (fault_of result) (H.state h.old) (H.state h.new) }
         ensures serial { H.tells → (types : List (ℕ × ℕ)) (now : Graph) → graph_of types (stored_in frames pool.now (reads (H.state h.old).now.words)) ≡ Option.Some now
             → IfOk result (λ serial. serial ≡ now.next_serial) }
@@ -257,11 +262,11 @@ impl Tx {
         ensures changes { H.tells → Changes (ByTransaction (pool_ground frames pool.now) (self.old).log.at) (fault_of result) (H.state h.old) (H.state h.new) }
         ensures runs { H.tells → (types : List (ℕ × ℕ)) (m : ℕ) (before : Image) (undone : Graph) (now : Graph) (laters : List Later) → IsPlaced frames pool.now
             → IsOpenOn frames pool.now types (self.old).log before undone now laters (H.state h.old).now.words → map_of t types ≡ Option.Some m → now.next_serial < NUMBER_LIMIT
-            → (AreAllLive (stored_in frames pool.now (reads (H.state h.old).now.words)) → ⊥)
+            → IsRewrittenAt pool.now 0 → IsRewrittenAtLowest frames pool.now (reads (H.state h.old).now.words) → (AreAllLive (stored_in frames pool.now (reads (H.state h.old).now.words)) → ⊥)
             → RunsOn frames pool.now types (self.new).log before undone (with_new (blank_object t m) now) laters (fault_of result) (H.state h.old) (H.state h.new) }
         ensures makes { H.tells → (types : List (ℕ × ℕ)) (before : Image) (undone : Graph) (now : Graph) (laters : List Later) → IsPlaced frames pool.now
             → IsOpenOn frames pool.now types (self.old).log before undone now laters (H.state h.old).now.words → now.next_serial < NUMBER_LIMIT
-            → (slot : Slot) → IsSlotOf pool.now slot → IsLowestFreeSlot (stored_in frames pool.now (reads (H.state h.old).now.words)) (place_of_slot slot)
+            → IsRewrittenAt pool.now 0 → IsRewrittenAtLowest frames pool.now (reads (H.state h.old).now.words) → (slot : Slot) → IsSlotOf pool.now slot → IsLowestFreeSlot (stored_in frames pool.now (reads (H.state h.old).now.words)) (place_of_slot slot)
             → MakesIn frames pool.now (self.old).log.at slot t (fault_of result) (H.state h.old) (H.state h.new) }
         ensures serial { H.tells → (types : List (ℕ × ℕ)) (now : Graph) → graph_of types (stored_in frames pool.now (reads (H.state h.old).now.words)) ≡ Option.Some now
             → (AreAllLive (stored_in frames pool.now (reads (H.state h.old).now.words)) → ⊥) → IfOk result (λ serial. serial ≡ now.next_serial) }
@@ -271,7 +276,7 @@ impl Tx {
         ensures cause { H.counts h.new ≡ after_fault (fault_of result) (H.counts h.old) }
     {
         match alloc_slot(h, frames, pool) {
-            Ok(at) => self.make(h, frames, pool, &at, t),
+            Ok(at) => self.new_at(h, frames, pool, &at, t),
             Err(AllocFault::Full) => Ok(0),
             Err(AllocFault::Host(fault)) => Err(fault),
         }
@@ -294,8 +299,9 @@ impl Tx {
         ensures at { (self.new).log.at ≡ (self.old).log.at }
         ensures counts { IfOk result (λ _. (self.new).units ≡ (self.old).units + SET_UNITS) }
         ensures changes { H.tells → Changes (ByTransaction (pool_ground frames pool.now) (self.old).log.at) (fault_of result) (H.state h.old) (H.state h.new) }
-        ensures saves { H.tells → IsPlaced frames pool.now → (before : Image) (redo : List Entry) → IsSaving frames pool.now (self.old).log before redo (H.state h.old).now.words
-            → Saves frames pool.now (self.new).log before redo (placed (serial_word_at frames at) (0 ∷ [])) (fault_of result) (H.state h.old) (H.state h.new) }
+        ensures saves { H.tells → IsPlaced frames pool.now → IsRewrittenAt pool.now at.ordinal → (before : Image) (redo : List Entry)
+            → IsSaving frames (finished_of pool.now) (self.old).log before redo (H.state h.old).now.words
+            → Saves frames (finished_of pool.now) (self.new).log before redo (placed (serial_word_at frames at) (0 ∷ [])) (fault_of result) (H.state h.old) (H.state h.new) }
         ensures cause { H.counts h.new ≡ after_fault (fault_of result) (H.counts h.old) }
     {
         let serial = slot_begins(&at) + SLOT_SERIAL_WORD;
@@ -325,7 +331,7 @@ impl Tx {
         ensures at { (self.new).log.at ≡ (self.old).log.at }
         ensures changes { H.tells → Changes (ByTransaction (pool_ground frames pool.now) (self.old).log.at) (fault_of result) (H.state h.old) (H.state h.new) }
         ensures runs { H.tells → (types : List (ℕ × ℕ)) (before : Image) (undone : Graph) (now : Graph) (laters : List Later) (s : ℕ) → IsPlaced frames pool.now
-            → IsOpenOn frames pool.now types (self.old).log before undone now laters (H.state h.old).now.words → MayFree now s → laters_name s laters ≡ false
+            → IsRewrittenFor frames pool.now (reads (H.state h.old).now.words) s → IsOpenOn frames pool.now types (self.old).log before undone now laters (H.state h.old).now.words → MayFree now s → laters_name s laters ≡ false
             → place_in_pool frames pool.now (reads (H.state h.old).now.words) s ≡ Option.Some (place_of_slot at.now)
             → RunsOn frames pool.now types (self.new).log before undone (without_object s now) laters (fault_of result) (H.state h.old) (H.state h.new) }
         ensures counts { IfOk result (λ _. (self.new).units ≡ (self.old).units + SET_UNITS) }
@@ -355,7 +361,7 @@ impl Tx {
         ensures at { (self.new).log.at ≡ (self.old).log.at }
         ensures changes { H.tells → Changes (ByTransaction (pool_ground frames pool.now) (self.old).log.at) (fault_of result) (H.state h.old) (H.state h.new) }
         ensures runs { H.tells → (types : List (ℕ × ℕ)) (before : Image) (undone : Graph) (now : Graph) (laters : List Later) → IsPlaced frames pool.now
-            → IsOpenOn frames pool.now types (self.old).log before undone now laters (H.state h.old).now.words → MayFree now s → laters_name s laters ≡ false
+            → IsRewrittenFor frames pool.now (reads (H.state h.old).now.words) s → IsOpenOn frames pool.now types (self.old).log before undone now laters (H.state h.old).now.words → MayFree now s → laters_name s laters ≡ false
             → RunsOn frames pool.now types (self.new).log before undone (without_object s now) laters (fault_of result) (H.state h.old) (H.state h.new) }
         ensures counts { H.tells → (types : List (ℕ × ℕ)) (before : Image) (undone : Graph) (now : Graph) (laters : List Later)
             → IsOpenOn frames pool.now types (self.old).log before undone now laters (H.state h.old).now.words → MayFree now s

@@ -24,7 +24,7 @@ ghost use Rattle.graph_read.specs.Reading.{place_in_pool};
 ghost use Rattle.hybrid_tx.specs.Grounds.{IsPlaced};
 ghost use Rattle.hybrid_tx.specs.Objects.Laters.{IsFieldAddress, IsFieldOf};
 ghost use Rattle.hybrid_tx.specs.Objects.Stores.{address_at, word_for};
-ghost use Rattle.hybrid_tx.specs.Objects.Transactions.{MaySet, IsLater, IsOpenOn, RunsOn};
+ghost use Rattle.hybrid_tx.specs.Objects.Transactions.{MaySet, IsRewrittenFor, IsLater, IsOpenOn, RunsOn};
 
 use crate::Tx;
 use crate::changing::{place_and_word, slot_address};
@@ -153,7 +153,7 @@ impl Tx {
         ensures at { (self.new).log.at ≡ (self.old).log.at }
         ensures changes { H.tells → Changes (InLog (self.old).log.at) (fault_of result) (H.state h.old) (H.state h.new) }
         ensures runs { H.tells → (types : List (ℕ × ℕ)) (before : Image) (undone : Graph) (now : Graph) (laters : List Later) → IsPlaced frames pool.now
-            → IsOpenOn frames pool.now types (self.old).log before undone now laters (H.state h.old).now.words → MaySet types now s f x
+            → IsRewrittenFor frames pool.now (reads (H.state h.old).now.words) s → IsOpenOn frames pool.now types (self.old).log before undone now laters (H.state h.old).now.words → MaySet types now s f x
             → RunsOn frames pool.now types (self.new).log before undone now (laters ++ record { s = s; f = f; x = x } ∷ []) (fault_of result) (H.state h.old) (H.state h.new) }
         ensures counts { H.tells → (types : List (ℕ × ℕ)) (before : Image) (undone : Graph) (now : Graph) (laters : List Later) → IsPlaced frames pool.now
             → IsOpenOn frames pool.now types (self.old).log before undone now laters (H.state h.old).now.words → MaySet types now s f x
@@ -192,7 +192,7 @@ impl Tx {
         ensures at { (self.new).log.at ≡ (self.old).log.at }
         ensures changes { H.tells → Changes (InLog (self.old).log.at) (fault_of result) (H.state h.old) (H.state h.new) }
         ensures runs { H.tells → (types : List (ℕ × ℕ)) (before : Image) (undone : Graph) (now : Graph) (laters : List Later) (s : ℕ) (x : Val) → IsPlaced frames pool.now
-            → IsOpenOn frames pool.now types (self.old).log before undone now laters (H.state h.old).now.words → MaySet types now s f x
+            → IsRewrittenFor frames pool.now (reads (H.state h.old).now.words) s → IsOpenOn frames pool.now types (self.old).log before undone now laters (H.state h.old).now.words → MaySet types now s f x
             → place_in_pool frames pool.now (reads (H.state h.old).now.words) s ≡ Option.Some (place_of_slot at.now) → word_for frames pool.now (reads (H.state h.old).now.words) x ≡ Option.Some word
             → RunsOn frames pool.now types (self.new).log before undone now (laters ++ record { s = s; f = f; x = x } ∷ []) (fault_of result) (H.state h.old) (H.state h.new) }
         ensures counts { IfOk result (λ _. (self.new).units ≡ (self.old).units + SET_UNITS) }

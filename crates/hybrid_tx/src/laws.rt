@@ -1,6 +1,6 @@
 //! The laws. Each function here does nothing; its contract is the law.
 
-ghost use Rattle.std.specs.Prelude.{◌≡◌, ◌+◌, ◌<◌, ◌≤◌, ℕ, false, List, [], ◌∷◌, All, slice_get, Option};
+ghost use Rattle.std.specs.Prelude.{◌≡◌, ◌+◌, ◌<◌, ◌≤◌, ℕ, true, false, List, [], ◌∷◌, slice_get, Option};
 ghost use Rattle.pm_model.specs.Moments.{State};
 ghost use Rattle.pm_model.specs.Changes.{placed};
 ghost use Rattle.pud_defs.specs.declared.layout.TheConstants.{LOG_WORDS, NUMBER_LIMIT};
@@ -25,9 +25,9 @@ ghost use Rattle.object_alloc.specs.Alloc.{serial_word_at};
 ghost use Rattle.log_store.specs.Store.{OpenLog};
 ghost use Rattle.word_transaction.specs.Ground.{IsGround, written_in_turn};
 ghost use Rattle.word_transaction.specs.Running.{SettlesTo};
-ghost use Rattle.hybrid_tx.specs.Grounds.{pool_place, pool_ground, IsPlaced, IsRewrittenAt};
+ghost use Rattle.hybrid_tx.specs.Grounds.{pool_place, pool_mine, pool_ground, finished_of, IsPlaced, IsRewrittenAt};
 ghost use Rattle.hybrid_tx.specs.Objects.Stores.{word_for, field_word, making};
-ghost use Rattle.hybrid_tx.specs.Objects.Transactions.{MaySet, IsRewrittenFor, AreLaters, IsOpenOn, IsAtRest, RunsOn, ClosesOn, EndsOn};
+ghost use Rattle.hybrid_tx.specs.Objects.Transactions.{MaySet, AreLaters, IsOpenOn, IsAtRest, RunsOn, ClosesOn, EndsOn};
 
 /// What the addresses of a pool's ranges name are words of its frames, none of which is one of a log before all frames.
 pub fn pools_are_grounds()
@@ -69,8 +69,8 @@ pub fn cleared_serial_frees_the_object()
 /// The redo entries of what is asked for later, written in turn over an image, make its graph the one with what is asked for.
 pub fn entries_of_laters_make_the_graph()
     ensures { (frames : ℕ) (at : List (ℕ × Puddle)) (types : List (ℕ × ℕ)) → IsPlaced frames at → (laters : List Later) (redo : List Entry) (image : Image) (now : Graph)
-        → graph_of types (stored_in frames at image) ≡ Option.Some now → AreLaters frames at types image now laters redo → All (λ l. IsRewrittenFor frames at image l.s) laters
-        → graph_of types (stored_in frames at (written_in_turn (pool_place frames at) redo image)) ≡ Option.Some (with_laters laters now) }
+        → graph_of types (stored_in frames at image) ≡ Option.Some now → AreLaters frames at types image now laters redo
+        → graph_of types (stored_in frames at (written_in_turn (pool_place frames (finished_of at)) redo image)) ≡ Option.Some (with_laters laters now) }
 {}
 
 /// Behind a call within a transaction on a pool that did not fail one is open, on the next graph, with what is asked for later.
@@ -79,10 +79,11 @@ pub fn transaction_stays_open()
         → RunsOn frames at types log before undone next laters Option.None old new → IsOpenOn frames at types log before undone next laters new.now.words }
 {}
 
-/// With the log replayed an image has the graph of the words that it settles to.
+/// With the log replayed an image has the graph of the words that it settles to, where the words of the puddles that are not finished are these too.
 pub fn settled_pool_has_the_graph()
-    ensures { (frames : ℕ) (at : List (ℕ × Puddle)) (types : List (ℕ × ℕ)) (log : ℕ) (values : Image) (image : Image) (g : Graph) → SettlesTo (pool_ground frames at) log values image
-        → graph_of types (stored_in frames at values) ≡ Option.Some g → graph_of types (stored_in frames at (replayed (pool_place frames at) (log_of image log) image)) ≡ Option.Some g }
+    ensures { (frames : ℕ) (at : List (ℕ × Puddle)) (types : List (ℕ × ℕ)) (size : ℕ) (log : ℕ) (values : Image) (image : Image) (g : Graph) → IsGround size log (pool_ground frames (finished_of at))
+        → SettlesTo (pool_ground frames (finished_of at)) log values image → ((k : ℕ) → pool_mine frames at k ≡ true → pool_mine frames (finished_of at) k ≡ false → image k ≡ values k)
+        → graph_of types (stored_in frames at values) ≡ Option.Some g → graph_of types (stored_in frames at (replayed (pool_place frames (finished_of at)) (log_of image log) image)) ≡ Option.Some g }
 {}
 
 /// Where a transaction was committed none is open any more, and the pool has the new graph.

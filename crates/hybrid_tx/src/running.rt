@@ -19,7 +19,8 @@ ghost use Rattle.pud_defs.specs.Graph.{Graph, graph_of};
 ghost use Rattle.log_store.specs.Store.{InLog, longer, asking};
 ghost use Rattle.word_transaction.specs.Ground.{Ground, IsGround, undo_entry, redo_entry};
 ghost use Rattle.word_transaction.specs.Running.{IsRunning, IsIdle, nothing, begun, ByTransaction, Runs};
-ghost use Rattle.hybrid_tx.specs.Grounds.{pool_ground, IsPlaced};
+ghost use Rattle.hybrid_tx.specs.Grounds.{pool_ground, finished_of, IsPlaced};
+ghost use Rattle.pud_defs.specs.Geometry.{steps_of};
 ghost use Rattle.hybrid_tx.specs.Objects.Stores.{ByPut};
 ghost use Rattle.hybrid_tx.specs.Objects.Transactions.{begun_tx, IsSaving, IsOpenOn, Saves};
 
@@ -44,7 +45,7 @@ impl Tx {
         ensures opened { IfOk result (λ tx. tx ≡ begun_tx (log_number_at frames log)) }
         ensures persists { H.tells → Persists (only (log_number_at frames log) RUNNING_GATE) (fault_of result) (H.state h.old) (H.state h.new) }
         ensures runs { H.tells → (at : List (ℕ × Puddle)) (before : Image) → IsPlaced frames at → IsIdle (pool_ground frames at) (log_number_at frames log) before (H.state h.old).now.words
-            → Runs (pool_ground frames at) (begun (log_number_at frames log)) [] before nothing (fault_of result) (H.state h.old) (H.state h.new) }
+            → Runs (pool_ground frames (finished_of at)) (begun (log_number_at frames log)) [] before nothing (fault_of result) (H.state h.old) (H.state h.new) }
         ensures open { H.tells → (at : List (ℕ × Puddle)) (before : Image) → IsPlaced frames at → IsIdle (pool_ground frames at) (log_number_at frames log) before (H.state h.old).now.words
             → (types : List (ℕ × ℕ)) (g : Graph) → graph_of types (stored_in frames at before) ≡ Option.Some g
             → IfOk result (λ tx. IsOpenOn frames at types tx.log before g g [] (H.state h.new).now.words) }
@@ -111,9 +112,9 @@ impl Tx {
         ensures changes { H.tells → Changes (ByTransaction (pool_ground frames pool.now) (self.old).log.at) (fault_of result) (H.state h.old) (H.state h.new) }
         ensures puts { H.tells → (e : ℕ × Puddle) → slice_get pool.now ordinal ≡ Option.Some e
             → Changes (ByPut (self.old).log.at (frame_at frames e.0 + word) vals.now) (fault_of result) (H.state h.old) (H.state h.new) }
-        ensures saves { H.tells → IsPlaced frames pool.now → (e : ℕ × Puddle) → slice_get pool.now ordinal ≡ Option.Some e → (before : Image) (redo : List Entry)
-            → IsSaving frames pool.now (self.old).log before redo (H.state h.old).now.words
-            → Saves frames pool.now (self.new).log before redo (placed (frame_at frames e.0 + word) vals.now) (fault_of result) (H.state h.old) (H.state h.new) }
+        ensures saves { H.tells → IsPlaced frames pool.now → (e : ℕ × Puddle) → slice_get pool.now ordinal ≡ Option.Some e → e.1.frontier ≡ steps_of e.1 → (before : Image) (redo : List Entry)
+            → IsSaving frames (finished_of pool.now) (self.old).log before redo (H.state h.old).now.words
+            → Saves frames (finished_of pool.now) (self.new).log before redo (placed (frame_at frames e.0 + word) vals.now) (fault_of result) (H.state h.old) (H.state h.new) }
         ensures cause { H.counts h.new ≡ after_fault (fault_of result) (H.counts h.old) }
     {
         let (frame, puddle) = pool[ordinal as usize];
@@ -139,8 +140,9 @@ impl Tx {
         ensures counts { IfOk result (λ _. (self.new).units ≡ (self.old).units + SET_UNITS) }
         ensures changes { H.tells → Changes (InLog (self.old).log.at) (fault_of result) (H.state h.old) (H.state h.new) }
         ensures asks { H.tells → (frames : ℕ) → IsPlaced frames pool.now → device_words frames ≤ (H.counts h.old).size → (self.old).log.at + LOG_WORDS ≤ frames_at frames
-            → (e : ℕ × Puddle) → slice_get pool.now ordinal ≡ Option.Some e → (before : Image) (redo : List Entry) → IsSaving frames pool.now (self.old).log before redo (H.state h.old).now.words
-            → Saves frames pool.now (self.new).log before (redo ++ redo_entry (e.1.base + WORD_BYTES * word) (value ∷ []) ∷ []) nothing (fault_of result) (H.state h.old) (H.state h.new) }
+            → (e : ℕ × Puddle) → slice_get pool.now ordinal ≡ Option.Some e → e.1.frontier ≡ steps_of e.1 → (before : Image) (redo : List Entry)
+            → IsSaving frames (finished_of pool.now) (self.old).log before redo (H.state h.old).now.words
+            → Saves frames (finished_of pool.now) (self.new).log before (redo ++ redo_entry (e.1.base + WORD_BYTES * word) (value ∷ []) ∷ []) nothing (fault_of result) (H.state h.old) (H.state h.new) }
         ensures cause { H.counts h.new ≡ after_fault (fault_of result) (H.counts h.old) }
     {
         let (_, puddle) = pool[ordinal as usize];

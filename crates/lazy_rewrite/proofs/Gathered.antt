@@ -1,5 +1,5 @@
 -- A batch of steps, gathered word by word.
-use Rattle.std.proofs.Common.{◌≡◌, ℕ, zero, suc, ◌+◌, ◌-◌, ◌*◌, ◌<◌, ◌≤◌, Bool, true, false, ◌&&◌, cond, eqb, ltb, not, eq-eqb, ne_eqb, List, [], ◌∷◌, ◌++◌, map, length, get_or, Option, Some, None, refl, sym, ap, ap₂, ◌∙◌, ⊎_elim, arith, append_assoc, append-nil}
+use Rattle.std.proofs.Common.{◌≡◌, ℕ, zero, suc, ◌+◌, ◌-◌, ◌*◌, ◌<◌, ◌≤◌, Bool, true, false, ◌&&◌, cond, eqb, ltb, not, eq-eqb, ne_eqb, List, [], ◌∷◌, ◌++◌, map, length, get_or, subst, Option, Some, None, refl, sym, ap, ap₂, ◌∙◌, ⊎_elim, arith, append_assoc, append-nil}
 use Rattle.std.specs.Prelude.{slice_get}
 use Rattle.std.proofs.lemmas.Bool.{cases_eq, cases_Bool, cond-true, cond-false, and_from, and_left, and_right, lt-ltb, le-ltb, le-leb, lt-leb}
 use Rattle.std.proofs.lemmas.List.Elements.{All-get_or}
@@ -337,10 +337,14 @@ module _ (F : ℕ) (at : List (ℕ × Puddle)) (image : Image) (o n m : ℕ) (e 
       ∙ append_assoc header slots (batch_entry (frontier_word e.0) (m ∷ []) ∷ [])
 
 -- the pointers at a puddle's frontier stand over the old bases
-pub IsToRewrite-here : (at : List (ℕ × Puddle)) (o n : ℕ) (e : ℕ × Puddle) → HasLowBases at → slice_get at o ≡ Some e → e.1.frontier ≡ n → IsToRewrite at o n
+IsToRewrite-here : (at : List (ℕ × Puddle)) (o n : ℕ) (e : ℕ × Puddle) → HasLowBases at → slice_get at o ≡ Some e → e.1.frontier ≡ n → IsToRewrite at o n
 IsToRewrite-here at o n e low here is = record { bases = low; old = λ d there. let same = same_Some d e (sym there ∙ here) in omega (arith, is, ap (λ (x : ℕ × Puddle). x.1.frontier) same) }
 
--- what was gathered from a frontier on
-pub gathered_from : (F : ℕ) (at : List (ℕ × Puddle)) (image : Image) (o n m : ℕ) (e : ℕ × Puddle) (es : List Entry) → e.1.frontier ≡ n → es ≡ steps_batch F e.0 (new_words F at image o n m) n m
+-- what was gathered from a frontier on, of the pool as it was lent
+pub gathered_from : (F : ℕ) (at lent : List (ℕ × Puddle)) (image : Image) (o n m : ℕ) (e : ℕ × Puddle) (es : List Entry) → lent ≡ at → HasLowBases at → slice_get at o ≡ Some e → e.1.frontier ≡ n
+    → (IsToRewrite lent o n → (d : ℕ × Puddle) → slice_get lent o ≡ Some d → es ≡ steps_batch F d.0 (new_words F lent image o n m) n m)
     → es ≡ steps_batch F e.0 (new_words F at image o e.1.frontier m) e.1.frontier m
-gathered_from F at image o n m e es is gathered = gathered ∙ ap (λ (k : ℕ). steps_batch F e.0 (new_words F at image o k m) k m) (sym is)
+gathered_from F at lent image o n m e es same low here is gathered =
+    gathered (subst (λ (ds : List (ℕ × Puddle)). IsToRewrite ds o n) (sym same) (IsToRewrite-here at o n e low here is)) e (ap (λ (ds : List (ℕ × Puddle)). slice_get ds o) same ∙ here)
+    ∙ ap (λ (ds : List (ℕ × Puddle)). steps_batch F e.0 (new_words F ds image o n m) n m) same
+    ∙ ap (λ (k : ℕ). steps_batch F e.0 (new_words F at image o k m) k m) (sym is)

@@ -84,7 +84,7 @@ module _ (F slot : ℕ) (at : List (ℕ × Puddle)) (goal : ℕ → ℕ) (g : Gr
 
 -- ---- behind it
 
-module _ (F slot : ℕ) (at : List (ℕ × Puddle)) (goal : ℕ → ℕ) (g : Graph) (o m : ℕ) (e : ℕ × Puddle) (old new : State) (next : AreNextSteps at goal o m e) (c : CommitsSteps F at o m e None old new) where
+module _ (F : ℕ) (at : List (ℕ × Puddle)) (goal : ℕ → ℕ) (o m : ℕ) (e : ℕ × Puddle) (old new : State) (next : AreNextSteps at goal o m e) (c : CommitsSteps F at o m e None old new) where
   -- a word that had one value has one
   pub single_behind : (k : ℕ) → (k < DAEMON_LOG) ⊎ (TYPE_TABLE ≤ k) → HasOnly (old.now.words k) (old.now.words k).newest → HasOnly (new.now.words k) (new.now.words k).newest
   single_behind k outside one = by_write (batch_write c.es k) refl
@@ -101,7 +101,7 @@ module _ (F slot : ℕ) (at : List (ℕ × Puddle)) (goal : ℕ → ℕ) (g : Gr
   pub read_behind : (k : ℕ) → (k < DAEMON_LOG) ⊎ (TYPE_TABLE ≤ k) → reads new.now.words k ≡ overwritten (batch_write c.es) (reads old.now.words) k
   read_behind k outside = reads_committed c.es old new k outside c.commits.changes (c.commits.durable refl)
 
-  module _ (r : IsRewritable F slot at g old.now.words) where
+  module _ (slot : ℕ) (g : Graph) (r : IsRewritable F slot at g old.now.words) where
     abbrev read : Image
     read = reads old.now.words
 
@@ -183,7 +183,7 @@ module _ (F slot : ℕ) (goal : ℕ → ℕ) (g : Graph) where
   once_rewritable : (at later : List (ℕ × Puddle)) (old new : State) → RewritesOnce F goal at later None old new → IsRewritable F slot at g old.now.words → IsRewritable F slot later g new.now.words
   once_rewritable at later old new one r = elim one.does [
     | inl still ↦ absurd (still.1.0 refl)
-    | inr c ↦ subst (λ (ds : List (ℕ × Puddle)). IsRewritable F slot ds g new.now.words) (sym one.pool) (rewritable_behind F slot at goal g one.ordinal one.to one.puddle old new one.next c r)
+    | inr c ↦ subst (λ (ds : List (ℕ × Puddle)). IsRewritable F slot ds g new.now.words) (sym one.pool) (rewritable_behind F at goal one.ordinal one.to one.puddle old new one.next c slot g r)
   ]
 
   pub turns_rewritable : (batches : ℕ) (at later : List (ℕ × Puddle)) (old new : State) → RewritesInTurn F goal batches at later None old new → IsRewritable F slot at g old.now.words → IsRewritable F slot later g new.now.words

@@ -7,6 +7,7 @@ pub mod Rounds
 pub mod Passes
 pub mod Stepped
 pub mod Kept
+pub mod Spared
 pub mod Worlds
 pub mod WorldTurns
 pub mod ExamplesFrontiers

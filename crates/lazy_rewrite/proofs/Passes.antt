@@ -1,17 +1,17 @@
 -- One puddle more of a pool: its steps, how many are left, and the goal.
-use Rattle.std.proofs.Common.{◌≡◌, ℕ, ◌+◌, ◌-◌, ◌≤◌, min, List, Option, Some, sym, ap, ap₂, ◌∙◌, subst, ⊎_elim, arith, ne_eqb}
+use Rattle.std.proofs.Common.{◌≡◌, ℕ, ◌+◌, ◌-◌, ◌≤◌, min, List, length, Option, Some, sym, ap, ap₂, ◌∙◌, subst, ⊎_elim, arith, ne_eqb}
 use Rattle.std.specs.Prelude.{slice_get}
 use Rattle.std.proofs.lemmas.Bool.{cases_eq, cond-false}
+use Rattle.std.proofs.lemmas.List.{length-set}
 use Rattle.pm_model.specs.declared.host.HostFault.{HostFault}
 use Rattle.pm_model.specs.Moments.{State}
 use Rattle.pud_defs.specs.declared.records.Puddle.{Puddle}
 use Rattle.pud_defs.specs.Puddles.{moved_to}
-use Rattle.pud_defs.specs.Stored.{IsOnDevice}
 use Rattle.graph_laws.specs.Steps.{with_steps}
 use Rattle.lazy_rewrite.specs.Entries.{HasLowBases}
 use Rattle.lazy_rewrite.specs.Frontiers.{steps_left, frontier_after, left_among, steps_from, stepped_at, frontier_in, frontiers_of, frontier_at}
 use Rattle.lazy_rewrite.specs.Batches.{Rewrites}
-use Rattle.lazy_rewrite.proofs.Moved.{stepped_at-there, frontier_at-there, on_device-steps, low_bases-steps, steps_behind, left_behind, steps_behind-next, steps_behind-there, left_behind-next}
+use Rattle.lazy_rewrite.proofs.Moved.{stepped_at-there, frontier_at-there, low_bases-steps, steps_behind, left_behind, steps_behind-next, steps_behind-there, left_behind-next}
 use Rattle.lazy_rewrite.proofs.Turns.{Rewrites-further}
 
 module _ (whole now : List (ℕ × Puddle)) (i n done : ℕ) (e : ℕ × Puddle) (here : slice_get now i ≡ Some e) where
@@ -22,8 +22,8 @@ module _ (whole now : List (ℕ × Puddle)) (i n done : ℕ) (e : ℕ × Puddle)
   later_is : stepped_at i (n - done) now ≡ later
   later_is = stepped_at-there now i e here (n - done)
 
-  pub known_later : (F : ℕ) (new : List (ℕ × Puddle)) → new ≡ stepped_at i (n - done) now → IsOnDevice F now → IsOnDevice F new
-  known_later F new is known = subst (λ (ds : List (ℕ × Puddle)). IsOnDevice F ds) (sym (is ∙ later_is)) (on_device-steps F now i (frontier_after (n - done) e.1) e here known)
+  pub long_later : (new : List (ℕ × Puddle)) → new ≡ stepped_at i (n - done) now → length new ≡ length now
+  long_later new is = ap (λ (ds : List (ℕ × Puddle)). length ds) (is ∙ later_is) ∙ length-set now i (e.0, moved_to (frontier_after (n - done) e.1) e.1)
 
   pub low_later : (F : ℕ) (new : List (ℕ × Puddle)) → new ≡ stepped_at i (n - done) now → HasLowBases now → HasLowBases new
   low_later F new is low = subst (λ (ds : List (ℕ × Puddle)). HasLowBases ds) (sym (is ∙ later_is)) (low_bases-steps F now i (frontier_after (n - done) e.1) e here low)

@@ -1,16 +1,23 @@
 -- The batches of one puddle: from where to where each goes.
-use Rattle.std.proofs.Common.{◌≡◌, ℕ, ◌+◌, ◌-◌, ◌*◌, ◌<◌, ◌≤◌, min, List, Some, sym, ap, ◌∙◌, subst, arith}
-use Rattle.std.specs.Prelude.{slice_get}
+use Rattle.std.proofs.Common.{◌≡◌, ℕ, ◌+◌, ◌-◌, ◌*◌, ◌<◌, ◌≤◌, min, List, length, Some, sym, ap, ◌∙◌, subst, arith}
+use Rattle.std.specs.Prelude.{slice_get, slice_index_or}
+use Rattle.std.proofs.lemmas.List.{length-set}
+use Rattle.std.proofs.lemmas.Option.{slice_get_within, get_or_from_slice_get}
 use Rattle.pud_defs.specs.declared.space.TheConstants.{LAST_FRONTIER}
 use Rattle.pud_defs.specs.declared.records.Puddle.{Puddle}
 use Rattle.pud_defs.specs.Puddles.{moved_to}
-use Rattle.pud_defs.specs.Stored.{IsOnDevice}
 use Rattle.graph_laws.specs.Steps.{with_steps}
+use Rattle.graph_read.proofs.Pointed.{no_puddle}
 use Rattle.lazy_rewrite.specs.declared.batches.TheConstants.{BATCH_STEPS}
 use Rattle.lazy_rewrite.specs.Entries.{HasLowBases}
 use Rattle.lazy_rewrite.specs.Frontiers.{steps_left, frontier_after, stepped_at, frontier_at}
 use Rattle.lazy_rewrite.specs.Batches.{AreNextSteps}
-use Rattle.lazy_rewrite.proofs.Moved.{with_steps-none, with_steps-twice, with_steps-there, stepped_at-there, frontier_at-there, on_device-steps, low_bases-steps}
+use Rattle.lazy_rewrite.proofs.Moved.{with_steps-none, with_steps-twice, with_steps-there, stepped_at-there, frontier_at-there, low_bases-steps}
+
+-- how many steps are left of a puddle, as it was read of the pool that was lent
+pub left_read : (at lent : List (ℕ × Puddle)) (o left : ℕ) (e : ℕ × Puddle) → lent ≡ at → slice_get at o ≡ Some e → left ≡ steps_left (slice_index_or lent o no_puddle).1 → left ≡ steps_left e.1
+left_read at lent o left e same here is =
+    is ∙ ap (λ (ds : List (ℕ × Puddle)). steps_left (slice_index_or ds o no_puddle).1) same ∙ ap (λ (d : ℕ × Puddle). steps_left d.1) (get_or_from_slice_get at o e no_puddle here)
 
 module _ (at : List (ℕ × Puddle)) (o n : ℕ) (e : ℕ × Puddle) (here : slice_get at o ≡ Some e) (left steps : ℕ) (left_is : left ≡ steps_left e.1) (steps_is : steps ≡ min left n) where
   -- the frontier before a round
@@ -30,8 +37,8 @@ module _ (at : List (ℕ × Puddle)) (o n : ℕ) (e : ℕ × Puddle) (here : sli
       is ∙ ap (λ k. with_steps o k e at) all ∙ sym (stepped_at-there at o e here n)
 
   module _ (round : ℕ) (now : List (ℕ × Puddle)) (pool : now ≡ with_steps o (reached round) e at) where
-    pub known_now : (F : ℕ) → IsOnDevice F at → IsOnDevice F now
-    known_now F known = subst (λ (ds : List (ℕ × Puddle)). IsOnDevice F ds) (sym pool) (on_device-steps F at o (reached round) e here known)
+    pub within_now : o < length now
+    within_now = omega (arith, slice_get_within at o e here, ap length pool, length-set at o (e.0, moved_to (reached round) e.1))
 
     pub low_now : (F : ℕ) → HasLowBases at → HasLowBases now
     low_now F low = subst (λ (ds : List (ℕ × Puddle)). HasLowBases ds) (sym pool) (low_bases-steps F at o (reached round) e here low)

@@ -95,7 +95,7 @@ module _ (F : ℕ) (goal : ℕ → ℕ) (mask : Write) (types : IsOffTypes mask)
     pub idle_unmasked : (words : Words) → HasIdleGate DAEMON_LOG (masked mask words) → HasIdleGate DAEMON_LOG words
     idle_unmasked words idle = record { each = λ v has. idle.each v (subst (λ (c : Cell). Has (values c) v) (sym (masked-elsewhere mask words DAEMON_LOG off_log)) has) }
 
-    steps_masked : (o m : ℕ) (e : ℕ × Puddle) (fault : Option HostFault) (old new : State) → AreNextSteps at goal o m e → HasIdleGate DAEMON_LOG old.now.words → CommitsSteps F at o m e fault old new
+    pub steps_masked : (o m : ℕ) (e : ℕ × Puddle) (fault : Option HostFault) (old new : State) → AreNextSteps at goal o m e → HasIdleGate DAEMON_LOG old.now.words → CommitsSteps F at o m e fault old new
         → CommitsSteps F at o m e fault (masked_state mask old) (masked_state mask new)
     steps_masked o m e fault old new next idle c =
         let image = reads old.now.words in

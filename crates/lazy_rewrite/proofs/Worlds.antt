@@ -181,13 +181,13 @@ pub rewritable_in_behind : (size : ℕ) (s : StoredWorld) (slot : ℕ) (at : Lis
     → CommitsSteps s.frames at o m e None old new → IsRewritableIn size s slot at g old.now.words → is_legal_frontier (moved_to m e.1) ≡ true → ComesFrom at (with_steps o m e at) → IsRewritableIn size s slot (with_steps o m e at) g new.now.words
 rewritable_in_behind size s slot at goal g o m e old new next c r legal comes = record {
   settled = (batch_keeps_world size s slot at goal g o m e None old new next c r legal).settled refl;
-  pool = rewritable_behind s.frames slot at goal g o m e old new next c r.pool;
+  pool = rewritable_behind s.frames at goal o m e old new next c slot g r.pool;
   rec = r.rec;
   below = r.below;
-  used = ap (λ (u : Tables). u.pools slot) (tables_behind s.frames slot at goal g o m e old new next c r.pool) ∙ r.used;
+  used = ap (λ (u : Tables). u.pools slot) (tables_behind s.frames at goal o m e old new next c slot g r.pool) ∙ r.used;
   whole = λ n d there k low.
       let from = comes.each n d there in
       let was = r.whole n from.puddle from.here k low in
-      single_behind s.frames slot at goal g o m e old new next c (frame_at s.frames d.0 + k) (inr (omega arith))
+      single_behind s.frames at goal o m e old new next c (frame_at s.frames d.0 + k) (inr (omega arith))
       (subst (λ (frame : ℕ). HasOnly (old.now.words (frame_at s.frames frame + k)) (old.now.words (frame_at s.frames frame + k)).newest) from.frame was);
 }

@@ -1,12 +1,11 @@
 -- What the batch of steps writes, and where.
-use Rattle.std.proofs.Common.{◌≡◌, inl, inr, ℕ, zero, suc, ◌+◌, ◌-◌, ◌*◌, ◌/◌, ◌<◌, ◌≤◌, true, false, ◌&&◌, eqb, ltb, leb, ne_eqb, List, [], ◌∷◌, ◌++◌, map, set, get_or, length, subst, Option, Some, None, refl, sym, ap, ap₂, ◌∙◌, ⊎_elim, arith}
-use Rattle.std.specs.Prelude.{slice_get, All}
+use Rattle.std.proofs.Common.{◌≡◌, inl, inr, ℕ, zero, suc, ◌+◌, ◌-◌, ◌*◌, ◌/◌, ◌<◌, ◌≤◌, true, false, ◌&&◌, eqb, ltb, leb, ne_eqb, List, [], ◌∷◌, ◌++◌, map, length, subst, Option, Some, None, refl, sym, ap, ap₂, ◌∙◌, ⊎_elim, arith}
+use Rattle.std.specs.Prelude.{All}
 use Rattle.std.specs.List.{list_all}
 use Rattle.std.specs.Option.{option_or}
 use Rattle.std.proofs.lemmas.Bool.{cases_eq, cases_lt, cases_Bool, cond-false, and_parts, and_left, and_right, le-ltb, leb-true, ltb-true}
 use Rattle.std.proofs.lemmas.List.Elements.{All-nil, All-cons, All-append, All-weaker}
 use Rattle.std.proofs.lemmas.List.Sums.{sum_by-append, list_all-from_AllPass}
-use Rattle.std.proofs.lemmas.Option.{get_or_from_slice_get}
 use Rattle.pm_model.specs.declared.host.HostFault.{HostFault}
 use Rattle.pm_model.specs.Words.{Words, reads}
 use Rattle.pm_model.specs.Moments.{State}
@@ -326,10 +325,3 @@ module _ (F size : ℕ) (at : List (ℕ × Puddle)) (goal : ℕ → ℕ) (o m : 
       → (IsFree size DAEMON_LOG es b.now.words → Commits DAEMON_LOG es fault b d) → later ≡ pool_behind fault (with_steps o m e at) at → RewritesOnce F goal at later fault a d
   RewritesOnce-gathered es later fault b d still is idle commits pool =
       record { ordinal = o; to = m; puddle = e; next = next; pool = pool; does = inr (CommitsSteps-gathered es fault b d still is idle commits) }
-
--- the pool with the frontier that was moved
-pub pool_moved : (at : List (ℕ × Puddle)) (o m to : ℕ) (e d : ℕ × Puddle) → slice_get at o ≡ Some e → to ≡ m
-    → set at o ((get_or at o d).0, record { number = (get_or at o d).1.number; base = (get_or at o d).1.base; old_base = (get_or at o d).1.old_base; frontier = to }) ≡ with_steps o m e at
-pool_moved at o m to e d here is =
-    let same = get_or_from_slice_get at o e d here in
-    λ i. set at o ((same i).0, record { number = (same i).1.number; base = (same i).1.base; old_base = (same i).1.old_base; frontier = is i })

@@ -33,6 +33,7 @@ use pud_defs::records::{PUDDLE_FRONTIER_WORD, Puddle, Slot};
 use pud_defs::space::{LAST_FRONTIER, ROOT_WORD, SLOT_FIELDS_WORD, frame_at, puddle_slot_at};
 use pud_defs::type_map::{map_fields, map_is_pointer};
 use puddle_header::{root_value, slot_field, slot_serial, slot_type};
+use puddle_table::Puddles;
 use type_maps::find;
 
 /// The most steps that a batch has.
@@ -209,7 +210,7 @@ fn gather<H: Loads>(
 pub(crate) fn rewrite_batch<H: Host>(
     h: &mut H,
     frames: u32,
-    pool: &mut [(u32, Puddle)],
+    pool: &mut Puddles,
     ordinal: u32,
     from: u32,
     to: u32,
@@ -224,15 +225,11 @@ pub(crate) fn rewrite_batch<H: Host>(
     ensures rewrites { H.tells → (size : ℕ) → size ≡ (H.counts h.old).size → HasIdleGate DAEMON_LOG (H.state h.old).now.words → HasLowBases pool.old
         → (goal : ℕ → ℕ) (e : ℕ × Puddle) → e.1.frontier ≡ from → AreNextSteps pool.old goal ordinal to e
         → RewritesOnce frames goal pool.old pool.new (fault_of result) (H.state h.old) (H.state h.new) }
+    ensures known { IsOnDevice frames pool.new }
     ensures any { H.tells → Changes Anything (fault_of result) (H.state h.old) (H.state h.new) }
     ensures cause { H.counts h.new ≡ after_fault (fault_of result) (H.counts h.old) }
 {
-    gather(h, frames, pool, ordinal, from, to)?.commit(h)?;
-    let (frame, puddle) = pool[ordinal as usize];
-    let moved = Puddle {
-        frontier: u64::from(to),
-        ..puddle
-    };
-    pool[ordinal as usize] = (frame, moved);
+    gather(h, frames, pool.as_slice(), ordinal, from, to)?.commit(h)?;
+    pool.move_frontier(ordinal, to);
     Ok(())
 }

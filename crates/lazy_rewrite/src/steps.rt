@@ -22,6 +22,7 @@ use pm_model::{Host, HostFault};
 use pud_defs::layout::MAX_FRAMES;
 use pud_defs::records::Puddle;
 use pud_defs::space::{LAST_FRONTIER, steps_of};
+use puddle_table::Puddles;
 
 /// How many steps of a puddle are left.
 fn steps_left(puddle: &Puddle) -> u32
@@ -34,7 +35,7 @@ fn steps_left(puddle: &Puddle) -> u32
 fn advance<H: Host>(
     h: &mut H,
     frames: u32,
-    pool: &mut [(u32, Puddle)],
+    pool: &mut Puddles,
     ordinal: u32,
     n: u32,
 ) -> Result<u32, HostFault>
@@ -46,10 +47,11 @@ fn advance<H: Host>(
     ensures pool { IfOk result (λ done. pool.new ≡ stepped_at ordinal n pool.old) }
     ensures rewrites { H.tells → (size : ℕ) → size ≡ (H.counts h.old).size → HasIdleGate DAEMON_LOG (H.state h.old).now.words → HasLowBases pool.old
         → Rewrites frames (frontier_at ordinal (stepped_at ordinal n pool.old)) pool.old pool.new (fault_of result) (H.state h.old) (H.state h.new) }
+    ensures known { IsOnDevice frames pool.new }
     ensures any { H.tells → Changes Anything (fault_of result) (H.state h.old) (H.state h.new) }
     ensures cause { H.counts h.new ≡ after_fault (fault_of result) (H.counts h.old) }
 {
-    let (_, puddle) = pool[ordinal as usize];
+    let (_, puddle) = pool.as_slice()[ordinal as usize];
     let left = steps_left(&puddle);
     let steps = left.min(n);
     let start = LAST_FRONTIER - left;
@@ -62,12 +64,7 @@ fn advance<H: Host>(
 }
 
 /// Does the next `n` steps of a pool, puddle by puddle; the answer is how many.
-fn pass<H: Host>(
-    h: &mut H,
-    frames: u32,
-    pool: &mut [(u32, Puddle)],
-    n: u32,
-) -> Result<u32, HostFault>
+fn pass<H: Host>(h: &mut H, frames: u32, pool: &mut Puddles, n: u32) -> Result<u32, HostFault>
     requires few { frames ≤ MAX_FRAMES }
     requires room { device_words frames ≤ (H.counts h.old).size }
     requires known { IsOnDevice frames pool.old }
@@ -75,11 +72,12 @@ fn pass<H: Host>(
     ensures pool { IfOk result (λ done. pool.new ≡ steps_from n pool.old) }
     ensures rewrites { H.tells → (size : ℕ) → size ≡ (H.counts h.old).size → HasIdleGate DAEMON_LOG (H.state h.old).now.words → HasLowBases pool.old
         → Rewrites frames (frontiers_of (steps_from n pool.old)) pool.old pool.new (fault_of result) (H.state h.old) (H.state h.new) }
+    ensures known { IsOnDevice frames pool.new }
     ensures any { H.tells → Changes Anything (fault_of result) (H.state h.old) (H.state h.new) }
     ensures cause { H.counts h.new ≡ after_fault (fault_of result) (H.counts h.old) }
 {
     let mut done = 0;
-    for ordinal in 0..pool.len() as u32 {
+    for ordinal in 0..pool.as_slice().len() as u32 {
         done += advance(h, frames, pool, ordinal, n - done)?;
     }
     Ok(done)
@@ -87,19 +85,14 @@ fn pass<H: Host>(
 
 /// Does the next `n` steps of a pool, or all that are left, by ordinal and then by step; the answer is how many.
 ///
-/// The device has so many frames and the words that they need, and the pool is given by the frames and the records of its puddles.
+/// The device has so many frames and the words that they need, and the pool is given by its puddles.
 /// At `Ok` the frontiers in the pool are those after these steps, and in any case those of the batches that are done. Only the
 /// daemon log, and the frames and the frontiers in the table of the puddles whose frontiers are to move, are written. Where the
 /// pool has a graph, the daemon log counts nothing, and each word of the tables and of the frames in which steps are left has one
 /// value, each image left meanwhile has, with the daemon log replayed, the graph of the image before it that agrees with it
 /// outside these words, also where one value is an address over both sets of bases. Where each image stands for a world
 /// besides, it stands for the same one. The only errors are the host's own.
-pub fn step<H: Host>(
-    h: &mut H,
-    frames: u32,
-    pool: &mut [(u32, Puddle)],
-    n: u32,
-) -> Result<u32, HostFault>
+pub fn step<H: Host>(h: &mut H, frames: u32, pool: &mut Puddles, n: u32) -> Result<u32, HostFault>
     requires few { frames ≤ MAX_FRAMES }
     requires room { device_words frames ≤ (H.counts h.old).size }
     requires known { IsOnDevice frames pool.old }
@@ -115,44 +108,46 @@ pub fn step<H: Host>(
     ensures world { H.tells → (size : ℕ) → size ≡ (H.counts h.old).size → HasLowBases pool.old → (s : StoredWorld) → frames ≡ s.frames → (slot : ℕ) (g : Graph) (mask : Write)
         → MayRewrite size s slot pool.old (frontiers_of (steps_from n pool.old)) g mask (H.state h.old).now.words
         → KeepsWorld size s (fault_of result) (masked_state mask (H.state h.old)) (masked_state mask (H.state h.new)) }
+    ensures known { IsOnDevice frames pool.new }
     ensures any { H.tells → Changes Anything (fault_of result) (H.state h.old) (H.state h.new) }
     ensures cause { H.counts h.new ≡ after_fault (fault_of result) (H.counts h.old) }
 {
     pass(h, frames, pool, n)
 }
 
-/// Rewrites what is left of the puddle of an ordinal.
+/// Rewrites what is left of the puddle of an ordinal, where there is one.
 fn complete<H: Host>(
     h: &mut H,
     frames: u32,
-    pool: &mut [(u32, Puddle)],
+    pool: &mut Puddles,
     ordinal: u32,
 ) -> Result<(), HostFault>
     requires few { frames ≤ MAX_FRAMES }
     requires room { device_words frames ≤ (H.counts h.old).size }
     requires known { IsOnDevice frames pool.old }
-    requires within { ordinal < length pool.old }
     ensures pool { IfOk result (λ _. pool.new ≡ finished_at ordinal pool.old) }
     ensures rewrites { H.tells → (size : ℕ) → size ≡ (H.counts h.old).size → HasIdleGate DAEMON_LOG (H.state h.old).now.words → HasLowBases pool.old
         → Rewrites frames (frontier_at ordinal (finished_at ordinal pool.old)) pool.old pool.new (fault_of result) (H.state h.old) (H.state h.new) }
+    ensures known { IsOnDevice frames pool.new }
     ensures any { H.tells → Changes Anything (fault_of result) (H.state h.old) (H.state h.new) }
     ensures cause { H.counts h.new ≡ after_fault (fault_of result) (H.counts h.old) }
 {
-    let _done = advance(h, frames, pool, ordinal, LAST_FRONTIER)?;
+    if ordinal < pool.as_slice().len() as u32 {
+        let _done = advance(h, frames, pool, ordinal, LAST_FRONTIER)?;
+    }
     Ok(())
 }
 
-/// Rewrites the puddle of an ordinal to its end, by batches of up to ten steps. It is as `step` is, for this puddle alone.
+/// Rewrites the puddle of an ordinal, where there is one, to its end, by batches of up to ten steps. It is as `step` is, for this puddle alone.
 pub fn finish<H: Host>(
     h: &mut H,
     frames: u32,
-    pool: &mut [(u32, Puddle)],
+    pool: &mut Puddles,
     ordinal: u32,
 ) -> Result<(), HostFault>
     requires few { frames ≤ MAX_FRAMES }
     requires room { device_words frames ≤ (H.counts h.old).size }
     requires known { IsOnDevice frames pool.old }
-    requires within { ordinal < length pool.old }
     ensures pool { IfOk result (λ _. pool.new ≡ finished_at ordinal pool.old) }
     ensures rewrites { H.tells → (size : ℕ) → size ≡ (H.counts h.old).size → HasIdleGate DAEMON_LOG (H.state h.old).now.words → HasLowBases pool.old
         → Rewrites frames (frontier_at ordinal (finished_at ordinal pool.old)) pool.old pool.new (fault_of result) (H.state h.old) (H.state h.new) }
@@ -164,6 +159,7 @@ pub fn finish<H: Host>(
     ensures world { H.tells → (size : ℕ) → size ≡ (H.counts h.old).size → HasLowBases pool.old → (s : StoredWorld) → frames ≡ s.frames → (slot : ℕ) (g : Graph) (mask : Write)
         → MayRewrite size s slot pool.old (frontier_at ordinal (finished_at ordinal pool.old)) g mask (H.state h.old).now.words
         → KeepsWorld size s (fault_of result) (masked_state mask (H.state h.old)) (masked_state mask (H.state h.new)) }
+    ensures known { IsOnDevice frames pool.new }
     ensures any { H.tells → Changes Anything (fault_of result) (H.state h.old) (H.state h.new) }
     ensures cause { H.counts h.new ≡ after_fault (fault_of result) (H.counts h.old) }
 {

@@ -43,7 +43,7 @@ use Rattle.batch.specs.Worlds.{IsSettled}
 use Rattle.batch.proofs.Tables.{HasDurableTables-kept, reads_kept}
 use Rattle.word_transaction.specs.Ground.{Ground, IsGround}
 use Rattle.word_transaction.specs.Running.{IsIdle, nothing, begun, SettlesTo, Runs}
-use Rattle.hybrid_tx.specs.Grounds.{pool_mine, pool_ground, IsPlaced}
+use Rattle.hybrid_tx.specs.Grounds.{pool_mine, pool_ground, IsPlaced, finished_of}
 use Rattle.hybrid_tx.specs.Open.Masks.{OpenPool, is_open_record, open_mask, ArePuddlesOf, IsOpenPool}
 use Rattle.hybrid_tx.specs.Open.ManyOpen.{OpenTransaction, AreLeftOpen, AreOpenPools, HasRecords, IsOneMore, MasksAll, Opens, open_masks, with_transaction}
 use Rattle.hybrid_tx.proofs.Open.OpenIdle.{unnamed_idle}
@@ -55,6 +55,7 @@ use Rattle.hybrid_tx.proofs.Open.PoolPlaces.{are_puddles_in_turn}
 use Rattle.hybrid_tx.proofs.Open.ManyIdle.{idle_world_begun, left_more, masks_elsewhere, one_begun, opens_more, records_more}
 use Rattle.hybrid_tx.proofs.Open.ManyMasks.{masks_below, masks_beside_log, masks_of_gate, masks_same, open_masks_all}
 use Rattle.hybrid_tx.proofs.Open.OpenSettled.{nothing_given}
+use Rattle.hybrid_tx.proofs.FinishedPuddles.{finished_placed, mine_of_finished, finished_puddles}
 use Rattle.ready_daemon.specs.Memory.{Held, Memory, held_under}
 use Rattle.ready_daemon.specs.Held.{IsHeld, Holds, HasDurableFrames, HasIdleLogs, HasSessions, IsHeldUnder, open_held, pool_held}
 use Rattle.ready_daemon.specs.Beginning.{MayBegin, begins_as}
@@ -123,7 +124,7 @@ module _ (size : ℕ) (w : World) (memory : Memory) (old : State) (ready : IsRea
   o = record { pool = p; before = now }
 
   abbrev g : Ground
-  g = pool_ground n at
+  g = pool_ground n (finished_of at)
 
   known : number < ALL_LOGS
   known = vacant.known
@@ -134,8 +135,10 @@ module _ (size : ℕ) (w : World) (memory : Memory) (old : State) (ready : IsRea
   low_client : client < CLIENTS
   low_client = let few = known in let whose = vacant.whose in omega arith
 
-  puddles : ArePuddlesOf (tables_of n now) slot at
-  puddles = subst (ArePuddlesOf (tables_of n now) slot) may.puddles (are_puddles_in_turn w.stored.next_number (tables_of n now) slot (sound_read size w memory old ready))
+  puddles : ArePuddlesOf (tables_of n now) slot (finished_of at)
+  puddles =
+      finished_puddles (tables_of n now) slot at
+      (subst (ArePuddlesOf (tables_of n now) slot) may.puddles (are_puddles_in_turn w.stored.next_number (tables_of n now) slot (sound_read size w memory old ready)))
 
   opened : IsOpenPool n p now
   opened = record { known = known; slot = within; used = may.used; puddles = puddles; owned = ap (owner_of now) vacant.whose ∙ may.owned; right = may.right }
@@ -143,13 +146,13 @@ module _ (size : ℕ) (w : World) (memory : Memory) (old : State) (ready : IsRea
   placed : IsPlaced n at
   placed = placed_by_tables w.stored.next_number n now slot at (sound_read size w memory old ready) may.puddles
 
-  on_device : IsOnDevice n at
-  on_device = placed.on_device
+  on_device : IsOnDevice n (finished_of at)
+  on_device = (finished_placed n at placed).on_device
 
   room : device_words n ≤ size
   room = (header_read size w memory old ready).room
 
-  ground : IsGround size gate g
+  ground : IsGround size gate (pool_ground n at)
   ground = let few = known in is_ground n size gate at placed room (omega arith)
 
   present : w.clients client ≡ Some may.who
@@ -220,7 +223,7 @@ module _ (size : ℕ) (w : World) (memory : Memory) (old : State) (ready : IsRea
       ∙ registered_is_closed n under number may.who (stands.holds Spaces).logs known owned
 
   -- and each word of its frames has one value
-  idle : IsIdle g gate now old.now.words
+  idle : IsIdle (pool_ground n at) gate now old.now.words
   idle =
       record {
         closed = log_closed;
@@ -265,7 +268,7 @@ module _ (size : ℕ) (w : World) (memory : Memory) (old : State) (ready : IsRea
   -- with its words masked too each image stands for the world
   world_there : (i : Image) → Picks old.now.words i → idle_world_of size (masked_image mask_then i) ≡ Some w.stored
   world_there i picked =
-      idle_world_begun size w.stored number o opens opens_then more i are_then (records_there i picked) (λ k mine. (idle.single k mine).each (i k) (picked.each k))
+      idle_world_begun size w.stored number o opens opens_then more i are_then (records_there i picked) (λ k mine. (idle.single k (mine_of_finished n at k mine)).each (i k) (picked.each k))
       (λ k v is. unnamed_idle i k (idle_there i picked))
       (ap (λ (m : Write). idle_world_of size (masked_image m i)) (sym mask_was) ∙ ready.settled.stands (masked_image ready.mask i) (Picks-masked ready.mask old.now.words i picked))
 
@@ -301,7 +304,7 @@ module _ (size : ℕ) (w : World) (memory : Memory) (old : State) (ready : IsRea
     abbrev c : Changes By fault old new
     c = persists.changes
 
-    from_same : (j : Image) (from : HasOrigin By old.now.words j) (k : ℕ) → is_in_log gate k ≡ false → pool_mine n at k ≡ false → j k ≡ from.before k
+    from_same : (j : Image) (from : HasOrigin By old.now.words j) (k : ℕ) → is_in_log gate k ≡ false → pool_mine n (finished_of at) k ≡ false → j k ≡ from.before k
     from_same j from k outside other = elim (from.from.each k) [ inl same ↦ same | inr wrote ↦ absurd (not_gate k (j k) outside wrote) ]
 
     idle_of : (j : Image) (from : HasOrigin By old.now.words j) → is_idle_gate (j DAEMON_LOG) ≡ true
@@ -397,7 +400,7 @@ module _ (size : ℕ) (w : World) (memory : Memory) (old : State) (ready : IsRea
               let other = layouts.log_at n whose number_of in
               let outside : is_in_log gate other ≡ false = outside_log gate other (elim (cases_lt other gate) [ inl before ↦ inl before | inr behind ↦ inr (omega arith) ]) in
               other_idle other outside
-              (mask_of_others n p now other outside (mine_behind n at other (omega arith))
+              (mask_of_others n p now other outside (mine_behind n (finished_of at) other (omega arith))
               (false_from_ne_true (is_open_record p other) (λ of. let place = open_record_place n p other within known on_device of in let high = place.high in absurd (omega arith))))
               (ready.logs.each whose number_of low few there)
         ];
@@ -450,7 +453,13 @@ module _ (size : ℕ) (w : World) (memory : Memory) (old : State) (ready : IsRea
           let opened_then = more.same m (other_number w memory.held ready.mask old.now.words ready.held number begun_held begun_transaction placed_there vacant.free vacant.shut m h there) ∙ under.opened in
           still_under w next h ready.mask mask_then old new under.is
           (keeps_others w memory.held ready.mask old.now.words ready.held number begun_held begun_transaction placed_there vacant.free vacant.shut m h there)
-          By (begun_apart h under.is) changed (masks_then.has m (open_held h under.is.at under.is.rec under.is.who under.is.before) opened_then) opens_then m under.number_is opened_then
+          By (begun_apart h under.is) changed (masks_then.has m (open_held h under.is.at under.is.rec under.is.who under.is.before) opened_then)
+          (record {
+            each = λ k mine other.
+                let word = pool_mine-each n under.is.at k mine in
+                let low = word.low in
+                HasOnly-kept By None old new k (under.is.before k) changed (λ v. not_gate k v (in_frames k (omega arith))) (under.is.running.rests.each k mine other);
+          }) opens_then m under.number_is opened_then
 
       abbrev holds_begun : Holds next all mask_then new.now.words
       holds_begun =
@@ -500,7 +509,7 @@ pub Applies-begins : (size : ℕ) (w : World) (memory : Memory) (F client : ℕ)
     → IsLogOf client number → MayBeginIn memory (reads old.now.words) client name slot number → (fault ≡ None → number < length memory.held) → IsReady size w memory old
     → Persists (only (log_number_at F number) RUNNING_GATE) fault old new
     → ((pool : List (ℕ × Puddle)) (before : Image) → IsPlaced F pool → IsIdle (pool_ground F pool) (log_number_at F number) before old.now.words
-    → Runs (pool_ground F pool) (begun (log_number_at F number)) [] before nothing fault old new)
+    → Runs (pool_ground F (finished_of pool)) (begun (log_number_at F number)) [] before nothing fault old new)
     → Applies size w (after w (commands.Begin client name)) (with_begun (begins_as client name slot F number) memory) fault old new
 Applies-begins size w memory F client name slot number fault old new on below few of m place ready persists runs =
     let low = of.low in
@@ -521,7 +530,7 @@ Applies-begins size w memory F client name slot number fault old new on below fe
     subst (λ (k : ℕ).
     Persists (only (log_number_at k number) RUNNING_GATE) fault old new
     → ((pool : List (ℕ × Puddle)) (before : Image) → IsPlaced k pool → IsIdle (pool_ground k pool) (log_number_at k number) before old.now.words
-    → Runs (pool_ground k pool) (begun (log_number_at k number)) [] before nothing fault old new)
+    → Runs (pool_ground k (finished_of pool)) (begun (log_number_at k number)) [] before nothing fault old new)
     → Applies size w (after w (commands.Begin client name)) (with_begun (begins_as client name slot k number) memory) fault old new) same
     (λ persists runs.
     Applies-begun size w memory old ready client name slot number m.at vacant may fault new persists

@@ -36,7 +36,7 @@ use Rattle.batch.proofs.Tables.{HasDurableTables-kept, reads_kept}
 use Rattle.word_transaction.specs.Ground.{Ground}
 use Rattle.word_transaction.specs.Running.{ByTransaction, SettlesTo, Closes, Ends}
 use Rattle.word_transaction.proofs.Ended.{beside_transaction, Ends-either}
-use Rattle.hybrid_tx.specs.Grounds.{pool_mine, pool_ground}
+use Rattle.hybrid_tx.specs.Grounds.{pool_mine, pool_ground, finished_of}
 use Rattle.hybrid_tx.specs.Open.Masks.{OpenPool, is_open_record, IsOpenPool, IsLeftOpen}
 use Rattle.hybrid_tx.specs.Open.ManyOpen.{OpenTransaction, Opens, with_transaction, open_masks, AreOpenPools, MasksAll, HasRecords, AreLeftOpen, IsOneMore}
 use Rattle.hybrid_tx.proofs.Open.ManyIdle.{one_put, others_records, opens_more, records_more, left_more, masks_elsewhere, idle_world_ended}
@@ -46,6 +46,10 @@ use Rattle.hybrid_tx.proofs.Open.OpenIdle.{unnamed_idle, IsOpenPool-same}
 use Rattle.hybrid_tx.proofs.Open.OpenMasks.{open_record_place, mine_behind, mask_of_others}
 use Rattle.hybrid_tx.proofs.Open.OpenPools.{open_on_device}
 use Rattle.hybrid_tx.proofs.Open.OpenWorlds.{world_with_many, none_refused_with_many}
+use Rattle.hybrid_tx.proofs.PoolGrounds.{pool_mine-each}
+use Rattle.hybrid_tx.specs.Objects.Transactions.{RestsAs}
+use Rattle.ready_daemon.proofs.PoolsBeside.{one_slot}
+use Rattle.ready_daemon.proofs.RestBeside.{held_graph}
 use Rattle.ready_daemon.specs.Memory.{Held, Memory, held_under}
 use Rattle.ready_daemon.specs.Held.{pool_held, open_held, IsHeld, IsHeldUnder, HasIdleLogs}
 use Rattle.ready_daemon.specs.KnownPools.{KnowsPools}
@@ -56,7 +60,7 @@ use Rattle.pool_transaction.specs.Lifetime.{with_ended}
 use Rattle.pool_transaction.proofs.HeldRuns.{stands_within}
 use Rattle.ready_daemon.proofs.InTurn.{held_in_turn}
 use Rattle.ready_daemon.proofs.JudgedKept.{HasGraphIn}
-use Rattle.ready_daemon.proofs.JudgedOpen.{KnowsPools-ended, KeepsPools-held, graph_held_in}
+use Rattle.ready_daemon.proofs.JudgedOpen.{KnowsPools-ended, KeepsPools-held, graph_held_in, rest_held}
 use Rattle.ready_daemon.proofs.OthersHeld.{one_of_all, others_are, others_mask, holds_others, sessions_others}
 use Rattle.ready_daemon.proofs.TablesBeside.{types_read}
 
@@ -64,7 +68,7 @@ use Rattle.ready_daemon.proofs.TablesBeside.{types_read}
 
 -- images that differ in the words of one open transaction alone, its log's and its frames', where the daemon log of the first counts nothing
 module _ (size : ℕ) (s : StoredWorld) (number : ℕ) (o : OpenTransaction) (others opens : Opens) (more : IsOneMore number o others opens) (are : AreOpenPools s.frames opens) (i j : Image)
-    (idle : is_idle_gate (i DAEMON_LOG) ≡ true) (same : (k : ℕ) → is_in_log (log_number_at s.frames number) k ≡ false → pool_mine s.frames o.pool.at k ≡ false → j k ≡ i k)
+    (idle : is_idle_gate (i DAEMON_LOG) ≡ true) (same : (k : ℕ) → is_in_log (log_number_at s.frames number) k ≡ false → pool_mine s.frames (finished_of o.pool.at) k ≡ false → j k ≡ i k)
     (records : HasRecords opens i) (world : idle_world_of size (masked_image (open_masks s.frames opens) i) ≡ Some s) where
   abbrev F : ℕ
   F = s.frames
@@ -83,7 +87,7 @@ module _ (size : ℕ) (s : StoredWorld) (number : ℕ) (o : OpenTransaction) (ot
   masked_same =
       let each : (k : ℕ) → masked_image m j k ≡ masked_image m i k = λ k. elim (cases_Bool (is_in_log gate k)) [
         | inl inside ↦ let v = masks_of_log F opens m are masks number o more.here k inside in masked_image-there m j k v.0 v.1 ∙ sym (masked_image-there m i k v.0 v.1)
-        | inr outside ↦ elim (cases_Bool (pool_mine F o.pool.at k)) [
+        | inr outside ↦ elim (cases_Bool (pool_mine F (finished_of o.pool.at) k)) [
           | inl mine ↦
               let is = masks_of_mine F opens m are masks number o more.here k mine in
               masked_image-there m j k (o.before k) is ∙ sym (masked_image-there m i k (o.before k) is)
@@ -93,7 +97,7 @@ module _ (size : ℕ) (s : StoredWorld) (number : ℕ) (o : OpenTransaction) (ot
       λ q k. each k q
 
   before_logs : (k : ℕ) → k < tables_end F → j k ≡ i k
-  before_logs k below = same k (outside_log gate k (inl (omega arith))) (mine_behind F o.pool.at k (omega arith))
+  before_logs k below = same k (outside_log gate k (inl (omega arith))) (mine_behind F (finished_of o.pool.at) k (omega arith))
 
   pub idle_now : is_idle_gate (j DAEMON_LOG) ≡ true
   idle_now = ap is_idle_gate (before_logs DAEMON_LOG (omega arith)) ∙ idle
@@ -114,7 +118,7 @@ module _ (size : ℕ) (s : StoredWorld) (number : ℕ) (o : OpenTransaction) (ot
   left_stands left = (world_with_many size F s opens j refl are left world_now, record { each = none_refused_with_many size F s opens j refl are left world_now })
 
   -- and where its log is closed and its frames have these values it does so, idle, with the words of the others masked
-  pub ended_stands : is_closed_log j gate ≡ true → ((k : ℕ) → pool_mine F o.pool.at k ≡ true → j k ≡ o.before k) → idle_world_of size (masked_image (open_masks F others) j) ≡ Some s
+  pub ended_stands : is_closed_log j gate ≡ true → ((k : ℕ) → pool_mine F (finished_of o.pool.at) k ≡ true → j k ≡ o.before k) → idle_world_of size (masked_image (open_masks F others) j) ≡ Some s
   ended_stands shut mine = idle_world_ended size s number o others opens more j are records_now mine (λ k v is. unnamed_idle j k idle_now) shut world_now
 
 -- ---- the calls that end one
@@ -189,7 +193,7 @@ module _ (size : ℕ) (w : World) (memory : Memory) (number : ℕ) (held : Held)
   rest = open_masks n others
 
   abbrev g : Ground
-  g = pool_ground n is_held.at
+  g = pool_ground n (finished_of is_held.at)
 
   abbrev may : Footprint
   may = ByTransaction g held.tx.log.at
@@ -230,8 +234,8 @@ module _ (size : ℕ) (w : World) (memory : Memory) (number : ℕ) (held : Held)
   world_there i picked =
       ap (λ (m : Write). idle_world_of size (masked_image m i)) (sym mask_is) ∙ ready.settled.stands (masked_image ready.mask i) (Picks-masked ready.mask old.now.words i picked)
 
-  below_mine : (k : ℕ) → k < tables_end n → pool_mine n is_held.at k ≡ false
-  below_mine k below = mine_behind n is_held.at k (omega arith)
+  below_mine : (k : ℕ) → k < tables_end n → pool_mine n (finished_of is_held.at) k ≡ false
+  below_mine k below = mine_behind n (finished_of is_held.at) k (omega arith)
 
   below_log : (k : ℕ) → k < tables_end n → is_in_log held.tx.log.at k ≡ false
   below_log k below = let gate = is_held.gate in outside_log held.tx.log.at k (inl (omega arith))
@@ -246,7 +250,7 @@ module _ (size : ℕ) (w : World) (memory : Memory) (number : ℕ) (held : Held)
   record_below k of = (open_record_place n pool k is_held.pool.slot is_held.pool.known (open_on_device n pool before is_held.pool) of).high
 
   -- a word behind the tables that is none of its own is masked as it is with the words of the others alone
-  rest_same : (k : ℕ) → is_in_log held.tx.log.at k ≡ false → pool_mine n is_held.at k ≡ false → tables_end n ≤ k → ready.mask k ≡ rest k
+  rest_same : (k : ℕ) → is_in_log held.tx.log.at k ≡ false → pool_mine n (finished_of is_held.at) k ≡ false → tables_end n ≤ k → ready.mask k ≡ rest k
   rest_same k outside other above =
       masks_elsewhere number own others opens more n ready.mask rest ready.held.masks rest_masks k
       (mask_of_others n pool before k (ap (λ (at : ℕ). is_in_log at k) (sym is_held.gate) ∙ outside) other
@@ -260,10 +264,10 @@ module _ (size : ℕ) (w : World) (memory : Memory) (number : ℕ) (held : Held)
   -- ---- an image that is left by its calls
 
   module _ (j : Image) (f : HasOrigin may old.now.words j) where
-    from_same : (k : ℕ) → is_in_log held.tx.log.at k ≡ false → pool_mine n is_held.at k ≡ false → j k ≡ f.before k
+    from_same : (k : ℕ) → is_in_log held.tx.log.at k ≡ false → pool_mine n (finished_of is_held.at) k ≡ false → j k ≡ f.before k
     from_same k outside other = elim (f.from.each k) [ inl same ↦ same | inr wrote ↦ absurd (beside_transaction g held.tx.log.at k (j k) outside other wrote) ]
 
-    from_number : (k : ℕ) → is_in_log (log_number_at n number) k ≡ false → pool_mine n is_held.at k ≡ false → j k ≡ f.before k
+    from_number : (k : ℕ) → is_in_log (log_number_at n number) k ≡ false → pool_mine n (finished_of is_held.at) k ≡ false → j k ≡ f.before k
     from_number k outside other = from_same k (ap (λ (at : ℕ). is_in_log at k) gate_is ∙ outside) other
 
     idle_left : is_idle_gate (j DAEMON_LOG) ≡ true
@@ -309,7 +313,7 @@ module _ (size : ℕ) (w : World) (memory : Memory) (number : ℕ) (held : Held)
 
   -- ---- other values of its frames
 
-  module _ (after : Image) (agrees : (k : ℕ) → pool_mine n is_held.at k ≡ false → after k ≡ before k) where
+  module _ (after : Image) (agrees : (k : ℕ) → pool_mine n (finished_of is_held.at) k ≡ false → after k ≡ before k) where
     abbrev pub later : OpenTransaction
     later = record { pool = pool; before = after }
 
@@ -387,7 +391,7 @@ module _ (size : ℕ) (w : World) (memory : Memory) (number : ℕ) (held : Held)
         }
 
         frames_single : (k : ℕ) → frames_at n ≤ k → HasOnly (masked rest new.now.words k) (masked rest new.now.words k).newest
-        frames_single k above = elim (cases_Bool (pool_mine n is_held.at k)) [
+        frames_single k above = elim (cases_Bool (pool_mine n (finished_of is_held.at) k)) [
           | inl mine ↦ HasOnly-own_masked rest new.now.words k (HasOnly-own (new.now.words k) (after k) (e.durable done k mine))
           | inr other ↦
               let outside = above_log k above in
@@ -416,7 +420,7 @@ module _ (size : ℕ) (w : World) (memory : Memory) (number : ℕ) (held : Held)
                 | inr apart ↦
                     let its = gate_is in
                     let outside : is_in_log held.tx.log.at gate ≡ false = outside_log held.tx.log.at gate (elim (cases_lt gate held.tx.log.at) [ inl low ↦ inl low | inr high ↦ inr (omega arith) ]) in
-                    let other : pool_mine n is_held.at gate ≡ false = mine_behind n is_held.at gate (omega arith) in
+                    let other : pool_mine n (finished_of is_held.at) gate ≡ false = mine_behind n (finished_of is_held.at) gate (omega arith) in
                     idle_kept gate may None (masked_state rest old) (masked_state rest new) changed_under (λ v wrote. absurd (beside_transaction g held.tx.log.at gate v outside other wrote))
                     (record {
                       each = λ v had. (ready.logs.each client number_of low few present).each v (subst (λ (x : Option ℕ). Has (values (masked_cell x (old.now.words gate))) v) (sym (rest_same gate outside other (omega arith))) had);
@@ -424,11 +428,31 @@ module _ (size : ℕ) (w : World) (memory : Memory) (number : ℕ) (held : Held)
               ];
         }
 
+        -- each word of its pool has the value that is left
+        left_read : (k : ℕ) → pool_mine n is_held.at k ≡ true → reads new.now.words k ≡ after k
+        left_read k mine = elim (cases_Bool (pool_mine n (finished_of is_held.at) k)) [
+          | inl own ↦ HasOnly-newest (new.now.words k) (after k) (e.durable done k own)
+          | inr other ↦
+              let m = pool_mine-each n is_held.at k mine in
+              let low = m.low in
+              let outside = above_log k (omega arith) in
+              HasOnly-newest (new.now.words k) (before k)
+              (HasOnly-kept may None old new k (before k) changed (λ v. beside_transaction g held.tx.log.at k v outside other) (is_held.running.rests.each k mine other))
+              ∙ sym (agrees k other)
+        ]
+
+        -- the words that rest of another pool do so still
+        others_rest : (m : ℕ) (h : Held) (was : held_under memory.held m ≡ Some h) → m ≢ number → RestsAs n (ready.held.each m h was).is.at (ready.held.each m h was).is.before new.now.words
+        others_rest m h was apart =
+            let its = ready.held.each m h was in
+            rest_held w held ready.mask old new is_held changed h.slot its.is.at its.is.before
+            (λ same. apart (one_slot w memory.held ready.mask old.now.words ready.held m number h held was there (sym same))) (held_graph size w memory old ready m h was) its.is.running.rests
+
         -- its pool has a graph
         graph_ended : HasGraphIn n held.slot (reads new.now.words) is_held.at
         graph_ended =
             graph_held_in w held ready.mask old new is_held changed left (types_read size w memory old ready).types (held_in_turn size w memory old ready number held there)
-            (ap (graph_of w.stored.types) (stored_in-mine n is_held.at after (reads new.now.words) (λ k mine. HasOnly-newest (new.now.words k) (after k) (e.durable done k mine))) ∙ graph)
+            (ap (graph_of w.stored.types) (stored_in-mine n is_held.at after (reads new.now.words) left_read) ∙ graph)
 
         -- and is known as it was
         knows_ended : KnowsPools n memory.judged others (reads new.now.words)
@@ -444,7 +468,7 @@ module _ (size : ℕ) (w : World) (memory : Memory) (number : ℕ) (held : Held)
               owner_of-same (reads new.now.words) (reads old.now.words) client low (λ k from to. reads_kept may old new k changed (λ v. not_below k v (omega arith))) ∙ ready.clients client low;
           frames = ready.frames;
           shelf = e.changes.shelf ∙ ready.shelf;
-          held = holds_others w memory.held ready.mask old ready.held number held there ps kept new changed;
+          held = holds_others w memory.held ready.mask old ready.held number held there ps kept new changed others_rest;
           sessions = sessions_others w memory.held ready.mask old ready.held number held there ps kept memory.sessions ready.sessions;
           rest = record { each = frames_single };
           logs = logs_ended;

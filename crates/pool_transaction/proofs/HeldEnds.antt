@@ -1,8 +1,8 @@
 -- What is held is committed or undone: what the calls that do so ask of the device, and the world that they give.
 use Rattle.std.proofs.Common.{◌≡◌, ◌≢◌, inl, inr, ℕ, ◌+◌, ◌<◌, ◌≤◌, true, false, ◌||◌, cond, leb, eqb, List, [], Option, Some, None, option_map, refl, sym, ap, ap₂, subst, ◌∙◌, arith}
-use Rattle.std.specs.Prelude.{All, unwrap_or}
+use Rattle.std.specs.Prelude.{unwrap_or}
 use Rattle.std.specs.FinMap.Entries.{find, put}
-use Rattle.std.proofs.lemmas.Bool.{cond-true, cond-false, le-leb}
+use Rattle.std.proofs.lemmas.Bool.{cond-true, cond-false, le-leb, cases_Bool}
 use Rattle.std.proofs.lemmas.List.{set-get_or}
 use Rattle.pm_model.specs.declared.host.HostFault.{HostFault}
 use Rattle.pm_model.specs.Words.{reads, Picks}
@@ -35,15 +35,16 @@ use Rattle.pud_defs.proofs.TablesOf.{tables_of-same}
 use Rattle.log_store.specs.Store.{OpenLog}
 use Rattle.nesting.specs.Sessions.{session_depth, depth_in}
 use Rattle.word_transaction.specs.Running.{ByTransaction, HasPlaces, HasOneTable, CanRedo}
-use Rattle.hybrid_tx.specs.Grounds.{pool_mine, pool_ground, IsPlaced, IsRewritten}
+use Rattle.hybrid_tx.specs.Grounds.{pool_mine, pool_ground, IsPlaced, finished_of}
 use Rattle.hybrid_tx.specs.Open.Masks.{OpenPool, is_open_record, open_mask}
 use Rattle.hybrid_tx.specs.Open.ManyOpen.{open_masks}
-use Rattle.hybrid_tx.specs.Objects.Transactions.{IsRewrittenFor, IsOpenOn, ClosesOn, EndsOn}
-use Rattle.hybrid_tx.proofs.Objects.RewrittenPools.{rewritten_for}
+use Rattle.hybrid_tx.specs.Objects.Transactions.{IsOpenOn, ClosesOn, EndsOn}
 use Rattle.hybrid_tx.proofs.Open.ManyIdle.{masks_changed, places_beside}
 use Rattle.hybrid_tx.proofs.Objects.Opening.{stored_in-mine}
 use Rattle.hybrid_tx.proofs.Open.OpenMasks.{mask_of_mine}
 use Rattle.hybrid_tx.proofs.PoolGrounds.{pool_mine-each}
+use Rattle.hybrid_tx.proofs.FinishedPuddles.{none_of_finished}
+use Rattle.ready_daemon.proofs.RestBeside.{rest_unmasked}
 use Rattle.ready_daemon.specs.Memory.{Held, Memory, held_under, with_held}
 use Rattle.ready_daemon.specs.Leaving.{BehindTables, world_without_log}
 use Rattle.ready_daemon.specs.Held.{pool_held, IsHeld, IsOwn}
@@ -55,10 +56,9 @@ use Rattle.ready_daemon.proofs.Committing.{idle_world_with_graph}
 use Rattle.pool_transaction.specs.Lifetime.{with_ended}
 use Rattle.pool_transaction.proofs.Ending.{EndsBy-closes, EndsBy-ends, mixed, is_held, own, rest, more, rest_masks, later, all_later, later_more, later_masks, records_there, idle_there, world_there, world_before, Applies-ended}
 use Rattle.pool_transaction.proofs.HeldRuns.{held_placed}
-use Rattle.ready_daemon.proofs.InTurn.{held_in_turn, held_there_known}
+use Rattle.ready_daemon.proofs.InTurn.{held_in_turn}
 use Rattle.ready_daemon.proofs.PoolsApart.{found_beside_put}
 use Rattle.ready_daemon.proofs.PoolsBeside.{used_still}
-use Rattle.ready_daemon.proofs.Rewritten.{known_rewritten}
 use Rattle.ready_daemon.proofs.TablesBeside.{header_read}
 
 -- ---- pools of other names
@@ -78,7 +78,7 @@ changed_beside name other change pools apart = changed_beside_by name other chan
 -- by values that agree on a word
 mask_agrees : (F : ℕ) (p : OpenPool) (after before : Image) (k : ℕ) → after k ≡ before k → open_mask F p after k ≡ open_mask F p before k
 unfolding open_mask
-mask_agrees F p after before k same q = cond (is_in_log (log_number_at F p.number) k) (Some (cond (eqb k (log_number_at F p.number)) CLOSED_GATE 0)) (cond (pool_mine F p.at k || is_open_record p k) (Some (same q)) None)
+mask_agrees F p after before k same q = cond (is_in_log (log_number_at F p.number) k) (Some (cond (eqb k (log_number_at F p.number)) CLOSED_GATE 0)) (cond (pool_mine F (finished_of p.at) k || is_open_record p k) (Some (same q)) None)
 
 -- ---- what the calls promise
 
@@ -86,13 +86,13 @@ mask_agrees F p after before k same q = cond (is_in_log (log_number_at F p.numbe
 abbrev pub Undoes : (F sz : ℕ) → OpenLog → Option HostFault → State → State → Type 0
 Undoes F sz log fault old new =
     (pool : List (ℕ × Puddle)) (types : List (ℕ × ℕ)) (before : Image) (undone : Graph) (seen : Graph) (laters : List Later) → IsPlaced F pool → device_words F ≤ sz → log.at + LOG_WORDS ≤ frames_at F
-    → IsOpenOn F pool types log before undone seen laters old.now.words → HasPlaces (pool_ground F pool) (puddle_word (tables_of F (reads old.now.words))) → HasOneTable F old.now.words
+    → IsOpenOn F pool types log before undone seen laters old.now.words → HasPlaces (pool_ground F (finished_of pool)) (puddle_word (tables_of F (reads old.now.words))) → HasOneTable F old.now.words
     → ClosesOn F pool types log.at before undone fault old new
 
 abbrev pub Commits : (F sz : ℕ) → OpenLog → Option HostFault → State → State → Type 0
 Commits F sz log fault old new =
     (pool : List (ℕ × Puddle)) (types : List (ℕ × ℕ)) (before : Image) (undone : Graph) (seen : Graph) (laters : List Later) → IsPlaced F pool → device_words F ≤ sz → log.at + LOG_WORDS ≤ frames_at F
-    → IsOpenOn F pool types log before undone seen laters old.now.words → All (λ (l : Later). IsRewrittenFor F pool (reads old.now.words) l.s) laters → (laters ≢ [] → CanRedo (pool_ground F pool) F log.at old.now.words)
+    → IsOpenOn F pool types log before undone seen laters old.now.words → (laters ≢ [] → CanRedo (pool_ground F (finished_of pool)) F log.at old.now.words)
     → EndsOn F pool types log.at before undone (with_laters laters seen) fault old new
 
 -- a transaction writes no word in front of the clients' logs
@@ -118,7 +118,7 @@ module _ (size : ℕ) (w : World) (memory : Memory) (number : ℕ) (held : Held)
   placed : IsPlaced n is.at
   placed = held_placed size w memory held old number there ready
 
-  held_places : HasPlaces (pool_ground n is.at) (puddle_word (tables_of n now))
+  held_places : HasPlaces (pool_ground n (finished_of is.at)) (puddle_word (tables_of n now))
   held_places =
       let picked = Picks-reads old.now.words in
       places_beside size n w.stored ready.held.opens now refl ready.held.are (idle_there size w memory number held old ready there now picked) (records_there size w memory number held old ready there now picked)
@@ -127,7 +127,7 @@ module _ (size : ℕ) (w : World) (memory : Memory) (number : ℕ) (held : Held)
   held_table : HasOneTable n old.now.words
   held_table = record { each = λ k within. let low = within.low in let high = within.high in ready.tables.each k (inr (omega arith)) high }
 
-  can_redo : CanRedo (pool_ground n is.at) n held.tx.log.at old.now.words
+  can_redo : CanRedo (pool_ground n (finished_of is.at)) n held.tx.log.at old.now.words
   can_redo = record { before = let gate = is.gate in omega arith; table = held_table; places = held_places }
 
   log_apart : held.tx.log.at + LOG_WORDS ≤ frames_at n
@@ -135,10 +135,6 @@ module _ (size : ℕ) (w : World) (memory : Memory) (number : ℕ) (held : Held)
 
   room : device_words n ≤ size
   room = (header_read size w memory old ready).room
-
-  -- its pool is known, so that it is rewritten
-  rewritten : IsRewritten is.at
-  rewritten = known_rewritten size w memory old ready held.slot is.at (held_there_known size w memory old ready number held there)
 
   -- its session says how often it was begun
   depth_is : depth_in memory.sessions held.slot ≡ is.transaction.depth
@@ -153,13 +149,13 @@ module _ (size : ℕ) (w : World) (memory : Memory) (number : ℕ) (held : Held)
 
     pub undone_behind : Changes (BehindTables n) fault old new
     undone_behind =
-        Changes-wider (ByTransaction (pool_ground n is.at) held.tx.log.at) (BehindTables n) fault old new
-        (λ k v may. behind_tables n held.number is.at k v (subst (λ (at : ℕ). ByTransaction (pool_ground n is.at) at k v) is.gate may)) closes.closes.changes
+        Changes-wider (ByTransaction (pool_ground n (finished_of is.at)) held.tx.log.at) (BehindTables n) fault old new
+        (λ k v may. behind_tables n held.number (finished_of is.at) k v (subst (λ (at : ℕ). ByTransaction (pool_ground n (finished_of is.at)) at k v) is.gate may)) closes.closes.changes
 
     pub Applies-aborted : Applies size w (world_without_log (Some held) w) (with_ended number held memory) fault old new
     Applies-aborted =
         Applies-ended size w memory number held old ready there is.before (λ k other. refl) w.stored.pools (world_before size w memory number held old ready there) (λ name apart. refl) is.undone is.running.was fault new
-        (EndsBy-closes (pool_ground n is.at) held.tx.log.at is.before fault old new closes.closes)
+        (EndsBy-closes (pool_ground n (finished_of is.at)) held.tx.log.at is.before fault old new closes.closes)
 
   -- ---- committed
 
@@ -175,38 +171,51 @@ module _ (size : ℕ) (w : World) (memory : Memory) (number : ℕ) (held : Held)
   abbrev made : Graph
   made = with_laters is.transaction.laters is.transaction.now
 
-  module _ (x : Image) (graph : graph_of w.stored.types (stored_in n is.at x) ≡ Some made) where
+  module _ (x : Image) (graph : graph_of w.stored.types (stored_in n is.at x) ≡ Some made)
+      (beside : (k : ℕ) → pool_mine n is.at k ≡ true → pool_mine n (finished_of is.at) k ≡ false → x k ≡ is.before k) where
     abbrev values : Image
-    values = mixed (pool_ground n is.at) x is.before
+    values = mixed (pool_ground n (finished_of is.at)) x is.before
 
     abbrev pools_after : List (List ℕ × Pool)
     pools_after = changed_pool is.rec.name (holding_graph made) w.stored.pools
 
-    values_beside : (k : ℕ) → pool_mine n is.at k ≡ false → values k ≡ is.before k
+    values_beside : (k : ℕ) → pool_mine n (finished_of is.at) k ≡ false → values k ≡ is.before k
     values_beside k other = cond-false _ _ _ other
 
+    values_read : (k : ℕ) → pool_mine n is.at k ≡ true → values k ≡ x k
+    values_read k mine = elim (cases_Bool (pool_mine n (finished_of is.at) k)) [
+      | inl own ↦ cond-true _ _ _ own
+      | inr other ↦ cond-false _ _ _ other ∙ sym (beside k mine other)
+    ]
+
     graph_after : graph_of w.stored.types (stored_in n is.at values) ≡ Some made
-    graph_after = ap (graph_of w.stored.types) (stored_in-mine n is.at x values (λ k mine. cond-true _ _ _ mine)) ∙ graph
+    graph_after = ap (graph_of w.stored.types) (stored_in-mine n is.at x values values_read) ∙ graph
 
     -- all are masked, with these values of its frames
     abbrev anew : Write
     anew = open_masks n (all_later size w memory number held old ready there values values_beside)
 
-    values_graph : (i : Image) → Picks old.now.words i → graph_of w.stored.types (stored_in n is.at (masked_image anew i)) ≡ Some made
-    values_graph i picked =
-        let masks = later_masks size w memory number held old ready there values values_beside i picked in
-        let its = later_more size w memory number held old ready there values values_beside in
-        ap (graph_of w.stored.types) (stored_in-mine n is.at x (masked_image anew i) (λ k mine.
-        masked_image-there anew i k (values k) (masks.has number (later size w memory number held old ready there values values_beside) its.here k (values k) (mask_of_mine n p values k is.pool.known mine))
-        ∙ cond-true _ _ _ mine)) ∙ graph
-
     -- beside its frames they are masked as they were
-    anew_beside : (i : Image) → Picks old.now.words i → (k : ℕ) → pool_mine n is.at k ≡ false → anew k ≡ ready.mask k
+    anew_beside : (i : Image) → Picks old.now.words i → (k : ℕ) → pool_mine n (finished_of is.at) k ≡ false → anew k ≡ ready.mask k
     anew_beside i picked k other =
         masks_changed number (own size w memory number held old ready there) (later size w memory number held old ready there values values_beside) _ ready.held.opens
         (all_later size w memory number held old ready there values values_beside) (more size w memory number held old ready there) (later_more size w memory number held old ready there values values_beside) n ready.mask anew
         (rest size w memory number held old ready there) ready.held.masks (later_masks size w memory number held old ready there values values_beside i picked) (rest_masks size w memory number held old ready there) k
         (mask_agrees n p values is.before k (values_beside k other))
+
+    values_graph : (i : Image) → Picks old.now.words i → graph_of w.stored.types (stored_in n is.at (masked_image anew i)) ≡ Some made
+    values_graph i picked =
+        let masks = later_masks size w memory number held old ready there values values_beside i picked in
+        let its = later_more size w memory number held old ready there values values_beside in
+        ap (graph_of w.stored.types) (stored_in-mine n is.at x (masked_image anew i) (λ k mine. elim (cases_Bool (pool_mine n (finished_of is.at) k)) [
+          | inl own ↦
+              masked_image-there anew i k (values k) (masks.has number (later size w memory number held old ready there values values_beside) its.here k (values k) (mask_of_mine n p values k is.pool.known own))
+              ∙ cond-true _ _ _ own
+          | inr other ↦
+              masked_image-elsewhere anew i k (anew_beside i picked k other ∙ rest_unmasked size w memory old ready number held there k mine other)
+              ∙ (is.running.rests.each k mine other).each (i k) (picked.each k)
+              ∙ sym (beside k mine other)
+        ])) ∙ graph
 
     stands_after : (i : Image) → Picks old.now.words i → idle_world_of size (masked_image anew i) ≡ Some (record w.stored { pools = pools_after })
     stands_after i picked =
@@ -216,7 +225,7 @@ module _ (size : ℕ) (w : World) (memory : Memory) (number : ℕ) (held : Held)
         (ready.settled.stands (masked_image ready.mask i) (Picks-masked ready.mask old.now.words i picked)) is.pool.slot
         (ap (λ (t : Tables). t.pools held.slot) tables ∙ used_still w held ready.mask old.now.words is)
         (ap (λ (t : Tables). puddles_in_turn t held.slot) tables ∙ held_in_turn size w memory old ready number held there)
-        (λ k other. ap (λ (o : Option ℕ). unwrap_or o (i k)) (anew_beside i picked k other)) (values_graph i picked)
+        (λ k other. ap (λ (o : Option ℕ). unwrap_or o (i k)) (anew_beside i picked k (none_of_finished n is.at k other))) (values_graph i picked)
 
     pools_beside : (name : List ℕ) → name ≢ held.name → pool_named name (record w.stored { pools = pools_after }) ≡ pool_named name w.stored
     pools_beside name apart = changed_beside is.rec.name name (holding_graph made) w.stored.pools (λ same. apart (same ∙ is.name))
@@ -236,10 +245,10 @@ module _ (size : ℕ) (w : World) (memory : Memory) (number : ℕ) (held : Held)
         → Applies size w (after w (Commit client held.name)) (with_ended number held memory) fault old new
     Applies-committed F sz fault new on same commits =
         let e = subst (λ (m : ℕ). Commits m sz held.tx.log fault old new) on commits is.at w.stored.types is.before is.undone is.transaction.now is.transaction.laters placed (omega (arith, same, room)) log_apart is.running
-        (λ n d below. rewritten_for is.at rewritten _ _ _) (λ some. can_redo) in
+        (λ some. can_redo) in
         subst (λ (v : World). Applies size w v (with_ended number held memory) fault old new) (sym committed_world)
-        (Applies-ended size w memory number held old ready there (values e.after e.is) (values_beside e.after e.is) (pools_after e.after e.is) (stands_after e.after e.is) (pools_beside e.after e.is) made
-        (graph_after e.after e.is) fault new (EndsBy-ends (pool_ground n is.at) held.tx.log.at is.before e.after fault old new e.ends))
+        (Applies-ended size w memory number held old ready there (values e.after e.is e.beside) (values_beside e.after e.is e.beside) (pools_after e.after e.is e.beside) (stands_after e.after e.is e.beside) (pools_beside e.after e.is e.beside) made
+        (graph_after e.after e.is e.beside) fault new (EndsBy-ends (pool_ground n (finished_of is.at)) held.tx.log.at is.before e.after fault old new e.ends))
 
 -- the client's own is undone
 aborted_world : (w : World) (client : ℕ) (name : List ℕ) (number : ℕ) (held : List (Option Held)) → IsOwn client name number held → world_without_log (held_under held number) w ≡ after w (Abort client name)

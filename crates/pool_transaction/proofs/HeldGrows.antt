@@ -51,6 +51,8 @@ use Rattle.registry.proofs.PuddlesCounted.{puddle_count_by_world}
 use Rattle.registry.proofs.Moved.{ReadsWorld, reads_world}
 use Rattle.hybrid_tx.specs.Open.ManyOpen.{OpenTransaction, Opens, with_transaction, IsOneMore}
 use Rattle.hybrid_tx.proofs.Open.ManyIdle.{one_ended, one_put}
+use Rattle.pud_defs.specs.Geometry.{steps_of}
+use Rattle.ready_daemon.proofs.RestBeside.{rest_by_words, held_graph}
 use Rattle.ready_daemon.specs.Memory.{Held, Memory, held_under}
 use Rattle.ready_daemon.specs.Held.{open_held, IsHeld, IsHeldUnder, Holds, HasDurableFrames, ByOthers, IsBeside}
 use Rattle.ready_daemon.specs.Judged.{known_in}
@@ -68,7 +70,7 @@ use Rattle.ready_daemon.proofs.AllMembers.{all_members}
 use Rattle.ready_daemon.proofs.GraphLonger.{graph_longer}
 use Rattle.ready_daemon.proofs.InTurn.{held_known, held_in_turn}
 use Rattle.ready_daemon.proofs.JudgedOpen.{IsShut, KnowsPools-grown}
-use Rattle.ready_daemon.proofs.JudgedPools.{KeepsPools-grow}
+use Rattle.ready_daemon.proofs.JudgedPools.{KeepsPools-grow, words_grow}
 use Rattle.ready_daemon.proofs.PoolsGrown.{off_growing, grown_read}
 use Rattle.ready_daemon.proofs.JudgedKept.{HasGraphIn, KeepsPools}
 use Rattle.pud_defs.specs.Puts.{member_by, with_puddle_at}
@@ -204,6 +206,9 @@ module _ (size : ℕ) (w : World) (memory : Memory) (held : Held) (old : State) 
     holds_then =
         holds_still w w memory.held ready.mask old new ready.held
         (record { frames = refl; transactions = refl; present = λ n h has. refl; stored = λ n h has. refl; types = λ id m is. is; graphs = λ st g is. is }) done.beside.changes
+        (rest_by_words size w memory old ready new
+        (λ n h has k mine. words_grow F a old new (within by) by.puddle.frame (grows (ready_gate size w memory old ready)) h.slot (ready.held.each n h has).is.at (held_graph size w memory old ready n h has) k mine)
+        (done.beside.single refl)).each
 
     abbrev is_then : IsHeld w held ready.mask words
     is_then = (holds_then.each number held there).is
@@ -249,6 +254,9 @@ module _ (size : ℕ) (w : World) (memory : Memory) (held : Held) (old : State) 
 
     abbrev e : ℕ × Puddle
     e = (a.frame, added_puddle a)
+
+    e_finished : e.1.frontier ≡ steps_of e.1
+    e_finished = by.puddle.frontier
 
     abbrev at : List (ℕ × Puddle)
     at = is.at ++ e ∷ []
@@ -358,14 +366,14 @@ module _ (size : ℕ) (w : World) (memory : Memory) (held : Held) (old : State) 
     number_then = (with_grown_pool held.name w.stored).next_number
 
     abbrev mask_then : Write
-    mask_then = wide w memory.held ready.mask new holds_then held number there e number_then sound_then owners listed_then rest_then
+    mask_then = wide w memory.held ready.mask new holds_then held number there e number_then sound_then owners listed_then rest_then e_finished
 
     abbrev one : OpenTransaction
     one = open_held held is.at is.rec is.who is.before
 
     -- where it is open then
     abbrev more : OpenTransaction
-    more = opened_more w held ready.mask words is_then e
+    more = opened_more w held ready.mask words is_then e e_finished
 
     abbrev others : Opens
     others = with_transaction number None ready.held.opens
@@ -403,15 +411,15 @@ module _ (size : ℕ) (w : World) (memory : Memory) (held : Held) (old : State) 
         let some = some_held size w memory held old number there ready in
         record {
           mask = mask_then;
-          settled = settled_more w memory.held ready.mask new holds_then held number there e number_then sound_then owners listed_then rest_then size (with_grown_pool held.name w.stored) (done.settled refl);
+          settled = settled_more w memory.held ready.mask new holds_then held number there e number_then sound_then owners listed_then rest_then e_finished size (with_grown_pool held.name w.stored) (done.settled refl);
           tables = done.tables refl;
           clients = done.clients refl;
           frames = ready.frames ∙ sym same;
           shelf = done.beside.changes.shelf ∙ ready.shelf;
-          held = holds_more w memory.held ready.mask new holds_then held number there e number_then sound_then owners listed_then rest_then some fresh next grows_held keeps_others;
-          sessions = sessions_more w memory.held ready.mask new holds_then held number there e number_then sound_then owners listed_then rest_then some fresh next grows_held keeps_others memory.sessions ready.sessions;
-          rest = subst (λ (n : ℕ). HasDurableFrames n (masked mask_then words)) (sym same) (rest_more w memory.held ready.mask new holds_then held number there e number_then sound_then owners listed_then rest_then);
-          logs = logs_more w memory.held ready.mask new holds_then held number there e number_then sound_then owners listed_then rest_then next.stored.frames next.clients (done.logs refl);
+          held = holds_more w memory.held ready.mask new holds_then held number there e number_then sound_then owners listed_then rest_then e_finished some fresh next grows_held keeps_others;
+          sessions = sessions_more w memory.held ready.mask new holds_then held number there e number_then sound_then owners listed_then rest_then e_finished some fresh next grows_held keeps_others memory.sessions ready.sessions;
+          rest = subst (λ (n : ℕ). HasDurableFrames n (masked mask_then words)) (sym same) (rest_more w memory.held ready.mask new holds_then held number there e number_then sound_then owners listed_then rest_then e_finished);
+          logs = logs_more w memory.held ready.mask new holds_then held number there e number_then sound_then owners listed_then rest_then e_finished next.stored.frames next.clients (done.logs refl);
           knows = subst (λ (n : ℕ). KnowsPools n (set memory.judged held.slot (Some at)) (with_transaction number (Some more) ready.held.opens) (reads words)) (sym same) knows_then;
         }
 

@@ -1,5 +1,5 @@
 -- The line that makes an object in a transaction that is held, call by call.
-use Rattle.std.proofs.Common.{◌≡◌, inl, inr, ℕ, ◌<◌, ◌≤◌, true, false, List, set, Option, Some, None, refl, sym, ap, subst, ◌∙◌, arith}
+use Rattle.std.proofs.Common.{◌≡◌, inl, inr, ℕ, ◌<◌, ◌≤◌, true, false, List, set, Option, Some, None, refl, sym, ap, ap₂, subst, ◌∙◌, arith}
 use Rattle.std.proofs.lemmas.Bool.{cases_Bool}
 use Rattle.std.proofs.lemmas.List.{get_or-set_same, set-get_or, set-set}
 use Rattle.pm_model.specs.declared.host.HostFault.{HostFault}
@@ -74,24 +74,23 @@ module _ (size : ℕ) (w : World) (memory : Memory) (held : Held) (old : State) 
 
   module _ (none : refusal_by_world w held id ≡ None) where
     -- an object was made where a slot is free
-    pub new_made : (behind : Held) (at : List (ℕ × Puddle)) (fault : Option HostFault) (new : State) → known_in memory.judged held.slot ≡ Some at → grows w held.name ≡ false
-        → Applies size w (with_made held.name id w) (with_held number (Some behind) memory) fault old new → AppliesNew behind at fault new
-    new_made behind at fault new known less a =
-        subst (λ (m : Memory). Applies size w given m fault old new) (sym (memory_on behind at known))
-        (subst (λ (v : World). Applies size w v (with_held number (Some behind) memory) fault old new)
-        (sym (world_less size w memory held old number there ready id (refused_less size w memory held old number there ready id none less) less)) a)
+    pub new_made : (behind : Held) (at : List (ℕ × Puddle)) (fault : Option HostFault) (new : State) → grows w held.name ≡ false
+        → Applies size w (with_made held.name id w) (memory_with behind at) fault old new → AppliesNew behind at fault new
+    new_made behind at fault new less a =
+        subst (λ (v : World). Applies size w v (memory_with behind at) fault old new)
+        (sym (world_less size w memory held old number there ready id (refused_less size w memory held old number there ready id none less) less)) a
 
     pub reply_made : (serial : ℕ) → grows w held.name ≡ false → serial ≡ next_in (graph_seen (open_on held.name w) (pool_named held.name w.stored)) → of_reply (replies.Ref serial) ≡ answer_by w (Some line)
     reply_made serial less is =
         ap (λ (n : ℕ). of_reply (replies.Ref n)) is ∙ sym (answer_new size w memory held old number there ready id (refused_less size w memory held old number there ready id none less))
 
     -- its making failed
-    pub new_unmade : (behind : Held) (at : List (ℕ × Puddle)) (fault : HostFault) (new : State) → known_in memory.judged held.slot ≡ Some at
-        → (grows w held.name ≡ false → Applies size w (with_made held.name id w) (with_held number (Some behind) memory) (Some fault) old new)
+    pub new_unmade : (behind : Held) (at : List (ℕ × Puddle)) (fault : HostFault) (new : State)
+        → (grows w held.name ≡ false → Applies size w (with_made held.name id w) (memory_with behind at) (Some fault) old new)
         → (grows w held.name ≡ true → new ≡ old) → (Some fault ≡ Some Cut → IsRested new.now.words) → AppliesNew behind at (Some fault) new
-    new_unmade behind at fault new known makes full rests = elim (cases_Bool (grows w held.name)) [
+    new_unmade behind at fault new makes full rests = elim (cases_Bool (grows w held.name)) [
       | inl more ↦ Applies-stopped size w given memory (memory_with behind at) fault old new ready (full more) rests
-      | inr less ↦ new_made behind at (Some fault) new known less (makes less)
+      | inr less ↦ new_made behind at (Some fault) new less (makes less)
     ]
 
     -- a serial tells whether a slot was free
@@ -154,20 +153,21 @@ module _ (size : ℕ) (w : World) (memory : Memory) (held : Held) (old : State) 
           less_then : grows grown held.name ≡ false
           less_then = grown_less size w memory held old number there ready id more
 
-          -- and another in its place
-          instead : (behind : Held) → with_held number (Some behind) (memory_with held pool) ≡ memory_with behind pool
-          instead behind = ap (λ (l : List (Option Held)). record (memory_with held pool) { held = l }) (set-set memory.held number (Some held) (Some behind))
+          -- and another in its place, on the puddles as they are then
+          instead : (behind : Held) (later : List (ℕ × Puddle)) → with_opened number held.slot behind later (memory_with held pool) ≡ memory_with behind later
+          instead behind later =
+              ap₂ (λ (l : List (Option Held)) (js : List (Option (List (ℕ × Puddle)))). record memory { held = l; judged = js }) (set-set memory.held number (Some held) (Some behind)) (set-set memory.judged held.slot (Some pool) (Some later))
 
-          pub new_in_more : (behind : Held) (fault : Option HostFault) (new : State)
+          pub new_in_more : (behind : Held) (later : List (ℕ × Puddle)) (fault : Option HostFault) (new : State)
               → (IsReady size grown (memory_with held pool) mid → refusal_by_world grown held id ≡ None → grows grown held.name ≡ false
-              → Applies size grown (with_made held.name id grown) (with_held held.number (Some behind) (memory_with held pool)) fault mid new)
-              → AppliesNew behind pool fault new
-          new_in_more behind fault new makes =
+              → Applies size grown (with_made held.name id grown) (with_opened held.number held.slot behind later (memory_with held pool)) fault mid new)
+              → AppliesNew behind later fault new
+          new_in_more behind later fault new makes =
               let made = makes (after_growth.ready refl) (grown_refusal size w memory held old number there ready id held refl refl none) less_then in
-              subst (λ (v : World). Applies size w v (memory_with behind pool) fault old new) (sym (world_more size w memory held old number there ready id free more))
-              (Applies-then size w grown (with_made held.name id grown) (memory_with held pool) (memory_with behind pool) fault old mid new refl after_growth
+              subst (λ (v : World). Applies size w v (memory_with behind later) fault old new) (sym (world_more size w memory held old number there ready id free more))
+              (Applies-then size w grown (with_made held.name id grown) (memory_with held pool) (memory_with behind later) fault old mid new refl after_growth
               (subst (λ (m : Memory). Applies size grown (with_made held.name id grown) m fault mid new)
-              (ap (λ (n : ℕ). with_held n (Some behind) (memory_with held pool)) number_is ∙ instead behind) made))
+              (ap (λ (n : ℕ). with_opened n held.slot behind later (memory_with held pool)) number_is ∙ instead behind later) made))
 
           pub reply_in_more : (serial : ℕ) → (IsReady size grown (memory_with held pool) mid → grows grown held.name ≡ false → serial ≡ next_in (graph_seen (open_on held.name grown) (pool_named held.name grown.stored)))
               → of_reply (replies.Ref serial) ≡ answer_by w (Some line)

@@ -20,8 +20,7 @@ use Rattle.pud_defs.specs.Stored.{stored_in}
 use Rattle.pud_defs.specs.Transactions.{charged}
 use Rattle.pud_defs.specs.Types.{map_of}
 use Rattle.pud_defs.specs.World.{Transaction, World, open_on}
-use Rattle.graph_laws.specs.Slots.{AreAllLive, IsLowestFreeSlot}
-use Rattle.puddle_header.specs.Places.{place_of_slot, IsSlotOf}
+use Rattle.graph_laws.specs.Slots.{AreAllLive}
 use Rattle.hybrid_tx.specs.Grounds.{IsPlaced}
 use Rattle.hybrid_tx.specs.Objects.Transactions.{OpenTx, IsOpenOn, RunsOn, MakesIn}
 use Rattle.ready_daemon.specs.Memory.{Held, Memory, held_under, with_held}
@@ -85,30 +84,29 @@ module _ (size : ℕ) (w : World) (memory : Memory) (held : Held) (old : State) 
     not_live less live = grows_not size w memory held old number there ready less (live_there live)
 
     -- the serial that is given is the next one
-    pub serial_made : (done : Result ℕ HostFault) → grows w held.name ≡ false
-        → (graph_of w.stored.types (stored_in F at (reads old.now.words)) ≡ Some is.transaction.now → (AreAllLive (stored_in F at (reads old.now.words)) → ⊥) → IfOk done (λ serial. serial ≡ is.transaction.now.next_serial))
+    pub serial_made : (done : Result ℕ HostFault)
+        → (graph_of w.stored.types (stored_in F at (reads old.now.words)) ≡ Some is.transaction.now → IfOk done (λ serial. serial ≡ is.transaction.now.next_serial))
         → IfOk done (λ serial. serial ≡ next_in (graph_seen (open_on held.name w) (pool_named held.name w.stored)))
-    serial_made done less told =
+    serial_made done told =
         let graph = subst (λ (puddles : List (ℕ × Puddle)). graph_of w.stored.types (stored_in F puddles (reads old.now.words)) ≡ Some is.transaction.now) (sym listed)
         (subst (λ (n : ℕ). graph_of w.stored.types (stored_in n is.at (reads old.now.words)) ≡ Some is.transaction.now) (sym same) is.running.is) in
-        subst (λ (n : ℕ). IfOk done (λ serial. serial ≡ n)) (sym next_serial) (told graph (not_live less))
+        subst (λ (n : ℕ). IfOk done (λ serial. serial ≡ n)) (sym next_serial) (told graph)
 
     -- what a call owes that makes an object in a slot, on these puddles
     abbrev OwesMakes : (slot : Slot) (id : ℕ) → Option HostFault → State → List (ℕ × Puddle) → Type 0
     OwesMakes slot id fault new puddles =
         IsPlaced F puddles → IsOpenOn F puddles w.stored.types held.tx.log is.before is.undone is.transaction.now is.transaction.laters old.now.words → is.transaction.now.next_serial < NUMBER_LIMIT
-        → IsSlotOf puddles slot → IsLowestFreeSlot (stored_in F puddles (reads old.now.words)) (place_of_slot slot) → MakesIn F puddles held.tx.log.at slot id fault old new
+        → MakesIn F puddles held.tx.log.at slot id fault old new
 
-    -- it makes it in the lowest free one
-    pub made_lowest : (id : ℕ) → refusal_by_world w held id ≡ None → (fault : Option HostFault) (new : State) (slot : Slot) → OwesMakes slot id fault new at → IsSlotOf at slot
-        → IsLowestFreeSlot (stored_in F at (reads old.now.words)) (place_of_slot slot) → MakesIn F at held.tx.log.at slot id fault old new
-    made_lowest id none fault new slot owes of lowest =
+    -- it makes it in this one
+    pub made_there : (id : ℕ) → refusal_by_world w held id ≡ None → (fault : Option HostFault) (new : State) (slot : Slot) → OwesMakes slot id fault new at → MakesIn F at held.tx.log.at slot id fault old new
+    made_there id none fault new slot owes =
         let may = may_make (map_of id w.stored.types) held.tx.units (next_in (graph_seen (open_on held.name w) (pool_named held.name w.stored))) none in
         owes
         (subst (IsPlaced F) (sym listed) (subst (λ (n : ℕ). IsPlaced n is.at) (sym same) (held_placed size w memory held old number there ready)))
         (subst (λ (puddles : List (ℕ × Puddle)). IsOpenOn F puddles w.stored.types held.tx.log is.before is.undone is.transaction.now is.transaction.laters old.now.words) (sym listed)
         (subst (λ (n : ℕ). IsOpenOn n is.at w.stored.types held.tx.log is.before is.undone is.transaction.now is.transaction.laters old.now.words) (sym same) is.running))
-        (subst (λ (n : ℕ). n < NUMBER_LIMIT) next_serial may.left) of lowest
+        (subst (λ (n : ℕ). n < NUMBER_LIMIT) next_serial may.left)
 
     module _ (id : ℕ) (none : refusal_by_world w held id ≡ None) (tx : OpenTx) (new : State) (gate : tx.log.at ≡ held.tx.log.at) where
       may : MayMake (map_of id w.stored.types) held.tx.units (next_in (graph_seen (open_on held.name w) (pool_named held.name w.stored)))
@@ -117,14 +115,14 @@ module _ (size : ℕ) (w : World) (memory : Memory) (held : Held) (old : State) 
       the_object : with_new (blank_object id may.is) ≡ with_new (object_made w id)
       the_object = ap (λ (o : Option ℕ). with_new (blank_object id (unwrap_or o 0))) (sym may.defined)
 
-      pub Applies-made : (done : Result ℕ HostFault) → grows w held.name ≡ false
-          → ((m : ℕ) → map_of id w.stored.types ≡ Some m → is.transaction.now.next_serial < NUMBER_LIMIT → (AreAllLive (stored_in F at (reads old.now.words)) → ⊥)
+      pub Applies-made : (done : Result ℕ HostFault)
+          → ((m : ℕ) → map_of id w.stored.types ≡ Some m → is.transaction.now.next_serial < NUMBER_LIMIT
           → OwesRuns size w memory held old number there ready F at same listed tx new gate F at (charged NEW_UNITS (with_new (blank_object id m))) (fault_of done))
-          → ((AreAllLive (stored_in F at (reads old.now.words)) → ⊥) → IfOk done (λ _. tx.units ≡ held.tx.units + NEW_UNITS))
+          → IfOk done (λ _. tx.units ≡ held.tx.units + NEW_UNITS)
           → Applies size w (with_made held.name id w) (with_held number (Some (with_tx tx held)) memory) (fault_of done) old new
-      Applies-made done less runs used =
+      Applies-made done runs used =
           let left = subst (λ (n : ℕ). n < NUMBER_LIMIT) next_serial may.left in
-          let at_first = owed size w memory held old number there ready F at same listed tx new gate (charged NEW_UNITS (with_new (blank_object id may.is))) (fault_of done) (runs may.is may.defined left (not_live less)) in
+          let at_first = owed size w memory held old number there ready F at same listed tx new gate (charged NEW_UNITS (with_new (blank_object id may.is))) (fault_of done) (runs may.is may.defined left) in
           Applies-runs size w memory held old number there ready tx NEW_UNITS (charged NEW_UNITS (with_new (object_made w id))) (Charges-charged NEW_UNITS (with_new (object_made w id))) (fault_of done) new gate
-          (used_more done NEW_UNITS tx.units held.tx.units (used (not_live less)))
+          (used_more done NEW_UNITS tx.units held.tx.units used)
           (subst (λ (change : Graph → Graph). RunsOn w.stored.frames is.at w.stored.types tx.log is.before is.undone (change is.transaction.now) is.transaction.laters (fault_of done) old new) the_object at_first)

@@ -40,7 +40,7 @@ use Rattle.pool_transaction.specs.Changing.{refusal_to_make, refusal_by_tables, 
 use Rattle.ready_daemon.specs.Ready.{IsReady}
 use Rattle.ready_daemon.proofs.TablesBeside.{header_read, types_read, pools_read, sound_read}
 use Rattle.pool_transaction.proofs.TransactionRefusals.{making_refusal, refusal_of-new, own_is_open}
-use Rattle.pool_transaction.proofs.HeldRuns.{is_held}
+use Rattle.pool_transaction.proofs.HeldRuns.{is_held, held_placed}
 use Rattle.pool_transaction.proofs.HeldPools.{its_pool, grows_by, objects_fit, puddles_counted}
 use Rattle.pool_transaction.proofs.HeldGrows.{found_more}
 use Rattle.pool_transaction.proofs.HeldMakes.{next_serial}
@@ -108,7 +108,7 @@ module _ (size : ℕ) (w : World) (memory : Memory) (held : Held) (s : State) (n
       ∙ sym (space_by_table hold w.stored.next_number t (sound_read size w memory s ready) (record { beyond = λ slot beyond. pools_beyond F image slot beyond }))
 
   few_held : length is.at ≤ MAX_PUDDLES
-  few_held = (open_on_device F (pool_held held is.at is.rec is.who) is.before is.pool).few
+  few_held = (held_placed size w memory held s number there ready).on_device.few
 
   -- the client's own transaction is open
   own : refusal_of w (Commit held.client held.name) ≡ None

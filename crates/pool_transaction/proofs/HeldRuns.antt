@@ -22,14 +22,15 @@ use Rattle.pud_defs.proofs.TablesOf.{frames_of_tables}
 use Rattle.batch.specs.Worlds.{IsSettled}
 use Rattle.batch.proofs.Tables.{reads_kept, HasDurableTables-kept}
 use Rattle.word_transaction.specs.Running.{SettlesTo, ByTransaction}
-use Rattle.hybrid_tx.specs.Grounds.{pool_ground, IsPlaced}
+use Rattle.hybrid_tx.specs.Grounds.{pool_ground, IsPlaced, finished_of}
 use Rattle.hybrid_tx.specs.Open.ManyOpen.{OpenTransaction, AreLeftOpen}
 use Rattle.hybrid_tx.specs.Open.Masks.{OpenPool, IsLeftOpen}
 use Rattle.hybrid_tx.specs.Objects.Transactions.{OpenTx, RunsOn}
 use Rattle.hybrid_tx.proofs.Open.OpenMasks.{open_record_place, mine_behind}
-use Rattle.hybrid_tx.proofs.Open.OpenPools.{open_on_device}
+use Rattle.hybrid_tx.proofs.Open.OpenPools.{open_on_device, placed_by_tables}
 use Rattle.hybrid_tx.proofs.Open.PoolPlaces.{placed_of_puddles}
 use Rattle.pool_transaction.specs.Changing.{StaysOpen}
+use Rattle.ready_daemon.proofs.RestBeside.{held_graph}
 use Rattle.ready_daemon.specs.Memory.{Held, Memory, held_under, with_held}
 use Rattle.ready_daemon.specs.Held.{pool_held, open_held, IsHeld, IsHeldUnder, Holds, HasDurableFrames, HasIdleLogs}
 use Rattle.ready_daemon.specs.KnownPools.{KnowsPools}
@@ -37,10 +38,10 @@ use Rattle.ready_daemon.specs.Ready.{IsReady, RefusesNone, StandsBetween, Applie
 use Rattle.ready_daemon.proofs.Beside.{IsApart, KeepsOne, Leaves-from, log_masked, own_masked, record_picked, left_apart, left_all, under_left, own_apart, held_still, names_none_idle, ready_idle}
 use Rattle.ready_daemon.proofs.OpenNames.{changed_there, changed_elsewhere, WereOpen, WereOpen-changed, Charges}
 use Rattle.pool_transaction.proofs.HeldChanged.{Holds-later, HasSessions-later}
-use Rattle.ready_daemon.proofs.PoolsBeside.{puddles_still}
+use Rattle.ready_daemon.proofs.PoolsBeside.{puddles_still, one_slot}
 use Rattle.ready_daemon.proofs.InTurn.{held_in_turn}
 use Rattle.ready_daemon.proofs.JudgedKept.{HasGraphIn}
-use Rattle.ready_daemon.proofs.JudgedOpen.{KeepsPools-held, graph_held_in, KnowsPools-later}
+use Rattle.ready_daemon.proofs.JudgedOpen.{KeepsPools-held, graph_held_in, KnowsPools-later, rest_held}
 use Rattle.ready_daemon.proofs.TablesBeside.{sound_read, types_read}
 
 -- it, with this transaction on the pool's objects
@@ -70,14 +71,12 @@ module _ (size : ℕ) (w : World) (memory : Memory) (held : Held) (old : State) 
 
   -- its puddles lie as those of a ground
   pub held_placed : IsPlaced F is.at
-  held_placed =
-      subst (λ (n : ℕ). IsPlaced n is.at) (frames_of_tables F now)
-      (placed_of_puddles w.stored.next_number (tables_of F now) (sound_read size w memory old ready) held.slot is.at (puddles_still w held ready.mask old.now.words is))
+  held_placed = placed_by_tables w.stored.next_number F now held.slot is.at (sound_read size w memory old ready) (held_in_turn size w memory old ready number held there)
 
   -- ---- what it may write
 
   abbrev own : Footprint
-  own = ByTransaction (pool_ground F is.at) held.tx.log.at
+  own = ByTransaction (pool_ground F (finished_of is.at)) held.tx.log.at
 
   -- every such word is masked
   written_masked : (k v : ℕ) → own k v → ready.mask k ≡ None → ⊥
@@ -90,7 +89,7 @@ module _ (size : ℕ) (w : World) (memory : Memory) (held : Held) (old : State) 
       let gate = is.gate in
       let low = inside.low in
       absurd (omega arith)
-  own_behind k v below (inr mine) = let no : true ≡ false = sym mine ∙ mine_behind F is.at k (omega arith) in cc
+  own_behind k v below (inr mine) = let no : true ≡ false = sym mine ∙ mine_behind F (finished_of is.at) k (omega arith) in cc
 
   -- and none is one of another that is held
   its_own : (n : ℕ) (g : Held) (has : held_under memory.held n ≡ Some g) → n ≢ number
@@ -119,17 +118,17 @@ module _ (size : ℕ) (w : World) (memory : Memory) (held : Held) (old : State) 
     log_idle : is_idle_gate (image DAEMON_LOG) ≡ true
     log_idle = ap is_idle_gate (same_before DAEMON_LOG (omega arith)) ∙ ready_idle size w memory old ready o.before o.picked
 
-    left_open : SettlesTo (pool_ground F is.at) held.tx.log.at is.before image → IsLeftOpen F p is.before image
+    left_open : SettlesTo (pool_ground F (finished_of is.at)) held.tx.log.at is.before image → IsLeftOpen F p is.before image
     left_open settles = record {
       unnamed = λ k v e. (names_none_idle ready.mask image log_idle).each k v (is.masked k v e);
       records = λ k of.
           let place = open_record_place F p k is.pool.slot is.pool.known (open_on_device F p is.before is.pool) of in
           same_before k place.high ∙ record_picked w held ready.mask old.now.words is ready.tables o.before o.picked k of;
-      settles = subst (λ (n : ℕ). SettlesTo (pool_ground F is.at) n is.before image) is.gate settles;
+      settles = subst (λ (n : ℕ). SettlesTo (pool_ground F (finished_of is.at)) n is.before image) is.gate settles;
     }
 
     -- each is left open: it by its log, and any other since none of its words was written
-    each_open : SettlesTo (pool_ground F is.at) held.tx.log.at is.before image → (n : ℕ) (g : Held) (there : held_under memory.held n ≡ Some g) (is : IsHeldUnder w ready.held.opens ready.mask old.now.words n g)
+    each_open : SettlesTo (pool_ground F (finished_of is.at)) held.tx.log.at is.before image → (n : ℕ) (g : Held) (there : held_under memory.held n ≡ Some g) (is : IsHeldUnder w ready.held.opens ready.mask old.now.words n g)
         → IsLeftOpen F (pool_held g is.is.at is.is.rec is.is.who) is.is.before image
     each_open settles n g has other = elim (cases_eq n number) [
       | inl same ↦
@@ -145,7 +144,7 @@ module _ (size : ℕ) (w : World) (memory : Memory) (held : Held) (old : State) 
     ]
 
     -- so it stands for the world, where its log gives back what was there at the beginning
-    pub stands_within : SettlesTo (pool_ground F is.at) held.tx.log.at is.before image → (world_of size image ≡ Some (closed w)) × RefusesNone image
+    pub stands_within : SettlesTo (pool_ground F (finished_of is.at)) held.tx.log.at is.before image → (world_of size image ≡ Some (closed w)) × RefusesNone image
     stands_within settles =
         let left : AreLeftOpen F ready.held.opens image = left_all w memory.held ready.mask old.now.words ready.held image (each_open settles) in
         let it = under_left w memory.held ready.mask old.now.words ready.held size image left in
@@ -155,11 +154,11 @@ module _ (size : ℕ) (w : World) (memory : Memory) (held : Held) (old : State) 
 
   module _ (fault : Option HostFault) (new : State) (changes : Changes own fault old new) where
     -- each image left stands for the world
-    pub moments_within : Leaves (Silently (SettlesTo (pool_ground F is.at) held.tx.log.at is.before)) old new → Leaves (Silently (λ image. (world_of size image ≡ Some (closed w)) × RefusesNone image)) old new
+    pub moments_within : Leaves (Silently (SettlesTo (pool_ground F (finished_of is.at)) held.tx.log.at is.before)) old new → Leaves (Silently (λ image. (world_of size image ≡ Some (closed w)) × RefusesNone image)) old new
     moments_within moments =
-        Leaves-weaker (Silently (λ image. SettlesTo (pool_ground F is.at) held.tx.log.at is.before image × HasOrigin own old.now.words image)) (Silently (λ image. (world_of size image ≡ Some (closed w)) × RefusesNone image)) old new
+        Leaves-weaker (Silently (λ image. SettlesTo (pool_ground F (finished_of is.at)) held.tx.log.at is.before image × HasOrigin own old.now.words image)) (Silently (λ image. (world_of size image ≡ Some (closed w)) × RefusesNone image)) old new
         (λ bytes image m. (m.0, stands_within image m.1.1 m.1.0))
-        (Leaves-from (SettlesTo (pool_ground F is.at) held.tx.log.at is.before) own fault old new changes moments)
+        (Leaves-from (SettlesTo (pool_ground F (finished_of is.at)) held.tx.log.at is.before) own fault old new changes moments)
 
     -- masked, a word has no value that it had not
     masked_value : (k v : ℕ) (x : Option ℕ) → ready.mask k ≡ x → Has (values (masked ready.mask new.now.words k)) v → Has (values (masked ready.mask old.now.words k)) v
@@ -204,13 +203,13 @@ module _ (size : ℕ) (w : World) (memory : Memory) (held : Held) (old : State) 
     later = with_tx tx held
 
     changes_own : Changes own fault old new
-    changes_own = subst (λ (n : ℕ). Changes (ByTransaction (pool_ground F is.at) n) fault old new) at runs.saves.runs.changes
+    changes_own = subst (λ (n : ℕ). Changes (ByTransaction (pool_ground F (finished_of is.at)) n) fault old new) at runs.saves.runs.changes
 
     moments_own : Leaves (Silently (StandsBetween size w next)) old new
     moments_own =
         Leaves-weaker (Silently (λ image. (world_of size image ≡ Some (closed w)) × RefusesNone image)) (Silently (StandsBetween size w next)) old new
         (λ bytes image m. (m.0, (inl m.1.0, m.1.1)))
-        (moments_within fault new changes_own (subst (λ (n : ℕ). Leaves (Silently (SettlesTo (pool_ground F is.at) n is.before)) old new) at runs.saves.runs.moments))
+        (moments_within fault new changes_own (subst (λ (n : ℕ). Leaves (Silently (SettlesTo (pool_ground F (finished_of is.at)) n is.before)) old new) at runs.saves.runs.moments))
 
     kept_within : fault ≡ None → (k : ℕ) → k < tables_end F → reads new.now.words k ≡ now k
     kept_within none k below =
@@ -239,6 +238,7 @@ module _ (size : ℕ) (w : World) (memory : Memory) (held : Held) (old : State) 
       running = record {
         redo = runs.redo;
         saving = record { es = runs.saves.es; running = runs.saves.runs.running none; asks = runs.saves.asks };
+        rests = runs.rests none;
         was = runs.was;
         is = runs.is none;
         are = runs.are none;
@@ -264,7 +264,9 @@ module _ (size : ℕ) (w : World) (memory : Memory) (held : Held) (old : State) 
     other_within none n g apart has =
         let other = ready.held.each n g has in
         record {
-          is = held_still w next g ready.mask ready.mask old new other.is (keeps_other n g apart has) own (its_own n g has apart) (subst (λ (f : Option HostFault). Changes own f old new) none changes_own) other.is.masked;
+          is = held_still w next g ready.mask ready.mask old new other.is (keeps_other n g apart has) own (its_own n g has apart) (subst (λ (f : Option HostFault). Changes own f old new) none changes_own) other.is.masked
+              (rest_held w held ready.mask old new is (subst (λ (f : Option HostFault). Changes own f old new) none changes_own) g.slot other.is.at other.is.before
+              (λ same. apart (one_slot w memory.held ready.mask old.now.words ready.held n number g held has there (sym same))) (held_graph size w memory old ready n g has) other.is.running.rests);
           number_is = other.number_is;
           opened = other.opened;
         }

@@ -1,5 +1,5 @@
 -- A change is made within a transaction that is held.
-use Rattle.std.proofs.Common.{◌≡◌, ℕ, ◌+◌, List, Option, Some, None, Result, Ok, Err, refl, sym, subst}
+use Rattle.std.proofs.Common.{◌≡◌, ℕ, ◌+◌, List, Option, Some, None, Result, Ok, Err, refl, sym, ap, subst}
 use Rattle.std.specs.Prelude.{IfOk}
 use Rattle.pm_model.specs.declared.host.HostFault.{HostFault}
 use Rattle.pm_model.specs.Counts.{fault_of}
@@ -11,8 +11,8 @@ use Rattle.pud_defs.specs.GraphChanges.{with_field, with_root, without_object}
 use Rattle.pud_defs.specs.Step.{refusal_of, after}
 use Rattle.pud_defs.specs.Stored.{stored_in}
 use Rattle.pud_defs.specs.Transactions.{with_changed}
-use Rattle.pud_defs.specs.World.{Transaction, World}
-use Rattle.hybrid_tx.specs.Grounds.{IsPlaced, IsRewritten}
+use Rattle.pud_defs.specs.World.{Transaction, World, closed}
+use Rattle.hybrid_tx.specs.Grounds.{IsPlaced}
 use Rattle.hybrid_tx.specs.Objects.Transactions.{OpenTx, IsOpenOn, RunsOn}
 use Rattle.pool_transaction.specs.declared.changing.Update.{Update}
 use Rattle.pool_transaction.specs.declared.changing.Update.TheVariants.{Set, Later, Root, Free}
@@ -36,6 +36,10 @@ after_line w client name (Set s f x) = refl
 after_line w client name (Later s f x) = refl
 after_line w client name (Root s) = refl
 after_line w client name (Free s) = refl
+
+-- which stands for the same once power is lost
+pub same_stored : (w : World) (client : ℕ) (name : List ℕ) (change : Update) → closed w ≡ closed (after w (update_line change client name))
+same_stored w client name change = ap closed (sym (after_line w client name change))
 
 Charges-change : (change : Update) → Charges SET_UNITS (changed_by change)
 Charges-change (Set s f x) = Charges-charged SET_UNITS (with_field s f x)
@@ -75,11 +79,11 @@ module _ (size : ℕ) (w : World) (memory : Memory) (held : Held) (old : State) 
         Applies-runs size w memory held old number there ready tx units change charges (fault_of done) new gate (used_more done units tx.units held.tx.units (told units done used)) (owed change (fault_of done) runs)
 
     -- a line that is not refused is carried out by a call that makes its change, where it may be made
-    pub Applies-line : (change : Update) (done : Result Unit HostFault) → IsRewritten at → refusal_of w (update_line change held.client held.name) ≡ None
-        → (IsRewritten at → MayChange w.stored.types is.transaction change → OwesRuns F at (changed_by change) (fault_of done))
+    pub Applies-line : (change : Update) (done : Result Unit HostFault) → refusal_of w (update_line change held.client held.name) ≡ None
+        → (MayChange w.stored.types is.transaction change → OwesRuns F at (changed_by change) (fault_of done))
         → OwesUsed F at SET_UNITS done
         → Applies size w (after w (update_line change held.client held.name)) (with_held number (Some (with_tx tx held)) memory) (fault_of done) old new
-    Applies-line change done rewritten free runs used =
+    Applies-line change done free runs used =
         let may = may_change_unrefused w held.client held.name change (stored_in w.stored.frames is.at (reads old.now.words)) is.transaction is.is is.running.is free in
         subst (λ (v : World). Applies size w v (with_held number (Some (with_tx tx held)) memory) (fault_of done) old new) (sym (after_line w held.client held.name change))
-        (Applies-changed SET_UNITS (changed_by change) (Charges-change change) done (runs rewritten may) used)
+        (Applies-changed SET_UNITS (changed_by change) (Charges-change change) done (runs may) used)

@@ -22,6 +22,7 @@ use Rattle.registry.specs.declared.adding.Added.{Added}
 use Rattle.registry.specs.Growth.{grow_refusal, IsGrowthFor}
 use Rattle.puddle_header.specs.Places.{place_of_slot, IsSlotOf}
 use Rattle.graph_read.specs.Reading.{place_in_pool}
+use Rattle.lazy_rewrite.specs.Frontiers.{finished_at}
 use Rattle.hybrid_tx.specs.Objects.Stores.{word_for, IsPlaceAndWord}
 use Rattle.hybrid_tx.specs.Objects.Transactions.{MayName, MaySet, MayFree}
 use Rattle.pool_transaction.specs.declared.changing.Change.{Change}
@@ -115,6 +116,12 @@ IsFoundBy F at image change (founds.Field slot f word later) = IsFieldFound F at
 IsFoundBy F at image change (founds.Root word) = IsRootFound F at image change word
 IsFoundBy F at image change (founds.Object slot) = IsObjectFound F at image change slot
 
+-- the ordinal of the puddle that it writes
+abbrev pub ordinal_written : Found → ℕ
+ordinal_written (founds.Field slot f word later) = slot.ordinal
+ordinal_written (founds.Root word) = 0
+ordinal_written (founds.Object slot) = slot.ordinal
+
 -- its slot is one of these puddles, and its field one that an object may have
 abbrev pub IsFoundWithin : List (ℕ × Puddle) → Found → Type 0
 IsFoundWithin at (founds.Field slot f word later) = IsSlotOf at slot × (f < MAX_FIELDS)
@@ -157,3 +164,7 @@ with_more name w = record w { stored = with_grown_pool name w.stored }
 -- the world with an object of this type more in the transaction on the pool of the name
 abbrev pub with_made : List ℕ → ℕ → World → World
 with_made name id w = record w { transactions = with_changed name (charged NEW_UNITS (with_new (object_made w id))) w.transactions }
+
+-- the pool with the puddles rewritten to their ends that an object writes which is made in the puddle of an ordinal: the first one, and this one
+abbrev pub both_finished : (ordinal : ℕ) → List (ℕ × Puddle) → List (ℕ × Puddle)
+both_finished ordinal at = finished_at ordinal (finished_at 0 at)

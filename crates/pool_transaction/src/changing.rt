@@ -4,7 +4,7 @@ ghost use Rattle.pm_model.specs.Words.{IsRested, reads};
 ghost use Rattle.pm_model.specs.Counts.{after_fault, fault_of};
 ghost use Rattle.pm_model.specs.Reads.{OnlyReads};
 ghost use Rattle.pm_model.specs.Changes.{Changes};
-ghost use Rattle.pud_defs.specs.declared.layout.TheConstants.{LOG_WORDS, LOG_ENTRY_WORDS, MAX_FRAMES, SET_UNITS, NEW_UNITS};
+ghost use Rattle.pud_defs.specs.declared.layout.TheConstants.{DAEMON_LOG, LOG_WORDS, LOG_ENTRY_WORDS, MAX_FRAMES, SET_UNITS, NEW_UNITS};
 ghost use Rattle.pud_defs.specs.declared.records.Slot.{Slot};
 ghost use Rattle.pud_defs.specs.declared.machine.Command.TheVariants as commands;
 ghost use Rattle.pud_defs.specs.Image.{Image};
@@ -19,18 +19,24 @@ ghost use Rattle.pud_defs.specs.Step.Answer.{of_reply};
 ghost use Rattle.pud_defs.specs.World.{Transaction, World, open_on};
 ghost use Rattle.graph_laws.specs.Slots.{IsLowestFreeSlot};
 ghost use Rattle.puddle_header.specs.Places.{place_of_slot, IsSlotOf};
+ghost use Rattle.batch.specs.Batches.{HasIdleGate};
+ghost use Rattle.lazy_rewrite.specs.Entries.{HasLowBases};
+ghost use Rattle.lazy_rewrite.specs.Frontiers.{frontiers_of, finished_at};
+ghost use Rattle.lazy_rewrite.specs.Batches.{Rewrites};
 ghost use Rattle.word_transaction.specs.Running.{ByTransaction};
-ghost use Rattle.hybrid_tx.specs.Grounds.{pool_ground, IsPlaced, IsRewritten};
+ghost use Rattle.hybrid_tx.specs.Grounds.{pool_ground, IsPlaced, IsRewrittenAt};
 ghost use Rattle.hybrid_tx.specs.Objects.Transactions.{IsOpenOn, RunsOn, MakesIn};
-ghost use Rattle.ready_daemon.specs.Memory.{Memory, with_held};
+ghost use Rattle.ready_daemon.specs.Memory.{Memory};
 ghost use Rattle.ready_daemon.specs.Held.{IsHeldWithin};
 ghost use Rattle.registry.specs.Adding.{IsAddedWithin};
 ghost use Rattle.registry.specs.Places.{refusal_in};
-ghost use Rattle.pool_transaction.specs.Changing.{IsHeldIn, with_opened, line_of, update_line, changed_by, IsLegalChange, IsLegalUpdate, IsFoundWithin, IsFoundBy, MayChange, StaysOpen, refusal_to_make, refusal_by_tables, GrowsBy, refusal_by_world, with_more, with_made};
+ghost use Rattle.pool_transaction.specs.Changing.{IsHeldIn, with_opened, line_of, update_line, changed_by, IsLegalChange, IsLegalUpdate, ordinal_written, IsFoundWithin, IsFoundBy, MayChange, StaysOpen, refusal_to_make, refusal_by_tables, GrowsBy, refusal_by_world, with_more, with_made, both_finished};
 ghost use Rattle.ready_daemon.specs.Ready.{KeepsRest, IsReady, Applies};
 
 use crate::opened::Opened;
 use hybrid_tx::Tx;
+use lazy_rewrite::finish;
+use object_alloc::{AllocFault, alloc_slot};
 use pm_model::{Host, HostFault};
 use pud_defs::layout::{LOG_ENTRY_WORDS, NEW_UNITS, NUMBER_LIMIT};
 use pud_defs::machine::{Refusal, Reply};
@@ -115,6 +121,16 @@ fn refusal_to_make(map: Option<u64>, units: u32, next: u64) -> Option<Refusal>
     }
 }
 
+/// The ordinal of the puddle that the update which was found writes.
+fn ordinal_written(found: Found) -> u32
+    ensures { result ≡ ordinal_written found }
+{
+    match found {
+        Found::Field { at, .. } | Found::Object { at } => at.ordinal,
+        Found::Root { .. } => 0,
+    }
+}
+
 /// Makes the update that was found within the transaction on the pool of these puddles. Nothing is searched.
 fn carry_out<H: Host>(
     tx: &mut Tx,
@@ -131,7 +147,7 @@ fn carry_out<H: Host>(
     requires room { (tx.old).units + SET_UNITS ≤ LOG_ENTRY_WORDS }
     ensures at { (tx.new).log.at ≡ (tx.old).log.at }
     ensures changes { H.tells → Changes (ByTransaction (pool_ground frames pool.now) (tx.old).log.at) (fault_of result) (H.state h.old) (H.state h.new) }
-    ensures runs { H.tells → (types : List (ℕ × ℕ)) (before : Image) (undone : Graph) (t : Transaction) (update : Update) → IsPlaced frames pool.now → IsRewritten pool.now
+    ensures runs { H.tells → (types : List (ℕ × ℕ)) (before : Image) (undone : Graph) (t : Transaction) (update : Update) → IsPlaced frames pool.now → IsRewrittenAt pool.now (ordinal_written found)
         → IsOpenOn frames pool.now types (tx.old).log before undone t.now t.laters (H.state h.old).now.words → MayChange types t update
         → IsFoundBy frames pool.now (reads (H.state h.old).now.words) update found
         → RunsOn frames pool.now types (tx.new).log before undone (changed_by update t).now (changed_by update t).laters (fault_of result) (H.state h.old) (H.state h.new) }
@@ -152,34 +168,60 @@ fn carry_out<H: Host>(
     }
 }
 
+/// Rewrites to their ends the puddles that an object writes which is made in the puddle of an ordinal: the first one, which has the next serial, and
+/// this one.
+fn finish_both<H: Host>(
+    h: &mut H,
+    frames: u32,
+    pool: &mut Puddles,
+    ordinal: u32,
+) -> Result<(), HostFault>
+    requires few { frames ≤ MAX_FRAMES }
+    requires room { device_words frames ≤ (H.counts h.old).size }
+    requires known { IsOnDevice frames pool.old }
+    ensures pool { IfOk result (λ _. pool.new ≡ both_finished ordinal pool.old) }
+    ensures rewrites { H.tells → HasIdleGate DAEMON_LOG (H.state h.old).now.words → HasLowBases pool.old
+        → Rewrites frames (frontiers_of (both_finished ordinal pool.old)) pool.old pool.new (fault_of result) (H.state h.old) (H.state h.new) }
+    ensures known { IsOnDevice frames pool.new }
+    ensures rest { H.tells → KeepsRest (H.state h.old) (H.state h.new) }
+    ensures rests { H.tells → fault_of result ≡ Option.Some HostFault.Cut → IsRested (H.state h.new).now.words }
+    ensures cause { H.counts h.new ≡ after_fault (fault_of result) (H.counts h.old) }
+{
+    finish(h, frames, pool, 0)?;
+    finish(h, frames, pool, ordinal)
+}
+
 impl Opened {
-    /// Makes the update that was found, where the line that asks for it is not refused.
+    /// Makes the update that was found, where the line that asks for it is not refused. The puddle that it writes is rewritten to its end first.
     ///
-    /// The device has so many frames, and three units are left. Two fences.
+    /// The device has so many frames, and three units are left. Two fences, and four for each batch of steps that are left of the puddle.
     fn update<H: Host>(
         &mut self,
         h: &mut H,
         frames: u32,
-        pool: &[(u32, Puddle)],
+        pool: &mut Puddles,
         found: Found,
     ) -> Result<(), HostFault>
         requires few { frames ≤ MAX_FRAMES }
         requires room { device_words frames ≤ (H.counts h.old).size }
         requires within { IsHeldWithin frames self.old }
-        requires known { IsOnDevice frames pool.now }
-        requires found { IsFoundWithin pool.now found }
+        requires known { IsOnDevice frames pool.old }
+        requires found { IsFoundWithin pool.old found }
         requires units { (self.old).tx.units + SET_UNITS ≤ LOG_ENTRY_WORDS }
-        ensures applies { H.tells → (update : Update) → (size : ℕ) → size ≡ (H.counts h.old).size → (w : World) → (memory : Memory) → IsHeldIn frames self.old pool.now memory
-            → IsReady size w memory (H.state h.old) → IsRewritten pool.now → refusal_of w (update_line update (self.old).client (self.old).name) ≡ Option.None
-            → IsFoundBy frames pool.now (reads (H.state h.old).now.words) update found
-            → Applies size w (after w (update_line update (self.old).client (self.old).name)) (with_held (self.old).number (Option.Some self.new) memory) (fault_of result) (H.state h.old) (H.state h.new) }
+        ensures applies { H.tells → (update : Update) → (size : ℕ) → size ≡ (H.counts h.old).size → (w : World) → (memory : Memory) → IsHeldIn frames self.old pool.old memory
+            → IsReady size w memory (H.state h.old) → refusal_of w (update_line update (self.old).client (self.old).name) ≡ Option.None
+            → IsFoundBy frames pool.old (reads (H.state h.old).now.words) update found
+            → Applies size w (after w (update_line update (self.old).client (self.old).name)) (with_opened (self.old).number (self.old).slot self.new pool.new memory) (fault_of result) (H.state h.old) (H.state h.new) }
+        ensures pool { IfOk result (λ _. pool.new ≡ finished_at (ordinal_written found) pool.old) }
         ensures within { IsHeldWithin frames self.new }
+        ensures known { IsOnDevice frames pool.new }
         ensures stays { StaysOpen self.old self.new }
         ensures rest { H.tells → KeepsRest (H.state h.old) (H.state h.new) }
         ensures rests { H.tells → fault_of result ≡ Option.Some HostFault.Cut → IsRested (H.state h.new).now.words }
         ensures cause { H.counts h.new ≡ after_fault (fault_of result) (H.counts h.old) }
     {
-        let done = carry_out(&mut self.tx, h, frames, pool, found);
+        finish(h, frames, pool, ordinal_written(found))?;
+        let done = carry_out(&mut self.tx, h, frames, pool.as_slice(), found);
         // With a use of `tx` the proof has its invariant behind the call: what was charged is at most what a log has.
         let _units = self.tx.units();
         done
@@ -187,31 +229,34 @@ impl Opened {
 
     /// Makes the update, or refuses to, as its line of the transaction's client does.
     ///
-    /// The device has so many frames. Two fences; a refused one changes nothing.
+    /// The device has so many frames. The puddle that is written is rewritten to its end first. Two fences, and four for each batch of steps that are left
+    /// of the puddle; a refused one changes nothing.
     fn update_or_refuse<H: Host>(
         &mut self,
         h: &mut H,
         frames: u32,
-        pool: &[(u32, Puddle)],
+        pool: &mut Puddles,
         update: Update,
     ) -> Result<Reply, HostFault>
         requires few { frames ≤ MAX_FRAMES }
         requires room { device_words frames ≤ (H.counts h.old).size }
         requires within { IsHeldWithin frames self.old }
-        requires known { IsOnDevice frames pool.now }
+        requires known { IsOnDevice frames pool.old }
         requires legal { IsLegalUpdate update }
-        ensures reply { H.tells → (size : ℕ) → (w : World) → (memory : Memory) → IsHeldIn frames self.old pool.now memory → IsReady size w memory (H.state h.old)
+        ensures reply { H.tells → (size : ℕ) → (w : World) → (memory : Memory) → IsHeldIn frames self.old pool.old memory → IsReady size w memory (H.state h.old)
             → IfOk result (λ reply. of_reply reply ≡ answer_by w (Option.Some (update_line update (self.old).client (self.old).name))) }
-        ensures applies { H.tells → (size : ℕ) → size ≡ (H.counts h.old).size → (w : World) → (memory : Memory) → IsHeldIn frames self.old pool.now memory → IsReady size w memory (H.state h.old)
-            → Applies size w (world_by w (Option.Some (update_line update (self.old).client (self.old).name))) (with_held (self.old).number (Option.Some self.new) memory) (fault_of result)
-            (H.state h.old) (H.state h.new) }
+        ensures applies { H.tells → (size : ℕ) → size ≡ (H.counts h.old).size → (w : World) → (memory : Memory) → IsHeldIn frames self.old pool.old memory → IsReady size w memory (H.state h.old)
+            → Applies size w (world_by w (Option.Some (update_line update (self.old).client (self.old).name))) (with_opened (self.old).number (self.old).slot self.new pool.new memory)
+            (fault_of result) (H.state h.old) (H.state h.new) }
+        ensures refused { IfOk result (λ reply. (why : Refusal) → reply ≡ Reply.No why → pool.new ≡ pool.old) }
         ensures within { IsHeldWithin frames self.new }
+        ensures known { IsOnDevice frames pool.new }
         ensures stays { StaysOpen self.old self.new }
         ensures rest { H.tells → KeepsRest (H.state h.old) (H.state h.new) }
         ensures rests { H.tells → fault_of result ≡ Option.Some HostFault.Cut → IsRested (H.state h.new).now.words }
         ensures cause { H.counts h.new ≡ after_fault (fault_of result) (H.counts h.old) }
     {
-        let found = match self.find_update(h, frames, pool, update)? {
+        let found = match self.find_update(h, frames, pool.as_slice(), update)? {
             Ok(found) => found,
             Err(refusal) => return Ok(Reply::No(refusal)),
         };
@@ -267,37 +312,47 @@ impl Opened {
     }
 
     /// Makes an object of type `t` in the lowest free slot, where it is not refused whatever slots there are. The answer is its serial, or 0 where
-    /// each slot is live, and then nothing is done.
+    /// each slot is live, and then nothing is done. The puddles that it writes are rewritten to their ends first: that of the slot, and the first one,
+    /// which has the next serial.
     ///
-    /// The device has so many frames, and 37 units are left. Four fences.
+    /// The device has so many frames, and 37 units are left. Four fences, and those of the batches of steps that are left of these puddles.
     fn make<H: Host>(
         &mut self,
         h: &mut H,
         frames: u32,
-        pool: &[(u32, Puddle)],
+        pool: &mut Puddles,
         t: u32,
     ) -> Result<u64, HostFault>
         requires few { frames ≤ MAX_FRAMES }
         requires room { device_words frames ≤ (H.counts h.old).size }
         requires within { IsHeldWithin frames self.old }
-        requires known { IsOnDevice frames pool.now }
+        requires known { IsOnDevice frames pool.old }
         requires units { (self.old).tx.units + NEW_UNITS ≤ LOG_ENTRY_WORDS }
-        ensures makes { H.tells → (size : ℕ) → (w : World) → (memory : Memory) → IsHeldIn frames self.old pool.now memory → IsReady size w memory (H.state h.old) → refusal_by_world w self.old t ≡ Option.None → grows w (self.old).name ≡ false
-            → Applies size w (with_made (self.old).name t w) (with_held (self.old).number (Option.Some self.new) memory) (fault_of result) (H.state h.old) (H.state h.new) }
-        ensures serial { H.tells → (size : ℕ) → (w : World) → (memory : Memory) → IsHeldIn frames self.old pool.now memory → IsReady size w memory (H.state h.old) → grows w (self.old).name ≡ false
+        ensures makes { H.tells → (size : ℕ) → (w : World) → (memory : Memory) → IsHeldIn frames self.old pool.old memory → IsReady size w memory (H.state h.old) → refusal_by_world w self.old t ≡ Option.None → grows w (self.old).name ≡ false
+            → Applies size w (with_made (self.old).name t w) (with_opened (self.old).number (self.old).slot self.new pool.new memory) (fault_of result) (H.state h.old) (H.state h.new) }
+        ensures serial { H.tells → (size : ℕ) → (w : World) → (memory : Memory) → IsHeldIn frames self.old pool.old memory → IsReady size w memory (H.state h.old) → grows w (self.old).name ≡ false
             → IfOk result (λ serial. serial ≡ next_in (graph_seen (open_on (self.old).name w) (pool_named (self.old).name w.stored))) }
-        ensures full { H.tells → (size : ℕ) → (w : World) → (memory : Memory) → IsHeldIn frames self.old pool.now memory → IsReady size w memory (H.state h.old) → grows w (self.old).name ≡ true
-            → IfOk result (λ serial. serial ≡ 0) × (H.state h.new ≡ H.state h.old) × (self.new ≡ self.old) }
-        ensures lowest { H.tells → (size : ℕ) → (w : World) → (memory : Memory) → IsHeldIn frames self.old pool.now memory → IsReady size w memory (H.state h.old) → refusal_by_world w self.old t ≡ Option.None
-            → (slot : Slot) → IsSlotOf pool.now slot → IsLowestFreeSlot (stored_in frames pool.now (reads (H.state h.old).now.words)) (place_of_slot slot)
-            → MakesIn frames pool.now (self.old).tx.log.at slot t (fault_of result) (H.state h.old) (H.state h.new) }
+        ensures full { H.tells → (size : ℕ) → (w : World) → (memory : Memory) → IsHeldIn frames self.old pool.old memory → IsReady size w memory (H.state h.old) → grows w (self.old).name ≡ true
+            → IfOk result (λ serial. serial ≡ 0) × (H.state h.new ≡ H.state h.old) × (self.new ≡ self.old) × (pool.new ≡ pool.old) }
+        // Where the puddles that it writes are finished already.
+        ensures lowest { H.tells → (size : ℕ) → (w : World) → (memory : Memory) → IsHeldIn frames self.old pool.old memory → IsReady size w memory (H.state h.old) → refusal_by_world w self.old t ≡ Option.None
+            → (slot : Slot) → IsSlotOf pool.old slot → IsLowestFreeSlot (stored_in frames pool.old (reads (H.state h.old).now.words)) (place_of_slot slot)
+            → IsRewrittenAt pool.old 0 → IsRewrittenAt pool.old slot.ordinal
+            → MakesIn frames pool.old (self.old).tx.log.at slot t (fault_of result) (H.state h.old) (H.state h.new) }
         ensures within { IsHeldWithin frames self.new }
+        ensures known { IsOnDevice frames pool.new }
         ensures stays { StaysOpen self.old self.new }
         ensures rest { H.tells → KeepsRest (H.state h.old) (H.state h.new) }
         ensures rests { H.tells → fault_of result ≡ Option.Some HostFault.Cut → IsRested (H.state h.new).now.words }
         ensures cause { H.counts h.new ≡ after_fault (fault_of result) (H.counts h.old) }
     {
-        let made = self.tx.new(h, frames, pool, t);
+        let at = match alloc_slot(h, frames, pool.as_slice()) {
+            Ok(at) => at,
+            Err(AllocFault::Full) => return Ok(0),
+            Err(AllocFault::Host(fault)) => return Err(fault),
+        };
+        finish_both(h, frames, pool, at.ordinal)?;
+        let made = self.tx.new_at(h, frames, pool.as_slice(), &at, t);
         // As in `update`.
         let _units = self.tx.units();
         made
@@ -357,7 +412,7 @@ impl Opened {
             Err(refusal) => return Ok(Reply::No(refusal)),
         };
         self.grow(h, frames, pool, added)?;
-        let serial = self.make(h, frames, pool.as_slice(), t)?;
+        let serial = self.make(h, frames, pool, t)?;
         Ok(Reply::Ref(serial))
     }
 
@@ -390,7 +445,7 @@ impl Opened {
         if let Some(refusal) = self.find_refusal_to_make(h, frames, pool.as_slice(), t)? {
             return Ok(Reply::No(refusal));
         }
-        let serial = self.make(h, frames, pool.as_slice(), t)?;
+        let serial = self.make(h, frames, pool, t)?;
         if serial > 0 {
             return Ok(Reply::Ref(serial));
         }
@@ -400,8 +455,9 @@ impl Opened {
     /// Makes the change in the transaction, on the pool of which these puddles are known, or refuses to, as its line of the transaction's client does.
     /// A refused one changes nothing.
     ///
-    /// The device has so many frames. An update takes two fences. An object takes four, and where each slot is live the pool grows by a puddle first,
-    /// which takes those of a batch and of a fresh frame; the puddle is then known.
+    /// The device has so many frames. A puddle that is written is rewritten to its end first, by four fences for each batch of its steps that are left. An
+    /// update takes two fences. An object takes four, and where each slot is live the pool grows by a puddle first, which takes those of a batch and of a
+    /// fresh frame; the puddle is then known.
     pub fn change<H: Host>(
         &mut self,
         h: &mut H,
@@ -428,7 +484,7 @@ impl Opened {
     {
         match change {
             Change::New { t } => self.new_object(h, frames, pool, t),
-            Change::Update(update) => self.update_or_refuse(h, frames, pool.as_slice(), update),
+            Change::Update(update) => self.update_or_refuse(h, frames, pool, update),
         }
     }
 }

@@ -1,5 +1,5 @@
 -- The text of what sound tables list, which is that of the pools and puddles that they stand for.
-use Rattle.std.proofs.Common.{◌≡◌, ℕ, zero, suc, ◌+◌, ◌%◌, ◌^◌, ◌<◌, ◌≤◌, true, ◌&&◌, ltb, eqb, List, [], ◌∷◌, ◌++◌, map, length, nat_cmp, Option, Some, None, option_map, refl, sym, ap, ap₂, ◌∙◌, subst, arith, eqb-true}
+use Rattle.std.proofs.Common.{◌≡◌, ℕ, zero, suc, ◌+◌, ◌%◌, ◌^◌, ◌<◌, ◌≤◌, true, ◌&&◌, ltb, eqb, List, [], ◌∷◌, ◌++◌, map, length, nat_cmp, Option, Some, None, option_map, refl, sym, ap, ap₂, ◌∙◌, subst, arith, eqb-true, leb-true}
 use Rattle.std.specs.List.{AllByRecursion, flat_map, range_with_len}
 use Rattle.std.specs.FinMap.Entries.{find}
 use Rattle.std.proofs.lemmas.Bool.{and_parts}
@@ -58,7 +58,7 @@ module _ {X A : Type 0} (text : ℕ → Option X → List A) where
 frontier_read : (next : ℕ) (p : Puddle) → is_legal_puddle next p ≡ true → p.frontier % 2 ^ 32 ≡ p.frontier
 frontier_read next p legal =
     let last = and_parts (is_given next p.number && is_legal_base p.base && is_legal_base p.old_base) (is_legal_frontier p) legal in
-    let all = eqb-true p.frontier (steps_of p) last.1 in
+    let all = leb-true p.frontier (steps_of p) last.1 in
     omega (arith, all)
 
 module _ (next : ℕ) (t : Tables) (sound : HasSoundTables next t) (id : ℕ) where

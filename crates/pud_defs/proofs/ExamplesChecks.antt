@@ -17,7 +17,7 @@ use Rattle.pud_defs.proofs.Opened.{opened}
 use Rattle.pud_defs.proofs.ExamplesPools.{blank_of, said, behind, lines_said}
 
 -- the root is object 1, which holds 10 and names object 2, which holds 0 and names none
-abbrev two_objects : Graph
+abbrev pub two_objects : Graph
 two_objects = record {
   next_serial = 3;
   root = 1;
@@ -25,21 +25,21 @@ two_objects = record {
 }
 
 -- the frame of a puddle with one object in slot 0, of type 2, whose first two fields hold 10 and 0
-abbrev frame : Image
+abbrev pub frame : Image
 frame =
     written (puddle_slot_at 0 + SLOT_FIELDS_WORD) 10 (written (puddle_slot_at 0 + SLOT_TYPE_WORD) 2 (written (puddle_slot_at 0 + SLOT_SERIAL_WORD) 1
     (written NEXT_SERIAL_WORD 2 (written FRAME_ORDINAL_WORD 0 (written FRAME_NUMBER_WORD 4 (written FRAME_MAGIC_WORD FRAME_MAGIC (λ _. 0)))))))
 
 -- what is stored in this frame
-abbrev one_object : Stored
+abbrev pub one_object : Stored
 one_object = record { puddles = record { number = 4; base = base_at 1; old_base = base_at 1; frontier = 63 } ∷ []; word = λ _. frame }
 
 -- a pool of one puddle of the owner 5 and the group 5
-abbrev pool_holding : (mode number : ℕ) → Holding → Pool
+abbrev pub pool_holding : (mode number : ℕ) → Holding → Pool
 pool_holding mode number holding = record { owner = owner 5 5; mode = mode; number = number; puddles = 1; holding = holding }
 
 -- Type 1 is defined and type 2 is not, so pool a has a graph, with mode 640, and pool b is wild, with mode 600.
-abbrev sound_and_wild : World
+abbrev pub sound_and_wild : World
 sound_and_wild = record (blank_of 4) {
   stored = record (blank_world 4 7) {
     next_number = 5;

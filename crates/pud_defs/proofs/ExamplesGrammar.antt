@@ -1,6 +1,6 @@
 -- Lines that are commands, and lines that are not.
 use Rattle.std.proofs.Common.{◌≡◌, true, [], ◌∷◌, ◌++◌, replicate, codes, Some, None, refl}
-use Rattle.pud_defs.specs.declared.machine.Command.TheVariants.{Client, Leave, Define, Begin, Commit, Abort, New, Set, Later, Root, Free, Get, Cut, Arm}
+use Rattle.pud_defs.specs.declared.machine.Command.TheVariants.{Client, Leave, Define, Begin, Commit, Abort, New, Set, Later, Root, Free, Get, Rewrite, Cut, Arm}
 use Rattle.pud_defs.specs.declared.objects.Val.TheVariants.{Num, Ref}
 use Rattle.pud_defs.specs.TypeMap.{map_word, is_legal_map}
 use Rattle.pud_defs.specs.Grammar.{number_of, command_of}
@@ -116,6 +116,14 @@ frees_an_object = refl
 frees_the_largest : command_of (codes "free 7 abcdefghijklmnop 18446744073709551615") ≡ Some (Free 7 (codes "abcdefghijklmnop") 18446744073709551615)
 unfolding opened
 frees_the_largest = refl
+
+rewrites_a_step : command_of (codes "rewrite a 1") ≡ Some (Rewrite (97 ∷ replicate 15 0) 1)
+unfolding opened
+rewrites_a_step = refl
+
+rewrites_every_step : command_of (codes "rewrite a 1008") ≡ Some (Rewrite (97 ∷ replicate 15 0) 1008)
+unfolding opened
+rewrites_every_step = refl
 
 loses_power : command_of (codes "cut 18446744073709551615") ≡ Some (Cut 18446744073709551615)
 unfolding opened
@@ -246,6 +254,26 @@ nobody_leaves = refl
 two_leave : command_of (codes "leave 0 1") ≡ None
 unfolding opened
 two_leave = refl
+
+no_steps : command_of (codes "rewrite a 0") ≡ None
+unfolding opened
+no_steps = refl
+
+too_many_steps : command_of (codes "rewrite a 1009") ≡ None
+unfolding opened
+too_many_steps = refl
+
+leading_zero_in_steps : command_of (codes "rewrite a 01") ≡ None
+unfolding opened
+leading_zero_in_steps = refl
+
+steps_missing : command_of (codes "rewrite a") ≡ None
+unfolding opened
+steps_missing = refl
+
+client_who_rewrites : command_of (codes "rewrite 0 a 1") ≡ None
+unfolding opened
+client_who_rewrites = refl
 
 pick_too_large : command_of (codes "cut 18446744073709551616") ≡ None
 unfolding opened

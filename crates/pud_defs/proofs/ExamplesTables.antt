@@ -155,7 +155,8 @@ ordinal_left_out : has_counted_puddles (tables_of 4 (written (puddle_record_at 2
 unfolding opened_tables
 ordinal_left_out = refl
 
--- a puddle that is not rewritten whole, or more than whole
-other_frontiers : (has_legal_puddles 9 (tables_of 4 (written (puddle_record_at 2 + 4) 62 moved)) ≡ false) × (has_legal_puddles 9 (tables_of 4 (written (puddle_record_at 2 + 4) 64 moved)) ≡ false)
+-- a puddle of which no step is rewritten, or all but one, or more than all
+other_frontiers : (has_legal_puddles 9 (tables_of 4 (written (puddle_record_at 2 + 4) 0 moved)) ≡ true) × (has_legal_puddles 9 (tables_of 4 (written (puddle_record_at 2 + 4) 62 moved)) ≡ true)
+    × (has_legal_puddles 9 (tables_of 4 (written (puddle_record_at 2 + 4) 64 moved)) ≡ false) × (has_legal_puddles 9 (tables_of 4 (written (puddle_record_at 2 + 4) (2 ^ 32) moved)) ≡ false)
 unfolding opened_tables
-other_frontiers = (refl, refl)
+other_frontiers = (refl, refl, refl, refl)

@@ -59,6 +59,7 @@ pub mod ExamplesPools
 pub mod ExamplesTransactions
 pub mod ExamplesLaters
 pub mod ExamplesChecks
+pub mod ExamplesRewriting
 pub mod ExamplesLogs
 pub mod ExamplesSettled
 pub mod ExamplesTables

@@ -1,7 +1,7 @@
 -- Which part of the world a command may change, but for the shelf, and which file it may write.
 use Rattle.std.specs.Prelude.{◌≡◌, ℕ, List, Option, Some, None}
 use Rattle.pud_defs.specs.declared.machine.Command.{Command}
-use Rattle.pud_defs.specs.declared.machine.Command.TheVariants.{Client, Leave, Define, Cut, Arm, Chmod, Begin, Commit, Abort, New, Set, Later, Root, Free, Dump, Export, Pools, Get}
+use Rattle.pud_defs.specs.declared.machine.Command.TheVariants.{Client, Leave, Define, Cut, Arm, Chmod, Begin, Commit, Abort, New, Set, Later, Root, Free, Dump, Export, Rewrite, Pools, Get}
 use Rattle.pud_defs.specs.declared.machine.Command.TheVariants as commands
 use Rattle.pud_defs.specs.World.{World}
 use Rattle.pud_defs.specs.Listing.{name_text}
@@ -32,6 +32,7 @@ part_of (Root client name s) = transactions
 part_of (Free client name s) = transactions
 part_of (Dump client name) = nothing
 part_of (Export client name file) = nothing
+part_of (Rewrite name n) = nothing
 part_of Pools = nothing
 part_of (Cut pick) = clients
 part_of (Arm step pick) = nothing

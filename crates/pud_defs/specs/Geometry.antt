@@ -1,5 +1,5 @@
 -- The geometry of a puddle: its slots and their words, its steps, and the places of a pool, which are its slots in a row.
-use Rattle.std.specs.Prelude.{ℕ, ◌+◌, ◌*◌, ◌/◌, ◌%◌, Bool, ◌==◌}
+use Rattle.std.specs.Prelude.{ℕ, ◌+◌, ◌*◌, ◌/◌, ◌%◌, Bool, nat_le}
 use Rattle.pud_defs.specs.declared.space.TheConstants.{FRAME_HEADER_WORDS, FRAME_SLOTS, SLOT_WORDS, LAST_FRONTIER}
 use Rattle.pud_defs.specs.declared.records.Puddle.{Puddle}
 use Rattle.pud_defs.specs.declared.records.Slot.{Slot}
@@ -32,9 +32,9 @@ slot_words_of puddle = puddle_slot_words
 abbrev pub steps_of : Puddle → ℕ
 steps_of puddle = LAST_FRONTIER
 
--- all of its steps are rewritten: no other frontier is sound as long as nothing rewrites on demand
+-- no more steps are rewritten than it has
 abbrev pub is_legal_frontier : Puddle → Bool
-is_legal_frontier puddle = puddle.frontier == steps_of puddle
+is_legal_frontier puddle = nat_le puddle.frontier (steps_of puddle)
 
 -- the word of its frame at which a slot begins
 abbrev pub slot_at : Puddle → (slot : ℕ) → ℕ

@@ -2,8 +2,9 @@
 use Rattle.std.specs.Prelude.{IsTrue, ℕ, ◌<◌, ◌≤◌, ◌+◌, ◌-◌, ◌*◌, ◌%◌, ◌^◌, Bool, true, false, cond, not, ◌&&◌, nat_le, nat_lt, ◌==◌, List, [], ◌∷◌, ◌++◌, length, replicate, fold, codes, bytes_eq, Option, Some, None, option_map, option_and_then}
 use Rattle.std.specs.List.{list_all, slice_split}
 use Rattle.pud_defs.specs.declared.layout.TheConstants.{LINE_LIMIT, CLIENTS, MAX_OWNER_ID, MAX_TYPE_ID, MAX_FIELDS, MAX_ARMED_STEP}
+use Rattle.pud_defs.specs.declared.space.TheConstants.{MAX_STEPS}
 use Rattle.pud_defs.specs.declared.machine.Command.{Command}
-use Rattle.pud_defs.specs.declared.machine.Command.TheVariants.{Client, Leave, Define, Cut, Arm, Chmod, Begin, Commit, Abort, New, Set, Later, Root, Free, Dump, Export, Pools, Get}
+use Rattle.pud_defs.specs.declared.machine.Command.TheVariants.{Client, Leave, Define, Cut, Arm, Chmod, Begin, Commit, Abort, New, Set, Later, Root, Free, Dump, Export, Rewrite, Pools, Get}
 use Rattle.pud_defs.specs.declared.machine.Command.TheVariants as commands
 use Rattle.pud_defs.specs.declared.objects.Val.{Val}
 use Rattle.pud_defs.specs.declared.objects.Val.TheVariants.{Num, Ref}
@@ -87,6 +88,10 @@ mode_by owner group others =
 unfoldable pub pool_mode : List ℕ → Option ℕ
 pool_mode (owner ∷ group ∷ others ∷ []) = mode_by owner group others
 pool_mode bytes = None
+
+-- how many rewriting steps: at most as many as a pool can have
+abbrev pub step_count : List ℕ → Option ℕ
+step_count bytes = number_within 1 (MAX_STEPS + 1) bytes
 
 abbrev pub armed_step : List ℕ → Option ℕ
 armed_step bytes = number_within 1 (MAX_ARMED_STEP + 1) bytes
@@ -202,6 +207,10 @@ dump_by arguments = taking client_number (λ client. taking pool_name (λ name. 
 unfoldable pub export_by : Parser
 export_by arguments = taking client_number (λ client. taking pool_name (λ name. taking pool_name (λ file. at_end (Export client name file)))) arguments
 
+-- `rewrite P n`
+unfoldable pub rewrite_by : Parser
+rewrite_by arguments = taking pool_name (λ name. taking step_count (λ n. at_end (Rewrite name n))) arguments
+
 -- `pools`
 unfoldable pub pools_by : Parser
 pools_by arguments = at_end Pools arguments
@@ -239,6 +248,7 @@ lines =
     ∷ (codes "get", get_by)
     ∷ (codes "dump", dump_by)
     ∷ (codes "export", export_by)
+    ∷ (codes "rewrite", rewrite_by)
     ∷ (codes "pools", pools_by)
     ∷ (codes "cut", cut_by)
     ∷ (codes "arm", arm_by)
@@ -285,6 +295,7 @@ IsLegalCommand (Root client name s) = (client < CLIENTS) × IsName name × IsTru
 IsLegalCommand (Free client name s) = (client < CLIENTS) × IsName name × IsTrue (is_legal_name name) × (1 ≤ s) × (s < 2 ^ 64)
 IsLegalCommand (Dump client name) = (client < CLIENTS) × IsName name × IsTrue (is_legal_name name)
 IsLegalCommand (Export client name file) = (client < CLIENTS) × IsName name × IsTrue (is_legal_name name) × IsName file × IsTrue (is_legal_name file)
+IsLegalCommand (Rewrite name n) = IsName name × IsTrue (is_legal_name name) × (1 ≤ n) × (n ≤ MAX_STEPS)
 IsLegalCommand Pools = Unit {0}
 IsLegalCommand (Cut pick) = pick < 2 ^ 64
 IsLegalCommand (Arm step pick) = (1 ≤ step) × (step ≤ MAX_ARMED_STEP) × (pick < 2 ^ 64)

@@ -3,7 +3,7 @@ use Rattle.std.specs.Prelude.{ℕ, ◌+◌, Bool, true, false, not, ◌&&◌, �
 use Rattle.pud_defs.specs.declared.layout.TheConstants.{TYPE_RECORDS, CLIENT_LOGS, LOG_ENTRY_WORDS, MAX_DEPTH, SET_UNITS, NEW_UNITS, NUMBER_LIMIT}
 use Rattle.pud_defs.specs.declared.records.TheConstants.{MAX_PUDDLES}
 use Rattle.pud_defs.specs.declared.machine.Command.{Command}
-use Rattle.pud_defs.specs.declared.machine.Command.TheVariants.{Client, Leave, Define, Cut, Arm, Chmod, Begin, Commit, Abort, New, Set, Later, Root, Free, Dump, Export, Pools, Get}
+use Rattle.pud_defs.specs.declared.machine.Command.TheVariants.{Client, Leave, Define, Cut, Arm, Chmod, Begin, Commit, Abort, New, Set, Later, Root, Free, Dump, Export, Rewrite, Pools, Get}
 use Rattle.pud_defs.specs.declared.machine.Command.TheVariants as commands
 use Rattle.pud_defs.specs.declared.machine.Reply.{Reply}
 use Rattle.pud_defs.specs.declared.machine.Reply.TheVariants as replies
@@ -117,6 +117,7 @@ rule_of (Root client name s) = rule_of_own client name SET_UNITS (refusals.Objec
 rule_of (Free client name s) = rule_of_own client name SET_UNITS (refusals.Object ∷ refusals.Held ∷ refusals.TooBig ∷ [])
 rule_of (Dump client name) = rule_by_mode client name reads (refusals.Memory ∷ [])
 rule_of (Export client name file) = rule_by_mode client name reads (refusals.OpenHere ∷ refusals.Memory ∷ [])
+rule_of (Rewrite name n) = record (rule_of_none (refusals.Pool ∷ refusals.Wild ∷ [])) { pool = Some name }
 rule_of Pools = rule_of_none []
 rule_of (Cut pick) = rule_of_none []
 rule_of (Arm step pick) = rule_of_none []
@@ -399,6 +400,7 @@ after w (Root client name s) = record w { transactions = with_changed name (char
 after w (Free client name s) = record w { transactions = with_changed name (charged SET_UNITS (without_object s)) w.transactions }
 after w (Dump client name) = w
 after w (Export client name file) = w
+after w (Rewrite name n) = w
 after w Pools = w
 after w (Cut pick) = restart w
 after w (Arm step pick) = w

@@ -116,6 +116,11 @@ pub enum Command {
         name: Name,
         file: Name,
     },
+    /// `rewrite P n`: the next `n` rewriting steps of the pool of this name are done, from 1 to 1,008, or all that are left.
+    Rewrite {
+        name: Name,
+        n: u32,
+    },
     /// `pools`: what pools are there.
     Pools,
     /// `cut N`: power is lost at once, and what is left of words that are not durable is chosen by `pick`.

@@ -79,6 +79,9 @@ pub const SLOT_FIELDS_WORD: u32 = 2;
 /// each slot.
 pub const LAST_FRONTIER: u32 = 63;
 
+/// The most rewriting steps that a pool has, 1,008: all of each of its puddles.
+pub const MAX_STEPS: u32 = MAX_PUDDLES * LAST_FRONTIER;
+
 /// The first word of a frame on a device of so many frames.
 pub const fn frame_at(frames: u32, frame: u32) -> u32
     requires few_frames { frames ≤ MAX_FRAMES }
@@ -116,11 +119,11 @@ pub const fn steps_of(_puddle: &Puddle) -> u32
     LAST_FRONTIER
 }
 
-/// Whether all steps of a puddle are rewritten: no other frontier is sound as long as nothing rewrites on demand.
+/// Whether no more steps of a puddle are rewritten than it has: no other frontier is sound.
 pub fn is_legal_frontier(puddle: &Puddle) -> bool
     ensures { result ≡ is_legal_frontier puddle.now }
 {
-    puddle.frontier == steps_of(puddle) as u64
+    puddle.frontier <= steps_of(puddle) as u64
 }
 
 /// The ordinal of the puddle that a place lies in.

@@ -1,6 +1,6 @@
 //! Where the puddles of all pools stand, as one pass over the table finds them.
 
-ghost use Rattle.std.specs.Prelude.{◌≡◌, ◌+◌, ◌*◌, ◌<◌, ◌≤◌, ℕ, List, [], ◌∷◌, ◌++◌, length, Option, IfOk, IfSome, replicate};
+ghost use Rattle.std.specs.Prelude.{◌≡◌, ◌+◌, ◌*◌, ◌<◌, ◌≤◌, ℕ, List, [], ◌∷◌, ◌++◌, length, Option, IfOk, IfSome, replicate, slice_get, set};
 ghost use Rattle.arrayvec.specs.ArrayVec.{array_vec_len};
 ghost use Rattle.pm_model.specs.Words.{reads};
 ghost use Rattle.pm_model.specs.Counts.{fault_of};
@@ -10,6 +10,7 @@ ghost use Rattle.pud_defs.specs.declared.records.TheConstants.{POOL_RECORDS, MAX
 ghost use Rattle.pud_defs.specs.declared.records.Puddle.{Puddle};
 ghost use Rattle.pud_defs.specs.Image.{Image};
 ghost use Rattle.pud_defs.specs.Layout.{tables_end};
+ghost use Rattle.pud_defs.specs.Puddles.{moved_to};
 ghost use Rattle.pud_defs.specs.Tables.{tables_of, puddle_in, puddles_in_turn};
 ghost use Rattle.pud_defs.specs.Stored.{IsOnDevice};
 ghost use Rattle.puddle_table.specs.declared.places.TheConstants.{PLACES};
@@ -76,6 +77,19 @@ impl Puddles {
         ensures { self.new ≡ self.old ++ (frame, puddle) ∷ [] }
     {
         self.puddles.push((frame, puddle));
+    }
+
+    /// Moves the frontier of the puddle of an ordinal.
+    pub fn move_frontier(&mut self, ordinal: u32, to: u32)
+        requires { ordinal < length self.old }
+        ensures { (e : ℕ × Puddle) → slice_get self.old ordinal ≡ Option.Some e → self.new ≡ set self.old ordinal (e.0, moved_to to e.1) }
+    {
+        let (frame, puddle) = self.puddles.as_slice()[ordinal as usize];
+        let moved = Puddle {
+            frontier: u64::from(to),
+            ..puddle
+        };
+        self.puddles.as_mut_slice()[ordinal as usize] = (frame, moved);
     }
 
     /// The puddles, each with its frame, by their ordinals.

@@ -213,7 +213,8 @@ module _ (size : ℕ) (w : World) (memory : Memory) (shelf : Shelf) (s : State) 
     clients = ready.clients;
     frames = ready.frames;
     shelf = refl;
-    held = holds_still w beside memory.held ready.mask s s ready.held keeps (Changes-still _ None s s (λ no. let it : None ≡ Some hosts.Cut = no in cc) refl);
+    held = holds_still w beside memory.held ready.mask s s ready.held keeps (Changes-still _ None s s (λ no. let it : None ≡ Some hosts.Cut = no in cc) refl)
+        (λ number h there. (ready.held.each number h there).is.running.rests);
     sessions = sessions_still w beside memory.held memory.sessions refl ready.sessions;
     rest = ready.rest;
     logs = ready.logs;

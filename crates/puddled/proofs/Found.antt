@@ -197,10 +197,11 @@ module _ (size : ℕ) (w : World) (memory : Memory) (s : State) (ready : IsReady
   need_client need none = ap (λ who. need_refusal need who (pool_named name w.stored) client (open_on name w)) none
 
   -- no pool has the name
+  pub unnamed : None ≡ pool_in t name → pool_named name w.stored ≡ None
+  unnamed none = there_by ∙ ap (option_map (pool_by_record hold t)) (no_record (find name_cmp name (records_of t)) none)
+
   pub need_pool : (need : Need) (who : Owner) → w.clients client ≡ Some who → None ≡ pool_in t name → refusal_to w need client name ≡ Some refusals.Pool
-  need_pool need who there none =
-      ap₂ (λ (acts : Option Owner) (found : Option Pool). need_refusal need acts found client (open_on name w)) there
-      (there_by ∙ ap (option_map (pool_by_record hold t)) (no_record (find name_cmp name (records_of t)) none))
+  need_pool need who there none = ap₂ (λ (acts : Option Owner) (found : Option Pool). need_refusal need acts found client (open_on name w)) there (unnamed none)
 
   module _ (slot : ℕ) (rec : PoolRec) (is : IsRecordOf F name image slot rec) where
     pub found : IsNamed t name slot rec

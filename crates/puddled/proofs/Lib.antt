@@ -1,6 +1,7 @@
 pub mod Depth
 pub mod Needs
 pub mod Found
+pub mod Rewritten
 pub mod Readable
 pub mod Saying
 pub mod FileNames

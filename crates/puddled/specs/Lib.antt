@@ -6,3 +6,4 @@ pub mod Daemon
 pub mod Files
 pub mod Reading
 pub mod Finding
+pub mod Rewriting

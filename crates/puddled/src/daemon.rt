@@ -245,6 +245,7 @@ fn apply<H: Host>(
         Command::Export { client, name, file } => {
             daemon.export_for(alloc, h, client, name, file)
         }
+        Command::Rewrite { name, n } => with_reply(daemon.rewrite_for(h, name, n)),
         Command::Pools => Ok(Answered::Pools),
         Command::Cut { pick } => with_reply(lose_power(h, pick)),
         Command::Arm { step, pick } => with_reply(arm(h, step, pick)),

@@ -123,7 +123,12 @@ impl Daemon {
     /// Whether the pool in this slot has no graph, where one is needed. It is judged, unless it is known to have one.
     ///
     /// The only errors are the host's own, and nothing changes on the device.
-    fn lacks_graph<H: Host>(&mut self, h: &mut H, slot: u32, need: Need) -> Result<bool, HostFault>
+    pub(crate) fn lacks_graph<H: Host>(
+        &mut self,
+        h: &mut H,
+        slot: u32,
+        need: Need,
+    ) -> Result<bool, HostFault>
         requires slot { slot < POOL_RECORDS }
         requires room { device_words (self.old).frames ≤ (H.counts h.old).size }
         ensures lacks { H.tells → (size : ℕ) → (w : World) → IsReady size w self.old (H.state h.old) → (name : List ℕ) (rec : PoolRec) → IsRecordOf w.stored.frames name (reads (H.state h.old).now.words) slot rec

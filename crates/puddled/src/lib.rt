@@ -11,6 +11,7 @@ mod finding;
 mod judged;
 mod pools;
 mod reading;
+mod rewriting;
 mod starting;
 mod transactions;
 mod types;

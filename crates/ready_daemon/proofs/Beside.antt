@@ -1,6 +1,6 @@
 -- What a command does beside the transactions that are open, from what it does with their words masked.
 use Rattle.std.proofs.Common.{◌≡◌, ◌≢◌, ◌⊎◌, inl, inr, ℕ, ◌+◌, ◌<◌, true, false, List, Option, Some, None, refl, sym, ap, subst, ◌∙◌, arith}
-use Rattle.std.proofs.lemmas.Bool.{and_from, le-leb, lt-ltb, or_left, or_right}
+use Rattle.std.proofs.lemmas.Bool.{and_from, le-leb, lt-ltb, or_left, or_right, cases_Bool}
 use Rattle.std.proofs.lemmas.Option.{none-some, same_Some}
 use Rattle.pm_model.specs.declared.host.HostFault.{HostFault}
 use Rattle.pm_model.specs.Words.{Has, Cell, values, Words, reads, Picks, HasOnly}
@@ -22,7 +22,7 @@ use Rattle.pud_defs.specs.Settled.{log_number_at}
 use Rattle.pud_defs.specs.Types.{map_of}
 use Rattle.pud_defs.specs.World.{Transaction, World, StoredWorld, world_of, idle_world_of, closed, open_on}
 use Rattle.pud_defs.proofs.Replay.{empty_range_of, new_value-closed, outside_log}
-use Rattle.hybrid_tx.specs.Grounds.{pool_mine, pool_ground}
+use Rattle.hybrid_tx.specs.Grounds.{pool_mine, pool_ground, finished_of}
 use Rattle.hybrid_tx.specs.Open.Masks.{OpenPool, is_open_record, open_mask, IsOpenPool, IsLeftOpen}
 use Rattle.hybrid_tx.specs.Open.ManyOpen.{OpenTransaction, Opens, MasksAll, AreOpenPools, HasRecords, AreLeftOpen}
 use Rattle.hybrid_tx.proofs.Open.ManyMasks.{masks_below, opens_apart, two_logs, log_or_own, mine_or_record}
@@ -30,14 +30,15 @@ use Rattle.hybrid_tx.proofs.Open.OpenMasks.{open_record_place, mask_of_mine, mas
 use Rattle.hybrid_tx.proofs.Open.OpenPools.{open_on_device}
 use Rattle.hybrid_tx.proofs.Open.OpenSettled.{nothing_given}
 use Rattle.hybrid_tx.proofs.Open.OpenWorlds.{world_with_masked, none_refused_with_masked}
-use Rattle.hybrid_tx.specs.Objects.Transactions.{IsOpenOn}
+use Rattle.hybrid_tx.specs.Objects.Transactions.{IsOpenOn, RestsAs}
 use Rattle.hybrid_tx.proofs.Objects.Opening.{stored_in-mine}
-use Rattle.hybrid_tx.proofs.Objects.LatersKept.{KeepsObjects-same, place_in_pool-stored, AreLaters-wider}
+use Rattle.hybrid_tx.proofs.Objects.LatersKept.{KeepsObjects-same, place_in_pool-stored, AreLaters-wider, keeps_front}
 use Rattle.batch.specs.Tables.{HasDurableTables}
 use Rattle.nesting.specs.declared.Session.{Session}
 use Rattle.word_transaction.specs.Running.{SettlesTo, ByTransaction}
 use Rattle.word_transaction.proofs.Calls.{IsRunning-kept}
 use Rattle.word_transaction.proofs.Images.{SettlesTo-local, IsRunning-settles}
+use Rattle.pm_model.proofs.Words.{HasOnly-newest}
 use Rattle.ready_daemon.specs.Memory.{Held, Memory, held_under}
 use Rattle.ready_daemon.specs.Held.{pool_held, open_held, IsHeld, IsHeldUnder, Holds, HasSessions, HasDurableFrames, ByOthers, NamesNone, StaysSingle, KeepsHeld}
 use Rattle.ready_daemon.specs.KnownPools.{KnowsPools}
@@ -63,10 +64,10 @@ pub record IsUnderMask (size F : ℕ) (mask : Write) (image : Image) : Type 0 wh
 in_log : (at k : ℕ) → IsInLog at k → is_in_log at k ≡ true
 in_log at k inside = and_from _ _ (le-leb at k inside.low) (lt-ltb k (at + LOG_WORDS) inside.high)
 
--- no word that may be written is one of its log, of its frames, or of the records that it rests on
+-- no word that may be written is one of its log, of the frames of its finished puddles, or of the records that it rests on
 pub record IsApart (F : ℕ) (held : Held) (p : OpenPool) (may : Footprint) : Type 0 where
   pub log : (k v : ℕ) → may k v → IsInLog held.tx.log.at k → ⊥
-  pub mine : (k v : ℕ) → may k v → pool_mine F p.at k ≡ true → ⊥
+  pub mine : (k v : ℕ) → may k v → pool_mine F (finished_of p.at) k ≡ true → ⊥
   pub records : (k v : ℕ) → may k v → is_open_record p k ≡ true → ⊥
 
 -- The next world has the same of one transaction that is held.
@@ -95,17 +96,17 @@ module _ (w : World) (held : Held) (mask : Write) (words : Words) (is : IsHeld w
   abbrev p : OpenPool
   p = pool_held held is.at is.rec is.who
 
-  on_device : IsOnDevice F is.at
+  on_device : IsOnDevice F (finished_of is.at)
   on_device = open_on_device F p is.before is.pool
 
-  -- every word of the log, of the pool's frames and of its records is masked
+  -- every word of the log, of the frames of the pool's finished puddles and of its records is masked
   pub log_masked : (k : ℕ) → IsInLog held.tx.log.at k → mask k ≡ None → ⊥
   log_masked k inside none =
       let there = subst (λ (n : ℕ). IsInLog n k) is.gate inside in
       let m = mask_of_log F p is.before k (in_log (log_number_at F held.number) k there) in
       none-some m.0 (sym none ∙ is.masked k m.0 m.1)
 
-  pub own_masked : (k : ℕ) → pool_mine F is.at k ≡ true → mask k ≡ None → ⊥
+  pub own_masked : (k : ℕ) → pool_mine F (finished_of is.at) k ≡ true → mask k ≡ None → ⊥
   own_masked k mine none = none-some (is.before k) (sym none ∙ is.masked k (is.before k) (mask_of_mine F p is.before k is.pool.known mine))
 
   pub record_masked : (k : ℕ) → is_open_record p k ≡ true → mask k ≡ None → ⊥
@@ -141,22 +142,29 @@ module _ (w : World) (held : Held) (mask : Write) (words : Words) (is : IsHeld w
       left_apart = record {
         unnamed = λ k v e. names.each k v (is.masked k v e);
         records = λ k of. same k (λ v wrote. apart.records k v wrote of) ∙ was_record k of;
-        settles = subst (λ (n : ℕ). SettlesTo (pool_ground F is.at) n is.before image) is.gate
-            (SettlesTo-local (pool_ground F is.at) held.tx.log.at is.before o.before image
+        settles = subst (λ (n : ℕ). SettlesTo (pool_ground F (finished_of is.at)) n is.before image) is.gate
+            (SettlesTo-local (pool_ground F (finished_of is.at)) held.tx.log.at is.before o.before image
             (λ k inside. same k (λ v wrote. apart.log k v wrote inside)) (λ k mine. same k (λ v wrote. apart.mine k v wrote mine))
-            (IsRunning-settles (pool_ground F is.at) held.tx.log is.running.saving.es is.before o.before words is.running.saving.running o.picked));
+            (IsRunning-settles (pool_ground F (finished_of is.at)) held.tx.log is.running.saving.es is.before o.before words is.running.saving.running o.picked));
       }
 
 -- ---- what is held stays
 
 module _ (w next : World) (held : Held) (mask anew : Write) (old new : State) (is : IsHeld w held mask old.now.words) (keeps : KeepsOne w next held) (may : Footprint)
     (apart : IsApart w.stored.frames held (pool_held held is.at is.rec is.who) may) (c : Changes may None old new)
-    (masked_so : (k v : ℕ) → open_mask w.stored.frames (pool_held held is.at is.rec is.who) is.before k ≡ Some v → anew k ≡ Some v) where
+    (masked_so : (k v : ℕ) → open_mask w.stored.frames (pool_held held is.at is.rec is.who) is.before k ≡ Some v → anew k ≡ Some v)
+    (rests : RestsAs w.stored.frames is.at is.before new.now.words) where
   abbrev n : ℕ
   n = w.stored.frames
 
   stored_still : stored_in n is.at (reads new.now.words) ≡ stored_in n is.at (reads old.now.words)
-  stored_still = stored_in-mine n is.at (reads old.now.words) (reads new.now.words) (λ k mine. reads_kept may old new k c (λ v wrote. apart.mine k v wrote mine))
+  stored_still =
+      stored_in-mine n is.at (reads old.now.words) (reads new.now.words)
+      (λ k mine. elim (cases_Bool (pool_mine n (finished_of is.at) k)) [
+        | inl own ↦ reads_kept may old new k c (λ v wrote. apart.mine k v wrote own)
+        | inr other ↦
+            HasOnly-newest (new.now.words k) (is.before k) (rests.each k mine other) ∙ sym (HasOnly-newest (old.now.words k) (is.before k) (is.running.rests.each k mine other))
+      ])
 
   pub still_running : IsOpenOn n is.at next.stored.types held.tx.log is.before is.undone is.transaction.now is.transaction.laters new.now.words
   still_running =
@@ -165,14 +173,15 @@ module _ (w next : World) (held : Held) (mask anew : Write) (old new : State) (i
         redo = r.redo;
         saving = record {
           es = r.saving.es;
-          running = IsRunning-kept (pool_ground n is.at) held.tx.log r.saving.es is.before may None old new c
+          running = IsRunning-kept (pool_ground n (finished_of is.at)) held.tx.log r.saving.es is.before may None old new c
               (λ k v inside wrote. apart.log k v wrote inside) (λ k v mine wrote. apart.mine k v wrote mine) r.saving.running;
           asks = r.saving.asks;
         };
+        rests = rests;
         was = keeps.graphs (stored_in n is.at is.before) is.undone r.was;
         is = keeps.graphs (stored_in n is.at (reads new.now.words)) is.transaction.now
             (ap (graph_of w.stored.types) stored_still ∙ r.is);
-        are = AreLaters-wider n is.at is.at w.stored.types next.stored.types (reads old.now.words) (reads new.now.words) is.transaction.now is.transaction.now (record { each = λ o e there. there })
+        are = AreLaters-wider n is.at is.at w.stored.types next.stored.types (reads old.now.words) (reads new.now.words) is.transaction.now is.transaction.now (keeps_front is.at is.at (λ o e there. there))
             (record { each = keeps.types }) (record { each = λ s o live. place_in_pool-stored n is.at (reads old.now.words) (reads new.now.words) stored_still s }) (KeepsObjects-same is.transaction.now)
             is.transaction.laters r.redo r.are;
       }
@@ -262,6 +271,22 @@ module _ (w : World) (held : List (Option Held)) (mask : Write) (words : Words) 
       let a = opened_as m.number m.transaction m.there in
       none-some v (sym (each m.number a.one a.there a.under.is) ∙ ap (λ (t : OpenTransaction). open_mask N t.pool t.before k) a.same ∙ m.is))
 
+  given_by_one : (k v : ℕ) → ((number : ℕ) (h : Held) (there : held_under held number ≡ Some h)
+      → open_mask N (pool_held h (holds.each number h there).is.at (holds.each number h there).is.rec (holds.each number h there).is.who) (holds.each number h there).is.before k ≡ None)
+      → (number : ℕ) (o : OpenTransaction) → holds.opens number ≡ Some o → open_mask N o.pool o.before k ≡ Some v → (x : Option Held) → held_under held number ≡ x → ⊥
+  given_by_one k v each number o there is None e = none-some o (sym (holds.none number e) ∙ there)
+  given_by_one k v each number o there is (Some h) e =
+      let under = holds.each number h e in
+      let same = same_Some (open_held h under.is.at under.is.rec under.is.who under.is.before) o (sym under.opened ∙ there) in
+      none-some v (sym (each number h e) ∙ ap (λ (t : OpenTransaction). open_mask N t.pool t.before k) same ∙ is)
+
+  -- the same, by what is known of each
+  pub unmasked_by_each : (k : ℕ) → ((number : ℕ) (h : Held) (there : held_under held number ≡ Some h)
+      → open_mask N (pool_held h (holds.each number h there).is.at (holds.each number h there).is.rec (holds.each number h there).is.who) (holds.each number h there).is.before k ≡ None) → mask k ≡ None
+  unmasked_by_each k each = nothing_given (mask k) (λ v given.
+      let m = holds.masks.each k v given in
+      given_by_one k v each m.number m.transaction m.there m.is (held_under held m.number) refl)
+
   -- no word in front of the pool table is masked
   pub unmasked_front : (k : ℕ) → k < POOL_TABLE → mask k ≡ None
   unmasked_front k below = masks_below N holds.opens mask holds.are holds.masks k below
@@ -302,18 +327,18 @@ module _ (w : World) (held : List (Option Held)) (mask : Write) (words : Words) 
     in_others_log k inside = in_log (log_number_at N g.number) k (subst (λ (n : ℕ). IsInLog n k) others.is.gate inside)
 
     -- are no words of another
-    pub own_apart : IsApart N g (pool_held g others.is.at others.is.rec others.is.who) (ByTransaction (pool_ground N its.is.at) h.tx.log.at)
+    pub own_apart : IsApart N g (pool_held g others.is.at others.is.rec others.is.who) (ByTransaction (pool_ground N (finished_of its.is.at)) h.tx.log.at)
     own_apart = record {
       log = λ k v wrote inside. elim wrote [
         | inl log ↦ two_logs N holds.opens (reads words) holds.are records_all number other o q its.opened others.opened apart k (in_its_log k log) (in_others_log k inside)
-        | inr mine ↦ log_or_own N holds.opens (reads words) holds.are records_all other number q o others.opened its.opened (λ same. apart (sym same)) k (in_others_log k inside) (or_left (pool_mine N its.is.at k) _ mine)
+        | inr mine ↦ log_or_own N holds.opens (reads words) holds.are records_all other number q o others.opened its.opened (λ same. apart (sym same)) k (in_others_log k inside) (or_left (pool_mine N (finished_of its.is.at) k) _ mine)
       ];
       mine = λ k v wrote also. elim wrote [
-        | inl log ↦ log_or_own N holds.opens (reads words) holds.are records_all number other o q its.opened others.opened apart k (in_its_log k log) (or_left (pool_mine N others.is.at k) _ also)
+        | inl log ↦ log_or_own N holds.opens (reads words) holds.are records_all number other o q its.opened others.opened apart k (in_its_log k log) (or_left (pool_mine N (finished_of others.is.at) k) _ also)
         | inr mine ↦ let no : true ≡ false = sym also ∙ (opens_apart N holds.opens (reads words) holds.are records_all).each number other o q its.opened others.opened apart k mine in cc
       ];
       records = λ k v wrote of. elim wrote [
-        | inl log ↦ log_or_own N holds.opens (reads words) holds.are records_all number other o q its.opened others.opened apart k (in_its_log k log) (or_right (pool_mine N others.is.at k) _ of)
+        | inl log ↦ log_or_own N holds.opens (reads words) holds.are records_all number other o q its.opened others.opened apart k (in_its_log k log) (or_right (pool_mine N (finished_of others.is.at) k) _ of)
         | inr mine ↦ mine_or_record N holds.opens (reads words) holds.are records_all number other o q its.opened others.opened apart k mine of
       ];
     }
@@ -324,11 +349,16 @@ daemon_log_unmasked w held mask words holds = unmasked_front w held mask words h
 
 -- ---- what is held stays beside others
 
-module _ (w next : World) (held : List (Option Held)) (mask : Write) (old new : State) (holds : Holds w held mask old.now.words) (keeps : KeepsHeld w next held) (c : Changes (ByOthers mask) None old new) where
+-- The words of the puddles that are not finished rest, of each that is held.
+pub record RestBehind (w : World) (held : List (Option Held)) (mask : Write) (words : Words) (holds : Holds w held mask words) (after : Words) : Type 0 where
+  pub each : (number : ℕ) (h : Held) (there : held_under held number ≡ Some h) → RestsAs w.stored.frames (holds.each number h there).is.at (holds.each number h there).is.before after
+
+module _ (w next : World) (held : List (Option Held)) (mask : Write) (old new : State) (holds : Holds w held mask old.now.words) (keeps : KeepsHeld w next held) (c : Changes (ByOthers mask) None old new)
+    (rests : (number : ℕ) (h : Held) (there : held_under held number ≡ Some h) → RestsAs w.stored.frames (holds.each number h there).is.at (holds.each number h there).is.before new.now.words) where
   abbrev pub under_still : (number : ℕ) (h : Held) → held_under held number ≡ Some h → IsHeldUnder next holds.opens mask new.now.words number h
   under_still number h there =
       let under = holds.each number h there in
-      still_under w next h mask mask old new under.is (keeps_one w next held keeps number h there) (ByOthers mask) (others_apart w h mask old.now.words under.is) c under.is.masked holds.opens number
+      still_under w next h mask mask old new under.is (keeps_one w next held keeps number h there) (ByOthers mask) (others_apart w h mask old.now.words under.is) c under.is.masked (rests number h there) holds.opens number
       under.number_is under.opened
 
   abbrev pub holds_still : Holds next held mask new.now.words
@@ -393,8 +423,9 @@ module _ (size : ℕ) (w next : World) (memory : Memory) (fault : Option HostFau
   -- with this memory behind it, which holds the same
   pub Applies-beside : (behind : Memory) → behind.frames ≡ memory.frames → behind.held ≡ memory.held → behind.sessions ≡ memory.sessions
       → (fault ≡ None → KnowsPools w.stored.frames behind.judged ready.held.opens (reads new.now.words))
+      → (fault ≡ None → RestBehind w memory.held ready.mask old.now.words ready.held new.now.words)
       → Applies size w next behind fault old new
-  Applies-beside behind frames holds same_sessions knows = record {
+  Applies-beside behind frames holds same_sessions knows rest = record {
     moments = moments_beside size w next memory fault old new ready keeps.frames a;
     quiet = Changes-said (ByOthers ready.mask) fault old new a.beside.changes;
     ready = λ none. subst (λ (m : Memory). IsReady size next m new) (λ i. record { frames = behind.frames; held = sym holds i; sessions = sym same_sessions i; judged = behind.judged }) (record {
@@ -404,7 +435,8 @@ module _ (size : ℕ) (w next : World) (memory : Memory) (fault : Option HostFau
       clients = a.clients none;
       frames = frames ∙ ready.frames ∙ sym keeps.frames;
       shelf = a.beside.changes.shelf ∙ ready.shelf ∙ sym a.shelf;
-      held = holds_still w next memory.held ready.mask old new ready.held keeps (subst (λ (f : Option HostFault). Changes (ByOthers ready.mask) f old new) none a.beside.changes);
+      held = holds_still w next memory.held ready.mask old new ready.held keeps (subst (λ (f : Option HostFault). Changes (ByOthers ready.mask) f old new) none a.beside.changes)
+          (rest none).each;
       sessions = sessions_still w next memory.held memory.sessions keeps.transactions ready.sessions;
       rest = subst (λ (n : ℕ). HasDurableFrames n (masked ready.mask new.now.words)) (sym keeps.frames) (durable_frames_still w.stored.frames ready.mask old new (a.beside.single none) ready.rest);
       logs = a.logs none;

@@ -34,11 +34,13 @@ use Rattle.batch.proofs.Tables.{StaysDurable, reads_kept, HasDurableTables-kept,
 use Rattle.log_space.specs.Records.{record_batch, registration, unregistration, MayHaveOwner, ChangesOwner, Registers, Unregisters}
 use Rattle.log_space.specs.Closed.{ByClosing, ClosesGates, Closes}
 use Rattle.log_space.proofs.Writing.{writes_elsewhere}
+use Rattle.std.proofs.lemmas.Option.{none-some}
+use Rattle.ready_daemon.proofs.RestBeside.{rest_beside}
 use Rattle.ready_daemon.specs.Memory.{Memory}
 use Rattle.ready_daemon.specs.Held.{HasIdleLogs, ByOthers, IsOthers, IsBeside}
 use Rattle.ready_daemon.specs.KnownPools.{KnowsPools}
 use Rattle.ready_daemon.specs.Ready.{IsReady, Applies, IsUsedAlone, IsClosedIfNamed, ClosesBefore}
-use Rattle.ready_daemon.proofs.Beside.{ready_idle, Applies-beside}
+use Rattle.ready_daemon.proofs.Beside.{ready_idle, Applies-beside, RestBehind}
 use Rattle.ready_daemon.proofs.Beneath.{ready_gate, gate_kept, idle_kept, logs_kept, IsBeside-changes, IsBeside-commits, IsBeside-then, read_masked-kept}
 use Rattle.ready_daemon.proofs.Others.{off_gates, off_record, keeps_held, gone}
 use Rattle.ready_daemon.proofs.JudgedKept.{KeepsPools}
@@ -124,7 +126,7 @@ module _ (size : ℕ) (w : World) (memory : Memory) (slot : ℕ) (known : slot <
         clients = λ no. absurd (none no);
         logs = λ no. absurd (none no);
         shelf = refl;
-      }) memory refl refl refl (λ no. absurd (none no))
+      }) memory refl refl refl (λ no. absurd (none no)) (λ no. absurd (none no))
 
   module _ (F : ℕ) (now : Option Owner) (vals : List ℕ) (few : length vals ≤ SPACE_RECORD_WORDS) (b c : State) (is : F ≡ w.stored.frames) (gates : ClosesGates F slot None a b)
       (p : Closes size (closed w) slot None (masked_state ready.mask a) (masked_state ready.mask b)) where
@@ -196,12 +198,17 @@ module _ (size : ℕ) (w : World) (memory : Memory) (slot : ℕ) (known : slot <
           (Leaves-weaker (Silently (λ (image : Image). idle_world_of size image ≡ Some (closed w))) P (masked_state ready.mask a) (masked_state ready.mask b) (λ bytes image m. (m.0, inl m.1)) p.moments)
           (Leaves-weaker (Silently (MayHaveOwner size (closed w) slot now es (masked ready.mask b.now.words))) P (masked_state ready.mask b) (masked_state ready.mask c) (λ bytes image m. (m.0, inl m.1.stands)) q.moments)
 
+      pools_changed : fault ≡ None → KeepsPools w.stored.frames None (reads a.now.words) (reads c.now.words)
+      pools_changed none =
+          let committed = subst (λ (f : Option HostFault). Commits DAEMON_LOG es f b c) none k in
+          subst (λ (n : ℕ). KeepsPools n None (reads a.now.words) (reads c.now.words)) is (KeepsPools-client F slot vals a b c known few gates committed)
+
       -- each pool that was judged stays
       knows_changed : fault ≡ None → KnowsPools w.stored.frames memory.judged ready.held.opens (reads c.now.words)
-      knows_changed none =
-          let committed = subst (λ (f : Option HostFault). Commits DAEMON_LOG es f b c) none k in
-          KnowsPools-all w.stored.frames memory.judged ready.held.opens (reads a.now.words) (reads c.now.words)
-          (subst (λ (n : ℕ). KeepsPools n None (reads a.now.words) (reads c.now.words)) is (KeepsPools-client F slot vals a b c known few gates committed)) ready.knows
+      knows_changed none = KnowsPools-all w.stored.frames memory.judged ready.held.opens (reads a.now.words) (reads c.now.words) (pools_changed none) ready.knows
+
+      rest_changed : fault ≡ None → RestBehind w memory.held ready.mask a.now.words ready.held c.now.words
+      rest_changed none = rest_beside size w memory a ready None c (λ number h there no. none-some h.slot no) (pools_changed none) (beside_changed.single none)
 
       -- the record was changed, or not, for a fault
       changed : Applies size w (after_this w slot now) memory fault a c
@@ -213,7 +220,7 @@ module _ (size : ℕ) (w : World) (memory : Memory) (slot : ℕ) (known : slot <
         clients = clients_changed;
         logs = logs_changed;
         shelf = refl;
-      }) memory refl refl refl knows_changed
+      }) memory refl refl refl knows_changed rest_changed
 
   -- a client came
   pub Applies-unadmitted : (F uid gid : ℕ) (fault : HostFault) (b : State) → F ≡ w.stored.frames → ClosesGates F slot (Some fault) a b

@@ -49,6 +49,7 @@ use Rattle.type_maps.specs.Define.{fault_in, refusal_in, table_refusal, place_fo
 use Rattle.batch.specs.Tables.{HasDurableTables}
 use Rattle.batch.specs.Worlds.{IsSettled}
 use Rattle.batch.proofs.Tables.{reads_kept, HasDurableTables-persisted}
+use Rattle.ready_daemon.proofs.RestBeside.{rest_beside}
 use Rattle.ready_daemon.specs.Memory.{Held, Memory}
 use Rattle.ready_daemon.specs.Held.{HasIdleLogs, Holds, ByOthers, NamesNone, KeepsHeld}
 use Rattle.ready_daemon.proofs.Beneath.{single_changes, persisted_single, logs_kept}
@@ -56,7 +57,7 @@ use Rattle.ready_daemon.specs.Defined.{reply_of}
 use Rattle.ready_daemon.specs.Ready.{KeepsRest, IsReady, AppliesMasked, Applies}
 use Rattle.ready_daemon.proofs.Keeping.{KeepsRest-changes, KeepsRest-still}
 use Rattle.ready_daemon.specs.KnownPools.{KnowsPools}
-use Rattle.ready_daemon.proofs.Beside.{held_is, ready_idle, names_none_idle, Applies-beside}
+use Rattle.ready_daemon.proofs.Beside.{held_is, ready_idle, names_none_idle, Applies-beside, RestBehind}
 use Rattle.ready_daemon.proofs.JudgedLines.{KeepsPools-defined}
 use Rattle.ready_daemon.proofs.JudgedOpen.{KnowsPools-all}
 use Rattle.ready_daemon.proofs.TablesBeside.{ready_beside, read_beside, under_durable, standing}
@@ -354,9 +355,13 @@ module _ (size : ℕ) (w : World) (memory : Memory) (id map r : ℕ) (old : Stat
     knows_now place none =
         KnowsPools-all F memory.judged ready.held.opens (reads old.now.words) (reads new.now.words) (KeepsPools-defined r id map old new place legal_id (now_done none) F) ready.knows
 
+    rest_now : place_for (reads old.now.words) id ≡ Some r → fault ≡ None → RestBehind w memory.held m old.now.words ready.held new.now.words
+    rest_now place none =
+        rest_beside size w memory old ready None new (λ number h there no. none-some h.slot no) (KeepsPools-defined r id map old new place legal_id (now_done none) F) (applies_masked.beside.single none)
+
     new_applies : place_for (reads old.now.words) id ≡ Some r → Applies size w (world_by w (Some (Define id map))) memory fault old new
     new_applies place = subst (λ (v : World). Applies size w v memory fault old new) (sym is_new.world)
-        (Applies-beside size w next memory fault old new ready (KeepsHeld-define w memory.held m old.now.words id map ready.held is_new.missing) applies_masked memory refl refl refl (knows_now place))
+        (Applies-beside size w next memory fault old new ready (KeepsHeld-define w memory.held m old.now.words id map ready.held is_new.missing) applies_masked memory refl refl refl (knows_now place) (rest_now place))
 
 -- ---- the table as it is read
 

@@ -81,21 +81,28 @@ graph_kept F slot before after at graphs pool has = record {
       (ap (graph_of (types_of before)) (stored_in-mine F at before after (λ k mine. pool.words k (ap (λ puddles. pool_mine F puddles k) has.turn ∙ mine))) ∙ has.stored);
 }
 
--- each pool that has a graph, but that of one slot, has the puddles that it had, and a graph
+-- each pool that has a graph, but that of one slot, has the puddles that it had, and a graph, and the words of their frames stay
 pub record KeepsPools (F : ℕ) (but : Option ℕ) (before after : Image) : Type 0 where
   pub each : (slot : ℕ) (at : List (ℕ × Puddle)) → but ≢ Some slot → HasGraphIn F slot before at → HasGraphIn F slot after at
+  pub words : (slot : ℕ) (at : List (ℕ × Puddle)) → but ≢ Some slot → HasGraphIn F slot before at → (k : ℕ) → pool_mine F at k ≡ true → after k ≡ before k
 
 pub KeepsPools-each : (F : ℕ) (but : Option ℕ) (before after : Image) → KeepsGraphs before after
     → ((slot : ℕ) (at : List (ℕ × Puddle)) → but ≢ Some slot → HasGraphIn F slot before at → KeepsPool F slot before after) → KeepsPools F but before after
-KeepsPools-each F but before after graphs pools = record { each = λ slot at apart has. graph_kept F slot before after at graphs (pools slot at apart has) has }
+KeepsPools-each F but before after graphs pools = record {
+  each = λ slot at apart has. graph_kept F slot before after at graphs (pools slot at apart has) has;
+  words = λ slot at apart has k mine. (pools slot at apart has).words k (ap (λ puddles. pool_mine F puddles k) has.turn ∙ mine);
+}
 
 -- one after the other
 pub KeepsPools-then : (F : ℕ) (but : Option ℕ) (a b c : Image) → KeepsPools F but a b → KeepsPools F but b c → KeepsPools F but a c
-KeepsPools-then F but a b c first later = record { each = λ slot at apart has. later.each slot at apart (first.each slot at apart has) }
+KeepsPools-then F but a b c first later = record {
+  each = λ slot at apart has. later.each slot at apart (first.each slot at apart has);
+  words = λ slot at apart has k mine. later.words slot at apart (first.each slot at apart has) k mine ∙ first.words slot at apart has k mine;
+}
 
 -- where nothing happened
 pub KeepsPools-still : (F : ℕ) (but : Option ℕ) (old new : State) → new ≡ old → KeepsPools F but (reads old.now.words) (reads new.now.words)
-KeepsPools-still F but old new same = subst (λ (s : State). KeepsPools F but (reads old.now.words) (reads s.now.words)) (sym same) (record { each = λ slot at apart has. has })
+KeepsPools-still F but old new same = subst (λ (s : State). KeepsPools F but (reads old.now.words) (reads s.now.words)) (sym same) (record { each = λ slot at apart has. has; words = λ slot at apart has k mine. refl })
 
 -- so what is known stays so, where nothing is known of that one
 pub AreJudged-but : (F slot : ℕ) (judged : List (Option (List (ℕ × Puddle)))) (before after : Image) → KeepsPools F (Some slot) before after → known_in judged slot ≡ None → AreJudged F judged before → AreJudged F judged after

@@ -19,14 +19,16 @@ use Rattle.pud_defs.specs.Tables.{tables_of, member_of, puddles_in_turn}
 use Rattle.pud_defs.specs.World.{World}
 use Rattle.batch.proofs.Tables.{reads_kept}
 use Rattle.word_transaction.specs.Running.{ByTransaction}
-use Rattle.hybrid_tx.specs.Grounds.{pool_ground}
+use Rattle.hybrid_tx.specs.Grounds.{pool_ground, finished_of, pool_mine}
 use Rattle.hybrid_tx.specs.Open.ManyOpen.{OpenTransaction, Opens, none_open, IsOneMore}
 use Rattle.hybrid_tx.proofs.Open.PoolPlaces.{EachIsOf}
+use Rattle.hybrid_tx.specs.Objects.Transactions.{RestsAs}
+use Rattle.pm_model.proofs.Changes.{HasOnly-kept}
 use Rattle.ready_daemon.specs.Memory.{Held}
 use Rattle.ready_daemon.specs.Held.{IsHeld}
 use Rattle.ready_daemon.specs.Judged.{known_in, puddles_with_graph, AreJudged}
 use Rattle.ready_daemon.specs.KnownPools.{KnowsPools}
-use Rattle.ready_daemon.proofs.JudgedKept.{HasGraphIn, graph_parts, graph_from, KeepsPools, KeepsPools-changes, KeepsPools-apart, SparesTables, AreJudged-all, AreJudged-but, in_turn_kept, types_same, puddles_same, own_by, words_apart, IsOwnWord}
+use Rattle.ready_daemon.proofs.JudgedKept.{HasGraphIn, graph_parts, graph_from, KeepsPools, KeepsPools-changes, KeepsPools-apart, SparesTables, AreJudged-all, AreJudged-but, in_turn_kept, types_same, puddles_same, own_by, words_apart, IsOwnWord, own_word}
 use Rattle.ready_daemon.proofs.Known.{AreJudged-none, AreJudged-set, AreJudged-forgotten}
 use Rattle.ready_daemon.proofs.HeldUnder.{nothing_there}
 use Rattle.ready_daemon.proofs.PoolsBeside.{puddles_still}
@@ -207,10 +209,10 @@ module _ (w : World) (h : Held) (mask : Write) (old new : State) (is : IsHeld w 
   pub held_log : IsLogBeside F h.tx.log.at
   held_log = subst (IsLogBeside F) (sym is.gate) (log_beside F h.number is.pool.known)
 
-  module _ (c : Changes (ByTransaction (pool_ground F is.at) h.tx.log.at) None old new) where
+  module _ (c : Changes (ByTransaction (pool_ground F (finished_of is.at)) h.tx.log.at) None old new) where
     -- words of it are set
     pub KeepsPools-held : KeepsPools F (Some h.slot) (reads old.now.words) (reads new.now.words)
-    KeepsPools-held = KeepsPools-within F h.slot h.tx.log.at is.at old new held_log (puddles_still w h mask old.now.words is).each c
+    KeepsPools-held = KeepsPools-within F h.slot h.tx.log.at (finished_of is.at) old new held_log (puddles_still w h mask old.now.words is).each c
 
     -- what its pool has then
     pub graph_held_in : (g : Graph) → types_of (reads old.now.words) ≡ w.stored.types → puddles_in_turn (tables_of F (reads old.now.words)) h.slot ≡ is.at
@@ -219,6 +221,17 @@ module _ (w : World) (h : Held) (mask : Write) (old new : State) (is : IsHeld w 
         let members = (puddles_still w h mask old.now.words is).each in
         record {
           graph = g;
-          turn = turn_within F h.slot h.tx.log.at is.at old new held_log members c ∙ turn;
-          stored = ap (λ ts. graph_of ts (stored_in F is.at (reads new.now.words))) (types_within F h.slot h.tx.log.at is.at old new held_log members c ∙ types) ∙ stored;
+          turn = turn_within F h.slot h.tx.log.at (finished_of is.at) old new held_log members c ∙ turn;
+          stored = ap (λ ts. graph_of ts (stored_in F is.at (reads new.now.words))) (types_within F h.slot h.tx.log.at (finished_of is.at) old new held_log members c ∙ types) ∙ stored;
         }
+
+    -- and the words that rest of a pool in another slot do so still
+    pub rest_held : (slot : ℕ) (at : List (ℕ × Puddle)) (before : Image) → h.slot ≢ slot → HasGraphIn F slot (reads old.now.words) at → RestsAs F at before old.now.words → RestsAs F at before new.now.words
+    rest_held slot at before apart has rests = record {
+      each = λ k mine other.
+          HasOnly-kept (ByTransaction (pool_ground F (finished_of is.at)) h.tx.log.at) None old new k (before k) c
+          (λ v wrote.
+          others_apart F h.slot h.tx.log.at (finished_of is.at) old new held_log (puddles_still w h mask old.now.words is).each c slot k v apart wrote
+          (own_word F slot (reads old.now.words) k (ap (λ (puddles : List (ℕ × Puddle)). pool_mine F puddles k) has.turn ∙ mine)))
+          (rests.each k mine other);
+    }

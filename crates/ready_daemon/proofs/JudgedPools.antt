@@ -43,7 +43,9 @@ use Rattle.registry.proofs.PutBatches.{overwritten-puts, with_puts-stays}
 use Rattle.registry.proofs.Made.{making_of}
 use Rattle.registry.proofs.Changed.{changing_of, dropping_of}
 use Rattle.registry.proofs.NewPuddles.{adding_of}
-use Rattle.ready_daemon.proofs.JudgedKept.{HasGraphIn, KeepsPools, KeepsPools-each, KeepsPools-still, KeepsPools-changes, KeepsGraphs-same, types_same, puddles_same, own_word}
+use Rattle.hybrid_tx.specs.Grounds.{pool_mine}
+use Rattle.hybrid_tx.proofs.PoolGrounds.{pool_mine-each}
+use Rattle.ready_daemon.proofs.JudgedKept.{HasGraphIn, KeepsPools, KeepsPools-each, KeepsPools-still, KeepsPools-changes, KeepsGraphs-same, types_same, puddles_same, own_word, KeepsPools-then}
 use Rattle.registry.proofs.Filled.{length-fresh_frame}
 
 -- ---- a batch of changes
@@ -71,6 +73,10 @@ module _ (F : ℕ) (puts : List Put) (old new : State) (of : AreOfPools F puts) 
 
   others_read : (k : ℕ) → TYPE_TABLE ≤ k → ((TYPE_TABLE ≤ k) × (k < POOL_TABLE)) ⊎ (tables_end F ≤ k) → after k ≡ before k
   others_read k low other = puts_read k low ∙ with_puts-stays F puts before k of (not_of_pools F k other)
+
+  -- no word of a frame is written
+  pub frames_read : (k : ℕ) → frames_at F ≤ k → after k ≡ before k
+  frames_read k above = others_read k (omega arith) (inr (omega arith))
 
   -- the pools stay that have the members that they had
   pub KeepsPools-puts : (but : Option ℕ)
@@ -180,28 +186,50 @@ module _ (F : ℕ) (but : Option ℕ) (old new : State) (puts : List Put) (frame
   abbrev fill : Write
   fill = frame_write (tables_of F (reads old.now.words)).frames frame number ordinal
 
+  changed_then : (mid : State) → Persists fill None old mid → Commits DAEMON_LOG (puts_batch puts) None mid new → KeepsPools F (Some r.pool) (reads mid.now.words) (reads new.now.words)
+  changed_then mid fills commits =
+      let a = adds (reads mid.now.words) in
+      let few = a.few in
+      KeepsPools-puts F puts mid new a.of commits (Some r.pool)
+      (λ s ps not_its had f within.
+      ap (λ (i : Image). member_of s f ((tables_of F i).puddles f)) a.made
+      ∙ other_members F frame s r (reads mid.now.words) a.front a.below (omega arith) (λ same. not_its (ap (λ (n : ℕ). Some n) (sym same)))
+      (filled_puddles F frame number ordinal old mid free fills frame a.below ∙ free) a.same f within)
+
   more_by : (mid : State) → Persists fill None old mid → Commits DAEMON_LOG (puts_batch puts) None mid new → KeepsPools F but (reads old.now.words) (reads new.now.words)
-  more_by mid fills commits = record {
-    each = λ slot at apart has.
-        let a = adds (reads mid.now.words) in
-        let few = a.few in
-        let then = KeepsPools-puts F puts mid new a.of commits (Some r.pool)
-        (λ s ps not_its had f within.
-        ap (λ (i : Image). member_of s f ((tables_of F i).puddles f)) a.made
-        ∙ other_members F frame s r (reads mid.now.words) a.front a.below (omega arith) (λ same. not_its (ap (λ (n : ℕ). Some n) (sym same)))
-        (filled_puddles F frame number ordinal old mid free fills frame a.below ∙ free) a.same f within) in
-        then.each slot at (λ same. other slot at apart has (sym (same_Some r.pool slot same))) ((KeepsPools-filled F frame number ordinal old mid free fills).each slot at (λ no. none-some slot no) has);
-  }
+  more_by mid fills commits =
+      let then = changed_then mid fills commits in
+      let filled = KeepsPools-filled F frame number ordinal old mid free fills in
+      record {
+        each = λ slot at apart has. then.each slot at (λ same. other slot at apart has (sym (same_Some r.pool slot same))) (filled.each slot at (λ no. none-some slot no) has);
+        words = λ slot at apart has k mine.
+            then.words slot at (λ same. other slot at apart has (sym (same_Some r.pool slot same))) (filled.each slot at (λ no. none-some slot no) has) k mine
+            ∙ filled.words slot at (λ no. none-some slot no) has k mine;
+      }
 
   -- a puddle more, of none of the pools that are to stay
   KeepsPools-more : PersistsThenCommits fill (puts_batch puts) None old new → KeepsPools F but (reads old.now.words) (reads new.now.words)
   KeepsPools-more c = elim c.then [
-    | inl end ↦ record {
-      each = λ slot at apart has.
-          (KeepsPools-still F None c.mid new end.0).each slot at (λ no. none-some slot no)
-          ((KeepsPools-filled F frame number ordinal old c.mid free (subst (λ (f : Option HostFault). Persists fill f old c.mid) (sym end.1) c.persists)).each slot at (λ no. none-some slot no) has);
-    }
+    | inl end ↦
+        let filled = KeepsPools-filled F frame number ordinal old c.mid free (subst (λ (f : Option HostFault). Persists fill f old c.mid) (sym end.1) c.persists) in
+        let all = KeepsPools-then F None (reads old.now.words) (reads c.mid.now.words) (reads new.now.words) filled (KeepsPools-still F None c.mid new end.0) in
+        record { each = λ slot at apart has. all.each slot at (λ no. none-some slot no) has; words = λ slot at apart has. all.words slot at (λ no. none-some slot no) has }
     | inr on ↦ more_by c.mid (subst (λ (f : Option HostFault). Persists fill f old c.mid) on.0 c.persists) on.1
+  ]
+
+  -- and the words of each pool's frames
+  words_more : PersistsThenCommits fill (puts_batch puts) None old new → (slot : ℕ) (at : List (ℕ × Puddle)) → HasGraphIn F slot (reads old.now.words) at → (k : ℕ) → pool_mine F at k ≡ true
+      → reads new.now.words k ≡ reads old.now.words k
+  words_more c slot at has k mine = elim c.then [
+    | inl end ↦
+        ap (λ (s : State). reads s.now.words k) end.0
+        ∙ (KeepsPools-filled F frame number ordinal old c.mid free (subst (λ (f : Option HostFault). Persists fill f old c.mid) (sym end.1) c.persists)).words slot at (λ no. none-some slot no) has k mine
+    | inr on ↦
+        let m = pool_mine-each F at k mine in
+        let low = m.low in
+        let a = adds (reads c.mid.now.words) in
+        frames_read F puts c.mid new a.of on.1 k (omega arith)
+        ∙ (KeepsPools-filled F frame number ordinal old c.mid free (subst (λ (f : Option HostFault). Persists fill f old c.mid) on.0 c.persists)).words slot at (λ no. none-some slot no) has k mine
   ]
 
 -- the lowest free frame is one of the device's
@@ -262,6 +290,13 @@ module _ (F : ℕ) (a : Added) (old new : State) (within : a.puddle.pool < POOL_
   pub KeepsPools-grow : PersistsThenCommits (filling F a) (puts_batch (growing a)) None old new → KeepsPools F (Some a.puddle.pool) (reads old.now.words) (reads new.now.words)
   KeepsPools-grow commits =
       KeepsPools-more F (Some a.puddle.pool) old new (growing a) a.frame a.puddle.number a.puddle.ordinal a.puddle (frame_within F a.frame (reads old.now.words) first).1
+      adds_next (λ s at apart has same. apart (ap (λ (n : ℕ). Some n) (sym same)))
+      (subst (λ (n : ℕ). PersistsThenCommits (filling n a) (puts_batch (growing a)) None old new) (sym (frames_of_tables F (reads old.now.words))) commits)
+
+  pub words_grow : PersistsThenCommits (filling F a) (puts_batch (growing a)) None old new → (slot : ℕ) (at : List (ℕ × Puddle)) → HasGraphIn F slot (reads old.now.words) at → (k : ℕ) → pool_mine F at k ≡ true
+      → reads new.now.words k ≡ reads old.now.words k
+  words_grow commits =
+      words_more F (Some a.puddle.pool) old new (growing a) a.frame a.puddle.number a.puddle.ordinal a.puddle (frame_within F a.frame (reads old.now.words) first).1
       adds_next (λ s at apart has same. apart (ap (λ (n : ℕ). Some n) (sym same)))
       (subst (λ (n : ℕ). PersistsThenCommits (filling n a) (puts_batch (growing a)) None old new) (sym (frames_of_tables F (reads old.now.words))) commits)
 

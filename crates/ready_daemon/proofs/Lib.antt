@@ -10,8 +10,8 @@ pub mod TablesBeside
 pub mod OpenBeside
 pub mod Sessions
 pub mod NoneHeld
-pub mod Rewritten
 pub mod JudgedKept
+pub mod RestBeside
 pub mod JudgedLines
 pub mod JudgedPools
 pub mod AllMembers

@@ -16,7 +16,7 @@ use Rattle.pud_defs.specs.Stored.{stored_in}
 use Rattle.pud_defs.specs.Tables.{Tables, tables_of, puddles_in_turn}
 use Rattle.pud_defs.specs.World.{Transaction, World, open_on}
 use Rattle.pud_defs.proofs.Replay.{outside_log}
-use Rattle.hybrid_tx.specs.Grounds.{pool_mine}
+use Rattle.hybrid_tx.specs.Grounds.{pool_mine, finished_of}
 use Rattle.hybrid_tx.specs.Open.Masks.{OpenPool, is_open_record, open_mask}
 use Rattle.hybrid_tx.proofs.Open.OpenMasks.{open_record_place, mask_of_others}
 use Rattle.hybrid_tx.proofs.Objects.Opening.{stored_in-mine}
@@ -80,8 +80,8 @@ module _ (w : World) (held : Held) (mask : Write) (words : Words) (is : IsHeld w
     pub other_slot : slot ≡ held.slot → ⊥
     other_slot same = other (ap (λ (x : PoolRec). x.name) (same_Some r is.rec (sym used ∙ ap t.pools same ∙ used_still w held mask words is)) ∙ is.name)
 
-    not_mine : (k : ℕ) → pool_mine F (puddles_in_turn t slot) k ≡ true → pool_mine F is.at k ≡ false
-    not_mine = puddles_apart F t slot held.slot (puddles_in_turn t slot) is.at (each_in_turn t slot) (puddles_still w held mask words is).each other_slot
+    not_mine : (k : ℕ) → pool_mine F (puddles_in_turn t slot) k ≡ true → pool_mine F (finished_of is.at) k ≡ false
+    not_mine = puddles_apart F t slot held.slot (puddles_in_turn t slot) (finished_of is.at) (each_in_turn t slot) (puddles_still w held mask words is).each other_slot
 
     not_record : (k : ℕ) (of : Bool) → is_open_record p k ≡ of → pool_mine F (puddles_in_turn t slot) k ≡ true → of ≡ false
     not_record k false e mine = refl

@@ -28,6 +28,7 @@ use Rattle.batch.specs.Batches.{batch_write, ByBatch}
 use Rattle.log_space.specs.Closed.{ByClosing}
 use Rattle.log_space.specs.Records.{record_batch}
 use Rattle.log_space.proofs.Writing.{writes_elsewhere}
+use Rattle.hybrid_tx.specs.Grounds.{finished_of}
 use Rattle.ready_daemon.specs.Memory.{Held}
 use Rattle.ready_daemon.specs.Held.{pool_held, IsHeld, Holds, IsOthers, KeepsHeld}
 use Rattle.ready_daemon.proofs.Beside.{held_is, unmasked_by_all}
@@ -52,7 +53,7 @@ module _ (w : World) (held : Held) (mask : Write) (words : Words) (is : IsHeld w
   abbrev p : OpenPool
   p = pool_held held is.at is.rec is.who
 
-  on_device : IsOnDevice F is.at
+  on_device : IsOnDevice F (finished_of is.at)
   on_device = open_on_device F p is.before is.pool
 
   -- its logs are others
@@ -66,14 +67,14 @@ module _ (w : World) (held : Held) (mask : Write) (words : Words) (is : IsHeld w
       let inside : IsInLog (log_number_at F (CLIENT_LOGS * client + gate.0.number)) k = record { low = omega arith; high = omega arith } in
       mask_of_others F p is.before k
       (other_log_apart F held.number (CLIENT_LOGS * client + gate.0.number) k (other_number gate.0.number below) inside)
-      (mine_behind F is.at k (omega arith))
+      (mine_behind F (finished_of is.at) k (omega arith))
       (false_from_ne_true (is_open_record p k) (λ of. let place = open_record_place F p k is.pool.slot is.pool.known on_device of in let high = place.high in absurd (omega arith)))
 
   -- and so is its record
   record_unmasked : (k : ℕ) → space_record_at client ≤ k → k < space_record_at (client + 1) → is_open_record p k ≡ false
   unfolding is_open_record
   record_unmasked k low high = false_from_ne_true (is_open_record p k) (λ of.
-      elim (or_cases (is_in_pool_record p.slot k || is_in_space_record (client_of_log p.number) k) (list_any (is_in_puddle_record k) p.at) of) [
+      elim (or_cases (is_in_pool_record p.slot k || is_in_space_record (client_of_log p.number) k) (list_any (is_in_puddle_record k) (finished_of p.at)) of) [
         | inl first ↦ elim (or_cases (is_in_pool_record p.slot k) (is_in_space_record (client_of_log p.number) k) first) [
           | inl pool ↦
               let slot = is.pool.slot in
@@ -88,7 +89,7 @@ module _ (w : World) (held : Held) (mask : Write) (words : Words) (is : IsHeld w
               absurd (other (omega arith))
         ]
         | inr puddle ↦
-            let found = any_element (is_in_puddle_record k) p.at puddle in
+            let found = any_element (is_in_puddle_record k) (finished_of p.at) puddle in
             let parts = and_parts (leb (puddle_record_at found.element.0) k) (ltb k (puddle_record_at (found.element.0 + 1))) found.passes in
             let from = leb-true _ _ parts.0 in
             absurd (omega arith)
@@ -96,7 +97,7 @@ module _ (w : World) (held : Held) (mask : Write) (words : Words) (is : IsHeld w
 
   space_unmasked : (k : ℕ) → space_record_at client ≤ k → k < space_record_at (client + 1) → open_mask F p is.before k ≡ None
   space_unmasked k low high =
-      mask_of_others F p is.before k (outside_log (log_number_at F held.number) k (inl (omega arith))) (mine_behind F is.at k (omega arith)) (record_unmasked k low high)
+      mask_of_others F p is.before k (outside_log (log_number_at F held.number) k (inl (omega arith))) (mine_behind F (finished_of is.at) k (omega arith)) (record_unmasked k low high)
 
   batch_unmasked : (vals : List ℕ) → length vals ≤ SPACE_RECORD_WORDS → (k v : ℕ) → ByBatch DAEMON_LOG (record_batch client vals) k v → open_mask F p is.before k ≡ None
   batch_unmasked vals few k v (inl log) = let high = log.high in mask_below F p is.before is.pool.slot is.pool.known on_device k (omega arith)

@@ -12,13 +12,14 @@ use Rattle.pud_defs.specs.Step.{graph_in}
 use Rattle.pud_defs.specs.Tables.{Pool}
 use Rattle.pud_defs.specs.Transactions.{Opened, with_open}
 use Rattle.pud_defs.specs.World.{Transaction, World, open_on}
-use Rattle.hybrid_tx.specs.Grounds.{pool_ground}
+use Rattle.hybrid_tx.specs.Grounds.{pool_ground, finished_of}
 use Rattle.hybrid_tx.specs.Open.ManyOpen.{OpenTransaction, Opens, with_transaction, open_masks, AreOpenPools, MasksAll, IsOneMore}
 use Rattle.hybrid_tx.proofs.Open.ManyIdle.{one_ended, others_open, others_records}
 use Rattle.hybrid_tx.proofs.Open.ManyMasks.{open_masks_all}
 use Rattle.nesting.specs.declared.Session.{Session}
 use Rattle.nesting.specs.Sessions.{session_in}
 use Rattle.word_transaction.specs.Running.{ByTransaction}
+use Rattle.hybrid_tx.specs.Objects.Transactions.{RestsAs}
 use Rattle.ready_daemon.specs.Memory.{Held, held_under}
 use Rattle.ready_daemon.specs.Held.{open_held, IsHeldUnder, IsOpenUnder, Holds, HasSessions}
 use Rattle.ready_daemon.proofs.Beside.{KeepsOne, still_under, records_all, own_apart}
@@ -108,9 +109,10 @@ module _ (w : World) (list : List (Option Held)) (mask : Write) (old : State) (h
       | inr apart ↦ sym (one_of_all.same m apart) ∙ holds.none m (sym (held_there list number None m apart) ∙ e)
     ]
 
-    module _ (new : State) (c : Changes (ByTransaction (pool_ground F its.is.at) held.tx.log.at) None old new) where
+    module _ (new : State) (c : Changes (ByTransaction (pool_ground F (finished_of its.is.at)) held.tx.log.at) None old new)
+        (rests : (m : ℕ) (h : Held) (was : held_under list m ≡ Some h) → m ≢ number → RestsAs F (holds.each m h was).is.at (holds.each m h was).is.before new.now.words) where
       abbrev may : Footprint
-      may = ByTransaction (pool_ground F its.is.at) held.tx.log.at
+      may = ByTransaction (pool_ground F (finished_of its.is.at)) held.tx.log.at
 
       pub under_still : (m : ℕ) (h : Held) → held_under (set list number None) m ≡ Some h → IsHeldUnder next others (open_masks F others) new.now.words m h
       under_still m h e =
@@ -118,7 +120,7 @@ module _ (w : World) (list : List (Option Held)) (mask : Write) (old : State) (h
           let u = holds.each m h a.was in
           let opened = sym (one_of_all.same m a.apart) ∙ u.opened in
           still_under w next h mask (open_masks F others) old new u.is (keeps_other m h a) may (own_apart w list mask old.now.words holds number m held h there a.was (λ same. a.apart (sym same))) c
-          (others_mask.has m (open_held h u.is.at u.is.rec u.is.who u.is.before) opened) others m u.number_is opened
+          (others_mask.has m (open_held h u.is.at u.is.rec u.is.who u.is.before) opened) (rests m h a.was a.apart) others m u.number_is opened
 
       abbrev pub holds_others : Holds next (set list number None) (open_masks F others) new.now.words
       holds_others = record {

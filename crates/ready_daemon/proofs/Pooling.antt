@@ -52,6 +52,7 @@ use Rattle.registry.specs.Places.{make_fault, refusal_in, make_refusal}
 use Rattle.registry.specs.Pools.{changing, dropping, OrStill, CommitsPuts, MakesSomewhere, KeepsTables, IsOffMaking, IsPoolAt, ChangesPools}
 use Rattle.registry.proofs.Joined.{few_puddles}
 use Rattle.nesting.specs.Sessions.{holder_in}
+use Rattle.ready_daemon.proofs.RestBeside.{rest_beside}
 use Rattle.ready_daemon.specs.Memory.{Held, Memory, held_under}
 use Rattle.ready_daemon.specs.Held.{Holds, IsBeside}
 use Rattle.ready_daemon.specs.KnownPools.{KnowsPools}
@@ -211,14 +212,15 @@ IsNotNamed name held = (number : ℕ) (h : Held) → held_under held number ≡ 
 pub Applies-pools : (size : ℕ) (w : World) (memory : Memory) (c : Command) (next : StoredWorld) (also : Image → Type 0) (fault : Option HostFault) (old new : State) (ready : IsReady size w memory old)
     → refusal_of w c ≡ None → after w c ≡ record w { stored = next } → KeepsPool w.stored next memory.held → ChangesBeside size w.stored next also ready.mask fault old new
     → (judged : List (Option (List (ℕ × Puddle)))) → (fault ≡ None → KnowsPools w.stored.frames judged ready.held.opens (reads new.now.words))
-    → Applies size w (world_by w (Some c)) (record memory { judged = judged }) fault old new
-Applies-pools size w memory c next also fault old new ready free gives keeps b judged knows =
+    → (but : Option ℕ) → ((number : ℕ) (h : Held) → held_under memory.held number ≡ Some h → but ≢ Some h.slot)
+    → (fault ≡ None → KeepsPools w.stored.frames but (reads old.now.words) (reads new.now.words)) → Applies size w (world_by w (Some c)) (record memory { judged = judged }) fault old new
+Applies-pools size w memory c next also fault old new ready free gives keeps b judged knows but apart stay =
     let behind : Memory = record memory { judged = judged } in
     subst (λ (v : World). Applies size w v behind fault old new) (sym (done_world w c free ∙ gives))
     (Applies-beside size w (record w { stored = next }) memory fault old new ready
     (KeepsHeld-stored w next memory.held keeps.frames keeps.types keeps.pool)
     (AppliesMasked-pools size w memory next also fault old new ready b.beside b.pools keeps.frames)
-    behind refl refl refl knows)
+    behind refl refl refl knows (λ none. rest_beside size w memory old ready but new apart (stay none) (b.beside.single none)))
 
 -- each pool that was judged stays
 knows_still : (size : ℕ) (w : World) (memory : Memory) (old new : State) (ready : IsReady size w memory old) → KeepsPools w.stored.frames None (reads old.now.words) (reads new.now.words)
@@ -298,7 +300,7 @@ module _ (size : ℕ) (w : World) (memory : Memory) (client uid gid mode : ℕ) 
       let none = absent_of (w.clients client) (pool_named name w.stored) (is_full_of_pools w.stored) (lacks_frames w.stored 1) (sym (refusal_of-pool w client mode name) ∙ free) in
       Applies-pools size w memory line made also fault old new ready free (given_world size w memory old ready client uid gid mode name who)
       (keeps_made w.stored name (owner uid gid) mode memory.held (absent_apart w memory.held ready.mask old.now.words name ready.held none)) (makes is) memory.judged
-      (λ none. knows_still size w memory old new ready (pools is none))
+      (λ none. knows_still size w memory old new ready (pools is none)) None (λ number h there no. none-some h.slot no) (pools is)
   made_by (Some (faults.Host f)) is makes pools still rests = absurd (no_host _ _ _ f is)
   made_by (Some faults.Exists) is makes pools still rests =
       made_refused refusals.Exists (refusal_made size w memory old ready client uid gid mode name who ∙ ap as_refusal is) (still (λ none. none-some faults.Exists (sym none ∙ is))) rests
@@ -534,13 +536,14 @@ module _ (size : ℕ) (w : World) (memory : Memory) (client slot : ℕ) (name : 
   Applies-mode mode rests commits changes =
       let off = off_changing w memory.held m old.now.words ready.held slot within slot_apart mode in
       let idle = ready_gate size w memory old ready in
+      let stay : fault ≡ None → KeepsPools w.stored.frames None (reads old.now.words) (reads new.now.words) =
+      λ done. KeepsPools-mode N slot mode old new within (subst (λ (f : Option HostFault). Commits DAEMON_LOG (puts_batch (changing slot mode)) f old new) done (commits idle)) in
       Applies-pools size w memory (Chmod client name mode) (with_pool_mode name mode w.stored) (λ _. ⊤) fault old new ready (refusal_of-owned w client mode name ∙ free) refl
       (keeps_mode w.stored name mode memory.held name_apart)
       (record {
         beside = IsBeside-puts m (changing slot mode) fault old new off idle rests (inr (commits idle));
         pools = subst (λ (n : List ℕ). ChangesPools size w.stored (with_pool_mode n mode w.stored) (λ _. ⊤) fault (masked_state m old) (masked_state m new)) at.name_is (changes off ready.settled at.rec masked_at);
-      }) memory.judged
-      (λ done. knows_still size w memory old new ready (KeepsPools-mode N slot mode old new within (subst (λ (f : Option HostFault). Commits DAEMON_LOG (puts_batch (changing slot mode)) f old new) done (commits idle))))
+      }) memory.judged (λ done. knows_still size w memory old new ready (stay done)) None (λ number h there no. none-some h.slot no) stay
 
   -- what the call does, on so many frames, with these words masked
   abbrev Frees : ℕ → Type 0
@@ -566,6 +569,8 @@ module _ (size : ℕ) (w : World) (memory : Memory) (client slot : ℕ) (name : 
   drop_there rests frees drops =
       let off = off_dropping w memory.held m old.now.words ready.held slot within slot_apart in
       let idle = ready_gate size w memory old ready in
+      let stay : fault ≡ None → KeepsPools w.stored.frames (Some slot) (reads old.now.words) (reads new.now.words) =
+      λ done. KeepsPools-drop N slot old new within (subst (λ (f : Option HostFault). OrStill (CommitsPuts (dropping (tables_of N (reads old.now.words)) slot)) f old new) done (frees idle few)) in
       Applies-pools size w memory (commands.Drop client name) (without_pool name w.stored) (λ _. ⊤) fault old new ready free refl (keeps_drop w.stored name memory.held name_apart)
       (record {
         beside = IsBeside-puts m (dropping (tables_of N (reads old.now.words)) slot) fault old new off idle rests (frees idle few);
@@ -575,7 +580,7 @@ module _ (size : ℕ) (w : World) (memory : Memory) (client slot : ℕ) (name : 
       (λ done.
       KnowsPools-dropped N slot memory.judged ready.held.opens (reads old.now.words) (reads new.now.words)
       (opens_apart_from w memory.held m old.now.words ready.held slot (λ number h there same. slot_apart number h there (sym same)))
-      (KeepsPools-drop N slot old new within (subst (λ (f : Option HostFault). OrStill (CommitsPuts (dropping (tables_of N (reads old.now.words)) slot)) f old new) done (frees idle few))) ready.knows)
+      (stay done) ready.knows) (Some slot) (λ number h there same. slot_apart number h there (same_Some slot h.slot same)) stay
 
   pub Applies-drop : (F : ℕ) → F ≡ w.stored.frames → (fault ≡ Some Cut → IsRested new.now.words) → Frees F → Drops F → Applies size w (world_by w (Some (commands.Drop client name))) less fault old new
   Applies-drop F frames rests =

@@ -1,13 +1,15 @@
 -- Pools made, changed and dropped beside open transactions: which words of the tables these mask, and what stays of the pool of each.
-use Rattle.std.proofs.Common.{◌≡◌, ◌⊎◌, inl, inr, ℕ, ◌+◌, ◌<◌, ◌≤◌, true, false, ◌||◌, leb, ltb, List, Option, Some, None, sym, ap, ◌∙◌, arith, eq-eqb}
+use Rattle.std.proofs.Common.{◌≡◌, ◌⊎◌, inl, inr, ℕ, ◌+◌, ◌<◌, ◌≤◌, true, false, ◌||◌, leb, ltb, List, Option, Some, None, sym, ap, subst, ◌∙◌, arith, eq-eqb}
 use Rattle.std.specs.Prelude.{slice_get}
 use Rattle.std.specs.List.{list_any}
-use Rattle.std.proofs.lemmas.Bool.{and_parts, and_from, or_cases, or_left, or_right, leb-true, ltb-true, le-leb, lt-ltb, false_from_ne_true}
+use Rattle.std.proofs.lemmas.Bool.{and_parts, and_from, or_cases, or_left, or_right, leb-true, ltb-true, le-leb, lt-ltb, eqb-true, false_from_ne_true}
+use Rattle.std.proofs.lemmas.Option.{same_Some}
 use Rattle.pm_model.specs.Words.{Words, reads}
 use Rattle.pm_model.specs.Changes.{Write}
 use Rattle.pud_defs.specs.declared.records.TheConstants.{POOL_RECORDS}
 use Rattle.pud_defs.specs.declared.records.PoolRec.{PoolRec}
 use Rattle.pud_defs.specs.declared.records.Puddle.{Puddle}
+use Rattle.pud_defs.specs.Geometry.{steps_of}
 use Rattle.pud_defs.specs.Frames.{frame_at}
 use Rattle.pud_defs.specs.Layout.{IsWithin, tables_end}
 use Rattle.pud_defs.specs.Pools.{pool_record_at}
@@ -19,7 +21,8 @@ use Rattle.pud_defs.specs.Tables.{Tables, tables_of}
 use Rattle.pud_defs.specs.World.{World}
 use Rattle.pud_defs.proofs.Replay.{outside_log}
 use Rattle.pud_defs.proofs.TablesOf.{pools_below, puddles_below, frames_of_tables, pool_at-same, puddle_at-same}
-use Rattle.hybrid_tx.specs.Grounds.{pool_mine}
+use Rattle.hybrid_tx.specs.Grounds.{pool_mine, is_finished, finished_of}
+use Rattle.hybrid_tx.proofs.FinishedPuddles.{stood}
 use Rattle.hybrid_tx.specs.Open.Masks.{OpenPool, is_in_pool_record, is_in_space_record, is_in_puddle_record, is_open_record, ArePuddlesOf, open_mask}
 use Rattle.hybrid_tx.proofs.Open.OpenMasks.{mine_behind, mask_of_others}
 use Rattle.hybrid_tx.proofs.Open.OpenPools.{open_on_device}
@@ -40,10 +43,10 @@ record IsOfPuddle (at : List (ℕ × Puddle)) (k : ℕ) : Type 0 where
 
 -- a word of a record of a transaction is one of its pool's, of its client's, or of a puddle's
 open_record_of : (p : OpenPool) (k : ℕ) → is_open_record p k ≡ true
-    → IsWithin (pool_record_at p.slot) (pool_record_at (p.slot + 1)) k ⊎ (IsWithin (space_record_at (client_of_log p.number)) (space_record_at (client_of_log p.number + 1)) k ⊎ IsOfPuddle p.at k)
+    → IsWithin (pool_record_at p.slot) (pool_record_at (p.slot + 1)) k ⊎ (IsWithin (space_record_at (client_of_log p.number)) (space_record_at (client_of_log p.number + 1)) k ⊎ IsOfPuddle (finished_of p.at) k)
 unfolding is_open_record
 open_record_of p k is =
-    elim (or_cases (is_in_pool_record p.slot k || is_in_space_record (client_of_log p.number) k) (list_any (is_in_puddle_record k) p.at) is) [
+    elim (or_cases (is_in_pool_record p.slot k || is_in_space_record (client_of_log p.number) k) (list_any (is_in_puddle_record k) (finished_of p.at)) is) [
       | inl first ↦ elim (or_cases (is_in_pool_record p.slot k) (is_in_space_record (client_of_log p.number) k) first) [
         | inl pool ↦
             let parts = and_parts (leb (pool_record_at p.slot) k) (ltb k (pool_record_at (p.slot + 1))) pool in
@@ -53,7 +56,7 @@ open_record_of p k is =
             inr (inl (record { low = leb-true _ _ parts.0; high = ltb-true _ _ parts.1 }))
       ]
       | inr puddle ↦
-          let found = any_element (is_in_puddle_record k) p.at puddle in
+          let found = any_element (is_in_puddle_record k) (finished_of p.at) puddle in
           let parts = and_parts (leb (puddle_record_at found.element.0) k) (ltb k (puddle_record_at (found.element.0 + 1))) found.passes in
           inr (inr (record { index = found.index; element = found.element; there = found.there; within = record { low = leb-true _ _ parts.0; high = ltb-true _ _ parts.1 } }))
     ]
@@ -61,14 +64,14 @@ open_record_of p k is =
 of_pool_record : (p : OpenPool) (k : ℕ) → pool_record_at p.slot ≤ k → k < pool_record_at (p.slot + 1) → is_open_record p k ≡ true
 unfolding is_open_record
 of_pool_record p k low high =
-    or_left (is_in_pool_record p.slot k || is_in_space_record (client_of_log p.number) k) (list_any (is_in_puddle_record k) p.at)
+    or_left (is_in_pool_record p.slot k || is_in_space_record (client_of_log p.number) k) (list_any (is_in_puddle_record k) (finished_of p.at))
     (or_left (is_in_pool_record p.slot k) (is_in_space_record (client_of_log p.number) k) (and_from (leb (pool_record_at p.slot) k) (ltb k (pool_record_at (p.slot + 1))) (le-leb _ _ low) (lt-ltb _ _ high)))
 
-of_puddle_record : (p : OpenPool) (k o : ℕ) (e : ℕ × Puddle) → slice_get p.at o ≡ Some e → puddle_record_at e.0 ≤ k → k < puddle_record_at (e.0 + 1) → is_open_record p k ≡ true
+of_puddle_record : (p : OpenPool) (k o : ℕ) (e : ℕ × Puddle) → slice_get (finished_of p.at) o ≡ Some e → puddle_record_at e.0 ≤ k → k < puddle_record_at (e.0 + 1) → is_open_record p k ≡ true
 unfolding is_open_record
 of_puddle_record p k o e there low high =
-    or_right (is_in_pool_record p.slot k || is_in_space_record (client_of_log p.number) k) (list_any (is_in_puddle_record k) p.at)
-    (element_passes (is_in_puddle_record k) p.at o e there (and_from (leb (puddle_record_at e.0) k) (ltb k (puddle_record_at (e.0 + 1))) (le-leb _ _ low) (lt-ltb _ _ high)))
+    or_right (is_in_pool_record p.slot k || is_in_space_record (client_of_log p.number) k) (list_any (is_in_puddle_record k) (finished_of p.at))
+    (element_passes (is_in_puddle_record k) (finished_of p.at) o e there (and_from (leb (puddle_record_at e.0) k) (ltb k (puddle_record_at (e.0 + 1))) (le-leb _ _ low) (lt-ltb _ _ high)))
 
 module _ (w : World) (held : Held) (mask : Write) (words : Words) (is : IsHeld w held mask words) where
   abbrev F : ℕ
@@ -83,7 +86,7 @@ module _ (w : World) (held : Held) (mask : Write) (words : Words) (is : IsHeld w
   -- a word of the tables that is none of its records
   not_record : (k : ℕ) → k < tables_end F → (is_open_record p k ≡ true → ⊥) → open_mask F p is.before k ≡ None
   not_record k below never =
-      mask_of_others F p is.before k (outside_log (log_number_at F held.number) k (inl (omega arith))) (mine_behind F is.at k (omega arith)) (false_from_ne_true (is_open_record p k) never)
+      mask_of_others F p is.before k (outside_log (log_number_at F held.number) k (inl (omega arith))) (mine_behind F (finished_of is.at) k (omega arith)) (false_from_ne_true (is_open_record p k) never)
 
   -- its record is read as it was
   pub used_still : now.pools held.slot ≡ Some is.rec
@@ -91,18 +94,18 @@ module _ (w : World) (held : Held) (mask : Write) (words : Words) (is : IsHeld w
       pools_below F (reads words) held.slot is.pool.slot ∙ pool_at-same (reads words) is.before held.slot (λ k low high. is.records k (of_pool_record p k low high))
       ∙ sym (pools_below F is.before held.slot is.pool.slot) ∙ is.pool.used
 
-  -- and so are those of its puddles
-  pub puddles_still : ArePuddlesOf now held.slot is.at
+  -- and so are those of its finished puddles
+  pub puddles_still : ArePuddlesOf now held.slot (finished_of is.at)
   puddles_still =
-      ArePuddlesOf-same (tables_of F is.before) now held.slot is.at (frames_of_tables F is.before ∙ sym (frames_of_tables F (reads words)))
+      ArePuddlesOf-same (tables_of F is.before) now held.slot (finished_of is.at) (frames_of_tables F is.before ∙ sym (frames_of_tables F (reads words)))
       (λ o e there.
-      let below = all_there (λ (d : ℕ × Puddle). d.0 < F) is.at o e (open_on_device F p is.before is.pool).frames there in
+      let below = all_there (λ (d : ℕ × Puddle). d.0 < F) (finished_of is.at) o e (open_on_device F p is.before is.pool).frames there in
       puddles_below F (reads words) e.0 below ∙ puddle_at-same (reads words) is.before e.0 (λ k low high. is.records k (of_puddle_record p k o e there low high)) ∙ sym (puddles_below F is.before e.0 below))
       is.pool.puddles
 
-  -- a frame that is none of its puddles'
-  not_its_own : (frame o : ℕ) (e : ℕ × Puddle) → is_of_pool held.slot (now.puddles frame) ≡ false → slice_get is.at o ≡ Some e → frame ≡ e.0 → ⊥
-  not_its_own frame o e other there same =
+  -- a frame that is none of its finished puddles'
+  not_its_own : (frame : ℕ) → is_of_pool held.slot (now.puddles frame) ≡ false → (o : ℕ) (e : ℕ × Puddle) → slice_get (finished_of is.at) o ≡ Some e → frame ≡ e.0 → ⊥
+  not_its_own frame other o e there same =
       let m = puddles_still.each o e there in
       let of : is_of_pool held.slot (now.puddles frame) ≡ true = ap (λ n. is_of_pool held.slot (now.puddles n)) same ∙ ap (is_of_pool held.slot) m.used ∙ eq-eqb m.member.pool (held.slot + 1) m.pool in
       let no : true ≡ false = sym of ∙ other in
@@ -116,7 +119,20 @@ module _ (w : World) (held : Held) (mask : Write) (words : Words) (is : IsHeld w
         | inr (inr puddle) ↦ let from = puddle.within.low in absurd (omega arith)
       ])
 
-  other_puddle : (frame k : ℕ) → frame < F → is_of_pool held.slot (now.puddles frame) ≡ false → puddle_record_at frame ≤ k → k < puddle_record_at (frame + 1) → open_mask F p is.before k ≡ None
+  -- no finished puddle of it lies in the frame
+  abbrev IsNoneOfIts : (frame : ℕ) → Type 0
+  IsNoneOfIts frame = (o : ℕ) (e : ℕ × Puddle) → slice_get (finished_of is.at) o ≡ Some e → frame ≡ e.0 → ⊥
+
+  -- nor does one lie in that of a puddle in which steps are left
+  moving_apart : (frame : ℕ) (m : Member) → now.puddles frame ≡ Some m → (m.puddle.frontier ≡ steps_of m.puddle → ⊥) → IsNoneOfIts frame
+  moving_apart frame m used moving o e there same =
+      let of = puddles_still.each o e there in
+      let one : of.member ≡ m = same_Some of.member m (sym of.used ∙ sym (ap now.puddles same) ∙ used) in
+      let s = stood is_finished is.at o e there in
+      let puddle : m.puddle ≡ e.1 = sym (ap (λ (x : Member). x.puddle) one) ∙ of.puddle in
+      moving (subst (λ (d : Puddle). d.frontier ≡ steps_of d) (sym puddle) (eqb-true e.1.frontier (steps_of e.1) s.passes))
+
+  other_puddle : (frame k : ℕ) → frame < F → IsNoneOfIts frame → puddle_record_at frame ≤ k → k < puddle_record_at (frame + 1) → open_mask F p is.before k ≡ None
   other_puddle frame k below other low high =
       let few = is.pool.known in
       let slot = is.pool.slot in
@@ -125,23 +141,23 @@ module _ (w : World) (held : Held) (mask : Write) (words : Words) (is : IsHeld w
         | inr (inl space) ↦ let to = space.high in absurd (omega arith)
         | inr (inr puddle) ↦
             let from = puddle.within.low in let to = puddle.within.high in
-            absurd (not_its_own frame puddle.index puddle.element other puddle.there (omega arith))
+            absurd (other puddle.index puddle.element puddle.there (omega arith))
       ])
 
-  other_frame : (frame k : ℕ) → frame < F → is_of_pool held.slot (now.puddles frame) ≡ false → frame_at F frame ≤ k → k < frame_at F (frame + 1) → open_mask F p is.before k ≡ None
+  other_frame : (frame k : ℕ) → frame < F → IsNoneOfIts frame → frame_at F frame ≤ k → k < frame_at F (frame + 1) → open_mask F p is.before k ≡ None
   other_frame frame k below other low high =
       let few = is.pool.known in
       let slot = is.pool.slot in
       mask_of_others F p is.before k (outside_log (log_number_at F held.number) k (inr (omega arith)))
-      (false_from_ne_true (pool_mine F is.at k) (λ mine.
-      let m = pool_mine-each F is.at k mine in
+      (false_from_ne_true (pool_mine F (finished_of is.at) k) (λ mine.
+      let m = pool_mine-each F (finished_of is.at) k mine in
       let from = m.low in let to = m.high in
-      not_its_own frame m.ordinal m.puddle other m.there (omega arith)))
+      other m.ordinal m.puddle m.there (omega arith)))
       (false_from_ne_true (is_open_record p k) (λ of. elim (open_record_of p k of) [
         | inl pool ↦ let to = pool.high in absurd (omega arith)
         | inr (inl space) ↦ let to = space.high in absurd (omega arith)
         | inr (inr puddle) ↦
-            let frames = all_there (λ (d : ℕ × Puddle). d.0 < F) is.at puddle.index puddle.element (open_on_device F p is.before is.pool).frames puddle.there in
+            let frames = all_there (λ (d : ℕ × Puddle). d.0 < F) (finished_of is.at) puddle.index puddle.element (open_on_device F p is.before is.pool).frames puddle.there in
             let to = puddle.within.high in absurd (omega arith)
       ]))
 
@@ -163,13 +179,25 @@ module _ (w : World) (held : List (Option Held)) (mask : Write) (words : Words) 
   pub unmasked_puddle : (frame k : ℕ) → frame < w.stored.frames → IsOfOthers held ((tables_of w.stored.frames (reads words)).puddles frame)
       → puddle_record_at frame ≤ k → k < puddle_record_at (frame + 1) → mask k ≡ None
   unmasked_puddle frame k below other low high =
-      unmasked_by_all w held mask words holds k (λ number h there is. other_puddle w h mask words is frame k below (other number h there) low high)
+      unmasked_by_all w held mask words holds k (λ number h there is. other_puddle w h mask words is frame k below (not_its_own w h mask words is frame (other number h there)) low high)
 
   -- of a frame of others
   pub unmasked_frame : (frame k : ℕ) → frame < w.stored.frames → IsOfOthers held ((tables_of w.stored.frames (reads words)).puddles frame)
       → frame_at w.stored.frames frame ≤ k → k < frame_at w.stored.frames (frame + 1) → mask k ≡ None
   unmasked_frame frame k below other low high =
-      unmasked_by_all w held mask words holds k (λ number h there is. other_frame w h mask words is frame k below (other number h there) low high)
+      unmasked_by_all w held mask words holds k (λ number h there is. other_frame w h mask words is frame k below (not_its_own w h mask words is frame (other number h there)) low high)
+
+  -- of the record of a puddle in which steps are left, whatever pool it is of
+  pub unmasked_moving_record : (frame k : ℕ) (m : Member) → frame < w.stored.frames → (tables_of w.stored.frames (reads words)).puddles frame ≡ Some m → (m.puddle.frontier ≡ steps_of m.puddle → ⊥)
+      → puddle_record_at frame ≤ k → k < puddle_record_at (frame + 1) → mask k ≡ None
+  unmasked_moving_record frame k m below used moving low high =
+      unmasked_by_all w held mask words holds k (λ number h there is. other_puddle w h mask words is frame k below (moving_apart w h mask words is frame m used moving) low high)
+
+  -- and of its frame
+  pub unmasked_moving_frame : (frame k : ℕ) (m : Member) → frame < w.stored.frames → (tables_of w.stored.frames (reads words)).puddles frame ≡ Some m → (m.puddle.frontier ≡ steps_of m.puddle → ⊥)
+      → frame_at w.stored.frames frame ≤ k → k < frame_at w.stored.frames (frame + 1) → mask k ≡ None
+  unmasked_moving_frame frame k m below used moving low high =
+      unmasked_by_all w held mask words holds k (λ number h there is. other_frame w h mask words is frame k below (moving_apart w h mask words is frame m used moving) low high)
 
 -- no two are held on the pool of one slot
 pub one_slot : (w : World) (held : List (Option Held)) (mask : Write) (words : Words) → Holds w held mask words → (n m : ℕ) (h g : Held) → held_under held n ≡ Some h → held_under held m ≡ Some g

@@ -108,4 +108,4 @@ others_bases t base lowest f below =
 pub legal_new : (t : Tables) (slot ordinal number later : ℕ) (a : Added) → IsNewPuddle t slot ordinal number a → 1 ≤ number → number < later → is_legal_puddle later (member_by a.puddle).puddle ≡ true
 legal_new t slot ordinal number later a new low high =
     let is = new.number_is in
-    and_from _ _ (and_from _ _ (and_from _ _ (given later a.puddle.number (omega arith) (omega arith)) new.base.legal) (ap is_legal_base new.old_base ∙ new.base.legal)) (eq-eqb a.puddle.frontier LAST_FRONTIER new.frontier)
+    and_from _ _ (and_from _ _ (and_from _ _ (given later a.puddle.number (omega arith) (omega arith)) new.base.legal) (ap is_legal_base new.old_base ∙ new.base.legal)) (le-leb a.puddle.frontier LAST_FRONTIER (omega (arith, new.frontier)))

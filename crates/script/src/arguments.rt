@@ -1,7 +1,7 @@
 //! The arguments of a line, taken from the front one by one, each by its kind.
 
 ghost use Rattle.std.specs.Prelude.{◌≡◌, ◌≤◌, ℕ, List, IfSome};
-ghost use Rattle.pud_defs.specs.Grammar.{client_number, owner_id, type_id, field_count, listed_map, pool_name, pool_mode, word_number, object_serial, field_place, field_value, armed_step, loss_pick, at_end};
+ghost use Rattle.pud_defs.specs.Grammar.{client_number, owner_id, type_id, field_count, listed_map, pool_name, pool_mode, word_number, object_serial, field_place, field_value, step_count, armed_step, loss_pick, at_end};
 ghost use Rattle.script.specs.Pieces.{pieces_of, with_front};
 ghost use Rattle.script.specs.Taken.{IsTaken};
 
@@ -15,6 +15,7 @@ use pud_defs::layout::{CLIENTS, MAX_ARMED_STEP, MAX_FIELDS, MAX_OWNER_ID, MAX_TY
 use pud_defs::machine::Command;
 use pud_defs::objects::Val;
 use pud_defs::records::Name;
+use pud_defs::space::MAX_STEPS;
 use std::marker::Model;
 
 /// The arguments that are left. Contracts see them as the list of their bytes. Where a call answers None the line is no
@@ -135,6 +136,14 @@ impl<'a> Arguments<'a> {
         ensures { IsTaken field_value self.old result self.new }
     {
         read_value(self.front()?)
+    }
+
+    /// The front argument as a number of rewriting steps.
+    #[tactic(auto, using(crate::proofs::Taken::taken))]
+    pub(crate) fn steps(&mut self) -> Option<u32>
+        ensures { IsTaken step_count self.old result self.new }
+    {
+        read_within(self.front()?, 1, MAX_STEPS + 1)
     }
 
     /// The front argument as the device step at which power is armed to be lost.

@@ -16,7 +16,7 @@ use Rattle.pud_defs.specs.declared.objects.Val.{Val}
 use Rattle.pud_defs.specs.Layout.{device_words, frames_at}
 use Rattle.pud_defs.specs.Image.{Image}
 use Rattle.pud_defs.specs.Bases.{is_legal_base}
-use Rattle.pud_defs.specs.Geometry.{slot_begins, ordinal_of}
+use Rattle.pud_defs.specs.Geometry.{slot_begins, ordinal_of, steps_of}
 use Rattle.pud_defs.specs.Frames.{frame_at}
 use Rattle.pud_defs.specs.Entries.{Entry}
 use Rattle.pud_defs.specs.Replay.{overwritten}
@@ -34,7 +34,7 @@ use Rattle.log_store.specs.Store.{OpenLog}
 use Rattle.word_transaction.specs.Ground.{redo_entry}
 use Rattle.word_transaction.specs.Running.{nothing}
 use Rattle.word_transaction.proofs.Calls.{Runs-stopped, some_fault}
-use Rattle.hybrid_tx.specs.Grounds.{pool_ground, IsPlaced}
+use Rattle.hybrid_tx.specs.Grounds.{pool_ground, finished_of, IsPlaced}
 use Rattle.hybrid_tx.specs.Objects.Stores.{address_at, word_for, IsPlaceAndWord, LacksPlaceOrWord, field_word}
 use Rattle.hybrid_tx.specs.Objects.Transactions.{MaySet, IsRewrittenFor, IsLater, AreLaters, IsSaving, IsOpenOn, Saves, RunsOn}
 use Rattle.hybrid_tx.proofs.PoolGrounds.{all_there}
@@ -74,7 +74,8 @@ module _ (F : ℕ) (at : List (ℕ × Puddle)) (types : List (ℕ × ℕ)) (log 
       record {
         write = nothing;
         redo = is_open.redo;
-        saves = record { es = s.es; runs = Runs-stopped (pool_ground F at) log behind s.es s.es before nothing fault (state old) (state new) same only.never_cut (only.stays t) s.running; asks = s.asks };
+        rests = λ none. absurd (some_fault fault none);
+        saves = record { es = s.es; runs = Runs-stopped (pool_ground F (finished_of at)) log behind s.es s.es before nothing fault (state old) (state new) same only.never_cut (only.stays t) s.running; asks = s.asks };
         was = is_open.was;
         is = λ none. absurd (some_fault fault none);
         are = λ none. absurd (some_fault fault none);
@@ -92,8 +93,8 @@ module _ (F : ℕ) (at : List (ℕ × Puddle)) (types : List (ℕ × ℕ)) (log 
 
     pub RunsOn-set : (size word : ℕ) (slot : Slot) (v : ℕ) (fault : Option HostFault) (mid new : State) → IsPlaced F at → IsRewrittenFor F at (reads old.now.words) s → device_words F ≤ size → log.at + LOG_WORDS ≤ frames_at F
         → behind.at ≡ log.at → mid ≡ old → IsSlotOf at slot → place_in_pool F at (reads old.now.words) s ≡ Some (place_of_slot slot) → word_for F at (reads old.now.words) x ≡ Some v → word ≡ field_word slot f
-        → ((e : ℕ × Puddle) → slice_get at slot.ordinal ≡ Some e → (b : Image) (redo : List Entry) → IsSaving F at log b redo mid.now.words
-        → Saves F at behind b redo (placed (frame_at F e.0 + word) (v ∷ [])) fault mid new)
+        → ((e : ℕ × Puddle) → slice_get at slot.ordinal ≡ Some e → e.1.frontier ≡ steps_of e.1 → (b : Image) (redo : List Entry) → IsSaving F (finished_of at) log b redo mid.now.words
+        → Saves F (finished_of at) behind b redo (placed (frame_at F e.0 + word) (v ∷ [])) fault mid new)
         → RunsOn F at types behind before undone (with_field s f x now) laters fault old new
     RunsOn-set size word slot v fault mid new is_placed rewritten device apart same stays of found value is_word put =
         let image = reads old.now.words in
@@ -101,26 +102,27 @@ module _ (F : ℕ) (at : List (ℕ × Puddle)) (types : List (ℕ × ℕ)) (log 
         let redo = is_open.redo in
         let few = few_fields may.map in
         let below = may.below in
-        let put_here = subst (λ (k : ℕ). IsSaving F at log before redo mid.now.words → Saves F at behind before redo (placed (frame_at F slot.frame + k) (v ∷ [])) fault mid new) is_word
-        (put (slot.frame, of.puddle) of.there before redo) in
+        let put_here = subst (λ (k : ℕ). IsSaving F (finished_of at) log before redo mid.now.words → Saves F (finished_of at) behind before redo (placed (frame_at F slot.frame + k) (v ∷ [])) fault mid new) is_word
+        (put (slot.frame, of.puddle) of.there ((rewritten.each slot of found).each (slot.frame, of.puddle) of.there) before redo) in
         RunsOn-write F size at types before log behind undone now (with_field s f x now) laters laters redo write fault old mid new is_placed device apart same stays is_open put_here
         (set_value types F at image now is_open.is is_placed s f slot (rewritten.each slot of found) of found x v may value)
         (AreLaters-kept F at types image (overwritten write image) now (with_field s f x now)
         (KeepsPlaces-field F at image is_placed.frames slot of f v (omega arith) now) (KeepsObjects-field s f x now) laters redo is_open.are)
 
     -- the value asked for
-    pub RunsOn-later : (size word : ℕ) (slot : Slot) (v : ℕ) (fault : Option HostFault) (mid new : State) → IsPlaced F at → device_words F ≤ size → log.at + LOG_WORDS ≤ frames_at F
+    pub RunsOn-later : (size word : ℕ) (slot : Slot) (v : ℕ) (fault : Option HostFault) (mid new : State) → IsPlaced F at → IsRewrittenFor F at (reads old.now.words) s → device_words F ≤ size → log.at + LOG_WORDS ≤ frames_at F
         → behind.at ≡ log.at → mid ≡ old → IsSlotOf at slot → place_in_pool F at (reads old.now.words) s ≡ Some (place_of_slot slot) → word_for F at (reads old.now.words) x ≡ Some v → word ≡ field_word slot f
-        → ((e : ℕ × Puddle) → slice_get at slot.ordinal ≡ Some e → (b : Image) (redo : List Entry) → IsSaving F at log b redo mid.now.words
-        → Saves F at behind b (redo ++ redo_entry (e.1.base + WORD_BYTES * word) (v ∷ []) ∷ []) nothing fault mid new)
+        → ((e : ℕ × Puddle) → slice_get at slot.ordinal ≡ Some e → e.1.frontier ≡ steps_of e.1 → (b : Image) (redo : List Entry) → IsSaving F (finished_of at) log b redo mid.now.words
+        → Saves F (finished_of at) behind b (redo ++ redo_entry (e.1.base + WORD_BYTES * word) (v ∷ []) ∷ []) nothing fault mid new)
         → RunsOn F at types behind before undone now (laters ++ record { s = s; f = f; x = x } ∷ []) fault old new
-    RunsOn-later size word slot v fault mid new is_placed device apart same stays of found value is_word ask =
+    RunsOn-later size word slot v fault mid new is_placed rewritten device apart same stays of found value is_word ask =
+        let finished = (rewritten.each slot of found).each (slot.frame, of.puddle) of.there in
         let image = reads old.now.words in
         let redo = is_open.redo in
         let entry = redo_entry (of.puddle.base + WORD_BYTES * field_word slot f) (v ∷ []) in
-        let later : IsLater F at types image now (record { s = s; f = f; x = x }) entry = record { slot = slot; of = of; place = found; value = v; word = value; may = may; is = refl } in
-        let ask_here = subst (λ (k : ℕ). IsSaving F at log before redo mid.now.words → Saves F at behind before (redo ++ redo_entry (of.puddle.base + WORD_BYTES * k) (v ∷ []) ∷ []) nothing fault mid new)
-        is_word (ask (slot.frame, of.puddle) of.there before redo) in
+        let later : IsLater F at types image now (record { s = s; f = f; x = x }) entry = record { slot = slot; of = of; finished = finished; place = found; value = v; word = value; may = may; is = refl } in
+        let ask_here = subst (λ (k : ℕ). IsSaving F (finished_of at) log before redo mid.now.words → Saves F (finished_of at) behind before (redo ++ redo_entry (of.puddle.base + WORD_BYTES * k) (v ∷ []) ∷ []) nothing fault mid new)
+        is_word (ask (slot.frame, of.puddle) of.there finished before redo) in
         let same_image : overwritten nothing image ≡ image = overwritten-nothing nothing image (λ k. refl) in
         RunsOn-write F size at types before log behind undone now now laters (laters ++ record { s = s; f = f; x = x } ∷ []) (redo ++ entry ∷ []) nothing fault old mid new
         is_placed device apart same stays is_open ask_here

@@ -1,11 +1,11 @@
 -- A transaction on a pool that asked for values later is committed: its redo entries make the graph with them.
-use Rattle.std.proofs.Common.{◌≡◌, ℕ, ◌+◌, List, [], ◌∷◌, Option, Some, sym, ap, ◌∙◌, arith}
-use Rattle.std.specs.Prelude.{All}
-use Rattle.std.proofs.lemmas.List.Elements.{All-nil, All-cons, All-head, All-tail}
+use Rattle.std.proofs.Common.{◌≡◌, ℕ, ◌+◌, List, [], ◌∷◌, Option, Some, sym, ap, subst, ◌∙◌, arith}
+use Rattle.std.proofs.lemmas.Option.{same_Some}
 use Rattle.pm_model.specs.Changes.{placed}
 use Rattle.pud_defs.specs.declared.records.Puddle.{Puddle}
 use Rattle.pud_defs.specs.Image.{Image}
 use Rattle.pud_defs.specs.Entries.{Entry}
+use Rattle.pud_defs.specs.Geometry.{steps_of}
 use Rattle.pud_defs.specs.Frames.{frame_at}
 use Rattle.pud_defs.specs.Replay.{value_in, value_from, overwritten}
 use Rattle.pud_defs.specs.Stored.{stored_in}
@@ -13,10 +13,11 @@ use Rattle.pud_defs.specs.Graph.{Graph, graph_of}
 use Rattle.pud_defs.specs.Laters.{Later, with_later, with_laters}
 use Rattle.graph_laws.proofs.Words.{few_fields}
 use Rattle.word_transaction.specs.Ground.{written_in_turn}
-use Rattle.hybrid_tx.specs.Grounds.{pool_place, IsPlaced}
+use Rattle.hybrid_tx.specs.Grounds.{pool_place, finished_of, IsPlaced, IsRewrittenAt}
 use Rattle.hybrid_tx.specs.Objects.Stores.{field_word}
-use Rattle.hybrid_tx.specs.Objects.Transactions.{IsRewrittenFor, IsLater, AreLaters}
+use Rattle.hybrid_tx.specs.Objects.Transactions.{IsLater, AreLaters}
 use Rattle.hybrid_tx.proofs.PoolGrounds.{place_of_word}
+use Rattle.hybrid_tx.proofs.FinishedPuddles.{finished_placed, finished_there}
 use Rattle.hybrid_tx.proofs.Objects.FieldsSet.{set_value}
 use Rattle.hybrid_tx.proofs.Objects.LatersKept.{KeepsPlaces, AreLaters-kept}
 use Rattle.hybrid_tx.proofs.Objects.LatersBehind.{KeepsObjects-field, KeepsPlaces-field}
@@ -27,26 +28,34 @@ module _ (F : ℕ) (at : List (ℕ × Puddle)) (types : List (ℕ × ℕ)) (is_p
     word = frame_at F later.slot.frame + field_word later.slot l.f
 
     -- the entry writes the word of the field
-    entry_writes : (k : ℕ) → value_in (pool_place F at) e k ≡ placed word (later.value ∷ []) k
+    entry_writes : (k : ℕ) → value_in (pool_place F (finished_of at)) e k ≡ placed word (later.value ∷ []) k
     entry_writes k =
         let few = few_fields later.may.map in
         let below = later.may.below in
         let slots = later.of.below in
-        ap (λ (d : Entry). value_in (pool_place F at) d k) later.is
+        let there = finished_there F at later.slot.ordinal (later.slot.frame, later.of.puddle) later.of.there later.finished in
+        ap (λ (d : Entry). value_in (pool_place F (finished_of at)) d k) later.is
         ∙ ap (λ (o : Option ℕ). value_from o (later.value ∷ []) k)
-        (place_of_word F at is_placed later.slot.ordinal (field_word later.slot l.f) (later.slot.frame, later.of.puddle) later.of.there (omega arith))
+        (place_of_word F (finished_of at) (finished_placed F at is_placed) there.0 (field_word later.slot l.f) (later.slot.frame, later.of.puddle) there.1 (omega arith))
 
     abbrev behind : Image
     behind = overwritten (placed word (later.value ∷ [])) image
 
-    entry_image : overwritten (value_in (pool_place F at) e) image ≡ behind
+    entry_image : overwritten (value_in (pool_place F (finished_of at)) e) image ≡ behind
     entry_image =
-        let same : value_in (pool_place F at) e ≡ placed word (later.value ∷ []) = λ i k. entry_writes k i in
+        let same : value_in (pool_place F (finished_of at)) e ≡ placed word (later.value ∷ []) = λ i k. entry_writes k i in
         ap (λ (w : ℕ → Option ℕ). overwritten w image) same
 
-    entry_graph : IsRewrittenFor F at image l.s → graph_of types (stored_in F at image) ≡ Some now → graph_of types (stored_in F at behind) ≡ Some (with_later l now)
-    entry_graph rewritten is =
-        set_value types F at image now is is_placed l.s l.f later.slot (rewritten.each later.slot later.of later.place) later.of later.place l.x later.value later.may later.word
+    -- each pointer in its puddle stands over the pool's bases
+    rewritten : IsRewrittenAt at later.slot.ordinal
+    rewritten =
+        record {
+          each = λ d there. subst (λ (c : ℕ × Puddle). c.1.frontier ≡ steps_of c.1) (same_Some (later.slot.frame, later.of.puddle) d (sym later.of.there ∙ there)) later.finished;
+        }
+
+    entry_graph : graph_of types (stored_in F at image) ≡ Some now → graph_of types (stored_in F at behind) ≡ Some (with_later l now)
+    entry_graph is =
+        set_value types F at image now is is_placed l.s l.f later.slot rewritten later.of later.place l.x later.value later.may later.word
 
     places_stay : KeepsPlaces F at at image behind now
     places_stay =
@@ -57,22 +66,13 @@ module _ (F : ℕ) (at : List (ℕ × Puddle)) (types : List (ℕ × ℕ)) (is_p
     others_stay : (ls : List Later) (es : List Entry) → AreLaters F at types image now ls es → AreLaters F at types behind (with_later l now) ls es
     others_stay ls es are = AreLaters-kept F at types image behind now (with_later l now) places_stay (KeepsObjects-field l.s l.f l.x now) ls es are
 
-    -- the puddles of the objects of what is still asked for are those that they were
-    rewritten_stay : (ls : List Later) (es : List Entry) → AreLaters F at types image now ls es → All (λ (m : Later). IsRewrittenFor F at image m.s) ls → All (λ (m : Later). IsRewrittenFor F at behind m.s) ls
-    rewritten_stay [] es are all = All-nil (λ (m : Later). IsRewrittenFor F at behind m.s)
-    rewritten_stay (m ∷ ls) [] are all = absurd are
-    rewritten_stay (m ∷ ls) (d ∷ es) are all =
-        let first = All-head (λ (n : Later). IsRewrittenFor F at image n.s) m ls all in
-        All-cons (λ (n : Later). IsRewrittenFor F at behind n.s) m ls (record { each = λ slot of found. first.each slot of (sym (places_stay.each m.s are.0.may.object are.0.may.live) ∙ found) })
-        (rewritten_stay ls es are.1 (All-tail (λ (n : Later). IsRewrittenFor F at image n.s) m ls all))
-
   -- the entries written in turn make the graph with what is asked for
   pub laters_applied : (laters : List Later) (redo : List Entry) (image : Image) (now : Graph) → graph_of types (stored_in F at image) ≡ Some now → AreLaters F at types image now laters redo
-      → All (λ (l : Later). IsRewrittenFor F at image l.s) laters → graph_of types (stored_in F at (written_in_turn (pool_place F at) redo image)) ≡ Some (with_laters laters now)
-  laters_applied [] [] image now is are all = is
-  laters_applied [] (e ∷ es) image now is are all = absurd are
-  laters_applied (l ∷ ls) [] image now is are all = absurd are
-  laters_applied (l ∷ ls) (e ∷ es) image now is are all =
-      ap (λ (i : Image). graph_of types (stored_in F at (written_in_turn (pool_place F at) es i))) (entry_image image now l e are.0)
-      ∙ laters_applied ls es (behind image now l e are.0) (with_later l now) (entry_graph image now l e are.0 (All-head (λ (m : Later). IsRewrittenFor F at image m.s) l ls all) is)
-      (others_stay image now l e are.0 ls es are.1) (rewritten_stay image now l e are.0 ls es are.1 (All-tail (λ (m : Later). IsRewrittenFor F at image m.s) l ls all))
+      → graph_of types (stored_in F at (written_in_turn (pool_place F (finished_of at)) redo image)) ≡ Some (with_laters laters now)
+  laters_applied [] [] image now is are = is
+  laters_applied [] (e ∷ es) image now is are = absurd are
+  laters_applied (l ∷ ls) [] image now is are = absurd are
+  laters_applied (l ∷ ls) (e ∷ es) image now is are =
+      ap (λ (i : Image). graph_of types (stored_in F at (written_in_turn (pool_place F (finished_of at)) es i))) (entry_image image now l e are.0)
+      ∙ laters_applied ls es (behind image now l e are.0) (with_later l now) (entry_graph image now l e are.0 is)
+      (others_stay image now l e are.0 ls es are.1)

@@ -7,7 +7,7 @@ use Rattle.pud_defs.specs.declared.space.TheConstants.{SLOT_SERIAL_WORD}
 use Rattle.pud_defs.specs.declared.records.Puddle.{Puddle}
 use Rattle.pud_defs.specs.declared.objects.Val.{Val}
 use Rattle.pud_defs.specs.declared.objects.Val.TheVariants.{Num, Ref}
-use Rattle.pud_defs.specs.Geometry.{ordinal_of, slot_of}
+use Rattle.pud_defs.specs.Geometry.{steps_of, ordinal_of, slot_of}
 use Rattle.pud_defs.specs.Image.{Image}
 use Rattle.pud_defs.specs.Types.{map_of}
 use Rattle.pud_defs.specs.Keyed.{first_from}
@@ -71,9 +71,23 @@ module _ (types more : List (ℕ × ℕ)) (now next : Graph) (defined : KeepsTyp
 
 -- ---- places
 
--- each of the first puddles has its place among the second
-pub record IsFront (at wide : List (ℕ × Puddle)) : Type 0 where
-  pub each : (o : ℕ) (e : ℕ × Puddle) → slice_get at o ≡ Some e → slice_get wide o ≡ Some e
+-- a puddle of the ordinal has its slots at the same addresses
+pub record HasSlots (wide : List (ℕ × Puddle)) (o : ℕ) (e : ℕ × Puddle) : Type 0 where
+  pub puddle : ℕ × Puddle
+  pub there : slice_get wide o ≡ Some puddle
+  pub addresses : (slot : ℕ) → slot_address puddle.1 slot ≡ slot_address e.1 slot
+
+-- each of the first puddles has its slots where they are among the second, and those that are finished stay as they are
+pub record KeepsFinished (at wide : List (ℕ × Puddle)) : Type 0 where
+  pub slots : (o : ℕ) (e : ℕ × Puddle) → slice_get at o ≡ Some e → HasSlots wide o e
+  pub finished : (o : ℕ) (e : ℕ × Puddle) → slice_get at o ≡ Some e → e.1.frontier ≡ steps_of e.1 → slice_get wide o ≡ Some e
+
+-- so it is where each stays
+pub keeps_front : (at wide : List (ℕ × Puddle)) → ((o : ℕ) (e : ℕ × Puddle) → slice_get at o ≡ Some e → slice_get wide o ≡ Some e) → KeepsFinished at wide
+keeps_front at wide front = record {
+  slots = λ o e there. record { puddle = e; there = front o e there; addresses = λ slot. refl };
+  finished = λ o e there finished. front o e there;
+}
 
 -- in the second image, in the second puddles, each object of the graph stands where it stood in the first
 pub record KeepsPlaces (F : ℕ) (at wide : List (ℕ × Puddle)) (i j : Image) (now : Graph) : Type 0 where
@@ -97,13 +111,14 @@ address_by at q e there =
 
 -- ---- what is asked for
 
-module _ (F : ℕ) (at wide : List (ℕ × Puddle)) (types more : List (ℕ × ℕ)) (i j : Image) (now next : Graph) (front : IsFront at wide) (defined : KeepsTypes types more)
+module _ (F : ℕ) (at wide : List (ℕ × Puddle)) (types more : List (ℕ × ℕ)) (i j : Image) (now next : Graph) (keeps : KeepsFinished at wide) (defined : KeepsTypes types more)
     (places : KeepsPlaces F at wide i j now) (objects : KeepsObjects now next) where
   address_kept : (q : ℕ) → q < places_in at → address_at wide q ≡ address_at at q
   address_kept q below =
       let within : ordinal_of q < length at = omega arith in
       let e = some_element at (ordinal_of q) within in
-      address_by wide q e.0 (front.each (ordinal_of q) e.0 e.1) ∙ sym (address_by at q e.0 e.1)
+      let s = keeps.slots (ordinal_of q) e.0 e.1 in
+      address_by wide q s.puddle s.there ∙ s.addresses (slot_of q) ∙ sym (address_by at q e.0 e.1)
 
   reference_kept : (r v : ℕ) (place : Option ℕ) → (r ≡ 0 → ⊥) → place_in_pool F at i r ≡ place → place_in_pool F wide j r ≡ place_in_pool F at i r
       → cond (eqb r 0) (Some 0) (option_map (address_at at) place) ≡ Some v → word_for F wide j (Ref r) ≡ Some v
@@ -131,7 +146,8 @@ module _ (F : ℕ) (at wide : List (ℕ × Puddle)) (types more : List (ℕ × �
   IsLater-kept l e later =
       record {
         slot = later.slot;
-        of = record { puddle = later.of.puddle; there = front.each later.slot.ordinal (later.slot.frame, later.of.puddle) later.of.there; below = later.of.below };
+        of = record { puddle = later.of.puddle; there = keeps.finished later.slot.ordinal (later.slot.frame, later.of.puddle) later.of.there later.finished; below = later.of.below };
+        finished = later.finished;
         place = places.each l.s later.may.object later.may.live ∙ later.place;
         value = later.value;
         word = word_kept later.may.map l.f l.x later.value later.may.holds later.word;
@@ -149,7 +165,7 @@ module _ (F : ℕ) (at wide : List (ℕ × Puddle)) (types more : List (ℕ × �
 pub AreLaters-kept : (F : ℕ) (at : List (ℕ × Puddle)) (types : List (ℕ × ℕ)) (i j : Image) (now next : Graph) → KeepsPlaces F at at i j now → KeepsObjects now next → (laters : List Later) (redo : List Entry)
     → AreLaters F at types i now laters redo → AreLaters F at types j next laters redo
 AreLaters-kept F at types i j now next places objects laters redo are =
-    AreLaters-wider F at at types types i j now next (record { each = λ o e there. there }) (record { each = λ id m is. is }) places objects laters redo are
+    AreLaters-wider F at at types types i j now next (keeps_front at at (λ o e there. there)) (record { each = λ id m is. is }) places objects laters redo are
 
 -- images that store the same of the pool
 pub AreLaters-stored : (F : ℕ) (at : List (ℕ × Puddle)) (types : List (ℕ × ℕ)) (i j : Image) (now : Graph) → stored_in F at j ≡ stored_in F at i → (laters : List Later) (redo : List Entry)

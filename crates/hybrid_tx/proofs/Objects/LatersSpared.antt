@@ -64,6 +64,7 @@ module _ (F : ℕ) (at : List (ℕ × Puddle)) (types : List (ℕ × ℕ)) (imag
       record {
         slot = later.slot;
         of = later.of;
+        finished = later.finished;
         place = later.place;
         value = later.value;
         word = later.word;

@@ -11,7 +11,7 @@ use Rattle.pud_defs.specs.declared.layout.TheConstants.{LOG_WORDS, NUMBER_LIMIT}
 use Rattle.pud_defs.specs.declared.space.TheConstants.{SLOT_SERIAL_WORD, NEXT_SERIAL_WORD}
 use Rattle.pud_defs.specs.declared.records.Puddle.{Puddle}
 use Rattle.pud_defs.specs.declared.records.Slot.{Slot}
-use Rattle.pud_defs.specs.Geometry.{slot_begins}
+use Rattle.pud_defs.specs.Geometry.{slot_begins, steps_of}
 use Rattle.pud_defs.specs.Types.{map_of}
 use Rattle.pud_defs.specs.Layout.{device_words, frames_at}
 use Rattle.pud_defs.specs.Image.{Image}
@@ -29,7 +29,7 @@ use Rattle.log_store.specs.Store.{OpenLog}
 use Rattle.word_transaction.specs.Ground.{Ground}
 use Rattle.word_transaction.specs.Running.{ByTransaction}
 use Rattle.word_transaction.proofs.Calls.{some_fault}
-use Rattle.hybrid_tx.specs.Grounds.{IsPlaced}
+use Rattle.hybrid_tx.specs.Grounds.{IsPlaced, finished_of, IsRewrittenAt}
 use Rattle.hybrid_tx.specs.Objects.Stores.{new_words, making, ByPut, ByMaking}
 use Rattle.hybrid_tx.specs.Objects.Transactions.{IsSaving, IsOpenOn, Saves, RunsOn, MakesIn}
 use Rattle.hybrid_tx.proofs.PoolGrounds.{is_ground}
@@ -56,7 +56,8 @@ Changes-made g at between fault old a b c stays same p q =
 -- words that are saved and written from a word of the frame of an ordinal on
 abbrev pub PutsAt : (F : ℕ) (at : List (ℕ × Puddle)) (o word : ℕ) (vals : List ℕ) (log behind : OpenLog) (fault : Option HostFault) (old new : State) → Type 0
 PutsAt F at o word vals log behind fault old new =
-    (e : ℕ × Puddle) → slice_get at o ≡ Some e → (b : Image) (redo : List Entry) → IsSaving F at log b redo old.now.words → Saves F at behind b redo (placed (frame_at F e.0 + word) vals) fault old new
+    (e : ℕ × Puddle) → slice_get at o ≡ Some e → e.1.frontier ≡ steps_of e.1 → (b : Image) (redo : List Entry) → IsSaving F (finished_of at) log b redo old.now.words
+    → Saves F (finished_of at) behind b redo (placed (frame_at F e.0 + word) vals) fault old new
 
 -- only these words of the frame of an ordinal, and words of the log, get values
 abbrev pub PutsIn : (F : ℕ) (at : List (ℕ × Puddle)) (o word : ℕ) (vals : List ℕ) (log_at : ℕ) (fault : Option HostFault) (old new : State) → Type 0
@@ -115,14 +116,15 @@ module _ (F : ℕ) (at : List (ℕ × Puddle)) (log_at : ℕ) (slot : Slot) (of 
 module _ (F : ℕ) (at : List (ℕ × Puddle)) (types : List (ℕ × ℕ)) (log : OpenLog) (before : Image) (undone now : Graph) (laters : List Later) (old : State)
     (is_open : IsOpenOn F at types log before undone now laters old.now.words) where
   -- the first words failed
-  pub RunsOn-unput : (next : Graph) (behind : OpenLog) (o word : ℕ) (e : ℕ × Puddle) (vals : List ℕ) (fault : HostFault) (mid new : State) → mid ≡ old → slice_get at o ≡ Some e
+  pub RunsOn-unput : (next : Graph) (behind : OpenLog) (o word : ℕ) (e : ℕ × Puddle) (vals : List ℕ) (fault : HostFault) (mid new : State) → mid ≡ old → slice_get at o ≡ Some e → e.1.frontier ≡ steps_of e.1
       → PutsAt F at o word vals log behind (Some fault) mid new → RunsOn F at types behind before undone next laters (Some fault) old new
-  RunsOn-unput next behind o word e vals fault mid new stays there put =
+  RunsOn-unput next behind o word e vals fault mid new stays there finished put =
       record {
         write = placed (frame_at F e.0 + word) vals;
         redo = is_open.redo;
-        saves = subst (λ (m : State). IsSaving F at log before is_open.redo m.now.words → Saves F at behind before is_open.redo (placed (frame_at F e.0 + word) vals) (Some fault) m new) stays
-            (put e there before is_open.redo) is_open.saving;
+        saves = subst (λ (m : State). IsSaving F (finished_of at) log before is_open.redo m.now.words → Saves F (finished_of at) behind before is_open.redo (placed (frame_at F e.0 + word) vals) (Some fault) m new) stays
+            (put e there finished before is_open.redo) is_open.saving;
+        rests = λ none. absurd (some_fault fault none);
         was = is_open.was;
         is = λ none. absurd (some_fault fault none);
         are = λ none. absurd (some_fault fault none);
@@ -130,37 +132,37 @@ module _ (F : ℕ) (at : List (ℕ × Puddle)) (types : List (ℕ × ℕ)) (log 
 
   -- both were put: the words of the slot, and the next serial
   Saves-new : (between behind : OpenLog) (first : ℕ × Puddle) (slot : Slot) (serial bumped type_id word : ℕ) (words : List ℕ) (fault : Option HostFault) (a b c : State) → behind.at ≡ between.at → a ≡ old
-      → slice_get at 0 ≡ Some first → IsSlotOf at slot → serial ≡ frame_word F first.0 NEXT_SERIAL_WORD (reads old.now.words) → now.next_serial < NUMBER_LIMIT
+      → slice_get at 0 ≡ Some first → IsSlotOf at slot → IsRewrittenAt at 0 → IsRewrittenAt at slot.ordinal → serial ≡ frame_word F first.0 NEXT_SERIAL_WORD (reads old.now.words) → now.next_serial < NUMBER_LIMIT
       → word ≡ slot_begins slot → words ≡ new_words serial type_id → PutsAt F at slot.ordinal word words log between None a b
       → bumped ≡ (serial + 1) % 2 ^ 64 → PutsAt F at 0 NEXT_SERIAL_WORD (bumped ∷ []) between behind fault b c
-      → Saves F at behind before is_open.redo (making F first.0 slot serial type_id) fault old c
-  Saves-new between behind first slot serial bumped type_id word words fault a b c same_behind stays head of read room is_word are_words put is_bumped put_next =
+      → Saves F (finished_of at) behind before is_open.redo (making F first.0 slot serial type_id) fault old c
+  Saves-new between behind first slot serial bumped type_id word words fault a b c same_behind stays head of root rewritten read room is_word are_words put is_bumped put_next =
       let next : serial ≡ now.next_serial = serial_is_next F at types (reads old.now.words) first head serial read now is_open.is in
       let one_more : bumped ≡ serial + 1 = omega arith in
       let slot_write = placed (frame_at F slot.frame + slot_begins slot) (new_words serial type_id) in
       let next_write = placed (frame_at F first.0 + NEXT_SERIAL_WORD) ((serial + 1) ∷ []) in
       let redo = is_open.redo in
-      let in_slot = subst (λ (k : ℕ). (d : Image) (r : List Entry) → IsSaving F at log d r a.now.words → Saves F at between d r (placed (frame_at F slot.frame + k) words) None a b) is_word
-      (put (slot.frame, of.puddle) of.there) in
-      let filled = subst (λ (vals : List ℕ). (d : Image) (r : List Entry) → IsSaving F at log d r a.now.words → Saves F at between d r (placed (frame_at F slot.frame + slot_begins slot) vals) None a b)
+      let in_slot = subst (λ (k : ℕ). (d : Image) (r : List Entry) → IsSaving F (finished_of at) log d r a.now.words → Saves F (finished_of at) between d r (placed (frame_at F slot.frame + k) words) None a b) is_word
+      (put (slot.frame, of.puddle) of.there (rewritten.each (slot.frame, of.puddle) of.there)) in
+      let filled = subst (λ (vals : List ℕ). (d : Image) (r : List Entry) → IsSaving F (finished_of at) log d r a.now.words → Saves F (finished_of at) between d r (placed (frame_at F slot.frame + slot_begins slot) vals) None a b)
       are_words in_slot in
-      let saves = subst (λ (s : State). IsSaving F at log before redo s.now.words → Saves F at between before redo slot_write None s b) stays (filled before redo) is_open.saving in
-      let later = subst (λ (k : ℕ). Saves F at behind before redo (placed (frame_at F first.0 + NEXT_SERIAL_WORD) (k ∷ [])) fault b c) one_more
-      (put_next first head before redo (Saves-saving F at between before redo slot_write old b saves)) in
-      Saves-then F at between behind before redo same_behind redo slot_write next_write fault old b c saves later
+      let saves = subst (λ (s : State). IsSaving F (finished_of at) log before redo s.now.words → Saves F (finished_of at) between before redo slot_write None s b) stays (filled before redo) is_open.saving in
+      let later = subst (λ (k : ℕ). Saves F (finished_of at) behind before redo (placed (frame_at F first.0 + NEXT_SERIAL_WORD) (k ∷ [])) fault b c) one_more
+      (put_next first head (root.each first head) before redo (Saves-saving F (finished_of at) between before redo slot_write old b saves)) in
+      Saves-then F (finished_of at) between behind before redo same_behind redo slot_write next_write fault old b c saves later
 
   -- only they were
   pub MakesIn-new : (between behind : OpenLog) (first : ℕ × Puddle) (slot : Slot) (serial bumped type_id word : ℕ) (words : List ℕ) (fault : Option HostFault) (a b c : State) → between.at ≡ log.at
-      → behind.at ≡ between.at → a ≡ old → slice_get at 0 ≡ Some first → IsSlotOf at slot → serial ≡ frame_word F first.0 NEXT_SERIAL_WORD (reads old.now.words) → now.next_serial < NUMBER_LIMIT
+      → behind.at ≡ between.at → a ≡ old → slice_get at 0 ≡ Some first → IsSlotOf at slot → IsRewrittenAt at 0 → IsRewrittenAt at slot.ordinal → serial ≡ frame_word F first.0 NEXT_SERIAL_WORD (reads old.now.words) → now.next_serial < NUMBER_LIMIT
       → word ≡ slot_begins slot → words ≡ new_words serial type_id → PutsAt F at slot.ordinal word words log between None a b → PutsIn F at slot.ordinal word words log.at None a b
       → bumped ≡ (serial + 1) % 2 ^ 64 → PutsAt F at 0 NEXT_SERIAL_WORD (bumped ∷ []) between behind fault b c → PutsIn F at 0 NEXT_SERIAL_WORD (bumped ∷ []) between.at fault b c
       → MakesIn F at log.at slot type_id fault old c
-  MakesIn-new between behind first slot serial bumped type_id word words fault a b c same_between same_behind stays head of read room is_word are_words put put_in is_bumped put_next next_in =
+  MakesIn-new between behind first slot serial bumped type_id word words fault a b c same_between same_behind stays head of root rewritten read room is_word are_words put put_in is_bumped put_next next_in =
       let image = reads old.now.words in
       let next : serial ≡ now.next_serial = serial_is_next F at types image first head serial read now is_open.is in
       let next_read = next_is F at types image first head serial read in
       let bumps : bumped ≡ serial + 1 = omega arith in
-      let saves = Saves-new between behind first slot serial bumped type_id word words fault a b c same_behind stays head of read room is_word are_words put is_bumped put_next in
+      let saves = Saves-new between behind first slot serial bumped type_id word words fault a b c same_behind stays head of root rewritten read room is_word are_words put is_bumped put_next in
       record {
         first = first;
         head = head;
@@ -173,13 +175,13 @@ module _ (F : ℕ) (at : List (ℕ × Puddle)) (types : List (ℕ × ℕ)) (log 
       }
 
   pub RunsOn-new : (size : ℕ) (between behind : OpenLog) (first : ℕ × Puddle) (slot : Slot) (serial bumped type_id m word : ℕ) (words : List ℕ) (fault : Option HostFault) (a b c : State)
-      → IsPlaced F at → device_words F ≤ size → log.at + LOG_WORDS ≤ frames_at F → between.at ≡ log.at → behind.at ≡ between.at → a ≡ old → slice_get at 0 ≡ Some first → IsSlotOf at slot
+      → IsPlaced F at → device_words F ≤ size → log.at + LOG_WORDS ≤ frames_at F → between.at ≡ log.at → behind.at ≡ between.at → a ≡ old → slice_get at 0 ≡ Some first → IsSlotOf at slot → IsRewrittenAt at 0 → IsRewrittenAt at slot.ordinal
       → place_word (stored_in F at (reads old.now.words)) (place_of_slot slot) SLOT_SERIAL_WORD ≡ 0 → serial ≡ frame_word F first.0 NEXT_SERIAL_WORD (reads old.now.words)
       → map_of type_id types ≡ Some m → now.next_serial < NUMBER_LIMIT
       → word ≡ slot_begins slot → words ≡ new_words serial type_id → PutsAt F at slot.ordinal word words log between None a b
       → bumped ≡ (serial + 1) % 2 ^ 64 → PutsAt F at 0 NEXT_SERIAL_WORD (bumped ∷ []) between behind fault b c
       → RunsOn F at types behind before undone (with_new (blank_object type_id m) now) laters fault old c
-  RunsOn-new size between behind first slot serial bumped type_id m word words fault a b c is_placed device apart same_between same_behind stays head of free read defined room is_word are_words put is_bumped put_next =
+  RunsOn-new size between behind first slot serial bumped type_id m word words fault a b c is_placed device apart same_between same_behind stays head of root rewritten free read defined room is_word are_words put is_bumped put_next =
       let image = reads old.now.words in
       let next : serial ≡ now.next_serial = serial_is_next F at types image first head serial read now is_open.is in
       let slot_write = placed (frame_at F slot.frame + slot_begins slot) (new_words serial type_id) in
@@ -188,7 +190,7 @@ module _ (F : ℕ) (at : List (ℕ × Puddle)) (types : List (ℕ × ℕ)) (log 
       let next_read = next_is F at types image first head serial read in
       RunsOn-saves F size at types before log behind undone now (with_new (blank_object type_id m) now) laters laters redo (over slot_write next_write) fault old c
       (is_ground F size behind.at at is_placed device (omega arith)) is_open
-      (Saves-new between behind first slot serial bumped type_id word words fault a b c same_behind stays head of read room is_word are_words put is_bumped put_next)
+      (Saves-new between behind first slot serial bumped type_id word words fault a b c same_behind stays head of root rewritten read room is_word are_words put is_bumped put_next)
       (new_stored types F at image is_placed first head slot of serial type_id m free next_read defined now is_open.is room)
       (AreLaters-kept F at types image (overwritten (over slot_write next_write) image) now (with_new (blank_object type_id m) now)
       (KeepsPlaces-new types F at image is_placed first head slot of serial type_id m free next_read defined now is_open.is)

@@ -1,9 +1,10 @@
 -- A transaction on the words of a pool is one on the pool.
 use Rattle.std.proofs.Common.{◌≡◌, inl, ℕ, ◌+◌, ◌≤◌, true, List, [], Option, Some, None, refl, ap, subst, ◌∙◌, arith}
 use Rattle.pm_model.specs.declared.host.HostFault.{HostFault}
-use Rattle.pm_model.specs.Words.{reads}
+use Rattle.pm_model.specs.Words.{Words, reads}
 use Rattle.pm_model.specs.Moments.{State}
-use Rattle.pm_model.specs.Changes.{Write}
+use Rattle.pm_model.specs.Changes.{Write, Changes}
+use Rattle.pm_model.proofs.Changes.{HasOnly-kept}
 use Rattle.pud_defs.specs.declared.layout.TheConstants.{LOG_WORDS}
 use Rattle.pud_defs.specs.declared.records.Puddle.{Puddle}
 use Rattle.pud_defs.specs.Layout.{device_words, frames_at}
@@ -17,10 +18,12 @@ use Rattle.pud_defs.specs.Laters.{Later}
 use Rattle.graph_laws.proofs.StoredImages.{stored_in-same}
 use Rattle.log_store.specs.Store.{OpenLog}
 use Rattle.word_transaction.specs.Ground.{IsGround}
-use Rattle.word_transaction.specs.Running.{IsIdle, nothing, begun, Runs}
-use Rattle.hybrid_tx.specs.Grounds.{pool_mine, pool_ground, IsPlaced}
-use Rattle.hybrid_tx.specs.Objects.Transactions.{AreLaters, IsSaving, IsOpenOn, Saves, RunsOn}
+use Rattle.word_transaction.specs.Running.{IsIdle, ByTransaction, nothing, begun, Runs}
+use Rattle.word_transaction.proofs.Ended.{beside_transaction}
+use Rattle.hybrid_tx.specs.Grounds.{pool_mine, pool_ground, finished_of, IsPlaced}
+use Rattle.hybrid_tx.specs.Objects.Transactions.{AreLaters, IsSaving, RestsAs, IsOpenOn, Saves, RunsOn}
 use Rattle.hybrid_tx.proofs.PoolGrounds.{pool_mine-from, is_ground}
+use Rattle.hybrid_tx.proofs.FinishedPuddles.{mine_of_finished}
 use Rattle.hybrid_tx.proofs.Objects.LatersKept.{AreLaters-stored}
 
 -- images that agree on the pool's own words store the same of it
@@ -31,12 +34,27 @@ stored_in-mine F at i j same =
           same (frame_at F e.0 + k) (pool_mine-from F at (frame_at F e.0 + k) (record { ordinal = o; puddle = e; there = there; low = omega arith; high = omega arith }));
     })
 
+-- a call that writes own words and those of the log leaves the words of the puddles that are not finished as they are
+pub RestsAs-behind : (F size : ℕ) (at : List (ℕ × Puddle)) (log : ℕ) (before : Image) (fault : Option HostFault) (old new : State) → IsGround size log (pool_ground F at)
+    → Changes (ByTransaction (pool_ground F (finished_of at)) log) fault old new → RestsAs F at before old.now.words → RestsAs F at before new.now.words
+RestsAs-behind F size at log before fault old new ground c rests =
+    let own = pool_ground F (finished_of at) in
+    record {
+      each = λ k mine other.
+          HasOnly-kept (ByTransaction own log) fault old new k (before k) c (λ x by. beside_transaction own log k x (ground.apart k mine) other by) (rests.each k mine other);
+    }
+
+-- where each of the pool's words has one value, those of its finished puddles do
+pub IsIdle-finished : (F : ℕ) (at : List (ℕ × Puddle)) (log : ℕ) (before : Image) (words : Words) → IsIdle (pool_ground F at) log before words → IsIdle (pool_ground F (finished_of at)) log before words
+IsIdle-finished F at log before words idle = record { closed = idle.closed; single = λ k mine. idle.single k (mine_of_finished F at k mine) }
+
 pub RunsOn-open : (F : ℕ) (at : List (ℕ × Puddle)) (types : List (ℕ × ℕ)) (log : OpenLog) (before : Image) (undone next : Graph) (laters : List Later) (old new : State) → RunsOn F at types log before undone next laters None old new
     → IsOpenOn F at types log before undone next laters new.now.words
 RunsOn-open F at types log before undone next laters old new r =
     record {
       redo = r.redo;
       saving = record { es = r.saves.es; running = r.saves.runs.running refl; asks = r.saves.asks };
+      rests = r.rests refl;
       was = r.was;
       is = r.is refl;
       are = r.are refl;
@@ -44,11 +62,12 @@ RunsOn-open F at types log before undone next laters old new r =
 
 module _ (F size : ℕ) (at : List (ℕ × Puddle)) (types : List (ℕ × ℕ)) (before : Image) where
   pub IsOpenOn-begun : (log : ℕ) (g : Graph) (old new : State) → IsGround size log (pool_ground F at) → IsIdle (pool_ground F at) log before old.now.words → graph_of types (stored_in F at before) ≡ Some g
-      → Runs (pool_ground F at) (begun log) [] before nothing None old new → IsOpenOn F at types (begun log) before g g [] new.now.words
+      → Runs (pool_ground F (finished_of at)) (begun log) [] before nothing None old new → IsOpenOn F at types (begun log) before g g [] new.now.words
   IsOpenOn-begun log g old new ground idle was runs =
       record {
         redo = [];
         saving = record { es = []; running = runs.running refl; asks = refl };
+        rests = RestsAs-behind F size at log before None old new ground runs.changes (record { each = λ k mine other. idle.single k mine });
         was = was;
         is = ap (graph_of types) (stored_in-mine F at before (reads new.now.words)
             (λ k mine. runs.now refl k (ground.apart k mine) ∙ (idle.single k mine).each (reads old.now.words k) (inl refl))) ∙ was;
@@ -57,7 +76,7 @@ module _ (F size : ℕ) (at : List (ℕ × Puddle)) (types : List (ℕ × ℕ)) 
 
   -- words that are written make the graph that images have over which they are written, and so of what is asked for later
   pub RunsOn-saves : (log behind : OpenLog) (undone now next : Graph) (laters more : List Later) (redo : List Entry) (write : Write) (fault : Option HostFault) (old new : State)
-      → IsGround size behind.at (pool_ground F at) → IsOpenOn F at types log before undone now laters old.now.words → Saves F at behind before redo write fault old new
+      → IsGround size behind.at (pool_ground F at) → IsOpenOn F at types log before undone now laters old.now.words → Saves F (finished_of at) behind before redo write fault old new
       → graph_of types (stored_in F at (overwritten write (reads old.now.words))) ≡ Some next → AreLaters F at types (overwritten write (reads old.now.words)) next more redo
       → RunsOn F at types behind before undone next more fault old new
   RunsOn-saves log behind undone now next laters more redo write fault old new ground is_open saves graph are =
@@ -67,6 +86,7 @@ module _ (F size : ℕ) (at : List (ℕ × Puddle)) (types : List (ℕ × ℕ)) 
         write = write;
         redo = redo;
         saves = saves;
+        rests = λ none. RestsAs-behind F size at behind.at before fault old new ground saves.runs.changes is_open.rests;
         was = is_open.was;
         is = λ none. ap (graph_of types) (stored none) ∙ graph;
         are = λ none. AreLaters-stored F at types (overwritten write (reads old.now.words)) (reads new.now.words) next (stored none) more redo are;
@@ -75,9 +95,9 @@ module _ (F size : ℕ) (at : List (ℕ × Puddle)) (types : List (ℕ × ℕ)) 
   -- what is saved and written, or asked for, behind calls that only read
   pub RunsOn-write : (log behind : OpenLog) (undone now next : Graph) (laters more : List Later) (redo : List Entry) (write : Write) (fault : Option HostFault) (old mid new : State)
       → IsPlaced F at → device_words F ≤ size → log.at + LOG_WORDS ≤ frames_at F → behind.at ≡ log.at → mid ≡ old → (is_open : IsOpenOn F at types log before undone now laters old.now.words)
-      → (IsSaving F at log before is_open.redo mid.now.words → Saves F at behind before redo write fault mid new)
+      → (IsSaving F (finished_of at) log before is_open.redo mid.now.words → Saves F (finished_of at) behind before redo write fault mid new)
       → graph_of types (stored_in F at (overwritten write (reads old.now.words))) ≡ Some next → AreLaters F at types (overwritten write (reads old.now.words)) next more redo
       → RunsOn F at types behind before undone next more fault old new
   RunsOn-write log behind undone now next laters more redo write fault old mid new is_placed device apart same stays is_open saves graph are =
       RunsOn-saves log behind undone now next laters more redo write fault old new (is_ground F size behind.at at is_placed device (omega arith)) is_open
-      (subst (λ (m : State). IsSaving F at log before is_open.redo m.now.words → Saves F at behind before redo write fault m new) stays saves is_open.saving) graph are
+      (subst (λ (m : State). IsSaving F (finished_of at) log before is_open.redo m.now.words → Saves F (finished_of at) behind before redo write fault m new) stays saves is_open.saving) graph are

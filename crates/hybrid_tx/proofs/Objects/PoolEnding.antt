@@ -1,82 +1,129 @@
 -- A transaction on a pool ends, and what images left meanwhile settle to.
-use Rattle.std.proofs.Common.{◌≡◌, ◌≢◌, ℕ, ◌+◌, ◌≤◌, true, false, List, [], Option, Some, None, refl, sym, ap, ◌∙◌}
-use Rattle.std.specs.Prelude.{All}
+use Rattle.std.proofs.Common.{◌≡◌, ◌≢◌, inl, inr, ℕ, ◌+◌, ◌≤◌, Bool, true, false, List, [], Option, Some, None, refl, sym, ap, subst, ◌∙◌}
+use Rattle.std.specs.Prelude.{unwrap_or}
+use Rattle.std.proofs.lemmas.Bool.{cases_Bool}
 use Rattle.pm_model.specs.declared.host.HostFault.{HostFault}
-use Rattle.pm_model.specs.Words.{Words, reads}
-use Rattle.pm_model.proofs.Words.{HasOnly-own}
+use Rattle.pm_model.specs.Words.{Words, HasOnly, reads}
+use Rattle.pm_model.proofs.Words.{HasOnly-own, HasOnly-newest}
 use Rattle.pm_model.specs.Moments.{State}
+use Rattle.pm_model.specs.Changes.{Changes}
 use Rattle.pud_defs.specs.declared.layout.TheConstants.{LOG_WORDS}
 use Rattle.pud_defs.specs.declared.records.Puddle.{Puddle}
 use Rattle.pud_defs.specs.Layout.{device_words, frames_at}
 use Rattle.pud_defs.specs.Image.{Image}
 use Rattle.pud_defs.specs.Entries.{Entry, log_of}
-use Rattle.pud_defs.specs.Replay.{overwritten, replayed}
+use Rattle.pud_defs.specs.Replay.{new_value, overwritten, replayed}
 use Rattle.pud_defs.specs.Stored.{stored_in}
 use Rattle.pud_defs.specs.Graph.{Graph, graph_of}
 use Rattle.pud_defs.specs.Laters.{Later, with_laters}
 use Rattle.log_store.specs.Store.{OpenLog, asks}
 use Rattle.word_transaction.specs.Ground.{Ground, IsGround, written_in_turn, pending}
-use Rattle.word_transaction.specs.Running.{IsRunning, IsIdle, SettlesTo, Closes, Ends, CanRedo}
+use Rattle.word_transaction.specs.Running.{IsRunning, IsIdle, SettlesTo, ByTransaction, Closes, Ends, CanRedo}
+use Rattle.word_transaction.proofs.Saved.{pending_is_mine}
 use Rattle.word_transaction.proofs.Pending.{asks-none, pending-in_turn}
-use Rattle.word_transaction.proofs.Ended.{Ends-idle, Closes-idle, IsIdle-reads}
-use Rattle.hybrid_tx.specs.Grounds.{pool_place, pool_ground, IsPlaced}
-use Rattle.hybrid_tx.specs.Objects.Transactions.{IsRewrittenFor, IsOpenOn, IsAtRest, ClosesOn, EndsOn}
+use Rattle.word_transaction.proofs.Ended.{Ends-idle, Closes-idle}
+use Rattle.hybrid_tx.specs.Grounds.{pool_place, pool_mine, pool_ground, finished_of, IsPlaced}
+use Rattle.hybrid_tx.specs.Objects.Transactions.{RestsAs, IsOpenOn, IsAtRest, ClosesOn, EndsOn}
 use Rattle.hybrid_tx.proofs.PoolGrounds.{is_ground}
-use Rattle.hybrid_tx.proofs.Objects.Opening.{stored_in-mine}
+use Rattle.hybrid_tx.proofs.FinishedPuddles.{finished_placed}
+use Rattle.hybrid_tx.proofs.Objects.Opening.{stored_in-mine, RestsAs-behind}
 use Rattle.hybrid_tx.proofs.Objects.LatersKept.{AreLaters-none}
 use Rattle.hybrid_tx.proofs.Objects.LatersApplied.{laters_applied}
+use Rattle.hybrid_tx.proofs.Open.OwnEntries.{new_value_own}
+
+-- a value that comes to own words alone is none where a word is none of them
+off_own : (write : Option ℕ) (mine : Bool) → ((v : ℕ) → write ≡ Some v → mine ≡ true) → mine ≡ false → (w : ℕ) → unwrap_or write w ≡ w
+off_own None mine own other w = refl
+off_own (Some v) mine own other w = absurd (let it : true ≡ false = sym (own v refl) ∙ other in cc)
 
 module _ (F size : ℕ) (at : List (ℕ × Puddle)) (types : List (ℕ × ℕ)) (log : OpenLog) (before : Image) (undone now : Graph) (laters : List Later) (fault : Option HostFault) (old new : State)
     (is_placed : IsPlaced F at) (device : device_words F ≤ size) (apart : log.at + LOG_WORDS ≤ frames_at F) (is_open : IsOpenOn F at types log before undone now laters old.now.words) where
+  abbrev own : Ground
+  own = pool_ground F (finished_of at)
+
   abbrev after : Image
-  after = overwritten (pending (pool_place F at) is_open.saving.es) (reads old.now.words)
+  after = overwritten (pending (pool_place F (finished_of at)) is_open.saving.es) (reads old.now.words)
+
+  own_ground : IsGround size log.at own
+  own_ground = is_ground F size log.at (finished_of at) (finished_placed F at is_placed) device apart
 
   -- what is asked for is the redo entries in turn
-  in_turn : after ≡ written_in_turn (pool_place F at) is_open.redo (reads old.now.words)
+  in_turn : after ≡ written_in_turn (pool_place F (finished_of at)) is_open.redo (reads old.now.words)
   in_turn =
       let s = is_open.saving in
-      pending-in_turn (pool_ground F at) (pool_place F at) s.es (reads old.now.words) s.running.own
-      ∙ ap (λ (redo : List Entry). written_in_turn (pool_place F at) redo (reads old.now.words)) s.asks
+      pending-in_turn own (pool_place F (finished_of at)) s.es (reads old.now.words) s.running.own
+      ∙ ap (λ (redo : List Entry). written_in_turn (pool_place F (finished_of at)) redo (reads old.now.words)) s.asks
 
   some_asked : asks is_open.saving.es ≡ true → laters ≢ []
   some_asked asked_some none =
       let empty = AreLaters-none F at types (reads old.now.words) now laters is_open.redo none is_open.are in
       absurd (let it : true ≡ false = sym asked_some ∙ asks-none is_open.saving.es (is_open.saving.asks ∙ empty) in cc)
 
-  pub EndsOn-ends : All (λ (l : Later). IsRewrittenFor F at (reads old.now.words) l.s) laters → (laters ≢ [] → CanRedo (pool_ground F at) F log.at old.now.words)
+  -- the words of the puddles that are not finished are as they were
+  rests_behind : Changes (ByTransaction own log.at) fault old new → RestsAs F at before new.now.words
+  rests_behind c = RestsAs-behind F size at log.at before fault old new (is_ground F size log.at at is_placed device apart) c is_open.rests
+
+  after_beside : (k : ℕ) → pool_mine F at k ≡ true → pool_mine F (finished_of at) k ≡ false → after k ≡ before k
+  after_beside k mine other =
+      let s = is_open.saving in
+      off_own (pending (pool_place F (finished_of at)) s.es k) (pool_mine F (finished_of at) k) (λ v is. pending_is_mine size log.at own s.es k v own_ground s.running.own is) other (reads old.now.words k)
+      ∙ HasOnly-newest (old.now.words k) (before k) (is_open.rests.each k mine other)
+
+  pub EndsOn-ends : (laters ≢ [] → CanRedo (pool_ground F (finished_of at)) F log.at old.now.words)
       → ((g : Ground) (es : List Entry) (b : Image) → IsGround size log.at g → IsRunning g log es b old.now.words → (asks es ≡ true → CanRedo g F log.at old.now.words)
       → Ends g log.at b (overwritten (pending g.place es) (reads old.now.words)) fault old new) → EndsOn F at types log.at before undone (with_laters laters now) fault old new
-  EndsOn-ends rewritten can ends =
+  EndsOn-ends can ends =
       let s = is_open.saving in
+      let its = ends own s.es before own_ground s.running (λ asked_some. can (some_asked asked_some)) in
       record {
         after = after;
-        ends = ends (pool_ground F at) s.es before (is_ground F size log.at at is_placed device apart) s.running (λ asked_some. can (some_asked asked_some));
+        ends = its;
+        beside = after_beside;
+        rests = λ none. rests_behind its.changes;
         was = is_open.was;
-        is = ap (λ (i : Image). graph_of types (stored_in F at i)) in_turn ∙ laters_applied F at types is_placed laters is_open.redo (reads old.now.words) now is_open.is is_open.are rewritten;
+        is = ap (λ (i : Image). graph_of types (stored_in F at i)) in_turn ∙ laters_applied F at types is_placed laters is_open.redo (reads old.now.words) now is_open.is is_open.are;
       }
 
-  pub ClosesOn-closes : ((es : List Entry) → IsGround size log.at (pool_ground F at) → IsRunning (pool_ground F at) log es before old.now.words → Closes (pool_ground F at) log.at before fault old new)
-      → ClosesOn F at types log.at before undone fault old new
-  ClosesOn-closes closes = record { closes = closes is_open.saving.es (is_ground F size log.at at is_placed device apart) is_open.saving.running; was = is_open.was }
+  pub ClosesOn-closes : ((es : List Entry) → IsGround size log.at (pool_ground F (finished_of at)) → IsRunning (pool_ground F (finished_of at)) log es before old.now.words
+      → Closes (pool_ground F (finished_of at)) log.at before fault old new) → ClosesOn F at types log.at before undone fault old new
+  ClosesOn-closes closes =
+      let its = closes is_open.saving.es own_ground is_open.saving.running in
+      record { closes = its; rests = λ none. rests_behind its.changes; was = is_open.was }
 
 -- ---- graphs of what is left
 
 module _ (F : ℕ) (at : List (ℕ × Puddle)) (types : List (ℕ × ℕ)) where
-  -- with the log replayed the pool has the graph of what the image settles to
-  pub settled_graph : (log : ℕ) (values image : Image) (g : Graph) → SettlesTo (pool_ground F at) log values image → graph_of types (stored_in F at values) ≡ Some g
-      → graph_of types (stored_in F at (replayed (pool_place F at) (log_of image log) image)) ≡ Some g
-  settled_graph log values image g s is = ap (graph_of types) (stored_in-mine F at values (replayed (pool_place F at) (log_of image log) image) s.settled) ∙ is
+  -- what holds of the words of the finished puddles, and of those of the others, holds of all
+  each_mine : (P : ℕ → Type 0) → ((k : ℕ) → pool_mine F (finished_of at) k ≡ true → P k) → ((k : ℕ) → pool_mine F at k ≡ true → pool_mine F (finished_of at) k ≡ false → P k)
+      → (k : ℕ) → pool_mine F at k ≡ true → P k
+  each_mine P own others k mine = elim (cases_Bool (pool_mine F (finished_of at) k)) [ inl here ↦ own k here | inr other ↦ others k mine other ]
 
-  -- own words that have one value each have the values that are read
-  at_rest : (log : ℕ) (values : Image) (g : Graph) (words : Words) → IsIdle (pool_ground F at) log values words → graph_of types (stored_in F at values) ≡ Some g → IsAtRest F at types log g words
-  at_rest log values g words idle is =
+  -- with the log replayed the pool has the graph of what the image settles to
+  pub settled_graph : (size log : ℕ) (values image : Image) (g : Graph) → IsGround size log (pool_ground F (finished_of at)) → SettlesTo (pool_ground F (finished_of at)) log values image
+      → ((k : ℕ) → pool_mine F at k ≡ true → pool_mine F (finished_of at) k ≡ false → image k ≡ values k)
+      → graph_of types (stored_in F at values) ≡ Some g → graph_of types (stored_in F at (replayed (pool_place F (finished_of at)) (log_of image log) image)) ≡ Some g
+  settled_graph size log values image g ground s rests is =
+      let own = pool_ground F (finished_of at) in
+      let behind = replayed (pool_place F (finished_of at)) (log_of image log) image in
+      let kept = λ (k : ℕ) (other : pool_mine F (finished_of at) k ≡ false).
+      off_own (new_value (pool_place F (finished_of at)) (log_of image log) k) (pool_mine F (finished_of at) k) (λ v is. new_value_own size log own (log_of image log) ground k v s.es s.spells s.own is) other (image k) in
+      ap (graph_of types) (stored_in-mine F at values behind (each_mine (λ k. behind k ≡ values k) s.settled (λ k mine other. kept k other ∙ rests k mine other))) ∙ is
+
+  -- words that have one value each have the values that are read
+  at_rest : (log : ℕ) (values : Image) (g : Graph) (words : Words) → IsIdle (pool_ground F (finished_of at)) log values words → RestsAs F at values words → graph_of types (stored_in F at values) ≡ Some g
+      → IsAtRest F at types log g words
+  at_rest log values g words idle rests is =
+      let single = each_mine (λ k. HasOnly (words k) (values k)) idle.single rests.each in
       record {
-        idle = record { closed = idle.closed; single = λ k mine. HasOnly-own (words k) (values k) (idle.single k mine) };
-        is = ap (graph_of types) (stored_in-mine F at values (reads words) (IsIdle-reads (pool_ground F at) log values words idle)) ∙ is;
+        idle = record { closed = idle.closed; single = λ k mine. HasOnly-own (words k) (values k) (single k mine) };
+        is = ap (graph_of types) (stored_in-mine F at values (reads words) (λ k mine. HasOnly-newest (words k) (values k) (single k mine))) ∙ is;
       }
 
   pub IsAtRest-closed : (log : ℕ) (before : Image) (undone : Graph) (old new : State) → ClosesOn F at types log before undone None old new → IsAtRest F at types log undone new.now.words
-  IsAtRest-closed log before undone old new c = at_rest log before undone new.now.words (Closes-idle (pool_ground F at) log before None old new refl c.closes) c.was
+  IsAtRest-closed log before undone old new c =
+      at_rest log before undone new.now.words (Closes-idle (pool_ground F (finished_of at)) log before None old new refl c.closes) (c.rests refl) c.was
 
   pub IsAtRest-ended : (log : ℕ) (before : Image) (undone next : Graph) (old new : State) → EndsOn F at types log before undone next None old new → IsAtRest F at types log next new.now.words
-  IsAtRest-ended log before undone next old new e = at_rest log e.after next new.now.words (Ends-idle (pool_ground F at) log before e.after None old new refl e.ends) e.is
+  IsAtRest-ended log before undone next old new e =
+      at_rest log e.after next new.now.words (Ends-idle (pool_ground F (finished_of at)) log before e.after None old new refl e.ends)
+      (record { each = λ k mine other. subst (λ (v : ℕ). HasOnly (new.now.words k) v) (sym (e.beside k mine other)) ((e.rests refl).each k mine other) }) e.is

@@ -35,6 +35,6 @@ module _ (F : ℕ) (at : List (ℕ × Puddle)) (types : List (ℕ × ℕ)) (log 
       let image = reads old.now.words in
       let write = placed (frame_at F first.0 + ROOT_WORD) (v ∷ []) in
       let redo = is_open.redo in
-      RunsOn-write F size at types before log behind undone now (with_root s now) laters laters redo write fault old mid new is_placed device apart same stays is_open (put first head before redo)
+      RunsOn-write F size at types before log behind undone now (with_root s now) laters laters redo write fault old mid new is_placed device apart same stays is_open (put first head (rewritten.each first head) before redo)
       (root_set types F at image now is_open.is is_placed rewritten first head s v word)
       (AreLaters-kept F at types image (overwritten write image) now (with_root s now) (KeepsPlaces-root F at image is_placed.frames first head v now) (KeepsObjects-root s now) laters redo is_open.are)

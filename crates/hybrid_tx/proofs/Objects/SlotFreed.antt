@@ -23,7 +23,8 @@ use Rattle.object_alloc.proofs.Freed.{placed-single}
 use Rattle.word_transaction.specs.Ground.{IsGround, undo_entry}
 use Rattle.word_transaction.specs.Running.{IsRunning, ByTransaction, nothing, Runs}
 use Rattle.word_transaction.proofs.Writing.{Runs-written}
-use Rattle.hybrid_tx.specs.Grounds.{pool_place, pool_may, pool_ground, IsPlaced}
+use Rattle.hybrid_tx.specs.Grounds.{pool_place, pool_may, pool_ground, finished_of, IsPlaced, IsRewrittenAt}
+use Rattle.hybrid_tx.proofs.FinishedPuddles.{finished_placed, finished_there}
 use Rattle.hybrid_tx.specs.Objects.Stores.{address_at}
 use Rattle.hybrid_tx.specs.Objects.Transactions.{MayFree, IsSaving, IsOpenOn, Saves, RunsOn}
 use Rattle.hybrid_tx.proofs.Objects.Putting.{Runs-unput, Runs-put, ByPut-written}
@@ -54,7 +55,7 @@ module _ (F : ℕ) (at : List (ℕ × Puddle)) (slot : Slot) (of : IsSlotOf at s
 
 module _ (F size : ℕ) (at : List (ℕ × Puddle)) (slot : Slot) (of : IsSlotOf at slot) (log : OpenLog) (before : Image) (redo : List Entry) (address first : ℕ) (a : State)
     (is_placed : IsPlaced F at) (device : device_words F ≤ size) (apart : log.at + LOG_WORDS ≤ frames_at F) (is_address : address ≡ address_at at (place_of_slot slot)) (is_first : first ≡ serial_word_at F slot)
-    (saving : IsSaving F at log before redo a.now.words) where
+    (rewritten : IsRewrittenAt at slot.ordinal) (saving : IsSaving F (finished_of at) log before redo a.now.words) where
   abbrev long : OpenLog
   long = longer SET_UNITS log
 
@@ -64,26 +65,27 @@ module _ (F size : ℕ) (at : List (ℕ × Puddle)) (slot : Slot) (of : IsSlotOf
   -- what comes of the word of the serial
   abbrev IsRun : (write : Write) (fault : Option HostFault) (c : State) → Type 0
   IsRun write fault c =
-      (es : List Entry) → IsGround size log.at (pool_ground F at) → pool_may at address 1 ≡ true → pool_place F at address ≡ Some first → IsRunning (pool_ground F at) log es before a.now.words
-      → Runs (pool_ground F at) long (es ++ undo_entry address held ∷ []) before write fault a c
+      (es : List Entry) → IsGround size log.at (pool_ground F (finished_of at)) → pool_may (finished_of at) address 1 ≡ true → pool_place F (finished_of at) address ≡ Some first
+      → IsRunning (pool_ground F (finished_of at)) log es before a.now.words → Runs (pool_ground F (finished_of at)) long (es ++ undo_entry address held ∷ []) before write fault a c
 
-  saves : (fault : Option HostFault) (c : State) → IsRun (placed first (0 ∷ [])) fault c → Saves F at long before redo (placed (serial_word_at F slot) (0 ∷ [])) fault a c
+  saves : (fault : Option HostFault) (c : State) → IsRun (placed first (0 ∷ [])) fault c → Saves F (finished_of at) long before redo (placed (serial_word_at F slot) (0 ∷ [])) fault a c
   saves fault c runs =
       let some : 1 ≤ 1 = omega arith in
       let word : slot_begins slot ≡ slot_begins slot + SLOT_SERIAL_WORD = omega arith in
-      Saves-put F size at slot.ordinal (slot_begins slot + SLOT_SERIAL_WORD) (slot.frame, of.puddle) log long before redo address first (0 ∷ []) held fault a c is_placed device apart of.there some (in_frame at slot of)
+      let there = finished_there F at slot.ordinal (slot.frame, of.puddle) of.there (rewritten.each (slot.frame, of.puddle) of.there) in
+      Saves-put F size (finished_of at) there.0 (slot_begins slot + SLOT_SERIAL_WORD) (slot.frame, of.puddle) log long before redo address first (0 ∷ []) held fault a c (finished_placed F at is_placed) device apart there.1 some (in_frame at slot of)
       (is_address ∙ sym (slot_address-read at slot of (slot.frame, of.puddle) refl is_placed.legal) ∙ ap (λ (k : ℕ). (of.puddle.base + WORD_BYTES * k) % 2 ^ 64) word) is_first saving runs
 
   -- it could not be saved
-  pub Saves-unfreed : (behind : OpenLog) (fault : HostFault) (b : State) → behind.at ≡ log.at → IsRun nothing (Some fault) b → Saves F at behind before redo (placed (serial_word_at F slot) (0 ∷ [])) (Some fault) a b
+  pub Saves-unfreed : (behind : OpenLog) (fault : HostFault) (b : State) → behind.at ≡ log.at → IsRun nothing (Some fault) b → Saves F (finished_of at) behind before redo (placed (serial_word_at F slot) (0 ∷ [])) (Some fault) a b
   Saves-unfreed behind fault b same runs =
       let write = placed (serial_word_at F slot) (0 ∷ []) in
-      Saves-failed F at long behind before redo same write write fault a b
-      (saves (Some fault) b (λ es ground may place r. Runs-unput size (pool_ground F at) long es before (reads a.now.words) address first (0 ∷ []) fault a b (runs es ground may place r)))
+      Saves-failed F (finished_of at) long behind before redo same write write fault a b
+      (saves (Some fault) b (λ es ground may place r. Runs-unput size (pool_ground F (finished_of at)) long es before (reads a.now.words) address first (0 ∷ []) fault a b (runs es ground may place r)))
 
-  pub Saves-freed : (fault : Option HostFault) (b c : State) → IsRun nothing None b → Writes (only (serial_word_at F slot) 0) fault b c → Saves F at long before redo (placed (serial_word_at F slot) (0 ∷ [])) fault a c
+  pub Saves-freed : (fault : Option HostFault) (b c : State) → IsRun nothing None b → Writes (only (serial_word_at F slot) 0) fault b c → Saves F (finished_of at) long before redo (placed (serial_word_at F slot) (0 ∷ [])) fault a c
   Saves-freed fault b c runs writes =
-      let g = pool_ground F at in
+      let g = pool_ground F (finished_of at) in
       saves fault c (λ es ground may place r.
       Runs-put size g long es before (reads a.now.words) address first (0 ∷ []) fault a b c ground may place (runs es ground may place r)
       (λ its running covered. Runs-written size g long (es ++ undo_entry address held ∷ []) before (placed first (0 ∷ [])) fault b c its running covered (cleared F slot first fault b c is_first writes)))
@@ -94,7 +96,7 @@ module _ (F : ℕ) (at : List (ℕ × Puddle)) (types : List (ℕ × ℕ)) (log 
     (is_open : IsOpenOn F at types log before undone now laters old.now.words) where
   pub RunsOn-free : (size s : ℕ) (slot : Slot) (fault : Option HostFault) (mid new : State) → MayFree now s → laters_name s laters ≡ false → IsPlaced F at → device_words F ≤ size → log.at + LOG_WORDS ≤ frames_at F
       → behind.at ≡ log.at → mid ≡ old → IsSlotOf at slot → place_in_pool F at (reads old.now.words) s ≡ Some (place_of_slot slot)
-      → ((redo : List Entry) → IsSaving F at log before redo mid.now.words → Saves F at behind before redo (placed (serial_word_at F slot) (0 ∷ [])) fault mid new)
+      → ((redo : List Entry) → IsSaving F (finished_of at) log before redo mid.now.words → Saves F (finished_of at) behind before redo (placed (serial_word_at F slot) (0 ∷ [])) fault mid new)
       → RunsOn F at types behind before undone (without_object s now) laters fault old new
   RunsOn-free size s slot fault mid new may unnamed is_placed device apart same stays of found saves =
       let image = reads old.now.words in

@@ -12,10 +12,12 @@ use Rattle.pud_defs.specs.Stored.{Stored, stored_in}
 use Rattle.pud_defs.specs.Graph.{Graph, graph_of}
 use Rattle.pud_defs.specs.Laters.{Later}
 use Rattle.log_store.specs.Store.{OpenLog, InLog}
+use Rattle.pm_model.proofs.Changes.{HasOnly-kept}
 use Rattle.word_transaction.proofs.Calls.{IsRunning-kept}
-use Rattle.hybrid_tx.specs.Grounds.{pool_mine, pool_ground}
+use Rattle.hybrid_tx.specs.Grounds.{pool_mine, pool_ground, finished_of}
+use Rattle.hybrid_tx.proofs.FinishedPuddles.{mine_of_finished}
 use Rattle.hybrid_tx.specs.Objects.Transactions.{IsOpenOn}
-use Rattle.hybrid_tx.proofs.Objects.LatersKept.{KeepsObjects-same, place_in_pool-stored, AreLaters-wider}
+use Rattle.hybrid_tx.proofs.Objects.LatersKept.{KeepsObjects-same, place_in_pool-stored, AreLaters-wider, keeps_front}
 use Rattle.hybrid_tx.proofs.Objects.Opening.{stored_in-mine}
 
 module _ (F : ℕ) (at : List (ℕ × Puddle)) (may : Footprint) (fault : Option HostFault) (old new : State) (c : Changes may fault old new) (uncut : fault ≡ Some Cut → ⊥)
@@ -32,11 +34,12 @@ module _ (F : ℕ) (at : List (ℕ × Puddle)) (may : Footprint) (fault : Option
         redo = o.redo;
         saving = record {
           es = o.saving.es;
-          running = IsRunning-kept (pool_ground F at) log o.saving.es before may fault old new c in_log own o.saving.running;
+          running = IsRunning-kept (pool_ground F (finished_of at)) log o.saving.es before may fault old new c in_log (λ k v mine. own k v (mine_of_finished F at k mine)) o.saving.running;
           asks = o.saving.asks;
         };
+        rests = record { each = λ k mine other. HasOnly-kept may fault old new k (before k) c (λ v. own k v mine) (o.rests.each k mine other) };
         was = graphs (stored_in F at before) undone o.was;
         is = graphs (stored_in F at (reads new.now.words)) now (ap (graph_of types) stored_kept ∙ o.is);
-        are = AreLaters-wider F at at types more (reads old.now.words) (reads new.now.words) now now (record { each = λ o e there. there }) (record { each = defined })
+        are = AreLaters-wider F at at types more (reads old.now.words) (reads new.now.words) now now (keeps_front at at (λ o e there. there)) (record { each = defined })
             (record { each = λ s o live. place_in_pool-stored F at (reads old.now.words) (reads new.now.words) stored_kept s }) (KeepsObjects-same now) laters o.redo o.are;
       }

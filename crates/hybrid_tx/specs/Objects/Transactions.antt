@@ -2,7 +2,7 @@
 use Rattle.std.specs.Prelude.{◌≡◌, ◌⊎◌, ℕ, ◌+◌, ◌*◌, ◌<◌, true, false, List, [], ◌∷◌, is_some, slice_get, Option, Some, None}
 use Rattle.std.specs.List.{AllZip}
 use Rattle.pm_model.specs.declared.host.HostFault.{HostFault}
-use Rattle.pm_model.specs.Words.{Words, reads}
+use Rattle.pm_model.specs.Words.{Words, HasOnly, reads}
 use Rattle.pm_model.specs.Moments.{State}
 use Rattle.pm_model.specs.Changes.{Write, Changes}
 use Rattle.pud_defs.specs.declared.space.TheConstants.{WORD_BYTES}
@@ -10,6 +10,7 @@ use Rattle.pud_defs.specs.declared.objects.Val.{Val}
 use Rattle.pud_defs.specs.declared.objects.Val.TheVariants.{Num, Ref}
 use Rattle.pud_defs.specs.declared.records.Puddle.{Puddle}
 use Rattle.pud_defs.specs.declared.records.Slot.{Slot}
+use Rattle.pud_defs.specs.Geometry.{steps_of}
 use Rattle.pud_defs.specs.TypeMap.{is_pointer}
 use Rattle.pud_defs.specs.Types.{map_of}
 use Rattle.pud_defs.specs.Image.{Image}
@@ -18,12 +19,13 @@ use Rattle.pud_defs.specs.Replay.{overwritten, is_in_log}
 use Rattle.pud_defs.specs.Stored.{stored_in}
 use Rattle.pud_defs.specs.Graph.{Object, Graph, object_in, field_count, is_held, next_serial_of, graph_of}
 use Rattle.pud_defs.specs.Laters.{Later}
+use Rattle.graph_laws.specs.Slots.{IsLowestFreeSlot}
 use Rattle.puddle_header.specs.Places.{place_of_slot, IsSlotOf}
 use Rattle.graph_read.specs.Reading.{place_in_pool}
 use Rattle.log_store.specs.Store.{OpenLog}
 use Rattle.word_transaction.specs.Ground.{redo_entry, asked}
 use Rattle.word_transaction.specs.Running.{IsRunning, IsIdle, begun, Runs, Closes, Ends}
-use Rattle.hybrid_tx.specs.Grounds.{pool_ground, IsRewrittenAt}
+use Rattle.hybrid_tx.specs.Grounds.{pool_mine, pool_ground, finished_of, IsRewrittenAt}
 use Rattle.hybrid_tx.specs.Objects.Stores.{word_for, field_word, making, ByMaking}
 
 -- ---- an open transaction
@@ -61,6 +63,10 @@ pub record MaySet (types : List (ℕ × ℕ)) (g : Graph) (s f : ℕ) (x : Val) 
 pub record IsRewrittenFor (F : ℕ) (at : List (ℕ × Puddle)) (image : Image) (s : ℕ) : Type 0 where
   pub each : (slot : Slot) → IsSlotOf at slot → place_in_pool F at image s ≡ Some (place_of_slot slot) → IsRewrittenAt at slot.ordinal
 
+-- Each pointer in the puddle of the lowest free slot, by this image of the pool, stands over the pool's bases.
+pub record IsRewrittenAtLowest (F : ℕ) (at : List (ℕ × Puddle)) (image : Image) : Type 0 where
+  pub each : (slot : Slot) → IsSlotOf at slot → IsLowestFreeSlot (stored_in F at image) (place_of_slot slot) → IsRewrittenAt at slot.ordinal
+
 -- The object of a serial is live, and nothing holds it: neither the root nor a pointer field of an object, itself included, names it.
 pub record MayFree (g : Graph) (s : ℕ) : Type 0 where
   pub object : Object
@@ -70,10 +76,11 @@ pub record MayFree (g : Graph) (s : ℕ) : Type 0 where
 -- ---- what is asked for later
 
 -- By this image of the pool, which has the graph, the redo entry is that of what is asked for: it names the word of the field, and has the word that
--- stands for the value; and the field may be set so.
+-- stands for the value; the field may be set so; and the puddle is finished.
 pub record IsLater (F : ℕ) (at : List (ℕ × Puddle)) (types : List (ℕ × ℕ)) (image : Image) (now : Graph) (l : Later) (e : Entry) : Type 0 where
   pub slot : Slot
   pub of : IsSlotOf at slot
+  pub finished : of.puddle.frontier ≡ steps_of of.puddle
   pub place : place_in_pool F at image l.s ≡ Some (place_of_slot slot)
   pub value : ℕ
   pub word : word_for F at image l.x ≡ Some value
@@ -93,11 +100,17 @@ pub record IsSaving (F : ℕ) (at : List (ℕ × Puddle)) (log : OpenLog) (befor
   pub running : IsRunning (pool_ground F at) log es before words
   pub asks : asked es ≡ redo
 
--- A transaction on the pool of these puddles is open: one on its words is. The pool had the graph that comes back if the transaction is undone when
--- the words held what they held at the beginning, by what is read it has another now, and these values of fields are asked for, the oldest first.
+-- Each word of the puddles that are not finished has the value that it had at the beginning, and no other.
+pub record RestsAs (F : ℕ) (at : List (ℕ × Puddle)) (before : Image) (words : Words) : Type 0 where
+  pub each : (k : ℕ) → pool_mine F at k ≡ true → pool_mine F (finished_of at) k ≡ false → HasOnly (words k) (before k)
+
+-- A transaction on the pool of these puddles is open: one on the words of the finished ones is, and those of the others rest. The pool had the graph that
+-- comes back if the transaction is undone when the words held what they held at the beginning, by what is read it has another now, and these values of
+-- fields are asked for, the oldest first.
 pub record IsOpenOn (F : ℕ) (at : List (ℕ × Puddle)) (types : List (ℕ × ℕ)) (log : OpenLog) (before : Image) (undone now : Graph) (laters : List Later) (words : Words) : Type 0 where
   pub redo : List Entry
-  pub saving : IsSaving F at log before redo words
+  pub saving : IsSaving F (finished_of at) log before redo words
+  pub rests : RestsAs F at before words
   pub was : graph_of types (stored_in F at before) ≡ Some undone
   pub is : graph_of types (stored_in F at (reads words)) ≡ Some now
   pub are : AreLaters F at types (reads words) now laters redo
@@ -117,13 +130,14 @@ pub record Saves (F : ℕ) (at : List (ℕ × Puddle)) (log : OpenLog) (before :
   pub runs : Runs (pool_ground F at) log es before write fault old new
   pub asks : asked es ≡ redo
 
--- A call within a transaction on the pool: it runs on its words. Without a fault the pool has the next graph by what is read, and these values of
+-- A call within a transaction on the pool: it runs on the words of its finished puddles, and those of the others rest. Without a fault the pool has the next graph by what is read, and these values of
 -- fields are asked for.
 pub record RunsOn (F : ℕ) (at : List (ℕ × Puddle)) (types : List (ℕ × ℕ)) (log : OpenLog) (before : Image) (undone next : Graph) (laters : List Later) (fault : Option HostFault) (old new : State)
     : Type 0 where
   pub write : Write
   pub redo : List Entry
-  pub saves : Saves F at log before redo write fault old new
+  pub saves : Saves F (finished_of at) log before redo write fault old new
+  pub rests : fault ≡ None → RestsAs F at before new.now.words
   pub was : graph_of types (stored_in F at before) ≡ Some undone
   pub is : fault ≡ None → graph_of types (stored_in F at (reads new.now.words)) ≡ Some next
   pub are : fault ≡ None → AreLaters F at types (reads new.now.words) next laters redo
@@ -140,13 +154,16 @@ pub record MakesIn (F : ℕ) (at : List (ℕ × Puddle)) (log_at : ℕ) (slot : 
 
 -- The transaction is undone, and its log, whose gate is this word, closed: each image settles to what the words held at the beginning.
 pub record ClosesOn (F : ℕ) (at : List (ℕ × Puddle)) (types : List (ℕ × ℕ)) (log_at : ℕ) (before : Image) (undone : Graph) (fault : Option HostFault) (old new : State) : Type 0 where
-  pub closes : Closes (pool_ground F at) log_at before fault old new
+  pub closes : Closes (pool_ground F (finished_of at)) log_at before fault old new
+  pub rests : fault ≡ None → RestsAs F at before new.now.words
   pub was : graph_of types (stored_in F at before) ≡ Some undone
 
 -- The transaction is committed, and its log closed: until the range of the log moves each image settles to what the words held at the beginning, and from
--- then on to what they come to hold, by which the pool has the new graph.
+-- then on to what they come to hold, by which the pool has the new graph; the words of the puddles that are not finished stay.
 pub record EndsOn (F : ℕ) (at : List (ℕ × Puddle)) (types : List (ℕ × ℕ)) (log_at : ℕ) (before : Image) (undone next : Graph) (fault : Option HostFault) (old new : State) : Type 0 where
   pub after : Image
-  pub ends : Ends (pool_ground F at) log_at before after fault old new
+  pub ends : Ends (pool_ground F (finished_of at)) log_at before after fault old new
+  pub beside : (k : ℕ) → pool_mine F at k ≡ true → pool_mine F (finished_of at) k ≡ false → after k ≡ before k
+  pub rests : fault ≡ None → RestsAs F at before new.now.words
   pub was : graph_of types (stored_in F at before) ≡ Some undone
   pub is : graph_of types (stored_in F at after) ≡ Some next

@@ -18,10 +18,10 @@ use Rattle.pud_defs.specs.Tables.{Tables, tables_of}
 use Rattle.pud_defs.specs.Settled.{ALL_LOGS, client_of_log, log_number_at}
 use Rattle.graph_laws.specs.Reads.{HasDistinctFrames}
 use Rattle.word_transaction.specs.Running.{SettlesTo}
-use Rattle.hybrid_tx.specs.Grounds.{pool_mine, pool_ground}
+use Rattle.hybrid_tx.specs.Grounds.{pool_mine, pool_ground, finished_of}
 
--- Where a transaction is open: the slot and the record of its pool; the puddles of the pool whose words are its own, each with its frame; the number
--- of its log among those of all clients; and as whom its client acts.
+-- Where a transaction is open: the slot and the record of its pool; the puddles of the pool, each with its frame, of which the words of the finished
+-- ones are its own; the number of its log among those of all clients; and as whom its client acts.
 pub record OpenPool : Type 0 where
   pub slot : ℕ
   pub rec : PoolRec
@@ -43,17 +43,17 @@ is_in_space_record client k = nat_le (space_record_at client) k && nat_lt k (spa
 abbrev pub is_in_puddle_record : (k : ℕ) → ℕ × Puddle → Bool
 is_in_puddle_record k e = nat_le (puddle_record_at e.0) k && nat_lt k (puddle_record_at (e.0 + 1))
 
--- of a record of the pool, of one of its puddles, or of the client
+-- of a record of the pool, of one of its finished puddles, or of the client
 unfoldable pub is_open_record : OpenPool → ℕ → Bool
-is_open_record p k = is_in_pool_record p.slot k || is_in_space_record (client_of_log p.number) k || list_any (is_in_puddle_record k) p.at
+is_open_record p k = is_in_pool_record p.slot k || is_in_space_record (client_of_log p.number) k || list_any (is_in_puddle_record k) (finished_of p.at)
 
 -- ---- all of its words
 
--- The words of its log as those of a closed one; and the words of its frames and of these records as they were at its beginning.
+-- The words of its log as those of a closed one; and the words of the frames of its finished puddles and of these records as they were at its beginning.
 unfoldable pub open_mask : ℕ → OpenPool → Image → Write
 open_mask F p before k =
     cond (is_in_log (log_number_at F p.number) k) (Some (cond (k == log_number_at F p.number) CLOSED_GATE 0))
-    (cond (pool_mine F p.at k || is_open_record p k) (Some (before k)) None)
+    (cond (pool_mine F (finished_of p.at) k || is_open_record p k) (Some (before k)) None)
 
 -- ---- what is known of it
 
@@ -71,12 +71,12 @@ pub record ArePuddlesOf (t : Tables) (slot : ℕ) (at : List (ℕ × Puddle)) : 
   pub each : (i : ℕ) (e : ℕ × Puddle) → slice_get at i ≡ Some e → IsPuddleOf t slot e
   pub apart : HasDistinctFrames at
 
--- By this image of its beginning the pool is one of the device, these are puddles of it, the log is registered, and its owner may write the pool.
+-- By this image of its beginning the pool is one of the device, the finished ones of these are puddles of it, the log is registered, and its owner may write the pool.
 pub record IsOpenPool (F : ℕ) (p : OpenPool) (before : Image) : Type 0 where
   pub known : p.number < ALL_LOGS
   pub slot : p.slot < POOL_RECORDS
   pub used : (tables_of F before).pools p.slot ≡ Some p.rec
-  pub puddles : ArePuddlesOf (tables_of F before) p.slot p.at
+  pub puddles : ArePuddlesOf (tables_of F before) p.slot (finished_of p.at)
   pub owned : owner_of before (client_of_log p.number) ≡ Some p.who
   pub right : may_write p.rec.mode (owner p.rec.uid p.rec.gid) p.who ≡ true
 
@@ -84,4 +84,4 @@ pub record IsOpenPool (F : ℕ) (p : OpenPool) (before : Image) : Type 0 where
 pub record IsLeftOpen (F : ℕ) (p : OpenPool) (before image : Image) : Type 0 where
   pub unnamed : (k v : ℕ) → open_mask F p before k ≡ Some v → new_value device_word (log_of image DAEMON_LOG) k ≡ None
   pub records : (k : ℕ) → is_open_record p k ≡ true → image k ≡ before k
-  pub settles : SettlesTo (pool_ground F p.at) (log_number_at F p.number) before image
+  pub settles : SettlesTo (pool_ground F (finished_of p.at)) (log_number_at F p.number) before image

@@ -9,7 +9,7 @@ use Rattle.pud_defs.specs.Layout.{frames_at}
 use Rattle.log_store.specs.Store.{OpenLog, InLog}
 use Rattle.object_alloc.specs.Alloc.{serial_word_at}
 use Rattle.word_transaction.specs.Running.{ByTransaction}
-use Rattle.hybrid_tx.specs.Grounds.{pool_ground}
+use Rattle.hybrid_tx.specs.Grounds.{pool_ground, finished_of}
 use Rattle.hybrid_tx.specs.Objects.Transactions.{OpenTx, Saves}
 use Rattle.hybrid_tx.proofs.PoolGrounds.{all_there}
 use Rattle.hybrid_tx.proofs.Objects.SlotFreed.{Changes-freed, Saves-unfreed, Saves-freed}
@@ -26,9 +26,9 @@ returns-in_err-save-clause-saves g c =
     let at = c.args.at in
     let is_first : c.frame_at.result + (c.slot_begins-serial.result + 0) ≡ serial_word_at c.args.frames at = omega (arith, c.frame_at.ensures, c.slot_begins-serial.ensures) in
     let apart = subst (λ (x : OpenTx). x.log.at + LOG_WORDS ≤ frames_at c.args.frames) (sym c.self.view_is) c.requires.place in
-    rw (p.1, p.2, ← c.self.view_is) (λ t is_placed before redo s.
-    Saves-unfreed c.args.frames _ c.args.pool.now at c.requires.within _ before redo _ _ _ is_placed c.requires.device apart (c.slot_address.ensures.address is_placed.legal) is_first s _ _ _ (ap (λ (l : OpenLog). l.at) c.in_err-save.ensures.failed)
-    (λ es ground may place r. c.in_err-save.ensures.runs t _ refl (pool_ground c.args.frames c.args.pool.now) es before ground may place r))
+    rw (p.1, p.2, ← c.self.view_is) (λ t is_placed rewritten before redo s.
+    Saves-unfreed c.args.frames _ c.args.pool.now at c.requires.within _ before redo _ _ _ is_placed c.requires.device apart (c.slot_address.ensures.address is_placed.legal) is_first rewritten s _ _ _ (ap (λ (l : OpenLog). l.at) c.in_err-save.ensures.failed)
+    (λ es ground may place r. c.in_err-save.ensures.runs t _ refl (pool_ground c.args.frames (finished_of c.args.pool.now)) es before ground may place r))
 
 pub free_slot-requires-clause-known : goal.free_slot-requires-clause-known
 free_slot-requires-clause-known g c =
@@ -46,8 +46,8 @@ returns-clause-saves g c =
     let at = c.args.at in
     let is_first : c.frame_at.result + (c.slot_begins-serial.result + 0) ≡ serial_word_at F at = omega (arith, c.frame_at.ensures, c.slot_begins-serial.ensures) in
     let apart = subst (λ (x : OpenTx). x.log.at + LOG_WORDS ≤ frames_at F) (sym c.self.view_is) c.requires.place in
-    rw (← c.self.view_is) (λ t is_placed before redo s.
-    subst (λ (l : OpenLog). Saves F pool l before redo (placed (serial_word_at F at) (0 ∷ [])) (fault_of c.free_slot.result) (g.H.Host.state c.args.h.now) (g.H.Host.state c.free_slot.new.h)) (sym c.in_ok-save.ensures.saved)
-    (Saves-freed F _ pool at c.requires.within _ before redo _ _ _ is_placed c.requires.device apart (c.slot_address.ensures.address is_placed.legal) is_first s (fault_of c.free_slot.result) _ _
-    (λ es ground may place r. c.in_ok-save.ensures.runs t _ refl (pool_ground F pool) es before ground may place r)
+    rw (← c.self.view_is) (λ t is_placed rewritten before redo s.
+    subst (λ (l : OpenLog). Saves F (finished_of pool) l before redo (placed (serial_word_at F at) (0 ∷ [])) (fault_of c.free_slot.result) (g.H.Host.state c.args.h.now) (g.H.Host.state c.free_slot.new.h)) (sym c.in_ok-save.ensures.saved)
+    (Saves-freed F _ pool at c.requires.within _ before redo _ _ _ is_placed c.requires.device apart (c.slot_address.ensures.address is_placed.legal) is_first rewritten s (fault_of c.free_slot.result) _ _
+    (λ es ground may place r. c.in_ok-save.ensures.runs t _ refl (pool_ground F (finished_of pool)) es before ground may place r)
     (c.free_slot.ensures.writes t)))

@@ -5,8 +5,9 @@ use Rattle.pm_model.specs.Changes.{Changes}
 use Rattle.pud_defs.specs.declared.records.Puddle.{Puddle}
 use Rattle.pud_defs.specs.Frames.{frame_at}
 use Rattle.log_store.specs.Store.{longer}
-use Rattle.hybrid_tx.specs.Grounds.{pool_ground}
+use Rattle.hybrid_tx.specs.Grounds.{pool_ground, finished_of}
 use Rattle.hybrid_tx.specs.Objects.Stores.{ByPut}
+use Rattle.hybrid_tx.proofs.FinishedPuddles.{finished_placed, finished_there}
 use Rattle.hybrid_tx.proofs.Objects.InFrames.{ByPut-in_frame, Saves-put, Saves-behind}
 use Rattle.hybrid_tx.proofs.Tx.put_in_frame.Goals as goal
 
@@ -21,15 +22,17 @@ returns-clause-changes g c = λ t.
     (subst (λ (k : ℕ). Changes (ByPut log (k + c.args.word) c.args.vals.now) fault old new) c.frame_at.ensures (c.put.ensures.changes t))
 
 pub returns-clause-saves : goal.returns-clause-saves
-returns-clause-saves g c = λ t placed e there before redo s.
+returns-clause-saves g c = λ t placed e there finished before redo s.
+    let own = finished_of c.args.pool.now in
+    let within = finished_there c.args.frames c.args.pool.now c.args.ordinal e there finished in
     let same = get_or_from_slice_get c.args.pool.now c.args.ordinal e _ there in
     let long = longer (length c.args.vals.now + 2) c.args.self.now.log in
-    Saves-behind c.args.frames c.args.pool.now long _ before redo _ c.put.result _ _ c.put.ensures.at c.put.ensures.done
-    (Saves-put c.args.frames _ c.args.pool.now c.args.ordinal c.args.word e c.args.self.now.log long before redo _ _ c.args.vals.now _ (fault_of c.put.result) _ _
-    placed c.requires.device c.requires.place there c.requires.some c.requires.within
+    Saves-behind c.args.frames own long _ before redo _ c.put.result _ _ c.put.ensures.at c.put.ensures.done
+    (Saves-put c.args.frames _ own within.0 c.args.word e c.args.self.now.log long before redo _ _ c.args.vals.now _ (fault_of c.put.result) _ _
+    (finished_placed c.args.frames c.args.pool.now placed) c.requires.device c.requires.place within.1 c.requires.some c.requires.within
     (c.word_address-address.ensures ∙ ap (λ (d : ℕ × Puddle). (d.1.base + 8 * c.args.word) % 2 ^ 64) same)
     (ap (λ (k : ℕ). k + c.args.word) (c.frame_at.ensures ∙ ap (λ (d : ℕ × Puddle). frame_at c.args.frames d.0) same)) s
-    (λ es ground may place running. c.put.ensures.runs t _ refl (pool_ground c.args.frames c.args.pool.now) es before ground may place running))
+    (λ es ground may place running. c.put.ensures.runs t _ refl (pool_ground c.args.frames own) es before ground may place running))
 
 pub returns-clause-puts : goal.returns-clause-puts
 returns-clause-puts g c = λ t e there.

@@ -1,5 +1,5 @@
 use Rattle.std.proofs.Common.{◌*◌, ◌<◌, ◌≤◌, Some, None, refl, sym, ap, ◌∙◌, arith}
-use Rattle.std.proofs.lemmas.Option.{slice_get-get_or, get_or_from_slice_get}
+use Rattle.std.proofs.lemmas.Option.{slice_get-get_or}
 use Rattle.std.proofs.lemmas.Result.{err_from_is_err_and}
 use Rattle.std.specs.Prelude.{slice_index_or}
 use Rattle.pm_model.specs.Counts.{Counts}
@@ -7,27 +7,29 @@ use Rattle.pm_model.proofs.Changes.{Changes-still, Changes-then}
 use Rattle.graph_read.proofs.Pointed.{no_puddle}
 use Rattle.log_replay.specs.Replaying.{Anything}
 use Rattle.lazy_rewrite.specs.declared.batches.TheConstants.{BATCH_STEPS}
-use Rattle.lazy_rewrite.specs.Frontiers.{steps_left, stepped_at, frontier_at}
+use Rattle.lazy_rewrite.specs.Frontiers.{stepped_at, frontier_at}
 use Rattle.lazy_rewrite.proofs.Turns.{Rewrites-none, Rewrites-more, Rewrites-idle}
-use Rattle.lazy_rewrite.proofs.Rounds.{reached-start, reached-end, known_now, low_now, current, here_now, next_steps, pool_next}
+use Rattle.lazy_rewrite.proofs.Rounds.{left_read, reached-start, reached-end, within_now, low_now, current, here_now, next_steps, pool_next}
 use Rattle.lazy_rewrite.proofs.steps.advance.Goals as goal
 
 pub loop-round-init : goal.loop-round-init
 loop-round-init g c = record {
   cause = refl;
   any = λ t. Changes-still Anything None (g.H.Host.state c.args.h.now) (g.H.Host.state c.args.h.now) (λ cut. cc) refl;
+  known = c.requires.known;
   pool = λ e here.
-      let left_is = c.steps_left-left.ensures ∙ ap (λ d. steps_left d.1) (get_or_from_slice_get c.args.pool.now c.args.ordinal e no_puddle here) in
+      let left_is = left_read c.args.pool.now c.as_slice.result.now c.args.ordinal c.steps_left-left.result e c.as_slice.ensures.puddles here c.steps_left-left.ensures in
       reached-start c.args.pool.now c.args.ordinal c.args.n e here c.steps_left-left.result c.min-steps.result left_is c.min-steps.ensures 0 refl;
   rewrites = λ t size same idle low. Rewrites-none c.args.frames (frontier_at c.args.ordinal (stepped_at c.args.ordinal c.args.n c.args.pool.now)) c.args.pool.now c.args.pool.now (g.H.Host.state c.args.h.now) refl;
 }
 
-pub rewrite_batch-requires-clause-known : goal.rewrite_batch-requires-clause-known
-rewrite_batch-requires-clause-known g c =
+pub rewrite_batch-requires-clause-within : goal.rewrite_batch-requires-clause-within
+rewrite_batch-requires-clause-within g c =
     let pool = c.args.pool.now in
     let e = slice_index_or pool c.args.ordinal no_puddle in
     let here = slice_get-get_or pool c.args.ordinal no_puddle c.requires.within in
-    known_now pool c.args.ordinal c.args.n e here c.steps_left-left.result c.min-steps.result c.steps_left-left.ensures c.min-steps.ensures c.loop-round.round c.loop-round.pool (c.loop-round.invariant.pool e here) c.args.frames c.requires.known
+    let left_is = left_read c.args.pool.now c.as_slice.result.now c.args.ordinal c.steps_left-left.result e c.as_slice.ensures.puddles here c.steps_left-left.ensures in
+    within_now pool c.args.ordinal c.args.n e here c.steps_left-left.result c.min-steps.result left_is c.min-steps.ensures c.loop-round.round c.loop-round.pool (c.loop-round.invariant.pool e here)
 
 pub returns-in_err-rewrite_batch-clause-rewrites : goal.returns-in_err-rewrite_batch-clause-rewrites
 returns-in_err-rewrite_batch-clause-rewrites g c =
@@ -37,6 +39,7 @@ returns-in_err-rewrite_batch-clause-rewrites g c =
     let o = c.args.ordinal in
     let e = slice_index_or pool o no_puddle in
     let here = slice_get-get_or pool o no_puddle c.requires.within in
+    let left_is = left_read c.args.pool.now c.as_slice.result.now c.args.ordinal c.steps_left-left.result e c.as_slice.ensures.puddles here c.steps_left-left.ensures in
     let now = c.loop-round.pool in
     let round = c.loop-round.round in
     let is = c.loop-round.invariant.pool e here in
@@ -49,9 +52,9 @@ returns-in_err-rewrite_batch-clause-rewrites g c =
     let so_far = c.loop-round.invariant.rewrites t size same idle low in
     Rewrites-more c.args.frames aims pool now c.rewrite_batch.new.pool (Some c.in_err-rewrite_batch.field-0.0) a b (g.H.Host.state c.rewrite_batch.new.h) so_far
     (c.in_err-rewrite_batch.ensures.rewrites t size (same ∙ ap (λ (x : Counts). x.size) (sym c.loop-round.invariant.cause)) (Rewrites-idle c.args.frames aims pool now a b so_far idle)
-    (low_now pool o c.args.n e here left steps c.steps_left-left.ensures c.min-steps.ensures round now is c.args.frames low) aims
-    (current pool o c.args.n e here left steps c.steps_left-left.ensures c.min-steps.ensures round now is below) refl
-    (next_steps pool o c.args.n e here left steps c.steps_left-left.ensures c.min-steps.ensures round now is below c.min.result c.min.ensures)))
+    (low_now pool o c.args.n e here left steps left_is c.min-steps.ensures round now is c.args.frames low) aims
+    (current pool o c.args.n e here left steps left_is c.min-steps.ensures round now is below) refl
+    (next_steps pool o c.args.n e here left steps left_is c.min-steps.ensures round now is below c.min.result c.min.ensures)))
 
 pub returns-in_err-rewrite_batch-clause-any : goal.returns-in_err-rewrite_batch-clause-any
 returns-in_err-rewrite_batch-clause-any g c =
@@ -62,6 +65,7 @@ pub loop-round-preserved : goal.loop-round-preserved
 loop-round-preserved g c = record {
   cause = c.in_ok-rewrite_batch.ensures.cause ∙ c.loop-round.invariant.cause;
   any = λ t. Changes-then Anything None (g.H.Host.state c.args.h.now) (g.H.Host.state c.loop-round.h) (g.H.Host.state c.rewrite_batch.new.h) (c.loop-round.invariant.any t) (c.in_ok-rewrite_batch.ensures.any t);
+  known = c.in_ok-rewrite_batch.ensures.known;
   pool = λ e here.
       let pool = c.args.pool.now in
       let o = c.args.ordinal in
@@ -71,7 +75,7 @@ loop-round-preserved g c = record {
       let below : BATCH_STEPS * round < c.min-steps.result = omega (arith, c.div_ceil-round-end.ensures) in
       let left = c.steps_left-left.result in
       let steps = c.min-steps.result in
-      let left_is = c.steps_left-left.ensures ∙ ap (λ d. steps_left d.1) (get_or_from_slice_get pool o e no_puddle here) in
+      let left_is = left_read pool c.as_slice.result.now o left e c.as_slice.ensures.puddles here c.steps_left-left.ensures in
       pool_next pool o c.args.n e here left steps left_is c.min-steps.ensures round now is below c.min.result c.min.ensures c.rewrite_batch.new.pool
       (c.in_ok-rewrite_batch.ensures.pool (current pool o c.args.n e here left steps left_is c.min-steps.ensures round now is below) (here_now pool o c.args.n e here left steps left_is c.min-steps.ensures round now is below));
   rewrites = λ t size same idle low.
@@ -79,6 +83,7 @@ loop-round-preserved g c = record {
       let o = c.args.ordinal in
       let e = slice_index_or pool o no_puddle in
       let here = slice_get-get_or pool o no_puddle c.requires.within in
+      let left_is = left_read c.args.pool.now c.as_slice.result.now c.args.ordinal c.steps_left-left.result e c.as_slice.ensures.puddles here c.steps_left-left.ensures in
       let now = c.loop-round.pool in
       let round = c.loop-round.round in
       let is = c.loop-round.invariant.pool e here in
@@ -91,14 +96,14 @@ loop-round-preserved g c = record {
       let so_far = c.loop-round.invariant.rewrites t size same idle low in
       Rewrites-more c.args.frames aims pool now c.rewrite_batch.new.pool None a b (g.H.Host.state c.rewrite_batch.new.h) so_far
       (c.in_ok-rewrite_batch.ensures.rewrites t size (same ∙ ap (λ (x : Counts). x.size) (sym c.loop-round.invariant.cause)) (Rewrites-idle c.args.frames aims pool now a b so_far idle)
-      (low_now pool o c.args.n e here left steps c.steps_left-left.ensures c.min-steps.ensures round now is c.args.frames low) aims
-      (current pool o c.args.n e here left steps c.steps_left-left.ensures c.min-steps.ensures round now is below) refl
-      (next_steps pool o c.args.n e here left steps c.steps_left-left.ensures c.min-steps.ensures round now is below c.min.result c.min.ensures));
+      (low_now pool o c.args.n e here left steps left_is c.min-steps.ensures round now is c.args.frames low) aims
+      (current pool o c.args.n e here left steps left_is c.min-steps.ensures round now is below) refl
+      (next_steps pool o c.args.n e here left steps left_is c.min-steps.ensures round now is below c.min.result c.min.ensures));
 }
 
 pub returns-clause-steps : goal.returns-clause-steps
 returns-clause-steps g c = λ e here.
-    let left_is = c.steps_left-left.ensures ∙ ap (λ d. steps_left d.1) (get_or_from_slice_get c.args.pool.now c.args.ordinal e no_puddle here) in
+    let left_is = left_read c.args.pool.now c.as_slice.result.now c.args.ordinal c.steps_left-left.result e c.as_slice.ensures.puddles here c.steps_left-left.ensures in
     omega (arith, c.min-steps.ensures, left_is)
 
 pub returns-clause-pool : goal.returns-clause-pool
@@ -106,5 +111,6 @@ returns-clause-pool g c =
     let pool = c.args.pool.now in
     let e = slice_index_or pool c.args.ordinal no_puddle in
     let here = slice_get-get_or pool c.args.ordinal no_puddle c.requires.within in
+    let left_is = left_read c.args.pool.now c.as_slice.result.now c.args.ordinal c.steps_left-left.result e c.as_slice.ensures.puddles here c.steps_left-left.ensures in
     let past : c.min-steps.result ≤ BATCH_STEPS * c.loop-round.round = omega (arith, c.div_ceil-round-end.ensures) in
-    reached-end pool c.args.ordinal c.args.n e here c.steps_left-left.result c.min-steps.result c.steps_left-left.ensures c.min-steps.ensures c.loop-round.round c.loop-round.pool past (c.loop-round.invariant.pool e here)
+    reached-end pool c.args.ordinal c.args.n e here c.steps_left-left.result c.min-steps.result left_is c.min-steps.ensures c.loop-round.round c.loop-round.pool past (c.loop-round.invariant.pool e here)

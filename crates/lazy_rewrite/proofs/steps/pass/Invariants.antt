@@ -1,4 +1,4 @@
-use Rattle.std.proofs.Common.{◌≡◌, ℕ, ◌+◌, ◌-◌, ◌≤◌, min, None}
+use Rattle.std.proofs.Common.{◌≡◌, ℕ, ◌+◌, ◌-◌, ◌≤◌, min, length, None}
 use Rattle.pm_model.specs.Changes.{Changes}
 use Rattle.pud_defs.specs.declared.layout.TheConstants.{DAEMON_LOG}
 use Rattle.pud_defs.specs.Stored.{IsOnDevice}
@@ -15,6 +15,7 @@ invariant-loop-ordinal g l = record {
   cause : g.H.Host.counts l.h ≡ g.H.Host.counts l.fn.h;
   any : g.H.Host.tells → Changes Anything None (g.H.Host.state l.fn.h) (g.H.Host.state l.h);
   known : IsOnDevice l.fn.frames l.pool;
+  long : length l.pool ≡ length l.fn.pool;
   low : HasLowBases l.fn.pool → HasLowBases l.pool;
   few : l.done ≤ l.fn.n;
   counted : l.done + min (l.fn.n - l.done) (left_behind l.ordinal l.pool) ≡ min l.fn.n (left_among l.fn.pool);

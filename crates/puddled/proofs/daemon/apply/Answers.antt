@@ -56,6 +56,13 @@ returns-in-Drop-clause-carries g c = λ t size e w ready.
     (CarriesOut-plain size w c.drop_for.new.self _ _ _ _ drop c.drop_for.result refl refl (c.drop_for.ensures.reply t size w ready) (c.drop_for.ensures.applies t size e w ready)
     (ClosesLogs-other w _ _ _ (λ client no. cc)) (c.drop_for.ensures.rest t) c.drop_for.ensures.cause)
 
+pub returns-in-Rewrite-clause-carries : goal.returns-in-Rewrite-clause-carries
+returns-in-Rewrite-clause-carries g c = λ t size e w ready.
+    let rewrite = commands.Rewrite c.in-Rewrite.name c.in-Rewrite.n in
+    CarriesOut-as size w c.rewrite_for.new.self _ _ _ _ c.args.command rewrite c.with_reply-in-Rewrite.result c.rewrite_for.result c.in-Rewrite.is c.with_reply-in-Rewrite.ensures
+    (CarriesOut-plain size w c.rewrite_for.new.self _ _ _ _ rewrite c.rewrite_for.result refl refl (c.rewrite_for.ensures.reply t size w ready) (c.rewrite_for.ensures.applies t size e w ready)
+    (ClosesLogs-other w _ _ _ (λ client no. cc)) (c.rewrite_for.ensures.rest t) c.rewrite_for.ensures.cause)
+
 pub returns-in-Get-clause-carries : goal.returns-in-Get-clause-carries
 returns-in-Get-clause-carries g c = λ t size e w ready.
     let get = Get c.in-Get.client c.in-Get.name c.in-Get.s c.in-Get.f in

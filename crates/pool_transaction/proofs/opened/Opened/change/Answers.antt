@@ -2,11 +2,9 @@ use Rattle.std.proofs.Common.{◌≡◌, Some, IfOk, sym, subst}
 use Rattle.pm_model.specs.Counts.{fault_of}
 use Rattle.pud_defs.specs.Step.{answer_by, world_by}
 use Rattle.pud_defs.specs.Step.Answer.{of_reply}
-use Rattle.ready_daemon.specs.Memory.{Memory}
 use Rattle.ready_daemon.specs.Ready.{Applies}
 use Rattle.pool_transaction.specs.declared.changing.Change.{Change}
-use Rattle.pool_transaction.specs.Changing.{IsHeldIn, with_opened, line_of, update_line}
-use Rattle.pool_transaction.proofs.HeldLines.{known_same}
+use Rattle.pool_transaction.specs.Changing.{with_opened, line_of}
 use Rattle.pool_transaction.proofs.opened.Opened.change.Goals as goal
 
 pub returns-in-New-clause-reply : goal.returns-in-New-clause-reply
@@ -24,14 +22,11 @@ returns-in-New-clause-applies g c = λ t size e w memory its ready.
 pub returns-in-Update-clause-reply : goal.returns-in-Update-clause-reply
 returns-in-Update-clause-reply g c = λ t size e w memory its ready.
     subst (λ (change : Change). IfOk c.update_or_refuse.result (λ reply. of_reply reply ≡ answer_by w (Some (line_of change c.args.self.now.client c.args.self.now.name)))) (sym c.in-Update.is)
-    (c.update_or_refuse.ensures.reply t size w memory (subst (λ at. IsHeldIn c.args.frames c.args.self.now at memory) (sym c.as_slice.ensures.puddles) its) ready)
+    (c.update_or_refuse.ensures.reply t size w memory its ready)
 
 pub returns-in-Update-clause-applies : goal.returns-in-Update-clause-applies
 returns-in-Update-clause-applies g c = λ t size e w memory its ready.
     let held = c.args.self.now in
-    let old = g.H.Host.state c.args.h.now in
-    let new = g.H.Host.state c.update_or_refuse.new.h in
-    let fault = fault_of c.update_or_refuse.result in
-    subst (λ (change : Change). Applies size w (world_by w (Some (line_of change held.client held.name))) (with_opened held.number held.slot c.update_or_refuse.new.self c.args.pool.now memory) fault old new) (sym c.in-Update.is)
-    (subst (λ (m : Memory). Applies size w (world_by w (Some (update_line c.in-Update.update held.client held.name))) m fault old new) (sym (known_same held.number held.slot c.update_or_refuse.new.self c.args.pool.now memory its.known))
-    (c.update_or_refuse.ensures.applies t size e w memory (subst (λ at. IsHeldIn c.args.frames held at memory) (sym c.as_slice.ensures.puddles) its) ready))
+    subst (λ (change : Change). Applies size w (world_by w (Some (line_of change held.client held.name))) (with_opened held.number held.slot c.update_or_refuse.new.self c.update_or_refuse.new.pool memory)
+    (fault_of c.update_or_refuse.result) (g.H.Host.state c.args.h.now) (g.H.Host.state c.update_or_refuse.new.h)) (sym c.in-Update.is)
+    (c.update_or_refuse.ensures.applies t size e w memory its ready)

@@ -1,83 +1,233 @@
-use Rattle.std.proofs.Common.{◌≡◌, true, false, Some, None, sym, ap, ◌∙◌, subst}
+use Rattle.std.proofs.Common.{◌≡◌, ◌↔◌, ℕ, List, true, false, Some, None, Result, Err, refl, sym, ap, ◌∙◌, subst}
 use Rattle.std.specs.Prelude.{IfOk}
+use Rattle.std.proofs.lemmas.Option.{none-some}
+use Rattle.std.proofs.lemmas.Result.{err_from_is_err_and}
 use Rattle.pm_model.specs.Counts.{fault_of}
+use Rattle.pm_model.specs.Moments.{State}
 use Rattle.pm_model.specs.Words.{reads}
+use Rattle.pud_defs.specs.declared.records.Puddle.{Puddle}
+use Rattle.pud_defs.specs.declared.records.Slot.{Slot}
+use Rattle.pud_defs.specs.Image.{Image}
 use Rattle.pud_defs.specs.PoolChanges.{pool_named}
-use Rattle.pud_defs.specs.Stored.{stored_in}
-use Rattle.graph_laws.specs.Slots.{IsLowestFreeSlot}
-use Rattle.puddle_header.specs.Places.{place_of_slot, IsSlotOf}
-use Rattle.hybrid_tx.specs.Objects.Transactions.{OpenTx, MakesIn}
 use Rattle.pud_defs.specs.Step.{graph_seen, next_in, grows}
+use Rattle.pud_defs.specs.Stored.{stored_in}
 use Rattle.pud_defs.specs.World.{open_on}
+use Rattle.graph_laws.specs.Slots.{AreAllLive, IsLowestFreeSlot}
+use Rattle.puddle_header.specs.Places.{place_of_slot, IsSlotOf}
+use Rattle.object_alloc.specs.declared.AllocFault.{AllocFault}
+use Rattle.object_alloc.specs.declared.AllocFault.TheVariants.{Full}
+use Rattle.object_alloc.specs.Alloc.{alloc_fault}
+use Rattle.lazy_rewrite.specs.Frontiers.{frontiers_of}
+use Rattle.hybrid_tx.specs.Grounds.{IsRewrittenAt}
+use Rattle.hybrid_tx.specs.Objects.Transactions.{MakesIn}
+use Rattle.hybrid_tx.proofs.Objects.LowestSlot.{one_lowest, lowest_is_free, one_slot, first_there}
+use Rattle.hybrid_tx.proofs.Objects.ObjectPut.{MakesIn-stopped}
 use Rattle.ready_daemon.specs.Judged.{known_in}
-use Rattle.ready_daemon.specs.Memory.{Held, held_under, with_held}
-use Rattle.pool_transaction.specs.Changing.{refusal_by_world, with_made}
-use Rattle.ready_daemon.specs.Ready.{Applies}
-use Rattle.ready_daemon.proofs.InTurn.{held_known}
-use Rattle.ready_daemon.proofs.Keeping.{KeepsRest-changes}
+use Rattle.ready_daemon.specs.Memory.{Held, held_under}
+use Rattle.ready_daemon.specs.Ready.{IsReady, Applies}
+use Rattle.ready_daemon.proofs.Applying.{Applies-stopped}
+use Rattle.ready_daemon.proofs.Keeping.{KeepsRest-still, KeepsRest-changes, KeepsRest-then}
+use Rattle.pool_transaction.specs.Changing.{with_opened, refusal_by_world, with_made, both_finished}
+use Rattle.pool_transaction.proofs.FinishedPools.{HaveMoved-both, IsSlotOf-moved}
+use Rattle.pool_transaction.proofs.HeldFinishes.{its_puddles, none_left, memory_finished, MayMakeAt, Applies-unfinished, ready_finished, known_finished, Applies-behind, may_make_at}
+use Rattle.pool_transaction.proofs.HeldMakes.{all_live, not_live, serial_made, made_there, Applies-made}
 use Rattle.pool_transaction.proofs.HeldRuns.{with_tx}
-use Rattle.pool_transaction.proofs.HeldMakes.{all_live, made_lowest, Applies-made, serial_made}
 use Rattle.pool_transaction.proofs.opened.Opened.make.Goals as goal
+
+-- ---- each slot is live
+
+all_live_there : (F : ℕ) (at lent : List (ℕ × Puddle)) (image : Image) (e : AllocFault) → lent ≡ at → e ≡ Full
+    → (alloc_fault {T = Slot} (Err e) ≡ None → (◌≡◌ {A = Result Slot AllocFault} (Err e) (Err Full)) ↔ AreAllLive (stored_in F lent image)) → AreAllLive (stored_in F at image)
+all_live_there F at lent image e same is told =
+    subst (λ (ds : List (ℕ × Puddle)). AreAllLive (stored_in F ds image)) same ((told (ap (λ (x : AllocFault). alloc_fault {T = Slot} (Err x)) is)).0 (ap (λ (x : AllocFault). Err x) is))
+
+pub returns-in-Err-Full-clause-makes : goal.returns-in-Err-Full-clause-makes
+returns-in-Err-Full-clause-makes g c = λ t size w memory its ready none less.
+    let held = c.args.self.now in
+    let old = g.H.Host.state c.args.h.now in
+    let same = sym its.frames ∙ ready.frames in
+    absurd {A = Applies size w (with_made held.name c.args.t w) (with_opened held.number held.slot held c.args.pool.now memory) None old (g.H.Host.state c.alloc_slot.new.h)}
+    (not_live size w memory held old held.number its.there ready c.args.frames c.args.pool.now same (its_puddles size w memory held old held.number its.there ready c.args.frames same c.args.pool.now its.known) less
+    (all_live_there c.args.frames c.args.pool.now c.as_slice.result.now (reads (g.H.Host.state c.args.h.now).now.words) c.in-Err-Full.field-0 c.as_slice.ensures.puddles c.in-Err-Full.field-0-is (c.in-Err-Full.ensures.full t _ refl)))
+
+pub returns-in-Err-Full-clause-serial : goal.returns-in-Err-Full-clause-serial
+returns-in-Err-Full-clause-serial g c = λ t size w memory its ready less.
+    let held = c.args.self.now in
+    let old = g.H.Host.state c.args.h.now in
+    let same = sym its.frames ∙ ready.frames in
+    absurd (not_live size w memory held old held.number its.there ready c.args.frames c.args.pool.now same (its_puddles size w memory held old held.number its.there ready c.args.frames same c.args.pool.now its.known) less
+    (all_live_there c.args.frames c.args.pool.now c.as_slice.result.now (reads (g.H.Host.state c.args.h.now).now.words) c.in-Err-Full.field-0 c.as_slice.ensures.puddles c.in-Err-Full.field-0-is (c.in-Err-Full.ensures.full t _ refl)))
+
+pub returns-in-Err-Full-clause-lowest : goal.returns-in-Err-Full-clause-lowest
+returns-in-Err-Full-clause-lowest g c = λ t size w memory its ready none slot of lowest first other.
+    absurd (lowest_is_free (stored_in c.args.frames c.args.pool.now (reads (g.H.Host.state c.args.h.now).now.words)) (place_of_slot slot) lowest (all_live_there c.args.frames c.args.pool.now c.as_slice.result.now (reads (g.H.Host.state c.args.h.now).now.words) c.in-Err-Full.field-0 c.as_slice.ensures.puddles c.in-Err-Full.field-0-is (c.in-Err-Full.ensures.full t _ refl)))
+
+-- ---- the slot was not found
+
+pub returns-in-Err-Host-clause-makes : goal.returns-in-Err-Host-clause-makes
+returns-in-Err-Host-clause-makes g c = λ t size w memory its ready none less.
+    let read = rw c.in-Err-Host.field-0-is at c.in-Err-Host.ensures.only_reads in
+    let held = c.args.self.now in
+    Applies-stopped size w (with_made held.name c.args.t w) memory (with_opened held.number held.slot held c.args.pool.now memory) c.in-Err-Host.fault (g.H.Host.state c.args.h.now) (g.H.Host.state c.alloc_slot.new.h) ready
+    (read.stays t) (λ cut. absurd (read.never_cut cut))
+
+pub returns-in-Err-Host-clause-lowest : goal.returns-in-Err-Host-clause-lowest
+returns-in-Err-Host-clause-lowest g c = λ t size w memory its ready none slot of lowest root other.
+    let first = first_there c.args.pool.now slot (slot.frame, of.puddle) of in
+    let read = rw c.in-Err-Host.field-0-is at c.in-Err-Host.ensures.only_reads in
+    MakesIn-stopped c.args.frames c.args.pool.now c.args.self.now.tx.log.at slot of first.0 c.args.t _ _ _ first.1 read.never_cut (read.stays t)
+
+-- ---- its puddles were not finished
+
+pub returns-in_err-finish_both-clause-makes : goal.returns-in_err-finish_both-clause-makes
+returns-in_err-finish_both-clause-makes g c =
+    let p = err_from_is_err_and c.from_residual.result c.from_residual.ensures.1 in
+    rw (p.1, p.2) (λ t size w memory its ready none less.
+    let held = c.args.self.now in
+    let at = c.args.pool.now in
+    let start = g.H.Host.state c.alloc_slot.new.h in
+    let mid = g.H.Host.state c.finish_both.new.h in
+    let still = c.in-Ok.ensures.only_reads.stays t in
+    let then = subst (λ (s : State). IsReady size w memory s) (sym still) ready in
+    subst (λ (s : State). Applies size w (with_made held.name c.args.t w) (with_opened held.number held.slot held c.finish_both.new.pool memory) (Some c.in_err-finish_both.field-0.0) s mid) still
+    (Applies-unfinished size w memory held start held.number its.there then c.args.frames (sym its.frames ∙ ready.frames) at its.known (frontiers_of (both_finished c.in-Ok.at.ordinal at)) c.finish_both.new.pool
+    c.in_err-finish_both.field-0.0 mid (c.in_err-finish_both.ensures.rewrites t) (with_made held.name c.args.t w) (with_opened held.number held.slot held c.finish_both.new.pool memory) refl))
+
+pub returns-in_err-finish_both-clause-full : goal.returns-in_err-finish_both-clause-full
+returns-in_err-finish_both-clause-full g c = λ t size w memory its ready more.
+    let held = c.args.self.now in
+    let old = g.H.Host.state c.args.h.now in
+    let same = sym its.frames ∙ ready.frames in
+    let listed = its_puddles size w memory held old held.number its.there ready c.args.frames same c.args.pool.now its.known in
+    absurd (lowest_is_free (stored_in c.args.frames c.as_slice.result.now (reads old.now.words)) (place_of_slot c.in-Ok.at) (c.in-Ok.ensures.free t (reads old.now.words) refl)
+    (all_live size w memory held old held.number its.there ready c.args.frames c.as_slice.result.now same (c.as_slice.ensures.puddles ∙ listed) more))
+
+pub returns-in_err-finish_both-clause-lowest : goal.returns-in_err-finish_both-clause-lowest
+returns-in_err-finish_both-clause-lowest g c = λ t size w memory its ready none slot of lowest first other.
+    let held = c.args.self.now in
+    let at = c.args.pool.now in
+    let old = g.H.Host.state c.args.h.now in
+    let start = g.H.Host.state c.alloc_slot.new.h in
+    let image : Image = reads old.now.words in
+    let then = subst (λ (s : State). IsReady size w memory s) (sym (c.in-Ok.ensures.only_reads.stays t)) ready in
+    let found = subst (λ (ds : List (ℕ × Puddle)). IsLowestFreeSlot (stored_in c.args.frames ds image) (place_of_slot c.in-Ok.at)) c.as_slice.ensures.puddles (c.in-Ok.ensures.free t image refl) in
+    let within = subst (λ (ds : List (ℕ × Puddle)). IsSlotOf ds c.in-Ok.at) c.as_slice.ensures.puddles c.in-Ok.ensures.within in
+    let it = one_slot at c.in-Ok.at slot within of (one_lowest (stored_in c.args.frames at image) (place_of_slot c.in-Ok.at) (place_of_slot slot) found lowest) in
+    let nothing = none_left size w memory held start held.number its.there then c.args.frames (sym its.frames ∙ ready.frames) at its.known c.in-Ok.at.ordinal c.finish_both.new.pool (Some c.in_err-finish_both.field-0.0)
+    (g.H.Host.state c.finish_both.new.h) (c.in_err-finish_both.ensures.rewrites t) first (subst (λ (s : Slot). IsRewrittenAt at s.ordinal) (sym it) other) in
+    absurd (none-some c.in_err-finish_both.field-0.0 (sym nothing.done))
+
+-- ---- the object was made
+
+pub new_at-made-requires-clause-within : goal.new_at-made-requires-clause-within
+new_at-made-requires-clause-within g c =
+    let at = c.args.pool.now in
+    let within = subst (λ (ds : List (ℕ × Puddle)). IsSlotOf ds c.in-Ok.at) c.as_slice.ensures.puddles c.in-Ok.ensures.within in
+    subst (λ (ds : List (ℕ × Puddle)). IsSlotOf ds c.in-Ok.at) (sym (c.as_slice-2.ensures.puddles ∙ c.in_ok-finish_both.ensures.pool))
+    (IsSlotOf-moved at (both_finished c.in-Ok.at.ordinal at) c.in-Ok.at (HaveMoved-both c.in-Ok.at.ordinal at) within)
 
 pub returns-clause-makes : goal.returns-clause-makes
 returns-clause-makes g c = λ t size w memory its ready none less.
     let i = c.self.inside in
     let held : Held = record { client = i.client; name = i.name; slot = i.slot; number = i.number; tx = i.tx } in
-    let old = g.H.Host.state c.args.h.now in
-    let new = g.H.Host.state c.new-made.new.h in
-    subst (λ (o : Held).
-    held_under memory.held o.number ≡ Some o → known_in memory.judged o.slot ≡ Some c.args.pool.now → refusal_by_world w o c.args.t ≡ None → grows w o.name ≡ false
-    → Applies size w (with_made o.name c.args.t w) (with_held o.number (Some (with_tx c.new-made.new.self held)) memory) (fault_of c.new-made.result) old new)
+    let F = c.args.frames in
+    let at = c.args.pool.now in
+    let later = c.finish_both.new.pool in
+    let start = g.H.Host.state c.alloc_slot.new.h in
+    let mid = g.H.Host.state c.finish_both.new.h in
+    let new = g.H.Host.state c.new_at-made.new.h in
+    let fault = fault_of c.new_at-made.result in
+    let still = c.in-Ok.ensures.only_reads.stays t in
+    let then = subst (λ (s : State). IsReady size w memory s) (sym still) ready in
+    let same = sym its.frames ∙ ready.frames in
+    let goal = frontiers_of (both_finished c.in-Ok.at.ordinal at) in
+    let owes = c.in_ok-finish_both.ensures.rewrites t in
+    let lowest = subst (λ (ds : List (ℕ × Puddle)). IsLowestFreeSlot (stored_in F ds (reads start.now.words)) (place_of_slot c.in-Ok.at)) c.as_slice.ensures.puddles
+    (c.in-Ok.ensures.free t (reads start.now.words) (ap (λ (s : State). reads s.now.words) (sym still))) in
+    subst (λ (s : State). Applies size w (with_made c.args.self.now.name c.args.t w) (with_opened c.args.self.now.number c.args.self.now.slot (with_tx c.new_at-made.new.self held) later memory) fault s new) still
+    (subst (λ (o : Held).
+    held_under memory.held o.number ≡ Some o → known_in memory.judged o.slot ≡ Some at → refusal_by_world w o c.args.t ≡ None
+    → Applies size w (with_made o.name c.args.t w) (with_opened o.number o.slot (with_tx c.new_at-made.new.self held) later memory) fault start new)
     c.self.view_is
-    (λ there known none less.
-    Applies-made size w memory held old held.number there ready c.args.frames c.args.pool.now (sym its.frames ∙ ready.frames) (sym (held_known size w memory old ready held.number held there c.args.pool.now known)) c.args.t none c.new-made.new.self new c.new-made.ensures.at c.new-made.result less
-    (λ m defined left live placed running. c.new-made.ensures.runs t _ m _ _ _ _ placed running defined left live)
-    (c.new-made.ensures.counts t))
-    its.there its.known none less
+    (λ there known none.
+    let behind = memory_finished size w memory held start held.number there then F same at known goal later in
+    let ready_then = ready_finished size w memory held start held.number there then F same at known goal later mid owes in
+    let known_then = known_finished size w memory held start held.number there then F same at known goal later mid owes in
+    let may = subst (λ (ds : List (ℕ × Puddle)). MayMakeAt F ds (reads mid.now.words) c.in-Ok.at) (sym c.as_slice-2.ensures.puddles)
+    (may_make_at size w memory held start held.number there then F same at known goal later mid owes c.in-Ok.at c.in_ok-finish_both.ensures.pool lowest) in
+    Applies-behind size w memory held start held.number there then F same at known goal later mid owes (with_made held.name c.args.t w) (with_opened held.number held.slot (with_tx c.new_at-made.new.self held) later memory) fault new refl
+    (Applies-made size w behind held mid held.number there ready_then F c.as_slice-2.result.now same (c.as_slice-2.ensures.puddles ∙ its_puddles size w behind held mid held.number there ready_then F same later known_then)
+    c.args.t none c.new_at-made.new.self new c.new_at-made.ensures.at c.new_at-made.result
+    (λ m defined left placed running. c.new_at-made.ensures.runs t _ m _ _ _ _ placed running defined left may.first may.its may.free)
+    c.new_at-made.ensures.counts))
+    its.there its.known none)
 
 pub returns-clause-serial : goal.returns-clause-serial
 returns-clause-serial g c = λ t size w memory its ready less.
     let i = c.self.inside in
     let held : Held = record { client = i.client; name = i.name; slot = i.slot; number = i.number; tx = i.tx } in
-    let old = g.H.Host.state c.args.h.now in
+    let F = c.args.frames in
+    let at = c.args.pool.now in
+    let later = c.finish_both.new.pool in
+    let start = g.H.Host.state c.alloc_slot.new.h in
+    let mid = g.H.Host.state c.finish_both.new.h in
+    let then = subst (λ (s : State). IsReady size w memory s) (sym (c.in-Ok.ensures.only_reads.stays t)) ready in
+    let same = sym its.frames ∙ ready.frames in
+    let goal = frontiers_of (both_finished c.in-Ok.at.ordinal at) in
+    let owes = c.in_ok-finish_both.ensures.rewrites t in
     subst (λ (o : Held).
-    held_under memory.held o.number ≡ Some o → known_in memory.judged o.slot ≡ Some c.args.pool.now → grows w o.name ≡ false
-    → IfOk c.new-made.result (λ serial. serial ≡ next_in (graph_seen (open_on o.name w) (pool_named o.name w.stored))))
+    held_under memory.held o.number ≡ Some o → known_in memory.judged o.slot ≡ Some at → IfOk c.new_at-made.result (λ serial. serial ≡ next_in (graph_seen (open_on o.name w) (pool_named o.name w.stored))))
     c.self.view_is
-    (λ there known less.
-    serial_made size w memory held old held.number there ready c.args.frames c.args.pool.now (sym its.frames ∙ ready.frames) (sym (held_known size w memory old ready held.number held there c.args.pool.now known)) c.new-made.result less (λ is live. c.new-made.ensures.serial t _ _ is live))
-    its.there its.known less
+    (λ there known.
+    let behind = memory_finished size w memory held start held.number there then F same at known goal later in
+    let ready_then = ready_finished size w memory held start held.number there then F same at known goal later mid owes in
+    let known_then = known_finished size w memory held start held.number there then F same at known goal later mid owes in
+    serial_made size w behind held mid held.number there ready_then F c.as_slice-2.result.now same (c.as_slice-2.ensures.puddles ∙ its_puddles size w behind held mid held.number there ready_then F same later known_then)
+    c.new_at-made.result (λ is. c.new_at-made.ensures.serial t _ _ is))
+    its.there its.known
 
 pub returns-clause-full : goal.returns-clause-full
 returns-clause-full g c = λ t size w memory its ready more.
-    let i = c.self.inside in
-    let held : Held = record { client = i.client; name = i.name; slot = i.slot; number = i.number; tx = i.tx } in
+    let held = c.args.self.now in
     let old = g.H.Host.state c.args.h.now in
-    let new = g.H.Host.state c.new-made.new.h in
-    subst (λ (o : Held).
-    held_under memory.held o.number ≡ Some o → known_in memory.judged o.slot ≡ Some c.args.pool.now → grows w o.name ≡ true
-    → IfOk c.new-made.result (λ serial. serial ≡ 0) × (new ≡ old) × (with_tx c.new-made.new.self held ≡ o))
-    c.self.view_is
-    (λ there known more.
-    let full = c.new-made.ensures.full t (all_live size w memory held old held.number there ready c.args.frames c.args.pool.now (sym its.frames ∙ ready.frames) (sym (held_known size w memory old ready held.number held there c.args.pool.now known)) more) in
-    (full.0, full.1, ap (λ (x : OpenTx). with_tx x held) full.2))
-    its.there its.known more
-
-pub returns-clause-rest : goal.returns-clause-rest
-returns-clause-rest g c = λ t. KeepsRest-changes _ _ _ _ (c.new-made.ensures.changes t)
+    let same = sym its.frames ∙ ready.frames in
+    let listed = its_puddles size w memory held old held.number its.there ready c.args.frames same c.args.pool.now its.known in
+    absurd (lowest_is_free (stored_in c.args.frames c.as_slice.result.now (reads old.now.words)) (place_of_slot c.in-Ok.at) (c.in-Ok.ensures.free t (reads old.now.words) refl)
+    (all_live size w memory held old held.number its.there ready c.args.frames c.as_slice.result.now same (c.as_slice.ensures.puddles ∙ listed) more))
 
 pub returns-clause-lowest : goal.returns-clause-lowest
-returns-clause-lowest g c = λ t size w memory its ready none slot of lowest.
+returns-clause-lowest g c = λ t size w memory its ready none slot of lowest first other.
     let i = c.self.inside in
     let held : Held = record { client = i.client; name = i.name; slot = i.slot; number = i.number; tx = i.tx } in
+    let F = c.args.frames in
+    let at = c.args.pool.now in
+    let lent = c.as_slice-2.result.now in
+    let made = c.in-Ok.at in
     let old = g.H.Host.state c.args.h.now in
-    let new = g.H.Host.state c.new-made.new.h in
-    let fault = fault_of c.new-made.result in
-    subst (λ (o : Held).
-    held_under memory.held o.number ≡ Some o → known_in memory.judged o.slot ≡ Some c.args.pool.now → refusal_by_world w o c.args.t ≡ None → IsSlotOf c.args.pool.now slot → IsLowestFreeSlot (stored_in c.args.frames c.args.pool.now (reads old.now.words)) (place_of_slot slot)
-    → MakesIn c.args.frames c.args.pool.now o.tx.log.at slot c.args.t fault old new)
+    let mid = g.H.Host.state c.finish_both.new.h in
+    let new = g.H.Host.state c.new_at-made.new.h in
+    let fault = fault_of c.new_at-made.result in
+    let image : Image = reads old.now.words in
+    let still = c.in-Ok.ensures.only_reads.stays t in
+    let then = subst (λ (s : State). IsReady size w memory s) (sym still) ready in
+    let same = sym its.frames ∙ ready.frames in
+    let found = subst (λ (ds : List (ℕ × Puddle)). IsLowestFreeSlot (stored_in F ds image) (place_of_slot made)) c.as_slice.ensures.puddles (c.in-Ok.ensures.free t image refl) in
+    let within = subst (λ (ds : List (ℕ × Puddle)). IsSlotOf ds made) c.as_slice.ensures.puddles c.in-Ok.ensures.within in
+    let it = one_slot at made slot within of (one_lowest (stored_in F at image) (place_of_slot made) (place_of_slot slot) found lowest) in
+    let its_own = subst (λ (s : Slot). IsRewrittenAt at s.ordinal) (sym it) other in
+    let nothing = none_left size w memory c.args.self.now (g.H.Host.state c.alloc_slot.new.h) c.args.self.now.number its.there then F same at its.known made.ordinal c.finish_both.new.pool None mid (c.in_ok-finish_both.ensures.rewrites t) first its_own in
+    let puddles : lent ≡ at = c.as_slice-2.ensures.puddles ∙ nothing.pool in
+    let ready_then = subst (λ (s : State). IsReady size w memory s) (sym (nothing.still ∙ still)) ready in
+    subst (λ (s : Slot). MakesIn F at c.args.self.now.tx.log.at s c.args.t fault old new) it
+    (subst (λ (s : State). MakesIn F at c.args.self.now.tx.log.at made c.args.t fault s new) (nothing.still ∙ still)
+    (subst (λ (ds : List (ℕ × Puddle)). MakesIn F ds c.args.self.now.tx.log.at made c.args.t fault mid new) puddles
+    (subst (λ (o : Held). held_under memory.held o.number ≡ Some o → known_in memory.judged o.slot ≡ Some at → refusal_by_world w o c.args.t ≡ None → MakesIn F lent o.tx.log.at made c.args.t fault mid new)
     c.self.view_is
     (λ there known none.
-    made_lowest size w memory held old held.number there ready c.args.frames c.args.pool.now (sym its.frames ∙ ready.frames) (sym (held_known size w memory old ready held.number held there c.args.pool.now known)) c.args.t none fault new slot
-    (λ placed running left. c.new-made.ensures.makes t _ _ _ _ _ placed running left slot))
-    its.there its.known none of lowest
+    made_there size w memory held mid held.number there ready_then F lent same (puddles ∙ its_puddles size w memory held mid held.number there ready_then F same at known) c.args.t none fault new made
+    (λ placed running left. c.new_at-made.ensures.makes t _ _ _ _ _ placed running left (subst (λ (ds : List (ℕ × Puddle)). IsRewrittenAt ds 0) (sym puddles) first) (subst (λ (ds : List (ℕ × Puddle)). IsRewrittenAt ds made.ordinal) (sym puddles) its_own)))
+    its.there its.known none)))
+
+pub returns-clause-rest : goal.returns-clause-rest
+returns-clause-rest g c = λ t.
+    KeepsRest-then _ _ _ (KeepsRest-still _ _ (c.in-Ok.ensures.only_reads.stays t)) (KeepsRest-then _ _ _ (c.in_ok-finish_both.ensures.rest t) (KeepsRest-changes _ _ _ _ (c.new_at-made.ensures.changes t)))

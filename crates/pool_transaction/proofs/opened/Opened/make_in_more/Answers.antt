@@ -2,7 +2,7 @@ use Rattle.std.proofs.Common.{◌≡◌, Some, None, IfOk, refl, sym, ap, subst,
 use Rattle.std.proofs.lemmas.Result.{err_from_is_err_and}
 use Rattle.pm_model.specs.Words.{reads}
 use Rattle.registry.specs.Places.{refusal_in}
-use Rattle.pool_transaction.specs.Changing.{IsHeldIn, refusal_by_tables, GrowsBy, with_more}
+use Rattle.pool_transaction.specs.Changing.{refusal_by_tables, GrowsBy, with_more}
 use Rattle.pool_transaction.proofs.HeldLines.{memory_with, new_failed, new_refused, reply_refused, refused_by_tables, new_ungrown, held_then, with_frames, new_in_more, reply_in_more}
 use Rattle.pool_transaction.proofs.HeldMakes.{units_fit}
 use Rattle.pool_transaction.proofs.opened.Opened.make_in_more.Goals as goal
@@ -60,8 +60,8 @@ returns-in_err-serial-clause-applies g c =
     let then = held_then size w memory held old held.number its.there ready c.args.t none more c.args.frames (sym its.frames ∙ ready.frames) c.args.pool.now its.known found c.in-Ok.added by c.grow.new.pool _ _ (c.in_ok-added.ensures.only_reads.stays t) (λ ready_then may. c.in_ok-grow.ensures.grows t size same w memory its ready_then may) in
     new_in_more size w memory held old held.number its.there ready c.args.t none more c.args.frames (sym its.frames ∙ ready.frames) c.args.pool.now its.known found c.in-Ok.added by c.grow.new.pool _ _ (c.in_ok-added.ensures.only_reads.stays t)
     (λ ready_then may. c.in_ok-grow.ensures.grows t size same w memory its ready_then may)
-    c.make.new.self (Some c.in_err-serial.field-0.0) _
-    (λ ready_grown refused less. c.in_err-serial.ensures.makes t size (with_more held.name w) (memory_with size w memory held old held.number its.there ready c.args.t held c.grow.new.pool) (subst (λ at. IsHeldIn c.args.frames held at (memory_with size w memory held old held.number its.there ready c.args.t held c.grow.new.pool)) (sym c.as_slice-2.ensures.puddles) (with_frames its.frames then)) ready_grown refused less))
+    c.make.new.self c.make.new.pool (Some c.in_err-serial.field-0.0) _
+    (λ ready_grown refused less. c.in_err-serial.ensures.makes t size (with_more held.name w) (memory_with size w memory held old held.number its.there ready c.args.t held c.grow.new.pool) (with_frames its.frames then) ready_grown refused less))
 
 pub returns-clause-reply : goal.returns-clause-reply
 returns-clause-reply g c = λ t size e w memory its ready none more.
@@ -76,7 +76,7 @@ returns-clause-reply g c = λ t size e w memory its ready none more.
     reply_in_more size w memory held old held.number its.there ready c.args.t none more c.args.frames (sym its.frames ∙ ready.frames) c.args.pool.now its.known found c.in-Ok.added by c.grow.new.pool _ _ (c.in_ok-added.ensures.only_reads.stays t)
     (λ ready_then may. c.in_ok-grow.ensures.grows t size same w memory its ready_then may)
     c.in_ok-serial.serial
-    (λ ready_grown less. c.in_ok-serial.ensures.serial t size (with_more held.name w) (memory_with size w memory held old held.number its.there ready c.args.t held c.grow.new.pool) (subst (λ at. IsHeldIn c.args.frames held at (memory_with size w memory held old held.number its.there ready c.args.t held c.grow.new.pool)) (sym c.as_slice-2.ensures.puddles) (with_frames its.frames then)) ready_grown less)
+    (λ ready_grown less. c.in_ok-serial.ensures.serial t size (with_more held.name w) (memory_with size w memory held old held.number its.there ready c.args.t held c.grow.new.pool) (with_frames its.frames then) ready_grown less)
 
 pub returns-clause-applies : goal.returns-clause-applies
 returns-clause-applies g c = λ t size e w memory its ready none more.
@@ -90,5 +90,5 @@ returns-clause-applies g c = λ t size e w memory its ready none more.
     let then = held_then size w memory held old held.number its.there ready c.args.t none more c.args.frames (sym its.frames ∙ ready.frames) c.args.pool.now its.known found c.in-Ok.added by c.grow.new.pool _ _ (c.in_ok-added.ensures.only_reads.stays t) (λ ready_then may. c.in_ok-grow.ensures.grows t size same w memory its ready_then may) in
     new_in_more size w memory held old held.number its.there ready c.args.t none more c.args.frames (sym its.frames ∙ ready.frames) c.args.pool.now its.known found c.in-Ok.added by c.grow.new.pool _ _ (c.in_ok-added.ensures.only_reads.stays t)
     (λ ready_then may. c.in_ok-grow.ensures.grows t size same w memory its ready_then may)
-    c.make.new.self None _
-    (λ ready_grown refused less. c.in_ok-serial.ensures.makes t size (with_more held.name w) (memory_with size w memory held old held.number its.there ready c.args.t held c.grow.new.pool) (subst (λ at. IsHeldIn c.args.frames held at (memory_with size w memory held old held.number its.there ready c.args.t held c.grow.new.pool)) (sym c.as_slice-2.ensures.puddles) (with_frames its.frames then)) ready_grown refused less)
+    c.make.new.self c.make.new.pool None _
+    (λ ready_grown refused less. c.in_ok-serial.ensures.makes t size (with_more held.name w) (memory_with size w memory held old held.number its.there ready c.args.t held c.grow.new.pool) (with_frames its.frames then) ready_grown refused less)

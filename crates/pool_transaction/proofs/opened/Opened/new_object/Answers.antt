@@ -50,11 +50,10 @@ returns-in_err-serial-clause-applies g c =
     let none =
     refusal_found size w memory held old held.number its.there ready c.args.t c.args.frames (sym its.frames ∙ ready.frames) c.as_slice.result.now (c.as_slice.ensures.puddles ∙ sym (held_known size w memory _ ready c.args.self.now.number c.args.self.now its.there c.args.pool.now its.known)) c.in_ok-refusal.field-0 None (c.in_ok-refusal.ensures.refusal t (reads old.now.words) refl) c.in_default.is in
     let then = subst (λ (s : State). IsReady size w memory s) (sym still) ready in
-    let slice = subst (λ at. IsHeldIn c.args.frames c.args.self.now at memory) (sym c.as_slice-2.ensures.puddles) its in
-    subst (λ (s : State). Applies size w (world_by w (Some (New held.client held.name c.args.t))) (with_opened held.number held.slot c.make.new.self c.args.pool.now memory) (Some c.in_err-serial.field-0.0) s new) still
-    (new_unmade size w memory held start held.number its.there then c.args.t none c.make.new.self c.args.pool.now c.in_err-serial.field-0.0 new its.known
-    (λ less. c.in_err-serial.ensures.makes t size w memory slice then none less)
-    (λ more. (c.in_err-serial.ensures.full t size w memory slice then more).1)
+    subst (λ (s : State). Applies size w (world_by w (Some (New held.client held.name c.args.t))) (with_opened held.number held.slot c.make.new.self c.make.new.pool memory) (Some c.in_err-serial.field-0.0) s new) still
+    (new_unmade size w memory held start held.number its.there then c.args.t none c.make.new.self c.make.new.pool c.in_err-serial.field-0.0 new
+    (λ less. c.in_err-serial.ensures.makes t size w memory its then none less)
+    (λ more. (c.in_err-serial.ensures.full t size w memory its then more).1)
     (c.in_err-serial.ensures.rests t)))
 
 pub returns-then-serial-gt0-clause-reply : goal.returns-then-serial-gt0-clause-reply
@@ -65,9 +64,8 @@ returns-then-serial-gt0-clause-reply g c = λ t size e w memory its ready.
     let none =
     refusal_found size w memory held old held.number its.there ready c.args.t c.args.frames (sym its.frames ∙ ready.frames) c.as_slice.result.now (c.as_slice.ensures.puddles ∙ sym (held_known size w memory _ ready c.args.self.now.number c.args.self.now its.there c.args.pool.now its.known)) c.in_ok-refusal.field-0 None (c.in_ok-refusal.ensures.refusal t (reads old.now.words) refl) c.in_default.is in
     let then = subst (λ (s : State). IsReady size w memory s) (sym (c.in_ok-refusal.ensures.only_reads.stays t)) ready in
-    let slice = subst (λ at. IsHeldIn c.args.frames c.args.self.now at memory) (sym c.as_slice-2.ensures.puddles) its in
-    let less = was_free size w memory held start held.number its.there then c.args.t none c.in_ok-serial.serial c.if-serial-gt0.true (λ more. (c.in_ok-serial.ensures.full t size w memory slice then more).0) in
-    reply_made size w memory held start held.number its.there then c.args.t none c.in_ok-serial.serial less (c.in_ok-serial.ensures.serial t size w memory slice then less)
+    let less = was_free size w memory held start held.number its.there then c.args.t none c.in_ok-serial.serial c.if-serial-gt0.true (λ more. (c.in_ok-serial.ensures.full t size w memory its then more).0) in
+    reply_made size w memory held start held.number its.there then c.args.t none c.in_ok-serial.serial less (c.in_ok-serial.ensures.serial t size w memory its then less)
 
 pub returns-then-serial-gt0-clause-applies : goal.returns-then-serial-gt0-clause-applies
 returns-then-serial-gt0-clause-applies g c = λ t size e w memory its ready.
@@ -79,10 +77,9 @@ returns-then-serial-gt0-clause-applies g c = λ t size e w memory its ready.
     let none =
     refusal_found size w memory held old held.number its.there ready c.args.t c.args.frames (sym its.frames ∙ ready.frames) c.as_slice.result.now (c.as_slice.ensures.puddles ∙ sym (held_known size w memory _ ready c.args.self.now.number c.args.self.now its.there c.args.pool.now its.known)) c.in_ok-refusal.field-0 None (c.in_ok-refusal.ensures.refusal t (reads old.now.words) refl) c.in_default.is in
     let then = subst (λ (s : State). IsReady size w memory s) (sym still) ready in
-    let slice = subst (λ at. IsHeldIn c.args.frames c.args.self.now at memory) (sym c.as_slice-2.ensures.puddles) its in
-    let less = was_free size w memory held start held.number its.there then c.args.t none c.in_ok-serial.serial c.if-serial-gt0.true (λ more. (c.in_ok-serial.ensures.full t size w memory slice then more).0) in
-    subst (λ (s : State). Applies size w (world_by w (Some (New held.client held.name c.args.t))) (with_opened held.number held.slot c.make.new.self c.args.pool.now memory) None s new) still
-    (new_made size w memory held start held.number its.there then c.args.t none c.make.new.self c.args.pool.now None new its.known less (c.in_ok-serial.ensures.makes t size w memory slice then none less))
+    let less = was_free size w memory held start held.number its.there then c.args.t none c.in_ok-serial.serial c.if-serial-gt0.true (λ more. (c.in_ok-serial.ensures.full t size w memory its then more).0) in
+    subst (λ (s : State). Applies size w (world_by w (Some (New held.client held.name c.args.t))) (with_opened held.number held.slot c.make.new.self c.make.new.pool memory) None s new) still
+    (new_made size w memory held start held.number its.there then c.args.t none c.make.new.self c.make.new.pool None new less (c.in_ok-serial.ensures.makes t size w memory its then none less))
 
 pub returns-clause-reply : goal.returns-clause-reply
 returns-clause-reply g c = λ t size e w memory its ready.
@@ -93,14 +90,13 @@ returns-clause-reply g c = λ t size e w memory its ready.
     let none =
     refusal_found size w memory held old held.number its.there ready c.args.t c.args.frames (sym its.frames ∙ ready.frames) c.as_slice.result.now (c.as_slice.ensures.puddles ∙ sym (held_known size w memory _ ready c.args.self.now.number c.args.self.now its.there c.args.pool.now its.known)) c.in_ok-refusal.field-0 None (c.in_ok-refusal.ensures.refusal t (reads old.now.words) refl) c.in_default.is in
     let then = subst (λ (s : State). IsReady size w memory s) (sym (c.in_ok-refusal.ensures.only_reads.stays t)) ready in
-    let slice = subst (λ at. IsHeldIn c.args.frames c.args.self.now at memory) (sym c.as_slice-2.ensures.puddles) its in
-    let more = was_full size w memory held start held.number its.there then c.args.t none c.in_ok-serial.serial c.if-serial-gt0.false (λ less. c.in_ok-serial.ensures.serial t size w memory slice then less) in
-    let full = c.in_ok-serial.ensures.full t size w memory slice then more in
+    let more = was_full size w memory held start held.number its.there then c.args.t none c.in_ok-serial.serial c.if-serial-gt0.false (λ less. c.in_ok-serial.ensures.serial t size w memory its then less) in
+    let full = c.in_ok-serial.ensures.full t size w memory its then more in
     let after = subst (λ (s : State). IsReady size w memory s) (sym full.1) then in
     let same : size ≡ (g.H.Host.counts c.make.new.h).size =
     still_size c.in_ok-refusal.ensures.only_reads e ∙ sym (ap (λ (n : Counts). n.size) c.in_ok-serial.ensures.cause) in
-    subst (λ (o : Held). IsHeldIn c.args.frames o c.args.pool.now memory → refusal_by_world w o c.args.t ≡ None → grows w o.name ≡ true → IfOk c.make_in_more.result (λ reply. of_reply reply ≡ answer_by w (Some (New o.client o.name c.args.t)))) full.2
-    (λ its none more. c.make_in_more.ensures.reply t size same w memory its after none more) its none more
+    subst (λ (o : Held). IsHeldIn c.args.frames o c.make.new.pool memory → refusal_by_world w o c.args.t ≡ None → grows w o.name ≡ true → IfOk c.make_in_more.result (λ reply. of_reply reply ≡ answer_by w (Some (New o.client o.name c.args.t)))) full.2
+    (λ its none more. c.make_in_more.ensures.reply t size same w memory its after none more) (subst (λ at. IsHeldIn c.args.frames held at memory) (sym full.3) its) none more
 
 pub returns-clause-applies : goal.returns-clause-applies
 returns-clause-applies g c = λ t size e w memory its ready.
@@ -113,13 +109,12 @@ returns-clause-applies g c = λ t size e w memory its ready.
     let none =
     refusal_found size w memory held old held.number its.there ready c.args.t c.args.frames (sym its.frames ∙ ready.frames) c.as_slice.result.now (c.as_slice.ensures.puddles ∙ sym (held_known size w memory _ ready c.args.self.now.number c.args.self.now its.there c.args.pool.now its.known)) c.in_ok-refusal.field-0 None (c.in_ok-refusal.ensures.refusal t (reads old.now.words) refl) c.in_default.is in
     let then = subst (λ (s : State). IsReady size w memory s) (sym still) ready in
-    let slice = subst (λ at. IsHeldIn c.args.frames c.args.self.now at memory) (sym c.as_slice-2.ensures.puddles) its in
-    let more = was_full size w memory held start held.number its.there then c.args.t none c.in_ok-serial.serial c.if-serial-gt0.false (λ less. c.in_ok-serial.ensures.serial t size w memory slice then less) in
-    let full = c.in_ok-serial.ensures.full t size w memory slice then more in
+    let more = was_full size w memory held start held.number its.there then c.args.t none c.in_ok-serial.serial c.if-serial-gt0.false (λ less. c.in_ok-serial.ensures.serial t size w memory its then less) in
+    let full = c.in_ok-serial.ensures.full t size w memory its then more in
     let after = subst (λ (s : State). IsReady size w memory s) (sym full.1) then in
     let same : size ≡ (g.H.Host.counts c.make.new.h).size =
     still_size c.in_ok-refusal.ensures.only_reads e ∙ sym (ap (λ (n : Counts). n.size) c.in_ok-serial.ensures.cause) in
     subst (λ (s : State). Applies size w (world_by w (Some (New held.client held.name c.args.t))) (with_opened held.number held.slot c.make_in_more.new.self c.make_in_more.new.pool memory) (fault_of c.make_in_more.result) s new) (full.1 ∙ still)
-    (subst (λ (o : Held). IsHeldIn c.args.frames o c.args.pool.now memory → refusal_by_world w o c.args.t ≡ None → grows w o.name ≡ true
+    (subst (λ (o : Held). IsHeldIn c.args.frames o c.make.new.pool memory → refusal_by_world w o c.args.t ≡ None → grows w o.name ≡ true
     → Applies size w (world_by w (Some (New o.client o.name c.args.t))) (with_opened o.number o.slot c.make_in_more.new.self c.make_in_more.new.pool memory) (fault_of c.make_in_more.result) mid new) full.2
-    (λ its none more. c.make_in_more.ensures.applies t size same w memory its after none more) its none more)
+    (λ its none more. c.make_in_more.ensures.applies t size same w memory its after none more) (subst (λ at. IsHeldIn c.args.frames held at memory) (sym full.3) its) none more)

@@ -6,7 +6,7 @@ use Rattle.pm_model.proofs.Reading.{Changes-read}
 use Rattle.hybrid_tx.specs.Grounds.{pool_ground}
 use Rattle.hybrid_tx.proofs.Objects.FieldPut.{RunsOn-stopped}
 use Rattle.hybrid_tx.proofs.Objects.ObjectPut.{serial_is_next, Changes-made, MakesIn-stopped, MakesIn-unput, MakesIn-new, RunsOn-unput, RunsOn-new}
-use Rattle.hybrid_tx.proofs.Tx.make.Goals as goal
+use Rattle.hybrid_tx.proofs.Tx.new_at.Goals as goal
 
 pub returns-in_err-serial-clause-changes : goal.returns-in_err-serial-clause-changes
 returns-in_err-serial-clause-changes g c =
@@ -16,7 +16,7 @@ returns-in_err-serial-clause-changes g c =
 pub returns-in_err-serial-clause-runs : goal.returns-in_err-serial-clause-runs
 returns-in_err-serial-clause-runs g c =
     let p = err_from_is_err_and c.from_residual.result c.from_residual.ensures.1 in
-    rw (p.1, p.2) (λ t types m before undone now laters placed is_open defined room free.
+    rw (p.1, p.2) (λ t types m before undone now laters placed is_open defined room root rewritten free.
     RunsOn-stopped _ _ types c.args.self.now.log _ before undone now laters _ _ _ refl c.in_err-serial.ensures.only_reads t is_open)
 
 pub put_in_frame-requires-clause-there : goal.put_in_frame-requires-clause-there
@@ -25,9 +25,9 @@ put_in_frame-requires-clause-there g c = slice_get_within c.args.pool.now c.args
 pub returns-in_err-put_in_frame-clause-runs : goal.returns-in_err-put_in_frame-clause-runs
 returns-in_err-put_in_frame-clause-runs g c =
     let p = err_from_is_err_and c.from_residual-in_err-put_in_frame.result c.from_residual-in_err-put_in_frame.ensures.1 in
-    rw (p.1, p.2) (λ t types m before undone now laters placed is_open defined room free.
+    rw (p.1, p.2) (λ t types m before undone now laters placed is_open defined room root rewritten free.
     RunsOn-unput c.args.frames c.args.pool.now types c.args.self.now.log before undone now laters _ is_open _ _ _ _ (c.args.at.now.frame, c.requires.within.puddle) _ _ _ _
-    (c.in_ok-serial.ensures.only_reads.stays t) c.requires.within.there (c.in_err-put_in_frame.ensures.saves t placed))
+    (c.in_ok-serial.ensures.only_reads.stays t) c.requires.within.there (rewritten.each (c.args.at.now.frame, c.requires.within.puddle) c.requires.within.there) (c.in_err-put_in_frame.ensures.saves t placed))
 
 pub returns-in_err-put_in_frame-2-clause-changes : goal.returns-in_err-put_in_frame-2-clause-changes
 returns-in_err-put_in_frame-2-clause-changes g c =
@@ -38,10 +38,10 @@ pub returns-in_err-put_in_frame-2-clause-runs : goal.returns-in_err-put_in_frame
 returns-in_err-put_in_frame-2-clause-runs g c =
     let p = err_from_is_err_and c.from_residual-in_err-put_in_frame-2.result c.from_residual-in_err-put_in_frame-2.ensures.1 in
     let some = slice_get_within c.args.pool.now c.args.at.now.ordinal (c.args.at.now.frame, c.requires.within.puddle) c.requires.within.there in
-    rw (p.1, p.2) (λ t types m before undone now laters placed is_open defined room free.
+    rw (p.1, p.2) (λ t types m before undone now laters placed is_open defined room root rewritten free.
     RunsOn-new c.args.frames c.args.pool.now types c.args.self.now.log before undone now laters (g.H.Host.state c.args.h.now) is_open _ _ _ _ c.args.at.now c.in_ok-serial.serial _ c.args.t m _ _ _ _ _ _
     placed c.requires.device c.requires.place c.in_ok-put_in_frame.ensures.at c.in_err-put_in_frame-2.ensures.at (c.in_ok-serial.ensures.only_reads.stays t)
-    (slice_get-get_or c.args.pool.now 0 _ (omega (arith, some))) c.requires.within free (c.in_ok-serial.ensures.word t (reads (g.H.Host.state c.args.h.now).now.words) refl) defined room
+    (slice_get-get_or c.args.pool.now 0 _ (omega (arith, some))) c.requires.within root rewritten free (c.in_ok-serial.ensures.word t (reads (g.H.Host.state c.args.h.now).now.words) refl) defined room
     c.slot_begins.ensures c.new_words-words.ensures (c.in_ok-put_in_frame.ensures.saves t placed) refl (c.in_err-put_in_frame-2.ensures.saves t placed))
 
 pub returns-clause-changes : goal.returns-clause-changes
@@ -49,11 +49,11 @@ returns-clause-changes g c = λ t.
     Changes-made (pool_ground c.args.frames c.args.pool.now) _ _ None _ _ _ _ (c.in_ok-serial.ensures.only_reads.stays t) c.in_ok-put_in_frame.ensures.at (c.in_ok-put_in_frame.ensures.changes t) (c.in_ok-put_in_frame-2.ensures.changes t)
 
 pub returns-clause-runs : goal.returns-clause-runs
-returns-clause-runs g c = λ t types m before undone now laters placed is_open defined room free.
+returns-clause-runs g c = λ t types m before undone now laters placed is_open defined room root rewritten free.
     let some = slice_get_within c.args.pool.now c.args.at.now.ordinal (c.args.at.now.frame, c.requires.within.puddle) c.requires.within.there in
     RunsOn-new c.args.frames c.args.pool.now types c.args.self.now.log before undone now laters (g.H.Host.state c.args.h.now) is_open _ _ _ _ c.args.at.now c.in_ok-serial.serial _ c.args.t m _ _ None _ _ _
     placed c.requires.device c.requires.place c.in_ok-put_in_frame.ensures.at c.in_ok-put_in_frame-2.ensures.at (c.in_ok-serial.ensures.only_reads.stays t)
-    (slice_get-get_or c.args.pool.now 0 _ (omega (arith, some))) c.requires.within free (c.in_ok-serial.ensures.word t (reads (g.H.Host.state c.args.h.now).now.words) refl) defined room
+    (slice_get-get_or c.args.pool.now 0 _ (omega (arith, some))) c.requires.within root rewritten free (c.in_ok-serial.ensures.word t (reads (g.H.Host.state c.args.h.now).now.words) refl) defined room
     c.slot_begins.ensures c.new_words-words.ensures (c.in_ok-put_in_frame.ensures.saves t placed) refl (c.in_ok-put_in_frame-2.ensures.saves t placed)
 
 pub returns-clause-serial : goal.returns-clause-serial
@@ -68,7 +68,7 @@ pub returns-in_err-serial-clause-makes : goal.returns-in_err-serial-clause-makes
 returns-in_err-serial-clause-makes g c =
     let p = err_from_is_err_and c.from_residual.result c.from_residual.ensures.1 in
     let some = slice_get_within c.args.pool.now c.args.at.now.ordinal (c.args.at.now.frame, c.requires.within.puddle) c.requires.within.there in
-    rw (p.1, p.2) (λ t types before undone now laters placed is_open room.
+    rw (p.1, p.2) (λ t types before undone now laters placed is_open room root rewritten.
     MakesIn-stopped c.args.frames c.args.pool.now _ c.args.at.now c.requires.within _ c.args.t _ _ _
     (slice_get-get_or c.args.pool.now 0 (c.args.at.now.frame, c.requires.within.puddle) (omega (arith, some)))
     c.in_err-serial.ensures.only_reads.never_cut (c.in_err-serial.ensures.only_reads.stays t))
@@ -77,7 +77,7 @@ pub returns-in_err-put_in_frame-clause-makes : goal.returns-in_err-put_in_frame-
 returns-in_err-put_in_frame-clause-makes g c =
     let p = err_from_is_err_and c.from_residual-in_err-put_in_frame.result c.from_residual-in_err-put_in_frame.ensures.1 in
     let some = slice_get_within c.args.pool.now c.args.at.now.ordinal (c.args.at.now.frame, c.requires.within.puddle) c.requires.within.there in
-    rw (p.1, p.2) (λ t types before undone now laters placed is_open room.
+    rw (p.1, p.2) (λ t types before undone now laters placed is_open room root rewritten.
     MakesIn-unput c.args.frames c.args.pool.now _ c.args.at.now c.requires.within _ c.args.t (g.H.Host.state c.args.h.now) c.in_ok-serial.serial _ _ _ _ _ (slice_get-get_or c.args.pool.now 0 _ (omega (arith, some)))
     (c.in_ok-serial.ensures.only_reads.stays t) (c.in_ok-serial.ensures.word t (reads (g.H.Host.state c.args.h.now).now.words) refl) c.slot_begins.ensures c.new_words-words.ensures (c.in_err-put_in_frame.ensures.puts t))
 
@@ -85,18 +85,18 @@ pub returns-in_err-put_in_frame-2-clause-makes : goal.returns-in_err-put_in_fram
 returns-in_err-put_in_frame-2-clause-makes g c =
     let p = err_from_is_err_and c.from_residual-in_err-put_in_frame-2.result c.from_residual-in_err-put_in_frame-2.ensures.1 in
     let some = slice_get_within c.args.pool.now c.args.at.now.ordinal (c.args.at.now.frame, c.requires.within.puddle) c.requires.within.there in
-    rw (p.1, p.2) (λ t types before undone now laters placed is_open room.
+    rw (p.1, p.2) (λ t types before undone now laters placed is_open room root rewritten.
     MakesIn-new c.args.frames c.args.pool.now types c.args.self.now.log before undone now laters (g.H.Host.state c.args.h.now) is_open _ _ _ c.args.at.now c.in_ok-serial.serial _ c.args.t _ _ _ _ _ _
     c.in_ok-put_in_frame.ensures.at c.in_err-put_in_frame-2.ensures.at (c.in_ok-serial.ensures.only_reads.stays t)
-    (slice_get-get_or c.args.pool.now 0 _ (omega (arith, some))) c.requires.within (c.in_ok-serial.ensures.word t (reads (g.H.Host.state c.args.h.now).now.words) refl) room
+    (slice_get-get_or c.args.pool.now 0 _ (omega (arith, some))) c.requires.within root rewritten (c.in_ok-serial.ensures.word t (reads (g.H.Host.state c.args.h.now).now.words) refl) room
     c.slot_begins.ensures c.new_words-words.ensures (c.in_ok-put_in_frame.ensures.saves t placed) (c.in_ok-put_in_frame.ensures.puts t) refl
     (c.in_err-put_in_frame-2.ensures.saves t placed) (c.in_err-put_in_frame-2.ensures.puts t))
 
 pub returns-clause-makes : goal.returns-clause-makes
-returns-clause-makes g c = λ t types before undone now laters placed is_open room.
+returns-clause-makes g c = λ t types before undone now laters placed is_open room root rewritten.
     let some = slice_get_within c.args.pool.now c.args.at.now.ordinal (c.args.at.now.frame, c.requires.within.puddle) c.requires.within.there in
     MakesIn-new c.args.frames c.args.pool.now types c.args.self.now.log before undone now laters (g.H.Host.state c.args.h.now) is_open _ _ _ c.args.at.now c.in_ok-serial.serial _ c.args.t _ _ None _ _ _
     c.in_ok-put_in_frame.ensures.at c.in_ok-put_in_frame-2.ensures.at (c.in_ok-serial.ensures.only_reads.stays t)
-    (slice_get-get_or c.args.pool.now 0 _ (omega (arith, some))) c.requires.within (c.in_ok-serial.ensures.word t (reads (g.H.Host.state c.args.h.now).now.words) refl) room
+    (slice_get-get_or c.args.pool.now 0 _ (omega (arith, some))) c.requires.within root rewritten (c.in_ok-serial.ensures.word t (reads (g.H.Host.state c.args.h.now).now.words) refl) room
     c.slot_begins.ensures c.new_words-words.ensures (c.in_ok-put_in_frame.ensures.saves t placed) (c.in_ok-put_in_frame.ensures.puts t) refl
     (c.in_ok-put_in_frame-2.ensures.saves t placed) (c.in_ok-put_in_frame-2.ensures.puts t)

@@ -1,0 +1,303 @@
+-- Frontiers of a pool move on beside what is held, on the pool itself too: the world stays.
+use Rattle.std.proofs.Common.{◌≡◌, ◌≢◌, inl, inr, ℕ, zero, suc, ◌<◌, ◌≤◌, true, false, ◌-◌, not, eqb, List, [], ◌∷◌, Option, Some, None, is_some, refl, sym, ap, subst, ◌∙◌, arith}
+use Rattle.std.specs.Prelude.{set, slice_get}
+use Rattle.std.proofs.lemmas.Bool.{and_parts}
+use Rattle.std.proofs.lemmas.List.{get_or-set_same, get_or-set_other, set-set}
+use Rattle.std.proofs.lemmas.Option.{none-some, same_Some}
+use Rattle.pm_model.specs.declared.host.HostFault.{HostFault}
+use Rattle.pm_model.specs.declared.host.HostFault.TheVariants.{Cut}
+use Rattle.pm_model.specs.Words.{HasOnly, reads}
+use Rattle.pm_model.specs.Moments.{State}
+use Rattle.pm_model.specs.Changes.{Write}
+use Rattle.pm_model.proofs.Changes.{Changes-said}
+use Rattle.pm_model.proofs.Words.{HasOnly-own, HasOnly-newest}
+use Rattle.pud_defs.specs.declared.layout.TheConstants.{DAEMON_LOG, CLIENTS}
+use Rattle.pud_defs.specs.declared.records.Puddle.{Puddle}
+use Rattle.pud_defs.specs.declared.records.PoolRec.{PoolRec}
+use Rattle.pud_defs.specs.declared.records.TheConstants.{POOL_RECORDS}
+use Rattle.pud_defs.specs.Image.{Image}
+use Rattle.pud_defs.specs.SoundTables.{is_pool, is_sound_puddle, is_legal_member, HasSoundTables}
+use Rattle.pud_defs.specs.Spaces.{owner_of}
+use Rattle.pud_defs.specs.Tables.{Tables, tables_of, puddles_in_turn}
+use Rattle.pud_defs.specs.Types.{types_of}
+use Rattle.pud_defs.specs.World.{World, closed}
+use Rattle.pud_defs.proofs.Replay.{outside_log}
+use Rattle.pud_defs.proofs.SoundChanged.{legal_puddle}
+use Rattle.graph_laws.specs.Steps.{with_steps}
+use Rattle.lazy_rewrite.specs.Batches.{AreNextSteps, CommitsSteps, RewritesOnce, RewritesInTurn, Rewrites}
+use Rattle.lazy_rewrite.proofs.Stepped.{member_of_pool}
+use Rattle.hybrid_tx.specs.Grounds.{pool_mine, IsPlaced}
+use Rattle.hybrid_tx.specs.Open.Masks.{is_open_record, open_mask, IsOpenPool}
+use Rattle.hybrid_tx.specs.Open.ManyOpen.{with_transaction}
+use Rattle.hybrid_tx.specs.Objects.Transactions.{RestsAs}
+use Rattle.hybrid_tx.proofs.PoolGrounds.{pool_mine-each}
+use Rattle.ready_daemon.specs.Judged.{known_in}
+use Rattle.ready_daemon.specs.KnownPools.{KnowsPools}
+use Rattle.ready_daemon.specs.Memory.{Held, Memory, held_under}
+use Rattle.ready_daemon.specs.Held.{pool_held, open_held, IsHeld, KeepsHeld, ByOthers}
+use Rattle.ready_daemon.specs.Ready.{IsReady, AppliesMasked, Applies}
+use Rattle.ready_daemon.proofs.Applying.{Applies-still, Applies-stopped, Applies-then, Applies-known}
+use Rattle.ready_daemon.proofs.Beside.{held_is, opens_apart_from, moments_beside, durable_frames_still, Applies-beside}
+use Rattle.ready_daemon.proofs.InTurn.{held_there_known, known_in_turn, held_known}
+use Rattle.ready_daemon.proofs.JudgedKept.{HasGraphIn, KeepsPools}
+use Rattle.ready_daemon.proofs.JudgedOpen.{IsShut, known_within, AreJudged-grown, KnowsPools-grown}
+use Rattle.ready_daemon.proofs.PoolsBeside.{one_slot, used_still}
+use Rattle.ready_daemon.proofs.RestBeside.{held_graph, rest_beside}
+use Rattle.ready_daemon.proofs.TablesBeside.{types_read, sound_read}
+use Rattle.pool_transaction.proofs.HeldAnew.{opens_anew, was_one, then_one, wide, holds_anew, settled_anew, rest_anew, logs_anew}
+use Rattle.pool_transaction.proofs.HeldStepped.{before, pool_stepped, mask_stepped, records_stepped, held_stepped}
+use Rattle.pool_transaction.proofs.StepsBeside.{IsShutIn, cases_held, known_placed, steps_apply}
+use Rattle.pool_transaction.proofs.Widened.{IsMaskedMore}
+use Rattle.pool_transaction.proofs.StepsKept.{listed_then, graph_then, tables_then, sound_then, KeepsPools-steps}
+
+-- what is known anyway is kept again
+set-known : (judged : List (Option (List (ℕ × Puddle)))) (slot : ℕ) (at : List (ℕ × Puddle)) → known_in judged slot ≡ Some at → set judged slot (Some at) ≡ judged
+set-known [] slot at known = absurd (none-some at known)
+set-known (x ∷ judged) zero at known = ap (λ (y : Option (List (ℕ × Puddle))). y ∷ judged) (sym known)
+set-known (x ∷ judged) (suc slot) at known = ap (λ (ys : List (Option (List (ℕ × Puddle)))). x ∷ ys) (set-known judged slot at known)
+
+-- what is held is so of the same world
+keeps_world : (w : World) (held : List (Option Held)) → KeepsHeld w w held
+keeps_world w held = record { frames = refl; transactions = refl; present = λ n h there. refl; stored = λ n h there. refl; types = λ id m is. is; graphs = λ st g is. is }
+
+-- ---- one batch
+
+module _ (size : ℕ) (w : World) (memory : Memory) (slot : ℕ) (at : List (ℕ × Puddle)) (old new : State) (ready : IsReady size w memory old) (known : known_in memory.judged slot ≡ Some at)
+    (goal : ℕ → ℕ) (o m : ℕ) (e : ℕ × Puddle) (next : AreNextSteps at goal o m e) (rec : PoolRec) (low : slot < POOL_RECORDS)
+    (used : (tables_of w.stored.frames (reads old.now.words)).pools slot ≡ Some rec) where
+  abbrev F : ℕ
+  F = w.stored.frames
+
+  abbrev image : Image
+  image = reads old.now.words
+
+  abbrev now : Image
+  now = reads new.now.words
+
+  abbrev with_them : List (ℕ × Puddle)
+  with_them = with_steps o m e at
+
+  abbrev behind : Memory
+  behind = record memory { judged = set memory.judged slot (Some with_them) }
+
+  -- where it failed no more is owed
+  pub Applies-failed_steps : (fault : HostFault) (then : Memory) → CommitsSteps F at o m e (Some fault) old new → Applies size w w then (Some fault) old new
+  Applies-failed_steps fault then c =
+      let a = steps_apply size w memory slot at old ready known goal o m e next rec low used (Some fault) new c in
+      record {
+        moments = moments_beside size w w memory (Some fault) old new ready refl a;
+        quiet = Changes-said (ByOthers ready.mask) (Some fault) old new a.beside.changes;
+        ready = λ done. absurd (none-some fault (sym done));
+        rests = a.beside.changes.rests;
+        script = a.beside.changes.script;
+      }
+
+  module _ (c : CommitsSteps F at o m e None old new) where
+    done : AppliesMasked size w w ready.mask None old new
+    done = steps_apply size w memory slot at old ready known goal o m e next rec low used None new c
+
+    graph_then_is : HasGraphIn F slot now with_them
+    graph_then_is = graph_then size w memory slot at old new ready known goal o m e next c
+
+    -- ---- none is held on the pool
+
+    Applies-shut : IsShutIn memory.held slot → Applies size w w behind None old new
+    Applies-shut shut =
+        let keeps = KeepsPools-steps size w memory slot at old new ready known goal o m e next c in
+        Applies-beside size w w memory None old new ready (keeps_world w memory.held) done behind refl refl refl
+        (λ _. record {
+          judged = AreJudged-grown F slot memory.judged with_them image now keeps graph_then_is ready.knows.judged;
+          open_pools = λ number x there.
+              get_or-set_other memory.judged slot x.pool.slot (Some with_them) None (opens_apart_from w memory.held ready.mask old.now.words ready.held slot shut.each number x there)
+              ∙ ready.knows.open_pools number x there;
+        })
+        (λ _. rest_beside size w memory old ready (Some slot) new (λ number h there same. shut.each number h there (sym (same_Some slot h.slot same))) keeps (done.beside.single refl))
+
+-- ---- one batch, with a transaction held on the pool
+
+module _ (size : ℕ) (w : World) (memory : Memory) (old new : State) (ready : IsReady size w memory old) (number : ℕ) (held : Held) (there : held_under memory.held number ≡ Some held) where
+  abbrev its : IsHeld w held ready.mask old.now.words
+  its = held_is w memory.held ready.mask old.now.words ready.held number held there
+
+  abbrev known_its : known_in memory.judged held.slot ≡ Some its.at
+  known_its = held_there_known size w memory old ready number held there
+
+  module _ (goal : ℕ → ℕ) (o m : ℕ) (e : ℕ × Puddle) (next : AreNextSteps its.at goal o m e) (c : CommitsSteps w.stored.frames its.at o m e None old new) where
+    abbrev n : ℕ
+    n = w.stored.frames
+
+    abbrev stepped_its : List (ℕ × Puddle)
+    stepped_its = with_steps o m e its.at
+
+    applied : AppliesMasked size w w ready.mask None old new
+    applied =
+        steps_apply size w memory held.slot its.at old ready known_its goal o m e next its.rec its.pool.slot (used_still w held ready.mask old.now.words its) None new c
+
+    keeps_others : KeepsPools n (Some held.slot) (reads old.now.words) (reads new.now.words)
+    keeps_others = KeepsPools-steps size w memory held.slot its.at old new ready known_its goal o m e next c
+
+    -- the words of others that rest do so still
+    rest_others : (i : ℕ) (h : Held) (has : held_under memory.held i ≡ Some h) → i ≢ number → RestsAs n (ready.held.each i h has).is.at (ready.held.each i h has).is.before new.now.words
+    rest_others i h has apart =
+        let other = held_is w memory.held ready.mask old.now.words ready.held i h has in
+        record {
+          each = λ k mine none.
+              let from = (pool_mine-each n other.at k mine).low in
+              let was = other.running.rests.each k mine none in
+              let same = keeps_others.words h.slot other.at
+              (λ it. apart (one_slot w memory.held ready.mask old.now.words ready.held i number h held has there (sym (same_Some held.slot h.slot it)))) (held_graph size w memory old ready i h has) k mine in
+              subst (λ (v : ℕ). HasOnly (new.now.words k) v) (same ∙ HasOnly-newest (old.now.words k) (other.before k) was)
+              ((applied.beside.single refl).each k (outside_log DAEMON_LOG k (inr (omega arith))) (HasOnly-own (old.now.words k) (other.before k) was));
+        }
+
+    types_were : types_of (reads old.now.words) ≡ w.stored.types
+    types_were = (types_read size w memory old ready).types
+
+    owner_then : owner_of (reads new.now.words) held.client ≡ w.clients held.client
+    owner_then = let whose = its.owner in let few = its.pool.known in applied.clients refl held.client (omega (arith, whose, few))
+
+    sound_after : HasSoundTables w.stored.next_number (tables_of n (reads new.now.words))
+    sound_after = sound_then size w memory held.slot its.at old new ready known_its goal o m e next c
+
+    same_pools : (tables_of n (reads new.now.words)).pools held.slot ≡ (tables_of n (reads old.now.words)).pools held.slot
+    same_pools = ap (λ (t : Tables). t.pools held.slot) (tables_then size w memory held.slot its.at old new ready known_its goal o m e next c)
+
+    placed_its : IsPlaced n its.at
+    placed_its = known_placed size w memory held.slot its.at old ready known_its
+
+    listed_its : puddles_in_turn (tables_of n (reads new.now.words)) held.slot ≡ stepped_its
+    listed_its = listed_then size w memory held.slot its.at old new ready known_its goal o m e next c
+
+    abbrev was_before : Image
+    was_before = before w held ready.mask old new its goal o m e next c types_were applied.beside.changes (applied.beside.single refl)
+
+    its_pool : IsOpenPool n (pool_held held stepped_its its.rec its.who) was_before
+    its_pool = pool_stepped w held ready.mask old new its goal o m e next c types_were applied.beside.changes (applied.beside.single refl) w.stored.next_number sound_after same_pools owner_then placed_its listed_its
+
+    its_records : (k : ℕ) → is_open_record (pool_held held stepped_its its.rec its.who) k ≡ true → reads new.now.words k ≡ was_before k
+    its_records = records_stepped w held ready.mask old new its goal o m e next c types_were applied.beside.changes (applied.beside.single refl) w.stored.next_number sound_after same_pools owner_then placed_its listed_its
+
+    its_mask : (k : ℕ) → IsMaskedMore (open_mask n (pool_held held its.at its.rec its.who) its.before) (open_mask n (pool_held held stepped_its its.rec its.who) was_before) new.now.words k
+    its_mask = mask_stepped w held ready.mask old new its goal o m e next c types_were applied.beside.changes (applied.beside.single refl) w.stored.next_number sound_after same_pools owner_then placed_its listed_its
+
+    abbrev its_anew : (anew : Write) → ((k v : ℕ) → open_mask n (pool_held held stepped_its its.rec its.who) was_before k ≡ Some v → anew k ≡ Some v)
+        → (h : IsHeld w held anew new.now.words) × (open_held held h.at h.rec h.who h.before ≡ open_held held stepped_its its.rec its.who was_before)
+    its_anew anew masks =
+        (held_stepped w held ready.mask old new its goal o m e next c types_were applied.beside.changes (applied.beside.single refl) w.stored.next_number sound_after same_pools owner_then placed_its listed_its anew masks, refl)
+
+    -- no other is open on its pool
+    shut_others : IsShut (with_transaction number None ready.held.opens) held.slot
+    shut_others i x here same =
+        let it = open_held held its.at its.rec its.who its.before in
+        let was = was_one w memory.held ready.mask old new ready.held held number there applied.beside.changes stepped_its was_before its_pool its_records its_mask in
+        let elsewhere : i ≢ number = λ at_it. none-some x (sym was.none ∙ ap (with_transaction number None ready.held.opens) (sym at_it) ∙ here) in
+        elsewhere (ready.held.are.slots i number x it (was.same i elsewhere ∙ here) (ready.held.each number held there).opened same)
+
+    knows_then : KnowsPools n (set memory.judged held.slot (Some stepped_its))
+        (opens_anew w memory.held ready.mask old new ready.held held number there applied.beside.changes stepped_its was_before its_pool its_records its_mask) (reads new.now.words)
+    knows_then =
+        KnowsPools-grown n memory.judged number (open_held held its.at its.rec its.who its.before) (open_held held stepped_its its.rec its.who was_before) (with_transaction number None ready.held.opens) ready.held.opens
+        (opens_anew w memory.held ready.mask old new ready.held held number there applied.beside.changes stepped_its was_before its_pool its_records its_mask) (reads old.now.words) (reads new.now.words)
+        (was_one w memory.held ready.mask old new ready.held held number there applied.beside.changes stepped_its was_before its_pool its_records its_mask)
+        (then_one w memory.held ready.mask old new ready.held held number there applied.beside.changes stepped_its was_before its_pool its_records its_mask) refl shut_others keeps_others
+        (graph_then size w memory held.slot its.at old new ready known_its goal o m e next c) ready.knows
+
+    ready_then : IsReady size w (record memory { judged = set memory.judged held.slot (Some stepped_its) }) new
+    ready_then = record {
+      mask = wide w memory.held ready.mask old new ready.held held number there applied.beside.changes stepped_its was_before its_pool its_records its_mask;
+      settled = settled_anew w memory.held ready.mask old new ready.held held number there applied.beside.changes stepped_its was_before its_pool its_records its_mask size (closed w) (applied.settled refl);
+      tables = applied.tables refl;
+      clients = applied.clients refl;
+      frames = ready.frames;
+      shelf = applied.beside.changes.shelf ∙ ready.shelf;
+      held = holds_anew w memory.held ready.mask old new ready.held held number there applied.beside.changes stepped_its was_before its_pool its_records its_mask its_anew rest_others;
+      sessions = ready.sessions;
+      rest = rest_anew w memory.held ready.mask old new ready.held held number there applied.beside.changes stepped_its was_before its_pool its_records its_mask
+          (durable_frames_still n ready.mask old new (applied.beside.single refl) ready.rest);
+      logs = logs_anew w memory.held ready.mask old new ready.held held number there applied.beside.changes stepped_its was_before its_pool its_records its_mask n w.clients (applied.logs refl);
+      knows = knows_then;
+    }
+
+    pub Applies-held : Applies size w w (record memory { judged = set memory.judged held.slot (Some stepped_its) }) None old new
+    Applies-held = record {
+      moments = moments_beside size w w memory None old new ready refl applied;
+      quiet = Changes-said (ByOthers ready.mask) None old new applied.beside.changes;
+      ready = λ _. ready_then;
+      rests = applied.beside.changes.rests;
+      script = applied.beside.changes.script;
+    }
+
+-- ---- batches in turn
+
+module _ (size : ℕ) (w : World) (slot : ℕ) (low : slot < POOL_RECORDS) (goal : ℕ → ℕ) where
+  -- the memory that knows the pool so
+  abbrev knowing : Memory → List (ℕ × Puddle) → Memory
+  knowing memory at = record memory { judged = set memory.judged slot (Some at) }
+
+  some_record : (r : Option PoolRec) → is_some r ≡ true → (rec : PoolRec) × (r ≡ Some rec)
+  some_record None some = absurd (let it : false ≡ true = some in cc)
+  some_record (Some rec) some = (rec, refl)
+
+  -- the pool of a puddle is one of the table
+  used_of : (memory : Memory) (at : List (ℕ × Puddle)) (o m : ℕ) (e : ℕ × Puddle) (old : State) (ready : IsReady size w memory old) → known_in memory.judged slot ≡ Some at → AreNextSteps at goal o m e
+      → (rec : PoolRec) × ((tables_of w.stored.frames (reads old.now.words)).pools slot ≡ Some rec)
+  used_of memory at o m e old ready known next =
+      let t = tables_of w.stored.frames (reads old.now.words) in
+      let of = member_of_pool w.stored.frames slot at (reads old.now.words) (known_in_turn size w memory old ready slot at known) o e next.here in
+      let legal : is_legal_member w.stored.next_number t of.member ≡ true =
+      sym (ap (is_sound_puddle w.stored.next_number t) of.used) ∙ legal_puddle w.stored.next_number t (sound_read size w memory old ready) e.0 of.below in
+      let pool = and_parts (not (eqb of.member.pool 0)) (is_some (t.pools (of.member.pool - 1))) (and_parts (is_pool t of.member.pool) _ (and_parts _ _ legal).0).0 in
+      let its : of.member.pool - 1 ≡ slot = let is = of.pool in omega arith in
+      some_record (t.pools slot) (ap (λ (i : ℕ). is_some (t.pools i)) (sym its) ∙ pool.1)
+
+  -- whichever transaction is held on it, or none
+  Applies-batch : (memory : Memory) (at : List (ℕ × Puddle)) (o m : ℕ) (e : ℕ × Puddle) (old new : State) (ready : IsReady size w memory old) → known_in memory.judged slot ≡ Some at → AreNextSteps at goal o m e
+      → CommitsSteps w.stored.frames at o m e None old new → Applies size w w (knowing memory (with_steps o m e at)) None old new
+  Applies-batch memory at o m e old new ready known next c = elim (cases_held size w memory slot at old ready known) [
+    | inr shut ↦
+        let used = used_of memory at o m e old ready known next in
+        Applies-shut size w memory slot at old new ready known goal o m e next used.0 low used.1 c shut
+    | inl on ↦
+        let held = on.1 in
+        let is = held_is w memory.held ready.mask old.now.words ready.held on.0.number held.mine held.is in
+        let same : at ≡ is.at = sym (held_known size w memory old ready on.0.number held.mine held.is at (ap (known_in memory.judged) held.slot_is ∙ known)) in
+        subst (λ (ps : List (ℕ × Puddle)). Applies size w w (record memory { judged = set memory.judged slot (Some (with_steps o m e ps)) }) None old new) (sym same)
+        (subst (λ (i : ℕ). Applies size w w (record memory { judged = set memory.judged i (Some (with_steps o m e is.at)) }) None old new) held.slot_is
+        (Applies-held size w memory old new ready on.0.number held.mine held.is goal o m e
+        (subst (λ (ps : List (ℕ × Puddle)). AreNextSteps ps goal o m e) same next) (subst (λ (ps : List (ℕ × Puddle)). CommitsSteps w.stored.frames ps o m e None old new) same c)))
+  ]
+
+  Applies-once : (memory : Memory) (at later : List (ℕ × Puddle)) (fault : Option HostFault) (old new : State) → IsReady size w memory old → known_in memory.judged slot ≡ Some at
+      → RewritesOnce w.stored.frames goal at later fault old new → Applies size w w (knowing memory later) fault old new
+  Applies-once memory at later None old new ready known one = elim one.does [
+    | inl still ↦ absurd (still.1.0 refl)
+    | inr c ↦ subst (λ (ps : List (ℕ × Puddle)). Applies size w w (knowing memory ps) None old new) (sym one.pool) (Applies-batch memory at one.ordinal one.to one.puddle old new ready known one.next c)
+  ]
+  Applies-once memory at later (Some fault) old new ready known one = elim one.does [
+    | inl still ↦ Applies-stopped size w w memory (knowing memory later) fault old new ready still.0 (λ cut. absurd (still.1.1 cut))
+    | inr c ↦
+        let used = used_of memory at one.ordinal one.to one.puddle old ready known one.next in
+        Applies-failed_steps size w memory slot at old new ready known goal one.ordinal one.to one.puddle one.next used.0 low used.1 fault (knowing memory later) c
+  ]
+
+  Applies-turns : (batches : ℕ) (memory : Memory) (at later : List (ℕ × Puddle)) (fault : Option HostFault) (old new : State) → IsReady size w memory old → known_in memory.judged slot ≡ Some at
+      → RewritesInTurn w.stored.frames goal batches at later fault old new → Applies size w w (knowing memory later) fault old new
+  Applies-turns zero memory at later fault old new ready known turns =
+      let same : memory.judged ≡ set memory.judged slot (Some later) = sym (set-known memory.judged slot later (known ∙ ap (λ (ps : List (ℕ × Puddle)). Some ps) (sym turns.0))) in
+      Applies-known size w w memory fault old new memory.judged (set memory.judged slot (Some later)) same
+      (Applies-still size w memory fault old new ready turns.1.1 (λ cut. absurd (let no : None ≡ Some Cut = sym turns.1.0 ∙ cut in cc)))
+  Applies-turns (suc batches) memory at later fault old new ready known turns =
+      let mid = turns.0 in
+      let between = turns.1.0 in
+      let first = Applies-turns batches memory at between None old mid ready known turns.1.1.0 in
+      let then = knowing memory between in
+      let now : known_in then.judged slot ≡ Some between = get_or-set_same memory.judged slot (Some between) None (known_within memory.judged slot at known) in
+      Applies-then size w w w then (knowing memory later) fault old mid new refl first
+      (Applies-known size w w memory fault mid new (set (set memory.judged slot (Some between)) slot (Some later)) (set memory.judged slot (Some later)) (set-set memory.judged slot (Some between) (Some later))
+      (Applies-once then between later fault mid new (first.ready refl) now turns.1.1.1))
+
+-- the daemon is ready behind the batches, and knows the pool by what they made of its puddles
+pub Applies-rewrites : (size : ℕ) (w : World) (memory : Memory) (slot : ℕ) (at later : List (ℕ × Puddle)) (goal : ℕ → ℕ) (fault : Option HostFault) (old new : State)
+    → IsReady size w memory old → slot < POOL_RECORDS → known_in memory.judged slot ≡ Some at → Rewrites w.stored.frames goal at later fault old new
+    → Applies size w w (record memory { judged = set memory.judged slot (Some later) }) fault old new
+Applies-rewrites size w memory slot at later goal fault old new ready low known r = Applies-turns size w slot low goal r.batches memory at later fault old new ready known r.in_turn

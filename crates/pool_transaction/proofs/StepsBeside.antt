@@ -1,0 +1,269 @@
+-- A batch of steps of a pool that is known, beside what is held, on that pool too: it writes no masked word, and the world stays.
+use Rattle.std.proofs.Common.{◌≡◌, ◌≢◌, ◌⊎◌, inl, inr, ℕ, ◌+◌, ◌<◌, ◌≤◌, true, false, eqb, cond, List, map, Option, Some, None, refl, sym, ap, subst, ◌∙◌, arith, eq-eqb, ne_eqb}
+use Rattle.std.specs.Prelude.{slice_get}
+use Rattle.std.proofs.lemmas.Bool.{cases_Bool, cases_eq, cond-true, cond-false, le-leb}
+use Rattle.std.proofs.lemmas.Option.{none-some, same_Some}
+use Rattle.pm_model.specs.declared.host.HostFault.{HostFault}
+use Rattle.pm_model.specs.Words.{Cell, Words, reads}
+use Rattle.pm_model.specs.Moments.{State}
+use Rattle.pm_model.specs.Changes.{Write, Changes, Silently}
+use Rattle.pm_model.specs.Masks.{masked, masked_state, IsOff}
+use Rattle.pm_model.proofs.Leaves.{Leaves-weaker}
+use Rattle.pm_model.proofs.Masks.{Changes-masked, masked-there, masked-elsewhere}
+use Rattle.pm_model.proofs.Words.{HasOnly-newest}
+use Rattle.pud_defs.specs.declared.layout.TheConstants.{DAEMON_LOG, SPACE_TABLE, PUDDLE_TABLE, POOL_TABLE}
+use Rattle.pud_defs.specs.declared.records.TheConstants.{POOL_RECORDS}
+use Rattle.pud_defs.specs.declared.records.PoolRec.{PoolRec}
+use Rattle.pud_defs.specs.declared.records.Puddle.{Puddle}
+use Rattle.pud_defs.specs.Geometry.{steps_of, is_legal_frontier}
+use Rattle.pud_defs.specs.Image.{Image}
+use Rattle.pud_defs.specs.Frames.{frame_at}
+use Rattle.pud_defs.specs.Graph.{Graph, graph_of}
+use Rattle.pud_defs.specs.Layout.{tables_end, frames_at}
+use Rattle.pud_defs.specs.Puddles.{Member, moved_to, frontier_word}
+use Rattle.pud_defs.specs.Puts.{is_of_pool}
+use Rattle.pud_defs.specs.SoundTables.{HasSoundTables}
+use Rattle.pud_defs.specs.Stored.{stored_in}
+use Rattle.pud_defs.specs.Tables.{Tables, tables_of, puddles_in_turn}
+use Rattle.pud_defs.specs.Types.{types_of}
+use Rattle.pud_defs.specs.World.{Transaction, World, idle_world_of, closed}
+use Rattle.pud_defs.proofs.PoolMembers.{IsMemberOf}
+use Rattle.pud_defs.proofs.Spaces.{owner_of-same}
+use Rattle.pud_defs.proofs.TablesOf.{frames_of_tables}
+use Rattle.batch.specs.Batches.{HasIdleGate, ByBatch}
+use Rattle.batch.proofs.Tables.{HasDurableTables-committed, reads_kept}
+use Rattle.nesting.specs.declared.Session.{Session}
+use Rattle.nesting.specs.Sessions.{session_in}
+use Rattle.lazy_rewrite.specs.Batches.{IsRewritten, ByRewriting, AreNextSteps, CommitsSteps}
+use Rattle.lazy_rewrite.specs.Graphs.{IsOffTypes, IsRewritable, IsRewritableIn}
+use Rattle.lazy_rewrite.proofs.Stepped.{member_of_pool, types_of-same}
+use Rattle.lazy_rewrite.proofs.Turns.{by_batch}
+use Rattle.lazy_rewrite.proofs.Worlds.{batch_keeps_world}
+use Rattle.lazy_rewrite.proofs.WorldTurns.{steps_masked}
+use Rattle.hybrid_tx.specs.Grounds.{pool_mine, finished_of, IsPlaced}
+use Rattle.hybrid_tx.proofs.Objects.Opening.{stored_in-mine}
+use Rattle.hybrid_tx.proofs.Open.OpenMasks.{mask_of_mine}
+use Rattle.hybrid_tx.proofs.Open.OpenPools.{placed_by_tables}
+use Rattle.hybrid_tx.proofs.PoolGrounds.{pool_mine-each}
+use Rattle.ready_daemon.specs.Memory.{Held, Memory, held_under}
+use Rattle.ready_daemon.specs.Held.{pool_held, IsHeld, IsHeldOn, IsBeside}
+use Rattle.ready_daemon.specs.Judged.{known_in}
+use Rattle.ready_daemon.specs.Ready.{IsReady, AppliesMasked}
+use Rattle.ready_daemon.proofs.Beneath.{IsOff-each, IsBeside-commits, logs_kept, ready_gate}
+use Rattle.ready_daemon.proofs.Beside.{held_is, unmasked_front}
+use Rattle.ready_daemon.proofs.InTurn.{known_in_turn, held_known}
+use Rattle.ready_daemon.proofs.JudgedKept.{HasGraphIn, graph_parts}
+use Rattle.ready_daemon.proofs.PoolsBeside.{unmasked_frame, unmasked_moving_record, unmasked_moving_frame}
+use Rattle.ready_daemon.proofs.RestBeside.{rest_unmasked}
+use Rattle.ready_daemon.proofs.TablesBeside.{HasDurableTables-masked, tables_read, read_beside, under_durable, types_read, sound_read}
+
+-- none is held on the pool in the slot
+pub record IsShutIn (held : List (Option Held)) (slot : ℕ) : Type 0 where
+  pub each : (number : ℕ) (h : Held) → held_under held number ≡ Some h → h.slot ≢ slot
+
+-- the goal of these steps alone
+abbrev its_goal : (o m : ℕ) → ℕ → ℕ
+its_goal o m i = cond (eqb i o) m 0
+
+its_steps : (at : List (ℕ × Puddle)) (goal : ℕ → ℕ) (o m : ℕ) (e : ℕ × Puddle) → AreNextSteps at goal o m e → AreNextSteps at (its_goal o m) o m e
+its_steps at goal o m e next =
+    let here : its_goal o m o ≡ m = cond-true _ _ _ (eq-eqb o o refl) in
+    record { here = next.here; some = next.some; few = next.few; within = omega (arith, here); last = next.last }
+
+module _ (size : ℕ) (w : World) (memory : Memory) (slot : ℕ) (at : List (ℕ × Puddle)) (old : State) (ready : IsReady size w memory old) (known : known_in memory.judged slot ≡ Some at) where
+  abbrev F : ℕ
+  F = w.stored.frames
+
+  abbrev mask : Write
+  mask = ready.mask
+
+  abbrev image : Image
+  image = reads old.now.words
+
+  abbrev t : Tables
+  t = tables_of F image
+
+  abbrev under : Words
+  under = masked mask old.now.words
+
+  turn : puddles_in_turn t slot ≡ at
+  turn = known_in_turn size w memory old ready slot at known
+
+  pub known_graph : HasGraphIn F slot image at
+  known_graph = graph_parts F slot image at (ready.knows.judged.each slot at known)
+
+  pub known_placed : IsPlaced F at
+  known_placed = placed_by_tables w.stored.next_number F image slot at (sound_read size w memory old ready) turn
+
+  member : (o : ℕ) (e : ℕ × Puddle) → slice_get at o ≡ Some e → IsMemberOf t slot o e
+  member o e there = member_of_pool F slot at image turn o e there
+
+  -- whether one is held on it
+  held_or_shut : (session : Option Session) → session_in memory.sessions slot ≡ session → ((s : Session) × IsHeldOn memory.held slot s.number) ⊎ IsShutIn memory.held slot
+  held_or_shut None none = inr (record {
+    each = λ number h there same.
+        let is = held_is w memory.held mask old.now.words ready.held number h there in
+        let session = ready.sessions.each number h is.transaction there is.is in
+        none-some (record { client = is.transaction.client; number = number; depth = is.transaction.depth }) (sym none ∙ sym (ap (session_in memory.sessions) same) ∙ session);
+  })
+  held_or_shut (Some s) some = inl (s, ready.sessions.only slot s some)
+
+  pub cases_held : ((s : Session) × IsHeldOn memory.held slot s.number) ⊎ IsShutIn memory.held slot
+  cases_held = held_or_shut (session_in memory.sessions slot) refl
+
+  -- ---- its graph, masked
+
+  types_masked : types_of (reads under) ≡ types_of image
+  types_masked = types_of-same image (reads under) (λ k low high. read_beside size w memory old ready k (omega arith))
+
+  -- where none is held on it, each word of its frames is read as it is
+  shut_word : IsShutIn memory.held slot → (k : ℕ) → pool_mine F at k ≡ true → reads under k ≡ image k
+  shut_word shut k mine =
+      let own = pool_mine-each F at k mine in
+      let from = own.low in
+      let to = own.high in
+      let of = member own.ordinal own.puddle own.there in
+      let below : own.puddle.0 < F = let low = of.below in omega (arith, low, frames_of_tables F image) in
+      let none : mask k ≡ None =
+      unmasked_frame w memory.held mask old.now.words ready.held own.puddle.0 k below
+      (λ number h there.
+      ap (is_of_pool h.slot) of.used
+      ∙ ne_eqb of.member.pool (h.slot + 1) (λ same. shut.each number h there (let pool = of.pool in omega (arith, pool, same))))
+      (omega arith) (omega arith) in
+      ap (λ (c : Cell). c.newest) (masked-elsewhere mask old.now.words k none)
+
+  -- where one is, those that are its own have the values of its beginning, and the others that value alone
+  held_word : (number : ℕ) (h : Held) (there : held_under memory.held number ≡ Some h) (k : ℕ) → pool_mine F (held_is w memory.held mask old.now.words ready.held number h there).at k ≡ true
+      → reads under k ≡ (held_is w memory.held mask old.now.words ready.held number h there).before k
+  held_word number h there k mine =
+      let is = held_is w memory.held mask old.now.words ready.held number h there in
+      elim (cases_Bool (pool_mine F (finished_of is.at) k)) [
+        | inl own ↦
+            ap (λ (c : Cell). c.newest) (masked-there mask old.now.words k (is.before k) (is.masked k (is.before k) (mask_of_mine F (pool_held h is.at is.rec is.who) is.before k is.pool.known own)))
+        | inr other ↦
+            ap (λ (c : Cell). c.newest) (masked-elsewhere mask old.now.words k (rest_unmasked size w memory old ready number h there k mine other))
+            ∙ HasOnly-newest (old.now.words k) (is.before k) (is.running.rests.each k mine other)
+      ]
+
+  -- so it has a graph
+  pub graph_masked : (g : Graph) × (graph_of (types_of (reads under)) (stored_in F at (reads under)) ≡ Some g)
+  graph_masked = elim cases_held [
+    | inr shut ↦
+        (known_graph.graph, ap (λ (ts : List (ℕ × ℕ)). graph_of ts (stored_in F at (reads under))) types_masked ∙ ap (graph_of (types_of image)) (stored_in-mine F at image (reads under) (shut_word shut)) ∙ known_graph.stored)
+    | inl on ↦
+        let held = on.1 in
+        let is = held_is w memory.held mask old.now.words ready.held on.0.number held.mine held.is in
+        let same : is.at ≡ at = held_known size w memory old ready on.0.number held.mine held.is at (ap (known_in memory.judged) held.slot_is ∙ known) in (
+          is.undone,
+          ap (λ (ts : List (ℕ × ℕ)). graph_of ts (stored_in F at (reads under))) (types_masked ∙ (types_read size w memory old ready).types)
+              ∙ ap (λ (ps : List (ℕ × Puddle)). graph_of w.stored.types (stored_in F ps (reads under))) (sym same)
+              ∙ ap (graph_of w.stored.types) (stored_in-mine F is.at is.before (reads under) (held_word on.0.number held.mine held.is))
+              ∙ is.running.was,
+        )
+  ]
+
+  -- masked, the pool may be rewritten
+  pub rewritable_masked : (rec : PoolRec) → slot < POOL_RECORDS → t.pools slot ≡ Some rec → IsRewritableIn size (closed w) slot at graph_masked.0 under
+  rewritable_masked rec low used = record {
+    settled = ready.settled;
+    pool = record {
+      idle = record { each = λ v had. ready.settled.idle v had };
+      tables = under_durable size w memory old ready;
+      turn = ap (λ (u : Tables). puddles_in_turn u slot) (tables_read size w memory old ready) ∙ turn;
+      bases = known_placed.bases;
+      graph = graph_masked.1;
+      frames = λ o e there unfinished k below. ready.rest.each (frame_at F e.0 + k) (omega arith);
+    };
+    rec = rec;
+    below = low;
+    used = ap (λ (u : Tables). u.pools slot) (tables_read size w memory old ready) ∙ used;
+    whole = λ o e there k below. ready.rest.each (frame_at F e.0 + k) (omega arith);
+  }
+
+  -- ---- a batch
+
+  module _ (goal : ℕ → ℕ) (o m : ℕ) (e : ℕ × Puddle) (next : AreNextSteps at goal o m e) (rec : PoolRec) (low : slot < POOL_RECORDS) (used : t.pools slot ≡ Some rec) where
+    next_its : AreNextSteps at (its_goal o m) o m e
+    next_its = its_steps at goal o m e next
+
+    below : e.0 < F
+    below = let of = (member o e next.here).below in omega (arith, of, frames_of_tables F image)
+
+    -- steps are left of it
+    moving : (member o e next.here).member.puddle.frontier ≡ steps_of (member o e next.here).member.puddle → ⊥
+    moving finished =
+        let puddle = (member o e next.here).puddle in
+        absurd (omega (arith, next.some, next.last, finished, ap (λ (d : Puddle). d.frontier) puddle))
+
+    -- what is written is not masked
+    rewritten_unmasked : (k : ℕ) → IsRewritten F at (its_goal o m) k → mask k ≡ None
+    rewritten_unmasked k r = elim (cases_eq r.ordinal o) [
+      | inr other ↦ absurd (let never : its_goal o m r.ordinal ≡ 0 = cond-false _ _ _ (ne_eqb r.ordinal o other) in omega (arith, r.moves, never))
+      | inl same ↦
+          let one : r.puddle ≡ e = same_Some r.puddle e (sym r.here ∙ ap (slice_get at) same ∙ next.here) in
+          let frame : r.puddle.0 ≡ e.0 = ap (λ (x : ℕ × Puddle). x.0) one in
+          let of = member o e next.here in
+          elim r.word [
+            | inl inside ↦
+                let from = inside.low in
+                let to = inside.high in
+                unmasked_moving_frame w memory.held mask old.now.words ready.held e.0 k of.member below of.used moving (omega (arith, from, frame)) (omega (arith, to, frame))
+            | inr frontier ↦ unmasked_moving_record w memory.held mask old.now.words ready.held e.0 k of.member below of.used moving (omega (arith, frontier, frame)) (omega (arith, frontier, frame))
+          ]
+    ]
+
+    by_rewriting : (k v : ℕ) → ByRewriting F at (its_goal o m) k v → mask k ≡ None
+    by_rewriting k v (inl log) = let high = log.high in unmasked_front w memory.held mask old.now.words ready.held k (omega arith)
+    by_rewriting k v (inr r) = rewritten_unmasked k r
+
+    off : IsOff mask (ByRewriting F at (its_goal o m))
+    off = IsOff-each mask (ByRewriting F at (its_goal o m)) by_rewriting
+
+    module _ (fault : Option HostFault) (new : State) (c : CommitsSteps F at o m e fault old new) where
+      pub steps_beside : IsBeside mask fault old new
+      steps_beside =
+          IsBeside-commits mask c.es fault old new
+          (IsOff-each mask (ByBatch DAEMON_LOG c.es) (λ k v may. by_rewriting k v (by_batch F (its_goal o m) at o m e fault old new k v next_its c may))) c.batched c.commits
+
+      -- the batch, masked
+      c_masked : CommitsSteps F at o m e fault (masked_state mask old) (masked_state mask new)
+      c_masked =
+          steps_masked F (its_goal o m) mask (record { each = λ k from to. unmasked_front w memory.held mask old.now.words ready.held k to }) at off o m e fault old new next_its
+          (ready_gate size w memory old ready) c
+
+      -- a word that no batch of steps writes
+      not_written : (k v : ℕ) → (k < PUDDLE_TABLE) ⊎ (tables_end F ≤ k) → k < frames_at F → (k < DAEMON_LOG) ⊎ (SPACE_TABLE ≤ k) → ByBatch DAEMON_LOG c.es k v → ⊥
+      not_written k v outside before beside may = elim (by_batch F (its_goal o m) at o m e fault old new k v next_its c may) [
+        | inl log ↦ let from = log.low in let to = log.high in elim beside [ inl under_it ↦ absurd (omega arith) | inr over ↦ absurd (omega arith) ]
+        | inr r ↦ elim r.word [
+          | inl inside ↦ let from = inside.low in absurd (omega arith)
+          | inr frontier ↦
+              let frame = (member r.ordinal r.puddle r.here).below in
+              elim outside [ inl under_it ↦ absurd (omega (arith, frontier, frame, frames_of_tables F image)) | inr over ↦ absurd (omega (arith, frontier, frame, frames_of_tables F image)) ]
+        ]
+      ]
+
+      space_kept : fault ≡ None → (k : ℕ) → SPACE_TABLE ≤ k → k < PUDDLE_TABLE → reads new.now.words k ≡ image k
+      space_kept none k from to =
+          reads_kept (ByBatch DAEMON_LOG c.es) old new k (subst (λ (f : Option HostFault). Changes (ByBatch DAEMON_LOG c.es) f old new) none c.commits.changes)
+          (λ v may. not_written k v (inl to) (omega arith) (inr from) may)
+
+      legal : is_legal_frontier (moved_to m e.1) ≡ true
+      legal = le-leb m (steps_of e.1) next.last
+
+      -- masked, the world stays at every moment
+      pub steps_apply : AppliesMasked size w w mask fault old new
+      steps_apply =
+          let keeps = batch_keeps_world size (closed w) slot at (its_goal o m) graph_masked.0 o m e fault (masked_state mask old) (masked_state mask new) next_its c_masked (rewritable_masked rec low used) legal in
+          record {
+            beside = steps_beside;
+            moments = Leaves-weaker (Silently (λ image. idle_world_of size image ≡ Some (closed w)))
+                (Silently (λ image. (idle_world_of size image ≡ Some (closed w)) ⊎ (idle_world_of size image ≡ Some (closed w)))) (masked_state mask old) (masked_state mask new) (λ bytes i p. (p.0, inl p.1)) keeps.moments;
+            settled = keeps.settled;
+            tables = λ none. HasDurableTables-committed F c.es fault old new c.commits.changes (c.commits.durable none) ready.tables;
+            clients = λ none client small. owner_of-same (reads new.now.words) image client small (λ k from to. space_kept none k from to) ∙ ready.clients client small;
+            logs = λ none. logs_kept F w.clients (ByBatch DAEMON_LOG c.es) fault (masked_state mask old) (masked_state mask new)
+                (Changes-masked mask (ByBatch DAEMON_LOG c.es) fault old new c.commits.changes)
+                (λ k v from to may. not_written k v (inr from) to (inr (omega arith)) may) ready.logs;
+            shelf = refl;
+          }

@@ -1,0 +1,104 @@
+-- The line that rewrites pointers of a pool: why it is refused, and what its steps leave.
+use Rattle.std.proofs.Common.{◌≡◌, inl, inr, ℕ, ◌<◌, Bool, true, false, is_some, refl, List, length, Option, Some, None, Result, Ok, Err, sym, ap, ap₂, subst, ◌∙◌}
+use Rattle.std.specs.Prelude.{cond, is_none, set, IfOk}
+use Rattle.std.proofs.lemmas.Bool.{cases_lt}
+use Rattle.std.proofs.lemmas.List.{get_or-set_same, get_or_past}
+use Rattle.std.proofs.lemmas.Option.{none-some, same_Some}
+use Rattle.pm_model.specs.declared.host.HostFault.{HostFault}
+use Rattle.pm_model.specs.Words.{reads}
+use Rattle.pm_model.specs.Moments.{State}
+use Rattle.pud_defs.specs.declared.layout.TheConstants.{DAEMON_LOG}
+use Rattle.pud_defs.specs.declared.machine.Command.TheVariants.{Rewrite}
+use Rattle.pud_defs.specs.declared.machine.Refusal.TheVariants as refusals
+use Rattle.pud_defs.specs.declared.records.Puddle.{Puddle}
+use Rattle.pud_defs.specs.declared.records.TheConstants.{POOL_RECORDS}
+use Rattle.pud_defs.specs.Tables.{Pool}
+use Rattle.pud_defs.specs.PoolChanges.{pool_named}
+use Rattle.pud_defs.specs.Step.{graph_in, refusal_of, holds, after, world_by}
+use Rattle.pud_defs.specs.World.{World}
+use Rattle.pud_defs.proofs.Steps.{done_world}
+use Rattle.batch.specs.Batches.{HasIdleGate}
+use Rattle.lazy_rewrite.specs.Entries.{HasLowBases}
+use Rattle.lazy_rewrite.specs.Batches.{Rewrites}
+use Rattle.lazy_rewrite.specs.Frontiers.{steps_from}
+use Rattle.nesting.specs.declared.Session.{Session}
+use Rattle.ready_daemon.specs.Judged.{known_in}
+use Rattle.ready_daemon.specs.Memory.{Held, Memory}
+use Rattle.ready_daemon.specs.Owning.{IsSlotOf}
+use Rattle.ready_daemon.specs.Ready.{IsReady, Applies}
+use Rattle.puddled.specs.Rewriting.{DoesSteps}
+use Rattle.ready_daemon.proofs.Beneath.{ready_gate}
+use Rattle.pool_transaction.proofs.HeldFinishes.{low_of_placed}
+use Rattle.pool_transaction.proofs.Rewriting.{Applies-rewrites}
+use Rattle.pool_transaction.proofs.StepsBeside.{known_placed}
+
+-- ---- why it is refused
+
+module _ (w : World) (name : List ℕ) (n : ℕ) where
+  -- no pool has the name
+  pub refused_unnamed : pool_named name w.stored ≡ None → refusal_of w (Rewrite name n) ≡ Some refusals.Pool
+  unfolding refusal_of holds
+  refused_unnamed none = ap (λ (found : Option Pool). cond (is_none found) (Some refusals.Pool) (cond (is_none (graph_in found)) (Some refusals.Wild) None)) none
+
+  -- the pool has a graph, or is refused
+  pub refused_by_graph : (pool : Pool) (lacks : Bool) → pool_named name w.stored ≡ Some pool → lacks ≡ is_none (graph_in (pool_named name w.stored))
+      → refusal_of w (Rewrite name n) ≡ cond lacks (Some refusals.Wild) None
+  unfolding refusal_of holds
+  refused_by_graph pool lacks there is = ap₂ (λ (none lacks : Bool). cond none (Some refusals.Pool) (cond lacks (Some refusals.Wild) None)) (ap is_none there) (sym is)
+
+  -- it leaves the world
+  pub world_of_rewrite : refusal_of w (Rewrite name n) ≡ None → world_by w (Some (Rewrite name n)) ≡ w
+  unfolding after
+  world_of_rewrite free = done_world w (Rewrite name n) free
+
+-- ---- its steps
+
+-- what is known
+pub is_there : (o : Option (List (ℕ × Puddle))) → true ≡ is_some o → (at : List (ℕ × Puddle)) × (o ≡ Some at)
+is_there None there = absurd (let no : true ≡ false = there in cc)
+is_there (Some at) there = (at, refl)
+
+-- the steps that were done are those of the pool that is known
+pub moves_known : (result : Result ℕ HostFault) (judged now : List (Option (List (ℕ × Puddle)))) (slot n : ℕ) (at pool : List (ℕ × Puddle)) → judged ≡ now → known_in judged slot ≡ Some at
+    → IfOk result (λ done. pool ≡ steps_from n at)
+    → IfOk result (λ done. (here : List (ℕ × Puddle)) → known_in now slot ≡ Some here → set judged slot (Some pool) ≡ set now slot (Some (steps_from n here)))
+moves_known (Err fault) judged now slot n at pool same known moved = tt
+moves_known (Ok done) judged now slot n at pool same known moved = λ here is.
+    ap₂ (λ (js : List (Option (List (ℕ × Puddle)))) (p : List (ℕ × Puddle)). set js slot (Some p)) same
+    (moved ∙ ap (steps_from n) (same_Some at here (sym known ∙ ap (λ (js : List (Option (List (ℕ × Puddle)))). known_in js slot) same ∙ is)))
+
+-- of a pool that is not known none are
+pub moves_none : (judged now next : List (Option (List (ℕ × Puddle)))) (slot n : ℕ) → judged ≡ now → known_in judged slot ≡ None
+    → (here : List (ℕ × Puddle)) → known_in now slot ≡ Some here → next ≡ set now slot (Some (steps_from n here))
+moves_none judged now next slot n same none here is = absurd (none-some here (sym none ∙ ap (λ (js : List (Option (List (ℕ × Puddle)))). known_in js slot) same ∙ is))
+
+-- what is known in a slot is within the list
+known_within : (judged : List (Option (List (ℕ × Puddle)))) (slot : ℕ) (at : List (ℕ × Puddle)) → known_in judged slot ≡ Some at → slot < length judged
+known_within judged slot at known = elim (cases_lt slot (length judged)) [
+  | inl within ↦ within
+  | inr past ↦ absurd (none-some at (sym (get_or_past judged slot None past) ∙ known))
+]
+
+module _ (size : ℕ) (w : World) (F : ℕ) (held : List (Option Held)) (sessions : List (Option Session)) (judged : List (Option (List (ℕ × Puddle)))) (old : State)
+    (ready : IsReady size w (record { frames = F; held = held; sessions = sessions; judged = judged }) old) (slot : ℕ) (low : slot < POOL_RECORDS) (at : List (ℕ × Puddle)) (known : known_in judged slot ≡ Some at) where
+  abbrev memory : Memory
+  memory = record { frames = F; held = held; sessions = sessions; judged = judged }
+
+  -- the daemon is ready behind them
+  pub Applies-stepped : (goal : ℕ → ℕ) (later : List (ℕ × Puddle)) (fault : Option HostFault) (new : State) → (HasIdleGate DAEMON_LOG old.now.words → HasLowBases at → Rewrites F goal at later fault old new)
+      → Applies size w w (record { frames = F; held = held; sessions = sessions; judged = set judged slot (Some later) }) fault old new
+  Applies-stepped goal later fault new does =
+      let placed = known_placed size w memory slot at old ready known in
+      Applies-rewrites size w memory slot at later goal fault old new ready low known
+      (subst (λ (n : ℕ). Rewrites n goal at later fault old new) ready.frames (does (ready_gate size w memory old ready) (low_of_placed w.stored.frames at placed)))
+
+  -- its puddles are those before them, moved
+  pub DoesSteps-stepped : (name : List ℕ) (n : ℕ) (now : List (Option (List (ℕ × Puddle)))) (new : State) → IsSlotOf w.stored.frames name (reads old.now.words) slot → now ≡ set judged slot (Some (steps_from n at))
+      → IsReady size w (record { frames = F; held = held; sessions = sessions; judged = now }) new → DoesSteps w.stored.frames name n (reads old.now.words) (reads new.now.words)
+  DoesSteps-stepped name n now new is moves then = record {
+    slot = slot;
+    is = is;
+    at = at;
+    before = ready.knows.judged.each slot at known;
+    behind = then.knows.judged.each slot (steps_from n at) (ap (λ (js : List (Option (List (ℕ × Puddle)))). known_in js slot) moves ∙ get_or-set_same judged slot (Some (steps_from n at)) None (known_within judged slot at known));
+  }

@@ -1,0 +1,95 @@
+//! The line that rewrites pointers of a pool.
+ghost use Rattle.std.specs.Prelude.{◌≡◌, ◌<◌, ◌≤◌, ℕ, List, true, is_some, Option, IfOk, set};
+ghost use Rattle.pm_model.specs.Words.{IsRested, reads};
+ghost use Rattle.pm_model.specs.Counts.{after_fault, fault_of};
+ghost use Rattle.pud_defs.specs.declared.layout.TheConstants.{MAX_FRAMES};
+ghost use Rattle.pud_defs.specs.declared.records.TheConstants.{POOL_RECORDS};
+ghost use Rattle.pud_defs.specs.declared.machine.Command.TheVariants as commands;
+ghost use Rattle.pud_defs.specs.declared.records.Puddle.{Puddle};
+ghost use Rattle.pud_defs.specs.Layout.{device_words};
+ghost use Rattle.pud_defs.specs.Step.{answer_by, refusal_of, world_by};
+ghost use Rattle.pud_defs.specs.Step.Answer.{of_reply};
+ghost use Rattle.pud_defs.specs.World.{World};
+ghost use Rattle.lazy_rewrite.specs.Frontiers.{steps_from};
+ghost use Rattle.nesting.specs.declared.Session.{Session};
+ghost use Rattle.ready_daemon.specs.Memory.{Held};
+ghost use Rattle.ready_daemon.specs.Judged.{AreOnDevice, known_in};
+ghost use Rattle.ready_daemon.specs.Ready.{KeepsRest, IsReady, Applies};
+ghost use Rattle.puddled.specs.Rewriting.{DoesSteps};
+
+use crate::daemon::Daemon;
+use crate::finding::Need;
+use crate::judged::Judged;
+use lazy_rewrite::step;
+use pm_model::{Host, HostFault};
+use pool_table::find;
+use pud_defs::machine::{Refusal, Reply};
+use pud_defs::records::Name;
+
+/// Does the next `n` rewriting steps of the pool in the slot, or all that are left, where it is known to have a graph; the answer is how many.
+/// What is known of it then is so of the device.
+///
+/// The device has so many frames. The only errors are the host's own.
+fn step_in<H: Host>(
+    h: &mut H,
+    frames: u32,
+    judged: &mut Judged,
+    slot: u32,
+    n: u32,
+) -> Result<u32, HostFault>
+    requires few { frames ≤ MAX_FRAMES }
+    requires room { device_words frames ≤ (H.counts h.old).size }
+    requires slot { slot < POOL_RECORDS }
+    requires known { AreOnDevice frames judged.old }
+    ensures applies { H.tells → (size : ℕ) → size ≡ (H.counts h.old).size → true ≡ is_some (known_in judged.old slot) → (w : World) → (held : List (Option Held)) → (sessions : List (Option Session))
+        → IsReady size w (record { frames = frames; held = held; sessions = sessions; judged = judged.old }) (H.state h.old)
+        → Applies size w w (record { frames = frames; held = held; sessions = sessions; judged = judged.new }) (fault_of result) (H.state h.old) (H.state h.new) }
+    ensures moves { IfOk result (λ _. (at : List (ℕ × Puddle)) → known_in judged.old slot ≡ Option.Some at → judged.new ≡ set judged.old slot (Option.Some (steps_from n at))) }
+    ensures known { AreOnDevice frames judged.new }
+    ensures rest { H.tells → KeepsRest (H.state h.old) (H.state h.new) }
+    ensures rests { H.tells → fault_of result ≡ Option.Some HostFault.Cut → IsRested (H.state h.new).now.words }
+    ensures cause { H.counts h.new ≡ after_fault (fault_of result) (H.counts h.old) }
+{
+    match &mut judged.pools[slot as usize] {
+        Some(pool) => step(h, frames, pool, n),
+        None => Ok(0),
+    }
+}
+
+impl Daemon {
+    /// Does the next `n` rewriting steps of the pool of this name, or all that are left, by ordinal and then by step, whoever asks, and whatever
+    /// transactions are open: the graph of each pool is as it was at every moment. The reply is `Ok`, or says why nothing was done, by the first of
+    /// these that holds: `Pool`, there is no pool of the name; `Wild`, the pool has no graph. It takes four fences for up to ten steps of a puddle.
+    ///
+    /// The only errors are the host's own: `Failed` where a call of it failed, `Cut` where power was lost. At either some of the steps may be done.
+    pub(crate) fn rewrite_for<H: Host>(
+        &mut self,
+        h: &mut H,
+        name: Name,
+        n: u32,
+    ) -> Result<Reply, HostFault>
+        requires room { device_words (self.old).frames ≤ (H.counts h.old).size }
+        ensures reply { H.tells → (size : ℕ) → (w : World) → IsReady size w self.old (H.state h.old)
+            → IfOk result (λ reply. of_reply reply ≡ answer_by w (Option.Some (commands.Rewrite name n))) }
+        ensures applies { H.tells → (size : ℕ) → size ≡ (H.counts h.old).size → (w : World) → IsReady size w self.old (H.state h.old)
+            → Applies size w (world_by w (Option.Some (commands.Rewrite name n))) self.new (fault_of result) (H.state h.old) (H.state h.new) }
+        ensures moves { H.tells → (size : ℕ) → size ≡ (H.counts h.old).size → (w : World) → IsReady size w self.old (H.state h.old) → refusal_of w (commands.Rewrite name n) ≡ Option.None
+            → IfOk result (λ _. DoesSteps w.stored.frames name n (reads (H.state h.old).now.words) (reads (H.state h.new).now.words)) }
+        ensures held { (self.new).held ≡ (self.old).held }
+        ensures sessions { (self.new).sessions ≡ (self.old).sessions }
+        ensures frames { (self.new).frames ≡ (self.old).frames }
+        ensures rest { H.tells → KeepsRest (H.state h.old) (H.state h.new) }
+        ensures rests { H.tells → fault_of result ≡ Option.Some HostFault.Cut → IsRested (H.state h.new).now.words }
+        ensures cause { H.counts h.new ≡ after_fault (fault_of result) (H.counts h.old) }
+    {
+        let Some((slot, _)) = find(h, name)? else {
+            return Ok(Reply::No(Refusal::Pool));
+        };
+        if self.lacks_graph(h, slot, Need::Graph)? {
+            return Ok(Reply::No(Refusal::Wild));
+        }
+        let frames = self.frames;
+        let _done = step_in(h, frames, &mut self.judged, slot, n)?;
+        Ok(Reply::Ok)
+    }
+}

@@ -1,0 +1,99 @@
+-- The words of puddles that are not finished rest, of each pool on which a transaction is held, beside calls that leave pools as they are.
+use Rattle.std.proofs.Common.{◌≡◌, ◌≢◌, inr, ℕ, true, false, Option, Some, None, sym, ap, subst, ◌∙◌, arith, List, refl, inl}
+use Rattle.pm_model.specs.Words.{HasOnly, reads}
+use Rattle.pm_model.specs.Moments.{State}
+use Rattle.pm_model.proofs.Words.{HasOnly-own, HasOnly-newest}
+use Rattle.pud_defs.specs.declared.layout.TheConstants.{DAEMON_LOG}
+use Rattle.pud_defs.specs.Replay.{is_in_log}
+use Rattle.pud_defs.specs.World.{World}
+use Rattle.pud_defs.proofs.Replay.{outside_log}
+use Rattle.hybrid_tx.specs.Grounds.{pool_mine, finished_of}
+use Rattle.hybrid_tx.specs.Objects.Transactions.{RestsAs}
+use Rattle.hybrid_tx.proofs.PoolGrounds.{pool_mine-each}
+use Rattle.std.proofs.lemmas.Bool.{cases_eq, false_from_ne_true}
+use Rattle.std.proofs.lemmas.Option.{same_Some}
+use Rattle.pud_defs.specs.declared.records.Puddle.{Puddle}
+use Rattle.pud_defs.specs.Tables.{tables_of, puddles_in_turn}
+use Rattle.pud_defs.specs.Settled.{log_number_at}
+use Rattle.hybrid_tx.specs.Open.Masks.{open_mask, is_open_record}
+use Rattle.hybrid_tx.proofs.Open.OpenMasks.{mask_of_others, open_record_place}
+use Rattle.hybrid_tx.proofs.Open.OpenPools.{open_on_device}
+use Rattle.ready_daemon.proofs.PoolsBeside.{puddles_still, one_slot}
+use Rattle.ready_daemon.specs.Memory.{Held, Memory, held_under}
+use Rattle.ready_daemon.specs.Held.{open_held, IsHeld, StaysSingle, pool_held}
+use Rattle.ready_daemon.specs.Ready.{IsReady}
+use Rattle.ready_daemon.proofs.Beside.{held_is, RestBehind, unmasked_by_each}
+use Rattle.ready_daemon.proofs.JudgedKept.{HasGraphIn, KeepsPools, graph_parts, IsOwnWord, own_word, own_by, words_apart}
+
+module _ (size : ℕ) (w : World) (memory : Memory) (old : State) (ready : IsReady size w memory old) where
+  abbrev is_held : (number : ℕ) (h : Held) → held_under memory.held number ≡ Some h → IsHeld w h ready.mask old.now.words
+  is_held = held_is w memory.held ready.mask old.now.words ready.held
+
+  -- a pool on which one is held has a graph as it is read
+  pub held_graph : (number : ℕ) (h : Held) (there : held_under memory.held number ≡ Some h) → HasGraphIn w.stored.frames h.slot (reads old.now.words) (is_held number h there).at
+  held_graph number h there =
+      let under = ready.held.each number h there in
+      let known = ready.knows.open_pools number (open_held h under.is.at under.is.rec under.is.who under.is.before) under.opened in
+      graph_parts w.stored.frames h.slot (reads old.now.words) under.is.at (ready.knows.judged.each h.slot under.is.at known)
+
+  -- beside calls that write none of their words, and leave each word that has one value with one
+  pub rest_by_words : (new : State)
+      → ((number : ℕ) (h : Held) (there : held_under memory.held number ≡ Some h) (k : ℕ) → pool_mine w.stored.frames (is_held number h there).at k ≡ true → reads new.now.words k ≡ reads old.now.words k)
+      → StaysSingle old new → RestBehind w memory.held ready.mask old.now.words ready.held new.now.words
+  rest_by_words new stay single = record {
+    each = λ number h there.
+        let is = is_held number h there in
+        record {
+          each = λ k mine other.
+              let m = pool_mine-each w.stored.frames is.at k mine in
+              let low = m.low in
+              let was = is.running.rests.each k mine other in
+              let read : reads new.now.words k ≡ is.before k = stay number h there k mine ∙ HasOnly-newest (old.now.words k) (is.before k) was in
+              let out : is_in_log DAEMON_LOG k ≡ false = outside_log DAEMON_LOG k (inr (omega arith)) in
+              subst (λ (v : ℕ). HasOnly (new.now.words k) v) read (single.each k out (HasOnly-own (old.now.words k) (is.before k) was));
+        };
+  }
+
+  -- so beside those that leave each of these pools as it is
+  pub rest_beside : (but : Option ℕ) (new : State) → ((number : ℕ) (h : Held) → held_under memory.held number ≡ Some h → but ≢ Some h.slot)
+      → KeepsPools w.stored.frames but (reads old.now.words) (reads new.now.words) → StaysSingle old new → RestBehind w memory.held ready.mask old.now.words ready.held new.now.words
+  rest_beside but new apart keeps = rest_by_words new (λ number h there k mine. keeps.words h.slot (is_held number h there).at (apart number h there) (held_graph number h there) k mine)
+
+  -- where nothing happened
+  pub rest_still : RestBehind w memory.held ready.mask old.now.words ready.held old.now.words
+  rest_still = record { each = λ number h there. (is_held number h there).running.rests }
+
+  -- what rests of one that is held is masked by none
+  module _ (number : ℕ) (held : Held) (there : held_under memory.held number ≡ Some held) (k : ℕ) (mine : pool_mine w.stored.frames (is_held number held there).at k ≡ true)
+      (other : pool_mine w.stored.frames (finished_of (is_held number held there).at) k ≡ false) where
+    abbrev F : ℕ
+    F = w.stored.frames
+
+    own : IsOwnWord F held.slot (reads old.now.words) k
+    own = own_word F held.slot (reads old.now.words) k (ap (λ (puddles : List (ℕ × Puddle)). pool_mine F puddles k) (held_graph number held there).turn ∙ mine)
+
+    not_mine : (m : ℕ) (h : Held) (was : held_under memory.held m ≡ Some h) → pool_mine F (finished_of (is_held m h was).at) k ≡ false
+    not_mine m h was = elim (cases_eq m number) [
+      | inl same ↦
+          let one : h ≡ held = same_Some h held (sym was ∙ ap (held_under memory.held) same ∙ there) in
+          let a = held_graph m h was in
+          let b = held_graph number held there in
+          let lists : (is_held m h was).at ≡ (is_held number held there).at =
+          sym a.turn ∙ ap (λ (g : Held). puddles_in_turn (tables_of F (reads old.now.words)) g.slot) one ∙ b.turn in
+          ap (λ (puddles : List (ℕ × Puddle)). pool_mine F (finished_of puddles) k) lists ∙ other
+      | inr apart ↦ false_from_ne_true (pool_mine F (finished_of (is_held m h was).at) k) (λ its.
+          let word = own_by F h.slot (reads old.now.words) (finished_of (is_held m h was).at) k (puddles_still w h ready.mask old.now.words (is_held m h was)).each its in
+          apart (one_slot w memory.held ready.mask old.now.words ready.held m number h held was there (words_apart F h.slot held.slot (reads old.now.words) k word own)))
+    ]
+
+    pub rest_unmasked : ready.mask k ≡ None
+    rest_unmasked =
+        let low = own.low in
+        unmasked_by_each w memory.held ready.mask old.now.words ready.held k (λ m h was.
+        let is = is_held m h was in
+        let pool = pool_held h is.at is.rec is.who in
+        let few = is.pool.known in
+        mask_of_others F pool is.before k (outside_log (log_number_at F h.number) k (inr (omega arith))) (not_mine m h was) (false_from_ne_true (is_open_record pool k) (λ of.
+        let place = open_record_place F pool k is.pool.slot is.pool.known (open_on_device F pool is.before is.pool) of in
+        let high = place.high in
+        omega arith)))
