@@ -85,6 +85,10 @@ fn export(client: u8, name: Name, file: Name) -> Command {
     Command::Export { client, name, file }
 }
 
+fn rewrite(name: Name, n: u32) -> Command {
+    Command::Rewrite { name, n }
+}
+
 fn cut(pick: u64) -> Command {
     Command::Cut { pick }
 }
@@ -169,6 +173,9 @@ fn lines_of_pools(rt: HostRuntime) {
                 "export 7 abcdefghijklmnop 0123456789_az",
                 export(7, sixteen, digits),
             ),
+            ("rewrite p 1", rewrite(p, 1)),
+            ("rewrite 7 10", rewrite(seven, 10)),
+            ("rewrite abcdefghijklmnop 1008", rewrite(sixteen, 1_008)),
             ("get 0 p 1.0", get(0, p, 1, 0)),
             ("get 1 7 10.10", get(1, seven, 10, 10)),
             ("get 2 _ 4294967296.1", get(2, low_line, 4_294_967_296, 1)),
@@ -348,6 +355,37 @@ fn lines_of_roots_and_freed_objects_that_are_none(rt: HostRuntime) {
             "free 8 p 1",
             "free 0 P 1",
             "frees 0 p 1",
+        ],
+    );
+}
+
+#[test]
+fn lines_of_rewriting_that_are_none(rt: HostRuntime) {
+    are_none(
+        &rt,
+        &[
+            "rewrite",
+            "rewrite p",
+            "rewrite p ",
+            "rewrite p 1 ",
+            "rewrite p 1 1",
+            "rewrite p  1",
+            "rewrite  p 1",
+            "rewrite  1",
+            "rewrite 0 p 1",
+            "rewrite p 0",
+            "rewrite p 01",
+            "rewrite p +1",
+            "rewrite p -1",
+            "rewrite p @1",
+            "rewrite p 1009",
+            "rewrite p 4294967297",
+            "rewrite p 18446744073709551617",
+            "rewrite P 1",
+            "rewrite abcdefghijklmnopq 1",
+            "Rewrite p 1",
+            "rewrit p 1",
+            "rewrites p 1",
         ],
     );
 }

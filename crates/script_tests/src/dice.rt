@@ -109,6 +109,7 @@ impl Dice {
             6 => Line::Come(self.client, self.owner()),
             7..=9 => Line::Define(self.roll(4), self.roll(4) == 0),
             10 if self.roll(4) == 0 => Line::Cut(u64::from(self.roll(2))),
+            11..=12 => Line::Rewrite(self.roll(7), 1 + u16::from(self.roll(16))),
             _ => self.ask_on(),
         }
     }

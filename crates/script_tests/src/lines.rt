@@ -45,6 +45,8 @@ pub enum Line {
     /// A type, by one of its two maps.
     Define(u8, bool),
     List,
+    /// So many steps of a pool.
+    Rewrite(u8, u16),
     Cut(u64),
     /// What a client asks of a pool.
     On(u8, u8, Ask),
@@ -150,6 +152,7 @@ impl Line {
                 format!(in alloc; "type {} {fields}\n", u32::from(t) + 1)
             }
             Line::List => String::from_str(alloc, "pools\n"),
+            Line::Rewrite(pool, n) => format!(in alloc; "rewrite {} {n}\n", name(pool)),
             Line::Cut(pick) => format!(in alloc; "cut {pick}\n"),
             Line::On(c, pool, ask) => ask.text(alloc, c, name(pool)),
         }

@@ -375,7 +375,7 @@ fn new_pool(alloc: Global, owner: Owner, (mode, number): (u16, u64)) -> Pool {
 
 impl Machine {
     /// The machine of a device of seven frames with these pools, of each of which the owner and the number of objects is given. The last is wild,
-    /// and type 1 is defined.
+    /// the root of the first is its first object, which names the second, and type 1 is defined.
     pub fn new(rt: &impl Abort, alloc: Global, owned: &[(u8, u8); 6]) -> Machine {
         let mut machine = Machine {
             frames: 7,
@@ -398,6 +398,10 @@ impl Machine {
             }
             machine.next = machine.next.saturating_add(2);
             *place = Some(pool);
+        }
+        if let Some(first) = &mut machine.pools[0] {
+            first.root = 1;
+            first.set(1, 1, Value::Object(2));
         }
         if let Some(last) = &mut machine.pools[5] {
             last.is_wild = true;
@@ -492,12 +496,21 @@ impl Machine {
         }
     }
 
+    fn refusal_to_rewrite(&self, pool: u8) -> Option<&'static str> {
+        match self.pool(pool) {
+            None => Some("pool"),
+            Some(pool) if pool.is_wild => Some("wild"),
+            Some(_) => None,
+        }
+    }
+
     fn refusal(&self, line: Line) -> Option<&'static str> {
         match line {
             Line::Bad => Some("bad"),
             Line::Come(client, _) if self.client(client).is_some() => Some("taken"),
             Line::Leave(client) if self.client(client).is_none() => Some("client"),
             Line::Define(kind, is_second) => self.refusal_to_define(kind, is_second),
+            Line::Rewrite(pool, _) => self.refusal_to_rewrite(pool),
             Line::On(client, pool, ask) => self.refusal_on(client, pool, ask),
             _ => None,
         }
@@ -586,7 +599,7 @@ impl Machine {
             return Reply::No(word);
         }
         match line {
-            Line::Bad => {}
+            Line::Bad | Line::Rewrite(_, _) => {}
             Line::Come(client, who) => self.put_client(client, Some(who)),
             Line::Leave(client) => self.leave(client),
             Line::Define(kind, is_second) => self.define(kind, is_second),

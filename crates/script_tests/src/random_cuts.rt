@@ -37,7 +37,7 @@ fn kind_of(line: Line) -> usize {
 fn machine_behind(rt: &impl Abort, alloc: Global, lines: &[Line]) -> (Machine, Talk) {
     let mut machine = first_machine(rt, alloc);
     let mut talk = Talk::new(rt, alloc);
-    let mut counts: Counts = [0; 28];
+    let mut counts: Counts = [0; 29];
     go_on(rt, alloc, (&mut machine, &mut talk), lines, &mut counts);
     (machine, talk)
 }
@@ -48,7 +48,7 @@ fn said_by(rt: &impl Abort, alloc: Global, machine: &mut Machine, lines: &[Line]
         script: String::new(alloc),
         said: String::new(alloc),
     };
-    let mut counts: Counts = [0; 28];
+    let mut counts: Counts = [0; 29];
     go_on(rt, alloc, (machine, &mut talk), lines, &mut counts);
     talk
 }
@@ -159,7 +159,8 @@ fn last_lines(rt: &impl Abort, alloc: Global, lines: &[Line]) -> [usize; KINDS] 
 }
 
 /// The last line of each kind behind those of a seed is cut off, by this pick. What a transaction does, and who is there, is gone then. The others
-/// are done or not, and both come; but that a type is there is durable only with the last step.
+/// are done or not, and both come; but that a type is there is durable only with the last step. The seeds are such that each kind is there, and that
+/// one of the lines is the first use of the pool that moved.
 fn cut_off_each(rt: &impl Abort, alloc: Global, seed: u64, pick: u64) {
     let lines = lines_of(rt, alloc, seed, 80, 3);
     for (kind, at) in last_lines(rt, alloc, &lines).iter().enumerate() {
@@ -181,19 +182,19 @@ fn cut_off_each(rt: &impl Abort, alloc: Global, seed: u64, pick: u64) {
 fn each_kind_of_line_behind_lines_that_come_by_chance_is_cut_off_with_the_newest_values(
     rt: HostRuntime,
 ) {
-    cut_off_each(&rt, rt.alloc(), 49_052, NEWEST);
+    cut_off_each(&rt, rt.alloc(), 310_489, NEWEST);
 }
 
 #[test]
 fn each_kind_of_line_behind_lines_that_come_by_chance_is_cut_off_with_the_oldest_values(
     rt: HostRuntime,
 ) {
-    cut_off_each(&rt, rt.alloc(), 79_525, OLDEST);
+    cut_off_each(&rt, rt.alloc(), 77_401, OLDEST);
 }
 
 #[test]
 fn each_kind_of_line_behind_lines_that_come_by_chance_is_cut_off_with_every_other_newest_value(
     rt: HostRuntime,
 ) {
-    cut_off_each(&rt, rt.alloc(), 109_440, EVERY_OTHER);
+    cut_off_each(&rt, rt.alloc(), 182_323, EVERY_OTHER);
 }
