@@ -27,6 +27,7 @@ pub mod Tables
 pub mod SoundTables
 pub mod Puts
 pub mod Places
+pub mod Placement
 pub mod Types
 pub mod Allowed
 pub mod Settled
@@ -35,6 +36,7 @@ pub mod LogsTaken
 pub mod Registry
 pub mod World
 pub mod PoolChanges
+pub mod Imports
 pub mod Transactions
 pub mod Listing
 pub mod Grammar

@@ -1,0 +1,124 @@
+-- A file placed on a device as a pool: why it is not, and what is done.
+use Rattle.std.specs.Prelude.{◌≡◌, ◌≢◌, ◌⊎◌, ℕ, ◌+◌, ◌<◌, ◌||◌, nat_lt, cond, List, length, map, slice_get, Option, Some, None, is_none, Result, Ok, Err}
+use Rattle.std.specs.List.{list_any}
+use Rattle.pm_model.specs.declared.host.HostFault.{HostFault}
+use Rattle.pm_model.specs.Words.{Words, HasOnly, reads}
+use Rattle.pm_model.specs.Moments.{State}
+use Rattle.pm_model.specs.Changes.{Footprint, Write, Changes}
+use Rattle.pm_model.specs.Masks.{masked, IsOff}
+use Rattle.pud_defs.specs.declared.layout.TheConstants.{DAEMON_LOG, NEXT_NUMBER_WORD, NUMBER_LIMIT, TYPE_RECORDS, FRAME_WORDS}
+use Rattle.pud_defs.specs.declared.records.TheConstants.{POOL_RECORDS}
+use Rattle.pud_defs.specs.declared.records.PoolRec.{PoolRec}
+use Rattle.pud_defs.specs.declared.space.TheConstants.{FRAME_NUMBER_WORD}
+use Rattle.pud_defs.specs.Image.{Image}
+use Rattle.pud_defs.specs.Keyed.{first_free, count_used}
+use Rattle.pud_defs.specs.Layout.{IsWithin}
+use Rattle.pud_defs.specs.Frames.{frame_at}
+use Rattle.pud_defs.specs.Stored.{Stored}
+use Rattle.pud_defs.specs.ExportFile.{FileContents}
+use Rattle.pud_defs.specs.Imports.{types_missing, numbers_drawn}
+use Rattle.pud_defs.specs.Step.{is_clash}
+use Rattle.pud_defs.specs.Tables.{Tables, tables_of}
+use Rattle.pud_defs.specs.Types.{types_of}
+use Rattle.pud_defs.specs.World.{StoredWorld}
+use Rattle.batch.specs.Batches.{ByBatch}
+use Rattle.batch.specs.Worlds.{IsSettled}
+use Rattle.batch.specs.Tables.{HasDurableTables}
+use Rattle.registry.specs.declared.adding.Added.{Added}
+use Rattle.registry.specs.declared.placing.NewType.{NewType}
+use Rattle.registry.specs.Puts.{puts_batch}
+use Rattle.registry.specs.Pools.{IsLegalPool, KeepsTables, CommitsPuts, new_record}
+use Rattle.registry.specs.Placing.{placing, IsPlacedFor}
+use Rattle.pud_import.specs.declared.placing.PlaceFault.{PlaceFault}
+use Rattle.pud_import.specs.declared.placing.PlaceFault.TheVariants as faults
+
+-- ---- why a file is not placed
+
+-- the host's fault that it answered
+abbrev pub place_fault : {T : Type 0} → Result T PlaceFault → Option HostFault
+place_fault (Ok x) = None
+place_fault (Err faults.Clash) = None
+place_fault (Err faults.Full) = None
+place_fault (Err faults.NoSpace) = None
+place_fault (Err (faults.Host fault)) = Some fault
+
+-- what it answered in place of Ok
+abbrev pub refusal_in : {T : Type 0} → Result T PlaceFault → Option PlaceFault
+refusal_in (Ok x) = None
+refusal_in (Err fault) = Some fault
+
+-- some type of the file is defined with another map
+abbrev pub clashes_with : (types file : List (ℕ × ℕ)) → _
+clashes_with types file = list_any (λ d. is_clash types d.0 d.1) file
+
+-- Why no file of these contents is placed where these types and tables are there, and this UUID number is the next: a type is defined with another map; no record
+-- is free for the pool, or too few for its types, or too few numbers are left; too few frames are free.
+abbrev pub place_refusal : (types : List (ℕ × ℕ)) → Tables → (next : ℕ) → FileContents → Option PlaceFault
+place_refusal types t next file =
+    cond (clashes_with types file.types) (Some faults.Clash)
+    (cond (is_none (first_free t.pools 0 POOL_RECORDS) || nat_lt TYPE_RECORDS (length types + length (types_missing types file.types)) || nat_lt NUMBER_LIMIT (next + numbers_drawn file.puddles)) (Some faults.Full)
+    (cond (nat_lt t.frames (count_used t.puddles 0 t.frames + file.puddles)) (Some faults.NoSpace) None))
+
+-- the same by what an image of a device of so many frames holds
+abbrev pub refusal_by : (F : ℕ) → Image → FileContents → Option PlaceFault
+refusal_by F image file = place_refusal (types_of image) (tables_of F image) (image NEXT_NUMBER_WORD) file
+
+-- ---- what is done
+
+-- What is placed for a file: the record of its pool and the slot of it, the types that it brings, and its puddles.
+pub record Placement : Type 0 where
+  pub slot : ℕ
+  pub types : List NewType
+  pub puddles : List Added
+
+-- the words of the frame of one of these puddles, on a device of so many frames, but for the number the file's
+pub record IsFrameWord (F : ℕ) (puddles : List Added) (k : ℕ) : Type 0 where
+  pub ordinal : ℕ
+  pub added : Added
+  pub there : slice_get puddles ordinal ≡ Some added
+  pub word : IsWithin (frame_at F added.frame) (frame_at F added.frame + FRAME_WORDS) k
+
+-- any value may come to the frames of these puddles
+abbrev pub ByFrames : (F : ℕ) → List Added → Footprint
+ByFrames F puddles k v = IsFrameWord F puddles k
+
+-- the value of word k of a frame that is filled for a puddle of a file: its UUID number, and else what the file has
+abbrev pub filled_value : Stored → (ordinal number k : ℕ) → ℕ
+filled_value file o number k = cond (nat_lt k FRAME_NUMBER_WORD || nat_lt FRAME_NUMBER_WORD k) (file.word o k) number
+
+-- the frames of these puddles hold what the file's do, durably, but for the puddles' own UUID numbers
+pub record AreFilled (F : ℕ) (file : Stored) (puddles : List Added) (words : Words) : Type 0 where
+  pub each : (o k : ℕ) (a : Added) → slice_get puddles o ≡ Some a → k < FRAME_WORDS → HasOnly (words (frame_at F a.frame + k)) (filled_value file o a.puddle.number k)
+
+-- A pool is placed somewhere, as it is to be by what was read: its frames are filled, durably, and only then the batch is written that names them.
+pub record PlacesSomewhere (F : ℕ) (image : Image) (file : Stored) (types : List (ℕ × ℕ)) (name : List ℕ) (uid gid mode : ℕ) (fault : Option HostFault) (old new : State) : Type 0 where
+  pub placement : Placement
+  pub is : IsPlacedFor F image types (map (λ d. d.base) file.puddles) placement.slot (new_record name uid gid mode (image NEXT_NUMBER_WORD)) placement.types placement.puddles
+  pub mid : State
+  pub first : Option HostFault
+  pub fills : Changes (ByFrames F placement.puddles) first old mid
+  pub filled : first ≡ None → AreFilled F file placement.puddles mid.now.words
+  pub then : ((new ≡ mid) × (fault ≡ first))
+      ⊎ ((first ≡ None) × CommitsPuts (placing placement.slot (new_record name uid gid mode (image NEXT_NUMBER_WORD)) placement.types placement.puddles) fault mid new)
+
+-- ---- worlds
+
+-- none of the words that a pool takes is masked, wherever it is placed
+pub record IsOffPlacing (mask : Write) (F : ℕ) (image : Image) (file : Stored) (types : List (ℕ × ℕ)) (name : List ℕ) (uid gid mode : ℕ) : Type 0 where
+  pub each : (p : Placement) → IsPlacedFor F image types (map (λ d. d.base) file.puddles) p.slot (new_record name uid gid mode (image NEXT_NUMBER_WORD)) p.types p.puddles
+      → IsOff mask (ByFrames F p.puddles) × IsOff mask (ByBatch DAEMON_LOG (puts_batch (placing p.slot (new_record name uid gid mode (image NEXT_NUMBER_WORD)) p.types p.puddles)))
+
+-- the types are masked as they are read
+pub record KeepsTypes (mask : Write) (words : Words) : Type 0 where
+  pub types : types_of (reads (masked mask words)) ≡ types_of (reads words)
+
+-- With words masked that the pool does not take, each image stands for a world, the tables are durable, the pool is legal and nothing stands against it.
+pub record MayImport (size : ℕ) (s : StoredWorld) (F : ℕ) (name : List ℕ) (uid gid mode : ℕ) (file : FileContents) (stored : Stored) (mask : Write) (words : Words) : Type 0 where
+  pub frames : F ≡ s.frames
+  pub keeps : KeepsTables F mask (reads words)
+  pub types : KeepsTypes mask words
+  pub off : IsOffPlacing mask F (reads words) stored file.types name uid gid mode
+  pub settled : IsSettled size s (masked mask words)
+  pub tables : HasDurableTables F (masked mask words)
+  pub legal : IsLegalPool name uid gid mode
+  pub none : refusal_by F (reads words) file ≡ None
