@@ -1,5 +1,5 @@
 -- A file placed on a device as a pool: why it is not, and what is done.
-use Rattle.std.specs.Prelude.{◌≡◌, ◌≢◌, ◌⊎◌, ℕ, ◌+◌, ◌<◌, ◌||◌, nat_lt, cond, List, length, map, slice_get, Option, Some, None, is_none, Result, Ok, Err}
+use Rattle.std.specs.Prelude.{◌≡◌, ◌≢◌, ◌⊎◌, ℕ, Bool, ◌+◌, ◌<◌, ◌||◌, nat_lt, cond, List, length, map, slice_get, Option, Some, None, is_none, Result, Ok, Err}
 use Rattle.std.specs.List.{list_any}
 use Rattle.pm_model.specs.declared.host.HostFault.{HostFault}
 use Rattle.pm_model.specs.Words.{Words, HasOnly, reads}
@@ -18,7 +18,7 @@ use Rattle.pud_defs.specs.Stored.{Stored}
 use Rattle.pud_defs.specs.ExportFile.{FileContents}
 use Rattle.pud_defs.specs.Imports.{types_missing, numbers_drawn}
 use Rattle.pud_defs.specs.Step.{is_clash}
-use Rattle.pud_defs.specs.Tables.{Tables, tables_of}
+use Rattle.pud_defs.specs.Tables.{Tables, tables_of, pool_in}
 use Rattle.pud_defs.specs.Types.{types_of}
 use Rattle.pud_defs.specs.World.{StoredWorld}
 use Rattle.batch.specs.Batches.{ByBatch}
@@ -48,7 +48,7 @@ refusal_in (Ok x) = None
 refusal_in (Err fault) = Some fault
 
 -- some type of the file is defined with another map
-abbrev pub clashes_with : (types file : List (ℕ × ℕ)) → _
+abbrev pub clashes_with : (types file : List (ℕ × ℕ)) → Bool
 clashes_with types file = list_any (λ d. is_clash types d.0 d.1) file
 
 -- Why no file of these contents is placed where these types and tables are there, and this UUID number is the next: a type is defined with another map; no record
@@ -112,7 +112,8 @@ pub record IsOffPlacing (mask : Write) (F : ℕ) (image : Image) (file : Stored)
 pub record KeepsTypes (mask : Write) (words : Words) : Type 0 where
   pub types : types_of (reads (masked mask words)) ≡ types_of (reads words)
 
--- With words masked that the pool does not take, each image stands for a world, the tables are durable, the pool is legal and nothing stands against it.
+-- With words masked that the pool does not take, each image stands for a world, the tables are durable, the pool is legal, no pool has its name, and nothing
+-- stands against it.
 pub record MayImport (size : ℕ) (s : StoredWorld) (F : ℕ) (name : List ℕ) (uid gid mode : ℕ) (file : FileContents) (stored : Stored) (mask : Write) (words : Words) : Type 0 where
   pub frames : F ≡ s.frames
   pub keeps : KeepsTables F mask (reads words)
@@ -121,4 +122,5 @@ pub record MayImport (size : ℕ) (s : StoredWorld) (F : ℕ) (name : List ℕ) 
   pub settled : IsSettled size s (masked mask words)
   pub tables : HasDurableTables F (masked mask words)
   pub legal : IsLegalPool name uid gid mode
+  pub absent : pool_in (tables_of F (reads words)) name ≡ None
   pub none : refusal_by F (reads words) file ≡ None
