@@ -483,7 +483,11 @@ impl Machine {
         match (file, &self.file) {
             ('x', Some(file)) => {
                 let puddles = self.puddles().saturating_add(usize::from(file.puddles));
-                if puddles > self.frames { Some("space") } else { None }
+                if puddles > self.frames {
+                    Some("space")
+                } else {
+                    None
+                }
             }
             ('y', _) => Some("badfile"),
             _ => Some("file"),

@@ -62,8 +62,8 @@ pub fn first_machine(rt: &impl Abort, alloc: Global) -> Machine {
 /// The words by which lines are refused.
 const REFUSED: [&str; 23] = [
     "bad", "client", "taken", "pool", "exists", "wild", "denied", "busy", "open", "tx", "type",
-    "object", "field", "kind", "held", "deep", "logs", "toobig", "file", "badfile", "clash", "full",
-    "space",
+    "object", "field", "kind", "held", "deep", "logs", "toobig", "file", "badfile", "clash",
+    "full", "space",
 ];
 
 /// The place of a reply to the line among those words, and behind them of those that are none.

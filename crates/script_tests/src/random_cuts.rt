@@ -183,19 +183,19 @@ fn cut_off_each(rt: &impl Abort, alloc: Global, seed: u64, pick: u64) {
 fn each_kind_of_line_behind_lines_that_come_by_chance_is_cut_off_with_the_newest_values(
     rt: HostRuntime,
 ) {
-    cut_off_each(&rt, rt.alloc(), 310_489, NEWEST);
+    cut_off_each(&rt, rt.alloc(), 4_075_635, NEWEST);
 }
 
 #[test]
 fn each_kind_of_line_behind_lines_that_come_by_chance_is_cut_off_with_the_oldest_values(
     rt: HostRuntime,
 ) {
-    cut_off_each(&rt, rt.alloc(), 77_401, OLDEST);
+    cut_off_each(&rt, rt.alloc(), 1_875_178, OLDEST);
 }
 
 #[test]
 fn each_kind_of_line_behind_lines_that_come_by_chance_is_cut_off_with_every_other_newest_value(
     rt: HostRuntime,
 ) {
-    cut_off_each(&rt, rt.alloc(), 182_323, EVERY_OTHER);
+    cut_off_each(&rt, rt.alloc(), 900_615, EVERY_OTHER);
 }
