@@ -71,6 +71,7 @@ pub mod ExamplesPlaces
 pub mod ExamplesGraph
 pub mod ExamplesFiles
 pub mod ExamplesImports
+pub mod ExamplesPlacement
 pub mod ExamplesDump
 pub mod ExamplesRights
 pub mod ExamplesOpenLogs

@@ -95,7 +95,7 @@ pub struct Puddle {
 }
 
 /// What a record says of a puddle, and whose it is.
-#[derive(Clone, Copy, Debug, PartialEq, Eq)]
+#[derive(Clone, Copy, Debug, Default, PartialEq, Eq)]
 pub struct PuddleRec {
     /// The slot of the pool in the pool table, 0 to 31.
     pub pool: u32,
