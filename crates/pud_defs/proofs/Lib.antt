@@ -73,6 +73,7 @@ pub mod ExamplesFiles
 pub mod ExamplesDump
 pub mod ExamplesRights
 pub mod ExamplesOpenLogs
+pub mod ExamplesImports
 pub mod Stands
 pub mod DistinctKeys
 pub mod Contents
