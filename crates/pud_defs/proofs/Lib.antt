@@ -75,6 +75,7 @@ pub mod ExamplesPlacement
 pub mod ExamplesDump
 pub mod ExamplesRights
 pub mod ExamplesOpenLogs
+pub mod ExamplesImports
 pub mod Stands
 pub mod DistinctKeys
 pub mod Contents

@@ -1,6 +1,6 @@
 //! Pools that are placed: all of a pool's puddles, whose frames were filled before, and the types that it brings.
 
-ghost use Rattle.std.specs.Prelude.{◌≡◌, ◌+◌, ◌*◌, ◌<◌, ◌≤◌, ⊤, ℕ, List, All, ◌++◌, length, map};
+ghost use Rattle.std.specs.Prelude.{◌≡◌, ◌+◌, ◌<◌, ◌≤◌, ⊤, ℕ, List, All, ◌++◌, length, map};
 ghost use Rattle.pm_model.specs.Counts.{after_fault, fault_of};
 ghost use Rattle.pm_model.specs.Changes.{Changes, Write};
 ghost use Rattle.log_replay.specs.Replaying.{Anything};
@@ -38,7 +38,7 @@ pub struct NewType {
 /// Adds the records of the types to the batch.
 fn add_types(batch: &mut Batch, types: &[NewType])
     requires records { All (λ t. t.record_number < TYPE_RECORDS) types.now }
-    ensures { words_of batch.old + 4 * length types.now ≤ LOG_ENTRY_WORDS → batch.new ≡ batch.old ++ puts_batch (map new_type_put types.now) }
+    ensures { words_of batch.old + words_of (puts_batch (map new_type_put types.now)) ≤ LOG_ENTRY_WORDS → batch.new ≡ batch.old ++ puts_batch (map new_type_put types.now) }
 {
     for t in types {
         add_put(
@@ -51,7 +51,7 @@ fn add_types(batch: &mut Batch, types: &[NewType])
 /// Adds the records of the puddles to the batch.
 fn add_puddles(batch: &mut Batch, puddles: &[Added])
     requires within { All (IsAddedWithin MAX_FRAMES) puddles.now }
-    ensures { words_of batch.old + 7 * length puddles.now ≤ LOG_ENTRY_WORDS → batch.new ≡ batch.old ++ puts_batch (puddle_records puddles.now) }
+    ensures { words_of batch.old + words_of (puts_batch (puddle_records puddles.now)) ≤ LOG_ENTRY_WORDS → batch.new ≡ batch.old ++ puts_batch (puddle_records puddles.now) }
 {
     for added in puddles {
         add_put(

@@ -10,6 +10,9 @@ ghost use Rattle.pud_defs.specs.Imports.{type_put};
 ghost use Rattle.pud_defs.specs.Types.{map_of, types_of};
 ghost use Rattle.type_maps.specs.Define.{fault_in, refusal_in, table_refusal, place_for, place_of, IsInTable, Defines};
 
+mod free;
+
+pub use free::{FreeRecords, free_records};
 use pm_model::{Host, HostFault, Loads};
 use pm_persist::persist_word;
 use pud_defs::layout::{POOL_TABLE, TYPE_RECORD_WORDS, TYPE_RECORDS, TYPE_TABLE};
