@@ -75,7 +75,6 @@ pub mod ExamplesPlacement
 pub mod ExamplesDump
 pub mod ExamplesRights
 pub mod ExamplesOpenLogs
-pub mod ExamplesImports
 pub mod Stands
 pub mod DistinctKeys
 pub mod Contents

@@ -30,7 +30,7 @@ use puddle_space::free_base;
 use puddle_table::{PuddleFault, free_frame};
 
 /// A puddle that is added to a pool.
-#[derive(Clone, Copy, Debug, PartialEq, Eq)]
+#[derive(Clone, Copy, Debug, Default, PartialEq, Eq)]
 pub struct Added {
     /// Its frame.
     pub frame: u32,
