@@ -1,6 +1,5 @@
 -- What an export file adds to a stored world: a pool of its graph, and the types of it that were not defined.
 use Rattle.std.specs.Prelude.{ℕ, ◌+◌, Bool, ◌||◌, nat_le, nat_lt, List, [], ◌∷◌, length, is_none}
-use Rattle.std.specs.List.{list_any}
 use Rattle.std.specs.Ordering.{nat_cmp}
 use Rattle.std.specs.FinMap.Entries.{put, where_key}
 use Rattle.pud_defs.specs.declared.layout.TheConstants.{TYPE_RECORDS, NUMBER_LIMIT}

@@ -20,6 +20,7 @@ use Rattle.pud_defs.proofs.PutsMade.{with_put-outside}
 use Rattle.pud_defs.proofs.TablesOf.{tables_of-same}
 use Rattle.pud_defs.proofs.TypeTable.{type_at-same}
 use Rattle.pud_defs.proofs.TypesDefined.{AreNewTypes, standing-type_put, first_free-same}
+use Rattle.type_maps.specs.FreeRecords.{AreFreeRecords}
 use Rattle.registry.specs.declared.placing.NewType.{NewType}
 use Rattle.registry.specs.Puts.{with_puts, AreOfTables}
 use Rattle.registry.specs.Placing.{new_type_put, type_of, HasFreeRecords}
@@ -71,6 +72,11 @@ pub types_keep_tables : (F : ℕ) (types : List NewType) (i : Image) → AreReco
 types_keep_tables F types i within =
     tables_of-same F (with_puts (map new_type_put types) i) i
     (λ k low high. types_stay types i k within (λ from to. omega arith)) (λ k low high. types_stay types i k within (λ from to. omega arith))
+
+-- records that are free in turn
+pub HasFreeRecords-records : (at : ℕ → Option (ℕ × ℕ)) (from : ℕ) (types : List NewType) → AreFreeRecords at from (map (λ t. t.record_number) types) → HasFreeRecords at from types
+HasFreeRecords-records at from [] free = tt
+HasFreeRecords-records at from (t ∷ types) free = (free.0, HasFreeRecords-records at (t.record_number + 1) types free.1)
 
 -- ---- the world
 
