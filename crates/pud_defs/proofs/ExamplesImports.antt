@@ -1,5 +1,5 @@
 -- Lines that make a pool of an export file: what is answered, in which order they are refused, and the world behind them.
-use Rattle.std.proofs.Common.{◌≡◌, ℕ, ◌+◌, true, false, cond, List, [], ◌∷◌, map, codes, bytes_eq, Option, Some, None, refl}
+use Rattle.std.proofs.Common.{◌≡◌, ℕ, true, false, cond, List, [], ◌∷◌, map, codes, bytes_eq, Some, None, refl}
 use Rattle.std.specs.List.{range_with_len}
 use Rattle.pud_defs.specs.declared.machine.Command.{Command}
 use Rattle.pud_defs.specs.declared.machine.Command.TheVariants.{Import}

@@ -1,15 +1,13 @@
 -- A file of one puddle that is placed on devices of four frames, where its base is taken and where it is not, and what a file adds to a world.
-use Rattle.std.proofs.Common.{◌≡◌, inl, inr, ℕ, zero, suc, ◌+◌, ◌<◌, true, false, List, [], ◌∷◌, Some, None, refl, sym, ap, ◌∙◌, subst, arith}
+use Rattle.std.proofs.Common.{◌≡◌, inl, inr, ℕ, zero, suc, ◌+◌, ◌<◌, true, false, [], ◌∷◌, Some, refl, ap, subst, arith}
 use Rattle.std.specs.Prelude.{slice_get}
-use Rattle.std.proofs.lemmas.Bool.{cases_eq}
 use Rattle.std.proofs.lemmas.Option.{same_Some, none-some}
 use Rattle.pud_defs.specs.declared.records.Puddle.{Puddle}
 use Rattle.pud_defs.specs.Bases.{base_at, is_legal_base}
 use Rattle.pud_defs.specs.Spaces.{owner}
-use Rattle.pud_defs.specs.ExportFile.{FileContents}
 use Rattle.pud_defs.specs.Holdings.Holding.{Sound}
 use Rattle.pud_defs.specs.Places.{is_free_base, IsLowestBase}
-use Rattle.pud_defs.specs.Placement.{is_taken_base, IsBaseFor, ArePlaced}
+use Rattle.pud_defs.specs.Placement.{is_taken_base, ArePlaced}
 use Rattle.pud_defs.specs.Imports.{types_missing, with_types_defined, is_full_for_file, lacks_frames_for_file, with_imported_pool}
 use Rattle.pud_defs.specs.Tables.{Tables, tables_of}
 use Rattle.pud_defs.specs.World.{StoredWorld, blank_world}

@@ -1,5 +1,5 @@
 -- A pool of several puddles made in sound tables: the first comes with the pool's record, each other behind it, and the tables stay sound.
-use Rattle.std.proofs.Common.{◌≡◌, ◌⊎◌, inl, inr, ℕ, zero, suc, ◌+◌, ◌-◌, ◌<◌, ◌≤◌, Bool, true, false, not, ◌&&◌, ◌||◌, eqb, List, [], ◌∷◌, ◌++◌, map, length, get_or, Option, Some, None, nat_cmp, option_map, refl, sym, ap, ap₂, ◌∙◌, subst, arith, ne_eqb, eq-eqb, eqb-true, true≢false, append_assoc, append-nil}
+use Rattle.std.proofs.Common.{◌≡◌, inl, inr, ℕ, zero, suc, ◌+◌, ◌-◌, ◌<◌, ◌≤◌, Bool, true, false, not, ◌||◌, eqb, List, [], ◌∷◌, ◌++◌, map, length, get_or, Option, Some, None, nat_cmp, option_map, refl, sym, ap, ap₂, ◌∙◌, subst, arith, ne_eqb, eq-eqb, true≢false, append_assoc, append-nil}
 use Rattle.std.specs.Prelude.{slice_get}
 use Rattle.std.proofs.lemmas.List.{get_or-map, length-map}
 use Rattle.std.proofs.lemmas.List.Sums.{AllPass-from_list_all}
@@ -10,7 +10,7 @@ use Rattle.std.specs.Cmp.{tied_itself, unsigned_tied, IsTotalOrder}
 use Rattle.std.specs.Cmp.Lexicographic.{nat_list_cmp_total}
 use Rattle.std.specs.declared.cmp.Ordering.{Ordering}
 use Rattle.std.specs.declared.cmp.Ordering.TheVariants.{Less, Equal, Greater}
-use Rattle.std.proofs.lemmas.Bool.{cases_eq, cases_Bool, cond-true, cond-false, and_parts, and_from}
+use Rattle.std.proofs.lemmas.Bool.{cases_eq, cond-true, and_parts}
 use Rattle.std.proofs.lemmas.List.{length_push}
 use Rattle.std.proofs.lemmas.Cmp.{nat_cmp_total}
 use Rattle.pud_defs.specs.declared.records.TheConstants.{POOL_RECORDS, MAX_PUDDLES}
@@ -20,13 +20,13 @@ use Rattle.pud_defs.specs.Names.{name_cmp}
 use Rattle.pud_defs.specs.ExportFile.{under_base, are_file_bases}
 use Rattle.pud_defs.specs.Keyed.{under, first_from, first_free, are_distinct}
 use Rattle.pud_defs.specs.Bases.{is_legal_base}
-use Rattle.pud_defs.specs.Places.{has_other_bases, is_free_base, IsLowestBase}
+use Rattle.pud_defs.specs.Places.{has_other_bases}
 use Rattle.pud_defs.specs.Puddles.{Member, is_legal_puddle}
 use Rattle.pud_defs.specs.Spaces.{all_below}
 use Rattle.pud_defs.specs.Tables.{Tables, Reader, member_of, named, puddles_of, listed, pool_of, pools_of}
 use Rattle.pud_defs.specs.SoundTables.{bases, old_bases, HasSoundTables}
 use Rattle.pud_defs.specs.Puts.{is_of_pool, with_pool_at, with_puddle_at}
-use Rattle.pud_defs.specs.Placement.{has_another_base, is_taken_base, IsBaseFor, ArePlacedFrom}
+use Rattle.pud_defs.specs.Placement.{has_another_base, IsBaseFor, ArePlacedFrom}
 use Rattle.pud_defs.specs.Pools.{is_legal_pool}
 use Rattle.pud_defs.proofs.Keyed.{under_tied, under_apart, first_free_some, first_from_none, distinct_keys}
 use Rattle.pud_defs.proofs.Spaces.{all_below-each}

@@ -1,19 +1,18 @@
 -- Several types defined, one behind the other: what their records make of an image, and that the types of a file which are missing may be defined so.
-use Rattle.std.proofs.Common.{◌≡◌, ◌⊎◌, inl, inr, ℕ, zero, suc, ◌+◌, ◌<◌, ◌≤◌, Bool, true, false, ◌&&◌, eqb, cond, List, [], ◌∷◌, Option, Some, None, is_none, nat_cmp, refl, sym, ap, ap₂, ◌∙◌, subst, arith, ne_eqb, eq-eqb}
+use Rattle.std.proofs.Common.{◌≡◌, ◌⊎◌, inl, inr, ℕ, zero, suc, ◌+◌, ◌<◌, ◌≤◌, Bool, true, false, eqb, cond, List, [], ◌∷◌, Option, Some, None, is_none, nat_cmp, refl, sym, ap₂, ◌∙◌, subst, arith, ne_eqb, eq-eqb}
 use Rattle.std.specs.Prelude.{⊤}
 use Rattle.std.specs.List.{list_all}
 use Rattle.std.specs.Ordering.{is_lt}
-use Rattle.std.specs.FinMap.Entries.{below_all, is_sorted, where_key, find-put}
-use Rattle.std.proofs.lemmas.Bool.{cases_eq, cases_Bool, cond-true, cond-false, and_parts}
+use Rattle.std.specs.FinMap.Entries.{below_all, is_sorted, find-put}
+use Rattle.std.proofs.lemmas.Bool.{cases_eq, cond-true, cond-false, and_parts}
 use Rattle.std.proofs.lemmas.Bool.Decides.{nat_tests}
 use Rattle.std.proofs.lemmas.Cmp.{nat_cmp_total}
-use Rattle.pud_defs.specs.declared.layout.TheConstants.{TYPE_RECORDS, POOL_TABLE, TYPE_TABLE}
+use Rattle.pud_defs.specs.declared.layout.TheConstants.{TYPE_RECORDS}
 use Rattle.pud_defs.specs.Image.{Image, written}
 use Rattle.pud_defs.specs.TypeMap.{is_legal_map, is_legal_type_id}
 use Rattle.pud_defs.specs.Keyed.{first_free}
 use Rattle.pud_defs.specs.Types.{type_record_at, type_at, map_of, with_type, is_sound_type}
 use Rattle.pud_defs.specs.ExportFile.{are_file_types}
-use Rattle.pud_defs.specs.Tables.{Pool}
 use Rattle.pud_defs.specs.Puts.{with_put}
 use Rattle.pud_defs.specs.PoolChanges.{with_type_defined}
 use Rattle.pud_defs.specs.Imports.{type_put, types_missing, with_types_defined}

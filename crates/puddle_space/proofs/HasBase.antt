@@ -1,5 +1,5 @@
 -- Bases that some puddle has, frame by frame.
-use Rattle.std.proofs.Common.{◌≡◌, ℕ, ◌<◌, Bool, true, false, not, refl, sym, ap, ◌∙◌, arith}
+use Rattle.std.proofs.Common.{◌≡◌, ℕ, ◌<◌, Bool, true, false, not, refl, sym, ap, ◌∙◌}
 use Rattle.pud_defs.specs.Image.{Image}
 use Rattle.pud_defs.specs.Placement.{has_another_base}
 use Rattle.pud_defs.specs.Puddles.{puddle_at}

@@ -1,11 +1,10 @@
 -- Puddles that are added: what their changes make of the tables, and that a new one is legal and has a base of its own.
-use Rattle.std.proofs.Common.{◌≡◌, inl, inr, ℕ, ◌+◌, ◌<◌, ◌≤◌, true, false, not, eqb, List, [], ◌∷◌, map, Option, Some, None, option_map, nat_cmp, refl, sym, ap, ◌∙◌, arith, le-leb, lt-ltb, eq-eqb, ne_eqb}
+use Rattle.std.proofs.Common.{◌≡◌, inl, inr, ℕ, ◌+◌, ◌<◌, ◌≤◌, true, false, not, eqb, List, [], ◌∷◌, Option, Some, None, option_map, nat_cmp, refl, sym, ap, ◌∙◌, arith, le-leb, lt-ltb, eq-eqb, ne_eqb}
 use Rattle.std.specs.Prelude.{⊤}
 use Rattle.std.specs.Cmp.{unsigned_tied}
 use Rattle.std.proofs.lemmas.Bool.{cases_eq, cases_Bool, cond-true, cond-false, and_parts, and_from}
 use Rattle.pud_defs.specs.declared.layout.TheConstants.{NEXT_NUMBER_WORD, PUDDLE_TABLE}
 use Rattle.pud_defs.specs.declared.records.TheConstants.{POOL_RECORDS}
-use Rattle.pud_defs.specs.declared.records.Put.{Put}
 use Rattle.pud_defs.specs.declared.space.TheConstants.{LAST_FRONTIER}
 use Rattle.pud_defs.specs.Bases.{is_legal_base}
 use Rattle.pud_defs.specs.Image.{Image}

@@ -1,5 +1,5 @@
 -- A pool that is placed: what its batch makes of the tables, and of the world.
-use Rattle.std.proofs.Common.{◌≡◌, inl, inr, ℕ, zero, suc, ◌+◌, ◌-◌, ◌<◌, ◌≤◌, Bool, true, false, cond, List, [], ◌∷◌, ◌++◌, map, length, Option, Some, None, nat_cmp, refl, sym, ap, ap₂, ◌∙◌, subst, arith, le-leb}
+use Rattle.std.proofs.Common.{◌≡◌, inl, inr, ℕ, zero, suc, ◌+◌, ◌<◌, ◌≤◌, true, false, cond, List, [], ◌∷◌, map, length, Option, Some, None, nat_cmp, refl, sym, ap, ap₂, ◌∙◌, subst, arith, le-leb}
 use Rattle.std.specs.Prelude.{All, slice_get, bytes_eq, ⊤}
 use Rattle.std.specs.List.{AllByRecursion}
 use Rattle.std.specs.FinMap.Entries.{put}
@@ -13,7 +13,7 @@ use Rattle.pm_model.specs.Moments.{State}
 use Rattle.pm_model.specs.Changes.{Write}
 use Rattle.pm_model.specs.Masks.{masked, masked_state, IsOff}
 use Rattle.pm_model.proofs.Words.{Picks-reads}
-use Rattle.pud_defs.specs.declared.layout.TheConstants.{NEXT_NUMBER_WORD, DAEMON_LOG, NUMBER_LIMIT, MAX_OWNER_ID, TYPE_RECORDS, TYPE_TABLE, POOL_TABLE}
+use Rattle.pud_defs.specs.declared.layout.TheConstants.{NEXT_NUMBER_WORD, DAEMON_LOG, MAX_OWNER_ID, TYPE_RECORDS}
 use Rattle.pud_defs.specs.declared.records.TheConstants.{POOL_RECORDS, MAX_PUDDLES}
 use Rattle.pud_defs.specs.declared.records.PoolRec.{PoolRec}
 use Rattle.pud_defs.specs.declared.records.Puddle.{Puddle}
@@ -22,22 +22,21 @@ use Rattle.pud_defs.specs.declared.space.TheConstants.{LAST_FRONTIER}
 use Rattle.pud_defs.specs.Bases.{is_legal_base}
 use Rattle.pud_defs.specs.Entries.{Entry}
 use Rattle.pud_defs.specs.ExportFile.{FileContents}
-use Rattle.pud_defs.specs.Graph.{Graph, graph_of}
+use Rattle.pud_defs.specs.Graph.{graph_of}
 use Rattle.pud_defs.specs.Holdings.{held_as, holding_in}
 use Rattle.pud_defs.specs.Holdings.Holding.{Sound}
 use Rattle.pud_defs.specs.Image.{Image}
 use Rattle.pud_defs.specs.Imports.{types_missing, numbers_drawn, imported_pool, with_types_defined, with_imported_pool}
 use Rattle.pud_defs.specs.Layout.{tables_end, frames_at}
 use Rattle.pud_defs.specs.Names.{name_cmp}
-use Rattle.pud_defs.specs.Placement.{ArePlacedFrom, placed_frontier}
+use Rattle.pud_defs.specs.Placement.{placed_frontier}
 use Rattle.pud_defs.specs.Pools.{IsHeld}
-use Rattle.pud_defs.specs.Puddles.{Member, is_legal_puddle}
+use Rattle.pud_defs.specs.Puddles.{Member}
 use Rattle.pud_defs.specs.Puts.{pool_put, member_by, with_put, with_pool_at, with_puddle_at}
-use Rattle.pud_defs.specs.Registry.{is_allowed}
 use Rattle.pud_defs.specs.Replay.{settled_by}
 use Rattle.pud_defs.specs.Spaces.{owner}
 use Rattle.pud_defs.specs.Stored.{stored_in}
-use Rattle.pud_defs.specs.Tables.{Tables, Pool, tables_of, listed, pool_of, pools_of}
+use Rattle.pud_defs.specs.Tables.{Tables, Pool, tables_of, listed, pool_of}
 use Rattle.pud_defs.specs.Types.{type_record_at, type_at, types_of}
 use Rattle.pud_defs.specs.World.{StoredWorld, idle_registry}
 use Rattle.pud_defs.proofs.Held.{HasSameFrame, stored_in-same}
@@ -46,19 +45,19 @@ use Rattle.pud_defs.proofs.Keyed.{first_free_some, keyed-same}
 use Rattle.pud_defs.proofs.Parts.{StandsFor}
 use Rattle.pud_defs.proofs.Parts.Part.{Types}
 use Rattle.pud_defs.proofs.PoolsCounted.{no_member}
-use Rattle.pud_defs.proofs.PuddlesPlaced.{member_for, with_puddles_at, counted, listed-counted, length-counted, AreDistinctBases, file_bases_distinct, IsPlacedNext, ArePlacedNext, HasPlaced, IsNewPool, all_placed, IsPlacedAt, placed_each}
+use Rattle.pud_defs.proofs.PuddlesPlaced.{member_for, with_puddles_at, counted, listed-counted, length-counted, AreDistinctBases, file_bases_distinct, IsPlacedNext, HasPlaced, IsNewPool, all_placed, IsPlacedAt, placed_each}
 use Rattle.pud_defs.proofs.PutsMade.{pool_put_made}
 use Rattle.pud_defs.proofs.TablesOf.{frames_of_tables}
 use Rattle.pud_defs.proofs.TypeTable.{type_at-same}
 use Rattle.pud_defs.proofs.TypesDefined.{types_missing-new, AreNewTypes, typed, typed-is}
 use Rattle.batch.specs.Batches.{HasIdleGate, IsFree, ByBatch, Commits}
-use Rattle.batch.specs.Worlds.{IsSettled, with_batch, MovesBy, Moves}
+use Rattle.batch.specs.Worlds.{IsSettled, MovesBy, Moves}
 use Rattle.batch.specs.Tables.{HasDurableTables}
 use Rattle.registry.specs.declared.adding.Added.{Added}
 use Rattle.registry.specs.declared.placing.NewType.{NewType}
 use Rattle.registry.specs.Puts.{puts_batch, with_puts, AreOfPools, AreOfTables}
 use Rattle.registry.specs.Adding.{adding, IsAddedWithin, MakesPools, pools_next}
-use Rattle.registry.specs.Placing.{new_type_put, placing, type_of, puddle_of, HasFreeRecords, IsPlacedFor, MayPlace}
+use Rattle.registry.specs.Placing.{new_type_put, placing, type_of, puddle_of, IsPlacedFor, MayPlace}
 use Rattle.registry.specs.Pools.{IsLegalPool, CommitsPuts, ChangesMasked}
 use Rattle.registry.proofs.Made.{no_name, none_of}
 use Rattle.registry.proofs.Moved.{ReadsWorld, reads_world, settled_word, settled_tables, standing_with_puts, ChangesPools-moves}

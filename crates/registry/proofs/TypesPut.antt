@@ -1,12 +1,11 @@
 -- The types that a placed pool brings: what their records make of an image, and of the world that it stands for.
-use Rattle.std.proofs.Common.{◌≡◌, inl, inr, ℕ, ◌+◌, ◌-◌, ◌<◌, ◌≤◌, true, List, [], ◌∷◌, ◌++◌, map, Option, Some, refl, sym, ap, ◌∙◌, subst, arith}
+use Rattle.std.proofs.Common.{◌≡◌, inr, ℕ, ◌+◌, ◌-◌, ◌<◌, ◌≤◌, List, [], ◌∷◌, ◌++◌, map, Option, refl, sym, ◌∙◌, arith}
 use Rattle.std.specs.Prelude.{All, ⊤}
 use Rattle.std.proofs.lemmas.List.Elements.{All-head, All-tail}
 use Rattle.std.proofs.lemmas.Bool.{and_parts}
 use Rattle.pud_defs.specs.declared.layout.TheConstants.{TYPE_RECORDS, TYPE_TABLE, POOL_TABLE}
 use Rattle.pud_defs.specs.declared.records.Put.{Put}
 use Rattle.pud_defs.specs.Image.{Image}
-use Rattle.pud_defs.specs.Keyed.{first_free}
 use Rattle.pud_defs.specs.Types.{type_record_at, type_at}
 use Rattle.pud_defs.specs.TypeMap.{is_legal_map, is_legal_type_id}
 use Rattle.pud_defs.specs.Tables.{tables_of}
@@ -20,6 +19,7 @@ use Rattle.pud_defs.proofs.PutsMade.{with_put-outside}
 use Rattle.pud_defs.proofs.TablesOf.{tables_of-same}
 use Rattle.pud_defs.proofs.TypeTable.{type_at-same}
 use Rattle.pud_defs.proofs.TypesDefined.{AreNewTypes, standing-type_put, first_free-same}
+use Rattle.type_maps.specs.FreeRecords.{AreFreeRecords}
 use Rattle.registry.specs.declared.placing.NewType.{NewType}
 use Rattle.registry.specs.Puts.{with_puts, AreOfTables}
 use Rattle.registry.specs.Placing.{new_type_put, type_of, HasFreeRecords}
@@ -72,6 +72,11 @@ types_keep_tables F types i within =
     tables_of-same F (with_puts (map new_type_put types) i) i
     (λ k low high. types_stay types i k within (λ from to. omega arith)) (λ k low high. types_stay types i k within (λ from to. omega arith))
 
+-- records that are free in turn
+pub HasFreeRecords-records : (at : ℕ → Option (ℕ × ℕ)) (from : ℕ) (types : List NewType) → AreFreeRecords at from (map (λ t. t.record_number) types) → HasFreeRecords at from types
+HasFreeRecords-records at from [] free = tt
+HasFreeRecords-records at from (t ∷ types) free = (free.0, HasFreeRecords-records at (t.record_number + 1) types free.1)
+
 -- ---- the world
 
 -- free records of one table are free in another that has the same records from there on
@@ -79,9 +84,10 @@ pub HasFreeRecords-same : (f g : ℕ → Option (ℕ × ℕ)) (from : ℕ) (type
 HasFreeRecords-same f g from [] same free = tt
 HasFreeRecords-same f g from (t ∷ types) same free =
     let is = first_free_some f from (TYPE_RECORDS - from) t.record_number free.0 in
-    let above = is.low in
-    (sym (first_free-same f g from (TYPE_RECORDS - from) (λ j low high. same j low (omega arith))) ∙ free.0,
-     HasFreeRecords-same f g (t.record_number + 1) types (λ n low high. same n (omega arith) high) free.1)
+    let above = is.low in (
+      sym (first_free-same f g from (TYPE_RECORDS - from) (λ j low high. same j low (omega arith))) ∙ free.0,
+      HasFreeRecords-same f g (t.record_number + 1) types (λ n low high. same n (omega arith) high) free.1,
+    )
 
 -- an image that stands for a world, with new types in free records, stands for the world with these
 pub standing_with_new_types : (size : ℕ) (types : List NewType) (from : ℕ) (i : Image) (s : StoredWorld) → StandsFor size i s → HasFreeRecords (type_at i) from types → AreNewTypes s.types (map type_of types)
@@ -96,5 +102,5 @@ standing_with_new_types size (t ∷ types) from i s stands free new =
     let j = with_put (new_type_put t) i in
     let then = standing-type_put size i s t.record_number t.id t.map stands below is.free legal.0 legal.1 new.1 in
     let free_then = HasFreeRecords-same (type_at i) (type_at j) (t.record_number + 1) types
-        (λ n from to. sym (type_at-same i j n (with_put-outside (new_type_put t) i (type_record_at n) (λ a b. omega arith)) (with_put-outside (new_type_put t) i (type_record_at n + 1) (λ a b. omega arith)))) free.1 in
+    (λ n from to. sym (type_at-same i j n (with_put-outside (new_type_put t) i (type_record_at n) (λ a b. omega arith)) (with_put-outside (new_type_put t) i (type_record_at n + 1) (λ a b. omega arith)))) free.1 in
     standing_with_new_types size types (t.record_number + 1) j (with_type_defined t.id t.map s) then free_then new.2

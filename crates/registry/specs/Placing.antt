@@ -1,7 +1,5 @@
 -- A pool that is placed: its record, its puddles, whose frames were filled before, and the types that it brings, all by one batch.
-use Rattle.std.specs.Prelude.{◌≡◌, ℕ, ◌+◌, ◌-◌, ◌<◌, ◌≤◌, true, List, [], ◌∷◌, ◌++◌, length, map, slice_get, Option, Some, None, ⊤}
-use Rattle.std.specs.FinMap.Entries.{put}
-use Rattle.std.specs.List.{list_all}
+use Rattle.std.specs.Prelude.{◌≡◌, ℕ, ◌+◌, ◌-◌, ◌≤◌, true, List, [], ◌∷◌, ◌++◌, length, map, slice_get, Option, Some, None, ⊤}
 use Rattle.pm_model.specs.Words.{Words, Picks, reads}
 use Rattle.pm_model.specs.Changes.{Write}
 use Rattle.pm_model.specs.Masks.{masked, IsOff}
@@ -20,7 +18,7 @@ use Rattle.pud_defs.specs.Replay.{settled_by}
 use Rattle.pud_defs.specs.Puts.{pool_put, member_by}
 use Rattle.pud_defs.specs.Placement.{ArePlaced}
 use Rattle.pud_defs.specs.Imports.{type_put, types_missing, numbers_drawn, with_types_defined}
-use Rattle.pud_defs.specs.Tables.{Tables, tables_of, pool_in}
+use Rattle.pud_defs.specs.Tables.{tables_of, pool_in}
 use Rattle.pud_defs.specs.World.{StoredWorld}
 use Rattle.batch.specs.Batches.{ByBatch}
 use Rattle.batch.specs.Worlds.{IsSettled}

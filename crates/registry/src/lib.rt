@@ -25,8 +25,8 @@ pub use changing::{change_mode, drop_pool};
 pub use growing::{find_growth, grow_pool};
 use log_replay::{Target, settle_log};
 pub use making::{MakeFault, make_pool};
-use pm_model::{Host, HostFault};
 pub use placing::{NewType, place_pool};
+use pm_model::{Host, HostFault};
 use pud_defs::layout::{DAEMON_LOG, MACHINE_WORD};
 pub use soundness::sound_frames;
 

@@ -41,10 +41,7 @@ fn add_types(batch: &mut Batch, types: &[NewType])
     ensures { words_of batch.old + words_of (puts_batch (map new_type_put types.now)) ≤ LOG_ENTRY_WORDS → batch.new ≡ batch.old ++ puts_batch (map new_type_put types.now) }
 {
     for t in types {
-        add_put(
-            batch,
-            &type_maps::record_put(t.record_number, t.id, t.map),
-        );
+        add_put(batch, &type_maps::record_put(t.record_number, t.id, t.map));
     }
 }
 
@@ -54,10 +51,7 @@ fn add_puddles(batch: &mut Batch, puddles: &[Added])
     ensures { words_of batch.old + words_of (puts_batch (puddle_records puddles.now)) ≤ LOG_ENTRY_WORDS → batch.new ≡ batch.old ++ puts_batch (puddle_records puddles.now) }
 {
     for added in puddles {
-        add_put(
-            batch,
-            &puddle_table::record_put(added.frame, added.puddle),
-        );
+        add_put(batch, &puddle_table::record_put(added.frame, added.puddle));
     }
 }
 

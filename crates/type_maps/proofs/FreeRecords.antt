@@ -1,9 +1,9 @@
 -- The free records of the table, gathered record by record.
-use Rattle.std.proofs.Common.{◌≡◌, inl, inr, ℕ, zero, suc, ◌+◌, ◌-◌, ◌<◌, ◌≤◌, cond, List, [], ◌∷◌, ◌++◌, length, take, Option, Some, None, is_none, refl, sym, ap, ap₂, ◌∙◌, arith, append_assoc, append-nil}
+use Rattle.std.proofs.Common.{◌≡◌, inl, inr, ℕ, zero, suc, ◌+◌, ◌-◌, ◌<◌, ◌≤◌, cond, List, [], ◌∷◌, ◌++◌, length, take, Option, Some, None, is_none, refl, sym, ap, ◌∙◌, arith, append_assoc, append-nil}
 use Rattle.std.proofs.lemmas.Bool.{cases_lt, cond-true, cond-false}
 use Rattle.std.proofs.lemmas.List.{take-append-le, take_all, length-take-le}
 use Rattle.pud_defs.specs.declared.layout.TheConstants.{TYPE_RECORDS}
-use Rattle.pud_defs.specs.Keyed.{first_free, count_used}
+use Rattle.pud_defs.specs.Keyed.{count_used}
 use Rattle.pud_defs.proofs.Keyed.{first_free_here, first_free_used}
 use Rattle.type_maps.specs.FreeRecords.{free_places, AreFreeRecords}
 

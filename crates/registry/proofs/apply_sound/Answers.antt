@@ -2,7 +2,6 @@ use Rattle.std.proofs.Common.{◌≡◌, ℕ, None, Some, refl, sym, ap, ◌∙�
 use Rattle.std.specs.Prelude.{is_some}
 use Rattle.std.proofs.lemmas.Result.{err_from_is_err_and}
 use Rattle.pm_model.specs.Words.{reads}
-use Rattle.pm_model.specs.Counts.{Counts}
 use Rattle.pm_model.proofs.Reading.{Changes-read, still_size}
 use Rattle.log_replay.proofs.Applying.{any_then}
 use Rattle.pud_defs.specs.World.{world_of}

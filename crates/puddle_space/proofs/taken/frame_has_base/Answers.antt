@@ -1,9 +1,9 @@
-use Rattle.std.proofs.Common.{◌≡◌, ◌+◌, not, ◌&&◌, eqb, true, false, refl, ap, sym, ◌∙◌, arith}
+use Rattle.std.proofs.Common.{◌≡◌, ◌+◌, not, eqb, ap, sym, ◌∙◌, arith}
 use Rattle.pm_model.specs.Words.{reads}
 use Rattle.pud_defs.specs.declared.records.TheConstants.{PUDDLE_BASE_WORD}
 use Rattle.pud_defs.specs.Image.{Image}
 use Rattle.pud_defs.specs.Placement.{has_another_base}
-use Rattle.pud_defs.specs.Puddles.{puddle_record_at, puddle_at}
+use Rattle.pud_defs.specs.Puddles.{puddle_record_at}
 use Rattle.pud_defs.proofs.TablesOf.{puddle_at-free}
 use Rattle.puddle_space.proofs.Records.{used_record}
 use Rattle.puddle_space.proofs.HasBase.{not_twice}

@@ -1,4 +1,4 @@
-use Rattle.std.proofs.Common.{◌≡◌, ℕ, true, not, refl, ap, sym, subst, ◌∙◌, arith}
+use Rattle.std.proofs.Common.{◌≡◌, ℕ, true, sym, subst, ◌∙◌, arith}
 use Rattle.pud_defs.specs.Placement.{has_another_base}
 use Rattle.pud_defs.specs.Puddles.{puddle_at}
 use Rattle.pud_defs.specs.Spaces.{all_below}

@@ -1,4 +1,4 @@
-use Rattle.std.proofs.Common.{None, true, ◌≡◌, ◌≤◌}
+use Rattle.std.proofs.Common.{None, true, ◌≡◌}
 use Rattle.pm_model.specs.Words.{reads}
 use Rattle.pm_model.specs.Reads.{OnlyReads}
 use Rattle.pud_defs.specs.Image.{Image}

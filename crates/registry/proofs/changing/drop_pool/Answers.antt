@@ -10,7 +10,7 @@ use Rattle.pud_defs.specs.Keyed.{count_used}
 use Rattle.batch.specs.Batches.{ByBatch}
 use Rattle.registry.specs.Puts.{puts_batch}
 use Rattle.std.proofs.lemmas.Result.{err_from_is_err_and}
-use Rattle.pm_model.specs.Counts.{Counts, fault_of}
+use Rattle.pm_model.specs.Counts.{fault_of}
 use Rattle.pud_defs.specs.Tables.{Tables, tables_of, members}
 use Rattle.registry.specs.Pools.{dropping}
 use Rattle.registry.proofs.Moved.{ChangesPools-still}

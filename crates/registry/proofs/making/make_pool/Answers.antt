@@ -1,6 +1,5 @@
-use Rattle.std.proofs.Common.{Some, None, Err, refl, sym, ap, ◌∙◌}
+use Rattle.std.proofs.Common.{Some, None, Err, refl, ap, ◌∙◌}
 use Rattle.std.proofs.lemmas.Result.{err_from_is_err_and}
-use Rattle.pm_model.specs.Counts.{Counts}
 use Rattle.pm_model.specs.Words.{reads}
 use Rattle.pm_model.specs.Masks.{masked_state}
 use Rattle.pm_model.proofs.Reading.{Changes-read, still_size}

@@ -1,4 +1,4 @@
-use Rattle.std.proofs.Common.{refl, arith}
+use Rattle.std.proofs.Common.{refl}
 use Rattle.pud_defs.specs.Puts.{puddle_put}
 use Rattle.registry.specs.declared.adding.Added.{Added}
 use Rattle.registry.proofs.PutsListed.{listed_more}
