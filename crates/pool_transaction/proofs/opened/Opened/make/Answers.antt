@@ -24,8 +24,9 @@ use Rattle.hybrid_tx.proofs.Objects.LowestSlot.{one_lowest, lowest_is_free, one_
 use Rattle.hybrid_tx.proofs.Objects.ObjectPut.{MakesIn-stopped}
 use Rattle.ready_daemon.specs.Judged.{known_in}
 use Rattle.ready_daemon.specs.Memory.{Held, held_under}
-use Rattle.ready_daemon.specs.Ready.{IsReady, Applies}
-use Rattle.ready_daemon.proofs.Applying.{Applies-stopped}
+use Rattle.ready_daemon.specs.Moves.{MovesOn}
+use Rattle.ready_daemon.specs.Ready.{IsReady, AppliesBy}
+use Rattle.ready_daemon.proofs.Applying.{Applies-stopped, still_line}
 use Rattle.ready_daemon.proofs.Keeping.{KeepsRest-still, KeepsRest-changes, KeepsRest-then}
 use Rattle.pool_transaction.specs.Changing.{with_opened, refusal_by_world, with_made, both_finished}
 use Rattle.pool_transaction.proofs.FinishedPools.{HaveMoved-both, IsSlotOf-moved}
@@ -46,7 +47,7 @@ returns-in-Err-Full-clause-makes g c = λ t size w memory its ready none less.
     let held = c.args.self.now in
     let old = g.H.Host.state c.args.h.now in
     let same = sym its.frames ∙ ready.frames in
-    absurd {A = Applies size w (with_made held.name c.args.t w) (with_opened held.number held.slot held c.args.pool.now memory) None old (g.H.Host.state c.alloc_slot.new.h)}
+    absurd {A = AppliesBy (MovesOn held.slot) size w (with_made held.name c.args.t w) (with_opened held.number held.slot held c.args.pool.now memory) None old (g.H.Host.state c.alloc_slot.new.h)}
     (not_live size w memory held old held.number its.there ready c.args.frames c.args.pool.now same (its_puddles size w memory held old held.number its.there ready c.args.frames same c.args.pool.now its.known) less
     (all_live_there c.args.frames c.args.pool.now c.as_slice.result.now (reads (g.H.Host.state c.args.h.now).now.words) c.in-Err-Full.field-0 c.as_slice.ensures.puddles c.in-Err-Full.field-0-is (c.in-Err-Full.ensures.full t _ refl)))
 
@@ -68,8 +69,9 @@ pub returns-in-Err-Host-clause-makes : goal.returns-in-Err-Host-clause-makes
 returns-in-Err-Host-clause-makes g c = λ t size w memory its ready none less.
     let read = rw c.in-Err-Host.field-0-is at c.in-Err-Host.ensures.only_reads in
     let held = c.args.self.now in
-    Applies-stopped size w (with_made held.name c.args.t w) memory (with_opened held.number held.slot held c.args.pool.now memory) c.in-Err-Host.fault (g.H.Host.state c.args.h.now) (g.H.Host.state c.alloc_slot.new.h) ready
-    (read.stays t) (λ cut. absurd (read.never_cut cut))
+    still_line None held.slot size w _ _ _ _ _
+    (Applies-stopped size w (with_made held.name c.args.t w) memory (with_opened held.number held.slot held c.args.pool.now memory) c.in-Err-Host.fault (g.H.Host.state c.args.h.now) (g.H.Host.state c.alloc_slot.new.h) ready
+    (read.stays t) (λ cut. absurd (read.never_cut cut)))
 
 pub returns-in-Err-Host-clause-lowest : goal.returns-in-Err-Host-clause-lowest
 returns-in-Err-Host-clause-lowest g c = λ t size w memory its ready none slot of lowest root other.
@@ -89,7 +91,7 @@ returns-in_err-finish_both-clause-makes g c =
     let mid = g.H.Host.state c.finish_both.new.h in
     let still = c.in-Ok.ensures.only_reads.stays t in
     let then = subst (λ (s : State). IsReady size w memory s) (sym still) ready in
-    subst (λ (s : State). Applies size w (with_made held.name c.args.t w) (with_opened held.number held.slot held c.finish_both.new.pool memory) (Some c.in_err-finish_both.field-0.0) s mid) still
+    subst (λ (s : State). AppliesBy (MovesOn held.slot) size w (with_made held.name c.args.t w) (with_opened held.number held.slot held c.finish_both.new.pool memory) (Some c.in_err-finish_both.field-0.0) s mid) still
     (Applies-unfinished size w memory held start held.number its.there then c.args.frames (sym its.frames ∙ ready.frames) at its.known (frontiers_of (both_finished c.in-Ok.at.ordinal at)) c.finish_both.new.pool
     c.in_err-finish_both.field-0.0 mid (c.in_err-finish_both.ensures.rewrites t) (with_made held.name c.args.t w) (with_opened held.number held.slot held c.finish_both.new.pool memory) refl))
 
@@ -144,10 +146,10 @@ returns-clause-makes g c = λ t size w memory its ready none less.
     let owes = c.in_ok-finish_both.ensures.rewrites t in
     let lowest = subst (λ (ds : List (ℕ × Puddle)). IsLowestFreeSlot (stored_in F ds (reads start.now.words)) (place_of_slot c.in-Ok.at)) c.as_slice.ensures.puddles
     (c.in-Ok.ensures.free t (reads start.now.words) (ap (λ (s : State). reads s.now.words) (sym still))) in
-    subst (λ (s : State). Applies size w (with_made c.args.self.now.name c.args.t w) (with_opened c.args.self.now.number c.args.self.now.slot (with_tx c.new_at-made.new.self held) later memory) fault s new) still
+    subst (λ (s : State). AppliesBy (MovesOn c.args.self.now.slot) size w (with_made c.args.self.now.name c.args.t w) (with_opened c.args.self.now.number c.args.self.now.slot (with_tx c.new_at-made.new.self held) later memory) fault s new) still
     (subst (λ (o : Held).
     held_under memory.held o.number ≡ Some o → known_in memory.judged o.slot ≡ Some at → refusal_by_world w o c.args.t ≡ None
-    → Applies size w (with_made o.name c.args.t w) (with_opened o.number o.slot (with_tx c.new_at-made.new.self held) later memory) fault start new)
+    → AppliesBy (MovesOn o.slot) size w (with_made o.name c.args.t w) (with_opened o.number o.slot (with_tx c.new_at-made.new.self held) later memory) fault start new)
     c.self.view_is
     (λ there known none.
     let behind = memory_finished size w memory held start held.number there then F same at known goal later in
