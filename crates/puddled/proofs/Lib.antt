@@ -13,6 +13,7 @@ pub mod Releasing
 pub mod Counted
 pub mod Emptied
 pub mod Restarts
+pub mod Frontiers
 pub mod Carrying
 pub mod Commanding
 pub mod Listed

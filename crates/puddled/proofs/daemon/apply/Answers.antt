@@ -7,7 +7,7 @@ use Rattle.ready_daemon.specs.Memory.{Memory}
 use Rattle.puddled.specs.declared.answers.Answered.TheVariants as answers
 use Rattle.puddled.specs.Daemon.{CarriesOut}
 use Rattle.ready_daemon.proofs.Keeping.{KeepsRest-still}
-use Rattle.puddled.proofs.Carrying.{ClosesLogs-leave, ClosesLogs-other, CarriesOut-plain, CarriesOut-as, CarriesOut-listed, CarriesOut-lost, CarriesOut-armed}
+use Rattle.puddled.proofs.Carrying.{ClosesLogs-leave, ClosesLogs-other, CarriesOut-plain, CarriesOut-led, CarriesOut-as, CarriesOut-listed, CarriesOut-lost, CarriesOut-armed}
 use Rattle.puddled.proofs.daemon.apply.Goals as goal
 
 pub returns-in-Client-clause-carries : goal.returns-in-Client-clause-carries
@@ -53,14 +53,14 @@ pub returns-in-Drop-clause-carries : goal.returns-in-Drop-clause-carries
 returns-in-Drop-clause-carries g c = λ t size e w ready.
     let drop = commands.Drop c.in-Drop.client c.in-Drop.name in
     CarriesOut-as size w c.drop_for.new.self _ _ _ _ c.args.command drop c.with_reply-in-Drop.result c.drop_for.result c.in-Drop.is c.with_reply-in-Drop.ensures
-    (CarriesOut-plain size w c.drop_for.new.self _ _ _ _ drop c.drop_for.result refl refl (c.drop_for.ensures.reply t size w ready) (c.drop_for.ensures.applies t size e w ready)
+    (CarriesOut-led size w c.drop_for.new.self _ _ _ _ drop c.drop_for.result refl refl (c.drop_for.ensures.reply t size w ready) (c.drop_for.ensures.applies t size e w ready)
     (ClosesLogs-other w _ _ _ (λ client no. cc)) (c.drop_for.ensures.rest t) c.drop_for.ensures.cause)
 
 pub returns-in-Rewrite-clause-carries : goal.returns-in-Rewrite-clause-carries
 returns-in-Rewrite-clause-carries g c = λ t size e w ready.
     let rewrite = commands.Rewrite c.in-Rewrite.name c.in-Rewrite.n in
     CarriesOut-as size w c.rewrite_for.new.self _ _ _ _ c.args.command rewrite c.with_reply-in-Rewrite.result c.rewrite_for.result c.in-Rewrite.is c.with_reply-in-Rewrite.ensures
-    (CarriesOut-plain size w c.rewrite_for.new.self _ _ _ _ rewrite c.rewrite_for.result refl refl (c.rewrite_for.ensures.reply t size w ready) (c.rewrite_for.ensures.applies t size e w ready)
+    (CarriesOut-led size w c.rewrite_for.new.self _ _ _ _ rewrite c.rewrite_for.result refl refl (c.rewrite_for.ensures.reply t size w ready) (c.rewrite_for.ensures.applies t size e w ready)
     (ClosesLogs-other w _ _ _ (λ client no. cc)) (c.rewrite_for.ensures.rest t) c.rewrite_for.ensures.cause)
 
 pub returns-in-Get-clause-carries : goal.returns-in-Get-clause-carries
