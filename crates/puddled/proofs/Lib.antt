@@ -18,5 +18,6 @@ pub mod Carrying
 pub mod Commanding
 pub mod Listed
 pub mod Settling
+pub mod Led
 pub mod Lines
 pub mod Beginning

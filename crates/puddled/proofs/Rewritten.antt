@@ -30,6 +30,10 @@ use Rattle.ready_daemon.specs.Ready.{IsReady, AppliesBy}
 use Rattle.ready_daemon.proofs.Applying.{AppliesBy-weaker}
 use Rattle.ready_daemon.proofs.Goals.{led_further}
 use Rattle.puddled.specs.Frontiers.{steps_in, AppliesAs}
+use Rattle.pud_defs.specs.declared.machine.Reply.{Reply}
+use Rattle.pud_defs.specs.Image.{Image}
+use Rattle.puddled.specs.declared.answers.Answered.{Answered}
+use Rattle.puddled.specs.Answered.{as_answered}
 use Rattle.puddled.specs.Rewriting.{DoesSteps}
 use Rattle.ready_daemon.proofs.InTurn.{known_in_turn}
 use Rattle.ready_daemon.proofs.Beneath.{ready_gate}
@@ -122,3 +126,9 @@ AppliesAs-rewrite size w memory behind name n slot at fault old new ready known 
       leads = inr (free, record { slot = slot; is = is; goal_is = refl });
       applies = subst (λ (ps : List (ℕ × Puddle)). AppliesBy (MovesTo (led_in slot (frontiers_of (steps_from n ps)))) size w (world_by w (Some (Rewrite name n))) behind fault old new) (sym turn) a;
     }
+
+-- the steps are those behind the answer
+pub steps_answered : (F : ℕ) (name : List ℕ) (n : ℕ) (old new : Image) (done : Result Reply HostFault) (result : Result Answered HostFault) → result ≡ as_answered done
+    → IfOk done (λ _. DoesSteps F name n old new) → IfOk result (λ _. DoesSteps F name n old new)
+steps_answered F name n old new (Ok reply) result is does = subst (λ (r : Result Answered HostFault). IfOk r (λ _. DoesSteps F name n old new)) (sym is) does
+steps_answered F name n old new (Err fault) result is does = subst (λ (r : Result Answered HostFault). IfOk r (λ _. DoesSteps F name n old new)) (sym is) tt

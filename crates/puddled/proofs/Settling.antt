@@ -165,7 +165,7 @@ module _ (size : ℕ) (w : World) (memory : Memory) (line : List ℕ) (before be
   unfolding found_world
   found_shelf = found.shelf
 
-  found_frames : found_world.stored.frames ≡ w.stored.frames
+  pub found_frames : found_world.stored.frames ≡ w.stored.frames
   unfolding found_world
   found_frames = found.frames
 

@@ -52,3 +52,9 @@ pub record AppliesAs (size : ℕ) (w next : World) (command : Option Command) (m
   pub goal : Member → Option ℕ
   pub leads : Leads w command (reads old.now.words) goal
   pub applies : AppliesBy (MovesTo goal) size w next memory fault old new
+
+-- Behind a line each frontier is on the way to where the line leads it: by the records of puddles, as they were read before it and are read behind it.
+pub record LeadFrontiers (w : World) (command : Option Command) (before after : Image) : Type 0 where
+  pub goal : Member → Option ℕ
+  pub leads : Leads w command before goal
+  pub each : (frame : ℕ) (m : Member) → (tables_of w.stored.frames before).puddles frame ≡ Some m → MovesTo goal m ((tables_of w.stored.frames after).puddles frame)

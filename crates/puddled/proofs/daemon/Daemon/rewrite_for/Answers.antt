@@ -155,7 +155,7 @@ returns-clause-moves g c = λ t size e w ready free.
     let now : Memory = record { frames = i.frames; held = i.opened; sessions = i.sessions; judged = i.judged } in
     let then = subst (λ (m : Memory). IsReady size w m (g.H.Host.state c.find.new.h)) (sym c.self.view_is) (k.ready t size w (ready_read size w _ _ _ same ready)) in
     let stays = k.only_reads.stays t ∙ same in
-    let done = c.in_ok-_done.ensures.applies t size (still_size k.only_reads (still_size c.in_ok-slot.ensures.only_reads e)) known w i.opened i.sessions (ready_read size w now _ _ (k.only_reads.stays t) then) in
     let at = is_there (known_in i.judged c.in-Some.slot) known in
+    let done = c.in_ok-_done.ensures.applies t size (still_size k.only_reads (still_size c.in_ok-slot.ensures.only_reads e)) at.0 at.1 w i.opened i.sessions (ready_read size w now _ _ (k.only_reads.stays t) then) in
     DoesSteps-stepped size w i.frames i.opened i.sessions i.judged (g.H.Host.state c.args.h.now) (ready_read size w now _ _ (sym same) then) c.in-Some.slot (search rules) at.0 at.1 c.args.name c.args.n c.step_in.new.judged
     (g.H.Host.state c.step_in.new.h) (slot_is size w _ _ ready 0 c.args.name c.in-Some.slot c.in-Some.field-0-1 there) (c.in_ok-_done.ensures.moves at.0 at.1) (done.ready refl)
