@@ -65,7 +65,7 @@ module _ (size : ℕ) (w : World) (memory : Memory) (command : Option Command) (
 
 -- power was lost, and the device reads behind the restart as it was settled
 module _ (size : ℕ) (w : World) (memory : Memory) (line : List ℕ) (counted between : Counts) (old mid : State) (k : CarriesOut size w memory (command_of line) (Err hosts.Cut) counted between old mid)
-    (was : old.shelf ≡ w.shelf) (new : State) (replayed : IsReplayed (reads mid.now.words) (reads new.now.words)) where
+    (was : old.shelf ≡ w.shelf) (now : Image) (replayed : IsReplayed (reads mid.now.words) now) where
   abbrev image : Image
   image = reads mid.now.words
 
@@ -73,18 +73,18 @@ module _ (size : ℕ) (w : World) (memory : Memory) (line : List ℕ) (counted b
   same_frames =
       frames_of_world size image _ (found_stands size w memory line counted between old mid k was) ∙ found_frames size w memory line counted between old mid k was
 
-  settled_word : (n : ℕ) → (n < SPACE_TABLE) ⊎ (PUDDLE_TABLE ≤ n) → POOL_TABLE ≤ n → n < tables_end w.stored.frames → settled_by DAEMON_LOG image n ≡ reads new.now.words n
+  settled_word : (n : ℕ) → (n < SPACE_TABLE) ⊎ (PUDDLE_TABLE ≤ n) → POOL_TABLE ≤ n → n < tables_end w.stored.frames → settled_by DAEMON_LOG image n ≡ now n
   settled_word n beside low high =
       let below : n < tables_end (frames_of image) = subst (λ (F : ℕ). n < tables_end F) (sym same_frames) high in
       sym (replayed.each n (outside_log DAEMON_LOG n (inr (omega arith))) (below_logs (frames_of image) n below) beside ∙ settled-below (frames_of image) image n below)
 
-  settled_tables : tables_of w.stored.frames (settled_by DAEMON_LOG image) ≡ tables_of w.stored.frames (reads new.now.words)
+  settled_tables : tables_of w.stored.frames (settled_by DAEMON_LOG image) ≡ tables_of w.stored.frames now
   settled_tables =
-      tables_of-same w.stored.frames (settled_by DAEMON_LOG image) (reads new.now.words) (λ n low high. settled_word n (inl high) low (omega arith)) (λ n low high. settled_word n (inr low) (omega arith) high)
+      tables_of-same w.stored.frames (settled_by DAEMON_LOG image) now (λ n low high. settled_word n (inl high) low (omega arith)) (λ n low high. settled_word n (inr low) (omega arith) high)
 
-  pub LeadFrontiers-lost : LeadFrontiers w (command_of line) (reads old.now.words) (reads new.now.words)
+  pub LeadFrontiers-lost : LeadFrontiers w (command_of line) (reads old.now.words) now
   LeadFrontiers-lost = record {
     goal = k.goal;
     leads = k.leads;
-    each = at_end size w memory (command_of line) counted between old mid (Err hosts.Cut) k (tables_of w.stored.frames (reads new.now.words)) settled_tables;
+    each = at_end size w memory (command_of line) counted between old mid (Err hosts.Cut) k (tables_of w.stored.frames now) settled_tables;
   }

@@ -81,7 +81,7 @@ returns-clause-frontiers g c = λ t size e w ready.
 
 pub returns-in_default-clause-steps : goal.returns-in_default-clause-steps
 returns-in_default-clause-steps g c = λ t size e w ready name n is free cut.
-    absurd (none-some (Rewrite name n) (sym (ap result_ok (sym c.in_default.is) ∙ c.parse_line.ensures.command) ∙ is))
+    absurd (none-some (Rewrite name n) (ap result_ok (sym c.in_default.is) ∙ c.parse_line.ensures.command ∙ is))
 
 pub returns-clause-steps : goal.returns-clause-steps
 returns-clause-steps g c = λ t size e w ready name n is free.
