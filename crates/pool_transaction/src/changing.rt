@@ -25,12 +25,12 @@ ghost use Rattle.lazy_rewrite.specs.Frontiers.{frontiers_of, finished_at};
 ghost use Rattle.lazy_rewrite.specs.Batches.{Rewrites};
 ghost use Rattle.word_transaction.specs.Running.{ByTransaction};
 ghost use Rattle.hybrid_tx.specs.Grounds.{pool_ground, IsPlaced, IsRewrittenAt};
-ghost use Rattle.hybrid_tx.specs.Objects.Transactions.{IsOpenOn, RunsOn, MakesIn};
+ghost use Rattle.hybrid_tx.specs.Objects.Transactions.{IsOpenOn, RunsOn};
 ghost use Rattle.ready_daemon.specs.Memory.{Memory};
 ghost use Rattle.ready_daemon.specs.Held.{IsHeldWithin};
 ghost use Rattle.registry.specs.Adding.{IsAddedWithin};
 ghost use Rattle.registry.specs.Places.{refusal_in};
-ghost use Rattle.pool_transaction.specs.Changing.{IsHeldIn, with_opened, line_of, update_line, changed_by, IsLegalChange, IsLegalUpdate, ordinal_written, IsFoundWithin, IsFoundBy, MayChange, StaysOpen, refusal_to_make, refusal_by_tables, GrowsBy, refusal_by_world, with_more, with_made, both_finished};
+ghost use Rattle.pool_transaction.specs.Changing.{IsHeldIn, with_opened, line_of, update_line, changed_by, IsLegalChange, IsLegalUpdate, ordinal_written, IsFoundWithin, IsFoundBy, MayChange, StaysOpen, refusal_to_make, refusal_by_tables, GrowsBy, refusal_by_world, with_more, with_made, both_finished, MakesBehind};
 ghost use Rattle.ready_daemon.specs.Moves.{MovesOn, MovesUnless};
 ghost use Rattle.ready_daemon.specs.Ready.{KeepsRest, IsReady, AppliesBy, Applies};
 
@@ -335,11 +335,10 @@ impl Opened {
             → IfOk result (λ serial. serial ≡ next_in (graph_seen (open_on (self.old).name w) (pool_named (self.old).name w.stored))) }
         ensures full { H.tells → (size : ℕ) → (w : World) → (memory : Memory) → IsHeldIn frames self.old pool.old memory → IsReady size w memory (H.state h.old) → grows w (self.old).name ≡ true
             → IfOk result (λ serial. serial ≡ 0) × (H.state h.new ≡ H.state h.old) × (self.new ≡ self.old) × (pool.new ≡ pool.old) }
-        // Where the puddles that it writes are finished already.
+        // In the lowest free slot, whatever the frontiers are.
         ensures lowest { H.tells → (size : ℕ) → (w : World) → (memory : Memory) → IsHeldIn frames self.old pool.old memory → IsReady size w memory (H.state h.old) → refusal_by_world w self.old t ≡ Option.None
             → (slot : Slot) → IsSlotOf pool.old slot → IsLowestFreeSlot (stored_in frames pool.old (reads (H.state h.old).now.words)) (place_of_slot slot)
-            → IsRewrittenAt pool.old 0 → IsRewrittenAt pool.old slot.ordinal
-            → MakesIn frames pool.old (self.old).tx.log.at slot t (fault_of result) (H.state h.old) (H.state h.new) }
+            → MakesBehind frames pool.old pool.new (self.old).tx.log.at slot t (fault_of result) (H.state h.old) (H.state h.new) }
         ensures within { IsHeldWithin frames self.new }
         ensures known { IsOnDevice frames pool.new }
         ensures stays { StaysOpen self.old self.new }
