@@ -98,9 +98,10 @@ module _ (F frame : ℕ) (image : Image) (m : Member) (used : (tables_of F image
         let slot : a.puddle.pool < POOL_RECORDS = omega arith in
         record {
           frame = filling_off t.frames (frames_of_tables F image) a;
-          records = IsOff-put_record (making r a) (making_of F r a (free_below a.frame for.puddle.frame) slot)
-              (λ k low high. in_front k (omega arith),
-              (λ k low high. in_front k (omega arith), (λ k low high. other_record a.frame k (free_differs a.frame for.puddle.frame) low (omega arith), tt)));
+          records = IsOff-put_record (making r a) (making_of F r a (free_below a.frame for.puddle.frame) slot) (
+            λ k low high. in_front k (omega arith),
+            (λ k low high. in_front k (omega arith), (λ k low high. other_record a.frame k (free_differs a.frame for.puddle.frame) low (omega arith), tt)),
+          );
         };
   }
 

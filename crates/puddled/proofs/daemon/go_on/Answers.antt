@@ -111,4 +111,3 @@ returns-in-Ok-clause-steps g c = λ t F name n before does is cut.
 pub returns-in_ok-started-in-Err-Cut-clause-steps : goal.returns-in_ok-started-in-Err-Cut-clause-steps
 returns-in_ok-started-in-Err-Cut-clause-steps g c = λ t F name n before does is cut.
     absurd (cut (ap (λ (r : Reply). answers.Reply r) (c.reply_behind_loss.ensures ∙ ap (λ (x : Command). behind_loss (kind_of (Some x))) is)))
-

@@ -87,4 +87,3 @@ pub returns-clause-steps : goal.returns-clause-steps
 returns-clause-steps g c = λ t size e w ready name n is free.
     let asked : c.in-Ok.command ≡ Rewrite name n = same_Some c.in-Ok.command (Rewrite name n) (c.in-Ok.ensures.command ∙ is) in
     c.go_on.ensures.steps t w.stored.frames name n (g.H.Host.state c.args.h.now) (c.apply-done.ensures.steps t size e w ready name n asked (ap (refusal_of w) asked ∙ free)) asked
-

@@ -141,4 +141,3 @@ returns-clause-steps g c = λ t size e w ready name n is free.
           (c.in_ok-answered.ensures.steps t size e w ready name n is free (uncut ok)))
       | else-aloud b ↦ rw b.h-is (λ ok. c.in_ok-answered.ensures.steps t size e w ready name n is free (uncut ok))
     ]
-
