@@ -64,6 +64,7 @@ use Rattle.ready_daemon.specs.KnownPools.{KnowsPools}
 use Rattle.ready_daemon.specs.Ready.{IsReady, RefusesNone, StandsBetween, Applies}
 use Rattle.ready_daemon.proofs.Beside.{Leaves-from, ready_idle, IsApart, still_under, left_all, left_apart, names_none_idle, opened_as, others_apart, records_all, unmasked_by_all}
 use Rattle.ready_daemon.proofs.Beneath.{ready_gate, gate_kept, idle_kept}
+use Rattle.ready_daemon.proofs.PuddlesLeft.{LeavesPuddles-behind}
 use Rattle.ready_daemon.proofs.Counting.{log_free}
 use Rattle.pool_transaction.proofs.Ending.{world_now, left_stands, idle_now, records_now}
 use Rattle.ready_daemon.proofs.InTurn.{pool_in_slot}
@@ -497,6 +498,7 @@ module _ (size : ℕ) (w : World) (memory : Memory) (old : State) (ready : IsRea
         subst (λ (v : World). Applies size w v (with_begun (begins_as client name slot n number) memory) fault old new) (sym begun_world)
         (record {
           moments = all_moments (record w { transactions = with_open name (Some begun_transaction) w.transactions });
+          puddles = LeavesPuddles-behind n By fault old new c (λ k v below. not_gate k v (outside_log gate k (inl (omega arith)))) ready.tables (ready_gate size w memory old ready);
           quiet = Changes-said By fault old new c;
           ready = λ done. ready_begun done (placed_there done);
           rests = c.rests;

@@ -56,6 +56,7 @@ use Rattle.ready_daemon.specs.KnownPools.{KnowsPools}
 use Rattle.ready_daemon.specs.Ready.{IsReady, RefusesNone, StandsBetween, Applies}
 use Rattle.ready_daemon.proofs.Beside.{Leaves-from, names_none_idle, records_all, opened_as, own_apart, left_apart, ready_idle}
 use Rattle.ready_daemon.proofs.Beneath.{ready_gate, gate_kept, idle_kept}
+use Rattle.ready_daemon.proofs.PuddlesLeft.{LeavesPuddles-behind}
 use Rattle.pool_transaction.specs.Lifetime.{with_ended}
 use Rattle.pool_transaction.proofs.HeldRuns.{stands_within}
 use Rattle.ready_daemon.proofs.InTurn.{held_in_turn}
@@ -478,6 +479,7 @@ module _ (size : ℕ) (w : World) (memory : Memory) (number : ℕ) (held : Held)
       pub Applies-ended : Applies size w next (with_ended number held memory) fault old new
       Applies-ended = record {
         moments = all_moments;
+        puddles = LeavesPuddles-behind n may fault old new e.changes not_below ready.tables (ready_gate size w memory old ready);
         quiet = Changes-said may fault old new e.changes;
         ready = ready_ended;
         rests = e.changes.rests;

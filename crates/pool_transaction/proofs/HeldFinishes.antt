@@ -8,7 +8,7 @@ use Rattle.pm_model.specs.declared.host.HostFault.{HostFault}
 use Rattle.pm_model.specs.Words.{reads}
 use Rattle.pm_model.specs.Moments.{State}
 use Rattle.pud_defs.specs.declared.layout.TheConstants.{DAEMON_LOG}
-use Rattle.pud_defs.specs.declared.space.TheConstants.{SPACE_START, SPACE_BYTES, RANGE_BYTES}
+use Rattle.pud_defs.specs.declared.space.TheConstants.{SPACE_START, SPACE_BYTES, RANGE_BYTES, LAST_FRONTIER}
 use Rattle.pud_defs.specs.declared.records.Puddle.{Puddle}
 use Rattle.pud_defs.specs.declared.records.Slot.{Slot}
 use Rattle.pud_defs.specs.Bases.{is_legal_base}
@@ -33,8 +33,10 @@ use Rattle.hybrid_tx.specs.Grounds.{IsPlaced, IsRewrittenAt}
 use Rattle.ready_daemon.specs.Memory.{Held, Memory, held_under}
 use Rattle.ready_daemon.specs.Held.{IsHeld}
 use Rattle.ready_daemon.specs.Judged.{known_in}
-use Rattle.ready_daemon.specs.Ready.{IsReady, Applies}
-use Rattle.ready_daemon.proofs.Applying.{Applies-closed, Applies-then}
+use Rattle.ready_daemon.specs.Moves.{Stays, MovesTo, MovesOn, led_in}
+use Rattle.ready_daemon.specs.Ready.{IsReady, AppliesBy, Applies}
+use Rattle.ready_daemon.proofs.Applying.{Applies-closed, AppliesBy-then, AppliesBy-weaker}
+use Rattle.ready_daemon.proofs.Goals.{led_further, Joins-led_stays}
 use Rattle.ready_daemon.proofs.Beneath.{ready_gate}
 use Rattle.ready_daemon.proofs.InTurn.{held_known, known_in_turn}
 use Rattle.ready_daemon.proofs.JudgedOpen.{known_within}
@@ -43,6 +45,7 @@ use Rattle.pool_transaction.specs.Changing.{both_finished}
 use Rattle.pool_transaction.proofs.FinishedPools.{HasLegalFrontiers, HasNoneLeft, first_finished, other_finished, both_finished-none, Rewrites-none_left}
 use Rattle.pool_transaction.proofs.HeldRuns.{is_held, held_placed}
 use Rattle.pool_transaction.proofs.Rewriting.{Applies-rewrites}
+use Rattle.pool_transaction.proofs.StepsMoved.{upto}
 
 -- ---- what sound tables say of puddles
 
@@ -117,11 +120,14 @@ module _ (size : ℕ) (w : World) (memory : Memory) (held : Held) (old : State) 
       does : Rewrites F goal at later fault old mid
       does = owes (ready_gate size w memory old ready) (low_of_placed F at its_placed)
 
-      pub Applies-finished : Applies size w w memory_finished fault old mid
-      Applies-finished = Applies-rewrites size w memory held.slot at later goal fault old mid ready is.pool.slot known (subst (λ (n : ℕ). Rewrites n goal at later fault old mid) same does)
+      -- frontiers of its pool alone move
+      pub Applies-finished : AppliesBy (MovesOn held.slot) size w w memory_finished fault old mid
+      Applies-finished =
+          AppliesBy-weaker (MovesTo (led_in held.slot (upto goal))) (MovesOn held.slot) (led_further held.slot (upto goal) (λ _. LAST_FRONTIER) (λ o. omega arith)) size w w memory_finished fault old mid
+          (Applies-rewrites size w memory held.slot at later goal fault old mid ready is.pool.slot known (subst (λ (n : ℕ). Rewrites n goal at later fault old mid) same does))
 
     -- one of them failed, of a line that leaves the stored world
-    pub Applies-unfinished : (fault : HostFault) (mid : State) → OwesRewrites (Some fault) mid → (next : World) (behind : Memory) → closed w ≡ closed next → Applies size w next behind (Some fault) old mid
+    pub Applies-unfinished : (fault : HostFault) (mid : State) → OwesRewrites (Some fault) mid → (next : World) (behind : Memory) → closed w ≡ closed next → AppliesBy (MovesOn held.slot) size w next behind (Some fault) old mid
     Applies-unfinished fault mid owes next behind stored = Applies-closed size w w next memory_finished behind fault old mid stored (Applies-finished (Some fault) mid owes)
 
     module _ (mid : State) (owes : OwesRewrites None mid) where
@@ -136,8 +142,10 @@ module _ (size : ℕ) (w : World) (memory : Memory) (held : Held) (old : State) 
       spared_finished = Rewrites-spare F goal at later old mid (does None mid owes) its_frames
 
       -- and then the line goes on
-      pub Applies-behind : (next : World) (behind : Memory) (fault : Option HostFault) (new : State) → closed w ≡ closed next → Applies size w next behind fault mid new → Applies size w next behind fault old new
-      Applies-behind next behind fault new stored later_does = Applies-then size w w next memory_finished behind fault old mid new stored (Applies-finished None mid owes) later_does
+      pub Applies-behind : (next : World) (behind : Memory) (fault : Option HostFault) (new : State) → closed w ≡ closed next → Applies size w next behind fault mid new → AppliesBy (MovesOn held.slot) size w next behind fault old new
+      Applies-behind next behind fault new stored later_does =
+          AppliesBy-then (MovesOn held.slot) Stays (MovesOn held.slot) (Joins-led_stays held.slot (λ _. LAST_FRONTIER)) size w w next memory_finished behind fault old mid new stored refl (Applies-finished None mid owes)
+          later_does
 
       -- a free slot is free still
       pub may_make_at : (slot : Slot) → later ≡ both_finished slot.ordinal at → IsLowestFreeSlot (stored_in F at (reads old.now.words)) (place_of_slot slot) → MayMakeAt F later (reads mid.now.words) slot

@@ -58,10 +58,12 @@ use Rattle.ready_daemon.specs.Held.{open_held, IsHeld, IsHeldUnder, Holds, HasDu
 use Rattle.ready_daemon.specs.Judged.{known_in}
 use Rattle.ready_daemon.specs.KnownPools.{KnowsPools}
 use Rattle.pool_transaction.specs.Changing.{with_opened, GrowsBy, with_more}
+use Rattle.ready_daemon.specs.Moves.{Stays, LeavesPuddles}
 use Rattle.ready_daemon.specs.Ready.{IsReady, StandsBetween, AppliesMasked, Applies}
 use Rattle.ready_daemon.proofs.Beside.{KeepsOne, holds_still, durable_frames_still, moments_beside}
 use Rattle.ready_daemon.proofs.Beneath.{ready_gate, keeps_tables}
 use Rattle.ready_daemon.proofs.PoolsBeside.{used_still}
+use Rattle.ready_daemon.proofs.RecordsApart.{LeavesPuddles-adds}
 use Rattle.ready_daemon.proofs.PoolsApart.{frame_below, found_beside_put, IsBeside-adds, AppliesMasked-pools}
 use Rattle.ready_daemon.proofs.TablesBeside.{HasDurableTables-masked, mask_beside, header_read, tables_read, under_durable}
 use Rattle.pool_transaction.proofs.HeldRuns.{is_held}
@@ -176,10 +178,16 @@ module _ (size : ℕ) (w : World) (memory : Memory) (held : Held) (old : State) 
     pub moments_grown : Leaves (Silently (StandsBetween size w next)) old new
     moments_grown = moments_beside size w next memory fault old new ready (grown_frames held.name w.stored) masks
 
+    -- and no record that was used changes
+    pub puddles_grown : LeavesPuddles F Stays old new
+    puddles_grown =
+        LeavesPuddles-adds F fault old new ready.tables (ready_gate size w memory old ready) a by.puddle.frame (within by) (grows (ready_gate size w memory old ready))
+
     -- with a fault no more is owed
     pub Applies-grown_failed : (behind : Memory) (failed : HostFault) → fault ≡ Some failed → Applies size w next behind fault old new
     Applies-grown_failed behind failed is_fault = record {
       moments = moments_grown;
+      puddles = puddles_grown;
       quiet = Changes-said (ByOthers ready.mask) fault old new beside.changes;
       ready = λ done. absurd (none-some failed (sym done ∙ is_fault));
       rests = beside.changes.rests;
@@ -429,6 +437,7 @@ module _ (size : ℕ) (w : World) (memory : Memory) (held : Held) (old : State) 
         let all : puddles ≡ at = scanned ∙ listed_then in
         record {
           moments = moments_grown by None new grows worlds;
+          puddles = puddles_grown by None new grows worlds;
           quiet = Changes-said (ByOthers ready.mask) None old new done.beside.changes;
           ready = λ _. subst (λ (ps : List (ℕ × Puddle)). IsReady size next (with_opened number held.slot held ps memory) new) (sym all) ready_then;
           rests = done.beside.changes.rests;
@@ -460,7 +469,7 @@ module _ (size : ℕ) (w : World) (memory : Memory) (held : Held) (old : State) 
     grows_unread behind fault mid new grows worlds still never_cut =
         let a = Applies-wide by_world mid (growth_there None mid grows) (worlds_there None mid worlds) (puddles_in_turn (tables_of F (reads mid.now.words)) held.slot) refl in
         subst (λ (s : State). Applies size w next behind (Some fault) old s) (sym still)
-        (record { moments = a.moments; quiet = a.quiet; ready = λ done. absurd (none-some fault (sym done)); rests = λ cut. absurd (never_cut cut); script = a.script })
+        (record { moments = a.moments; puddles = a.puddles; quiet = a.quiet; ready = λ done. absurd (none-some fault (sym done)); rests = λ cut. absurd (never_cut cut); script = a.script })
 
     -- it was read
     pub grows_done : (puddles : List (ℕ × Puddle)) (mid new : State) → OwesGrowth n None mid → OwesWorld n None mid → new ≡ mid → puddles ≡ puddles_in_turn (tables_of n (reads mid.now.words)) held.slot

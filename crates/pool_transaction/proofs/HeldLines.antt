@@ -6,6 +6,7 @@ use Rattle.pm_model.specs.declared.host.HostFault.{HostFault}
 use Rattle.pm_model.specs.declared.host.HostFault.TheVariants.{Cut}
 use Rattle.pm_model.specs.Words.{IsRested, reads}
 use Rattle.pm_model.specs.Moments.{State}
+use Rattle.pud_defs.specs.declared.space.TheConstants.{LAST_FRONTIER}
 use Rattle.pud_defs.specs.declared.machine.Command.{Command}
 use Rattle.pud_defs.specs.declared.machine.Command.TheVariants.{New}
 use Rattle.pud_defs.specs.declared.machine.Reply.TheVariants as replies
@@ -20,11 +21,15 @@ use Rattle.ready_daemon.specs.Judged.{known_in}
 use Rattle.ready_daemon.specs.Memory.{Held, Memory, held_under, with_held}
 use Rattle.registry.specs.declared.adding.Added.{Added}
 use Rattle.pool_transaction.specs.Changing.{IsHeldIn, with_opened, refusal_by_tables, GrowsBy, refusal_by_world, with_more, with_made}
-use Rattle.ready_daemon.specs.Ready.{IsReady, Applies}
-use Rattle.ready_daemon.proofs.Applying.{Applies-refused, Applies-stopped, Applies-closed, Applies-then}
+use Rattle.ready_daemon.specs.Moves.{Stays, MovesOn, MovesUnless}
+use Rattle.ready_daemon.specs.Ready.{IsReady, AppliesBy, Applies}
+use Rattle.ready_daemon.proofs.Applying.{Applies-refused, Applies-stopped, Applies-closed, AppliesBy-then, still_line, moving_line}
+use Rattle.ready_daemon.proofs.Goals.{led_stays}
+use Rattle.ready_daemon.proofs.PuddlesLeft.{Joins-stays}
 use Rattle.ready_daemon.proofs.InTurn.{held_known}
 use Rattle.ready_daemon.proofs.JudgedOpen.{known_within}
 use Rattle.ready_daemon.proofs.HeldUnder.{held_within, held_here, held_same}
+use Rattle.pool_transaction.proofs.HeldGrows.{grown_frames}
 use Rattle.pool_transaction.proofs.HeldNew.{refused_less, refused_more, answer_new, world_less, world_more, serial_is_some, grown_less, grown_refusal, grown_next}
 
 -- what is known already of a pool may be kept once more
@@ -59,15 +64,26 @@ module _ (size : ℕ) (w : World) (memory : Memory) (held : Held) (old : State) 
 
   -- what the line owes
   abbrev pub AppliesNew : Held → List (ℕ × Puddle) → Option HostFault → State → Type 0
-  AppliesNew behind at fault new = Applies size w given (memory_with behind at) fault old new
+  AppliesNew behind at fault new = AppliesBy (MovesUnless (refusal_of w line) held.slot) size w given (memory_with behind at) fault old new
+
+  -- where no frontier moves the line owes no more
+  new_still : (behind : Held) (at : List (ℕ × Puddle)) (fault : Option HostFault) (new : State) → Applies size w given (memory_with behind at) fault old new → AppliesNew behind at fault new
+  new_still behind at fault new = still_line (refusal_of w line) held.slot size w given (memory_with behind at) fault old new
+
+  -- and where it is not refused
+  new_moving : (behind : Held) (at : List (ℕ × Puddle)) (fault : Option HostFault) (new : State) → refusal_of w line ≡ None → AppliesBy (MovesOn held.slot) size w given (memory_with behind at) fault old new
+      → AppliesNew behind at fault new
+  new_moving behind at fault new = moving_line (refusal_of w line) held.slot size w given (memory_with behind at) fault old new
 
   -- a reading failed
   pub new_failed : (behind : Held) (at : List (ℕ × Puddle)) (fault : HostFault) (new : State) → new ≡ old → (Some fault ≡ Some Cut → ⊥) → AppliesNew behind at (Some fault) new
-  new_failed behind at fault new same never_cut = Applies-stopped size w given memory (memory_with behind at) fault old new ready same (λ cut. absurd (never_cut cut))
+  new_failed behind at fault new same never_cut =
+      new_still behind at (Some fault) new (Applies-stopped size w given memory (memory_with behind at) fault old new ready same (λ cut. absurd (never_cut cut)))
 
   -- it is refused
   pub new_refused : (r : Refusal) (at : List (ℕ × Puddle)) (new : State) → known_in memory.judged held.slot ≡ Some at → refusal_of w line ≡ Some r → new ≡ old → AppliesNew held at None new
-  new_refused r at new known refused same = subst (λ (m : Memory). Applies size w given m None old new) (sym (same_memory at known)) (Applies-refused size w memory line r old new ready refused same)
+  new_refused r at new known refused same =
+      new_still held at None new (subst (λ (m : Memory). Applies size w given m None old new) (sym (same_memory at known)) (Applies-refused size w memory line r old new ready refused same))
 
   pub reply_refused : (r : Refusal) → refusal_of w line ≡ Some r → of_reply (replies.No r) ≡ answer_by w (Some line)
   reply_refused r refused = sym (refused_answer w line r refused)
@@ -75,10 +91,11 @@ module _ (size : ℕ) (w : World) (memory : Memory) (held : Held) (old : State) 
   module _ (none : refusal_by_world w held id ≡ None) where
     -- an object was made where a slot is free
     pub new_made : (behind : Held) (at : List (ℕ × Puddle)) (fault : Option HostFault) (new : State) → grows w held.name ≡ false
-        → Applies size w (with_made held.name id w) (memory_with behind at) fault old new → AppliesNew behind at fault new
+        → AppliesBy (MovesOn held.slot) size w (with_made held.name id w) (memory_with behind at) fault old new → AppliesNew behind at fault new
     new_made behind at fault new less a =
-        subst (λ (v : World). Applies size w v (memory_with behind at) fault old new)
-        (sym (world_less size w memory held old number there ready id (refused_less size w memory held old number there ready id none less) less)) a
+        let free = refused_less size w memory held old number there ready id none less in
+        new_moving behind at fault new free
+        (subst (λ (v : World). AppliesBy (MovesOn held.slot) size w v (memory_with behind at) fault old new) (sym (world_less size w memory held old number there ready id free less)) a)
 
     pub reply_made : (serial : ℕ) → grows w held.name ≡ false → serial ≡ next_in (graph_seen (open_on held.name w) (pool_named held.name w.stored)) → of_reply (replies.Ref serial) ≡ answer_by w (Some line)
     reply_made serial less is =
@@ -86,10 +103,10 @@ module _ (size : ℕ) (w : World) (memory : Memory) (held : Held) (old : State) 
 
     -- its making failed
     pub new_unmade : (behind : Held) (at : List (ℕ × Puddle)) (fault : HostFault) (new : State)
-        → (grows w held.name ≡ false → Applies size w (with_made held.name id w) (memory_with behind at) (Some fault) old new)
+        → (grows w held.name ≡ false → AppliesBy (MovesOn held.slot) size w (with_made held.name id w) (memory_with behind at) (Some fault) old new)
         → (grows w held.name ≡ true → new ≡ old) → (Some fault ≡ Some Cut → IsRested new.now.words) → AppliesNew behind at (Some fault) new
     new_unmade behind at fault new makes full rests = elim (cases_Bool (grows w held.name)) [
-      | inl more ↦ Applies-stopped size w given memory (memory_with behind at) fault old new ready (full more) rests
+      | inl more ↦ new_still behind at (Some fault) new (Applies-stopped size w given memory (memory_with behind at) fault old new ready (full more) rests)
       | inr less ↦ new_made behind at (Some fault) new less (makes less)
     ]
 
@@ -136,7 +153,8 @@ module _ (size : ℕ) (w : World) (memory : Memory) (held : Held) (old : State) 
 
         pub new_ungrown : (pool : List (ℕ × Puddle)) (fault : HostFault) (start new : State) → start ≡ old → OwesMore pool (Some fault) start new → AppliesNew held pool (Some fault) new
         new_ungrown pool fault start new still grows =
-            Applies-closed size w grown given (memory_with held pool) (memory_with held pool) fault old new same_closed (has_grown pool (Some fault) start new still grows)
+            new_still held pool (Some fault) new
+            (Applies-closed size w grown given (memory_with held pool) (memory_with held pool) fault old new same_closed (has_grown pool (Some fault) start new still grows))
 
         module _ (pool : List (ℕ × Puddle)) (start mid : State) (still : start ≡ old) (grows_so : OwesMore pool None start mid) where
           after_growth : Applies size w grown (memory_with held pool) None old mid
@@ -160,14 +178,16 @@ module _ (size : ℕ) (w : World) (memory : Memory) (held : Held) (old : State) 
 
           pub new_in_more : (behind : Held) (later : List (ℕ × Puddle)) (fault : Option HostFault) (new : State)
               → (IsReady size grown (memory_with held pool) mid → refusal_by_world grown held id ≡ None → grows grown held.name ≡ false
-              → Applies size grown (with_made held.name id grown) (with_opened held.number held.slot behind later (memory_with held pool)) fault mid new)
+              → AppliesBy (MovesOn held.slot) size grown (with_made held.name id grown) (with_opened held.number held.slot behind later (memory_with held pool)) fault mid new)
               → AppliesNew behind later fault new
           new_in_more behind later fault new makes =
               let made = makes (after_growth.ready refl) (grown_refusal size w memory held old number there ready id held refl refl none) less_then in
-              subst (λ (v : World). Applies size w v (memory_with behind later) fault old new) (sym (world_more size w memory held old number there ready id free more))
-              (Applies-then size w grown (with_made held.name id grown) (memory_with held pool) (memory_with behind later) fault old mid new refl after_growth
-              (subst (λ (m : Memory). Applies size grown (with_made held.name id grown) m fault mid new)
-              (ap (λ (n : ℕ). with_opened n held.slot behind later (memory_with held pool)) number_is ∙ instead behind later) made))
+              new_moving behind later fault new free
+              (subst (λ (v : World). AppliesBy (MovesOn held.slot) size w v (memory_with behind later) fault old new) (sym (world_more size w memory held old number there ready id free more))
+              (AppliesBy-then Stays (MovesOn held.slot) (MovesOn held.slot) (Joins-stays (MovesOn held.slot) (led_stays held.slot (λ _. LAST_FRONTIER))) size w grown (with_made held.name id grown) (memory_with held pool) (memory_with behind later) fault old mid new
+              refl (sym (grown_frames held.name w.stored)) after_growth
+              (subst (λ (m : Memory). AppliesBy (MovesOn held.slot) size grown (with_made held.name id grown) m fault mid new)
+              (ap (λ (n : ℕ). with_opened n held.slot behind later (memory_with held pool)) number_is ∙ instead behind later) made)))
 
           pub reply_in_more : (serial : ℕ) → (IsReady size grown (memory_with held pool) mid → grows grown held.name ≡ false → serial ≡ next_in (graph_seen (open_on held.name grown) (pool_named held.name grown.stored)))
               → of_reply (replies.Ref serial) ≡ answer_by w (Some line)

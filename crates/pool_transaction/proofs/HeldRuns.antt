@@ -36,6 +36,8 @@ use Rattle.ready_daemon.specs.Held.{pool_held, open_held, IsHeld, IsHeldUnder, H
 use Rattle.ready_daemon.specs.KnownPools.{KnowsPools}
 use Rattle.ready_daemon.specs.Ready.{IsReady, RefusesNone, StandsBetween, Applies}
 use Rattle.ready_daemon.proofs.Beside.{IsApart, KeepsOne, Leaves-from, log_masked, own_masked, record_picked, left_apart, left_all, under_left, own_apart, held_still, names_none_idle, ready_idle}
+use Rattle.ready_daemon.proofs.Beneath.{ready_gate}
+use Rattle.ready_daemon.proofs.PuddlesLeft.{LeavesPuddles-behind}
 use Rattle.ready_daemon.proofs.OpenNames.{changed_there, changed_elsewhere, WereOpen, WereOpen-changed, Charges}
 use Rattle.pool_transaction.proofs.HeldChanged.{Holds-later, HasSessions-later}
 use Rattle.ready_daemon.proofs.PoolsBeside.{puddles_still, one_slot}
@@ -309,6 +311,7 @@ module _ (size : ℕ) (w : World) (memory : Memory) (held : Held) (old : State) 
     pub Applies-runs : Applies size w next (with_held number (Some later) memory) fault old new
     Applies-runs = record {
       moments = moments_own;
+      puddles = LeavesPuddles-behind F own fault old new changes_own own_behind ready.tables (ready_gate size w memory old ready);
       quiet = Changes-said own fault old new changes_own;
       ready = ready_within;
       rests = changes_own.rests;

@@ -25,7 +25,8 @@ use Rattle.pool_transaction.specs.Changing.{IsHeldIn, with_opened, update_line, 
 use Rattle.ready_daemon.specs.Judged.{known_in}
 use Rattle.ready_daemon.specs.Memory.{Held, Memory}
 use Rattle.ready_daemon.specs.Held.{IsHeld}
-use Rattle.ready_daemon.specs.Ready.{IsReady, Applies}
+use Rattle.ready_daemon.specs.Moves.{MovesOn}
+use Rattle.ready_daemon.specs.Ready.{IsReady, AppliesBy}
 use Rattle.ready_daemon.proofs.HeldUnder.{held_same}
 use Rattle.ready_daemon.proofs.InTurn.{held_known}
 use Rattle.pool_transaction.proofs.HeldLines.{known_same}
@@ -71,7 +72,7 @@ module _ (size : ℕ) (w : World) (memory : Memory) (held : Held) (old : State) 
   Finishes fault = HasIdleGate DAEMON_LOG old.now.words → HasLowBases at → Rewrites F goal at later fault old mid
 
   -- it failed
-  pub Applies-unfinished_update : (behind : Memory) (fault : HostFault) → Finishes (Some fault) → Applies size w next behind (Some fault) old mid
+  pub Applies-unfinished_update : (behind : Memory) (fault : HostFault) → Finishes (Some fault) → AppliesBy (MovesOn held.slot) size w next behind (Some fault) old mid
   Applies-unfinished_update behind fault finishes =
       Applies-unfinished size w memory held old held.number its.there ready F on at its.known goal later fault mid finishes next behind (same_stored w held.client held.name update)
 
@@ -95,7 +96,7 @@ module _ (size : ℕ) (w : World) (memory : Memory) (held : Held) (old : State) 
 
     pub Applies-update : (tx : OpenTx) (new : State) → tx.log.at ≡ held.tx.log.at → (done : Result Unit HostFault) → refusal_of w (update_line update held.client held.name) ≡ None
         → IsFoundBy F at (reads old.now.words) update found → CarriesOut F lent found held.tx.log tx.log (fault_of done) mid new → CountsOut F lent held.tx tx done mid
-        → Applies size w next (with_opened held.number held.slot (with_tx tx held) later memory) (fault_of done) old new
+        → AppliesBy (MovesOn held.slot) size w next (with_opened held.number held.slot (with_tx tx held) later memory) (fault_of done) old new
     Applies-update tx new gate done free by runs counts =
         let listed = same ∙ sym (held_known size w then mid still_ready held.number held its.there later known_then) in
         let one : IsHeld w held still_ready.mask mid.now.words = is_held size w then held mid held.number its.there still_ready in

@@ -7,6 +7,7 @@ pub mod HeldAnew
 pub mod HeldStepped
 pub mod StepsBeside
 pub mod StepsKept
+pub mod StepsMoved
 pub mod Rewriting
 pub mod FinishedPools
 pub mod FoundBehind

@@ -16,6 +16,7 @@ use Rattle.pud_defs.specs.declared.records.Puddle.{Puddle}
 use Rattle.pud_defs.specs.declared.records.PoolRec.{PoolRec}
 use Rattle.pud_defs.specs.declared.records.TheConstants.{POOL_RECORDS}
 use Rattle.pud_defs.specs.Image.{Image}
+use Rattle.pud_defs.specs.Puddles.{Member}
 use Rattle.pud_defs.specs.SoundTables.{is_pool, is_sound_puddle, is_legal_member, HasSoundTables}
 use Rattle.pud_defs.specs.Spaces.{owner_of}
 use Rattle.pud_defs.specs.Tables.{Tables, tables_of, puddles_in_turn}
@@ -35,8 +36,10 @@ use Rattle.ready_daemon.specs.Judged.{known_in}
 use Rattle.ready_daemon.specs.KnownPools.{KnowsPools}
 use Rattle.ready_daemon.specs.Memory.{Held, Memory, held_under}
 use Rattle.ready_daemon.specs.Held.{pool_held, open_held, IsHeld, KeepsHeld, ByOthers}
-use Rattle.ready_daemon.specs.Ready.{IsReady, AppliesMasked, Applies}
-use Rattle.ready_daemon.proofs.Applying.{Applies-still, Applies-stopped, Applies-then, Applies-known}
+use Rattle.ready_daemon.specs.Moves.{Stays, MovesTo, led_in}
+use Rattle.ready_daemon.specs.Ready.{IsReady, AppliesMasked, AppliesBy}
+use Rattle.ready_daemon.proofs.Applying.{Applies-still, Applies-stopped, AppliesBy-then, AppliesBy-weaker, Applies-known}
+use Rattle.ready_daemon.proofs.Goals.{led_stays, Joins-led}
 use Rattle.ready_daemon.proofs.Beside.{held_is, opens_apart_from, moments_beside, durable_frames_still, Applies-beside}
 use Rattle.ready_daemon.proofs.InTurn.{held_there_known, known_in_turn, held_known}
 use Rattle.ready_daemon.proofs.JudgedKept.{HasGraphIn, KeepsPools}
@@ -48,6 +51,7 @@ use Rattle.pool_transaction.proofs.HeldAnew.{opens_anew, was_one, then_one, wide
 use Rattle.pool_transaction.proofs.HeldStepped.{before, pool_stepped, mask_stepped, records_stepped, held_stepped}
 use Rattle.pool_transaction.proofs.StepsBeside.{IsShutIn, cases_held, known_placed, steps_apply}
 use Rattle.pool_transaction.proofs.Widened.{IsMaskedMore}
+use Rattle.pool_transaction.proofs.StepsMoved.{upto, LeavesPuddles-steps}
 use Rattle.pool_transaction.proofs.StepsKept.{listed_then, graph_then, tables_then, sound_then, KeepsPools-steps}
 
 -- what is known anyway is kept again
@@ -81,11 +85,12 @@ module _ (size : ℕ) (w : World) (memory : Memory) (slot : ℕ) (at : List (ℕ
   behind = record memory { judged = set memory.judged slot (Some with_them) }
 
   -- where it failed no more is owed
-  pub Applies-failed_steps : (fault : HostFault) (then : Memory) → CommitsSteps F at o m e (Some fault) old new → Applies size w w then (Some fault) old new
+  pub Applies-failed_steps : (fault : HostFault) (then : Memory) → CommitsSteps F at o m e (Some fault) old new → AppliesBy (MovesTo (led_in slot (upto goal))) size w w then (Some fault) old new
   Applies-failed_steps fault then c =
       let a = steps_apply size w memory slot at old ready known goal o m e next rec low used (Some fault) new c in
       record {
         moments = moments_beside size w w memory (Some fault) old new ready refl a;
+        puddles = LeavesPuddles-steps size w memory slot at old new ready known goal o m e next (Some fault) c;
         quiet = Changes-said (ByOthers ready.mask) (Some fault) old new a.beside.changes;
         ready = λ done. absurd (none-some fault (sym done));
         rests = a.beside.changes.rests;
@@ -101,10 +106,11 @@ module _ (size : ℕ) (w : World) (memory : Memory) (slot : ℕ) (at : List (ℕ
 
     -- ---- none is held on the pool
 
-    Applies-shut : IsShutIn memory.held slot → Applies size w w behind None old new
+    Applies-shut : IsShutIn memory.held slot → AppliesBy (MovesTo (led_in slot (upto goal))) size w w behind None old new
     Applies-shut shut =
         let keeps = KeepsPools-steps size w memory slot at old new ready known goal o m e next c in
-        Applies-beside size w w memory None old new ready (keeps_world w memory.held) done behind refl refl refl
+        Applies-beside size w w memory None old new ready (keeps_world w memory.held) done (MovesTo (led_in slot (upto goal)))
+        (LeavesPuddles-steps size w memory slot at old new ready known goal o m e next None c) behind refl refl refl
         (λ _. record {
           judged = AreJudged-grown F slot memory.judged with_them image now keeps graph_then_is ready.knows.judged;
           open_pools = λ number x there.
@@ -218,9 +224,10 @@ module _ (size : ℕ) (w : World) (memory : Memory) (old new : State) (ready : I
       knows = knows_then;
     }
 
-    pub Applies-held : Applies size w w (record memory { judged = set memory.judged held.slot (Some stepped_its) }) None old new
+    pub Applies-held : AppliesBy (MovesTo (led_in held.slot (upto goal))) size w w (record memory { judged = set memory.judged held.slot (Some stepped_its) }) None old new
     Applies-held = record {
       moments = moments_beside size w w memory None old new ready refl applied;
+      puddles = LeavesPuddles-steps size w memory held.slot its.at old new ready known_its goal o m e next None c;
       quiet = Changes-said (ByOthers ready.mask) None old new applied.beside.changes;
       ready = λ _. ready_then;
       rests = applied.beside.changes.rests;
@@ -233,6 +240,10 @@ module _ (size : ℕ) (w : World) (slot : ℕ) (low : slot < POOL_RECORDS) (goal
   -- the memory that knows the pool so
   abbrev knowing : Memory → List (ℕ × Puddle) → Memory
   knowing memory at = record memory { judged = set memory.judged slot (Some at) }
+
+  -- what becomes of the records meanwhile
+  abbrev Led : Member → Option Member → Type 0
+  Led = MovesTo (led_in slot (upto goal))
 
   some_record : (r : Option PoolRec) → is_some r ≡ true → (rec : PoolRec) × (r ≡ Some rec)
   some_record None some = absurd (let it : false ≡ true = some in cc)
@@ -252,7 +263,7 @@ module _ (size : ℕ) (w : World) (slot : ℕ) (low : slot < POOL_RECORDS) (goal
 
   -- whichever transaction is held on it, or none
   Applies-batch : (memory : Memory) (at : List (ℕ × Puddle)) (o m : ℕ) (e : ℕ × Puddle) (old new : State) (ready : IsReady size w memory old) → known_in memory.judged slot ≡ Some at → AreNextSteps at goal o m e
-      → CommitsSteps w.stored.frames at o m e None old new → Applies size w w (knowing memory (with_steps o m e at)) None old new
+      → CommitsSteps w.stored.frames at o m e None old new → AppliesBy Led size w w (knowing memory (with_steps o m e at)) None old new
   Applies-batch memory at o m e old new ready known next c = elim (cases_held size w memory slot at old ready known) [
     | inr shut ↦
         let used = used_of memory at o m e old ready known next in
@@ -261,43 +272,44 @@ module _ (size : ℕ) (w : World) (slot : ℕ) (low : slot < POOL_RECORDS) (goal
         let held = on.1 in
         let is = held_is w memory.held ready.mask old.now.words ready.held on.0.number held.mine held.is in
         let same : at ≡ is.at = sym (held_known size w memory old ready on.0.number held.mine held.is at (ap (known_in memory.judged) held.slot_is ∙ known)) in
-        subst (λ (ps : List (ℕ × Puddle)). Applies size w w (record memory { judged = set memory.judged slot (Some (with_steps o m e ps)) }) None old new) (sym same)
-        (subst (λ (i : ℕ). Applies size w w (record memory { judged = set memory.judged i (Some (with_steps o m e is.at)) }) None old new) held.slot_is
+        subst (λ (ps : List (ℕ × Puddle)). AppliesBy Led size w w (record memory { judged = set memory.judged slot (Some (with_steps o m e ps)) }) None old new) (sym same)
+        (subst (λ (i : ℕ). AppliesBy (MovesTo (led_in i (upto goal))) size w w (record memory { judged = set memory.judged i (Some (with_steps o m e is.at)) }) None old new) held.slot_is
         (Applies-held size w memory old new ready on.0.number held.mine held.is goal o m e
         (subst (λ (ps : List (ℕ × Puddle)). AreNextSteps ps goal o m e) same next) (subst (λ (ps : List (ℕ × Puddle)). CommitsSteps w.stored.frames ps o m e None old new) same c)))
   ]
 
   Applies-once : (memory : Memory) (at later : List (ℕ × Puddle)) (fault : Option HostFault) (old new : State) → IsReady size w memory old → known_in memory.judged slot ≡ Some at
-      → RewritesOnce w.stored.frames goal at later fault old new → Applies size w w (knowing memory later) fault old new
+      → RewritesOnce w.stored.frames goal at later fault old new → AppliesBy Led size w w (knowing memory later) fault old new
   Applies-once memory at later None old new ready known one = elim one.does [
     | inl still ↦ absurd (still.1.0 refl)
-    | inr c ↦ subst (λ (ps : List (ℕ × Puddle)). Applies size w w (knowing memory ps) None old new) (sym one.pool) (Applies-batch memory at one.ordinal one.to one.puddle old new ready known one.next c)
+    | inr c ↦ subst (λ (ps : List (ℕ × Puddle)). AppliesBy Led size w w (knowing memory ps) None old new) (sym one.pool) (Applies-batch memory at one.ordinal one.to one.puddle old new ready known one.next c)
   ]
   Applies-once memory at later (Some fault) old new ready known one = elim one.does [
-    | inl still ↦ Applies-stopped size w w memory (knowing memory later) fault old new ready still.0 (λ cut. absurd (still.1.1 cut))
+    | inl still ↦ AppliesBy-weaker Stays Led (led_stays slot (upto goal)) size w w (knowing memory later) (Some fault) old new (Applies-stopped size w w memory (knowing memory later) fault old new ready still.0 (λ cut. absurd (still.1.1 cut)))
     | inr c ↦
         let used = used_of memory at one.ordinal one.to one.puddle old ready known one.next in
         Applies-failed_steps size w memory slot at old new ready known goal one.ordinal one.to one.puddle one.next used.0 low used.1 fault (knowing memory later) c
   ]
 
   Applies-turns : (batches : ℕ) (memory : Memory) (at later : List (ℕ × Puddle)) (fault : Option HostFault) (old new : State) → IsReady size w memory old → known_in memory.judged slot ≡ Some at
-      → RewritesInTurn w.stored.frames goal batches at later fault old new → Applies size w w (knowing memory later) fault old new
+      → RewritesInTurn w.stored.frames goal batches at later fault old new → AppliesBy Led size w w (knowing memory later) fault old new
   Applies-turns zero memory at later fault old new ready known turns =
       let same : memory.judged ≡ set memory.judged slot (Some later) = sym (set-known memory.judged slot later (known ∙ ap (λ (ps : List (ℕ × Puddle)). Some ps) (sym turns.0))) in
       Applies-known size w w memory fault old new memory.judged (set memory.judged slot (Some later)) same
-      (Applies-still size w memory fault old new ready turns.1.1 (λ cut. absurd (let no : None ≡ Some Cut = sym turns.1.0 ∙ cut in cc)))
+      (AppliesBy-weaker Stays Led (led_stays slot (upto goal)) size w w memory fault old new
+      (Applies-still size w memory fault old new ready turns.1.1 (λ cut. absurd (let no : None ≡ Some Cut = sym turns.1.0 ∙ cut in cc))))
   Applies-turns (suc batches) memory at later fault old new ready known turns =
       let mid = turns.0 in
       let between = turns.1.0 in
       let first = Applies-turns batches memory at between None old mid ready known turns.1.1.0 in
       let then = knowing memory between in
       let now : known_in then.judged slot ≡ Some between = get_or-set_same memory.judged slot (Some between) None (known_within memory.judged slot at known) in
-      Applies-then size w w w then (knowing memory later) fault old mid new refl first
+      AppliesBy-then Led Led Led (Joins-led slot (upto goal)) size w w w then (knowing memory later) fault old mid new refl refl first
       (Applies-known size w w memory fault mid new (set (set memory.judged slot (Some between)) slot (Some later)) (set memory.judged slot (Some later)) (set-set memory.judged slot (Some between) (Some later))
       (Applies-once then between later fault mid new (first.ready refl) now turns.1.1.1))
 
 -- the daemon is ready behind the batches, and knows the pool by what they made of its puddles
 pub Applies-rewrites : (size : ℕ) (w : World) (memory : Memory) (slot : ℕ) (at later : List (ℕ × Puddle)) (goal : ℕ → ℕ) (fault : Option HostFault) (old new : State)
     → IsReady size w memory old → slot < POOL_RECORDS → known_in memory.judged slot ≡ Some at → Rewrites w.stored.frames goal at later fault old new
-    → Applies size w w (record memory { judged = set memory.judged slot (Some later) }) fault old new
+    → AppliesBy (MovesTo (led_in slot (upto goal))) size w w (record memory { judged = set memory.judged slot (Some later) }) fault old new
 Applies-rewrites size w memory slot at later goal fault old new ready low known r = Applies-turns size w slot low goal r.batches memory at later fault old new ready known r.in_turn

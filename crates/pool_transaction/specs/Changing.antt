@@ -1,5 +1,7 @@
 -- What a line changes in a transaction that is held, and what stays of it while it goes on; why an object is not made in it, and what making one leaves.
-use Rattle.std.specs.Prelude.{◌≡◌, ℕ, Bool, ◌+◌, ◌<◌, ◌≤◌, false, nat_le, nat_lt, cond, List, length, set, Option, Some, None, is_none}
+use Rattle.std.specs.Prelude.{◌≡◌, ◌≢◌, ◌⊎◌, ℕ, Bool, ◌+◌, ◌<◌, ◌≤◌, false, nat_le, nat_lt, cond, List, length, set, Option, Some, None, is_none}
+use Rattle.pm_model.specs.declared.host.HostFault.{HostFault}
+use Rattle.pm_model.specs.Moments.{State}
 use Rattle.pud_defs.specs.declared.layout.TheConstants.{LOG_ENTRY_WORDS, MAX_FIELDS, SET_UNITS, NEW_UNITS, NUMBER_LIMIT, NEXT_NUMBER_WORD}
 use Rattle.pud_defs.specs.declared.machine.Command.{Command}
 use Rattle.pud_defs.specs.declared.machine.Command.TheVariants as commands
@@ -22,9 +24,10 @@ use Rattle.registry.specs.declared.adding.Added.{Added}
 use Rattle.registry.specs.Growth.{grow_refusal, IsGrowthFor}
 use Rattle.puddle_header.specs.Places.{place_of_slot, IsSlotOf}
 use Rattle.graph_read.specs.Reading.{place_in_pool}
-use Rattle.lazy_rewrite.specs.Frontiers.{finished_at}
+use Rattle.lazy_rewrite.specs.Frontiers.{finished_at, frontiers_of}
+use Rattle.lazy_rewrite.specs.Batches.{Rewrites}
 use Rattle.hybrid_tx.specs.Objects.Stores.{word_for, IsPlaceAndWord}
-use Rattle.hybrid_tx.specs.Objects.Transactions.{MayName, MaySet, MayFree}
+use Rattle.hybrid_tx.specs.Objects.Transactions.{MayName, MaySet, MayFree, MakesIn}
 use Rattle.pool_transaction.specs.declared.changing.Change.{Change}
 use Rattle.pool_transaction.specs.declared.changing.Change.TheVariants as changes
 use Rattle.pool_transaction.specs.declared.changing.Update.{Update}
@@ -168,3 +171,11 @@ with_made name id w = record w { transactions = with_changed name (charged NEW_U
 -- the pool with the puddles rewritten to their ends that an object writes which is made in the puddle of an ordinal: the first one, and this one
 abbrev pub both_finished : (ordinal : ℕ) → List (ℕ × Puddle) → List (ℕ × Puddle)
 both_finished ordinal at = finished_at ordinal (finished_at 0 at)
+
+-- The puddles were rewritten to their ends that an object writes which is made in the slot, or that failed; and from there it was made in the slot, on
+-- the pool as it was then.
+pub record MakesBehind (F : ℕ) (at later : List (ℕ × Puddle)) (gate : ℕ) (slot : Slot) (id : ℕ) (fault : Option HostFault) (old new : State) : Type 0 where
+  pub mid : State
+  pub first : Option HostFault
+  pub finishes : Rewrites F (frontiers_of (both_finished slot.ordinal at)) at later first old mid
+  pub makes : ((fault ≡ first) × ((first ≢ None) × (new ≡ mid))) ⊎ MakesIn F later gate slot id fault mid new

@@ -25,13 +25,14 @@ ghost use Rattle.lazy_rewrite.specs.Frontiers.{frontiers_of, finished_at};
 ghost use Rattle.lazy_rewrite.specs.Batches.{Rewrites};
 ghost use Rattle.word_transaction.specs.Running.{ByTransaction};
 ghost use Rattle.hybrid_tx.specs.Grounds.{pool_ground, IsPlaced, IsRewrittenAt};
-ghost use Rattle.hybrid_tx.specs.Objects.Transactions.{IsOpenOn, RunsOn, MakesIn};
+ghost use Rattle.hybrid_tx.specs.Objects.Transactions.{IsOpenOn, RunsOn};
 ghost use Rattle.ready_daemon.specs.Memory.{Memory};
 ghost use Rattle.ready_daemon.specs.Held.{IsHeldWithin};
 ghost use Rattle.registry.specs.Adding.{IsAddedWithin};
 ghost use Rattle.registry.specs.Places.{refusal_in};
-ghost use Rattle.pool_transaction.specs.Changing.{IsHeldIn, with_opened, line_of, update_line, changed_by, IsLegalChange, IsLegalUpdate, ordinal_written, IsFoundWithin, IsFoundBy, MayChange, StaysOpen, refusal_to_make, refusal_by_tables, GrowsBy, refusal_by_world, with_more, with_made, both_finished};
-ghost use Rattle.ready_daemon.specs.Ready.{KeepsRest, IsReady, Applies};
+ghost use Rattle.pool_transaction.specs.Changing.{IsHeldIn, with_opened, line_of, update_line, changed_by, IsLegalChange, IsLegalUpdate, ordinal_written, IsFoundWithin, IsFoundBy, MayChange, StaysOpen, refusal_to_make, refusal_by_tables, GrowsBy, refusal_by_world, with_more, with_made, both_finished, MakesBehind};
+ghost use Rattle.ready_daemon.specs.Moves.{MovesOn, MovesUnless};
+ghost use Rattle.ready_daemon.specs.Ready.{KeepsRest, IsReady, AppliesBy, Applies};
 
 use crate::opened::Opened;
 use hybrid_tx::Tx;
@@ -211,7 +212,7 @@ impl Opened {
         ensures applies { H.tells → (update : Update) → (size : ℕ) → size ≡ (H.counts h.old).size → (w : World) → (memory : Memory) → IsHeldIn frames self.old pool.old memory
             → IsReady size w memory (H.state h.old) → refusal_of w (update_line update (self.old).client (self.old).name) ≡ Option.None
             → IsFoundBy frames pool.old (reads (H.state h.old).now.words) update found
-            → Applies size w (after w (update_line update (self.old).client (self.old).name)) (with_opened (self.old).number (self.old).slot self.new pool.new memory) (fault_of result) (H.state h.old) (H.state h.new) }
+            → AppliesBy (MovesOn (self.old).slot) size w (after w (update_line update (self.old).client (self.old).name)) (with_opened (self.old).number (self.old).slot self.new pool.new memory) (fault_of result) (H.state h.old) (H.state h.new) }
         ensures pool { IfOk result (λ _. pool.new ≡ finished_at (ordinal_written found) pool.old) }
         ensures within { IsHeldWithin frames self.new }
         ensures known { IsOnDevice frames pool.new }
@@ -246,7 +247,7 @@ impl Opened {
         ensures reply { H.tells → (size : ℕ) → (w : World) → (memory : Memory) → IsHeldIn frames self.old pool.old memory → IsReady size w memory (H.state h.old)
             → IfOk result (λ reply. of_reply reply ≡ answer_by w (Option.Some (update_line update (self.old).client (self.old).name))) }
         ensures applies { H.tells → (size : ℕ) → size ≡ (H.counts h.old).size → (w : World) → (memory : Memory) → IsHeldIn frames self.old pool.old memory → IsReady size w memory (H.state h.old)
-            → Applies size w (world_by w (Option.Some (update_line update (self.old).client (self.old).name))) (with_opened (self.old).number (self.old).slot self.new pool.new memory)
+            → AppliesBy (MovesUnless (refusal_of w (update_line update (self.old).client (self.old).name)) (self.old).slot) size w (world_by w (Option.Some (update_line update (self.old).client (self.old).name))) (with_opened (self.old).number (self.old).slot self.new pool.new memory)
             (fault_of result) (H.state h.old) (H.state h.new) }
         ensures refused { IfOk result (λ reply. (why : Refusal) → reply ≡ Reply.No why → pool.new ≡ pool.old) }
         ensures within { IsHeldWithin frames self.new }
@@ -329,16 +330,15 @@ impl Opened {
         requires known { IsOnDevice frames pool.old }
         requires units { (self.old).tx.units + NEW_UNITS ≤ LOG_ENTRY_WORDS }
         ensures makes { H.tells → (size : ℕ) → (w : World) → (memory : Memory) → IsHeldIn frames self.old pool.old memory → IsReady size w memory (H.state h.old) → refusal_by_world w self.old t ≡ Option.None → grows w (self.old).name ≡ false
-            → Applies size w (with_made (self.old).name t w) (with_opened (self.old).number (self.old).slot self.new pool.new memory) (fault_of result) (H.state h.old) (H.state h.new) }
+            → AppliesBy (MovesOn (self.old).slot) size w (with_made (self.old).name t w) (with_opened (self.old).number (self.old).slot self.new pool.new memory) (fault_of result) (H.state h.old) (H.state h.new) }
         ensures serial { H.tells → (size : ℕ) → (w : World) → (memory : Memory) → IsHeldIn frames self.old pool.old memory → IsReady size w memory (H.state h.old) → grows w (self.old).name ≡ false
             → IfOk result (λ serial. serial ≡ next_in (graph_seen (open_on (self.old).name w) (pool_named (self.old).name w.stored))) }
         ensures full { H.tells → (size : ℕ) → (w : World) → (memory : Memory) → IsHeldIn frames self.old pool.old memory → IsReady size w memory (H.state h.old) → grows w (self.old).name ≡ true
             → IfOk result (λ serial. serial ≡ 0) × (H.state h.new ≡ H.state h.old) × (self.new ≡ self.old) × (pool.new ≡ pool.old) }
-        // Where the puddles that it writes are finished already.
+        // In the lowest free slot, whatever the frontiers are.
         ensures lowest { H.tells → (size : ℕ) → (w : World) → (memory : Memory) → IsHeldIn frames self.old pool.old memory → IsReady size w memory (H.state h.old) → refusal_by_world w self.old t ≡ Option.None
             → (slot : Slot) → IsSlotOf pool.old slot → IsLowestFreeSlot (stored_in frames pool.old (reads (H.state h.old).now.words)) (place_of_slot slot)
-            → IsRewrittenAt pool.old 0 → IsRewrittenAt pool.old slot.ordinal
-            → MakesIn frames pool.old (self.old).tx.log.at slot t (fault_of result) (H.state h.old) (H.state h.new) }
+            → MakesBehind frames pool.old pool.new (self.old).tx.log.at slot t (fault_of result) (H.state h.old) (H.state h.new) }
         ensures within { IsHeldWithin frames self.new }
         ensures known { IsOnDevice frames pool.new }
         ensures stays { StaysOpen self.old self.new }
@@ -398,7 +398,7 @@ impl Opened {
         ensures reply { H.tells → (size : ℕ) → size ≡ (H.counts h.old).size → (w : World) → (memory : Memory) → IsHeldIn frames self.old pool.old memory → IsReady size w memory (H.state h.old) → refusal_by_world w self.old t ≡ Option.None → grows w (self.old).name ≡ true
             → IfOk result (λ reply. of_reply reply ≡ answer_by w (Option.Some (commands.New (self.old).client (self.old).name t))) }
         ensures applies { H.tells → (size : ℕ) → size ≡ (H.counts h.old).size → (w : World) → (memory : Memory) → IsHeldIn frames self.old pool.old memory → IsReady size w memory (H.state h.old) → refusal_by_world w self.old t ≡ Option.None → grows w (self.old).name ≡ true
-            → Applies size w (world_by w (Option.Some (commands.New (self.old).client (self.old).name t))) (with_opened (self.old).number (self.old).slot self.new pool.new memory) (fault_of result)
+            → AppliesBy (MovesUnless (refusal_of w (commands.New (self.old).client (self.old).name t)) (self.old).slot) size w (world_by w (Option.Some (commands.New (self.old).client (self.old).name t))) (with_opened (self.old).number (self.old).slot self.new pool.new memory) (fault_of result)
             (H.state h.old) (H.state h.new) }
         ensures within { IsHeldWithin frames self.new }
         ensures known { IsOnDevice frames pool.new }
@@ -433,7 +433,7 @@ impl Opened {
         requires known { IsOnDevice frames pool.old }
         ensures reply { H.tells → (size : ℕ) → size ≡ (H.counts h.old).size → (w : World) → (memory : Memory) → IsHeldIn frames self.old pool.old memory → IsReady size w memory (H.state h.old) → IfOk result (λ reply. of_reply reply ≡ answer_by w (Option.Some (commands.New (self.old).client (self.old).name t))) }
         ensures applies { H.tells → (size : ℕ) → size ≡ (H.counts h.old).size → (w : World) → (memory : Memory) → IsHeldIn frames self.old pool.old memory → IsReady size w memory (H.state h.old)
-            → Applies size w (world_by w (Option.Some (commands.New (self.old).client (self.old).name t))) (with_opened (self.old).number (self.old).slot self.new pool.new memory) (fault_of result)
+            → AppliesBy (MovesUnless (refusal_of w (commands.New (self.old).client (self.old).name t)) (self.old).slot) size w (world_by w (Option.Some (commands.New (self.old).client (self.old).name t))) (with_opened (self.old).number (self.old).slot self.new pool.new memory) (fault_of result)
             (H.state h.old) (H.state h.new) }
         ensures within { IsHeldWithin frames self.new }
         ensures known { IsOnDevice frames pool.new }
@@ -473,7 +473,7 @@ impl Opened {
         ensures reply { H.tells → (size : ℕ) → size ≡ (H.counts h.old).size → (w : World) → (memory : Memory) → IsHeldIn frames self.old pool.old memory → IsReady size w memory (H.state h.old)
             → IfOk result (λ reply. of_reply reply ≡ answer_by w (Option.Some (line_of change (self.old).client (self.old).name))) }
         ensures applies { H.tells → (size : ℕ) → size ≡ (H.counts h.old).size → (w : World) → (memory : Memory) → IsHeldIn frames self.old pool.old memory → IsReady size w memory (H.state h.old)
-            → Applies size w (world_by w (Option.Some (line_of change (self.old).client (self.old).name))) (with_opened (self.old).number (self.old).slot self.new pool.new memory) (fault_of result)
+            → AppliesBy (MovesUnless (refusal_of w (line_of change (self.old).client (self.old).name)) (self.old).slot) size w (world_by w (Option.Some (line_of change (self.old).client (self.old).name))) (with_opened (self.old).number (self.old).slot self.new pool.new memory) (fault_of result)
             (H.state h.old) (H.state h.new) }
         ensures within { IsHeldWithin frames self.new }
         ensures known { IsOnDevice frames pool.new }

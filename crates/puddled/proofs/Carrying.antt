@@ -25,9 +25,13 @@ use Rattle.ready_daemon.specs.Memory.{Memory}
 use Rattle.puddled.specs.declared.answers.Answered.{Answered}
 use Rattle.puddled.specs.declared.answers.Answered.TheVariants as answers
 use Rattle.puddled.specs.Answered.{as_answered}
-use Rattle.ready_daemon.specs.Ready.{KeepsRest, IsReady, Applies, ClosesBefore, ClosesLogs}
+use Rattle.ready_daemon.specs.Moves.{Stays, MovesTo, still}
+use Rattle.ready_daemon.specs.Ready.{KeepsRest, IsReady, AppliesBy, Applies, ClosesBefore, ClosesLogs}
 use Rattle.puddled.specs.Daemon.{KeepsAllBut, CarriesOut}
-use Rattle.ready_daemon.proofs.Applying.{Applies-idle}
+use Rattle.puddled.specs.Frontiers.{AppliesAs}
+use Rattle.puddled.proofs.Frontiers.{AppliesAs-still}
+use Rattle.ready_daemon.proofs.Applying.{Applies-idle, AppliesBy-weaker}
+use Rattle.ready_daemon.proofs.Goals.{stays_still}
 
 -- what keeps the shelf keeps each file
 pub keeps_line : (file : Option (List ℕ)) (old new : State) → KeepsRest old new → KeepsAllBut file old new
@@ -106,36 +110,51 @@ ClosesLogs-other w command old new other = record { first = λ client is present
 -- ---- each command
 
 module _ (size : ℕ) (w : World) (memory : Memory) (before after : Counts) (old new : State) where
+  -- what stays goes nowhere
+  unmoved : {next : World} (fault : Option HostFault) → Applies size w next memory fault old new → AppliesBy (MovesTo still) size w next memory fault old new
+  unmoved {next} fault = AppliesBy-weaker Stays (MovesTo still) stays_still size w next memory fault old new
+
   -- one that counts nothing of its own, and writes no file
-  pub CarriesOut-plain : (c : Command) (done : Result Reply HostFault) → kind_of (Some c) ≡ ordinary → file_of c ≡ None → IfOk done (λ reply. of_reply reply ≡ answer_by w (Some c))
-      → Applies size w (world_by w (Some c)) memory (fault_of done) old new → ClosesLogs ClosesBefore w (Some c) old new → KeepsRest old new → after ≡ after_fault (fault_of done) before
+  pub CarriesOut-led : (c : Command) (done : Result Reply HostFault) → kind_of (Some c) ≡ ordinary → file_of c ≡ None → IfOk done (λ reply. of_reply reply ≡ answer_by w (Some c))
+      → AppliesAs size w (world_by w (Some c)) (Some c) memory (fault_of done) old new → ClosesLogs ClosesBefore w (Some c) old new → KeepsRest old new → after ≡ after_fault (fault_of done) before
       → CarriesOut size w memory (Some c) (as_answered done) before after old new
-  CarriesOut-plain c (Ok reply) plain none replied applies closes rest cause = record {
+  CarriesOut-led c (Ok reply) plain none replied applies closes rest cause = record {
     said = answer_by w (Some c);
     under = world_by w (Some c);
     step = plain_step w (Some c) none;
     gives = λ _. Gives-plain w (Some c) none;
     replied = replied;
     one_line = tt;
-    applies = applies;
+    goal = applies.goal;
+    leads = applies.leads;
+    applies = applies.applies;
     files = KeepsFiles-still (file_of c) old.shelf new.shelf rest.shelf;
     no_file = λ _. none;
     closes = closes;
     counted = subst (λ (k : Kind). CountsCommand k None before after) (sym plain) cause;
   }
-  CarriesOut-plain c (Err fault) plain none replied applies closes rest cause = record {
+  CarriesOut-led c (Err fault) plain none replied applies closes rest cause = record {
     said = answer_by w (Some c);
     under = world_by w (Some c);
     step = plain_step w (Some c) none;
     gives = λ _. Gives-plain w (Some c) none;
     replied = tt;
     one_line = tt;
-    applies = applies;
+    goal = applies.goal;
+    leads = applies.leads;
+    applies = applies.applies;
     files = KeepsFiles-still (file_of c) old.shelf new.shelf rest.shelf;
     no_file = λ _. none;
     closes = closes;
     counted = subst (λ (k : Kind). CountsCommand k (Some fault) before after) (sym plain) cause;
   }
+
+  -- and moves no frontier
+  pub CarriesOut-plain : (c : Command) (done : Result Reply HostFault) → kind_of (Some c) ≡ ordinary → file_of c ≡ None → IfOk done (λ reply. of_reply reply ≡ answer_by w (Some c))
+      → Applies size w (world_by w (Some c)) memory (fault_of done) old new → ClosesLogs ClosesBefore w (Some c) old new → KeepsRest old new → after ≡ after_fault (fault_of done) before
+      → CarriesOut size w memory (Some c) (as_answered done) before after old new
+  CarriesOut-plain c done plain none replied applies closes rest cause =
+      CarriesOut-led c done plain none replied (AppliesAs-still size w (world_by w (Some c)) (Some c) memory (fault_of done) old new applies) closes rest cause
 
   -- by the command that it is, and what was replied
   pub CarriesOut-as : (x c : Command) (r : Result Answered HostFault) (done : Result Reply HostFault) → x ≡ c → r ≡ as_answered done → CarriesOut size w memory (Some c) (as_answered done) before after old new
@@ -152,7 +171,9 @@ module _ (size : ℕ) (w : World) (memory : Memory) (before after : Counts) (old
     gives = λ _. Gives-plain w (Some Pools) refl;
     one_line = tt;
     replied = ap (λ (v : World). of_text (pools_text v.stored)) (world_of_pools w) ∙ sym (answer_of_pools w);
-    applies = subst (λ (v : World). Applies size w v memory None old new) (sym (world_of_pools w)) (Applies-idle size w memory old new ready same);
+    goal = still;
+    leads = inl refl;
+    applies = unmoved None (subst (λ (v : World). Applies size w v memory None old new) (sym (world_of_pools w)) (Applies-idle size w memory old new ready same));
     files = KeepsFiles-still None old.shelf new.shelf (ap (λ (s : State). s.shelf) same);
     no_file = λ _. refl;
     closes = ClosesLogs-other w (Some Pools) old new (λ client is. cc);
@@ -169,7 +190,9 @@ module _ (size : ℕ) (w : World) (memory : Memory) (before after : Counts) (old
     gives = λ _. Gives-plain w (Some (Cut pick)) refl;
     replied = tt;
     one_line = tt;
-    applies = subst (λ (v : World). Applies size w v memory (Some hosts.Cut) old new) (sym (world_of_cut w pick)) applies;
+    goal = still;
+    leads = inl refl;
+    applies = unmoved (Some hosts.Cut) (subst (λ (v : World). Applies size w v memory (Some hosts.Cut) old new) (sym (world_of_cut w pick)) applies);
     files = KeepsFiles-still None old.shelf new.shelf rest.shelf;
     no_file = λ _. refl;
     closes = ClosesLogs-other w (Some (Cut pick)) old new (λ client is. cc);
@@ -186,7 +209,9 @@ module _ (size : ℕ) (w : World) (memory : Memory) (before after : Counts) (old
     gives = λ _. Gives-plain w (Some (Arm step pick)) refl;
     one_line = tt;
     replied = sym (answer_is_ok w (Arm step pick) refl refl (arm_is_free w step pick));
-    applies = subst (λ (v : World). Applies size w v memory None old new) (sym (world_of_arm w step pick)) (Applies-idle size w memory old new ready same);
+    goal = still;
+    leads = inl refl;
+    applies = unmoved None (subst (λ (v : World). Applies size w v memory None old new) (sym (world_of_arm w step pick)) (Applies-idle size w memory old new ready same));
     files = KeepsFiles-still None old.shelf new.shelf (ap (λ (s : State). s.shelf) same);
     no_file = λ _. refl;
     closes = ClosesLogs-other w (Some (Arm step pick)) old new (λ client is. cc);
@@ -202,7 +227,9 @@ module _ (size : ℕ) (w : World) (memory : Memory) (before after : Counts) (old
     gives = λ _. Gives-plain w None refl;
     replied = refl;
     one_line = tt;
-    applies = Applies-idle size w memory old new ready same;
+    goal = still;
+    leads = refl;
+    applies = unmoved None (Applies-idle size w memory old new ready same);
     files = KeepsFiles-still None old.shelf new.shelf (ap (λ (s : State). s.shelf) same);
     no_file = λ _. refl;
     closes = ClosesLogs-other w None old new (λ client is. cc);

@@ -5,11 +5,13 @@ use Rattle.std.proofs.lemmas.List.{get_or_default}
 use Rattle.std.proofs.lemmas.Option.{none-some, same_Some}
 use Rattle.pm_model.specs.declared.host.HostFault.{HostFault}
 use Rattle.pm_model.specs.Moments.{State}
+use Rattle.pm_model.specs.Words.{reads}
 use Rattle.pud_defs.specs.declared.machine.Command.{Command}
 use Rattle.pud_defs.specs.declared.records.Puddle.{Puddle}
 use Rattle.pud_defs.specs.declared.machine.Command.TheVariants.{Commit}
 use Rattle.pud_defs.specs.declared.machine.Refusal.{Refusal}
 use Rattle.pud_defs.specs.Step.{refusal_of, world_by}
+use Rattle.pud_defs.specs.Tables.{tables_of}
 use Rattle.pud_defs.specs.World.{World}
 use Rattle.nesting.specs.declared.Session.{Session}
 use Rattle.pool_transaction.specs.declared.changing.Change.{Change}
@@ -18,7 +20,13 @@ use Rattle.pool_transaction.specs.Changing.{IsHeldIn, with_opened, line_of}
 use Rattle.ready_daemon.specs.Judged.{known_in}
 use Rattle.ready_daemon.specs.Memory.{Held, Memory, held_under}
 use Rattle.ready_daemon.specs.Holding.{IsOwnOn}
-use Rattle.ready_daemon.specs.Ready.{IsReady, Applies}
+use Rattle.ready_daemon.specs.Moves.{MovesUnless}
+use Rattle.ready_daemon.specs.Owning.{IsSlotOf}
+use Rattle.ready_daemon.specs.Ready.{IsReady, AppliesBy}
+use Rattle.ready_daemon.proofs.Beside.{held_is}
+use Rattle.ready_daemon.proofs.PoolsBeside.{used_still}
+use Rattle.puddled.specs.Frontiers.{AppliesAs}
+use Rattle.puddled.proofs.Frontiers.{AppliesAs-change}
 use Rattle.pool_transaction.proofs.TransactionRefusals.{refused_change, refused_new}
 use Rattle.ready_daemon.proofs.InTurn.{held_there_known}
 
@@ -52,13 +60,24 @@ module _ (size : ℕ) (w : World) (F : ℕ) (all : List (Option Held)) (sessions
     pub asked : (change : Change) → line_of change mine.client mine.name ≡ line_of change client name
     asked change = ap₂ (line_of change) (ap (λ (h : Held). h.client) same ∙ own.own.whose) (ap (λ (h : Held). h.name) same ∙ own.own.pool)
 
+    -- its pool is that of the name
+    at_slot : IsSlotOf w.stored.frames name (reads s.now.words) slot
+    at_slot =
+        let is = held_is w memory.held ready.mask s.now.words ready.held number own.own.mine own.own.is in
+        record {
+          rec = is.rec;
+          used = ap (tables_of w.stored.frames (reads s.now.words)).pools (sym own.slot_is) ∙ used_still w own.own.mine ready.mask s.now.words is;
+          name_is = is.name ∙ own.own.pool;
+        }
+
     pub Applies-changed : (change : Change) (now : Held) (pool : List (ℕ × Puddle)) (fault : Option HostFault) (new : State)
-        → Applies size w (world_by w (Some (line_of change mine.client mine.name))) (with_opened mine.number mine.slot now pool memory) fault s new
-        → Applies size w (world_by w (Some (line_of change client name))) (record { frames = F; held = set all number (Some now); sessions = sessions; judged = set judged slot (Some pool) }) fault s new
+        → AppliesBy (MovesUnless (refusal_of w (line_of change mine.client mine.name)) mine.slot) size w (world_by w (Some (line_of change mine.client mine.name))) (with_opened mine.number mine.slot now pool memory) fault s new
+        → AppliesAs size w (world_by w (Some (line_of change client name))) (Some (line_of change client name)) (record { frames = F; held = set all number (Some now); sessions = sessions; judged = set judged slot (Some pool) }) fault s new
     Applies-changed change now pool fault new applies =
-        subst (λ (c : Command). Applies size w (world_by w (Some c)) (with_opened number slot now pool memory) fault s new) (asked change)
-        (subst (λ (i : ℕ). Applies size w (world_by w (Some (line_of change mine.client mine.name))) (with_opened number i now pool memory) fault s new) slot_is
-        (subst (λ (n : ℕ). Applies size w (world_by w (Some (line_of change mine.client mine.name))) (with_opened n mine.slot now pool memory) fault s new) number_is applies))
+        AppliesAs-change size w (world_by w (Some (line_of change client name))) client name change (with_opened number slot now pool memory) fault s new slot at_slot
+        (subst (λ (c : Command). AppliesBy (MovesUnless (refusal_of w c) slot) size w (world_by w (Some c)) (with_opened number slot now pool memory) fault s new) (asked change)
+        (subst (λ (i : ℕ). AppliesBy (MovesUnless (refusal_of w (line_of change mine.client mine.name)) i) size w (world_by w (Some (line_of change mine.client mine.name))) (with_opened number i now pool memory) fault s new) slot_is
+        (subst (λ (n : ℕ). AppliesBy (MovesUnless (refusal_of w (line_of change mine.client mine.name)) mine.slot) size w (world_by w (Some (line_of change mine.client mine.name))) (with_opened n mine.slot now pool memory) fault s new) number_is applies)))
 
 -- where a line on the client's own is refused before what it asks is looked at, so is the line of each change
 pub refused_line : (w : World) (client : ℕ) (name : List ℕ) (r : Refusal) → refusal_of w (Commit client name) ≡ Some r → (change : Change) → refusal_of w (line_of change client name) ≡ Some r

@@ -23,13 +23,15 @@ use Rattle.pool_transaction.specs.declared.changing.Update.TheVariants as update
 use Rattle.pool_transaction.specs.Changing.{line_of}
 use Rattle.ready_daemon.specs.Ready.{KeepsRest, IsReady, Applies}
 use Rattle.puddled.specs.Daemon.{CarriesOut}
+use Rattle.puddled.specs.Frontiers.{AppliesAs}
 use Rattle.puddled.specs.Faults.{kind_of}
 use Rattle.puddled.specs.Faults.Kind.{ordinary}
 use Rattle.ready_daemon.specs.Memory.{Memory}
 use Rattle.ready_daemon.proofs.Applying.{Applies-failed, Applies-refused}
+use Rattle.ready_daemon.proofs.PuddlesLeft.{LeavesPuddles-still}
 use Rattle.ready_daemon.proofs.Beside.{ready_stands}
 use Rattle.ready_daemon.proofs.Keeping.{KeepsRest-still}
-use Rattle.puddled.proofs.Carrying.{ClosesLogs-other, CarriesOut-plain}
+use Rattle.puddled.proofs.Carrying.{ClosesLogs-other, CarriesOut-plain, CarriesOut-led}
 
 -- a daemon that is ready is so behind calls that read
 pub ready_read : (size : ℕ) (w : World) (memory : Memory) (old new : State) → new ≡ old → IsReady size w memory old → IsReady size w memory new
@@ -85,16 +87,17 @@ module _ (size : ℕ) (w : World) (memory : Memory) (first mid last : Counts) (a
 
 -- behind calls that read it is carried out, or refused, by a call that replies to it
 pub CarriesOut-replied : (size : ℕ) (w : World) (memory : Memory) (first mid last : Counts) (a b d : State) (c : Command) → IsPlain c → b ≡ a → mid ≡ first → KeepsRest b d → (done : Result Reply HostFault)
-    → IfOk done (λ reply. of_reply reply ≡ answer_by w (Some c)) → Applies size w (world_by w (Some c)) memory (fault_of done) b d → last ≡ after_fault (fault_of done) mid
+    → IfOk done (λ reply. of_reply reply ≡ answer_by w (Some c)) → AppliesAs size w (world_by w (Some c)) (Some c) memory (fault_of done) b d → last ≡ after_fault (fault_of done) mid
     → CarriesOut size w memory (Some c) (as_answered done) first last a d
 CarriesOut-replied size w memory first mid last a b d c plain same counted rest done replied applies cause =
     subst (λ (s : State). CarriesOut size w memory (Some c) (as_answered done) first last s d) same
-    (CarriesOut-plain size w memory first last b d c done plain.kind plain.file replied applies (ClosesLogs-other w (Some c) b d plain.stays) rest (cause ∙ ap (after_fault (fault_of done)) counted))
+    (CarriesOut-led size w memory first last b d c done plain.kind plain.file replied applies (ClosesLogs-other w (Some c) b d plain.stays) rest (cause ∙ ap (after_fault (fault_of done)) counted))
 
 -- no device was touched
 pub Applies-untouched : (size : ℕ) (w next : World) (memory behind : Memory) (s : State) → IsReady size w memory s → IsReady size next behind s → Applies size w next behind None s s
 Applies-untouched size w next memory behind s ready then = record {
   moments = Leaves-still _ s s (λ image picked. let stands = ready_stands size w memory s ready image picked in (refl, (inl stands.0, stands.1))) refl;
+  puddles = LeavesPuddles-still size w memory s ready s refl;
   quiet = refl;
   ready = λ _. then;
   rests = λ cut. absurd (let no : None ≡ Some Cut = cut in cc);

@@ -54,11 +54,14 @@ use Rattle.puddled.specs.Daemon.{CarriesOut}
 use Rattle.puddled.specs.Files.{HoldsPool, IsStoredPool}
 use Rattle.ready_daemon.specs.Memory.{Memory}
 use Rattle.ready_daemon.specs.Held.{KeepsHeld}
+use Rattle.ready_daemon.specs.Moves.{Stays, MovesTo, LeavesPuddles, still}
 use Rattle.ready_daemon.specs.Ready.{IsReady, StandsBetween, Applies}
 use Rattle.ready_daemon.proofs.Beside.{ready_stands, holds_still, sessions_still}
 use Rattle.puddled.proofs.Carrying.{ClosesLogs-other}
 use Rattle.puddled.proofs.Needs.{refusal_of-dump, refusal_of-export}
-use Rattle.ready_daemon.proofs.Applying.{Applies-still}
+use Rattle.ready_daemon.proofs.Applying.{Applies-still, AppliesBy-weaker}
+use Rattle.ready_daemon.proofs.Goals.{stays_still}
+use Rattle.ready_daemon.proofs.PuddlesLeft.{LeavesPuddles-still}
 
 -- ---- why they are refused
 
@@ -128,7 +131,9 @@ module _ (size : ℕ) (w : World) (memory : Memory) (c : Command) (plain : kind_
     gives = λ cut. absurd (never cut);
     replied = replied;
     one_line = one;
-    applies = applies;
+    goal = still;
+    leads = inl refl;
+    applies = AppliesBy-weaker Stays (MovesTo still) stays_still size w w memory (fault_of done) old new applies;
     files = KeepsFiles-still (file_of c) old.shelf new.shelf (ap (λ (s : State). s.shelf) same);
     no_file = λ cut. absurd (never cut);
     closes = ClosesLogs-other w (Some c) old new other;
@@ -146,7 +151,9 @@ module _ (size : ℕ) (w : World) (memory : Memory) (c : Command) (plain : kind_
     gives = λ cut. absurd (never cut);
     replied = replied;
     one_line = one;
-    applies = applies;
+    goal = still;
+    leads = inl refl;
+    applies = AppliesBy-weaker Stays (MovesTo still) stays_still size w under memory (fault_of done) old new applies;
     files = files;
     no_file = λ cut. absurd (never cut);
     closes = ClosesLogs-other w (Some c) old new other;
@@ -225,9 +232,13 @@ module _ (size : ℕ) (w : World) (memory : Memory) (shelf : Shelf) (s : State) 
   moments_shelved under other same =
       Leaves-shelf _ other s s (Leaves-still _ s s (λ image picked. let stands = ready_stands size w memory s ready image picked in (refl, (inl stands.0, stands.1))) refl)
 
+  puddles_shelved : (other : Shelf) → LeavesPuddles w.stored.frames Stays s (with_shelf other s)
+  puddles_shelved other = record { each = λ frame m used. Leaves-shelf _ other s s ((LeavesPuddles-still size w memory s ready s refl).each frame m used) }
+
   pub Applies-shelved : Applies size w beside memory None s (with_shelf shelf s)
   Applies-shelved = record {
     moments = moments_shelved beside shelf refl;
+    puddles = puddles_shelved shelf;
     quiet = refl;
     ready = λ none. ready_shelved;
     rests = λ cut. absurd (let no : None ≡ Some hosts.Cut = cut in cc);
@@ -238,6 +249,7 @@ module _ (size : ℕ) (w : World) (memory : Memory) (shelf : Shelf) (s : State) 
   pub Applies-unwritten : (other : Shelf) → Applies size w w memory (Some hosts.Failed) s (with_shelf other s)
   Applies-unwritten other = record {
     moments = moments_shelved w other refl;
+    puddles = puddles_shelved other;
     quiet = refl;
     ready = λ none. absurd (let no : Some hosts.Failed ≡ None = none in cc);
     rests = λ cut. absurd (let no : Some hosts.Failed ≡ Some hosts.Cut = cut in cc);

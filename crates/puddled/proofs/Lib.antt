@@ -13,9 +13,11 @@ pub mod Releasing
 pub mod Counted
 pub mod Emptied
 pub mod Restarts
+pub mod Frontiers
 pub mod Carrying
 pub mod Commanding
 pub mod Listed
 pub mod Settling
+pub mod Led
 pub mod Lines
 pub mod Beginning

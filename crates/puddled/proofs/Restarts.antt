@@ -211,7 +211,7 @@ sound_recovery size w fault a world exact is =
 
 -- ---- whatever it stands for
 
-below_logs : (F k : ℕ) → k < tables_end F → is_in_logs F k ≡ false
+pub below_logs : (F k : ℕ) → k < tables_end F → is_in_logs F k ≡ false
 below_logs F k below = ap (λ (b : Bool). b && ltb k (frames_at F)) (lt-leb (tables_end F) k below)
 
 -- what a start that went well leaves of a rested device that read as this image

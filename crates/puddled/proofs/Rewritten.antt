@@ -1,5 +1,5 @@
 -- The line that rewrites pointers of a pool: why it is refused, and what its steps leave.
-use Rattle.std.proofs.Common.{◌≡◌, inl, inr, ℕ, ◌<◌, Bool, true, false, is_some, refl, List, length, Option, Some, None, Result, Ok, Err, sym, ap, ap₂, subst, ◌∙◌}
+use Rattle.std.proofs.Common.{◌≡◌, inl, inr, ℕ, ◌<◌, ◌≤◌, Bool, true, false, is_some, refl, List, length, Option, Some, None, Result, Ok, Err, sym, ap, ap₂, subst, ◌∙◌, arith}
 use Rattle.std.specs.Prelude.{cond, is_none, set, IfOk}
 use Rattle.std.proofs.lemmas.Bool.{cases_lt}
 use Rattle.std.proofs.lemmas.List.{get_or-set_same, get_or_past}
@@ -20,17 +20,27 @@ use Rattle.pud_defs.proofs.Steps.{done_world}
 use Rattle.batch.specs.Batches.{HasIdleGate}
 use Rattle.lazy_rewrite.specs.Entries.{HasLowBases}
 use Rattle.lazy_rewrite.specs.Batches.{Rewrites}
-use Rattle.lazy_rewrite.specs.Frontiers.{steps_from}
+use Rattle.lazy_rewrite.specs.Frontiers.{steps_from, frontiers_of}
 use Rattle.nesting.specs.declared.Session.{Session}
 use Rattle.ready_daemon.specs.Judged.{known_in}
 use Rattle.ready_daemon.specs.Memory.{Held, Memory}
 use Rattle.ready_daemon.specs.Owning.{IsSlotOf}
-use Rattle.ready_daemon.specs.Ready.{IsReady, Applies}
+use Rattle.ready_daemon.specs.Moves.{MovesTo, led_in}
+use Rattle.ready_daemon.specs.Ready.{IsReady, AppliesBy}
+use Rattle.ready_daemon.proofs.Applying.{AppliesBy-weaker}
+use Rattle.ready_daemon.proofs.Goals.{led_further}
+use Rattle.puddled.specs.Frontiers.{steps_in, AppliesAs}
+use Rattle.pud_defs.specs.declared.machine.Reply.{Reply}
+use Rattle.pud_defs.specs.Image.{Image}
+use Rattle.puddled.specs.declared.answers.Answered.{Answered}
+use Rattle.puddled.specs.Answered.{as_answered}
 use Rattle.puddled.specs.Rewriting.{DoesSteps}
+use Rattle.ready_daemon.proofs.InTurn.{known_in_turn}
 use Rattle.ready_daemon.proofs.Beneath.{ready_gate}
 use Rattle.pool_transaction.proofs.HeldFinishes.{low_of_placed}
 use Rattle.pool_transaction.proofs.Rewriting.{Applies-rewrites}
 use Rattle.pool_transaction.proofs.StepsBeside.{known_placed}
+use Rattle.pool_transaction.proofs.StepsMoved.{upto}
 
 -- ---- why it is refused
 
@@ -86,11 +96,12 @@ module _ (size : ℕ) (w : World) (F : ℕ) (held : List (Option Held)) (session
 
   -- the daemon is ready behind them
   pub Applies-stepped : (goal : ℕ → ℕ) (later : List (ℕ × Puddle)) (fault : Option HostFault) (new : State) → (HasIdleGate DAEMON_LOG old.now.words → HasLowBases at → Rewrites F goal at later fault old new)
-      → Applies size w w (record { frames = F; held = held; sessions = sessions; judged = set judged slot (Some later) }) fault old new
+      → AppliesBy (MovesTo (led_in slot goal)) size w w (record { frames = F; held = held; sessions = sessions; judged = set judged slot (Some later) }) fault old new
   Applies-stepped goal later fault new does =
       let placed = known_placed size w memory slot at old ready known in
-      Applies-rewrites size w memory slot at later goal fault old new ready low known
-      (subst (λ (n : ℕ). Rewrites n goal at later fault old new) ready.frames (does (ready_gate size w memory old ready) (low_of_placed w.stored.frames at placed)))
+      AppliesBy-weaker (MovesTo (led_in slot (upto goal))) (MovesTo (led_in slot goal)) (led_further slot (upto goal) goal (λ o. omega arith)) size w w (record memory { judged = set judged slot (Some later) }) fault old new
+      (Applies-rewrites size w memory slot at later goal fault old new ready low known
+      (subst (λ (n : ℕ). Rewrites n goal at later fault old new) ready.frames (does (ready_gate size w memory old ready) (low_of_placed w.stored.frames at placed))))
 
   -- its puddles are those before them, moved
   pub DoesSteps-stepped : (name : List ℕ) (n : ℕ) (now : List (Option (List (ℕ × Puddle)))) (new : State) → IsSlotOf w.stored.frames name (reads old.now.words) slot → now ≡ set judged slot (Some (steps_from n at))
@@ -102,3 +113,22 @@ module _ (size : ℕ) (w : World) (F : ℕ) (held : List (Option Held)) (session
     before = ready.knows.judged.each slot at known;
     behind = then.knows.judged.each slot (steps_from n at) (ap (λ (js : List (Option (List (ℕ × Puddle)))). known_in js slot) moves ∙ get_or-set_same judged slot (Some (steps_from n at)) None (known_within judged slot at known));
   }
+
+-- where the line leads them
+pub AppliesAs-rewrite : (size : ℕ) (w : World) (memory behind : Memory) (name : List ℕ) (n slot : ℕ) (at : List (ℕ × Puddle)) (fault : Option HostFault) (old new : State) → IsReady size w memory old
+    → known_in memory.judged slot ≡ Some at → refusal_of w (Rewrite name n) ≡ None → IsSlotOf w.stored.frames name (reads old.now.words) slot
+    → AppliesBy (MovesTo (led_in slot (frontiers_of (steps_from n at)))) size w (world_by w (Some (Rewrite name n))) behind fault old new
+    → AppliesAs size w (world_by w (Some (Rewrite name n))) (Some (Rewrite name n)) behind fault old new
+AppliesAs-rewrite size w memory behind name n slot at fault old new ready known free is a =
+    let turn = known_in_turn size w memory old ready slot at known in
+    record {
+      goal = steps_in w.stored.frames (reads old.now.words) n slot;
+      leads = inr (free, record { slot = slot; is = is; goal_is = refl });
+      applies = subst (λ (ps : List (ℕ × Puddle)). AppliesBy (MovesTo (led_in slot (frontiers_of (steps_from n ps)))) size w (world_by w (Some (Rewrite name n))) behind fault old new) (sym turn) a;
+    }
+
+-- the steps are those behind the answer
+pub steps_answered : (F : ℕ) (name : List ℕ) (n : ℕ) (old new : Image) (done : Result Reply HostFault) (result : Result Answered HostFault) → result ≡ as_answered done
+    → IfOk done (λ _. DoesSteps F name n old new) → IfOk result (λ _. DoesSteps F name n old new)
+steps_answered F name n old new (Ok reply) result is does = subst (λ (r : Result Answered HostFault). IfOk r (λ _. DoesSteps F name n old new)) (sym is) does
+steps_answered F name n old new (Err fault) result is does = subst (λ (r : Result Answered HostFault). IfOk r (λ _. DoesSteps F name n old new)) (sym is) tt

@@ -11,6 +11,7 @@ use Rattle.pm_model.proofs.Words.{Picks-reads}
 use Rattle.pm_model.proofs.Leaves.{Leaves-then, Leaves-now, Leaves-weaker}
 use Rattle.pud_defs.specs.declared.machine.Reply.TheVariants as replies
 use Rattle.pud_defs.specs.Image.{Image}
+use Rattle.pud_defs.specs.Puddles.{Member}
 use Rattle.pud_defs.specs.declared.machine.Command.{Command}
 use Rattle.pud_defs.specs.declared.machine.Command.TheVariants.{Leave}
 use Rattle.pud_defs.specs.declared.machine.Refusal.{Refusal}
@@ -29,7 +30,7 @@ use Rattle.puddled.specs.Faults.Kind.{ordinary, loses, arms}
 use Rattle.ready_daemon.specs.Memory.{Memory}
 use Rattle.puddled.specs.declared.answers.Answered.{Answered}
 use Rattle.puddled.specs.declared.answers.Answered.TheVariants as answers
-use Rattle.ready_daemon.specs.Ready.{IsReady, Applies, IsClosedIfFree, IsClosedIfNamed, ClosesFirst, ClosesBefore, ClosesLogs, RefusesNone, StandsBetween}
+use Rattle.ready_daemon.specs.Ready.{IsReady, AppliesBy, IsClosedIfFree, IsClosedIfNamed, ClosesFirst, ClosesBefore, ClosesLogs, RefusesNone, StandsBetween}
 use Rattle.puddled.specs.Starting.{Recovers}
 use Rattle.puddled.specs.Daemon.{CarriesOut, Settles}
 use Rattle.ready_daemon.proofs.Turns.{turn_of, is_turn_of, cut_turn, is_cut_turn}
@@ -42,11 +43,11 @@ abbrev pub Between : (size : ℕ) → World → World → Image → Type 0
 Between size w under image = (world_of size image ≡ Some (closed w)) ⊎ (world_of size image ≡ Some (closed under))
 
 -- so stand the images of a command
-stands_applied : (size : ℕ) (w under : World) (memory : Memory) (fault : Option HostFault) (old mid : State) → Applies size w under memory fault old mid → Leaves (Silently (Between size w under)) old mid
+stands_applied : {becomes : Member → Option Member → Type 0} (size : ℕ) (w under : World) (memory : Memory) (fault : Option HostFault) (old mid : State) → AppliesBy becomes size w under memory fault old mid → Leaves (Silently (Between size w under)) old mid
 stands_applied size w under memory fault old mid p = Leaves-weaker (Silently (StandsBetween size w under)) (Silently (Between size w under)) old mid (λ bytes image m. (m.0, m.1.0)) p.moments
 
 -- and in none of them a registered log is refused
-allowed_applied : (size : ℕ) (w under : World) (memory : Memory) (fault : Option HostFault) (old mid : State) → Applies size w under memory fault old mid → Leaves (λ bytes image. RefusesNone image) old mid
+allowed_applied : {becomes : Member → Option Member → Type 0} (size : ℕ) (w under : World) (memory : Memory) (fault : Option HostFault) (old mid : State) → AppliesBy becomes size w under memory fault old mid → Leaves (λ bytes image. RefusesNone image) old mid
 allowed_applied size w under memory fault old mid p = Leaves-weaker (Silently (StandsBetween size w under)) (λ bytes image. RefusesNone image) old mid (λ bytes image m. m.1.1) p.moments
 
 -- logs that are closed before a batch names the record are closed before it is free
@@ -164,7 +165,7 @@ module _ (size : ℕ) (w : World) (memory : Memory) (line : List ℕ) (before be
   unfolding found_world
   found_shelf = found.shelf
 
-  found_frames : found_world.stored.frames ≡ w.stored.frames
+  pub found_frames : found_world.stored.frames ≡ w.stored.frames
   unfolding found_world
   found_frames = found.frames
 

@@ -7,6 +7,7 @@ use Rattle.pm_model.specs.Counts.{Counts, fault_of}
 use Rattle.pm_model.specs.Moments.{State}
 use Rattle.pm_model.specs.Changes.{Leaves, Silently}
 use Rattle.pud_defs.specs.Step.{Answer}
+use Rattle.pud_defs.specs.Puddles.{Member}
 use Rattle.pud_defs.specs.Gives.{Gives, StepBy}
 use Rattle.pud_defs.specs.World.{World, world_of, closed}
 use Rattle.pud_defs.specs.declared.machine.Command.{Command}
@@ -16,12 +17,14 @@ use Rattle.pud_defs.specs.Run.{Turn, IsTurn, cuts_of}
 use Rattle.pud_defs.specs.Texts.{answer_text, begins_with_ok}
 use Rattle.pud_defs.specs.Stands.{StandsWith}
 use Rattle.ready_daemon.specs.Memory.{Memory}
-use Rattle.ready_daemon.specs.Ready.{IsReady, RefusesNone, Applies, ClosesFirst, ClosesBefore, ClosesLogs}
+use Rattle.ready_daemon.specs.Moves.{MovesTo}
+use Rattle.ready_daemon.specs.Ready.{IsReady, RefusesNone, AppliesBy, ClosesFirst, ClosesBefore, ClosesLogs}
 use Rattle.puddled.specs.declared.answers.Answered.{Answered}
 use Rattle.puddled.specs.Answered.{answer_of, IsOneLine, said_text}
 use Rattle.puddled.specs.declared.daemon.RunFault.{RunFault}
 use Rattle.puddled.specs.declared.daemon.RunFault.TheVariants as faults
 use Rattle.puddled.specs.Faults.{run_fault, kind_of, CountsLine, CountsCommand}
+use Rattle.puddled.specs.Frontiers.{Leads}
 use Rattle.puddled.specs.Saying.{SaysPart}
 
 -- the bytes left to read stay, and each file but the one named
@@ -35,7 +38,8 @@ pub record KeepsAllBut (file : Option (List ℕ)) (old new : State) : Type 0 whe
   pub script : new.script ≡ old.script
   pub files : KeepsFiles file old.shelf new.shelf
 
--- What each command owes, before the daemon goes on behind it: a step of the machine was made, and answered so, in one line; only a file that it
+-- What each command owes, before the daemon goes on behind it: a step of the machine was made, and answered so, in one line, and at every moment
+-- each frontier is on its way to where the line leads it; only a file that it
 -- names was written, and it names none where power was lost, in which case the world is one that it gives where memory is not refused; a client that
 -- goes has its logs closed first; it was counted by its kind.
 pub record CarriesOut (size : ℕ) (w : World) (memory : Memory) (command : Option Command) (done : Result Answered HostFault) (before after : Counts) (old new : State) : Type 0 where
@@ -45,7 +49,9 @@ pub record CarriesOut (size : ℕ) (w : World) (memory : Memory) (command : Opti
   pub gives : fault_of done ≡ Some hosts.Cut → Gives w command under
   pub replied : IfOk done (λ answered. answer_of under answered ≡ said)
   pub one_line : IfOk done IsOneLine
-  pub applies : Applies size w under memory (fault_of done) old new
+  pub goal : Member → Option ℕ
+  pub leads : Leads w command (reads old.now.words) goal
+  pub applies : AppliesBy (MovesTo goal) size w under memory (fault_of done) old new
   pub files : KeepsFiles (file_in command) old.shelf new.shelf
   pub no_file : fault_of done ≡ Some hosts.Cut → file_in command ≡ None
   pub closes : ClosesLogs ClosesBefore w command old new

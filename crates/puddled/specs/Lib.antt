@@ -2,6 +2,7 @@ pub mod Answered
 pub mod Faults
 pub mod Saying
 pub mod Starting
+pub mod Frontiers
 pub mod Daemon
 pub mod Files
 pub mod Reading

@@ -17,7 +17,8 @@ ghost use Rattle.pool_transaction.specs.Changing.{line_of, IsLegalChange};
 ghost use Rattle.ready_daemon.specs.Held.{AreHeldWithin};
 ghost use Rattle.ready_daemon.specs.Holding.{IsOwnOn};
 ghost use Rattle.ready_daemon.specs.Judged.{AreOnDevice};
-ghost use Rattle.ready_daemon.specs.Ready.{KeepsRest, IsReady, Applies};
+ghost use Rattle.ready_daemon.specs.Ready.{KeepsRest, IsReady};
+ghost use Rattle.puddled.specs.Frontiers.{AppliesAs};
 ghost use Rattle.puddled.specs.Daemon.{CarriesOut};
 
 use crate::daemon::Daemon;
@@ -51,7 +52,7 @@ fn change_in<H: Host>(
         → IfOk result (λ reply. of_reply reply ≡ answer_by w (Option.Some (line_of change client name))) }
     ensures applies { H.tells → (size : ℕ) → size ≡ (H.counts h.old).size → (w : World) → (sessions : List (Option Session)) → (client : ℕ) → (name : List ℕ)
         → IsReady size w (record { frames = frames; held = all.old; sessions = sessions; judged = judged.old }) (H.state h.old) → IsOwnOn client name own.slot own.number all.old
-        → Applies size w (world_by w (Option.Some (line_of change client name))) (record { frames = frames; held = all.new; sessions = sessions; judged = judged.new }) (fault_of result)
+        → AppliesAs size w (world_by w (Option.Some (line_of change client name))) (Option.Some (line_of change client name)) (record { frames = frames; held = all.new; sessions = sessions; judged = judged.new }) (fault_of result)
         (H.state h.old) (H.state h.new) }
     ensures within { AreHeldWithin frames all.new }
     ensures known { AreOnDevice frames judged.new }

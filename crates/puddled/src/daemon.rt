@@ -1,5 +1,5 @@
 //! The daemon's own calls: start, one line, stop.
-ghost use Rattle.std.specs.Prelude.{◌≡◌, ◌≢◌, ◌≤◌, ◌↔◌, ℕ, false, List, IsOk, IfOk, Option, Result};
+ghost use Rattle.std.specs.Prelude.{◌≡◌, ◌≢◌, ◌≤◌, ◌↔◌, ℕ, true, false, List, IsOk, IfOk, Option, Result};
 ghost use Rattle.pm_model.specs.Words.{IsRested, reads};
 ghost use Rattle.pm_model.specs.Counts.{Counts, after_fault, after_arm, after_loss_of, fault_of};
 ghost use Rattle.pm_model.specs.Moments.{State};
@@ -12,7 +12,11 @@ ghost use Rattle.pud_defs.specs.Grammar.{command_of, IsLegalCommand};
 ghost use Rattle.pud_defs.specs.Changing.{file_of, file_in};
 ghost use Rattle.ready_daemon.specs.Memory.{Memory};
 ghost use Rattle.ready_daemon.specs.Ready.{KeepsRest, KeepsInput, IsReady, Applies};
-ghost use Rattle.puddled.specs.Starting.{Recovers};
+ghost use Rattle.pud_defs.specs.declared.machine.Command.TheVariants as commands;
+ghost use Rattle.pud_defs.specs.Step.{refusal_of};
+ghost use Rattle.puddled.specs.Frontiers.{LeadFrontiers};
+ghost use Rattle.puddled.specs.Rewriting.{DoesSteps};
+ghost use Rattle.puddled.specs.Starting.{IsReplayed, Recovers};
 ghost use Rattle.puddled.specs.Daemon.{KeepsAllBut, KeepsLine, CarriesOut, Settles};
 
 use crate::answers::{Answered, say_answer, with_reply};
@@ -140,6 +144,7 @@ fn restart<H: Host>(h: &mut H) -> Result<Daemon, StartFault>
     ensures recovers { H.tells → (size : ℕ) → size ≡ (H.counts h.old).size → (w : World) → IsRested (H.state h.old).now.words
         → world_of size (reads (H.state h.old).now.words) ≡ Option.Some (closed w) → (H.state h.old).shelf ≡ w.shelf
         → Recovers size w result (H.state h.old) (H.state h.new) }
+    ensures replays { H.tells → IsRested (H.state h.old).now.words → IfOk result (λ daemon. IsReplayed (reads (H.state h.old).now.words) (reads (H.state h.new).now.words)) }
     ensures sound { H.tells → IsRested (H.state h.old).now.words → IfOk result (λ daemon. world_of (H.counts h.old).size (reads (H.state h.new).now.words) ≢ Option.None) }
     ensures room { IfOk result (λ daemon. device_words daemon.frames ≤ (H.counts h.old).size) }
     ensures rest { H.tells → KeepsRest (H.state h.old) (H.state h.new) }
@@ -186,6 +191,8 @@ fn apply<H: Host>(
     requires room { device_words daemon.old.frames ≤ (H.counts h.old).size }
     ensures carries { H.tells → (size : ℕ) → size ≡ (H.counts h.old).size → (w : World) → IsReady size w daemon.old (H.state h.old)
         → CarriesOut size w daemon.new (Option.Some command) result (H.counts h.old) (H.counts h.new) (H.state h.old) (H.state h.new) }
+    ensures steps { H.tells → (size : ℕ) → size ≡ (H.counts h.old).size → (w : World) → IsReady size w daemon.old (H.state h.old) → (name : List ℕ) (n : ℕ) → command ≡ commands.Rewrite name n
+        → refusal_of w command ≡ Option.None → IfOk result (λ _. DoesSteps w.stored.frames name n (reads (H.state h.old).now.words) (reads (H.state h.new).now.words)) }
     ensures room { device_words daemon.new.frames ≤ (H.counts h.old).size }
     ensures rest { H.tells → KeepsAllBut (file_of command) (H.state h.old) (H.state h.new) }
     ensures rests { H.tells → fault_of result ≡ Option.Some HostFault.Cut → IsRested (H.state h.new).now.words }
@@ -275,6 +282,14 @@ fn go_on<H: Host>(
         → command_of line ≡ Option.Some command → before.shelf ≡ w.shelf
         → CarriesOut size w daemon.old (command_of line) done counted (H.counts h.old) before (H.state h.old)
         → Settles size w line result daemon.new counted (H.counts h.new) before (H.state h.new) }
+    // Each frontier is on the way to where the command leads it.
+    ensures frontiers { H.tells → (size : ℕ) → size ≡ (H.counts h.old).size → (w : World) → (line : List ℕ) → (counted : Counts) → (before : State)
+        → command_of line ≡ Option.Some command → before.shelf ≡ w.shelf
+        → CarriesOut size w daemon.old (command_of line) done counted (H.counts h.old) before (H.state h.old)
+        → IfOk result (λ _. LeadFrontiers w (command_of line) (reads before.now.words) (reads (H.state h.new).now.words)) }
+    // A line that rewrites has done its steps, where it was not cut.
+    ensures steps { H.tells → (F : ℕ) (name : List ℕ) (n : ℕ) (before : State) → IfOk done (λ _. DoesSteps F name n (reads before.now.words) (reads (H.state h.old).now.words))
+        → command ≡ commands.Rewrite name n → IfOk result (λ answered. (answered ≡ Answered.Reply Reply.Cut → ⊥) → DoesSteps F name n (reads before.now.words) (reads (H.state h.new).now.words)) }
     // Whatever the device holds: where power was lost, it then reads as a sound one.
     ensures restarted { H.tells → (fault_of done ≡ Option.Some HostFault.Cut → IsRested (H.state h.old).now.words) → (counted : Counts)
         → CountsCommand (kind_of (Option.Some command)) (fault_of done) counted (H.counts h.old) → IsOk result → HasLostPower (Option.Some command) counted (H.counts h.new)
@@ -308,6 +323,11 @@ fn settle<H: Host>(
     requires { device_words daemon.old.frames ≤ (H.counts h.old).size }
     ensures settles { H.tells → (size : ℕ) → size ≡ (H.counts h.old).size → (w : World) → IsReady size w daemon.old (H.state h.old)
         → Settles size w line.now result daemon.new (H.counts h.old) (H.counts h.new) (H.state h.old) (H.state h.new) }
+    ensures frontiers { H.tells → (size : ℕ) → size ≡ (H.counts h.old).size → (w : World) → IsReady size w daemon.old (H.state h.old)
+        → IfOk result (λ _. LeadFrontiers w (command_of line.now) (reads (H.state h.old).now.words) (reads (H.state h.new).now.words)) }
+    ensures steps { H.tells → (size : ℕ) → size ≡ (H.counts h.old).size → (w : World) → IsReady size w daemon.old (H.state h.old) → (name : List ℕ) (n : ℕ)
+        → command_of line.now ≡ Option.Some (commands.Rewrite name n) → refusal_of w (commands.Rewrite name n) ≡ Option.None
+        → IfOk result (λ answered. (answered ≡ Answered.Reply Reply.Cut → ⊥) → DoesSteps w.stored.frames name n (reads (H.state h.old).now.words) (reads (H.state h.new).now.words)) }
     // Whatever the device holds: where power was lost, as counted or at once, it reads as a sound one behind the restart.
     ensures restarted { H.tells → IsOk result → HasLostPower (command_of line.now) (H.counts h.old) (H.counts h.new)
         → world_of (H.counts h.old).size (reads (H.state h.new).now.words) ≢ Option.None }
@@ -329,7 +349,7 @@ impl Daemon {
     ghost use Rattle.pud_defs.specs.StartText.{start_text};
     ghost use Rattle.pud_defs.specs.Step.Answer.{of_reply};
     ghost use Rattle.puddled.specs.Saying.{EndsIn, SaysPart};
-    ghost use Rattle.puddled.specs.Starting.{first_memory, IsReplayed, Starts};
+    ghost use Rattle.puddled.specs.Starting.{first_memory, Starts};
     ghost use Rattle.puddled.specs.Daemon.{spoken, SaysAnswer, Answers};
 
     /// The daemon of a device of so many frames behind a start: no transaction is open, and no pool was judged.
@@ -404,6 +424,14 @@ impl Daemon {
         requires { device_words self.old.frames ≤ (H.counts h.old).size }
         ensures answers { H.tells → (size : ℕ) → size ≡ (H.counts h.old).size → (w : World) → IsReady size w self.old (H.state h.old)
             → Answers size w line.now aloud result self.new (H.counts h.old) (H.counts h.new) (H.state h.old) (H.state h.new) }
+        // Each frontier is behind it on the way to where the line leads it, also where power was lost in it: a line that is refused, and one that
+        // neither rewrites, writes objects nor drops its pool, moves none, and no line moves any of another pool.
+        ensures frontiers { H.tells → (size : ℕ) → size ≡ (H.counts h.old).size → (w : World) → IsReady size w self.old (H.state h.old)
+            → IfOk result (λ _. LeadFrontiers w (command_of line.now) (reads (H.state h.old).now.words) (reads (H.state h.new).now.words)) }
+        // With its `ok` a line that rewrites has done its next n steps, or all that were left.
+        ensures steps { H.tells → (size : ℕ) → size ≡ (H.counts h.old).size → (w : World) → IsReady size w self.old (H.state h.old) → (name : List ℕ) (n : ℕ)
+            → command_of line.now ≡ Option.Some (commands.Rewrite name n) → refusal_of w (commands.Rewrite name n) ≡ Option.None
+            → IfOk result (λ ok. ok ≡ true → DoesSteps w.stored.frames name n (reads (H.state h.old).now.words) (reads (H.state h.new).now.words)) }
         // Whatever the device holds: where power was lost, as counted or at once, and without a fault, it then reads as a sound
         // one, and at `NotSound` it does not.
         ensures restarted { H.tells → IsOk result → HasLostPower (command_of line.now) (H.counts h.old) (H.counts h.new)

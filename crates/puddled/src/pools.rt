@@ -15,6 +15,7 @@ ghost use Rattle.ready_daemon.specs.Memory.{Memory};
 ghost use Rattle.ready_daemon.specs.Owning.{reply_of_making, refusal_found, IsSlotOf};
 ghost use Rattle.ready_daemon.specs.Judged.{ForgetsPool};
 ghost use Rattle.ready_daemon.specs.Ready.{KeepsRest, IsReady, Applies};
+ghost use Rattle.puddled.specs.Frontiers.{AppliesAs};
 
 use crate::daemon::Daemon;
 use crate::finding::Need;
@@ -136,7 +137,7 @@ impl Daemon {
         ensures reply { H.tells → (size : ℕ) → (w : World) → IsReady size w self.old (H.state h.old)
             → IfOk result (λ reply. of_reply reply ≡ answer_by w (Option.Some (commands.Drop client name))) }
         ensures applies { H.tells → (size : ℕ) → size ≡ (H.counts h.old).size → (w : World) → IsReady size w self.old (H.state h.old)
-            → Applies size w (world_by w (Option.Some (commands.Drop client name))) self.new (fault_of result) (H.state h.old) (H.state h.new) }
+            → AppliesAs size w (world_by w (Option.Some (commands.Drop client name))) (Option.Some (commands.Drop client name)) self.new (fault_of result) (H.state h.old) (H.state h.new) }
         ensures keeps { H.tells → (size : ℕ) → (w : World) → IsReady size w self.old (H.state h.old) → refusal_of w (commands.Drop client name) ≢ Option.None → (self.new).judged ≡ (self.old).judged }
         ensures forgets { H.tells → (size : ℕ) → (w : World) → IsReady size w self.old (H.state h.old) → refusal_of w (commands.Drop client name) ≡ Option.None
             → IfOk result (λ reply. ForgetsPool w.stored.frames name (reads (H.state h.old).now.words) (self.old).judged (self.new).judged) }

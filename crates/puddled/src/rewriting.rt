@@ -1,5 +1,5 @@
 //! The line that rewrites pointers of a pool.
-ghost use Rattle.std.specs.Prelude.{◌≡◌, ◌<◌, ◌≤◌, ℕ, List, true, is_some, Option, IfOk, set};
+ghost use Rattle.std.specs.Prelude.{◌≡◌, ◌<◌, ◌≤◌, ℕ, List, Option, IfOk, set};
 ghost use Rattle.pm_model.specs.Words.{IsRested, reads};
 ghost use Rattle.pm_model.specs.Counts.{after_fault, fault_of};
 ghost use Rattle.pud_defs.specs.declared.layout.TheConstants.{MAX_FRAMES};
@@ -10,11 +10,13 @@ ghost use Rattle.pud_defs.specs.Layout.{device_words};
 ghost use Rattle.pud_defs.specs.Step.{answer_by, refusal_of, world_by};
 ghost use Rattle.pud_defs.specs.Step.Answer.{of_reply};
 ghost use Rattle.pud_defs.specs.World.{World};
-ghost use Rattle.lazy_rewrite.specs.Frontiers.{steps_from};
+ghost use Rattle.lazy_rewrite.specs.Frontiers.{steps_from, frontiers_of};
 ghost use Rattle.nesting.specs.declared.Session.{Session};
 ghost use Rattle.ready_daemon.specs.Memory.{Held};
 ghost use Rattle.ready_daemon.specs.Judged.{AreOnDevice, known_in};
-ghost use Rattle.ready_daemon.specs.Ready.{KeepsRest, IsReady, Applies};
+ghost use Rattle.ready_daemon.specs.Moves.{MovesTo, led_in};
+ghost use Rattle.ready_daemon.specs.Ready.{KeepsRest, IsReady, AppliesBy};
+ghost use Rattle.puddled.specs.Frontiers.{AppliesAs};
 ghost use Rattle.puddled.specs.Rewriting.{DoesSteps};
 
 use crate::daemon::Daemon;
@@ -41,9 +43,9 @@ fn step_in<H: Host>(
     requires room { device_words frames ≤ (H.counts h.old).size }
     requires slot { slot < POOL_RECORDS }
     requires known { AreOnDevice frames judged.old }
-    ensures applies { H.tells → (size : ℕ) → size ≡ (H.counts h.old).size → true ≡ is_some (known_in judged.old slot) → (w : World) → (held : List (Option Held)) → (sessions : List (Option Session))
+    ensures applies { H.tells → (size : ℕ) → size ≡ (H.counts h.old).size → (at : List (ℕ × Puddle)) → known_in judged.old slot ≡ Option.Some at → (w : World) → (held : List (Option Held)) → (sessions : List (Option Session))
         → IsReady size w (record { frames = frames; held = held; sessions = sessions; judged = judged.old }) (H.state h.old)
-        → Applies size w w (record { frames = frames; held = held; sessions = sessions; judged = judged.new }) (fault_of result) (H.state h.old) (H.state h.new) }
+        → AppliesBy (MovesTo (led_in slot (frontiers_of (steps_from n at)))) size w w (record { frames = frames; held = held; sessions = sessions; judged = judged.new }) (fault_of result) (H.state h.old) (H.state h.new) }
     ensures moves { IfOk result (λ _. (at : List (ℕ × Puddle)) → known_in judged.old slot ≡ Option.Some at → judged.new ≡ set judged.old slot (Option.Some (steps_from n at))) }
     ensures known { AreOnDevice frames judged.new }
     ensures rest { H.tells → KeepsRest (H.state h.old) (H.state h.new) }
@@ -72,7 +74,7 @@ impl Daemon {
         ensures reply { H.tells → (size : ℕ) → (w : World) → IsReady size w self.old (H.state h.old)
             → IfOk result (λ reply. of_reply reply ≡ answer_by w (Option.Some (commands.Rewrite name n))) }
         ensures applies { H.tells → (size : ℕ) → size ≡ (H.counts h.old).size → (w : World) → IsReady size w self.old (H.state h.old)
-            → Applies size w (world_by w (Option.Some (commands.Rewrite name n))) self.new (fault_of result) (H.state h.old) (H.state h.new) }
+            → AppliesAs size w (world_by w (Option.Some (commands.Rewrite name n))) (Option.Some (commands.Rewrite name n)) self.new (fault_of result) (H.state h.old) (H.state h.new) }
         ensures moves { H.tells → (size : ℕ) → size ≡ (H.counts h.old).size → (w : World) → IsReady size w self.old (H.state h.old) → refusal_of w (commands.Rewrite name n) ≡ Option.None
             → IfOk result (λ _. DoesSteps w.stored.frames name n (reads (H.state h.old).now.words) (reads (H.state h.new).now.words)) }
         ensures held { (self.new).held ≡ (self.old).held }

@@ -10,20 +10,28 @@ use Rattle.pm_model.proofs.Leaves.{Leaves-still, Leaves-weaker, Leaves-then}
 use Rattle.pud_defs.specs.declared.machine.Command.{Command}
 use Rattle.pud_defs.specs.declared.machine.Refusal.{Refusal}
 use Rattle.pud_defs.specs.declared.records.Puddle.{Puddle}
+use Rattle.pud_defs.specs.declared.layout.TheConstants.{DAEMON_LOG}
 use Rattle.pud_defs.specs.Image.{Image}
+use Rattle.pud_defs.specs.Puddles.{Member}
+use Rattle.pud_defs.specs.Replay.{settled_by}
+use Rattle.pud_defs.specs.Tables.{tables_of}
 use Rattle.pud_defs.specs.World.{StoredWorld, World, world_of, closed}
 use Rattle.pud_defs.specs.Step.{refusal_of, after, unless_refused, world_by}
 use Rattle.pud_defs.proofs.Steps.{done_world}
 use Rattle.ready_daemon.specs.Memory.{Memory}
 use Rattle.ready_daemon.specs.KnownPools.{KnowsPools}
-use Rattle.ready_daemon.specs.Ready.{IsReady, StandsBetween, Applies}
+use Rattle.ready_daemon.specs.Moves.{Stays, LeavesPuddles, MovesOn, MovesUnless, ends_unless}
+use Rattle.ready_daemon.specs.Ready.{IsReady, StandsBetween, AppliesBy, Applies}
 use Rattle.ready_daemon.proofs.Beside.{ready_stands}
+use Rattle.ready_daemon.proofs.Goals.{led_stays}
+use Rattle.ready_daemon.proofs.PuddlesLeft.{Joins, Joins-stays, LeavesPuddles-still, LeavesPuddles-then, LeavesPuddles-weaker, settled_ready}
 
 -- nothing happened
 pub Applies-still : (size : ℕ) (w : World) (memory : Memory) (fault : Option HostFault) (old new : State) → IsReady size w memory old → new ≡ old → (fault ≡ Some Cut → IsRested new.now.words)
     → Applies size w w memory fault old new
 Applies-still size w memory fault old new ready same rests = record {
   moments = Leaves-still _ old new (λ image picked. let stands = ready_stands size w memory old ready image picked in (refl, (inl stands.0, stands.1))) same;
+  puddles = LeavesPuddles-still size w memory old ready new same;
   quiet = ap (λ (s : State). s.now.said) same;
   ready = λ _. subst (λ (n : State). IsReady size w memory n) (sym same) ready;
   rests = rests;
@@ -40,17 +48,18 @@ Applies-refused size w memory c r old new ready e same =
     subst (λ (v : World). Applies size w v memory None old new) (sym (ap (λ o. unless_refused o w (after w c)) e)) (Applies-idle size w memory old new ready same)
 
 -- one that is not refused gives its own world, also behind calls that changed nothing
-pub Applies-accepted : (size : ℕ) (w : World) (memory : Memory) (c : Command) (fault : Option HostFault) (a b d : State) → refusal_of w c ≡ None → b ≡ a
-    → (IsReady size w memory b → Applies size w (after w c) memory fault b d) → IsReady size w memory a → Applies size w (world_by w (Some c)) memory fault a d
-Applies-accepted size w memory c fault a b d none same applies ready =
-    subst (λ (v : World). Applies size w v memory fault a d) (sym (ap (λ o. unless_refused o w (after w c)) none))
-    (subst (λ (s : State). Applies size w (after w c) memory fault s d) same (applies (subst (λ (s : State). IsReady size w memory s) (sym same) ready)))
+pub Applies-accepted : {becomes : Member → Option Member → Type 0} (size : ℕ) (w : World) (memory : Memory) (c : Command) (fault : Option HostFault) (a b d : State) → refusal_of w c ≡ None → b ≡ a
+    → (IsReady size w memory b → AppliesBy becomes size w (after w c) memory fault b d) → IsReady size w memory a → AppliesBy becomes size w (world_by w (Some c)) memory fault a d
+Applies-accepted {becomes} size w memory c fault a b d none same applies ready =
+    subst (λ (v : World). AppliesBy becomes size w v memory fault a d) (sym (ap (λ o. unless_refused o w (after w c)) none))
+    (subst (λ (s : State). AppliesBy becomes size w (after w c) memory fault s d) same (applies (subst (λ (s : State). IsReady size w memory s) (sym same) ready)))
 
 -- a fault came, which was no power loss, before anything was changed
 pub Applies-failed : (size : ℕ) (w next : World) (memory : Memory) (fault : HostFault) (old new : State) → IsReady size w memory old → new ≡ old → (Some fault ≡ Some Cut → ⊥)
     → Applies size w next memory (Some fault) old new
 Applies-failed size w next memory fault old new ready same never_cut = record {
   moments = Leaves-still _ old new (λ image picked. let stands = ready_stands size w memory old ready image picked in (refl, (inl stands.0, stands.1))) same;
+  puddles = LeavesPuddles-still size w memory old ready new same;
   quiet = ap (λ (s : State). s.now.said) same;
   ready = λ none. absurd (let it : None ≡ Some fault = sym none in cc);
   rests = λ cut. absurd (never_cut cut);
@@ -62,6 +71,7 @@ pub Applies-stopped : (size : ℕ) (w next : World) (memory behind : Memory) (fa
     → Applies size w next behind (Some fault) old new
 Applies-stopped size w next memory behind fault old new ready same rests = record {
   moments = Leaves-still _ old new (λ image picked. let stands = ready_stands size w memory old ready image picked in (refl, (inl stands.0, stands.1))) same;
+  puddles = LeavesPuddles-still size w memory old ready new same;
   quiet = ap (λ (s : State). s.now.said) same;
   ready = λ none. absurd (let it : None ≡ Some fault = sym none in cc);
   rests = rests;
@@ -74,28 +84,54 @@ between_closed size w mid next same image (inl before) = inl before
 between_closed size w mid next same image (inr after) = inr (after ∙ ap (λ (s : StoredWorld). Some s) same)
 
 -- the same calls, for another world that stands for the same, where a fault came
-pub Applies-closed : (size : ℕ) (w mid next : World) (memory behind : Memory) (fault : HostFault) (old new : State) → closed mid ≡ closed next → Applies size w mid memory (Some fault) old new
-    → Applies size w next behind (Some fault) old new
+pub Applies-closed : {becomes : Member → Option Member → Type 0} (size : ℕ) (w mid next : World) (memory behind : Memory) (fault : HostFault) (old new : State) → closed mid ≡ closed next
+    → AppliesBy becomes size w mid memory (Some fault) old new → AppliesBy becomes size w next behind (Some fault) old new
 Applies-closed size w mid next memory behind fault old new same a = record {
   moments = Leaves-weaker (Silently (StandsBetween size w mid)) (Silently (StandsBetween size w next)) old new (λ bytes image m. (m.0, (between_closed size w mid next same image m.1.0, m.1.1))) a.moments;
+  puddles = a.puddles;
   quiet = a.quiet;
   ready = λ none. absurd (let it : None ≡ Some fault = sym none in cc);
   rests = a.rests;
   script = a.script;
 }
 
+puddles_joined : (F size : ℕ) (mid : World) (first : Memory) (early late becomes : Member → Option Member → Type 0) → Joins early late becomes → (a b c : State) → F ≡ mid.stored.frames → b.now.said ≡ a.now.said
+    → IsReady size mid first b → LeavesPuddles F early a b → LeavesPuddles mid.stored.frames late b c → LeavesPuddles F becomes a c
+puddles_joined F size mid first early late becomes joins a b c frames quiet ready p q =
+    LeavesPuddles-then F early late becomes a b c joins quiet
+    (subst (λ (n : ℕ). tables_of n (settled_by DAEMON_LOG (reads b.now.words)) ≡ tables_of n (reads b.now.words)) (sym frames) (settled_ready size mid first b ready)) p
+    (subst (λ (n : ℕ). LeavesPuddles n late b c) (sym frames) q)
+
 -- these calls and then those, where the world between stands for what the next one does
-pub Applies-then : (size : ℕ) (w mid next : World) (first behind : Memory) (fault : Option HostFault) (a b c : State) → closed mid ≡ closed next → Applies size w mid first None a b
-    → Applies size mid next behind fault b c → Applies size w next behind fault a c
-Applies-then size w mid next first behind fault a b c same p q = record {
+pub AppliesBy-then : (early late becomes : Member → Option Member → Type 0) → Joins early late becomes → (size : ℕ) (w mid next : World) (first behind : Memory) (fault : Option HostFault) (a b c : State)
+    → closed mid ≡ closed next → w.stored.frames ≡ mid.stored.frames → AppliesBy early size w mid first None a b → AppliesBy late size mid next behind fault b c → AppliesBy becomes size w next behind fault a c
+AppliesBy-then early late becomes joins size w mid next first behind fault a b c same frames p q = record {
   moments = Leaves-then (Silently (StandsBetween size w mid)) (Silently (StandsBetween size mid next)) (Silently (StandsBetween size w next)) [] a b c (p.quiet ∙ sym (append-nil a.now.said))
       (λ front image m. (m.0, (between_closed size w mid next same image m.1.0, m.1.1)))
       (λ more image m. (m.0, (elim m.1.0 [ inl before ↦ inr (before ∙ ap (λ (s : StoredWorld). Some s) same) | inr after ↦ inr after ], m.1.1)))
       p.moments q.moments;
+  puddles = puddles_joined w.stored.frames size mid first early late becomes joins a b c frames p.quiet (p.ready refl) p.puddles q.puddles;
   quiet = q.quiet ∙ p.quiet;
   ready = q.ready;
   rests = q.rests;
   script = q.script ∙ p.script;
+}
+
+-- the same where no frontier moves in either
+pub Applies-then : (size : ℕ) (w mid next : World) (first behind : Memory) (fault : Option HostFault) (a b c : State) → closed mid ≡ closed next → w.stored.frames ≡ mid.stored.frames
+    → Applies size w mid first None a b → Applies size mid next behind fault b c → Applies size w next behind fault a c
+Applies-then = AppliesBy-then Stays Stays Stays (Joins-stays Stays (λ m now is. is))
+
+-- less may be told of what becomes of the records
+pub AppliesBy-weaker : (early becomes : Member → Option Member → Type 0) → ((m : Member) (now : Option Member) → early m now → becomes m now)
+    → (size : ℕ) (w next : World) (memory : Memory) (fault : Option HostFault) (old new : State) → AppliesBy early size w next memory fault old new → AppliesBy becomes size w next memory fault old new
+AppliesBy-weaker early becomes weaker size w next memory fault old new a = record {
+  moments = a.moments;
+  puddles = LeavesPuddles-weaker w.stored.frames early becomes old new weaker a.puddles;
+  quiet = a.quiet;
+  ready = a.ready;
+  rests = a.rests;
+  script = a.script;
 }
 
 -- What is known of pools alone changes.
@@ -116,12 +152,23 @@ IsReady-beside size w memory next s frames held same ready knows = subst (λ (m 
 })
 
 -- what is known may be given by what it equals
-pub Applies-known : (size : ℕ) (w next : World) (memory : Memory) (fault : Option HostFault) (old new : State) (judged known : List (Option (List (ℕ × Puddle)))) → judged ≡ known
-    → Applies size w next (record memory { judged = judged }) fault old new → Applies size w next (record memory { judged = known }) fault old new
-Applies-known size w next memory fault old new judged known same = subst (λ (js : List (Option (List (ℕ × Puddle)))). Applies size w next (record memory { judged = js }) fault old new) same
+pub Applies-known : {becomes : Member → Option Member → Type 0} (size : ℕ) (w next : World) (memory : Memory) (fault : Option HostFault) (old new : State) (judged known : List (Option (List (ℕ × Puddle)))) → judged ≡ known
+    → AppliesBy becomes size w next (record memory { judged = judged }) fault old new → AppliesBy becomes size w next (record memory { judged = known }) fault old new
+Applies-known {becomes} size w next memory fault old new judged known same = subst (λ (js : List (Option (List (ℕ × Puddle)))). AppliesBy becomes size w next (record memory { judged = js }) fault old new) same
 
 -- it is not refused, and carried out behind calls that read
-pub Applies-behind_reads : (size : ℕ) (w : World) (memory : Memory) (c : Command) (fault : Option HostFault) (a b d : State) → refusal_of w c ≡ None → b ≡ a → Applies size w (after w c) memory fault b d
-    → Applies size w (world_by w (Some c)) memory fault a d
-Applies-behind_reads size w memory c fault a b d free same applies =
-    subst (λ (v : World). Applies size w v memory fault a d) (sym (done_world w c free)) (subst (λ (s : State). Applies size w (after w c) memory fault s d) same applies)
+pub Applies-behind_reads : {becomes : Member → Option Member → Type 0} (size : ℕ) (w : World) (memory : Memory) (c : Command) (fault : Option HostFault) (a b d : State) → refusal_of w c ≡ None → b ≡ a
+    → AppliesBy becomes size w (after w c) memory fault b d → AppliesBy becomes size w (world_by w (Some c)) memory fault a d
+Applies-behind_reads {becomes} size w memory c fault a b d free same applies =
+    subst (λ (v : World). AppliesBy becomes size w v memory fault a d) (sym (done_world w c free)) (subst (λ (s : State). AppliesBy becomes size w (after w c) memory fault s d) same applies)
+
+-- ---- lines that may move frontiers of a pool
+
+module _ (why : Option Refusal) (slot size : ℕ) (w next : World) (memory : Memory) (fault : Option HostFault) (old new : State) where
+  -- one that moves none does what it may
+  pub still_line : Applies size w next memory fault old new → AppliesBy (MovesUnless why slot) size w next memory fault old new
+  still_line = AppliesBy-weaker Stays (MovesUnless why slot) (led_stays slot (ends_unless why)) size w next memory fault old new
+
+  -- and so does one that is not refused and moves some
+  pub moving_line : why ≡ None → AppliesBy (MovesOn slot) size w next memory fault old new → AppliesBy (MovesUnless why slot) size w next memory fault old new
+  moving_line none = subst (λ (r : Option Refusal). AppliesBy (MovesUnless r slot) size w next memory fault old new) (sym none)

@@ -17,6 +17,7 @@ use Rattle.pud_defs.specs.Replay.{device_word, IsInLog, is_in_log}
 use Rattle.pud_defs.specs.Stored.{Stored, IsOnDevice, stored_in}
 use Rattle.pud_defs.specs.Graph.{Graph, graph_of}
 use Rattle.pud_defs.specs.PoolChanges.{pool_named}
+use Rattle.pud_defs.specs.Puddles.{Member}
 use Rattle.pud_defs.specs.Step.{graph_in}
 use Rattle.pud_defs.specs.Settled.{log_number_at}
 use Rattle.pud_defs.specs.Types.{map_of}
@@ -42,7 +43,8 @@ use Rattle.pm_model.proofs.Words.{HasOnly-newest}
 use Rattle.ready_daemon.specs.Memory.{Held, Memory, held_under}
 use Rattle.ready_daemon.specs.Held.{pool_held, open_held, IsHeld, IsHeldUnder, Holds, HasSessions, HasDurableFrames, ByOthers, NamesNone, StaysSingle, KeepsHeld}
 use Rattle.ready_daemon.specs.KnownPools.{KnowsPools}
-use Rattle.ready_daemon.specs.Ready.{IsReady, RefusesNone, StandsBetween, AppliesMasked, Applies}
+use Rattle.ready_daemon.specs.Moves.{LeavesPuddles}
+use Rattle.ready_daemon.specs.Ready.{IsReady, RefusesNone, StandsBetween, AppliesMasked, AppliesBy}
 use Rattle.batch.proofs.Tables.{reads_kept}
 
 -- ---- moments
@@ -421,12 +423,13 @@ module _ (size : ℕ) (w next : World) (memory : Memory) (fault : Option HostFau
 module _ (size : ℕ) (w next : World) (memory : Memory) (fault : Option HostFault) (old new : State) (ready : IsReady size w memory old) (keeps : KeepsHeld w next memory.held)
     (a : AppliesMasked size w next ready.mask fault old new) where
   -- with this memory behind it, which holds the same
-  pub Applies-beside : (behind : Memory) → behind.frames ≡ memory.frames → behind.held ≡ memory.held → behind.sessions ≡ memory.sessions
+  pub Applies-beside : (becomes : Member → Option Member → Type 0) → LeavesPuddles w.stored.frames becomes old new → (behind : Memory) → behind.frames ≡ memory.frames → behind.held ≡ memory.held → behind.sessions ≡ memory.sessions
       → (fault ≡ None → KnowsPools w.stored.frames behind.judged ready.held.opens (reads new.now.words))
       → (fault ≡ None → RestBehind w memory.held ready.mask old.now.words ready.held new.now.words)
-      → Applies size w next behind fault old new
-  Applies-beside behind frames holds same_sessions knows rest = record {
+      → AppliesBy becomes size w next behind fault old new
+  Applies-beside becomes puddles behind frames holds same_sessions knows rest = record {
     moments = moments_beside size w next memory fault old new ready keeps.frames a;
+    puddles = puddles;
     quiet = Changes-said (ByOthers ready.mask) fault old new a.beside.changes;
     ready = λ none. subst (λ (m : Memory). IsReady size next m new) (λ i. record { frames = behind.frames; held = sym holds i; sessions = sym same_sessions i; judged = behind.judged }) (record {
       mask = ready.mask;

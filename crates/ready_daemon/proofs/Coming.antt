@@ -12,13 +12,15 @@ use Rattle.pm_model.specs.Masks.{masked, masked_state, IsOff}
 use Rattle.pm_model.proofs.Changes.{Changes-said}
 use Rattle.pm_model.proofs.Masks.{IsOff-none, masked-elsewhere, Changes-masked}
 use Rattle.pm_model.proofs.Leaves.{Leaves-changes, Leaves-weaker, Leaves-then, Leaves-still}
-use Rattle.pud_defs.specs.declared.layout.TheConstants.{DAEMON_LOG, CLIENTS, CLIENT_LOGS, SPACE_RECORD_WORDS}
+use Rattle.pud_defs.specs.declared.layout.TheConstants.{DAEMON_LOG, CLIENTS, CLIENT_LOGS, SPACE_RECORD_WORDS, PUDDLE_TABLE}
 use Rattle.pud_defs.specs.declared.log_words.TheConstants.{CLOSED_GATE}
 use Rattle.pm_model.proofs.Words.{HasOnly-own}
 use Rattle.pud_defs.specs.Layout.{tables_end, log_at}
 use Rattle.pud_defs.specs.Image.{Image}
 use Rattle.pud_defs.specs.Entries.{Entry, log_of, is_idle_gate}
+use Rattle.pud_defs.specs.Puddles.{Member}
 use Rattle.pud_defs.specs.Replay.{device_word}
+use Rattle.pud_defs.specs.Tables.{tables_of}
 use Rattle.pud_defs.specs.Spaces.{Owner, space_record_at, owner_by, owner_of, has_closed_logs, owner, with_owner}
 use Rattle.pud_defs.specs.World.{World, idle_world_of, closed}
 use Rattle.pud_defs.specs.declared.machine.Command.TheVariants.{Client, Leave}
@@ -39,9 +41,11 @@ use Rattle.ready_daemon.proofs.RestBeside.{rest_beside}
 use Rattle.ready_daemon.specs.Memory.{Memory}
 use Rattle.ready_daemon.specs.Held.{HasIdleLogs, ByOthers, IsOthers, IsBeside}
 use Rattle.ready_daemon.specs.KnownPools.{KnowsPools}
+use Rattle.ready_daemon.specs.Moves.{Stays}
 use Rattle.ready_daemon.specs.Ready.{IsReady, Applies, IsUsedAlone, IsClosedIfNamed, ClosesBefore}
 use Rattle.ready_daemon.proofs.Beside.{ready_idle, Applies-beside, RestBehind}
 use Rattle.ready_daemon.proofs.Beneath.{ready_gate, gate_kept, idle_kept, logs_kept, IsBeside-changes, IsBeside-commits, IsBeside-then, read_masked-kept}
+use Rattle.ready_daemon.proofs.PuddlesLeft.{record_mask, used_below, IsOff-record, LeavesPuddles-beside}
 use Rattle.ready_daemon.proofs.Others.{off_gates, off_record, keeps_held, gone}
 use Rattle.ready_daemon.proofs.JudgedKept.{KeepsPools}
 use Rattle.ready_daemon.proofs.JudgedLines.{KeepsPools-client}
@@ -112,6 +116,15 @@ module _ (size : ℕ) (w : World) (memory : Memory) (slot : ℕ) (known : slot <
   beside_closing F fault b is p =
       IsBeside-changes ready.mask (ByClosing F slot) fault a b (gates_apart F is) (λ v gate. no_gate F slot DAEMON_LOG v (omega arith) gate) (ready_gate size w memory a ready) (closed_single F slot fault a b p) p.changes
 
+  -- no gate is a word of the record of a puddle
+  apart_closing : (F : ℕ) (fault : Option HostFault) (b : State) → F ≡ w.stored.frames → ClosesGates F slot fault a b → (frame : ℕ) (m : Member)
+      → (tables_of w.stored.frames (reads a.now.words)).puddles frame ≡ Some m → IsBeside (record_mask frame (reads a.now.words)) fault a b
+  apart_closing F fault b is p frame m used =
+      let below = used_below w.stored.frames (reads a.now.words) frame m used in
+      IsBeside-changes (record_mask frame (reads a.now.words)) (ByClosing F slot) fault a b
+      (IsOff-record frame (reads a.now.words) (ByClosing F slot) (λ k v low high. no_gate F slot k v (omega (arith, is)))) (λ v gate. no_gate F slot DAEMON_LOG v (omega arith) gate)
+      (ready_gate size w memory a ready) (closed_single F slot fault a b p) p.changes
+
   -- the logs were not closed, for a fault
   unclosed : (F : ℕ) (now : Option Owner) (fault : HostFault) (b : State) → F ≡ w.stored.frames → ClosesGates F slot (Some fault) a b
       → Closes size (closed w) slot (Some fault) (masked_state ready.mask a) (masked_state ready.mask b) → Applies size w (after_this w slot now) memory (Some fault) a b
@@ -126,7 +139,7 @@ module _ (size : ℕ) (w : World) (memory : Memory) (slot : ℕ) (known : slot <
         clients = λ no. absurd (none no);
         logs = λ no. absurd (none no);
         shelf = refl;
-      }) memory refl refl refl (λ no. absurd (none no)) (λ no. absurd (none no))
+      }) Stays (LeavesPuddles-beside w.stored.frames (Some fault) a b ready.tables (λ frame m used. apart_closing F (Some fault) b is gates frame m used)) memory refl refl refl (λ no. absurd (none no)) (λ no. absurd (none no))
 
   module _ (F : ℕ) (now : Option Owner) (vals : List ℕ) (few : length vals ≤ SPACE_RECORD_WORDS) (b c : State) (is : F ≡ w.stored.frames) (gates : ClosesGates F slot None a b)
       (p : Closes size (closed w) slot None (masked_state ready.mask a) (masked_state ready.mask b)) where
@@ -151,6 +164,17 @@ module _ (size : ℕ) (w : World) (memory : Memory) (slot : ℕ) (known : slot <
       beside_changed =
           IsBeside-then ready.mask fault a b c (beside_closing F None b is gates)
           (IsBeside-commits ready.mask es fault b c (record_apart vals few) (record_batched slot vals) k)
+
+      -- the client's record lies in front of those of puddles
+      not_named : (k v : ℕ) → PUDDLE_TABLE ≤ k → ByBatch DAEMON_LOG es k v → ⊥
+      not_named k v low (inl log) = let to = log.high in absurd (omega arith)
+      not_named k v low (inr named) = absurd (let it : None ≡ Some named.value = sym (writes_elsewhere slot k vals (inr (omega arith))) ∙ named.is in cc)
+
+      apart_changed : (frame : ℕ) (m : Member) → (tables_of w.stored.frames (reads a.now.words)).puddles frame ≡ Some m → IsBeside (record_mask frame (reads a.now.words)) fault a c
+      apart_changed frame m used =
+          let mask = record_mask frame (reads a.now.words) in
+          IsBeside-then mask fault a b c (apart_closing F None b is gates frame m used)
+          (IsBeside-commits mask es fault b c (IsOff-record frame (reads a.now.words) (ByBatch DAEMON_LOG es) (λ n v low high. not_named n v (omega arith))) (record_batched slot vals) k)
 
       -- what is read of the table, masked or not
       masked_owner : (s : State) (client : ℕ) → client < CLIENTS → Changes (ByOthers ready.mask) None a s → owner_of (reads s.now.words) client ≡ owner_of (reads (masked ready.mask s.now.words)) client
@@ -181,14 +205,10 @@ module _ (size : ℕ) (w : World) (memory : Memory) (slot : ℕ) (known : slot <
         ];
       }
 
-      not_named : (k v : ℕ) → tables_end w.stored.frames ≤ k → ByBatch DAEMON_LOG es k v → ⊥
-      not_named k v low (inl log) = let to = log.high in absurd (omega arith)
-      not_named k v low (inr named) = absurd (let it : None ≡ Some named.value = sym (writes_elsewhere slot k vals (inr (omega arith))) ∙ named.is in cc)
-
       logs_changed : fault ≡ None → HasIdleLogs w.stored.frames (with_owner slot now w.clients) (masked ready.mask c.now.words)
       logs_changed none =
           logs_kept w.stored.frames (with_owner slot now w.clients) (ByBatch DAEMON_LOG es) fault (masked_state ready.mask b) (masked_state ready.mask c)
-          (Changes-masked ready.mask (ByBatch DAEMON_LOG es) fault b c k.changes) (λ at v low high. not_named at v low) logs_closed
+          (Changes-masked ready.mask (ByBatch DAEMON_LOG es) fault b c k.changes) (λ at v low high. not_named at v (omega arith)) logs_closed
 
       changed_moments : Leaves (Silently (may_stand (after_this w slot now))) (masked_state ready.mask a) (masked_state ready.mask c)
       changed_moments =
@@ -220,7 +240,7 @@ module _ (size : ℕ) (w : World) (memory : Memory) (slot : ℕ) (known : slot <
         clients = clients_changed;
         logs = logs_changed;
         shelf = refl;
-      }) memory refl refl refl knows_changed rest_changed
+      }) Stays (LeavesPuddles-beside w.stored.frames fault a c ready.tables apart_changed) memory refl refl refl knows_changed rest_changed
 
   -- a client came
   pub Applies-unadmitted : (F uid gid : ℕ) (fault : HostFault) (b : State) → F ≡ w.stored.frames → ClosesGates F slot (Some fault) a b

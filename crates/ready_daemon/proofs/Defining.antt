@@ -52,8 +52,10 @@ use Rattle.batch.proofs.Tables.{reads_kept, HasDurableTables-persisted}
 use Rattle.ready_daemon.proofs.RestBeside.{rest_beside}
 use Rattle.ready_daemon.specs.Memory.{Held, Memory}
 use Rattle.ready_daemon.specs.Held.{HasIdleLogs, Holds, ByOthers, NamesNone, KeepsHeld}
-use Rattle.ready_daemon.proofs.Beneath.{single_changes, persisted_single, logs_kept}
+use Rattle.ready_daemon.proofs.Beneath.{ready_gate, single_changes, persisted_single, logs_kept}
+use Rattle.ready_daemon.proofs.PuddlesLeft.{LeavesPuddles-changes}
 use Rattle.ready_daemon.specs.Defined.{reply_of}
+use Rattle.ready_daemon.specs.Moves.{Stays, LeavesPuddles}
 use Rattle.ready_daemon.specs.Ready.{KeepsRest, IsReady, AppliesMasked, Applies}
 use Rattle.ready_daemon.proofs.Keeping.{KeepsRest-changes, KeepsRest-still}
 use Rattle.ready_daemon.specs.KnownPools.{KnowsPools}
@@ -359,9 +361,15 @@ module _ (size : ℕ) (w : World) (memory : Memory) (id map r : ℕ) (old : Stat
     rest_now place none =
         rest_beside size w memory old ready None new (λ number h there no. none-some h.slot no) (KeepsPools-defined r id map old new place legal_id (now_done none) F) (applies_masked.beside.single none)
 
+    -- no record of a puddle is written
+    puddles_now : LeavesPuddles F Stays old new
+    puddles_now =
+        LeavesPuddles-changes F (written (record_write r id map)) fault old new d.persists.changes (λ k v low high. not_outside r id map k v known (inr (omega arith)))
+        (λ v. not_outside r id map DAEMON_LOG v known (inl (omega arith))) ready.tables (ready_gate size w memory old ready)
+
     new_applies : place_for (reads old.now.words) id ≡ Some r → Applies size w (world_by w (Some (Define id map))) memory fault old new
     new_applies place = subst (λ (v : World). Applies size w v memory fault old new) (sym is_new.world)
-        (Applies-beside size w next memory fault old new ready (KeepsHeld-define w memory.held m old.now.words id map ready.held is_new.missing) applies_masked memory refl refl refl (knows_now place) (rest_now place))
+        (Applies-beside size w next memory fault old new ready (KeepsHeld-define w memory.held m old.now.words id map ready.held is_new.missing) applies_masked Stays puddles_now memory refl refl refl (knows_now place) (rest_now place))
 
 -- ---- the table as it is read
 

@@ -24,10 +24,12 @@ use Rattle.pud_defs.specs.World.{Transaction, World, closed, open_on}
 use Rattle.ready_daemon.specs.Memory.{Held, Memory, held_under}
 use Rattle.ready_daemon.specs.Held.{IsHeld, IsOthers}
 use Rattle.ready_daemon.specs.Leaving.{world_without, world_without_log, BehindTables}
+use Rattle.ready_daemon.specs.Moves.{Stays}
 use Rattle.ready_daemon.specs.Ready.{IsReady, StandsBetween, Applies, IsClosedIfNamed, ClosesBefore}
 use Rattle.ready_daemon.proofs.Applying.{Applies-idle, Applies-closed}
 use Rattle.ready_daemon.proofs.Beside.{held_is}
 use Rattle.ready_daemon.proofs.Coming.{presence_read, ClosesBefore-changes}
+use Rattle.ready_daemon.proofs.PuddlesLeft.{Joins-stays, LeavesPuddles-then, settled_ready}
 use Rattle.ready_daemon.proofs.HeldUnder.{nothing_there, held_there}
 use Rattle.ready_daemon.proofs.Others.{without_others}
 
@@ -76,6 +78,7 @@ Applies-then size w next ts first behind fault a b c p then =
     record {
       moments = Leaves-then P P P [] a b c (p.quiet ∙ sym (append-nil a.now.said)) (λ front image m. m) (λ more image m. m)
           (Leaves-weaker (Silently (StandsBetween size w (record w { transactions = ts }))) P a b (λ bytes image m. (m.0, (inl (⊎_elim (λ was. was) (λ now. now) m.1.0), m.1.1))) p.moments) q.moments;
+      puddles = LeavesPuddles-then w.stored.frames Stays Stays Stays a b c (Joins-stays Stays (λ m now is. is)) p.quiet (settled_ready size (record w { transactions = ts }) first b (p.ready refl)) p.puddles q.puddles;
       quiet = q.quiet ∙ p.quiet;
       ready = q.ready;
       rests = q.rests;
@@ -88,6 +91,7 @@ pub Applies-cut_short : (size : ℕ) (w next : World) (ts : Opened) (behind : Me
 Applies-cut_short size w next ts behind fault a b p = record {
   moments = Leaves-weaker (Silently (StandsBetween size w (record w { transactions = ts }))) (Silently (StandsBetween size w next)) a b
       (λ bytes image m. (m.0, (inl (⊎_elim (λ was. was) (λ now. now) m.1.0), m.1.1))) p.moments;
+  puddles = p.puddles;
   quiet = p.quiet;
   ready = λ none. absurd (let it : None ≡ Some fault = sym none in cc);
   rests = p.rests;

@@ -3,8 +3,11 @@ pub mod HeldUnder
 pub mod OpenNames
 pub mod Beside
 pub mod Beneath
+pub mod PuddlesLeft
+pub mod Goals
 pub mod PoolsBeside
 pub mod PoolsApart
+pub mod RecordsApart
 pub mod Others
 pub mod TablesBeside
 pub mod OpenBeside

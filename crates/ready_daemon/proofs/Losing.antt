@@ -7,11 +7,16 @@ use Rattle.pm_model.specs.Calls.{LosesPower, LosesAtOnce}
 use Rattle.pm_model.specs.Changes.{Footprint, Changes, Leaves, Silently}
 use Rattle.pm_model.proofs.Changes.{Changes-fence, Changes-said, Changes-now}
 use Rattle.pm_model.proofs.Leaves.{Leaves-changes, Leaves-still, Leaves-weaker}
+use Rattle.pud_defs.specs.declared.layout.TheConstants.{DAEMON_LOG}
 use Rattle.pud_defs.specs.Image.{Image}
+use Rattle.pud_defs.specs.Replay.{settled_by}
+use Rattle.pud_defs.specs.Tables.{tables_of}
 use Rattle.pud_defs.specs.World.{World, world_of, closed, restart}
 use Rattle.ready_daemon.specs.Memory.{Memory}
+use Rattle.ready_daemon.specs.Moves.{Stays}
 use Rattle.ready_daemon.specs.Ready.{KeepsRest, RefusesNone, IsReady, Applies}
 use Rattle.ready_daemon.proofs.Beside.{ready_stands}
+use Rattle.ready_daemon.proofs.PuddlesLeft.{ready_puddles}
 
 -- no value comes to any word
 abbrev Nothing : Footprint
@@ -62,6 +67,10 @@ Applies-lost size w memory a b ready loses =
     let lost = lost_at_once a b loses in
     record {
       moments = Leaves-weaker _ _ a b (λ bytes image m. (m.0, (inl m.1.0, m.1.1))) (lost.moments (λ (image : Image). (world_of size image ≡ Some (closed w)) × RefusesNone image) (ready_stands size w memory a ready));
+      puddles = record {
+        each = λ frame m used.
+            lost.moments (λ (image : Image). Stays m ((tables_of w.stored.frames (settled_by DAEMON_LOG image)).puddles frame)) (ready_puddles size w memory a ready frame m used);
+      };
       quiet = lost.quiet;
       ready = λ none. absurd (let no : Some Cut ≡ None = none in cc);
       rests = λ _. lost.rested;

@@ -27,6 +27,7 @@ use Rattle.pud_defs.specs.Image.{Image}
 use Rattle.pud_defs.specs.Keyed.{first_free, count_used}
 use Rattle.pud_defs.specs.Pools.{pool_read}
 use Rattle.pud_defs.specs.Names.{name_cmp}
+use Rattle.pud_defs.specs.Puddles.{Member}
 use Rattle.pud_defs.specs.Holdings.{holding_in}
 use Rattle.pud_defs.specs.Spaces as spaces
 use Rattle.pud_defs.specs.Spaces.{owner, owner_by, owner_of, is_space, is_legal_space, space_record_at}
@@ -57,12 +58,14 @@ use Rattle.ready_daemon.specs.Memory.{Held, Memory, held_under}
 use Rattle.ready_daemon.specs.Held.{Holds, IsBeside}
 use Rattle.ready_daemon.specs.KnownPools.{KnowsPools}
 use Rattle.ready_daemon.specs.Owning.{reply_of_making, refusal_beside, IsSlotOf}
-use Rattle.ready_daemon.specs.Ready.{IsReady, Applies}
+use Rattle.ready_daemon.specs.Moves.{Stays, MovesTo, LeavesPuddles, freed_in}
+use Rattle.ready_daemon.specs.Ready.{IsReady, AppliesBy, Applies}
 use Rattle.ready_daemon.proofs.Applying.{Applies-still}
 use Rattle.ready_daemon.proofs.Beside.{held_is, opens_apart_from, Applies-beside}
 use Rattle.ready_daemon.proofs.Beneath.{ready_gate, keeps_tables}
 use Rattle.ready_daemon.proofs.PoolsBeside.{held_pool}
 use Rattle.ready_daemon.proofs.PoolsApart.{off_making, off_changing, off_dropping, IsBeside-makes, IsBeside-puts, AppliesMasked-pools, KeepsHeld-stored, found_beside_put, found_beside_without}
+use Rattle.ready_daemon.proofs.RecordsApart.{LeavesPuddles-makes, LeavesPuddles-mode, LeavesPuddles-drops}
 use Rattle.ready_daemon.proofs.OpenBeside.{not_named}
 use Rattle.ready_daemon.proofs.Sessions.{slot_within, holder_is}
 use Rattle.ready_daemon.proofs.JudgedKept.{KeepsPools}
@@ -209,18 +212,18 @@ abbrev pub IsNotNamed : List ℕ → List (Option Held) → Type 0
 IsNotNamed name held = (number : ℕ) (h : Held) → held_under held number ≡ Some h → h.name ≢ name
 
 -- pools were changed: the command gives the world with the next stored one
-pub Applies-pools : (size : ℕ) (w : World) (memory : Memory) (c : Command) (next : StoredWorld) (also : Image → Type 0) (fault : Option HostFault) (old new : State) (ready : IsReady size w memory old)
-    → refusal_of w c ≡ None → after w c ≡ record w { stored = next } → KeepsPool w.stored next memory.held → ChangesBeside size w.stored next also ready.mask fault old new
+pub Applies-pools : (becomes : Member → Option Member → Type 0) (size : ℕ) (w : World) (memory : Memory) (c : Command) (next : StoredWorld) (also : Image → Type 0) (fault : Option HostFault) (old new : State) (ready : IsReady size w memory old)
+    → LeavesPuddles w.stored.frames becomes old new → refusal_of w c ≡ None → after w c ≡ record w { stored = next } → KeepsPool w.stored next memory.held → ChangesBeside size w.stored next also ready.mask fault old new
     → (judged : List (Option (List (ℕ × Puddle)))) → (fault ≡ None → KnowsPools w.stored.frames judged ready.held.opens (reads new.now.words))
     → (but : Option ℕ) → ((number : ℕ) (h : Held) → held_under memory.held number ≡ Some h → but ≢ Some h.slot)
-    → (fault ≡ None → KeepsPools w.stored.frames but (reads old.now.words) (reads new.now.words)) → Applies size w (world_by w (Some c)) (record memory { judged = judged }) fault old new
-Applies-pools size w memory c next also fault old new ready free gives keeps b judged knows but apart stay =
+    → (fault ≡ None → KeepsPools w.stored.frames but (reads old.now.words) (reads new.now.words)) → AppliesBy becomes size w (world_by w (Some c)) (record memory { judged = judged }) fault old new
+Applies-pools becomes size w memory c next also fault old new ready puddles free gives keeps b judged knows but apart stay =
     let behind : Memory = record memory { judged = judged } in
-    subst (λ (v : World). Applies size w v behind fault old new) (sym (done_world w c free ∙ gives))
+    subst (λ (v : World). AppliesBy becomes size w v behind fault old new) (sym (done_world w c free ∙ gives))
     (Applies-beside size w (record w { stored = next }) memory fault old new ready
     (KeepsHeld-stored w next memory.held keeps.frames keeps.types keeps.pool)
     (AppliesMasked-pools size w memory next also fault old new ready b.beside b.pools keeps.frames)
-    behind refl refl refl knows (λ none. rest_beside size w memory old ready but new apart (stay none) (b.beside.single none)))
+    becomes puddles behind refl refl refl knows (λ none. rest_beside size w memory old ready but new apart (stay none) (b.beside.single none)))
 
 -- each pool that was judged stays
 knows_still : (size : ℕ) (w : World) (memory : Memory) (old new : State) (ready : IsReady size w memory old) → KeepsPools w.stored.frames None (reads old.now.words) (reads new.now.words)
@@ -228,10 +231,10 @@ knows_still : (size : ℕ) (w : World) (memory : Memory) (old new : State) (read
 knows_still size w memory old new ready keeps = KnowsPools-all w.stored.frames memory.judged ready.held.opens (reads old.now.words) (reads new.now.words) keeps ready.knows
 
 -- behind calls that changed nothing
-pub Applies-behind : (size : ℕ) (w next : World) (memory behind : Memory) (fault : Option HostFault) (a b d : State) → b ≡ a → (IsReady size w memory b → Applies size w next behind fault b d)
-    → IsReady size w memory a → Applies size w next behind fault a d
-Applies-behind size w next memory behind fault a b d same applies ready =
-    subst (λ (s : State). Applies size w next behind fault s d) same (applies (subst (λ (s : State). IsReady size w memory s) (sym same) ready))
+pub Applies-behind : {becomes : Member → Option Member → Type 0} (size : ℕ) (w next : World) (memory behind : Memory) (fault : Option HostFault) (a b d : State) → b ≡ a
+    → (IsReady size w memory b → AppliesBy becomes size w next behind fault b d) → IsReady size w memory a → AppliesBy becomes size w next behind fault a d
+Applies-behind {becomes} size w next memory behind fault a b d same applies ready =
+    subst (λ (s : State). AppliesBy becomes size w next behind fault s d) same (applies (subst (λ (s : State). IsReady size w memory s) (sym same) ready))
 
 -- a pool more, of another name than those that are held
 keeps_made : (s : StoredWorld) (name : List ℕ) (who : spaces.Owner) (mode : ℕ) (held : List (Option Held)) → IsNotNamed name held → KeepsPool s (with_new_pool name who mode s) held
@@ -291,28 +294,28 @@ module _ (size : ℕ) (w : World) (memory : Memory) (client uid gid mode : ℕ) 
   made_refused r refused same rests =
       subst (λ (v : World). Applies size w v memory fault old new) (sym (refused_world w line r refused)) (Applies-still size w memory fault old new ready same rests)
 
-  made_by : (r : Option MakeFault) → refused_there ≡ r → (refused_there ≡ None → ChangesBeside size w.stored made also ready.mask fault old new)
+  made_by : (r : Option MakeFault) → refused_there ≡ r → (refused_there ≡ None → LeavesPuddles w.stored.frames Stays old new) → (refused_there ≡ None → ChangesBeside size w.stored made also ready.mask fault old new)
       → (refused_there ≡ None → fault ≡ None → KeepsPools w.stored.frames None (reads old.now.words) (reads new.now.words))
       → ((refused_there ≡ None → ⊥) → new ≡ old) → (fault ≡ Some Cut → IsRested new.now.words) → Applies size w (world_by w (Some line)) memory fault old new
   unfolding as_refusal
-  made_by None is makes pools still rests =
+  made_by None is puddles makes pools still rests =
       let free : refusal_of w line ≡ None = refusal_made size w memory old ready client uid gid mode name who ∙ ap as_refusal is in
       let none = absent_of (w.clients client) (pool_named name w.stored) (is_full_of_pools w.stored) (lacks_frames w.stored 1) (sym (refusal_of-pool w client mode name) ∙ free) in
-      Applies-pools size w memory line made also fault old new ready free (given_world size w memory old ready client uid gid mode name who)
+      Applies-pools Stays size w memory line made also fault old new ready (puddles is) free (given_world size w memory old ready client uid gid mode name who)
       (keeps_made w.stored name (owner uid gid) mode memory.held (absent_apart w memory.held ready.mask old.now.words name ready.held none)) (makes is) memory.judged
       (λ none. knows_still size w memory old new ready (pools is none)) None (λ number h there no. none-some h.slot no) (pools is)
-  made_by (Some (faults.Host f)) is makes pools still rests = absurd (no_host _ _ _ f is)
-  made_by (Some faults.Exists) is makes pools still rests =
+  made_by (Some (faults.Host f)) is puddles makes pools still rests = absurd (no_host _ _ _ f is)
+  made_by (Some faults.Exists) is puddles makes pools still rests =
       made_refused refusals.Exists (refusal_made size w memory old ready client uid gid mode name who ∙ ap as_refusal is) (still (λ none. none-some faults.Exists (sym none ∙ is))) rests
-  made_by (Some faults.Full) is makes pools still rests =
+  made_by (Some faults.Full) is puddles makes pools still rests =
       made_refused refusals.Full (refusal_made size w memory old ready client uid gid mode name who ∙ ap as_refusal is) (still (λ none. none-some faults.Full (sym none ∙ is))) rests
-  made_by (Some faults.NoSpace) is makes pools still rests =
+  made_by (Some faults.NoSpace) is puddles makes pools still rests =
       made_refused refusals.Space (refusal_made size w memory old ready client uid gid mode name who ∙ ap as_refusal is) (still (λ none. none-some faults.NoSpace (sym none ∙ is))) rests
 
-  pub Applies-made : (refused_there ≡ None → ChangesBeside size w.stored made also ready.mask fault old new)
+  pub Applies-made : (refused_there ≡ None → LeavesPuddles w.stored.frames Stays old new) → (refused_there ≡ None → ChangesBeside size w.stored made also ready.mask fault old new)
       → (refused_there ≡ None → fault ≡ None → KeepsPools w.stored.frames None (reads old.now.words) (reads new.now.words))
       → ((refused_there ≡ None → ⊥) → new ≡ old) → (fault ≡ Some Cut → IsRested new.now.words) → Applies size w (world_by w (Some line)) memory fault old new
-  Applies-made makes pools still rests = made_by refused_there refl makes pools still rests
+  Applies-made puddles makes pools still rests = made_by refused_there refl puddles makes pools still rests
 
 -- a client that is not present makes none
 pub refused_pool_client : (w : World) (client mode : ℕ) (name : List ℕ) → w.clients client ≡ None → refusal_of w (commands.Pool client name mode) ≡ Some refusals.Client
@@ -357,7 +360,9 @@ module _ (size : ℕ) (w : World) (memory : Memory) (client uid gid mode F : ℕ
       → Applies size w (world_by w (Some (commands.Pool client name mode))) memory (make_fault done) old new
   making_there also makes does still rests =
       let off = off_making w memory.held ready.mask old.now.words ready.held (reads old.now.words NEXT_NUMBER_WORD) name uid gid mode in
+      let idle = ready_gate size w memory old ready in
       Applies-made size w memory client uid gid mode name also (make_fault done) old new ready who
+      (λ none. LeavesPuddles-makes w.stored.frames (make_fault done) old new ready.tables idle rests (reads old.now.words NEXT_NUMBER_WORD) name uid gid mode (does idle none))
       (λ none. record {
         beside = IsBeside-makes ready.mask (tables_of w.stored.frames (reads old.now.words)) (reads old.now.words NEXT_NUMBER_WORD) name uid gid mode (make_fault done) old new off
             (ready_gate size w memory old ready) rests (does (ready_gate size w memory old ready) none);
@@ -538,7 +543,8 @@ module _ (size : ℕ) (w : World) (memory : Memory) (client slot : ℕ) (name : 
       let idle = ready_gate size w memory old ready in
       let stay : fault ≡ None → KeepsPools w.stored.frames None (reads old.now.words) (reads new.now.words) =
       λ done. KeepsPools-mode N slot mode old new within (subst (λ (f : Option HostFault). Commits DAEMON_LOG (puts_batch (changing slot mode)) f old new) done (commits idle)) in
-      Applies-pools size w memory (Chmod client name mode) (with_pool_mode name mode w.stored) (λ _. ⊤) fault old new ready (refusal_of-owned w client mode name ∙ free) refl
+      Applies-pools Stays size w memory (Chmod client name mode) (with_pool_mode name mode w.stored) (λ _. ⊤) fault old new ready
+      (LeavesPuddles-mode N fault old new ready.tables idle rests slot mode within (inr (commits idle))) (refusal_of-owned w client mode name ∙ free) refl
       (keeps_mode w.stored name mode memory.held name_apart)
       (record {
         beside = IsBeside-puts m (changing slot mode) fault old new off idle rests (inr (commits idle));
@@ -564,16 +570,22 @@ module _ (size : ℕ) (w : World) (memory : Memory) (client slot : ℕ) (name : 
   abbrev pub less : Memory
   less = record memory { judged = set memory.judged slot None }
 
-  drop_there : (fault ≡ Some Cut → IsRested new.now.words) → Frees N → Drops N → Applies size w (world_by w (Some (commands.Drop client name))) less fault old new
+  -- the records of its puddles are freed, and no frontier of another pool moves
+  abbrev pub AppliesDrop : Option HostFault → State → State → Type 0
+  AppliesDrop = AppliesBy (MovesTo (freed_in slot)) size w (world_by w (Some (commands.Drop client name))) less
+
+  drop_there : (fault ≡ Some Cut → IsRested new.now.words) → Frees N → Drops N → AppliesDrop fault old new
   unfolding after
   drop_there rests frees drops =
       let off = off_dropping w memory.held m old.now.words ready.held slot within slot_apart in
       let idle = ready_gate size w memory old ready in
       let stay : fault ≡ None → KeepsPools w.stored.frames (Some slot) (reads old.now.words) (reads new.now.words) =
       λ done. KeepsPools-drop N slot old new within (subst (λ (f : Option HostFault). OrStill (CommitsPuts (dropping (tables_of N (reads old.now.words)) slot)) f old new) done (frees idle few)) in
-      Applies-pools size w memory (commands.Drop client name) (without_pool name w.stored) (λ _. ⊤) fault old new ready free refl (keeps_drop w.stored name memory.held name_apart)
+      let beside = IsBeside-puts m (dropping (tables_of N (reads old.now.words)) slot) fault old new off idle rests (frees idle few) in
+      Applies-pools (MovesTo (freed_in slot)) size w memory (commands.Drop client name) (without_pool name w.stored) (λ _. ⊤) fault old new ready
+      (LeavesPuddles-drops N fault old new ready.tables idle rests slot within m beside (frees idle few)) free refl (keeps_drop w.stored name memory.held name_apart)
       (record {
-        beside = IsBeside-puts m (dropping (tables_of N (reads old.now.words)) slot) fault old new off idle rests (frees idle few);
+        beside = beside;
         pools = subst (λ (n : List ℕ). ChangesPools size w.stored (without_pool n w.stored) (λ _. ⊤) fault (masked_state m old) (masked_state m new)) at.name_is
             (drops (keeps_tables w memory.held m old.now.words ready.held) off ready.settled at.rec masked_at);
       }) (set memory.judged slot None)
@@ -582,6 +594,6 @@ module _ (size : ℕ) (w : World) (memory : Memory) (client slot : ℕ) (name : 
       (opens_apart_from w memory.held m old.now.words ready.held slot (λ number h there same. slot_apart number h there (sym same)))
       (stay done) ready.knows) (Some slot) (λ number h there same. slot_apart number h there (same_Some slot h.slot same)) stay
 
-  pub Applies-drop : (F : ℕ) → F ≡ w.stored.frames → (fault ≡ Some Cut → IsRested new.now.words) → Frees F → Drops F → Applies size w (world_by w (Some (commands.Drop client name))) less fault old new
+  pub Applies-drop : (F : ℕ) → F ≡ w.stored.frames → (fault ≡ Some Cut → IsRested new.now.words) → Frees F → Drops F → AppliesDrop fault old new
   Applies-drop F frames rests =
-      subst (λ (n : ℕ). Frees n → Drops n → Applies size w (world_by w (Some (commands.Drop client name))) less fault old new) (sym frames) (drop_there rests)
+      subst (λ (n : ℕ). Frees n → Drops n → AppliesDrop fault old new) (sym frames) (drop_there rests)

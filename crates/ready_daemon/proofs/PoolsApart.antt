@@ -64,7 +64,7 @@ AreOff mask [] = ⊤
 AreOff mask (p ∷ puts) = ((k : ℕ) → p.w ≤ k → k < p.w + p.n → mask k ≡ None) × AreOff mask puts
 
 -- what their batch writes is not masked
-puts_off : (F : ℕ) (mask : Write) (puts : List Put) (k v : ℕ) → AreOfPools F puts → AreOff mask puts → batch_write (puts_batch puts) k ≡ Some v → mask k ≡ None
+pub puts_off : (F : ℕ) (mask : Write) (puts : List Put) (k v : ℕ) → AreOfPools F puts → AreOff mask puts → batch_write (puts_batch puts) k ≡ Some v → mask k ≡ None
 unfolding batch_write
 puts_off F mask [] k v of off is = absurd (let no : None ≡ Some v = is in cc)
 puts_off F mask (p ∷ puts) k v of off is = elim (either_some (value_at p.w (take p.n p.vals) k) (batch_write (puts_batch puts) k) v is) [

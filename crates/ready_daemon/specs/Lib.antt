@@ -7,4 +7,5 @@ pub mod Beginning
 pub mod Leaving
 pub mod Defined
 pub mod Owning
+pub mod Moves
 pub mod Ready

@@ -9,6 +9,7 @@ use Rattle.pm_model.specs.Masks.{masked, masked_state}
 use Rattle.pud_defs.specs.declared.layout.TheConstants.{DAEMON_LOG, CLIENTS}
 use Rattle.pud_defs.specs.Image.{Image}
 use Rattle.pud_defs.specs.Entries.{log_of}
+use Rattle.pud_defs.specs.Puddles.{Member}
 use Rattle.pud_defs.specs.Replay.{device_word, new_value, settled_by}
 use Rattle.pud_defs.specs.Spaces.{space_record_at, owner_of, has_closed_logs}
 use Rattle.pud_defs.specs.Registry.{frames_of}
@@ -21,6 +22,7 @@ use Rattle.batch.specs.Worlds.{IsSettled}
 use Rattle.ready_daemon.specs.Memory.{Memory}
 use Rattle.ready_daemon.specs.Held.{Holds, HasSessions, HasDurableFrames, HasIdleLogs, IsBeside}
 use Rattle.ready_daemon.specs.KnownPools.{KnowsPools}
+use Rattle.ready_daemon.specs.Moves.{Stays, LeavesPuddles}
 
 -- nothing is said, and the bytes left to read and the shelf stay
 pub record KeepsRest (old new : State) : Type 0 where
@@ -71,13 +73,18 @@ pub record AppliesMasked (size : ℕ) (w next : World) (mask : Write) (fault : O
   pub shelf : next.shelf ≡ w.shelf
 
 -- A command was carried out, or refused, without a word: at every moment the images stand for the world before it or the one that it gives,
--- with no registered log refused, and without a fault the daemon is ready in that one, with this memory.
-pub record Applies (size : ℕ) (w next : World) (memory : Memory) (fault : Option HostFault) (old new : State) : Type 0 where
+-- with no registered log refused, and each record of a puddle has become so; without a fault the daemon is ready in that world, with this memory.
+pub record AppliesBy (becomes : Member → Option Member → Type 0) (size : ℕ) (w next : World) (memory : Memory) (fault : Option HostFault) (old new : State) : Type 0 where
   pub moments : Leaves (Silently (StandsBetween size w next)) old new
+  pub puddles : LeavesPuddles w.stored.frames becomes old new
   pub quiet : new.now.said ≡ old.now.said
   pub ready : fault ≡ None → IsReady size next memory new
   pub rests : fault ≡ Some hosts.Cut → IsRested new.now.words
   pub script : new.script ≡ old.script
+
+-- The same, and each record of a puddle stays: no frontier moves.
+abbrev pub Applies : (size : ℕ) → (w next : World) → Memory → Option HostFault → State → State → Type 0
+Applies = AppliesBy Stays
 
 -- The client's record of the log-space table is used, also once the daemon log is replayed.
 pub record IsUsedStill (client : ℕ) (image : Image) : Type 0 where

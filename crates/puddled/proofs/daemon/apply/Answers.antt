@@ -1,4 +1,4 @@
-use Rattle.std.proofs.Common.{◌≡◌, ℕ, Some, Ok, refl, sym, ap, subst, ◌∙◌}
+use Rattle.std.proofs.Common.{◌≡◌, ℕ, Some, Ok, refl, sym, ap, subst, ◌∙◌, List}
 use Rattle.pud_defs.specs.declared.machine.Command.{Command}
 use Rattle.pud_defs.specs.declared.machine.Command.TheVariants.{Client, Leave, Define, Chmod, Get, Begin, Commit, Abort, New, Set, Later, Root, Free, Cut, Arm}
 use Rattle.pud_defs.specs.declared.machine.Command.TheVariants as commands
@@ -7,7 +7,12 @@ use Rattle.ready_daemon.specs.Memory.{Memory}
 use Rattle.puddled.specs.declared.answers.Answered.TheVariants as answers
 use Rattle.puddled.specs.Daemon.{CarriesOut}
 use Rattle.ready_daemon.proofs.Keeping.{KeepsRest-still}
-use Rattle.puddled.proofs.Carrying.{ClosesLogs-leave, ClosesLogs-other, CarriesOut-plain, CarriesOut-as, CarriesOut-listed, CarriesOut-lost, CarriesOut-armed}
+use Rattle.puddled.proofs.Carrying.{ClosesLogs-leave, ClosesLogs-other, CarriesOut-plain, CarriesOut-led, CarriesOut-as, CarriesOut-listed, CarriesOut-lost, CarriesOut-armed}
+use Rattle.std.specs.Prelude.{IfOk}
+use Rattle.pm_model.specs.Words.{reads}
+use Rattle.pud_defs.specs.Step.{refusal_of}
+use Rattle.puddled.specs.Rewriting.{DoesSteps}
+use Rattle.puddled.proofs.Rewritten.{steps_answered}
 use Rattle.puddled.proofs.daemon.apply.Goals as goal
 
 pub returns-in-Client-clause-carries : goal.returns-in-Client-clause-carries
@@ -53,14 +58,14 @@ pub returns-in-Drop-clause-carries : goal.returns-in-Drop-clause-carries
 returns-in-Drop-clause-carries g c = λ t size e w ready.
     let drop = commands.Drop c.in-Drop.client c.in-Drop.name in
     CarriesOut-as size w c.drop_for.new.self _ _ _ _ c.args.command drop c.with_reply-in-Drop.result c.drop_for.result c.in-Drop.is c.with_reply-in-Drop.ensures
-    (CarriesOut-plain size w c.drop_for.new.self _ _ _ _ drop c.drop_for.result refl refl (c.drop_for.ensures.reply t size w ready) (c.drop_for.ensures.applies t size e w ready)
+    (CarriesOut-led size w c.drop_for.new.self _ _ _ _ drop c.drop_for.result refl refl (c.drop_for.ensures.reply t size w ready) (c.drop_for.ensures.applies t size e w ready)
     (ClosesLogs-other w _ _ _ (λ client no. cc)) (c.drop_for.ensures.rest t) c.drop_for.ensures.cause)
 
 pub returns-in-Rewrite-clause-carries : goal.returns-in-Rewrite-clause-carries
 returns-in-Rewrite-clause-carries g c = λ t size e w ready.
     let rewrite = commands.Rewrite c.in-Rewrite.name c.in-Rewrite.n in
     CarriesOut-as size w c.rewrite_for.new.self _ _ _ _ c.args.command rewrite c.with_reply-in-Rewrite.result c.rewrite_for.result c.in-Rewrite.is c.with_reply-in-Rewrite.ensures
-    (CarriesOut-plain size w c.rewrite_for.new.self _ _ _ _ rewrite c.rewrite_for.result refl refl (c.rewrite_for.ensures.reply t size w ready) (c.rewrite_for.ensures.applies t size e w ready)
+    (CarriesOut-led size w c.rewrite_for.new.self _ _ _ _ rewrite c.rewrite_for.result refl refl (c.rewrite_for.ensures.reply t size w ready) (c.rewrite_for.ensures.applies t size e w ready)
     (ClosesLogs-other w _ _ _ (λ client no. cc)) (c.rewrite_for.ensures.rest t) c.rewrite_for.ensures.cause)
 
 pub returns-in-Get-clause-carries : goal.returns-in-Get-clause-carries
@@ -124,3 +129,76 @@ pub returns-in-Arm-clause-carries : goal.returns-in-Arm-clause-carries
 returns-in-Arm-clause-carries g c = λ t size e w ready.
     CarriesOut-as size w c.args.daemon.now _ _ _ _ c.args.command (Arm c.in-Arm.step c.in-Arm.pick) c.with_reply-in-Arm.result c.arm.result c.in-Arm.is c.with_reply-in-Arm.ensures
     (CarriesOut-armed size w c.args.daemon.now _ _ _ _ c.in-Arm.step c.in-Arm.pick _ c.arm.ensures.done ready (c.arm.ensures.stays t) c.arm.ensures.cause)
+
+-- ---- the steps of a line that rewrites
+
+pub returns-in-Rewrite-clause-steps : goal.returns-in-Rewrite-clause-steps
+returns-in-Rewrite-clause-steps g c = λ t size e w ready name n is free.
+    let its : commands.Rewrite c.in-Rewrite.name c.in-Rewrite.n ≡ commands.Rewrite name n = sym c.in-Rewrite.is ∙ is in
+    let old = reads (g.H.Host.state c.args.h.now).now.words in
+    let new = reads (g.H.Host.state c.rewrite_for.new.h).now.words in
+    let named : c.in-Rewrite.name ≡ name = cc in
+    let many : c.in-Rewrite.n ≡ n = cc in
+    steps_answered w.stored.frames name n old new c.rewrite_for.result c.with_reply-in-Rewrite.result c.with_reply-in-Rewrite.ensures
+    (subst (λ (x : List ℕ). IfOk c.rewrite_for.result (λ _. DoesSteps w.stored.frames x n old new)) named
+    (subst (λ (k : ℕ). IfOk c.rewrite_for.result (λ _. DoesSteps w.stored.frames c.in-Rewrite.name k old new)) many (c.rewrite_for.ensures.moves t size e w ready (ap (refusal_of w) (sym c.in-Rewrite.is) ∙ free))))
+
+pub returns-in-Client-clause-steps : goal.returns-in-Client-clause-steps
+returns-in-Client-clause-steps g c = λ t size e w ready name n is free. absurd (cc (c.in-Client.is, is))
+
+pub returns-in-Leave-clause-steps : goal.returns-in-Leave-clause-steps
+returns-in-Leave-clause-steps g c = λ t size e w ready name n is free. absurd (cc (c.in-Leave.is, is))
+
+pub returns-in-Define-clause-steps : goal.returns-in-Define-clause-steps
+returns-in-Define-clause-steps g c = λ t size e w ready name n is free. absurd (cc (c.in-Define.is, is))
+
+pub returns-in-Pool-clause-steps : goal.returns-in-Pool-clause-steps
+returns-in-Pool-clause-steps g c = λ t size e w ready name n is free. absurd (cc (c.in-Pool.is, is))
+
+pub returns-in-Chmod-clause-steps : goal.returns-in-Chmod-clause-steps
+returns-in-Chmod-clause-steps g c = λ t size e w ready name n is free. absurd (cc (c.in-Chmod.is, is))
+
+pub returns-in-Drop-clause-steps : goal.returns-in-Drop-clause-steps
+returns-in-Drop-clause-steps g c = λ t size e w ready name n is free. absurd (cc (c.in-Drop.is, is))
+
+pub returns-in-Get-clause-steps : goal.returns-in-Get-clause-steps
+returns-in-Get-clause-steps g c = λ t size e w ready name n is free. absurd (cc (c.in-Get.is, is))
+
+pub returns-in-Begin-clause-steps : goal.returns-in-Begin-clause-steps
+returns-in-Begin-clause-steps g c = λ t size e w ready name n is free. absurd (cc (c.in-Begin.is, is))
+
+pub returns-in-Commit-clause-steps : goal.returns-in-Commit-clause-steps
+returns-in-Commit-clause-steps g c = λ t size e w ready name n is free. absurd (cc (c.in-Commit.is, is))
+
+pub returns-in-Abort-clause-steps : goal.returns-in-Abort-clause-steps
+returns-in-Abort-clause-steps g c = λ t size e w ready name n is free. absurd (cc (c.in-Abort.is, is))
+
+pub returns-in-New-clause-steps : goal.returns-in-New-clause-steps
+returns-in-New-clause-steps g c = λ t size e w ready name n is free. absurd (cc (c.in-New.is, is))
+
+pub returns-in-Set-clause-steps : goal.returns-in-Set-clause-steps
+returns-in-Set-clause-steps g c = λ t size e w ready name n is free. absurd (cc (c.in-Set.is, is))
+
+pub returns-in-Later-clause-steps : goal.returns-in-Later-clause-steps
+returns-in-Later-clause-steps g c = λ t size e w ready name n is free. absurd (cc (c.in-Later.is, is))
+
+pub returns-in-Root-clause-steps : goal.returns-in-Root-clause-steps
+returns-in-Root-clause-steps g c = λ t size e w ready name n is free. absurd (cc (c.in-Root.is, is))
+
+pub returns-in-Free-clause-steps : goal.returns-in-Free-clause-steps
+returns-in-Free-clause-steps g c = λ t size e w ready name n is free. absurd (cc (c.in-Free.is, is))
+
+pub returns-in-Dump-clause-steps : goal.returns-in-Dump-clause-steps
+returns-in-Dump-clause-steps g c = λ t size e w ready name n is free. absurd (cc (c.in-Dump.is, is))
+
+pub returns-in-Export-clause-steps : goal.returns-in-Export-clause-steps
+returns-in-Export-clause-steps g c = λ t size e w ready name n is free. absurd (cc (c.in-Export.is, is))
+
+pub returns-in-Pools-clause-steps : goal.returns-in-Pools-clause-steps
+returns-in-Pools-clause-steps g c = λ t size e w ready name n is free. absurd (cc (c.in-Pools.is, is))
+
+pub returns-in-Cut-clause-steps : goal.returns-in-Cut-clause-steps
+returns-in-Cut-clause-steps g c = λ t size e w ready name n is free. absurd (cc (c.in-Cut.is, is))
+
+pub returns-in-Arm-clause-steps : goal.returns-in-Arm-clause-steps
+returns-in-Arm-clause-steps g c = λ t size e w ready name n is free. absurd (cc (c.in-Arm.is, is))

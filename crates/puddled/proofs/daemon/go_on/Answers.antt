@@ -12,9 +12,13 @@ use Rattle.pud_defs.specs.Grammar.{command_of}
 use Rattle.ready_daemon.specs.Memory.{Memory}
 use Rattle.puddled.specs.Daemon.{CarriesOut}
 use Rattle.puddled.specs.declared.daemon.StartFault.{StartFault}
-use Rattle.puddled.specs.Faults.{start_fault, kind_of, CountsCommand}
+use Rattle.puddled.specs.Faults.{start_fault, kind_of, CountsCommand, behind_loss}
 use Rattle.puddled.proofs.Counted.{kind_done, kind_faulty, kind_restarted, kind_unstarted, no_power_lost}
 use Rattle.puddled.proofs.Settling.{Settles-done, Settles-failed, Settles-again, Settles-unstarted, restart_sound, found_world, found_stands, found_shelf}
+use Rattle.puddled.proofs.Led.{LeadFrontiers-done, LeadFrontiers-lost}
+use Rattle.std.specs.Prelude.{IfOk}
+use Rattle.pud_defs.specs.declared.machine.Command.{Command}
+use Rattle.puddled.specs.Rewriting.{DoesSteps}
 use Rattle.puddled.proofs.daemon.go_on.Goals as goal
 
 pub returns-in_err-started-in-Err-Cut-clause-settles : goal.returns-in_err-started-in-Err-Cut-clause-settles
@@ -87,3 +91,23 @@ pub returns-in_ok-started-in-Err-Cut-clause-restarted : goal.returns-in_ok-start
 returns-in_ok-started-in-Err-Cut-clause-restarted g c = λ t rested counted counts ok moved.
     let is : c.args.done ≡ Err hosts.Cut = c.in-Err-Cut.is ∙ ap Err (rw c.in-Err-Cut.is at c.in-Err-Cut.field-0-is) in
     c.in_ok-started-in-Err-Cut.ensures.sound t (rested (ap fault_of is))
+
+pub returns-in-Ok-clause-frontiers : goal.returns-in-Ok-clause-frontiers
+returns-in-Ok-clause-frontiers g c = λ t size e w line counted before of_line shelf carries.
+    LeadFrontiers-done size w _ (command_of line) _ _ before _ _
+    (subst (λ (r : Result Answered HostFault). CarriesOut size w c.args.daemon.now (command_of line) r counted (g.H.Host.counts c.args.h.now) before (g.H.Host.state c.args.h.now)) c.in-Ok.is carries)
+
+pub returns-in_ok-started-in-Err-Cut-clause-frontiers : goal.returns-in_ok-started-in-Err-Cut-clause-frontiers
+returns-in_ok-started-in-Err-Cut-clause-frontiers g c = λ t size e w line counted before of_line shelf carries.
+    let is : c.args.done ≡ Err hosts.Cut = c.in-Err-Cut.is ∙ ap Err (rw c.in-Err-Cut.is at c.in-Err-Cut.field-0-is) in
+    let mid = g.H.Host.state c.args.h.now in
+    let k = subst (λ (r : Result Answered HostFault). CarriesOut size w c.args.daemon.now (command_of line) r counted (g.H.Host.counts c.args.h.now) before mid) is carries in
+    LeadFrontiers-lost size w _ line _ _ before mid k shelf _ (c.in_ok-started-in-Err-Cut.ensures.replays t (k.applies.rests refl))
+
+pub returns-in-Ok-clause-steps : goal.returns-in-Ok-clause-steps
+returns-in-Ok-clause-steps g c = λ t F name n before does is cut.
+    subst (λ (r : Result Answered HostFault). IfOk r (λ _. DoesSteps F name n (reads before.now.words) (reads (g.H.Host.state c.args.h.now).now.words))) c.in-Ok.is does
+
+pub returns-in_ok-started-in-Err-Cut-clause-steps : goal.returns-in_ok-started-in-Err-Cut-clause-steps
+returns-in_ok-started-in-Err-Cut-clause-steps g c = λ t F name n before does is cut.
+    absurd (cut (ap (λ (r : Reply). answers.Reply r) (c.reply_behind_loss.ensures ∙ ap (λ (x : Command). behind_loss (kind_of (Some x))) is)))

@@ -71,3 +71,11 @@ returns-clause-sound g c = λ t rested.
     let b = g.H.Host.state c.recover.new.h in
     (recovered_any size (reads a.now.words) b (g.H.Host.state c.clear_spaces.new.h) c.in_ok-report.report (c.in_ok-report.ensures.not_sound t refl)
     (λ s world. behind_recovery size s a b (c.in_ok-report.ensures.replays t size refl s world) (c.in_ok-report.ensures.recovers t size refl s rested world)) (c.in_ok-clear_spaces.ensures.empties t)).sound
+
+pub returns-clause-replays : goal.returns-clause-replays
+returns-clause-replays g c = λ t rested.
+    let size = (g.H.Host.counts c.args.h.now).size in
+    let a = g.H.Host.state c.args.h.now in
+    let b = g.H.Host.state c.recover.new.h in
+    (recovered_any size (reads a.now.words) b (g.H.Host.state c.clear_spaces.new.h) c.in_ok-report.report (c.in_ok-report.ensures.not_sound t refl)
+    (λ s world. behind_recovery size s a b (c.in_ok-report.ensures.replays t size refl s world) (c.in_ok-report.ensures.recovers t size refl s rested world)) (c.in_ok-clear_spaces.ensures.empties t)).replayed

@@ -15,6 +15,11 @@ use Rattle.puddled.specs.Daemon.{KeepsAllBut, CarriesOut}
 use Rattle.puddled.proofs.Counted.{counted_nothing, bad_loses_nothing, size_of_command}
 use Rattle.puddled.proofs.Carrying.{CarriesOut-bad, KeepsAllBut-then}
 use Rattle.puddled.proofs.Settling.{Settles-done}
+use Rattle.puddled.specs.Frontiers.{LeadFrontiers}
+use Rattle.puddled.proofs.Led.{LeadFrontiers-bad}
+use Rattle.std.proofs.lemmas.Option.{none-some, same_Some}
+use Rattle.pud_defs.specs.Step.{refusal_of}
+use Rattle.pud_defs.specs.declared.machine.Command.TheVariants.{Rewrite}
 use Rattle.puddled.proofs.daemon.settle.Goals as goal
 
 pub returns-in_default-clause-settles : goal.returns-in_default-clause-settles
@@ -61,3 +66,24 @@ pub returns-clause-room : goal.returns-clause-room
 returns-clause-room g c =
     let same = size_of_command (kind_of (Some c.in-Ok.command)) (fault_of c.apply-done.result) _ _ c.apply-done.ensures.cause in
     subst (λ (n : ℕ). device_words c.go_on.new.daemon.frames ≤ n) same c.go_on.ensures.room
+
+pub returns-in_default-clause-frontiers : goal.returns-in_default-clause-frontiers
+returns-in_default-clause-frontiers g c = λ t size e w ready.
+    let image = reads (g.H.Host.state c.args.h.now).now.words in
+    subst (λ (o : Option Command). LeadFrontiers w o image image) (ap result_ok (sym c.in_default.is) ∙ c.parse_line.ensures.command) (LeadFrontiers-bad w image)
+
+pub returns-clause-frontiers : goal.returns-clause-frontiers
+returns-clause-frontiers g c = λ t size e w ready.
+    let is : command_of c.args.line.now ≡ Some c.in-Ok.command = sym c.in-Ok.ensures.command in
+    let after = e ∙ sym (size_of_command (kind_of (Some c.in-Ok.command)) (fault_of c.apply-done.result) _ _ c.apply-done.ensures.cause) in
+    c.go_on.ensures.frontiers t size after w c.args.line.now _ _ is ready.shelf
+    (subst (λ (o : Option Command). CarriesOut size w c.apply-done.new.daemon o c.apply-done.result (g.H.Host.counts c.args.h.now) (g.H.Host.counts c.apply-done.new.h) (g.H.Host.state c.args.h.now) (g.H.Host.state c.apply-done.new.h)) (sym is) (c.apply-done.ensures.carries t size e w ready))
+
+pub returns-in_default-clause-steps : goal.returns-in_default-clause-steps
+returns-in_default-clause-steps g c = λ t size e w ready name n is free cut.
+    absurd (none-some (Rewrite name n) (ap result_ok (sym c.in_default.is) ∙ c.parse_line.ensures.command ∙ is))
+
+pub returns-clause-steps : goal.returns-clause-steps
+returns-clause-steps g c = λ t size e w ready name n is free.
+    let asked : c.in-Ok.command ≡ Rewrite name n = same_Some c.in-Ok.command (Rewrite name n) (c.in-Ok.ensures.command ∙ is) in
+    c.go_on.ensures.steps t w.stored.frames name n (g.H.Host.state c.args.h.now) (c.apply-done.ensures.steps t size e w ready name n asked (ap (refusal_of w) asked ∙ free)) asked

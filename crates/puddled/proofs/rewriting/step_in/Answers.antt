@@ -1,10 +1,13 @@
-use Rattle.std.proofs.Common.{◌≡◌, ℕ, List, Option, true, false, is_some, sym, ap, subst, ◌∙◌, rules, refl}
+use Rattle.std.proofs.Common.{◌≡◌, ℕ, List, Option, Some, sym, ap, subst, ◌∙◌, rules, refl}
+use Rattle.std.specs.Prelude.{set}
+use Rattle.std.proofs.lemmas.Option.{none-some, same_Some}
 use Rattle.pm_model.specs.Counts.{fault_of}
 use Rattle.pud_defs.specs.declared.records.Puddle.{Puddle}
 use Rattle.log_replay.specs.Replaying.{Anything}
 use Rattle.lazy_rewrite.specs.Frontiers.{steps_from, frontiers_of}
 use Rattle.ready_daemon.specs.Judged.{known_in}
-use Rattle.ready_daemon.specs.Ready.{IsReady}
+use Rattle.ready_daemon.specs.Moves.{MovesTo, led_in}
+use Rattle.ready_daemon.specs.Ready.{IsReady, AppliesBy}
 use Rattle.ready_daemon.proofs.Keeping.{KeepsRest-changes, KeepsRest-still}
 use Rattle.puddled.proofs.Changing.{known_there}
 use Rattle.puddled.proofs.Rewritten.{Applies-stepped, moves_known, moves_none}
@@ -12,18 +15,21 @@ use Rattle.puddled.proofs.rewriting.step_in.Goals as goal
 use Rattle.puddled.proofs.rewriting.step_in.Goals.{in-Some, in-None}
 
 pub returns-clause-applies : goal.returns-clause-applies
-returns-clause-applies g c = λ t size e there w held sessions ready.
+returns-clause-applies g c = λ t size e at known w held sessions ready.
     let s = g.H.Host.state c.args.h.now in
     let pools = c.judged.inside.pools in
     let read = known_there pools c.args.slot _ c.index-judged-slot.result (search rules) refl in
     let then = subst (λ (ps : List (Option (List (ℕ × Puddle)))). IsReady size w (record { frames = c.args.frames; held = held; sessions = sessions; judged = ps }) s) (sym c.judged.view_is) ready in
     elim c.match-judged-slot.branch [
       | in-Some b ↦
-          let at = b.in-Some.pool in
+          let pool = b.in-Some.pool in
+          let same : at ≡ pool = same_Some at pool (sym known ∙ ap (λ (ps : List (Option (List (ℕ × Puddle)))). known_in ps c.args.slot) (sym c.judged.view_is) ∙ read ∙ b.in-Some.is) in
           rw (b.result-is, b.judged-inside-is, b.h-is)
-          (Applies-stepped size w c.args.frames held sessions pools s then c.args.slot c.requires.slot at (read ∙ b.in-Some.is) (frontiers_of (steps_from c.args.n at)) b.step.new.pool (fault_of b.step.result)
-          (g.H.Host.state b.step.new.h) (λ idle low. b.step.ensures.rewrites t size e idle low))
-      | in-None b ↦ absurd (let no : true ≡ false = there ∙ ap (λ (ps : List (Option (List (ℕ × Puddle)))). is_some (known_in ps c.args.slot)) (sym c.judged.view_is) ∙ ap is_some (read ∙ b.in-None.is) in cc)
+          (subst (λ (ps : List (ℕ × Puddle)). AppliesBy (MovesTo (led_in c.args.slot (frontiers_of (steps_from c.args.n ps)))) size w w
+          (record { frames = c.args.frames; held = held; sessions = sessions; judged = set pools c.args.slot (Some b.step.new.pool) }) (fault_of b.step.result) s (g.H.Host.state b.step.new.h)) (sym same)
+          (Applies-stepped size w c.args.frames held sessions pools s then c.args.slot c.requires.slot pool (read ∙ b.in-Some.is) (frontiers_of (steps_from c.args.n pool)) b.step.new.pool (fault_of b.step.result)
+          (g.H.Host.state b.step.new.h) (λ idle low. b.step.ensures.rewrites t size e idle low)))
+      | in-None b ↦ absurd (none-some at (sym (read ∙ b.in-None.is) ∙ ap (λ (ps : List (Option (List (ℕ × Puddle)))). known_in ps c.args.slot) c.judged.view_is ∙ known))
     ]
 
 pub returns-clause-rest : goal.returns-clause-rest

@@ -1,4 +1,4 @@
-use Rattle.std.proofs.Common.{◌≡◌, ◌↔◌, ℕ, List, true, false, Some, None, Result, Err, refl, sym, ap, ◌∙◌, subst}
+use Rattle.std.proofs.Common.{◌≡◌, ◌↔◌, inl, inr, ℕ, List, true, false, Some, None, Result, Err, refl, sym, ap, ◌∙◌, subst}
 use Rattle.std.specs.Prelude.{IfOk}
 use Rattle.std.proofs.lemmas.Option.{none-some}
 use Rattle.std.proofs.lemmas.Result.{err_from_is_err_and}
@@ -18,18 +18,19 @@ use Rattle.object_alloc.specs.declared.AllocFault.{AllocFault}
 use Rattle.object_alloc.specs.declared.AllocFault.TheVariants.{Full}
 use Rattle.object_alloc.specs.Alloc.{alloc_fault}
 use Rattle.lazy_rewrite.specs.Frontiers.{frontiers_of}
-use Rattle.hybrid_tx.specs.Grounds.{IsRewrittenAt}
 use Rattle.hybrid_tx.specs.Objects.Transactions.{MakesIn}
 use Rattle.hybrid_tx.proofs.Objects.LowestSlot.{one_lowest, lowest_is_free, one_slot, first_there}
 use Rattle.hybrid_tx.proofs.Objects.ObjectPut.{MakesIn-stopped}
 use Rattle.ready_daemon.specs.Judged.{known_in}
 use Rattle.ready_daemon.specs.Memory.{Held, held_under}
-use Rattle.ready_daemon.specs.Ready.{IsReady, Applies}
-use Rattle.ready_daemon.proofs.Applying.{Applies-stopped}
+use Rattle.ready_daemon.specs.Moves.{MovesOn}
+use Rattle.ready_daemon.specs.Ready.{IsReady, AppliesBy}
+use Rattle.ready_daemon.proofs.Beneath.{ready_gate}
+use Rattle.ready_daemon.proofs.Applying.{Applies-stopped, still_line}
 use Rattle.ready_daemon.proofs.Keeping.{KeepsRest-still, KeepsRest-changes, KeepsRest-then}
-use Rattle.pool_transaction.specs.Changing.{with_opened, refusal_by_world, with_made, both_finished}
+use Rattle.pool_transaction.specs.Changing.{with_opened, refusal_by_world, with_made, both_finished, MakesBehind}
 use Rattle.pool_transaction.proofs.FinishedPools.{HaveMoved-both, IsSlotOf-moved}
-use Rattle.pool_transaction.proofs.HeldFinishes.{its_puddles, none_left, memory_finished, MayMakeAt, Applies-unfinished, ready_finished, known_finished, Applies-behind, may_make_at}
+use Rattle.pool_transaction.proofs.HeldFinishes.{its_puddles, its_placed, low_of_placed, memory_finished, MayMakeAt, Applies-unfinished, ready_finished, known_finished, Applies-behind, may_make_at}
 use Rattle.pool_transaction.proofs.HeldMakes.{all_live, not_live, serial_made, made_there, Applies-made}
 use Rattle.pool_transaction.proofs.HeldRuns.{with_tx}
 use Rattle.pool_transaction.proofs.opened.Opened.make.Goals as goal
@@ -46,7 +47,7 @@ returns-in-Err-Full-clause-makes g c = λ t size w memory its ready none less.
     let held = c.args.self.now in
     let old = g.H.Host.state c.args.h.now in
     let same = sym its.frames ∙ ready.frames in
-    absurd {A = Applies size w (with_made held.name c.args.t w) (with_opened held.number held.slot held c.args.pool.now memory) None old (g.H.Host.state c.alloc_slot.new.h)}
+    absurd {A = AppliesBy (MovesOn held.slot) size w (with_made held.name c.args.t w) (with_opened held.number held.slot held c.args.pool.now memory) None old (g.H.Host.state c.alloc_slot.new.h)}
     (not_live size w memory held old held.number its.there ready c.args.frames c.args.pool.now same (its_puddles size w memory held old held.number its.there ready c.args.frames same c.args.pool.now its.known) less
     (all_live_there c.args.frames c.args.pool.now c.as_slice.result.now (reads (g.H.Host.state c.args.h.now).now.words) c.in-Err-Full.field-0 c.as_slice.ensures.puddles c.in-Err-Full.field-0-is (c.in-Err-Full.ensures.full t _ refl)))
 
@@ -59,7 +60,7 @@ returns-in-Err-Full-clause-serial g c = λ t size w memory its ready less.
     (all_live_there c.args.frames c.args.pool.now c.as_slice.result.now (reads (g.H.Host.state c.args.h.now).now.words) c.in-Err-Full.field-0 c.as_slice.ensures.puddles c.in-Err-Full.field-0-is (c.in-Err-Full.ensures.full t _ refl)))
 
 pub returns-in-Err-Full-clause-lowest : goal.returns-in-Err-Full-clause-lowest
-returns-in-Err-Full-clause-lowest g c = λ t size w memory its ready none slot of lowest first other.
+returns-in-Err-Full-clause-lowest g c = λ t size w memory its ready none slot of lowest.
     absurd (lowest_is_free (stored_in c.args.frames c.args.pool.now (reads (g.H.Host.state c.args.h.now).now.words)) (place_of_slot slot) lowest (all_live_there c.args.frames c.args.pool.now c.as_slice.result.now (reads (g.H.Host.state c.args.h.now).now.words) c.in-Err-Full.field-0 c.as_slice.ensures.puddles c.in-Err-Full.field-0-is (c.in-Err-Full.ensures.full t _ refl)))
 
 -- ---- the slot was not found
@@ -68,14 +69,20 @@ pub returns-in-Err-Host-clause-makes : goal.returns-in-Err-Host-clause-makes
 returns-in-Err-Host-clause-makes g c = λ t size w memory its ready none less.
     let read = rw c.in-Err-Host.field-0-is at c.in-Err-Host.ensures.only_reads in
     let held = c.args.self.now in
-    Applies-stopped size w (with_made held.name c.args.t w) memory (with_opened held.number held.slot held c.args.pool.now memory) c.in-Err-Host.fault (g.H.Host.state c.args.h.now) (g.H.Host.state c.alloc_slot.new.h) ready
-    (read.stays t) (λ cut. absurd (read.never_cut cut))
+    still_line None held.slot size w _ _ _ _ _
+    (Applies-stopped size w (with_made held.name c.args.t w) memory (with_opened held.number held.slot held c.args.pool.now memory) c.in-Err-Host.fault (g.H.Host.state c.args.h.now) (g.H.Host.state c.alloc_slot.new.h) ready
+    (read.stays t) (λ cut. absurd (read.never_cut cut)))
 
 pub returns-in-Err-Host-clause-lowest : goal.returns-in-Err-Host-clause-lowest
-returns-in-Err-Host-clause-lowest g c = λ t size w memory its ready none slot of lowest root other.
+returns-in-Err-Host-clause-lowest g c = λ t size w memory its ready none slot of lowest.
     let first = first_there c.args.pool.now slot (slot.frame, of.puddle) of in
     let read = rw c.in-Err-Host.field-0-is at c.in-Err-Host.ensures.only_reads in
-    MakesIn-stopped c.args.frames c.args.pool.now c.args.self.now.tx.log.at slot of first.0 c.args.t _ _ _ first.1 read.never_cut (read.stays t)
+    record {
+      mid = g.H.Host.state c.args.h.now;
+      first = None;
+      finishes = record { batches = 0; in_turn = (refl, (refl, refl)) };
+      makes = inr (MakesIn-stopped c.args.frames c.args.pool.now c.args.self.now.tx.log.at slot of first.0 c.args.t _ _ _ first.1 read.never_cut (read.stays t));
+    }
 
 -- ---- its puddles were not finished
 
@@ -89,7 +96,7 @@ returns-in_err-finish_both-clause-makes g c =
     let mid = g.H.Host.state c.finish_both.new.h in
     let still = c.in-Ok.ensures.only_reads.stays t in
     let then = subst (λ (s : State). IsReady size w memory s) (sym still) ready in
-    subst (λ (s : State). Applies size w (with_made held.name c.args.t w) (with_opened held.number held.slot held c.finish_both.new.pool memory) (Some c.in_err-finish_both.field-0.0) s mid) still
+    subst (λ (s : State). AppliesBy (MovesOn held.slot) size w (with_made held.name c.args.t w) (with_opened held.number held.slot held c.finish_both.new.pool memory) (Some c.in_err-finish_both.field-0.0) s mid) still
     (Applies-unfinished size w memory held start held.number its.there then c.args.frames (sym its.frames ∙ ready.frames) at its.known (frontiers_of (both_finished c.in-Ok.at.ordinal at)) c.finish_both.new.pool
     c.in_err-finish_both.field-0.0 mid (c.in_err-finish_both.ensures.rewrites t) (with_made held.name c.args.t w) (with_opened held.number held.slot held c.finish_both.new.pool memory) refl))
 
@@ -103,19 +110,29 @@ returns-in_err-finish_both-clause-full g c = λ t size w memory its ready more.
     (all_live size w memory held old held.number its.there ready c.args.frames c.as_slice.result.now same (c.as_slice.ensures.puddles ∙ listed) more))
 
 pub returns-in_err-finish_both-clause-lowest : goal.returns-in_err-finish_both-clause-lowest
-returns-in_err-finish_both-clause-lowest g c = λ t size w memory its ready none slot of lowest first other.
+returns-in_err-finish_both-clause-lowest g c =
+    let p = err_from_is_err_and c.from_residual.result c.from_residual.ensures.1 in
+    rw (p.1, p.2) (λ t size w memory its ready none slot of lowest.
     let held = c.args.self.now in
+    let F = c.args.frames in
     let at = c.args.pool.now in
+    let later = c.finish_both.new.pool in
+    let made = c.in-Ok.at in
     let old = g.H.Host.state c.args.h.now in
     let start = g.H.Host.state c.alloc_slot.new.h in
+    let mid = g.H.Host.state c.finish_both.new.h in
+    let fault = c.in_err-finish_both.field-0.0 in
     let image : Image = reads old.now.words in
-    let then = subst (λ (s : State). IsReady size w memory s) (sym (c.in-Ok.ensures.only_reads.stays t)) ready in
-    let found = subst (λ (ds : List (ℕ × Puddle)). IsLowestFreeSlot (stored_in c.args.frames ds image) (place_of_slot c.in-Ok.at)) c.as_slice.ensures.puddles (c.in-Ok.ensures.free t image refl) in
-    let within = subst (λ (ds : List (ℕ × Puddle)). IsSlotOf ds c.in-Ok.at) c.as_slice.ensures.puddles c.in-Ok.ensures.within in
-    let it = one_slot at c.in-Ok.at slot within of (one_lowest (stored_in c.args.frames at image) (place_of_slot c.in-Ok.at) (place_of_slot slot) found lowest) in
-    let nothing = none_left size w memory held start held.number its.there then c.args.frames (sym its.frames ∙ ready.frames) at its.known c.in-Ok.at.ordinal c.finish_both.new.pool (Some c.in_err-finish_both.field-0.0)
-    (g.H.Host.state c.finish_both.new.h) (c.in_err-finish_both.ensures.rewrites t) first (subst (λ (s : Slot). IsRewrittenAt at s.ordinal) (sym it) other) in
-    absurd (none-some c.in_err-finish_both.field-0.0 (sym nothing.done))
+    let still = c.in-Ok.ensures.only_reads.stays t in
+    let then = subst (λ (s : State). IsReady size w memory s) (sym still) ready in
+    let same = sym its.frames ∙ ready.frames in
+    let found = subst (λ (ds : List (ℕ × Puddle)). IsLowestFreeSlot (stored_in F ds image) (place_of_slot made)) c.as_slice.ensures.puddles (c.in-Ok.ensures.free t image refl) in
+    let within = subst (λ (ds : List (ℕ × Puddle)). IsSlotOf ds made) c.as_slice.ensures.puddles c.in-Ok.ensures.within in
+    let it = one_slot at made slot within of (one_lowest (stored_in F at image) (place_of_slot made) (place_of_slot slot) found lowest) in
+    let finishes = c.in_err-finish_both.ensures.rewrites t (ready_gate size w memory start then) (low_of_placed F at (its_placed size w memory held start held.number its.there then F same at its.known)) in
+    subst (λ (s : Slot). MakesBehind F at later held.tx.log.at s c.args.t (Some fault) old mid) it
+    (subst (λ (s : State). MakesBehind F at later held.tx.log.at made c.args.t (Some fault) s mid) still
+    (record { mid = mid; first = Some fault; finishes = finishes; makes = inl (refl, (λ no. none-some fault (sym no), refl)) })))
 
 -- ---- the object was made
 
@@ -144,10 +161,10 @@ returns-clause-makes g c = λ t size w memory its ready none less.
     let owes = c.in_ok-finish_both.ensures.rewrites t in
     let lowest = subst (λ (ds : List (ℕ × Puddle)). IsLowestFreeSlot (stored_in F ds (reads start.now.words)) (place_of_slot c.in-Ok.at)) c.as_slice.ensures.puddles
     (c.in-Ok.ensures.free t (reads start.now.words) (ap (λ (s : State). reads s.now.words) (sym still))) in
-    subst (λ (s : State). Applies size w (with_made c.args.self.now.name c.args.t w) (with_opened c.args.self.now.number c.args.self.now.slot (with_tx c.new_at-made.new.self held) later memory) fault s new) still
+    subst (λ (s : State). AppliesBy (MovesOn c.args.self.now.slot) size w (with_made c.args.self.now.name c.args.t w) (with_opened c.args.self.now.number c.args.self.now.slot (with_tx c.new_at-made.new.self held) later memory) fault s new) still
     (subst (λ (o : Held).
     held_under memory.held o.number ≡ Some o → known_in memory.judged o.slot ≡ Some at → refusal_by_world w o c.args.t ≡ None
-    → Applies size w (with_made o.name c.args.t w) (with_opened o.number o.slot (with_tx c.new_at-made.new.self held) later memory) fault start new)
+    → AppliesBy (MovesOn o.slot) size w (with_made o.name c.args.t w) (with_opened o.number o.slot (with_tx c.new_at-made.new.self held) later memory) fault start new)
     c.self.view_is
     (λ there known none.
     let behind = memory_finished size w memory held start held.number there then F same at known goal later in
@@ -196,14 +213,16 @@ returns-clause-full g c = λ t size w memory its ready more.
     (all_live size w memory held old held.number its.there ready c.args.frames c.as_slice.result.now same (c.as_slice.ensures.puddles ∙ listed) more))
 
 pub returns-clause-lowest : goal.returns-clause-lowest
-returns-clause-lowest g c = λ t size w memory its ready none slot of lowest first other.
+returns-clause-lowest g c = λ t size w memory its ready none slot of lowest.
     let i = c.self.inside in
     let held : Held = record { client = i.client; name = i.name; slot = i.slot; number = i.number; tx = i.tx } in
     let F = c.args.frames in
     let at = c.args.pool.now in
+    let later = c.finish_both.new.pool in
     let lent = c.as_slice-2.result.now in
     let made = c.in-Ok.at in
     let old = g.H.Host.state c.args.h.now in
+    let start = g.H.Host.state c.alloc_slot.new.h in
     let mid = g.H.Host.state c.finish_both.new.h in
     let new = g.H.Host.state c.new_at-made.new.h in
     let fault = fault_of c.new_at-made.result in
@@ -214,19 +233,28 @@ returns-clause-lowest g c = λ t size w memory its ready none slot of lowest fir
     let found = subst (λ (ds : List (ℕ × Puddle)). IsLowestFreeSlot (stored_in F ds image) (place_of_slot made)) c.as_slice.ensures.puddles (c.in-Ok.ensures.free t image refl) in
     let within = subst (λ (ds : List (ℕ × Puddle)). IsSlotOf ds made) c.as_slice.ensures.puddles c.in-Ok.ensures.within in
     let it = one_slot at made slot within of (one_lowest (stored_in F at image) (place_of_slot made) (place_of_slot slot) found lowest) in
-    let its_own = subst (λ (s : Slot). IsRewrittenAt at s.ordinal) (sym it) other in
-    let nothing = none_left size w memory c.args.self.now (g.H.Host.state c.alloc_slot.new.h) c.args.self.now.number its.there then F same at its.known made.ordinal c.finish_both.new.pool None mid (c.in_ok-finish_both.ensures.rewrites t) first its_own in
-    let puddles : lent ≡ at = c.as_slice-2.ensures.puddles ∙ nothing.pool in
-    let ready_then = subst (λ (s : State). IsReady size w memory s) (sym (nothing.still ∙ still)) ready in
-    subst (λ (s : Slot). MakesIn F at c.args.self.now.tx.log.at s c.args.t fault old new) it
-    (subst (λ (s : State). MakesIn F at c.args.self.now.tx.log.at made c.args.t fault s new) (nothing.still ∙ still)
-    (subst (λ (ds : List (ℕ × Puddle)). MakesIn F ds c.args.self.now.tx.log.at made c.args.t fault mid new) puddles
-    (subst (λ (o : Held). held_under memory.held o.number ≡ Some o → known_in memory.judged o.slot ≡ Some at → refusal_by_world w o c.args.t ≡ None → MakesIn F lent o.tx.log.at made c.args.t fault mid new)
+    let goal = frontiers_of (both_finished made.ordinal at) in
+    let owes = c.in_ok-finish_both.ensures.rewrites t in
+    let lowest_then = subst (λ (im : Image). IsLowestFreeSlot (stored_in F at im) (place_of_slot made)) (ap (λ (s : State). reads s.now.words) (sym still)) found in
+    subst (λ (s : Slot). MakesBehind F at later c.args.self.now.tx.log.at s c.args.t fault old new) it
+    (subst (λ (s : State). MakesBehind F at later c.args.self.now.tx.log.at made c.args.t fault s new) still
+    (subst (λ (o : Held). held_under memory.held o.number ≡ Some o → known_in memory.judged o.slot ≡ Some at → refusal_by_world w o c.args.t ≡ None → MakesBehind F at later o.tx.log.at made c.args.t fault start new)
     c.self.view_is
     (λ there known none.
-    made_there size w memory held mid held.number there ready_then F lent same (puddles ∙ its_puddles size w memory held mid held.number there ready_then F same at known) c.args.t none fault new made
-    (λ placed running left. c.new_at-made.ensures.makes t _ _ _ _ _ placed running left (subst (λ (ds : List (ℕ × Puddle)). IsRewrittenAt ds 0) (sym puddles) first) (subst (λ (ds : List (ℕ × Puddle)). IsRewrittenAt ds made.ordinal) (sym puddles) its_own)))
-    its.there its.known none)))
+    let behind = memory_finished size w memory held start held.number there then F same at known goal later in
+    let ready_then = ready_finished size w memory held start held.number there then F same at known goal later mid owes in
+    let known_then = known_finished size w memory held start held.number there then F same at known goal later mid owes in
+    let may = subst (λ (ds : List (ℕ × Puddle)). MayMakeAt F ds (reads mid.now.words) made) (sym c.as_slice-2.ensures.puddles)
+    (may_make_at size w memory held start held.number there then F same at known goal later mid owes made c.in_ok-finish_both.ensures.pool lowest_then) in
+    record {
+      mid = mid;
+      first = None;
+      finishes = owes (ready_gate size w memory start then) (low_of_placed F at (its_placed size w memory held start held.number there then F same at known));
+      makes = inr (subst (λ (ds : List (ℕ × Puddle)). MakesIn F ds held.tx.log.at made c.args.t fault mid new) c.as_slice-2.ensures.puddles
+          (made_there size w behind held mid held.number there ready_then F lent same (c.as_slice-2.ensures.puddles ∙ its_puddles size w behind held mid held.number there ready_then F same later known_then) c.args.t none fault new made
+          (λ placed running left. c.new_at-made.ensures.makes t _ _ _ _ _ placed running left may.first may.its)));
+    })
+    its.there its.known none))
 
 pub returns-clause-rest : goal.returns-clause-rest
 returns-clause-rest g c = λ t.

@@ -5,11 +5,12 @@ use Rattle.pm_model.specs.Counts.{Counts, fault_of}
 use Rattle.pm_model.specs.Moments.{State}
 use Rattle.pm_model.specs.Words.{reads}
 use Rattle.pud_defs.specs.declared.machine.Command.TheVariants.{New}
-use Rattle.pud_defs.specs.Step.{grows, answer_by, world_by}
+use Rattle.pud_defs.specs.Step.{refusal_of, grows, answer_by, world_by}
 use Rattle.pud_defs.specs.Step.Answer.{of_reply}
 use Rattle.ready_daemon.specs.Memory.{Held}
 use Rattle.pool_transaction.specs.Changing.{IsHeldIn, with_opened, refusal_by_world}
-use Rattle.ready_daemon.specs.Ready.{IsReady, Applies}
+use Rattle.ready_daemon.specs.Moves.{MovesUnless}
+use Rattle.ready_daemon.specs.Ready.{IsReady, AppliesBy}
 use Rattle.ready_daemon.proofs.InTurn.{held_known}
 use Rattle.pool_transaction.proofs.HeldNew.{refusal_found, refused_whatever}
 use Rattle.pool_transaction.proofs.HeldLines.{new_failed, new_refused, reply_refused, new_made, reply_made, new_unmade, was_free, was_full}
@@ -50,7 +51,7 @@ returns-in_err-serial-clause-applies g c =
     let none =
     refusal_found size w memory held old held.number its.there ready c.args.t c.args.frames (sym its.frames ∙ ready.frames) c.as_slice.result.now (c.as_slice.ensures.puddles ∙ sym (held_known size w memory _ ready c.args.self.now.number c.args.self.now its.there c.args.pool.now its.known)) c.in_ok-refusal.field-0 None (c.in_ok-refusal.ensures.refusal t (reads old.now.words) refl) c.in_default.is in
     let then = subst (λ (s : State). IsReady size w memory s) (sym still) ready in
-    subst (λ (s : State). Applies size w (world_by w (Some (New held.client held.name c.args.t))) (with_opened held.number held.slot c.make.new.self c.make.new.pool memory) (Some c.in_err-serial.field-0.0) s new) still
+    subst (λ (s : State). AppliesBy (MovesUnless (refusal_of w (New held.client held.name c.args.t)) held.slot) size w (world_by w (Some (New held.client held.name c.args.t))) (with_opened held.number held.slot c.make.new.self c.make.new.pool memory) (Some c.in_err-serial.field-0.0) s new) still
     (new_unmade size w memory held start held.number its.there then c.args.t none c.make.new.self c.make.new.pool c.in_err-serial.field-0.0 new
     (λ less. c.in_err-serial.ensures.makes t size w memory its then none less)
     (λ more. (c.in_err-serial.ensures.full t size w memory its then more).1)
@@ -78,7 +79,7 @@ returns-then-serial-gt0-clause-applies g c = λ t size e w memory its ready.
     refusal_found size w memory held old held.number its.there ready c.args.t c.args.frames (sym its.frames ∙ ready.frames) c.as_slice.result.now (c.as_slice.ensures.puddles ∙ sym (held_known size w memory _ ready c.args.self.now.number c.args.self.now its.there c.args.pool.now its.known)) c.in_ok-refusal.field-0 None (c.in_ok-refusal.ensures.refusal t (reads old.now.words) refl) c.in_default.is in
     let then = subst (λ (s : State). IsReady size w memory s) (sym still) ready in
     let less = was_free size w memory held start held.number its.there then c.args.t none c.in_ok-serial.serial c.if-serial-gt0.true (λ more. (c.in_ok-serial.ensures.full t size w memory its then more).0) in
-    subst (λ (s : State). Applies size w (world_by w (Some (New held.client held.name c.args.t))) (with_opened held.number held.slot c.make.new.self c.make.new.pool memory) None s new) still
+    subst (λ (s : State). AppliesBy (MovesUnless (refusal_of w (New held.client held.name c.args.t)) held.slot) size w (world_by w (Some (New held.client held.name c.args.t))) (with_opened held.number held.slot c.make.new.self c.make.new.pool memory) None s new) still
     (new_made size w memory held start held.number its.there then c.args.t none c.make.new.self c.make.new.pool None new less (c.in_ok-serial.ensures.makes t size w memory its then none less))
 
 pub returns-clause-reply : goal.returns-clause-reply
@@ -114,7 +115,7 @@ returns-clause-applies g c = λ t size e w memory its ready.
     let after = subst (λ (s : State). IsReady size w memory s) (sym full.1) then in
     let same : size ≡ (g.H.Host.counts c.make.new.h).size =
     still_size c.in_ok-refusal.ensures.only_reads e ∙ sym (ap (λ (n : Counts). n.size) c.in_ok-serial.ensures.cause) in
-    subst (λ (s : State). Applies size w (world_by w (Some (New held.client held.name c.args.t))) (with_opened held.number held.slot c.make_in_more.new.self c.make_in_more.new.pool memory) (fault_of c.make_in_more.result) s new) (full.1 ∙ still)
+    subst (λ (s : State). AppliesBy (MovesUnless (refusal_of w (New held.client held.name c.args.t)) held.slot) size w (world_by w (Some (New held.client held.name c.args.t))) (with_opened held.number held.slot c.make_in_more.new.self c.make_in_more.new.pool memory) (fault_of c.make_in_more.result) s new) (full.1 ∙ still)
     (subst (λ (o : Held). IsHeldIn c.args.frames o c.make.new.pool memory → refusal_by_world w o c.args.t ≡ None → grows w o.name ≡ true
-    → Applies size w (world_by w (Some (New o.client o.name c.args.t))) (with_opened o.number o.slot c.make_in_more.new.self c.make_in_more.new.pool memory) (fault_of c.make_in_more.result) mid new) full.2
+    → AppliesBy (MovesUnless (refusal_of w (New o.client o.name c.args.t)) o.slot) size w (world_by w (Some (New o.client o.name c.args.t))) (with_opened o.number o.slot c.make_in_more.new.self c.make_in_more.new.pool memory) (fault_of c.make_in_more.result) mid new) full.2
     (λ its none more. c.make_in_more.ensures.applies t size same w memory its after none more) (subst (λ at. IsHeldIn c.args.frames held at memory) (sym full.3) its) none more)

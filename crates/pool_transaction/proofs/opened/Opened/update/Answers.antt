@@ -8,7 +8,8 @@ use Rattle.lazy_rewrite.proofs.Spared.{HaveMoved}
 use Rattle.pool_transaction.specs.Changing.{IsHeldIn, with_opened, update_line}
 use Rattle.ready_daemon.specs.Memory.{Held}
 use Rattle.ready_daemon.specs.Held.{IsHeldWithin}
-use Rattle.ready_daemon.specs.Ready.{Applies}
+use Rattle.ready_daemon.specs.Moves.{MovesOn}
+use Rattle.ready_daemon.specs.Ready.{AppliesBy}
 use Rattle.ready_daemon.proofs.Keeping.{KeepsRest-changes, KeepsRest-then}
 use Rattle.pool_transaction.proofs.HeldRuns.{with_tx}
 use Rattle.pool_transaction.proofs.FinishedPools.{HaveMoved-finished}
@@ -46,7 +47,7 @@ returns-clause-applies g c = λ t update size e w memory its ready free found.
     let new = g.H.Host.state c.carry_out-done.new.h in
     subst (λ (h : Held).
     IsHeldIn c.args.frames h at memory → refusal_of w (update_line update h.client h.name) ≡ None
-    → Applies size w (after w (update_line update h.client h.name)) (with_opened h.number h.slot (with_tx c.carry_out-done.new.tx held) later memory) (fault_of c.carry_out-done.result) old new)
+    → AppliesBy (MovesOn h.slot) size w (after w (update_line update h.client h.name)) (with_opened h.number h.slot (with_tx c.carry_out-done.new.tx held) later memory) (fault_of c.carry_out-done.result) old new)
     c.self.view_is
     (λ its free.
     Applies-update size w memory held old c.args.frames at its ready update o later (g.H.Host.state c.finish.new.h) c.args.found c.ordinal_written.ensures c.in_ok-finish.ensures.pool (c.in_ok-finish.ensures.rewrites t size e)

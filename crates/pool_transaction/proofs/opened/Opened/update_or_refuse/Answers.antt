@@ -4,14 +4,14 @@ use Rattle.pm_model.proofs.Reading.{still_reads, still_size}
 use Rattle.pm_model.specs.Moments.{State}
 use Rattle.pm_model.specs.Words.{reads}
 use Rattle.pud_defs.specs.declared.records.Puddle.{Puddle}
-use Rattle.pud_defs.specs.Step.{world_by}
+use Rattle.pud_defs.specs.Step.{refusal_of, world_by}
 use Rattle.pud_defs.proofs.Steps.{refused_answer}
 use Rattle.registry.specs.Places.{refusal_in}
 use Rattle.pool_transaction.specs.Changing.{IsHeldIn, with_opened, update_line, IsFoundBy, IsFoundWithin}
 use Rattle.hybrid_tx.specs.Grounds.{IsPlaced}
 use Rattle.ready_daemon.specs.Memory.{Memory}
 use Rattle.ready_daemon.specs.Ready.{IsReady}
-use Rattle.ready_daemon.proofs.Applying.{Applies-stopped, Applies-refused, Applies-behind_reads}
+use Rattle.ready_daemon.proofs.Applying.{Applies-stopped, Applies-refused, Applies-behind_reads, still_line, moving_line}
 use Rattle.pool_transaction.proofs.ChangeAnswers.{change_answer}
 use Rattle.pool_transaction.proofs.HeldFinishes.{its_placed}
 use Rattle.pool_transaction.proofs.HeldUpdates.{opened_same}
@@ -23,8 +23,9 @@ returns-in_err-found-clause-applies g c =
     rw (p.1, p.2) (λ t size e w memory its ready.
     let held = c.args.self.now in
     let k = c.in_err-found.ensures.only_reads in
-    Applies-stopped size w (world_by w (Some (update_line c.args.update held.client held.name))) memory (with_opened held.number held.slot held c.args.pool.now memory) c.in_err-found.field-0.0 _ _
-    ready (k.stays t) (λ cut. absurd (k.never_cut cut)))
+    still_line (refusal_of w (update_line c.args.update held.client held.name)) held.slot size w _ _ _ _ _
+    (Applies-stopped size w (world_by w (Some (update_line c.args.update held.client held.name))) memory (with_opened held.number held.slot held c.args.pool.now memory) c.in_err-found.field-0.0 _ _
+    ready (k.stays t) (λ cut. absurd (k.never_cut cut))))
 
 pub returns-in-Err-clause-reply : goal.returns-in-Err-clause-reply
 returns-in-Err-clause-reply g c = λ t size w memory its ready.
@@ -36,9 +37,10 @@ pub returns-in-Err-clause-applies : goal.returns-in-Err-clause-applies
 returns-in-Err-clause-applies g c = λ t size e w memory its ready.
     let held = c.args.self.now in
     let lent = subst (λ (at : List (ℕ × Puddle)). IsHeldIn c.args.frames held at memory) (sym c.as_slice.ensures.puddles) its in
-    Applies-refused size w (with_opened held.number held.slot held c.args.pool.now memory) (update_line c.args.update held.client held.name) c.in-Err.refusal _ _
+    still_line (refusal_of w (update_line c.args.update held.client held.name)) held.slot size w _ _ _ _ _
+    (Applies-refused size w (with_opened held.number held.slot held c.args.pool.now memory) (update_line c.args.update held.client held.name) c.in-Err.refusal _ _
     (subst (λ (m : Memory). IsReady size w m (g.H.Host.state c.args.h.now)) (sym (opened_same c.args.frames held c.args.pool.now memory its)) ready)
-    (sym (c.in_ok-found.ensures.refusal t size w memory lent ready) ∙ ap refusal_in c.in-Err.is) (c.in_ok-found.ensures.only_reads.stays t)
+    (sym (c.in_ok-found.ensures.refusal t size w memory lent ready) ∙ ap refusal_in c.in-Err.is) (c.in_ok-found.ensures.only_reads.stays t))
 
 pub update-requires-clause-found : goal.update-requires-clause-found
 update-requires-clause-found g c = subst (λ (at : List (ℕ × Puddle)). IsFoundWithin at c.in-Ok.found) c.as_slice.ensures.puddles (rw c.in-Ok.is at c.in_ok-found.ensures.within)
@@ -64,9 +66,10 @@ returns-in_err-update-clause-applies g c =
     let placed = subst (λ (at : List (ℕ × Puddle)). IsPlaced c.args.frames at) (sym same) (its_placed size w memory held old held.number its.there ready c.args.frames (sym its.frames ∙ ready.frames) at its.known) in
     let now = reads (g.H.Host.state c.find_update.new.h).now.words in
     let found = rw c.in-Ok.is at (k.found t now (sym (still_reads k.only_reads t refl)) placed) in
-    Applies-behind_reads size w (with_opened held.number held.slot c.update.new.self c.update.new.pool memory) (update_line c.args.update held.client held.name) (Some c.in_err-update.field-0.0) _ _ _ free (k.only_reads.stays t)
+    moving_line (refusal_of w (update_line c.args.update held.client held.name)) held.slot size w _ _ _ _ _ free
+    (Applies-behind_reads size w (with_opened held.number held.slot c.update.new.self c.update.new.pool memory) (update_line c.args.update held.client held.name) (Some c.in_err-update.field-0.0) _ _ _ free (k.only_reads.stays t)
     (c.in_err-update.ensures.applies t c.args.update size (still_size k.only_reads e) w memory its then free
-    (subst (λ (at : List (ℕ × Puddle)). IsFoundBy c.args.frames at now c.args.update c.in-Ok.found) same found)))
+    (subst (λ (at : List (ℕ × Puddle)). IsFoundBy c.args.frames at now c.args.update c.in-Ok.found) same found))))
 
 pub returns-clause-applies : goal.returns-clause-applies
 returns-clause-applies g c = λ t size e w memory its ready.
@@ -81,6 +84,7 @@ returns-clause-applies g c = λ t size e w memory its ready.
     let placed = subst (λ (at : List (ℕ × Puddle)). IsPlaced c.args.frames at) (sym same) (its_placed size w memory held old held.number its.there ready c.args.frames (sym its.frames ∙ ready.frames) at its.known) in
     let now = reads (g.H.Host.state c.find_update.new.h).now.words in
     let found = rw c.in-Ok.is at (k.found t now (sym (still_reads k.only_reads t refl)) placed) in
-    Applies-behind_reads size w (with_opened held.number held.slot c.update.new.self c.update.new.pool memory) (update_line c.args.update held.client held.name) _ _ _ _ free (k.only_reads.stays t)
+    moving_line (refusal_of w (update_line c.args.update held.client held.name)) held.slot size w _ _ _ _ _ free
+    (Applies-behind_reads size w (with_opened held.number held.slot c.update.new.self c.update.new.pool memory) (update_line c.args.update held.client held.name) _ _ _ _ free (k.only_reads.stays t)
     (c.in_ok-update.ensures.applies t c.args.update size (still_size k.only_reads e) w memory its then free
-    (subst (λ (at : List (ℕ × Puddle)). IsFoundBy c.args.frames at now c.args.update c.in-Ok.found) same found))
+    (subst (λ (at : List (ℕ × Puddle)). IsFoundBy c.args.frames at now c.args.update c.in-Ok.found) same found)))

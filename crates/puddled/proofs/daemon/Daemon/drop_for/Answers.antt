@@ -12,7 +12,9 @@ use Rattle.pud_defs.proofs.Steps.{refused_answer, answer_is_ok}
 use Rattle.ready_daemon.specs.Memory.{Memory}
 use Rattle.ready_daemon.specs.Judged.{AreOnDevice}
 use Rattle.ready_daemon.specs.Owning.{refusal_found, IsSlotOf}
-use Rattle.ready_daemon.specs.Ready.{IsReady, Applies}
+use Rattle.ready_daemon.specs.Moves.{MovesTo, freed_in}
+use Rattle.ready_daemon.specs.Ready.{IsReady, AppliesBy}
+use Rattle.puddled.proofs.Frontiers.{AppliesAs-still, AppliesAs-drop}
 use Rattle.ready_daemon.proofs.Known.{AreOnDevice-forgotten}
 use Rattle.ready_daemon.proofs.Applying.{Applies-failed, Applies-refused}
 use Rattle.ready_daemon.proofs.Pooling.{Applies-behind, Applies-drop}
@@ -25,7 +27,8 @@ returns-in_err-refusal-clause-applies g c =
     let p = err_from_is_err_and c.from_residual.result c.from_residual.ensures.1 in
     rw (p.1, p.2) (λ t size e w ready.
     let k = c.in_err-refusal.ensures in
-    Applies-failed size w (world_by w (Some (commands.Drop c.args.client c.args.name))) c.find_owned.new.self c.in_err-refusal.field-0.0 _ _ (k.ready t size w ready) (k.only_reads.stays t) k.only_reads.never_cut)
+    AppliesAs-still size w _ _ _ _ _ _
+    (Applies-failed size w (world_by w (Some (commands.Drop c.args.client c.args.name))) c.find_owned.new.self c.in_err-refusal.field-0.0 _ _ (k.ready t size w ready) (k.only_reads.stays t) k.only_reads.never_cut))
 
 pub returns-in-Err-clause-reply : goal.returns-in-Err-clause-reply
 returns-in-Err-clause-reply g c = λ t size w ready.
@@ -34,7 +37,8 @@ returns-in-Err-clause-reply g c = λ t size w ready.
 pub returns-in-Err-clause-applies : goal.returns-in-Err-clause-applies
 returns-in-Err-clause-applies g c = λ t size e w ready.
     let k = c.in_ok-refusal.ensures in
-    Applies-refused size w c.find_owned.new.self (commands.Drop c.args.client c.args.name) c.in-Err.refusal _ _ (k.ready t size w ready) (sym (k.refusal t size w ready) ∙ ap refusal_found c.in-Err.is) (k.only_reads.stays t)
+    AppliesAs-still size w _ _ _ _ _ _
+    (Applies-refused size w c.find_owned.new.self (commands.Drop c.args.client c.args.name) c.in-Err.refusal _ _ (k.ready t size w ready) (sym (k.refusal t size w ready) ∙ ap refusal_found c.in-Err.is) (k.only_reads.stays t))
 
 pub returns-clause-reply : goal.returns-clause-reply
 returns-clause-reply g c = λ t size w ready.
@@ -56,13 +60,14 @@ returns-in_err-drop_pool-clause-applies g c =
     let then = still_size k.only_reads e in
     let free = sym (k.refusal t size w ready) ∙ ap refusal_found c.in-Ok.is in
     let at = subst (λ (r : Result ℕ Refusal). IfOk r (IsSlotOf w.stored.frames c.args.name (reads old.now.words))) c.in-Ok.is (k.slot t size w ready) in
-    subst (λ (js : List (Option (List (ℕ × Puddle)))). Applies size w (world_by w (Some (commands.Drop c.args.client c.args.name))) (record now { judged = js }) (Some c.in_err-drop_pool.field-0.0) old (g.H.Host.state c.drop_pool.new.h)) (sym c.forget.ensures)
+    AppliesAs-drop size w c.args.client c.args.name (record now { judged = c.forget.new.self }) (Some c.in_err-drop_pool.field-0.0) old (g.H.Host.state c.drop_pool.new.h) c.in-Ok.slot free at
+    (subst (λ (js : List (Option (List (ℕ × Puddle)))). AppliesBy (MovesTo (freed_in c.in-Ok.slot)) size w (world_by w (Some (commands.Drop c.args.client c.args.name))) (record now { judged = js }) (Some c.in_err-drop_pool.field-0.0) old (g.H.Host.state c.drop_pool.new.h)) (sym c.forget.ensures)
     (Applies-behind size w (world_by w (Some (commands.Drop c.args.client c.args.name))) now (record now { judged = set now.judged c.in-Ok.slot None }) (Some c.in_err-drop_pool.field-0.0) old mid (g.H.Host.state c.drop_pool.new.h)
     (k.only_reads.stays t)
     (λ ready_then.
     Applies-drop size w now c.args.client c.in-Ok.slot c.args.name (Some c.in_err-drop_pool.field-0.0) mid (g.H.Host.state c.drop_pool.new.h) ready_then free
     (subst (λ (s : State). IsSlotOf w.stored.frames c.args.name (reads s.now.words) c.in-Ok.slot) (sym (k.only_reads.stays t)) at) i.frames there.frames
-    (n.any t).rests (λ idle few. n.commits t size then _ refl idle few) (λ keeps off settled r here. n.changes t size then w.stored there.frames ready_then.mask keeps off settled r here)) there))
+    (n.any t).rests (λ idle few. n.commits t size then _ refl idle few) (λ keeps off settled r here. n.changes t size then w.stored there.frames ready_then.mask keeps off settled r here)) there)))
 
 pub returns-clause-applies : goal.returns-clause-applies
 returns-clause-applies g c = λ t size e w ready.
@@ -76,13 +81,14 @@ returns-clause-applies g c = λ t size e w ready.
     let then = still_size k.only_reads e in
     let free = sym (k.refusal t size w ready) ∙ ap refusal_found c.in-Ok.is in
     let at = subst (λ (r : Result ℕ Refusal). IfOk r (IsSlotOf w.stored.frames c.args.name (reads old.now.words))) c.in-Ok.is (k.slot t size w ready) in
-    subst (λ (js : List (Option (List (ℕ × Puddle)))). Applies size w (world_by w (Some (commands.Drop c.args.client c.args.name))) (record now { judged = js }) None old (g.H.Host.state c.drop_pool.new.h)) (sym c.forget.ensures)
+    AppliesAs-drop size w c.args.client c.args.name (record now { judged = c.forget.new.self }) None old (g.H.Host.state c.drop_pool.new.h) c.in-Ok.slot free at
+    (subst (λ (js : List (Option (List (ℕ × Puddle)))). AppliesBy (MovesTo (freed_in c.in-Ok.slot)) size w (world_by w (Some (commands.Drop c.args.client c.args.name))) (record now { judged = js }) None old (g.H.Host.state c.drop_pool.new.h)) (sym c.forget.ensures)
     (Applies-behind size w (world_by w (Some (commands.Drop c.args.client c.args.name))) now (record now { judged = set now.judged c.in-Ok.slot None }) None old mid (g.H.Host.state c.drop_pool.new.h)
     (k.only_reads.stays t)
     (λ ready_then.
     Applies-drop size w now c.args.client c.in-Ok.slot c.args.name None mid (g.H.Host.state c.drop_pool.new.h) ready_then free
     (subst (λ (s : State). IsSlotOf w.stored.frames c.args.name (reads s.now.words) c.in-Ok.slot) (sym (k.only_reads.stays t)) at) i.frames there.frames
-    (n.any t).rests (λ idle few. n.commits t size then _ refl idle few) (λ keeps off settled r here. n.changes t size then w.stored there.frames ready_then.mask keeps off settled r here)) there)
+    (n.any t).rests (λ idle few. n.commits t size then _ refl idle few) (λ keeps off settled r here. n.changes t size then w.stored there.frames ready_then.mask keeps off settled r here)) there))
 
 -- ---- what is known of pools
 

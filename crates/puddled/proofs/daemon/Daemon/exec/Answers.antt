@@ -1,6 +1,6 @@
-use Rattle.std.proofs.Common.{◌≡◌, inl, false, [], None, Some, Ok, Err, refl, ap, subst, ◌∙◌}
+use Rattle.std.proofs.Common.{◌≡◌, inl, false, [], None, Some, Ok, Err, refl, ap, subst, ◌∙◌, sym, true}
 use Rattle.std.proofs.lemmas.Result.{err_from_is_err_and}
-use Rattle.pm_model.specs.Words.{reads}
+use Rattle.pm_model.specs.Words.{Words, reads}
 use Rattle.pm_model.specs.Counts.{Counts}
 use Rattle.puddled.specs.Faults.{of_host, HasLostPower}
 use Rattle.puddled.proofs.Counted.{not_none, none_is_sound, counted_say, counted_same, counted_fault, one_reply, reply_said, reply_unsaid, cut_is_answered, host_is_sound}
@@ -14,7 +14,9 @@ use Rattle.puddled.specs.declared.answers.Answered.{Answered}
 use Rattle.puddled.specs.declared.answers.Answered.TheVariants as answers
 use Rattle.puddled.specs.Answered.{answer_of}
 use Rattle.puddled.proofs.Listed.{said_by}
-use Rattle.puddled.proofs.Lines.{answer_last, nothing_last, Answers-fault, Answers-unsaid, Answers-said, KeepsLine-says, KeepsLine-unsaid, SaysAnswer-aloud, SaysAnswer-unsaid, SaysAnswer-failed, sound_said}
+use Rattle.puddled.proofs.Lines.{answer_last, nothing_last, Answers-fault, Answers-unsaid, Answers-said, KeepsLine-says, KeepsLine-unsaid, SaysAnswer-aloud, SaysAnswer-unsaid, SaysAnswer-failed, sound_said, words_said}
+use Rattle.puddled.specs.Frontiers.{LeadFrontiers}
+use Rattle.puddled.specs.Rewriting.{DoesSteps}
 use Rattle.puddled.proofs.daemon.Daemon.exec.Goals as goal
 use Rattle.puddled.proofs.daemon.Daemon.exec.Goals.{then-aloud+in_ok-say_answer, else-aloud}
 
@@ -117,3 +119,25 @@ returns-in_err-say_answer-clause-speaks g c =
     let fault = c.in_err-say_answer.field-0.0 in
     rw (p.1, p.2, c.if-aloud.true) (λ t. SaysAnswer-aloud _ _ (Err (of_host fault)) (Some fault) c.in_ok-answered.answered _ _ _ tt (c.in_ok-answered.ensures.rest t).quiet (ap (λ (m : Memory). m.frames) c.self.view_is)
     (λ none. absurd (not_none (of_host fault) none)) (c.in_err-say_answer.ensures.says t _ refl))
+
+pub returns-clause-frontiers : goal.returns-clause-frontiers
+returns-clause-frontiers g c = λ t size e w ready. elim c.if-aloud.branch [
+  | then-aloud+in_ok-say_answer b ↦
+      rw b.h-is
+      (subst (λ (x : Words). LeadFrontiers w (command_of c.args.line.now) (reads (g.H.Host.state c.args.h.now).now.words) (reads x)) (sym (words_said _ _ _ _ (b.in_ok-say_answer.ensures.says t _ refl)))
+      (c.in_ok-answered.ensures.frontiers t size e w ready))
+  | else-aloud b ↦ rw b.h-is (c.in_ok-answered.ensures.frontiers t size e w ready)
+]
+
+pub returns-clause-steps : goal.returns-clause-steps
+returns-clause-steps g c = λ t size e w ready name n is free.
+    let old = reads (g.H.Host.state c.args.h.now).now.words in
+    let uncut : c.is_ok.result ≡ true → c.in_ok-answered.answered ≡ answers.Reply replies.Cut → ⊥ = λ ok cut.
+    let no : true ≡ false = sym ok ∙ c.is_ok.ensures no_world ∙ ap (λ (a : Answered). begins_with_ok (answer_of no_world a)) cut ∙ cut_is_not_ok in cc in
+    elim c.if-aloud.branch [
+      | then-aloud+in_ok-say_answer b ↦
+          rw b.h-is
+          (λ ok. subst (λ (x : Words). DoesSteps w.stored.frames name n old (reads x)) (sym (words_said _ _ _ _ (b.in_ok-say_answer.ensures.says t _ refl)))
+          (c.in_ok-answered.ensures.steps t size e w ready name n is free (uncut ok)))
+      | else-aloud b ↦ rw b.h-is (λ ok. c.in_ok-answered.ensures.steps t size e w ready name n is free (uncut ok))
+    ]

@@ -1,0 +1,66 @@
+-- What becomes of the records of puddles while a command is carried out.
+use Rattle.std.specs.Prelude.{◌≡◌, ℕ, ◌+◌, ◌≤◌, ◌==◌, max, cond, Option, Some, None}
+use Rattle.pm_model.specs.Words.{reads}
+use Rattle.pm_model.specs.Moments.{State}
+use Rattle.pm_model.specs.Changes.{Leaves, Silently}
+use Rattle.pud_defs.specs.declared.layout.TheConstants.{DAEMON_LOG}
+use Rattle.pud_defs.specs.declared.machine.Refusal.{Refusal}
+use Rattle.pud_defs.specs.declared.space.TheConstants.{LAST_FRONTIER}
+use Rattle.pud_defs.specs.Puddles.{Member, member_moved}
+use Rattle.pud_defs.specs.Replay.{settled_by}
+use Rattle.pud_defs.specs.Tables.{tables_of}
+
+-- the record is as it was
+abbrev pub Stays : Member → Option Member → Type 0
+Stays m now = now ≡ Some m
+
+-- The record is that of the same puddle, and its frontier lies between the one that it had and this one.
+pub record IsBetween (m : Member) (goal : ℕ) (now : Option Member) : Type 0 where
+  pub frontier : ℕ
+  pub least : m.puddle.frontier ≤ frontier
+  pub most : frontier ≤ goal
+  pub is : now ≡ Some (member_moved frontier m)
+
+-- the same where there is such a goal; of a record without one nothing is said, since it may be freed
+abbrev pub IsOnTheWay : Option ℕ → Member → Option Member → Type 0
+IsOnTheWay None m now = Unit {0}
+IsOnTheWay (Some goal) m now = IsBetween m goal now
+
+-- each record is on its way to the goal that it has
+abbrev pub MovesTo : (Member → Option ℕ) → Member → Option Member → Type 0
+MovesTo goal m now = IsOnTheWay (goal m) m now
+
+-- At each moment each record that was used at the start has become so, in each image that may be left, with the daemon log replayed.
+pub record LeavesPuddles (F : ℕ) (becomes : Member → Option Member → Type 0) (old new : State) : Type 0 where
+  pub each : (frame : ℕ) (m : Member) → (tables_of F (reads old.now.words)).puddles frame ≡ Some m
+      → Leaves (Silently (λ image. becomes m ((tables_of F (settled_by DAEMON_LOG image)).puddles frame))) old new
+
+-- ---- goals
+
+-- that of a record whose frontier does not move
+abbrev pub still : Member → Option ℕ
+still m = Some m.puddle.frontier
+
+-- those of a line that frees the records of the pool in a slot, and moves no other frontier
+abbrev pub freed_in : (slot : ℕ) → Member → Option ℕ
+freed_in slot m = cond (m.pool == slot + 1) None (still m)
+
+-- that of a record where a line leads the frontiers of the pool in a slot to these, by ordinals, unless they are further already, and moves no other
+abbrev pub led_to : (slot : ℕ) → (ℕ → ℕ) → Member → ℕ
+led_to slot goal m = cond (m.pool == slot + 1) (max m.puddle.frontier (goal m.ordinal)) m.puddle.frontier
+
+abbrev pub led_in : (slot : ℕ) → (ℕ → ℕ) → Member → Option ℕ
+led_in slot goal m = Some (led_to slot goal m)
+
+-- The frontiers of the pool in a slot move on, at most to the ends of its puddles, and no other moves.
+abbrev pub MovesOn : (slot : ℕ) → Member → Option Member → Type 0
+MovesOn slot = MovesTo (led_in slot (λ _. LAST_FRONTIER))
+
+-- the ends of puddles, where nothing stands against a line
+abbrev pub ends_unless : Option Refusal → ℕ → ℕ
+ends_unless None o = LAST_FRONTIER
+ends_unless (Some why) o = 0
+
+-- the same of a line on the pool that may be refused; where it is, none moves
+abbrev pub MovesUnless : Option Refusal → (slot : ℕ) → Member → Option Member → Type 0
+MovesUnless why slot = MovesTo (led_in slot (ends_unless why))
