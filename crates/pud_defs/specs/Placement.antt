@@ -1,5 +1,5 @@
 -- Where the puddles of a file are placed on a device: in which frames, at which bases, and with which frontiers.
-use Rattle.std.specs.Prelude.{◌≡◌, ◌⊎◌, ℕ, ◌+◌, ◌-◌, Bool, true, false, not, ◌||◌, ◌==◌, cond, List, [], ◌∷◌, ◌++◌, map, slice_get, Option, Some, None, ⊤, ⊥, bytes_eq}
+use Rattle.std.specs.Prelude.{◌≡◌, ◌⊎◌, ℕ, ◌+◌, ◌-◌, Bool, true, false, not, ◌||◌, ◌==◌, cond, List, [], ◌∷◌, ◌++◌, map, slice_get, Option, Some, None, ⊤, bytes_eq}
 use Rattle.std.specs.List.{list_any}
 use Rattle.pud_defs.specs.declared.records.Puddle.{Puddle}
 use Rattle.pud_defs.specs.declared.space.TheConstants.{LAST_FRONTIER}

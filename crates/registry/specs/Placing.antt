@@ -1,5 +1,5 @@
 -- A pool that is placed: its record, its puddles, whose frames were filled before, and the types that it brings, all by one batch.
-use Rattle.std.specs.Prelude.{◌≡◌, ℕ, ◌+◌, ◌-◌, ◌<◌, ◌≤◌, true, List, [], ◌∷◌, ◌++◌, length, map, slice_get, Option, Some, None, ⊤, ⊥}
+use Rattle.std.specs.Prelude.{◌≡◌, ℕ, ◌+◌, ◌-◌, ◌<◌, ◌≤◌, true, List, [], ◌∷◌, ◌++◌, length, map, slice_get, Option, Some, None, ⊤}
 use Rattle.std.specs.FinMap.Entries.{put}
 use Rattle.std.specs.List.{list_all}
 use Rattle.pm_model.specs.Words.{Words, Picks, reads}
