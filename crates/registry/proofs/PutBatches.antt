@@ -27,7 +27,7 @@ use Rattle.registry.specs.Puts.{put_entry, puts_batch, with_puts, IsOfPools, Are
 -- ---- the image
 
 -- an entry overwrites the words of its change
-overwritten-put : (put : Put) (image : Image) (k : ℕ) → put.n ≤ length put.vals → overwritten (value_at put.w (take put.n put.vals)) image k ≡ with_put put image k
+pub overwritten-put : (put : Put) (image : Image) (k : ℕ) → put.n ≤ length put.vals → overwritten (value_at put.w (take put.n put.vals)) image k ≡ with_put put image k
 overwritten-put put image k fits =
     let count : length (take put.n put.vals) ≡ put.n = length-take-le put.n put.vals fits in
     elim (cases_lt k put.w) [
