@@ -1,18 +1,51 @@
 -- What is no part of what a command may change stays.
-use Rattle.std.proofs.Common.{◌≡◌, ℕ, T, List, Option, Some, None, nat_cmp, refl, sym, ap, subst, ◌∙◌}
+use Rattle.std.proofs.Common.{◌≡◌, ℕ, T, List, [], ◌∷◌, Option, Some, None, nat_cmp, refl, sym, ap, subst, ◌∙◌}
 use Rattle.std.specs.FinMap.Entries.{is_sorted}
 use Rattle.pud_defs.specs.declared.machine.Command.{Command}
-use Rattle.pud_defs.specs.declared.machine.Command.TheVariants.{Client, Leave, Define, Cut, Arm, Chmod, Begin, Commit, Abort, New, Set, Later, Root, Free, Dump, Export, Rewrite, Pools, Get}
+use Rattle.pud_defs.specs.declared.machine.Command.TheVariants.{Client, Leave, Define, Cut, Arm, Chmod, Begin, Commit, Abort, New, Set, Later, Root, Free, Dump, Export, Import, Rewrite, Pools, Get}
 use Rattle.pud_defs.specs.declared.machine.Command.TheVariants as commands
 use Rattle.pud_defs.specs.declared.machine.Refusal.{Refusal}
-use Rattle.pud_defs.specs.World.{World}
+use Rattle.pud_defs.specs.Spaces.{Owner}
+use Rattle.pud_defs.specs.ExportFile.{FileContents}
+use Rattle.pud_defs.specs.World.{StoredWorld, World}
 use Rattle.pud_defs.specs.PoolChanges.{with_new_pool, with_pool_mode, without_pool, with_type_defined}
+use Rattle.pud_defs.specs.Imports.{types_missing, with_types_defined, with_imported_pool, with_pool_of}
 use Rattle.pud_defs.specs.Grammar.{command_of}
-use Rattle.pud_defs.specs.Step.{refusal_of, after, unless_refused, world_by}
+use Rattle.pud_defs.specs.Step.{owner_acting, contents_named, refusal_of, after, unless_refused, world_by}
 use Rattle.pud_defs.specs.Gives.{Shelf, GivesShelf, GivesUnless, GivesShelfBy, Gives}
 use Rattle.pud_defs.specs.Changing.{Part, part_of, with_part, file_of, file_in, KeepsFiles, KeepsUnwritable}
 use Rattle.pud_defs.proofs.TypeLists.{is_sorted-with_type}
-use Rattle.pud_defs.specs.Changing.Part.{types, pools, clients, transactions, nothing}
+use Rattle.pud_defs.specs.Changing.Part.{types, pools, tables, clients, transactions, nothing}
+
+-- ---- a pool of a file
+
+-- types that are defined change the types, and how pools are read
+types_defined-part : (missing : List (ℕ × ℕ)) (s : StoredWorld) → with_types_defined missing s ≡ record s { types = (with_types_defined missing s).types; pools = (with_types_defined missing s).pools }
+unfolding with_types_defined with_type_defined
+types_defined-part [] s = refl
+types_defined-part (t ∷ missing) s = types_defined-part missing (with_type_defined t.0 t.1 s)
+
+part_with_pool_of : (contents : Option FileContents) (name : List ℕ) (owner : Owner) (mode : ℕ) (w : World)
+    → record w { stored = with_pool_of contents name owner mode w.stored } ≡ with_part tables (record w { stored = with_pool_of contents name owner mode w.stored }) w
+unfolding with_imported_pool
+part_with_pool_of None name owner mode w = refl
+part_with_pool_of (Some file) name owner mode w =
+    let missing = types_missing w.stored.types file.types in
+    let given = with_imported_pool name owner mode file w.stored in
+    ap (λ (typed : StoredWorld). record w { stored = record typed { next_number = given.next_number; pools = given.pools } }) (types_defined-part missing w.stored)
+
+-- the types of a file are defined one behind the other
+is_sorted-types_defined : (missing : List (ℕ × ℕ)) (s : StoredWorld) → T (is_sorted nat_cmp s.types) → T (is_sorted nat_cmp (with_types_defined missing s).types)
+unfolding with_types_defined with_type_defined
+is_sorted-types_defined [] s h = h
+is_sorted-types_defined (t ∷ missing) s h = is_sorted-types_defined missing (with_type_defined t.0 t.1 s) (is_sorted-with_type t.0 t.1 s.types h)
+
+is_sorted-with_pool_of : (contents : Option FileContents) (name : List ℕ) (owner : Owner) (mode : ℕ) (s : StoredWorld) → T (is_sorted nat_cmp s.types) → T (is_sorted nat_cmp (with_pool_of contents name owner mode s).types)
+unfolding with_imported_pool
+is_sorted-with_pool_of None name owner mode s h = h
+is_sorted-with_pool_of (Some file) name owner mode s h = is_sorted-types_defined (types_missing s.types file.types) s h
+
+-- ---- all commands
 
 -- a command changes its part alone
 pub after-part : (w : World) (c : Command) → after w c ≡ with_part (part_of c) (after w c) w
@@ -34,6 +67,7 @@ after-part w (Root client name s) = refl
 after-part w (Free client name s) = refl
 after-part w (Dump client name) = refl
 after-part w (Export client name file) = refl
+after-part w (Import client name file mode) = part_with_pool_of (contents_named w (Import client name file mode)) name (owner_acting w.clients client) mode w
 after-part w (Rewrite name n) = refl
 after-part w Pools = refl
 after-part w (Cut pick) = refl
@@ -43,6 +77,7 @@ after-part w (Arm step pick) = refl
 pub is_sorted-after : (w : World) (c : Command) → T (is_sorted nat_cmp w.stored.types) → T (is_sorted nat_cmp (after w c).stored.types)
 unfolding after with_new_pool with_pool_mode without_pool with_type_defined
 is_sorted-after w (Define id map) h = is_sorted-with_type id map w.stored.types h
+is_sorted-after w (Import client name file mode) h = is_sorted-with_pool_of (contents_named w (Import client name file mode)) name (owner_acting w.clients client) mode w.stored h
 is_sorted-after w c h = h
 
 -- ---- the shelf
@@ -51,6 +86,7 @@ is_sorted-after w c h = h
 shelf_of_part : (p : Part) (v w : World) → (with_part p v w).shelf ≡ w.shelf
 shelf_of_part types v w = refl
 shelf_of_part pools v w = refl
+shelf_of_part tables v w = refl
 shelf_of_part clients v w = refl
 shelf_of_part transactions v w = refl
 shelf_of_part nothing v w = refl

@@ -8,7 +8,7 @@ use Rattle.std.proofs.lemmas.Nat.{div-mul-add, mod-mul-add}
 use Rattle.pud_defs.specs.declared.layout.TheConstants.{LINE_LIMIT, CLIENTS, MAX_OWNER_ID, MAX_TYPE_ID, MAX_FIELDS, MAX_ARMED_STEP}
 use Rattle.pud_defs.specs.declared.space.TheConstants.{MAX_STEPS}
 use Rattle.pud_defs.specs.declared.machine.Command.{Command}
-use Rattle.pud_defs.specs.declared.machine.Command.TheVariants.{Client, Leave, Define, Cut, Arm, Chmod, Begin, Commit, Abort, New, Set, Later, Root, Free, Dump, Export, Rewrite, Pools, Get}
+use Rattle.pud_defs.specs.declared.machine.Command.TheVariants.{Client, Leave, Define, Cut, Arm, Chmod, Begin, Commit, Abort, New, Set, Later, Root, Free, Dump, Export, Import, Rewrite, Pools, Get}
 use Rattle.pud_defs.specs.declared.machine.Command.TheVariants as commands
 use Rattle.pud_defs.specs.declared.objects.Val.{Val}
 use Rattle.pud_defs.specs.declared.objects.Val.TheVariants.{Num, Ref}
@@ -17,7 +17,7 @@ use Rattle.pud_defs.specs.Modes.{is_legal_mode}
 use Rattle.pud_defs.specs.Names.{IsName, is_legal_name}
 use Rattle.pud_defs.proofs.NamesRead.{pool_name-legal, pool_mode-legal}
 use Rattle.pud_defs.specs.TypeMap.{map_fields, map_word, is_legal_map, is_legal_type_id}
-use Rattle.pud_defs.specs.Grammar.{split_at, number_of, in_range, number_within, fields_from, pointers_of, listed_map, Parser, taking, at_end, pool_name, pool_mode, object_serial, field_number, field_by, field_place, word_number, field_value, begin_by, commit_by, abort_by, new_by, set_by, later_by, root_by, free_by, get_by, dump_by, export_by, client_by, leave_by, define_by, pool_line_by, chmod_by, drop_by, rewrite_by, pools_by, cut_by, arm_by, transaction_lines, lines, command_among, command_with, command_by, command_of, IsLegalValue, IsLegalCommand}
+use Rattle.pud_defs.specs.Grammar.{split_at, number_of, in_range, number_within, fields_from, pointers_of, listed_map, Parser, taking, at_end, pool_name, pool_mode, object_serial, field_number, field_by, field_place, word_number, field_value, begin_by, commit_by, abort_by, new_by, set_by, later_by, root_by, free_by, get_by, dump_by, export_by, import_by, client_by, leave_by, define_by, pool_line_by, chmod_by, drop_by, rewrite_by, pools_by, cut_by, arm_by, transaction_lines, lines, command_among, command_with, command_by, command_of, IsLegalValue, IsLegalCommand}
 use Rattle.pud_defs.proofs.Keyed.{option_map_parts}
 
 -- a longer line is no command
@@ -262,6 +262,11 @@ export_by-legal : IsLegalParser export_by
 unfolding export_by
 export_by-legal = number_taken 0 CLIENTS _ (λ client _ known. name_taken _ (λ name is. name_taken _ (λ file at. ended (Export client name file) (known, is.0, is.1, at.0, at.1))))
 
+import_by-legal : IsLegalParser import_by
+unfolding import_by
+import_by-legal =
+    number_taken 0 CLIENTS _ (λ client _ known. name_taken _ (λ name is. name_taken _ (λ file at. mode_taken _ (λ mode legal. ended (Import client name file mode) (known, is.0, is.1, at.0, at.1, legal)))))
+
 rewrite_by-legal : IsLegalParser rewrite_by
 unfolding rewrite_by
 rewrite_by-legal = name_taken _ (λ name is. number_taken 1 (MAX_STEPS + 1) _ (λ n low high. ended (Rewrite name n) (is.0, is.1, low, omega arith)))
@@ -290,7 +295,7 @@ are_legal_transaction_lines = (begin_by-legal, (commit_by-legal, (abort_by-legal
 
 are_legal_lines : AreLegalLines lines
 are_legal_lines =
-    (client_by-legal, (leave_by-legal, (define_by-legal, (pool_line_by-legal, (chmod_by-legal, (drop_by-legal, (get_by-legal, (dump_by-legal, (export_by-legal, (rewrite_by-legal, (pools_by-legal, (cut_by-legal, (arm_by-legal, are_legal_transaction_lines)))))))))))))
+    (client_by-legal, (leave_by-legal, (define_by-legal, (pool_line_by-legal, (chmod_by-legal, (drop_by-legal, (get_by-legal, (dump_by-legal, (export_by-legal, (import_by-legal, (rewrite_by-legal, (pools_by-legal, (cut_by-legal, (arm_by-legal, are_legal_transaction_lines))))))))))))))
 
 legal_among : (table : List (List ℕ × Parser)) (word : List ℕ) (arguments : List (List ℕ)) (c : Command) → AreLegalLines table → command_among table word arguments ≡ Some c → IsLegalCommand c
 legal_among [] word arguments c legal e = absurd (none-some c e)

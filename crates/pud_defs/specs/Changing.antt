@@ -1,7 +1,7 @@
 -- Which part of the world a command may change, but for the shelf, and which file it may write.
 use Rattle.std.specs.Prelude.{◌≡◌, ℕ, List, Option, Some, None}
 use Rattle.pud_defs.specs.declared.machine.Command.{Command}
-use Rattle.pud_defs.specs.declared.machine.Command.TheVariants.{Client, Leave, Define, Cut, Arm, Chmod, Begin, Commit, Abort, New, Set, Later, Root, Free, Dump, Export, Rewrite, Pools, Get}
+use Rattle.pud_defs.specs.declared.machine.Command.TheVariants.{Client, Leave, Define, Cut, Arm, Chmod, Begin, Commit, Abort, New, Set, Later, Root, Free, Dump, Export, Import, Rewrite, Pools, Get}
 use Rattle.pud_defs.specs.declared.machine.Command.TheVariants as commands
 use Rattle.pud_defs.specs.World.{World}
 use Rattle.pud_defs.specs.Listing.{name_text}
@@ -10,6 +10,7 @@ use Rattle.pud_defs.specs.Grammar.{command_of}
 pub data Part : Type 0 where
   types : Part
   pools : Part
+  tables : Part
   clients : Part
   transactions : Part
   nothing : Part
@@ -32,6 +33,7 @@ part_of (Root client name s) = transactions
 part_of (Free client name s) = transactions
 part_of (Dump client name) = nothing
 part_of (Export client name file) = nothing
+part_of (Import client name file mode) = tables
 part_of (Rewrite name n) = nothing
 part_of Pools = nothing
 part_of (Cut pick) = clients
@@ -41,6 +43,7 @@ part_of (Arm step pick) = nothing
 abbrev pub with_part : Part → World → World → World
 with_part types v w = record w { stored = record w.stored { types = v.stored.types; pools = v.stored.pools } }
 with_part pools v w = record w { stored = record w.stored { next_number = v.stored.next_number; pools = v.stored.pools } }
+with_part tables v w = record w { stored = record w.stored { next_number = v.stored.next_number; types = v.stored.types; pools = v.stored.pools } }
 with_part clients v w = record w { clients = v.clients; transactions = v.transactions }
 with_part transactions v w = record w { stored = record w.stored { next_number = v.stored.next_number; pools = v.stored.pools }; transactions = v.transactions }
 with_part nothing v w = w

@@ -4,7 +4,7 @@ use Rattle.std.specs.List.{list_all, slice_split}
 use Rattle.pud_defs.specs.declared.layout.TheConstants.{LINE_LIMIT, CLIENTS, MAX_OWNER_ID, MAX_TYPE_ID, MAX_FIELDS, MAX_ARMED_STEP}
 use Rattle.pud_defs.specs.declared.space.TheConstants.{MAX_STEPS}
 use Rattle.pud_defs.specs.declared.machine.Command.{Command}
-use Rattle.pud_defs.specs.declared.machine.Command.TheVariants.{Client, Leave, Define, Cut, Arm, Chmod, Begin, Commit, Abort, New, Set, Later, Root, Free, Dump, Export, Rewrite, Pools, Get}
+use Rattle.pud_defs.specs.declared.machine.Command.TheVariants.{Client, Leave, Define, Cut, Arm, Chmod, Begin, Commit, Abort, New, Set, Later, Root, Free, Dump, Export, Import, Rewrite, Pools, Get}
 use Rattle.pud_defs.specs.declared.machine.Command.TheVariants as commands
 use Rattle.pud_defs.specs.declared.objects.Val.{Val}
 use Rattle.pud_defs.specs.declared.objects.Val.TheVariants.{Num, Ref}
@@ -207,6 +207,11 @@ dump_by arguments = taking client_number (λ client. taking pool_name (λ name. 
 unfoldable pub export_by : Parser
 export_by arguments = taking client_number (λ client. taking pool_name (λ name. taking pool_name (λ file. at_end (Export client name file)))) arguments
 
+-- `import C P file mode`
+unfoldable pub import_by : Parser
+import_by arguments =
+    taking client_number (λ client. taking pool_name (λ name. taking pool_name (λ file. taking pool_mode (λ mode. at_end (Import client name file mode))))) arguments
+
 -- `rewrite P n`
 unfoldable pub rewrite_by : Parser
 rewrite_by arguments = taking pool_name (λ name. taking step_count (λ n. at_end (Rewrite name n))) arguments
@@ -248,6 +253,7 @@ lines =
     ∷ (codes "get", get_by)
     ∷ (codes "dump", dump_by)
     ∷ (codes "export", export_by)
+    ∷ (codes "import", import_by)
     ∷ (codes "rewrite", rewrite_by)
     ∷ (codes "pools", pools_by)
     ∷ (codes "cut", cut_by)
@@ -295,6 +301,7 @@ IsLegalCommand (Root client name s) = (client < CLIENTS) × IsName name × IsTru
 IsLegalCommand (Free client name s) = (client < CLIENTS) × IsName name × IsTrue (is_legal_name name) × (1 ≤ s) × (s < 2 ^ 64)
 IsLegalCommand (Dump client name) = (client < CLIENTS) × IsName name × IsTrue (is_legal_name name)
 IsLegalCommand (Export client name file) = (client < CLIENTS) × IsName name × IsTrue (is_legal_name name) × IsName file × IsTrue (is_legal_name file)
+IsLegalCommand (Import client name file mode) = (client < CLIENTS) × IsName name × IsTrue (is_legal_name name) × IsName file × IsTrue (is_legal_name file) × IsTrue (is_legal_mode mode)
 IsLegalCommand (Rewrite name n) = IsName name × IsTrue (is_legal_name name) × (1 ≤ n) × (n ≤ MAX_STEPS)
 IsLegalCommand Pools = Unit {0}
 IsLegalCommand (Cut pick) = pick < 2 ^ 64

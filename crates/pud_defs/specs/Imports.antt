@@ -1,5 +1,5 @@
 -- What an export file adds to a stored world: a pool of its graph, and the types of it that were not defined.
-use Rattle.std.specs.Prelude.{ℕ, ◌+◌, Bool, ◌||◌, nat_le, nat_lt, List, [], ◌∷◌, length, is_none}
+use Rattle.std.specs.Prelude.{ℕ, ◌+◌, Bool, ◌||◌, nat_le, nat_lt, List, [], ◌∷◌, length, Option, Some, None, is_none}
 use Rattle.std.specs.List.{list_any}
 use Rattle.std.specs.Ordering.{nat_cmp}
 use Rattle.std.specs.FinMap.Entries.{put, where_key}
@@ -51,3 +51,8 @@ unfoldable pub with_imported_pool : List ℕ → Owner → ℕ → FileContents 
 with_imported_pool name owner mode file s =
     let typed = with_types_defined (types_missing s.types file.types) s in
     record typed { next_number = s.next_number + numbers_drawn file.puddles; pools = put name_cmp name (imported_pool owner mode s.next_number file) typed.pools }
+
+-- the world with the pool of what is held, where that is a file's
+abbrev pub with_pool_of : Option FileContents → List ℕ → Owner → ℕ → StoredWorld → StoredWorld
+with_pool_of None name owner mode s = s
+with_pool_of (Some file) name owner mode s = with_imported_pool name owner mode file s

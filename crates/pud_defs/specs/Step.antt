@@ -1,9 +1,10 @@
 -- What a command does to the world, but for the shelf, and what is answered.
 use Rattle.std.specs.Prelude.{ℕ, ◌+◌, Bool, true, false, not, ◌&&◌, ◌||◌, nat_le, nat_lt, ◌==◌, cond, List, [], ◌∷◌, ◌++◌, length, find, count_by, slice_get, bytes_eq, codes, Option, Some, None, option_map, is_none, is_some, unwrap_or}
+use Rattle.std.specs.List.{list_any}
 use Rattle.pud_defs.specs.declared.layout.TheConstants.{TYPE_RECORDS, CLIENT_LOGS, LOG_ENTRY_WORDS, MAX_DEPTH, SET_UNITS, NEW_UNITS, NUMBER_LIMIT}
 use Rattle.pud_defs.specs.declared.records.TheConstants.{MAX_PUDDLES}
 use Rattle.pud_defs.specs.declared.machine.Command.{Command}
-use Rattle.pud_defs.specs.declared.machine.Command.TheVariants.{Client, Leave, Define, Cut, Arm, Chmod, Begin, Commit, Abort, New, Set, Later, Root, Free, Dump, Export, Rewrite, Pools, Get}
+use Rattle.pud_defs.specs.declared.machine.Command.TheVariants.{Client, Leave, Define, Cut, Arm, Chmod, Begin, Commit, Abort, New, Set, Later, Root, Free, Dump, Export, Import, Rewrite, Pools, Get}
 use Rattle.pud_defs.specs.declared.machine.Command.TheVariants as commands
 use Rattle.pud_defs.specs.declared.machine.Reply.{Reply}
 use Rattle.pud_defs.specs.declared.machine.Reply.TheVariants as replies
@@ -19,11 +20,13 @@ use Rattle.pud_defs.specs.Graph.{Graph, Object, object_in, is_held, empty_graph}
 use Rattle.pud_defs.specs.GraphChanges.{blank_object, with_field, with_root, without_object, with_new}
 use Rattle.pud_defs.specs.Laters.{laters_name}
 use Rattle.pud_defs.specs.Holdings.{graph_held}
+use Rattle.pud_defs.specs.ExportFile.{FileContents, file_graph}
 use Rattle.pud_defs.specs.Tables.{Pool}
 use Rattle.pud_defs.specs.World.{StoredWorld, Transaction, World, restart, open_on}
 use Rattle.pud_defs.specs.PoolChanges.{pool_named, is_full_of_pools, lacks_frames, lacks_a_number, changed_pool, with_puddle_more, with_new_pool, with_pool_mode, without_pool, with_type_defined}
+use Rattle.pud_defs.specs.Imports.{is_full_for_file, lacks_frames_for_file, with_pool_of}
 use Rattle.pud_defs.specs.Transactions.{is_own, is_others, units_of, depth_of, laters_of, with_open, with_changed, without_client, begun, charged, asked, lowered, committed_pools}
-use Rattle.pud_defs.specs.Listing.{pools_text}
+use Rattle.pud_defs.specs.Listing.{name_text, pools_text}
 use Rattle.pud_defs.specs.DumpText.{dump_text}
 use Rattle.pud_defs.specs.Grammar.{command_of}
 
@@ -117,6 +120,8 @@ rule_of (Root client name s) = rule_of_own client name SET_UNITS (refusals.Objec
 rule_of (Free client name s) = rule_of_own client name SET_UNITS (refusals.Object ∷ refusals.Held ∷ refusals.TooBig ∷ [])
 rule_of (Dump client name) = rule_by_mode client name reads (refusals.Memory ∷ [])
 rule_of (Export client name file) = rule_by_mode client name reads (refusals.OpenHere ∷ refusals.Memory ∷ [])
+rule_of (Import client name file mode) =
+    record (rule_of_client client (refusals.Client ∷ refusals.Exists ∷ refusals.File ∷ refusals.Memory ∷ refusals.BadFile ∷ refusals.Clash ∷ refusals.Full ∷ refusals.Space ∷ [])) { pool = Some name }
 rule_of (Rewrite name n) = record (rule_of_none (refusals.Pool ∷ refusals.Wild ∷ [])) { pool = Some name }
 rule_of Pools = rule_of_none []
 rule_of (Cut pick) = rule_of_none []
@@ -303,6 +308,29 @@ grows w name = is_all_live (graph_seen (open_on name w) (pool_named name w.store
 abbrev pub lacks_room : World → List ℕ → Bool
 lacks_room w name = is_full_graph (graph_seen (open_on name w) (pool_named name w.stored)) || (grows w name && lacks_a_number w.stored.next_number)
 
+-- ---- the file that a command names
+
+-- the bytes of the file on the shelf that a command makes a pool of
+abbrev pub file_for : World → Command → Option (List ℕ)
+file_for w (Import client name file mode) = w.shelf (name_text file)
+file_for w c = None
+
+-- what bytes hold, where there are some that are an export file
+abbrev pub contents_in : Option (List ℕ) → Option FileContents
+contents_in None = None
+contents_in (Some bytes) = file_graph bytes
+
+-- what the file holds that a command makes a pool of
+abbrev pub contents_named : World → Command → Option FileContents
+contents_named w c = contents_in (file_for w c)
+
+-- there are contents, and this holds of them
+abbrev pub of_contents : (FileContents → Bool) → Option FileContents → Bool
+of_contents test None = false
+of_contents test (Some contents) = test contents
+
+-- ---- room in the tables
+
 abbrev pub is_other : ℕ → Option ℕ → Bool
 is_other map None = false
 is_other map (Some m) = not (m == map)
@@ -315,22 +343,29 @@ is_clash types id map = is_other map (map_of id types)
 abbrev pub is_full : List (ℕ × ℕ) → ℕ → Bool
 is_full types id = is_none (map_of id types) && nat_le TYPE_RECORDS (length types)
 
--- the type that a command defines is defined with another map
-abbrev pub clashes : List (ℕ × ℕ) → Command → Bool
-clashes types (Define id map) = is_clash types id map
-clashes types _ = false
+-- one of these types is
+abbrev pub clashes_with : (types file : List (ℕ × ℕ)) → Bool
+clashes_with types file = list_any (λ t. is_clash types t.0 t.1) file
+
+-- the type that a command defines, or one of its file, is defined with another map
+abbrev pub clashes : World → Command → Bool
+clashes w (Define id map) = is_clash w.stored.types id map
+clashes w (Import client name file mode) = of_contents (λ contents. clashes_with w.stored.types contents.types) (contents_named w (Import client name file mode))
+clashes w _ = false
 
 -- there is no room in the tables for what a command adds, or there are too few UUID numbers
 abbrev pub overfills : World → Command → Bool
 overfills w (Define id map) = is_full w.stored.types id
 overfills w (commands.Pool client name mode) = is_full_of_pools w.stored
 overfills w (New client name t) = lacks_room w name
+overfills w (Import client name file mode) = of_contents (is_full_for_file w.stored) (contents_named w (Import client name file mode))
 overfills w _ = false
 
 -- there are too few frames for what a command adds
 abbrev pub overflows : World → Command → Bool
 overflows w (commands.Pool client name mode) = lacks_frames w.stored 1
 overflows w (New client name t) = grows w name && lacks_frames w.stored 1
+overflows w (Import client name file mode) = of_contents (lacks_frames_for_file w.stored) (contents_named w (Import client name file mode))
 overflows w _ = false
 
 -- whether the cause holds for the command. `bad` never does: it is said of lines that are no command. Nor does `memory`: that memory is refused
@@ -354,8 +389,10 @@ holds w c refusals.Held = frees_held w c
 holds w c refusals.Deep = is_deep w c
 holds w c refusals.Logs = lacks_logs w c
 holds w c refusals.TooBig = nat_lt LOG_ENTRY_WORDS (units_of (open_for w c) + charge c)
+holds w c refusals.File = is_none (file_for w c)
 holds w c refusals.Memory = false
-holds w c refusals.Clash = clashes w.stored.types c
+holds w c refusals.BadFile = is_none (contents_named w c)
+holds w c refusals.Clash = clashes w c
 holds w c refusals.Full = overfills w c
 holds w c refusals.Space = overflows w c
 
@@ -400,6 +437,7 @@ after w (Root client name s) = record w { transactions = with_changed name (char
 after w (Free client name s) = record w { transactions = with_changed name (charged SET_UNITS (without_object s)) w.transactions }
 after w (Dump client name) = w
 after w (Export client name file) = w
+after w (Import client name file mode) = record w { stored = with_pool_of (contents_named w (Import client name file mode)) name (owner_acting w.clients client) mode w.stored }
 after w (Rewrite name n) = w
 after w Pools = w
 after w (Cut pick) = restart w

@@ -116,6 +116,14 @@ pub enum Command {
         name: Name,
         file: Name,
     },
+    /// `import C P file mode`: the client, from 0 to 7, makes the pool of the name `name` with this mode, of what the export file of the name
+    /// `file` on the shelf holds.
+    Import {
+        client: u8,
+        name: Name,
+        file: Name,
+        mode: u32,
+    },
     /// `rewrite P n`: the next `n` rewriting steps of the pool of this name are done, from 1 to 1,008, or all that are left.
     Rewrite {
         name: Name,
@@ -204,9 +212,13 @@ pub enum Refusal {
     Logs,
     /// The client's transaction has too few units left.
     TooBig,
+    /// There is no file of the name on the shelf.
+    File,
     /// Memory was refused, where the line takes some.
     Memory,
-    /// The type is defined with another map.
+    /// The file is no export file.
+    BadFile,
+    /// The type, or one of the file, is defined with another map.
     Clash,
     /// So many others are there that no further one fits, or so many UUID numbers were given out that too few are left.
     Full,
