@@ -19,3 +19,6 @@ pub mod Listed
 pub mod Settling
 pub mod Lines
 pub mod Beginning
+pub mod ImportRefusals
+pub mod PlacedBeside
+pub mod ImportLines

@@ -7,3 +7,4 @@ pub mod Files
 pub mod Reading
 pub mod Finding
 pub mod Rewriting
+pub mod Importing

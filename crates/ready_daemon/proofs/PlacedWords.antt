@@ -27,8 +27,16 @@ use Rattle.registry.specs.declared.adding.Added.{Added}
 use Rattle.registry.specs.declared.placing.NewType.{NewType}
 use Rattle.registry.specs.Puts.{puts_batch, number_put}
 use Rattle.registry.specs.Adding.{adding}
-use Rattle.registry.specs.Placing.{type_put, placing, puddle_of, HasFreeRecords, IsPlacedFor}
+use Rattle.registry.specs.Placing.{new_type_put, placing, puddle_of, HasFreeRecords, IsPlacedFor}
 use Rattle.registry.proofs.PutBatches.{either_some}
+use Rattle.pm_model.specs.Words.{Words, reads}
+use Rattle.pm_model.specs.Changes.{Write}
+use Rattle.pud_defs.specs.World.{World}
+use Rattle.ready_daemon.specs.Memory.{Held}
+use Rattle.ready_daemon.specs.Held.{Holds}
+use Rattle.ready_daemon.proofs.Beside.{unmasked_front}
+use Rattle.ready_daemon.proofs.PoolsBeside.{unmasked_pool, unmasked_puddle, unmasked_frame}
+use Rattle.ready_daemon.proofs.PoolsApart.{free_apart, free_others}
 
 -- ---- words that are free
 
@@ -111,7 +119,7 @@ abbrev AreFree : (F : ℕ) → Tables → List Added → Type 0
 AreFree F t puddles = (o : ℕ) (a : Added) → slice_get puddles o ≡ Some a → IsFreeFrame t a.frame
 
 module _ (F : ℕ) (t : Tables) (frames : t.frames ≡ F) where
-  type_words : (at : ℕ → Option (ℕ × ℕ)) (from : ℕ) (types : List NewType) → HasFreeRecords at from types → from ≤ TYPE_RECORDS → AreWords (IsFreeWord F t) (map type_put types)
+  type_words : (at : ℕ → Option (ℕ × ℕ)) (from : ℕ) (types : List NewType) → HasFreeRecords at from types → from ≤ TYPE_RECORDS → AreWords (IsFreeWord F t) (map new_type_put types)
   type_words at from [] has known = tt
   type_words at from (new ∷ types) has known =
       let one = first_free_some at from (TYPE_RECORDS - from) new.record_number has.0 in
@@ -143,7 +151,7 @@ module _ (F : ℕ) (image : Image) (file : List (ℕ × ℕ)) (wanted : List ℕ
 
   placed_words : AreWords (IsFreeWord F t) (placing slot r types puddles)
   placed_words =
-      AreWords-append (IsFreeWord F t) (map type_put types) (pool_put slot r ∷ adding (r.number + (1 + length puddles)) puddles)
+      AreWords-append (IsFreeWord F t) (map new_type_put types) (pool_put slot r ∷ adding (r.number + (1 + length puddles)) puddles)
       (type_words F t (frames_of_tables F image) (type_at image) 0 types is.records (omega arith))
       (
         λ k low high. inr (inl (record { slot = slot; below = placed_slot.0; free = placed_slot.1; within = record { low = low; high = omega arith } })),
@@ -154,3 +162,18 @@ module _ (F : ℕ) (image : Image) (file : List (ℕ × ℕ)) (wanted : List ℕ
   pub placing_words : (k v : ℕ) → ByBatch DAEMON_LOG (puts_batch (placing slot r types puddles)) k v → IsFreeWord F t k
   placing_words k v (inl log) = let high = log.high in inl (omega arith)
   placing_words k v (inr named) = words_written (IsFreeWord F t) (placing slot r types puddles) k named.value placed_words named.is
+
+-- ---- beside what is held
+
+-- no word that is free is masked
+module _ (w : World) (held : List (Option Held)) (mask : Write) (words : Words) (holds : Holds w held mask words) where
+  abbrev now : Tables
+  now = tables_of w.stored.frames (reads words)
+
+  pub free_unmasked : (k : ℕ) → IsFreeWord w.stored.frames now k → mask k ≡ None
+  free_unmasked k (inl front) = unmasked_front w held mask words holds k front
+  free_unmasked k (inr (inl of)) = unmasked_pool w held mask words holds of.slot k of.below (free_apart w held mask words holds of.slot of.free) of.within.low of.within.high
+  free_unmasked k (inr (inr of)) = unmasked_puddle w held mask words holds of.frame k of.below (free_others w held mask words holds of.frame of.free) of.within.low of.within.high
+
+  pub free_frame_unmasked : (k : ℕ) → IsFreeFrameWord w.stored.frames now k → mask k ≡ None
+  free_frame_unmasked k of = unmasked_frame w held mask words holds of.frame k of.below (free_others w held mask words holds of.frame of.free) of.within.low of.within.high
