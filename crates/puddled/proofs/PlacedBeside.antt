@@ -15,6 +15,7 @@ use Rattle.pud_defs.specs.declared.records.PoolRec.{PoolRec}
 use Rattle.pud_defs.specs.Image.{Image}
 use Rattle.pud_defs.specs.Frames.{frame_at}
 use Rattle.pud_defs.specs.Layout.{IsWithin, frames_at}
+use Rattle.pud_defs.specs.Puddles.{Member, puddle_record_at}
 use Rattle.pud_defs.specs.Stored.{Stored}
 use Rattle.pud_defs.specs.SoundTables.{HasSoundTables}
 use Rattle.pud_defs.specs.Graph.{graph_of}
@@ -35,7 +36,7 @@ use Rattle.ready_daemon.specs.Held.{Holds, IsBeside}
 use Rattle.ready_daemon.proofs.Beneath.{IsOff-each, IsBeside-changes, IsBeside-commits, IsBeside-then}
 use Rattle.ready_daemon.proofs.JudgedKept.{KeepsGraphs, KeepsPools, KeepsPools-then, KeepsPools-still, KeepsPools-changes, types_same}
 use Rattle.ready_daemon.proofs.PlacedPools.{KeepsPools-placing}
-use Rattle.ready_daemon.proofs.PlacedWords.{IsFreeFrameWord, placed_frame, placing_words, free_unmasked, free_frame_unmasked}
+use Rattle.ready_daemon.proofs.PlacedWords.{IsFreeFrameWord, placed_frame, placing_words, free_unmasked, free_frame_unmasked, free_not_used, free_frame_not_record}
 use Rattle.ready_daemon.proofs.PoolsApart.{IsBeside-still}
 
 -- ---- the frames that are filled
@@ -103,6 +104,28 @@ off_placing w held mask words holds file types name uid gid mode = record {
         IsOff-each mask (ByFrames F p.puddles) (λ k v may. free_frame_unmasked w held mask words holds k (frame_words F image types wanted p.slot r p is k v may)),
         IsOff-each mask (ByBatch DAEMON_LOG (puts_batch (placing p.slot r p.types p.puddles)))
         (λ k v may. free_unmasked w held mask words holds k (placing_words F image types wanted p.slot r p.types p.puddles is k v may)),
+      );
+}
+
+-- nor is a word of the record of a puddle that is used
+pub off_used : (F frame : ℕ) (image : Image) (m : Member) → frame < F → (tables_of F image).puddles frame ≡ Some m → (mask : Write)
+    → ((k x : ℕ) → mask k ≡ Some x → (puddle_record_at frame ≤ k) × (k < puddle_record_at (frame + 1))) → (file : Stored) (types : List (ℕ × ℕ)) (name : List ℕ) (uid gid mode : ℕ)
+    → IsOffPlacing mask F image file types name uid gid mode
+off_used F frame image m below used mask record_words file types name uid gid mode = record {
+  each = λ p is.
+      let r = new_record name uid gid mode (image NEXT_NUMBER_WORD) in
+      let wanted = map (λ d. d.base) file.puddles in
+      (
+        record {
+          apart = λ k x v masked may.
+              let of = record_words k x masked in
+              free_frame_not_record F (tables_of F image) frame k below (frame_words F image types wanted p.slot r p is k v may) of.0 of.1;
+        },
+        record {
+          apart = λ k x v masked may.
+              let of = record_words k x masked in
+              free_not_used F (tables_of F image) frame k m used (placing_words F image types wanted p.slot r p.types p.puddles is k v may) of.0 of.1;
+        },
       );
 }
 

@@ -1,6 +1,6 @@
 -- A pool that is placed beside what is held: the world that it gives keeps what is held, and each pool that has a graph keeps it, and its puddles.
-use Rattle.std.proofs.Common.{◌≡◌, ◌≢◌, ◌⊎◌, inl, inr, ℕ, zero, suc, ◌+◌, ◌^◌, ◌<◌, ◌≤◌, Bool, true, false, cond, eqb, List, [], ◌∷◌, ◌++◌, map, length, Option, Some, None, option_map, is_none, nat_cmp, refl, sym, ap, subst, ◌∙◌, arith, ne_eqb, length-take, length-append, length-replicate}
-use Rattle.std.specs.Prelude.{slice_get, ⊤, replicate, ◌-◌}
+use Rattle.std.proofs.Common.{◌≡◌, ◌≢◌, ◌⊎◌, inl, inr, ℕ, zero, suc, ◌+◌, ◌-◌, ◌^◌, ◌<◌, ◌≤◌, Bool, true, false, cond, eqb, List, [], ◌∷◌, ◌++◌, map, length, Option, Some, None, option_map, is_none, nat_cmp, refl, sym, ap, subst, ◌∙◌, arith, ne_eqb}
+use Rattle.std.specs.Prelude.{slice_get, ⊤}
 use Rattle.std.specs.FinMap.Entries.{find, put, find-put, where_key}
 use Rattle.std.proofs.lemmas.Bool.{cases_eq, cases_Bool, cond-true, cond-false}
 use Rattle.std.proofs.lemmas.Cmp.{nat_cmp_total}

@@ -15,7 +15,7 @@ use Rattle.pud_defs.specs.Keyed.{first_free}
 use Rattle.pud_defs.specs.Layout.{IsWithin}
 use Rattle.pud_defs.specs.Placement.{ArePlacedFrom}
 use Rattle.pud_defs.specs.Pools.{pool_record_at}
-use Rattle.pud_defs.specs.Puddles.{puddle_record_at}
+use Rattle.pud_defs.specs.Puddles.{Member, puddle_record_at}
 use Rattle.pud_defs.specs.Puts.{pool_put, puddle_put}
 use Rattle.pud_defs.specs.Replay.{value_at}
 use Rattle.pud_defs.specs.Tables.{Tables, tables_of}
@@ -177,3 +177,18 @@ module _ (w : World) (held : List (Option Held)) (mask : Write) (words : Words) 
 
   pub free_frame_unmasked : (k : ℕ) → IsFreeFrameWord w.stored.frames now k → mask k ≡ None
   free_frame_unmasked k of = unmasked_frame w held mask words holds of.frame k of.below (free_others w held mask words holds of.frame of.free) of.within.low of.within.high
+
+-- ---- records that are used
+
+-- a word that is free is none of the record of a puddle that is used
+pub free_not_used : (F : ℕ) (t : Tables) (frame k : ℕ) (m : Member) → t.puddles frame ≡ Some m → IsFreeWord F t k → puddle_record_at frame ≤ k → k < puddle_record_at (frame + 1) → ⊥
+free_not_used F t frame k m used (inl front) low high = omega arith
+free_not_used F t frame k m used (inr (inl of)) low high = let few = of.below in let to = of.within.high in omega arith
+free_not_used F t frame k m used (inr (inr of)) low high =
+    let from = of.within.low in let to = of.within.high in
+    let same : of.frame ≡ frame = omega arith in
+    none-some m (sym of.free ∙ ap t.puddles same ∙ used)
+
+-- nor is one of a frame
+pub free_frame_not_record : (F : ℕ) (t : Tables) (frame k : ℕ) → frame < F → IsFreeFrameWord F t k → puddle_record_at frame ≤ k → k < puddle_record_at (frame + 1) → ⊥
+free_frame_not_record F t frame k below of low high = let from = of.within.low in omega arith

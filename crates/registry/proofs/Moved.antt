@@ -31,7 +31,7 @@ use Rattle.batch.proofs.Tables.{HasDurableTables-committed}
 use Rattle.registry.specs.Puts.{puts_batch, with_puts, AreOfPools, IsPoolsWord, ByPools}
 use Rattle.registry.specs.Adding.{MakesPools, pools_next}
 use Rattle.registry.specs.Pools.{MayStand, ChangesPools}
-use Rattle.registry.proofs.PutBatches.{overwritten-puts, with_puts-stays, ByPools-batch, puts_allowed}
+use Rattle.registry.proofs.PutBatches.{of_tables, overwritten-puts, with_puts-stays, ByPools-batch, puts_allowed}
 
 -- ---- tables that are durable
 
@@ -112,7 +112,7 @@ module _ (size : ℕ) (s : StoredWorld) (number : ℕ) (ps : List (List ℕ × P
       (m.next i (stands.holds Header).next_number) m.low m.high pools)
 
   pub MovesBy-puts : MovesBy size s (pools_next s number ps) (puts_batch puts) words
-  MovesBy-puts = record { allowed = puts_allowed s.frames (puts_batch puts) puts m.of; stands = makes }
+  MovesBy-puts = record { allowed = puts_allowed s.frames (puts_batch puts) puts (of_tables s.frames puts m.of); stands = makes }
 
 -- ---- what a call owes
 
@@ -132,7 +132,7 @@ pub ChangesPools-moves : (size : ℕ) (s next : StoredWorld) (puts : List Put) (
     → ((image : Image) → IsBetween size s next (puts_batch puts) old.now.words image → also image)
     → Moves size s next (puts_batch puts) fault old new → ChangesPools size s next also fault old new
 ChangesPools-moves size s next puts also fault old new of tables besides m = record {
-  changes = Changes-wider (ByBatch DAEMON_LOG (puts_batch puts)) (ByPools s.frames) fault old new (λ k v may. ByPools-batch s.frames puts k v of may) m.commits.changes;
+  changes = Changes-wider (ByBatch DAEMON_LOG (puts_batch puts)) (ByPools s.frames) fault old new (λ k v may. ByPools-batch s.frames puts k v (of_tables s.frames puts of) may) m.commits.changes;
   moments = Leaves-weaker (Silently (IsBetween size s next (puts_batch puts) old.now.words)) (Silently (MayStand size s next also)) old new
       (λ bytes image p. (p.0, elim p.1.stands [ inl before ↦ inl before.1 | inr after ↦ inr (after.1, besides image p.1) ])) m.moments;
   settled = m.settled;
