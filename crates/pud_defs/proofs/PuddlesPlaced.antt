@@ -1,6 +1,9 @@
 -- A pool of several puddles made in sound tables: the first comes with the pool's record, each other behind it, and the tables stay sound.
 use Rattle.std.proofs.Common.{◌≡◌, ◌⊎◌, inl, inr, ℕ, zero, suc, ◌+◌, ◌-◌, ◌<◌, ◌≤◌, Bool, true, false, not, ◌&&◌, ◌||◌, eqb, List, [], ◌∷◌, ◌++◌, map, length, get_or, Option, Some, None, nat_cmp, option_map, refl, sym, ap, ap₂, ◌∙◌, subst, arith, ne_eqb, eq-eqb, eqb-true, true≢false, append_assoc, append-nil}
 use Rattle.std.specs.Prelude.{slice_get}
+use Rattle.std.proofs.lemmas.List.{get_or-map, length-map}
+use Rattle.std.proofs.lemmas.List.Sums.{AllPass-from_list_all}
+use Rattle.std.proofs.lemmas.Option.{same_Some, none-some, slice_get-get_or}
 use Rattle.std.specs.List.{list_any, list_all}
 use Rattle.std.specs.FinMap.Entries.{by_order, put}
 use Rattle.std.specs.Cmp.{tied_itself, unsigned_tied, IsTotalOrder}
@@ -9,20 +12,23 @@ use Rattle.std.specs.declared.cmp.Ordering.{Ordering}
 use Rattle.std.specs.declared.cmp.Ordering.TheVariants.{Less, Equal, Greater}
 use Rattle.std.proofs.lemmas.Bool.{cases_eq, cases_Bool, cond-true, cond-false, and_parts, and_from}
 use Rattle.std.proofs.lemmas.List.{length_push}
+use Rattle.std.proofs.lemmas.Cmp.{nat_cmp_total}
 use Rattle.pud_defs.specs.declared.records.TheConstants.{POOL_RECORDS, MAX_PUDDLES}
 use Rattle.pud_defs.specs.declared.records.PoolRec.{PoolRec}
 use Rattle.pud_defs.specs.declared.records.Puddle.{Puddle}
 use Rattle.pud_defs.specs.Names.{name_cmp}
-use Rattle.pud_defs.specs.Keyed.{under, first_free}
+use Rattle.pud_defs.specs.ExportFile.{under_base, are_file_bases}
+use Rattle.pud_defs.specs.Keyed.{under, first_from, first_free, are_distinct}
 use Rattle.pud_defs.specs.Bases.{is_legal_base}
 use Rattle.pud_defs.specs.Places.{has_other_bases, is_free_base, IsLowestBase}
 use Rattle.pud_defs.specs.Puddles.{Member, is_legal_puddle}
 use Rattle.pud_defs.specs.Spaces.{all_below}
-use Rattle.pud_defs.specs.Tables.{Tables, Reader, member_of, puddles_of, listed, pool_of, pools_of}
+use Rattle.pud_defs.specs.Tables.{Tables, Reader, member_of, named, puddles_of, listed, pool_of, pools_of}
 use Rattle.pud_defs.specs.SoundTables.{bases, old_bases, HasSoundTables}
-use Rattle.pud_defs.specs.Puts.{with_pool_at, with_puddle_at}
+use Rattle.pud_defs.specs.Puts.{is_of_pool, with_pool_at, with_puddle_at}
 use Rattle.pud_defs.specs.Placement.{has_another_base, is_taken_base, IsBaseFor, ArePlacedFrom}
-use Rattle.pud_defs.proofs.Keyed.{under_apart, first_free_some}
+use Rattle.pud_defs.specs.Pools.{is_legal_pool}
+use Rattle.pud_defs.proofs.Keyed.{under_tied, under_apart, first_free_some, first_from_none, distinct_keys}
 use Rattle.pud_defs.proofs.Spaces.{all_below-each}
 use Rattle.pud_defs.proofs.PoolsChanged.{IsMade, made, changed_here, changed_elsewhere, not_of, pools_made, puddles_of-made}
 use Rattle.pud_defs.proofs.SoundChanged.{IsAdded, sound_made}
@@ -92,9 +98,9 @@ given_more base x (y ∷ taken) none =
     let later = given_more base x taken parts.1 in
     (ap₂ (λ (a b : Bool). a || b) parts.0 later.0, later.1)
 
-under_base : (base frame : ℕ) (o : Option Member) → has_another_base base o ≡ true → under nat_cmp base (option_map (λ m. (m.puddle.base, frame)) o) ≡ None
-under_base base frame None is = refl
-under_base base frame (Some m) is =
+no_base_under : (base frame : ℕ) (o : Option Member) → has_another_base base o ≡ true → under nat_cmp base (option_map (λ m. (m.puddle.base, frame)) o) ≡ None
+no_base_under base frame None is = refl
+no_base_under base frame (Some m) is =
     let apart = not_true (eqb m.puddle.base base) is in
     under_apart nat_cmp base (m.puddle.base, frame) (unsigned_tied base m.puddle.base ∙ ne_eqb base m.puddle.base (λ e. true≢false (sym (eq-eqb m.puddle.base base (sym e)) ∙ apart)))
 
@@ -126,6 +132,31 @@ length-counted o (e ∷ at) = ap suc (length-counted (o + 1) at)
 pub record AreDistinctBases (all : List ℕ) : Type 0 where
   pub legal : (i : ℕ) → i < length all → is_legal_base (get_or all i 0) ≡ true
   pub apart : (i j : ℕ) → i < j → j < length all → get_or all i 0 ≡ get_or all j 0 → ⊥
+
+abbrev no_puddle : Puddle
+no_puddle = record { number = 0; base = 0; old_base = 0; frontier = 0 }
+
+-- those of its puddles are
+pub file_bases_distinct : (puddles : List Puddle) → are_file_bases puddles ≡ true → AreDistinctBases (map (λ d. d.base) puddles)
+file_bases_distinct puddles is =
+    let bases_of = map (λ (d : Puddle). d.base) puddles in
+    let parts = and_parts (list_all (λ d. is_legal_base d.base) puddles) (are_distinct nat_cmp (under_base puddles) 0 (length puddles)) is in
+    let keys = distinct_keys nat_cmp (under_base puddles) 0 (length puddles) parts.1 in
+    let count : length bases_of ≡ length puddles = length-map puddles (λ (d : Puddle). d.base) in
+    let base_at : (i : ℕ) → i < length puddles → get_or bases_of i 0 ≡ (get_or puddles i no_puddle).base = λ i below. get_or-map (λ (d : Puddle). d.base) puddles i no_puddle 0 below in
+    let there : (i : ℕ) → i < length puddles → under_base puddles i ≡ Some ((get_or puddles i no_puddle).base, i) = λ i below. ap (option_map (λ (d : Puddle). (d.base, i))) (slice_get-get_or puddles i no_puddle below) in
+    record {
+      legal = λ i below. let within : i < length puddles = omega arith in
+          ap is_legal_base (base_at i within) ∙ AllPass-from_list_all (λ (d : Puddle). is_legal_base d.base) puddles parts.0 i no_puddle within;
+      apart = λ i j less below same.
+          let second : j < length puddles = omega arith in
+          let first : i < length puddles = omega arith in
+          let bi = (get_or puddles i no_puddle).base in
+          let bj = (get_or puddles j no_puddle).base in
+          let one : bi ≡ bj = sym (base_at i first) ∙ same ∙ base_at j second in
+          let none = keys.apart i j (omega arith) less (omega arith) (bi, i) (there i first) in
+          none-some j (sym none ∙ ap (under nat_cmp bi) (there j second) ∙ under_tied nat_cmp bi (bj, j) (ap (nat_cmp bi) (sym one) ∙ tied_itself nat_cmp_total bi));
+    }
 
 -- So many puddles of a new pool stand: these, the first ones for the bases of a file; each stands before this frame, and their bases are those taken.
 pub record IsPlacing (later : ℕ) (t : Tables) (slot : ℕ) (r : PoolRec) (all : List ℕ) (ordinal frame : ℕ) (taken : List ℕ) (done : List (ℕ × (ℕ × Puddle))) (now : Tables) : Type 0 where
@@ -178,7 +209,7 @@ module _ (later : ℕ) (t : Tables) (slot : ℕ) (r : PoolRec) (all : List ℕ) 
       last = sym (ap length h.puddles ∙ h.count);
       few = next.few;
       puddle = next.legal;
-      new_base = λ f below. under_base e.1.base f (now.puddles f) (h.own e.1.base base f (let same = h.frames in omega arith));
+      new_base = λ f below. no_base_under e.1.base f (now.puddles f) (h.own e.1.base base f (let same = h.frames in omega arith));
       new_old_base = λ f below. h.old e.1.old_base (λ i before same. distinct.apart i o before next.within (same ∙ next.wanted)) f (let same = h.frames in omega arith);
     }
 
@@ -230,10 +261,10 @@ module _ (later : ℕ) (t : Tables) (slot : ℕ) (r : PoolRec) (all : List ℕ) 
     pub sound : HasSoundTables later now
     pub pools : (hold : Reader) → pools_of hold now ≡ put name_cmp r.name (pool_of hold r done) (pools_of hold t)
 
-  first_next : (o : ℕ) (e : ℕ × Puddle) (at : List (ℕ × Puddle)) → ArePlacedNext o (e ∷ at) → IsPlacedNext later all o e
+  pub first_next : (o : ℕ) (e : ℕ × Puddle) (at : List (ℕ × Puddle)) → ArePlacedNext o (e ∷ at) → IsPlacedNext later all o e
   first_next o e at next = let here : o + 0 ≡ o = omega arith in subst (λ (n : ℕ). IsPlacedNext later all n e) here (next.each 0 e refl)
 
-  rest_next : (o : ℕ) (e : ℕ × Puddle) (at : List (ℕ × Puddle)) → ArePlacedNext o (e ∷ at) → ArePlacedNext (o + 1) at
+  pub rest_next : (o : ℕ) (e : ℕ × Puddle) (at : List (ℕ × Puddle)) → ArePlacedNext o (e ∷ at) → ArePlacedNext (o + 1) at
   rest_next o e at next = record { each = λ i d there. let here : o + suc i ≡ o + 1 + i = omega arith in subst (λ (n : ℕ). IsPlacedNext later all n d) here (next.each (suc i) d there) }
 
   pub placed_in_turn : (wanted : List ℕ) (at : List (ℕ × Puddle)) (o frame : ℕ) (taken : List ℕ) (done : List (ℕ × (ℕ × Puddle))) (now : Tables)
@@ -286,3 +317,66 @@ module _ (next later : ℕ) (more : next ≤ later) (t : Tables) (slot : ℕ) (r
     puddles = puddles_of-made t slot e.0 r first_member is_made;
     pools = pools_made t slot e.0 r first_member is_made;
   }
+
+-- a pool that comes in a free slot, under a name that is not there
+pub record IsNewPool (later : ℕ) (t : Tables) (slot : ℕ) (r : PoolRec) : Type 0 where
+  pub slot_below : slot < POOL_RECORDS
+  pub slot_free : t.pools slot ≡ None
+  pub none : (f : ℕ) → f < t.frames → is_of_pool slot (t.puddles f) ≡ false
+  pub new_name : first_from name_cmp r.name (named t) 0 POOL_RECORDS ≡ None
+  pub legal : is_legal_pool later r ≡ true
+
+-- it stands with all of its puddles
+pub all_placed : (next later : ℕ) → next ≤ later → (t : Tables) (slot : ℕ) (r : PoolRec) (all : List ℕ) (distinct : AreDistinctBases all) (within : slot < POOL_RECORDS) → HasSoundTables next t → IsNewPool later t slot r
+    → (wanted : List ℕ) (at : List (ℕ × Puddle)) → 1 ≤ length at → ArePlacedFrom t 0 [] wanted at → ArePlacedNext later t slot r all distinct within 0 at
+    → HasPlaced later t slot r all distinct within (counted 0 at) (with_puddles_at slot 0 at (with_pool_at slot (Some r) t))
+all_placed next later more t slot r all distinct within sound new wanted [] some placed each = absurd (omega arith)
+all_placed next later more t slot r all distinct within sound new [] (e ∷ at) some placed each = absurd placed
+all_placed next later more t slot r all distinct within sound new (base ∷ wanted) (e ∷ at) some placed each =
+    let first = first_next later t slot r all distinct within 0 e at each in
+    let frame = first_free_some t.puddles 0 (t.frames - 0) e.0 placed.0 in
+    let frame_high = frame.high in
+    let no_base = base_given t [] base e.1.base placed.1 in
+    let is_made : IsMade t slot e.0 r (member_for slot 0 e.1) = record {
+      slot_below = new.slot_below;
+      slot_free = new.slot_free;
+      frame_below = omega arith;
+      frame_free = frame.free;
+      of = refl;
+      none = new.none;
+      new_name = new.new_name;
+    } in
+    let is_added : IsAdded later t r (member_for slot 0 e.1) = record {
+      pool = new.legal;
+      puddle = first.legal;
+      first = refl;
+      new_base = first_from_none nat_cmp e.1.base (bases t) 0 t.frames (λ f low high. no_base_under e.1.base f (t.puddles f) (no_base.others f (omega arith)));
+    } in
+    placed_in_turn later t slot r all distinct within wanted at 1 (e.0 + 1) (e.1.base ∷ []) ((0, e) ∷ []) (made slot e.0 r (member_for slot 0 e.1) t)
+    (IsPlacing-first next later more t slot r all e sound is_made is_added first.wanted) placed.3 (rest_next later t slot r all distinct within 0 e at each)
+
+-- ---- what each has
+
+-- it stands for the base that the file has in its place, its own is legal, and its frame is one of the device's
+pub record IsPlacedAt (t : Tables) (wanted : List ℕ) (ordinal : ℕ) (e : ℕ × Puddle) : Type 0 where
+  pub wanted_is : e.1.old_base ≡ get_or wanted ordinal 0
+  pub within : ordinal < length wanted
+  pub legal : is_legal_base e.1.base ≡ true
+  pub frame : e.0 < t.frames
+
+pub placed_each : (t : Tables) (wanted : List ℕ) (at : List (ℕ × Puddle)) (frame : ℕ) (taken : List ℕ) → ((i : ℕ) → i < length wanted → is_legal_base (get_or wanted i 0) ≡ true) → ArePlacedFrom t frame taken wanted at
+    → (i : ℕ) (e : ℕ × Puddle) → slice_get at i ≡ Some e → IsPlacedAt t wanted i e
+placed_each t [] [] frame taken legal placed i e there = absurd (none-some e there)
+placed_each t [] (d ∷ at) frame taken legal placed i e there = absurd placed
+placed_each t (base ∷ wanted) [] frame taken legal placed i e there = absurd placed
+placed_each t (base ∷ wanted) (d ∷ at) frame taken legal placed zero e there =
+    let free = first_free_some t.puddles frame (t.frames - frame) d.0 placed.0 in
+    let low = free.low in let high = free.high in
+    let below : d.0 < t.frames = omega arith in
+    let first : 0 < length (base ∷ wanted) = omega arith in
+    let here : IsPlacedAt t (base ∷ wanted) 0 d = record { wanted_is = placed.2; within = first; legal = base_legal t taken base d.1.base (legal 0 first) placed.1; frame = below } in
+    subst (IsPlacedAt t (base ∷ wanted) 0) (same_Some d e there) here
+placed_each t (base ∷ wanted) (d ∷ at) frame taken legal placed (suc i) e there =
+    let later = placed_each t wanted at (d.0 + 1) (taken ++ d.1.base ∷ []) (λ j below. legal (suc j) (omega arith)) placed.3 i e there in
+    let low = later.within in
+    record { wanted_is = later.wanted_is; within = omega arith; legal = later.legal; frame = later.frame }

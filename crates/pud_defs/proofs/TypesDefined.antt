@@ -1,5 +1,5 @@
 -- Several types defined, one behind the other: what their records make of an image, and that the types of a file which are missing may be defined so.
-use Rattle.std.proofs.Common.{◌≡◌, ◌⊎◌, inl, inr, ℕ, ◌+◌, ◌<◌, ◌≤◌, Bool, true, false, ◌&&◌, eqb, cond, List, [], ◌∷◌, Option, Some, None, is_none, nat_cmp, refl, sym, ap, ◌∙◌, subst, arith, ne_eqb, eq-eqb}
+use Rattle.std.proofs.Common.{◌≡◌, ◌⊎◌, inl, inr, ℕ, zero, suc, ◌+◌, ◌<◌, ◌≤◌, Bool, true, false, ◌&&◌, eqb, cond, List, [], ◌∷◌, Option, Some, None, is_none, nat_cmp, refl, sym, ap, ap₂, ◌∙◌, subst, arith, ne_eqb, eq-eqb}
 use Rattle.std.specs.Prelude.{⊤}
 use Rattle.std.specs.List.{list_all}
 use Rattle.std.specs.Ordering.{is_lt}
@@ -10,12 +10,13 @@ use Rattle.std.proofs.lemmas.Cmp.{nat_cmp_total}
 use Rattle.pud_defs.specs.declared.layout.TheConstants.{TYPE_RECORDS, POOL_TABLE, TYPE_TABLE}
 use Rattle.pud_defs.specs.Image.{Image, written}
 use Rattle.pud_defs.specs.TypeMap.{is_legal_map, is_legal_type_id}
+use Rattle.pud_defs.specs.Keyed.{first_free}
 use Rattle.pud_defs.specs.Types.{type_record_at, type_at, map_of, with_type, is_sound_type}
 use Rattle.pud_defs.specs.ExportFile.{are_file_types}
 use Rattle.pud_defs.specs.Tables.{Pool}
-use Rattle.pud_defs.specs.Puts.{with_put, type_put}
+use Rattle.pud_defs.specs.Puts.{with_put}
 use Rattle.pud_defs.specs.PoolChanges.{with_type_defined}
-use Rattle.pud_defs.specs.Imports.{types_missing, with_types_defined}
+use Rattle.pud_defs.specs.Imports.{type_put, types_missing, with_types_defined}
 use Rattle.pud_defs.specs.World.{StoredWorld}
 use Rattle.pud_defs.proofs.Images.{written_there, written_other}
 use Rattle.pud_defs.proofs.Keyed.{none_when}
@@ -121,3 +122,12 @@ pub typed-is : (types : List (ℕ × ℕ)) (s : StoredWorld) → typed types s �
 unfolding with_types_defined with_type_defined
 typed-is [] s = refl
 typed-is (t ∷ types) s = typed-is types (with_type_defined t.0 t.1 s)
+
+-- ---- free records
+
+-- the lowest free of the same records
+pub first_free-same : {A : Type 0} (f g : ℕ → Option A) (from count : ℕ) → ((j : ℕ) → from ≤ j → j < from + count → f j ≡ g j) → first_free f from count ≡ first_free g from count
+unfolding first_free
+first_free-same f g from zero same = refl
+first_free-same f g from (suc count) same =
+    ap₂ (λ (o : Option _) (later : Option ℕ). cond (is_none o) (Some from) later) (same from (omega arith) (omega arith)) (first_free-same f g (from + 1) count (λ j low high. same j (omega arith) (omega arith)))

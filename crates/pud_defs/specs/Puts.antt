@@ -1,4 +1,4 @@
--- The words that change one record of the type table, of the pool table or of the puddle table, and what they make of the tables.
+-- The words that change one record of the pool table or of the puddle table, and what they make of the tables.
 use Rattle.std.specs.Prelude.{ℕ, ◌+◌, ◌-◌, Bool, ◌&&◌, nat_le, nat_lt, ◌==◌, cond, List, [], ◌∷◌, ◌++◌, length, slice_index, replicate, Option, Some, None, option_map, false}
 use Rattle.pud_defs.specs.declared.records.TheConstants.{POOL_MODE_WORD}
 use Rattle.pud_defs.specs.declared.records.PoolRec.{PoolRec}
@@ -8,7 +8,6 @@ use Rattle.pud_defs.specs.declared.records.Put.{Put}
 use Rattle.pud_defs.specs.Image.{Image}
 use Rattle.pud_defs.specs.Pools.{pool_record_at, pool_words}
 use Rattle.pud_defs.specs.Puddles.{Member, moved_to, member_moved, puddle_record_at, puddle_words}
-use Rattle.pud_defs.specs.Types.{type_record_at}
 use Rattle.pud_defs.specs.Tables.{Tables}
 
 -- these values from a word on, eight at most
@@ -18,10 +17,6 @@ put_of w vals = record { w = w; n = length vals; vals = vals ++ replicate (8 - l
 -- the image with them
 abbrev pub with_put : Put → Image → Image
 with_put put image k = cond (nat_le put.w k && nat_lt k (put.w + put.n)) (slice_index put.vals (k - put.w)) (image k)
-
--- the record of a type
-abbrev pub type_put : (record_number id map : ℕ) → Put
-type_put n id map = put_of (type_record_at n) (id ∷ map ∷ [])
 
 -- the record of a pool
 abbrev pub pool_put : ℕ → PoolRec → Put

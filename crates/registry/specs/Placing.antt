@@ -17,9 +17,9 @@ use Rattle.pud_defs.specs.Graph.{graph_of}
 use Rattle.pud_defs.specs.Stored.{stored_in}
 use Rattle.pud_defs.specs.ExportFile.{FileContents, are_file_types, are_file_bases}
 use Rattle.pud_defs.specs.Replay.{settled_by}
-use Rattle.pud_defs.specs.Puts.{type_put, pool_put, member_by}
+use Rattle.pud_defs.specs.Puts.{pool_put, member_by}
 use Rattle.pud_defs.specs.Placement.{ArePlaced}
-use Rattle.pud_defs.specs.Imports.{types_missing, numbers_drawn, with_types_defined}
+use Rattle.pud_defs.specs.Imports.{type_put, types_missing, numbers_drawn, with_types_defined}
 use Rattle.pud_defs.specs.Tables.{Tables, tables_of, pool_in}
 use Rattle.pud_defs.specs.World.{StoredWorld}
 use Rattle.batch.specs.Batches.{ByBatch}
