@@ -85,6 +85,15 @@ fn export(client: u8, name: Name, file: Name) -> Command {
     Command::Export { client, name, file }
 }
 
+fn import(client: u8, name: Name, file: Name, mode: u32) -> Command {
+    Command::Import {
+        client,
+        name,
+        file,
+        mode,
+    }
+}
+
 fn rewrite(name: Name, n: u32) -> Command {
     Command::Rewrite { name, n }
 }
@@ -172,6 +181,12 @@ fn lines_of_pools(rt: HostRuntime) {
             (
                 "export 7 abcdefghijklmnop 0123456789_az",
                 export(7, sixteen, digits),
+            ),
+            ("import 0 p p 600", import(0, p, p, 0o600)),
+            ("import 1 7 _ 000", import(1, seven, low_line, 0)),
+            (
+                "import 7 abcdefghijklmnop 0123456789_az 246",
+                import(7, sixteen, digits, 0o246),
             ),
             ("rewrite p 1", rewrite(p, 1)),
             ("rewrite 7 10", rewrite(seven, 10)),
@@ -386,6 +401,41 @@ fn lines_of_rewriting_that_are_none(rt: HostRuntime) {
             "Rewrite p 1",
             "rewrit p 1",
             "rewrites p 1",
+        ],
+    );
+}
+
+#[test]
+fn lines_of_files_that_are_none(rt: HostRuntime) {
+    are_none(
+        &rt,
+        &[
+            "import",
+            "import 0",
+            "import 0 p",
+            "import 0 p x",
+            "import 0 p x ",
+            "import 0 p 600",
+            "import 0 p  600",
+            "import 0  x 600",
+            "import 0 p x  600",
+            "import 0 p x 600 ",
+            "import 0 p x 600 600",
+            "import 0 p x y 600",
+            "import p x 600",
+            "import 8 p x 600",
+            "import 0 P x 600",
+            "import 0 p X 600",
+            "import 0 p x.y 600",
+            "import 0 abcdefghijklmnopq x 600",
+            "import 0 p abcdefghijklmnopq 600",
+            "import 0 p x 60",
+            "import 0 p x 0600",
+            "import 0 p x 610",
+            "import 0 p 600 x",
+            "Import 0 p x 600",
+            "imports 0 p x 600",
+            "export 0 p x 600",
         ],
     );
 }

@@ -31,10 +31,10 @@ words =
     ++ (1 ∷ 1 ∷ 10 ∷ address 1 ∷ (replicate 28 0
     ++ (2 ∷ 1 ∷ 0 ∷ address 0 ∷ (replicate 28 0 ++ replicate 1920 0)))))
 
-abbrev pair : Graph
+abbrev pub pair : Graph
 pair = record { next_serial = 3; root = 1; objects = (1, object 10 2) ∷ (2, object 0 1) ∷ [] }
 
-abbrev contents : FileContents
+abbrev pub contents : FileContents
 contents = record { types = types; puddles = 1; graph = pair }
 
 -- the word of the file that word k of the frame is, and of a slot
@@ -45,10 +45,10 @@ abbrev in_slot : (slot k : ℕ) → ℕ
 in_slot slot k = in_frame (puddle_slot_at slot + k)
 
 -- its bytes
-abbrev bytes : List ℕ
+abbrev pub bytes : List ℕ
 bytes = flat_map (to_le_bytes w64) words
 
-of_its_bytes : file_graph bytes ≡ Some contents
+pub of_its_bytes : file_graph bytes ≡ Some contents
 unfolding opened
 of_its_bytes = refl
 
@@ -61,7 +61,7 @@ any_writer = (refl, refl, refl)
 
 -- The same pool, moved from range 2, with the root and the pointer of object 1 over its base and that of object 2 over the old one; each
 -- word that is not read is 9.
-abbrev partly : Stored
+abbrev pub partly : Stored
 partly = record {
   puddles = record { number = 5; base = base_at 0; old_base = base_at 2; frontier = 2 } ∷ [];
   word = λ o. slice_index

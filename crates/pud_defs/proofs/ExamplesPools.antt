@@ -78,7 +78,7 @@ unfolding opened said
 fifth_pool = refl
 
 -- a world of 64 frames with pools of one puddle, whose names have one byte each
-abbrev many_pools : ℕ → World
+abbrev pub many_pools : ℕ → World
 many_pools n = record {
   stored = record (blank_world 64 7) { next_number = 65; pools = map (λ k. ((k ∷ 0 ∷ 0 ∷ 0 ∷ 0 ∷ 0 ∷ 0 ∷ 0 ∷ 0 ∷ 0 ∷ 0 ∷ 0 ∷ 0 ∷ 0 ∷ 0 ∷ 0 ∷ []), record { owner = owner 5 5; mode = 384; number = k; puddles = 1; holding = Sound empty_graph })) (range_with_len 1 n) };
   clients = λ _. Some (owner 5 5);

@@ -70,6 +70,7 @@ pub mod ExamplesIdentifiers
 pub mod ExamplesPlaces
 pub mod ExamplesGraph
 pub mod ExamplesFiles
+pub mod ExamplesImports
 pub mod ExamplesDump
 pub mod ExamplesRights
 pub mod ExamplesOpenLogs

@@ -8,7 +8,7 @@ use Rattle.std.proofs.lemmas.Bool.{lt-leb, le-ltb}
 use Rattle.std.proofs.lemmas.Option.{none-some, cond_some}
 use Rattle.pud_defs.specs.declared.records.TheConstants.{POOL_RECORDS}
 use Rattle.pud_defs.specs.declared.records.PoolRec.{PoolRec}
-use Rattle.pud_defs.specs.declared.machine.Command.TheVariants.{Chmod}
+use Rattle.pud_defs.specs.declared.machine.Command.TheVariants.{Chmod, Import}
 use Rattle.pud_defs.specs.declared.machine.Command.TheVariants as commands
 use Rattle.pud_defs.specs.declared.machine.Refusal.{Refusal}
 use Rattle.pud_defs.specs.declared.machine.Refusal.TheVariants as refusals
@@ -19,8 +19,11 @@ use Rattle.pud_defs.specs.Tables.{Tables, Pool, Reader, named, records_of, pool_
 use Rattle.pud_defs.specs.SoundTables.{HasSoundTables}
 use Rattle.pud_defs.specs.World.{World, open_on}
 use Rattle.pud_defs.specs.PoolChanges.{pool_named, is_full_of_pools, lacks_frames}
+use Rattle.pud_defs.specs.ExportFile.{FileContents}
+use Rattle.pud_defs.specs.Imports.{is_full_for_file, lacks_frames_for_file}
+use Rattle.pud_defs.specs.Listing.{name_text}
 use Rattle.pud_defs.specs.Transactions.{is_own, is_others}
-use Rattle.pud_defs.specs.Step.{owns, holds, refusal_of}
+use Rattle.pud_defs.specs.Step.{owns, contents_in, of_contents, clashes_with, holds, refusal_of}
 use Rattle.pud_defs.proofs.PoolsChanged.{same_name}
 use Rattle.pud_defs.proofs.Keyed.{find-keyed, first_from_some, first_free_some, count_used_full, count_used_room}
 use Rattle.pud_defs.proofs.KeyedMaps.{of_entry, keyed-mapped, find-mapped}
@@ -57,6 +60,27 @@ refusal_of-chmod w client mode name = refl
 pub refusal_of-drop : (w : World) (client : ℕ) (name : List ℕ) → refusal_of w (commands.Drop client name) ≡ owning_refusal (w.clients client) (pool_named name w.stored) (is_others client (open_on name w)) (is_own client (open_on name w))
 unfolding refusal_of holds
 refusal_of-drop w client name = refl
+
+-- of `import`; that memory is refused has no cause in the world
+abbrev pub importing_refusal : Option Owner → Option Pool → (bytes : Option (List ℕ)) → (contents : Option FileContents) → (clash full lacks : Bool) → Option Refusal
+importing_refusal who found bytes contents clash full lacks =
+    cond (not (is_some who)) (Some refusals.Client)
+    (cond (is_some found) (Some refusals.Exists)
+    (cond (is_none bytes) (Some refusals.File)
+    (cond (is_none contents) (Some refusals.BadFile)
+    (cond clash (Some refusals.Clash)
+    (cond full (Some refusals.Full)
+    (cond lacks (Some refusals.Space) None))))))
+
+-- by what the file is and holds
+pub refusal_of-import : (w : World) (client mode : ℕ) (name file : List ℕ) (bytes : Option (List ℕ)) (contents : Option FileContents)
+    → w.shelf (name_text file) ≡ bytes → contents_in bytes ≡ contents
+    → refusal_of w (Import client name file mode)
+    ≡ importing_refusal (w.clients client) (pool_named name w.stored) bytes contents (of_contents (λ (c : FileContents). clashes_with w.stored.types c.types) contents) (of_contents (is_full_for_file w.stored) contents) (of_contents (lacks_frames_for_file w.stored) contents)
+unfolding refusal_of holds
+refusal_of-import w client mode name file bytes contents there is =
+    let by : Option (List ℕ) → Option FileContents → Option Refusal = λ b c. importing_refusal (w.clients client) (pool_named name w.stored) b c (of_contents (λ (c : FileContents). clashes_with w.stored.types c.types) c) (of_contents (is_full_for_file w.stored) c) (of_contents (lacks_frames_for_file w.stored) c) in
+    ap (λ (b : Option (List ℕ)). by b (contents_in b)) there ∙ ap (by bytes) is
 
 -- ---- what the tables tell
 

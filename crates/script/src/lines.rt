@@ -22,6 +22,7 @@
 //! - `get C P o.f`;
 //! - `dump C P`;
 //! - `export C P file`: the name of the file has the form of a pool's;
+//! - `import C P file mode`;
 //! - `rewrite P n`: how many steps n, from 1 to 1,008;
 //! - `pools`;
 //! - `cut N`: the pick N, any number below 2^64;
@@ -29,7 +30,7 @@
 
 ghost use Rattle.std.specs.Prelude.{◌≡◌, IfOk};
 ghost use Rattle.std.specs.Result.{result_ok};
-ghost use Rattle.pud_defs.specs.Grammar.{split_at, client_by, leave_by, define_by, pool_line_by, chmod_by, drop_by, begin_by, commit_by, abort_by, new_by, set_by, later_by, root_by, free_by, get_by, dump_by, export_by, rewrite_by, pools_by, cut_by, arm_by, transaction_lines, command_among, command_with, command_by, command_of, IsLegalCommand};
+ghost use Rattle.pud_defs.specs.Grammar.{split_at, client_by, leave_by, define_by, pool_line_by, chmod_by, drop_by, begin_by, commit_by, abort_by, new_by, set_by, later_by, root_by, free_by, get_by, dump_by, export_by, import_by, rewrite_by, pools_by, cut_by, arm_by, transaction_lines, command_among, command_with, command_by, command_of, IsLegalCommand};
 
 use crate::arguments::Arguments;
 use crate::pieces::cut;
@@ -235,6 +236,23 @@ fn read_export(mut arguments: Arguments) -> Option<Command>
     arguments.end(Command::Export { client, name, file })
 }
 
+/// The making of a pool of a file.
+#[tactic(auto, unfolding(pud_defs::specs::Grammar::import_by))]
+fn read_import(mut arguments: Arguments) -> Option<Command>
+    ensures { result ≡ import_by arguments.entry }
+{
+    let client = arguments.client()?;
+    let name = arguments.name()?;
+    let file = arguments.name()?;
+    let mode = arguments.mode()?;
+    arguments.end(Command::Import {
+        client,
+        name,
+        file,
+        mode,
+    })
+}
+
 /// The rewriting of a pool's pointers.
 #[tactic(auto, unfolding(pud_defs::specs::Grammar::rewrite_by))]
 fn read_rewrite(mut arguments: Arguments) -> Option<Command>
@@ -320,6 +338,8 @@ fn read_with(word: &[u8], arguments: Arguments) -> Option<Command>
         read_dump(arguments)
     } else if word == b"export".as_slice() {
         read_export(arguments)
+    } else if word == b"import".as_slice() {
+        read_import(arguments)
     } else if word == b"rewrite".as_slice() {
         read_rewrite(arguments)
     } else if word == b"pools".as_slice() {
