@@ -136,7 +136,7 @@ pub ChangesPools-moves : (size : ℕ) (s next : StoredWorld) (puts : List Put) (
     → ((image : Image) → IsBetween size s next (puts_batch puts) old.now.words image → also image)
     → Moves size s next (puts_batch puts) fault old new → ChangesPools size s next also fault old new
 ChangesPools-moves size s next puts also fault old new of tables besides m = record {
-  changes = Changes-wider (ByBatch DAEMON_LOG (puts_batch puts)) (ByPools s.frames) fault old new (λ k v may. ByPools-batch s.frames puts k v (of_tables s.frames puts of) may) m.commits.changes;
+  changes = Changes-wider (ByBatch DAEMON_LOG (puts_batch puts)) (ByPools s.frames) fault old new (λ k v may. ByPools-batch s.frames puts k v of may) m.commits.changes;
   moments = Leaves-weaker (Silently (IsBetween size s next (puts_batch puts) old.now.words)) (Silently (MayStand size s next also)) old new
       (λ bytes image p. (p.0, elim p.1.stands [ inl before ↦ inl before.1 | inr after ↦ inr (after.1, besides image p.1) ])) m.moments;
   settled = m.settled;
