@@ -1,5 +1,5 @@
 -- The line that makes a pool of a file: what it owes, by what its calls did.
-use Rattle.std.proofs.Common.{◌≡◌, ◌≢◌, inl, inr, ℕ, ◌≤◌, true, false, List, Option, Some, None, Result, Ok, Err, option_map, is_some, refl, sym, ap, subst, ◌∙◌}
+use Rattle.std.proofs.Common.{◌≡◌, ◌≢◌, inl, inr, ℕ, ◌≤◌, true, false, List, take, Option, Some, None, Result, Ok, Err, option_map, is_some, refl, sym, ap, subst, ◌∙◌}
 use Rattle.std.specs.Prelude.{IfOk, ⊤}
 use Rattle.std.proofs.lemmas.Option.{none-some, same_Some}
 use Rattle.pm_model.specs.declared.host.HostFault.{HostFault}
@@ -7,7 +7,7 @@ use Rattle.pm_model.specs.declared.host.HostFault.TheVariants as hosts
 use Rattle.pm_model.specs.declared.host.TheConstants.{FILE_READ_LIMIT}
 use Rattle.pm_model.specs.Counts.{Counts, after_fault, fault_of}
 use Rattle.pm_model.specs.Words.{IsRested, reads}
-use Rattle.pm_model.specs.Moments.{State}
+use Rattle.pm_model.specs.Moments.{State, Shelf}
 use Rattle.pm_model.specs.Changes.{Write}
 use Rattle.pm_model.specs.Masks.{masked, masked_state}
 use Rattle.pud_defs.specs.declared.layout.TheConstants.{DAEMON_LOG}
@@ -29,6 +29,7 @@ use Rattle.pud_defs.specs.Step.Answer.{of_reply}
 use Rattle.pud_defs.specs.Stored.{Stored}
 use Rattle.pud_defs.specs.Tables.{tables_of, pool_in}
 use Rattle.pud_defs.specs.World.{StoredWorld, World}
+use Rattle.pud_defs.proofs.Keyed.{option_map_parts}
 use Rattle.pud_defs.proofs.Steps.{refused_world}
 use Rattle.batch.specs.Batches.{HasIdleGate}
 use Rattle.registry.specs.Pools.{OrStill, ChangesMasked, IsLegalPool}
@@ -235,3 +236,23 @@ stays_unplaced size w memory old new ready client uid gid name may view is done 
     let absent : pool_in (tables_of n (reads old.now.words)) name ≡ None =
     subst (λ (m : ℕ). pool_in (tables_of m (reads old.now.words)) name ≡ None) (sym on) (absent_in size w memory old ready name may.absent) in
     stays_refused n (reads old.now.words) found.0 old new done (λ none. told found.0 found.1 none absent) (stays found.0 found.1 absent)
+
+-- ---- what the host gave of a file
+
+-- some bytes: the file is there, and they are its front
+pub front_of : (w : World) (s : State) (file bytes : List ℕ) → s.shelf ≡ w.shelf → Some bytes ≡ option_map (take FILE_READ_LIMIT) (s.shelf (name_text file)) → IsFrontOf w file bytes
+front_of w s file bytes shelf given =
+    let parts = option_map_parts (take FILE_READ_LIMIT) (s.shelf (name_text file)) bytes (sym given) in
+    record { whole = parts.value; there = ap (λ (files : Shelf). files (name_text file)) (sym shelf) ∙ parts.is; front = sym parts.gives }
+
+no_more : (o : Option (List ℕ)) → None ≡ option_map (take FILE_READ_LIMIT) o → o ≡ None
+no_more None given = refl
+no_more (Some bytes) given = absurd (none-some (take FILE_READ_LIMIT bytes) given)
+
+-- none: it is not there
+pub none_given : (w : World) (s : State) (file : List ℕ) → s.shelf ≡ w.shelf → None ≡ option_map (take FILE_READ_LIMIT) (s.shelf (name_text file)) → w.shelf (name_text file) ≡ None
+none_given w s file shelf given = ap (λ (files : Shelf). files (name_text file)) (sym shelf) ∙ no_more (s.shelf (name_text file)) given
+
+-- memory was refused for it: it is there
+pub some_there : (w : World) (s : State) (file : List ℕ) → s.shelf ≡ w.shelf → is_some (s.shelf (name_text file)) ≡ true → (bytes : List ℕ) × (w.shelf (name_text file) ≡ Some bytes)
+some_there w s file shelf is = found_some (w.shelf (name_text file)) (ap (λ (files : Shelf). is_some (files (name_text file))) (sym shelf) ∙ is)

@@ -28,7 +28,7 @@ use Rattle.pud_defs.specs.Gives.{may_lack_memory}
 use Rattle.pud_defs.specs.Tables.{Tables, Pool, Reader, tables_of, pool_in}
 use Rattle.pud_defs.specs.Types.{types_of}
 use Rattle.pud_defs.specs.World.{StoredWorld, World}
-use Rattle.pud_defs.proofs.PoolRefusals.{found_by_table, full_by_table}
+use Rattle.pud_defs.proofs.PoolRefusals.{importing_refusal, refusal_of-import, found_by_table, full_by_table}
 use Rattle.pud_defs.proofs.PoolsCounted.{IsMasked, sum_puddles}
 use Rattle.pud_defs.proofs.Steps.{answer_is_ok, refused_answer}
 use Rattle.pud_defs.proofs.TablesOf.{pools_beyond, frames_of_tables}
@@ -49,37 +49,31 @@ placing_refusal s c =
     (cond (is_full_for_file s c) (Some refusals.Full)
     (cond (lacks_frames_for_file s c) (Some refusals.Space) None))
 
--- by who acts, the pool of the name, and the bytes of the file
-abbrev import_refusal : StoredWorld → Option Owner → Option Pool → Option (List ℕ) → Option Refusal
-import_refusal s who found bytes =
-    cond (not (is_some who)) (Some refusals.Client)
-    (cond (is_some found) (Some refusals.Exists)
-    (cond (is_none bytes) (Some refusals.File)
-    (cond (is_none (contents_in bytes)) (Some refusals.BadFile)
-    (cond (of_contents (λ c. clashes_with s.types c.types) (contents_in bytes)) (Some refusals.Clash)
-    (cond (of_contents (is_full_for_file s) (contents_in bytes)) (Some refusals.Full)
-    (cond (of_contents (lacks_frames_for_file s) (contents_in bytes)) (Some refusals.Space) None))))))
-
 module _ (w : World) (client mode : ℕ) (name file : List ℕ) where
   abbrev line : Command
   line = Import client name file mode
 
-  refusal_of-import : refusal_of w line ≡ import_refusal w.stored (w.clients client) (pool_named name w.stored) (w.shelf (name_text file))
-  unfolding refusal_of
-  refusal_of-import = refl
+  -- by who acts, the pool of the name, and what stands under the name of the file
+  abbrev refused : Option Owner → Option Pool → Option (List ℕ) → Option FileContents → Option Refusal
+  refused who found bytes contents =
+      importing_refusal who found bytes contents (of_contents (λ (c : FileContents). clashes_with w.stored.types c.types) contents) (of_contents (is_full_for_file w.stored) contents)
+      (of_contents (lacks_frames_for_file w.stored) contents)
+
+  by_shelf : refusal_of w line ≡ refused (w.clients client) (pool_named name w.stored) (w.shelf (name_text file)) (contents_in (w.shelf (name_text file)))
+  by_shelf = refusal_of-import w client mode name file (w.shelf (name_text file)) (contents_in (w.shelf (name_text file))) refl refl
 
   pub import_client : w.clients client ≡ None → refusal_of w line ≡ Some refusals.Client
-  import_client none = refusal_of-import ∙ ap (λ who. import_refusal w.stored who (pool_named name w.stored) (w.shelf (name_text file))) none
+  import_client none = by_shelf ∙ ap (λ who. refused who (pool_named name w.stored) (w.shelf (name_text file)) (contents_in (w.shelf (name_text file)))) none
 
   pub import_exists : (who : Owner) (found : Pool) → w.clients client ≡ Some who → pool_named name w.stored ≡ Some found → refusal_of w line ≡ Some refusals.Exists
-  import_exists who found acts there = refusal_of-import ∙ (λ p. import_refusal w.stored (acts p) (there p) (w.shelf (name_text file)))
+  import_exists who found acts there = by_shelf ∙ (λ p. refused (acts p) (there p) (w.shelf (name_text file)) (contents_in (w.shelf (name_text file))))
 
   module _ (uid gid : ℕ) (may : MayName w client name uid gid) where
-    by_bytes : (bytes : Option (List ℕ)) → w.shelf (name_text file) ≡ bytes → refusal_of w line ≡ import_refusal w.stored (Some (owner uid gid)) None bytes
-    by_bytes bytes is = refusal_of-import ∙ (λ p. import_refusal w.stored (may.acts p) (may.absent p) (is p))
+    by_file : (bytes : Option (List ℕ)) (contents : Option FileContents) → w.shelf (name_text file) ≡ bytes → contents_in bytes ≡ contents → refusal_of w line ≡ refused (Some (owner uid gid)) None bytes contents
+    by_file bytes contents is held = refusal_of-import w client mode name file bytes contents is held ∙ (λ p. refused (may.acts p) (may.absent p) bytes contents)
 
     pub import_no_file : w.shelf (name_text file) ≡ None → refusal_of w line ≡ Some refusals.File
-    import_no_file none = by_bytes None none
+    import_no_file none = by_file None None none refl
 
     -- memory may be refused where there is such a file
     pub import_memory : (bytes : List ℕ) → w.shelf (name_text file) ≡ Some bytes → may_lack_memory w line ≡ true
@@ -88,21 +82,11 @@ module _ (w : World) (client mode : ℕ) (name file : List ℕ) where
         λ p. is_none (cond (not (is_some (may.acts p))) (Some refusals.Client) (cond (is_some (may.absent p)) (Some refusals.Exists) (cond (is_none (there p)) (Some refusals.File) None)))
 
     module _ (bytes : List ℕ) (there : w.shelf (name_text file) ≡ Some bytes) where
-      by_contents : (contents : Option FileContents) → file_graph bytes ≡ contents
-          → refusal_of w line ≡ cond (is_none contents) (Some refusals.BadFile)
-          (cond (of_contents (λ c. clashes_with w.stored.types c.types) contents) (Some refusals.Clash)
-          (cond (of_contents (is_full_for_file w.stored) contents) (Some refusals.Full)
-          (cond (of_contents (lacks_frames_for_file w.stored) contents) (Some refusals.Space) None)))
-      by_contents contents is = by_bytes (Some bytes) there ∙ ap (λ (c : Option FileContents). cond (is_none c) (Some refusals.BadFile)
-          (cond (of_contents (λ d. clashes_with w.stored.types d.types) c) (Some refusals.Clash)
-          (cond (of_contents (is_full_for_file w.stored) c) (Some refusals.Full)
-          (cond (of_contents (lacks_frames_for_file w.stored) c) (Some refusals.Space) None)))) is
-
       pub import_bad : file_graph bytes ≡ None → refusal_of w line ≡ Some refusals.BadFile
-      import_bad none = by_contents None none
+      import_bad none = by_file (Some bytes) None there none
 
       pub import_placed : (contents : FileContents) → file_graph bytes ≡ Some contents → refusal_of w line ≡ placing_refusal w.stored contents
-      import_placed contents is = by_contents (Some contents) is
+      import_placed contents is = by_file (Some bytes) (Some contents) there is
 
       -- the world that it gives
       pub import_gives : (contents : FileContents) → file_graph bytes ≡ Some contents → after w line ≡ record w { stored = with_imported_pool name (owner uid gid) mode contents w.stored }
