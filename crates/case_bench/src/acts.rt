@@ -35,6 +35,8 @@ impl Bench {
                 Some((name, first)) => self.check_file(number, name, first, cells),
                 None => Err(self.unknown(line)),
             },
+            ("bytes", None) => self.set_length(number, rest),
+            ("file", None) => self.set_words(number, rest),
             ("plan", None) => {
                 let plan = self.plan_of(number, rest)?;
                 let device = Copied::of(self.alloc, &self.host)?;

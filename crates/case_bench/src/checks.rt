@@ -79,7 +79,7 @@ impl Bench {
     }
 
     /// The bytes of the file on the shelf: none where there is no such file.
-    fn file_bytes(&mut self, number: u32, name: &str) -> Result<Vec<u8>, Trouble> {
+    pub(crate) fn file_bytes(&mut self, number: u32, name: &str) -> Result<Vec<u8>, Trouble> {
         match self.host.file_get(self.alloc, name) {
             Ok(found) => Ok(found.unwrap_or(Vec::new(self.alloc))),
             Err(FileFault::Memory) => Err(Trouble::Memory),

@@ -11,4 +11,5 @@ mod device;
 mod numbers;
 pub mod program;
 mod runs;
+mod shelf;
 mod tries;

@@ -26,3 +26,4 @@ pub mod BasesApart
 pub mod Moved
 pub mod Plain
 pub mod Law
+pub mod Placed

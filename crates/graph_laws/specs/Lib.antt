@@ -3,3 +3,4 @@ pub mod Reads
 pub mod Slots
 pub mod Rewriting
 pub mod Steps
+pub mod Placed

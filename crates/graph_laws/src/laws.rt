@@ -2,7 +2,7 @@
 
 ghost use Rattle.std.specs.Prelude.{◌≡◌, ◌↔◌, ◌+◌, ◌*◌, ◌<◌, ◌≤◌, ℕ, true, false, List, length, map, slice_get, slice_index, Option, option_map};
 ghost use Rattle.pud_defs.specs.declared.layout.TheConstants.{FRAME_WORDS, NUMBER_LIMIT};
-ghost use Rattle.pud_defs.specs.declared.space.TheConstants.{FRAME_HEADER_WORDS, FRAME_ORDINAL_WORD, ROOT_WORD, SLOT_SERIAL_WORD, SLOT_TYPE_WORD, SLOT_FIELDS_WORD};
+ghost use Rattle.pud_defs.specs.declared.space.TheConstants.{FRAME_HEADER_WORDS, FRAME_ORDINAL_WORD, ROOT_WORD, SLOT_SERIAL_WORD, SLOT_TYPE_WORD, SLOT_FIELDS_WORD, LAST_FRONTIER};
 ghost use Rattle.pud_defs.specs.declared.records.TheConstants.{POOL_RECORDS};
 ghost use Rattle.pud_defs.specs.declared.records.PoolRec.{PoolRec};
 ghost use Rattle.pud_defs.specs.declared.records.Puddle.{Puddle};
@@ -16,7 +16,7 @@ ghost use Rattle.pud_defs.specs.Image.{Image, written};
 ghost use Rattle.pud_defs.specs.Frames.{frame_at, frame_word, fresh_frame};
 ghost use Rattle.pud_defs.specs.Replay.{overwritten};
 ghost use Rattle.pud_defs.specs.Stored.{Stored, stored_in, places_of, place_word, place_words, IsFreePlace};
-ghost use Rattle.pud_defs.specs.Graph.{Graph, table_of, place_of, object_at, field_count, object_in, next_serial_of, is_held, graph_of, empty_graph};
+ghost use Rattle.pud_defs.specs.Graph.{Graph, table_of, place_of, object_at, field_count, object_in, next_serial_of, is_held, pointee_at, graph_of, empty_graph};
 ghost use Rattle.pud_defs.specs.GraphChanges.{blank_object, with_field, with_new, without_object, with_root};
 ghost use Rattle.std.specs.List.{list_any, range_with_len};
 ghost use Rattle.pud_defs.specs.ExportFile.{words_in, is_type_used, types_used, contents_of, file_graph};
@@ -26,6 +26,7 @@ ghost use Rattle.graph_laws.specs.Reads.{ReadsSame, with_puddle, alone, IsGrown,
 ghost use Rattle.graph_laws.specs.Slots.{AreAllLive, is_of_type};
 ghost use Rattle.graph_laws.specs.Rewriting.{advanced, RewritesSteps, LeadSomewhere};
 ghost use Rattle.graph_laws.specs.Steps.{steps_in, with_steps};
+ghost use Rattle.graph_laws.specs.Placed.{IsPlaced, AreFrontiers, KeepsBases, MovesBases};
 
 /// The object of a serial is what stands at the place of the serial.
 pub fn object_stands_at_the_place_of_its_serial()
@@ -207,4 +208,20 @@ pub fn bytes_of_exported_words_are_a_file()
 pub fn pool_of_a_sound_registry_can_be_exported()
     ensures { (size : ℕ) (image : Image) (frames : ℕ) (slot : ℕ) (rec : PoolRec) → is_registry size image ≡ true → frames ≡ frames_of image
         → slot < POOL_RECORDS → (tables_of frames image).pools slot ≡ Option.Some rec → IsExportable (types_of image) (stored_in frames (puddles_in_turn (tables_of frames image) slot) image) }
+{}
+
+/// Frames that are placed elsewhere hold the graph that they held, whatever numbers and bases their puddles have there, where their pointers
+/// stand for the same.
+pub fn placed_frames_have_the_graph()
+    ensures { (types : List (ℕ × ℕ)) (file : Stored) (later : Stored) (g : Graph) → IsPlaced file later → 1 ≤ length file.puddles → graph_of types file ≡ Option.Some g
+        → graph_of types later ≡ Option.Some g }
+{}
+
+/// Pointers stand for the same where the bases are kept, and also where they are not, as long as no step is rewritten and the old bases are those
+/// over which they stand.
+pub fn placed_pointers_stand_for_the_same()
+    ensures kept { (file : List Puddle) (later : List Puddle) → AreFrontiers LAST_FRONTIER file → KeepsBases file later
+        → (o : ℕ) (step : ℕ) (v : ℕ) → o < length file → step < LAST_FRONTIER → pointee_at later o step v ≡ pointee_at file o step v }
+    ensures moved { (file : List Puddle) (later : List Puddle) → AreFrontiers LAST_FRONTIER file → MovesBases file later
+        → (o : ℕ) (step : ℕ) (v : ℕ) → o < length file → step < LAST_FRONTIER → pointee_at later o step v ≡ pointee_at file o step v }
 {}

@@ -56,6 +56,16 @@ impl Dice {
         (serial, f, self.value(f))
     }
 
+    /// An import: mostly of the file that exports write, and else of one that is no export file, or of none.
+    fn import(&mut self) -> Ask {
+        let file = match self.roll(8) {
+            0 => 'y',
+            1 => 'z',
+            _ => 'x',
+        };
+        Ask::Import(file, self.mode())
+    }
+
     fn ask(&mut self) -> Ask {
         match self.roll(48) {
             0..=1 => Ask::Make(self.mode()),
@@ -110,6 +120,8 @@ impl Dice {
             7..=9 => Line::Define(self.roll(4), self.roll(4) == 0),
             10 if self.roll(4) == 0 => Line::Cut(u64::from(self.roll(2))),
             11..=12 => Line::Rewrite(self.roll(7), 1 + u16::from(self.roll(16))),
+            13..=14 => Line::On(self.roll(8), self.roll(7), Ask::Export),
+            15..=17 => Line::On(self.roll(8), self.roll(7), self.import()),
             _ => self.ask_on(),
         }
     }

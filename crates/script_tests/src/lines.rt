@@ -33,6 +33,10 @@ pub enum Ask {
     Later(u64, u8, Value),
     Root(u64),
     Free(u64),
+    /// Into the file `x`.
+    Export,
+    /// Of the file of this name, with this mode.
+    Import(char, u16),
 }
 
 /// A line.
@@ -136,6 +140,8 @@ impl Ask {
             }
             Ask::Root(s) => format!(in alloc; "root {c} {p} {s}\n"),
             Ask::Free(s) => format!(in alloc; "free {c} {p} {s}\n"),
+            Ask::Export => format!(in alloc; "export {c} {p} x\n"),
+            Ask::Import(file, mode) => format!(in alloc; "import {c} {p} {file} {mode:03}\n"),
         }
     }
 }

@@ -64,6 +64,14 @@ pub struct Pool {
     open: Option<Open>,
 }
 
+/// What the file holds that exports write. Each of its types is defined, since none ever goes.
+#[derive(Drop)]
+struct Exported {
+    puddles: u8,
+    objects: Vec<Object>,
+    root: u64,
+}
+
 /// What the lines move. Of the types there is room for one less than there are.
 #[derive(Drop)]
 pub struct Machine {
@@ -73,6 +81,8 @@ pub struct Machine {
     /// Which of its maps each type has.
     kinds: [Option<bool>; 4],
     pools: [Option<Pool>; 7],
+    /// The file `x`. The file `y` is no export file, and `z` is not there.
+    file: Option<Exported>,
 }
 
 impl Object {
@@ -138,7 +148,7 @@ impl Pool {
     fn denies(&self, who: Owner, ask: Ask) -> bool {
         match ask {
             Ask::Change(_) | Ask::Drop => who.uid != self.owner.uid,
-            Ask::Get(_, _) => self.right(who) & 4 == 0,
+            Ask::Get(_, _) | Ask::Export => self.right(who) & 4 == 0,
             Ask::Begin => self.right(who) & 2 == 0,
             _ => false,
         }
@@ -155,7 +165,7 @@ impl Pool {
         }
         match &self.open {
             Some(open) if open.client != client => Some("busy"),
-            Some(_) if is_of_record => Some("open"),
+            Some(_) if is_of_record || matches!(ask, Ask::Export) => Some("open"),
             None
                 if matches!(
                     ask,
@@ -383,6 +393,7 @@ impl Machine {
             clients: [None; 8],
             kinds: [None; 4],
             pools: array::from_fn(|_| None),
+            file: None,
         };
         machine.define(0, false);
         for (place, (id, objects)) in machine.pools.iter_mut().zip(owned) {
@@ -468,6 +479,17 @@ impl Machine {
         }
     }
 
+    fn refusal_to_import(&self, file: char) -> Option<&'static str> {
+        match (file, &self.file) {
+            ('x', Some(file)) => {
+                let puddles = self.puddles().saturating_add(usize::from(file.puddles));
+                if puddles > self.frames { Some("space") } else { None }
+            }
+            ('y', _) => Some("badfile"),
+            _ => Some("file"),
+        }
+    }
+
     fn refusal_on(&self, client: u8, pool: u8, ask: Ask) -> Option<&'static str> {
         let Some(who) = self.client(client) else {
             return Some("client");
@@ -476,10 +498,11 @@ impl Machine {
             return match ask {
                 Ask::Make(_) if self.has_space() => None,
                 Ask::Make(_) => Some("space"),
+                Ask::Import(file, _) => self.refusal_to_import(file),
                 _ => Some("pool"),
             };
         };
-        if let Ask::Make(_) = ask {
+        if let Ask::Make(_) | Ask::Import(_, _) = ask {
             return Some("exists");
         }
         if let Some(word) = pool.refusal(who, client, ask) {
@@ -543,6 +566,31 @@ impl Machine {
         }
     }
 
+    fn export(&mut self, rt: &impl Abort, alloc: Global, at: u8) {
+        if let Some(pool) = self.pool(at) {
+            let objects = Vec::from_slice(alloc, &pool.objects).expect(rt, "memory");
+            self.file = Some(Exported {
+                puddles: pool.puddles,
+                objects,
+                root: pool.root,
+            });
+        }
+    }
+
+    /// A pool of what the file holds, which draws a number more than it has puddles.
+    fn import(&mut self, rt: &impl Abort, alloc: Global, client: u8, at: u8, mode: u16) {
+        if let Some(owner) = self.client(client)
+            && let Some(file) = &self.file
+        {
+            let mut pool = new_pool(alloc, owner, (mode, self.next));
+            pool.puddles = file.puddles;
+            pool.objects = Vec::from_slice(alloc, &file.objects).expect(rt, "memory");
+            pool.root = file.root;
+            self.draw(u64::from(pool.puddles).saturating_add(1));
+            self.put_pool(at, Some(pool));
+        }
+    }
+
     fn make_object(&mut self, rt: &impl Abort, at: u8, kind: Kind) -> Reply {
         if self.pool(at).is_some_and(Pool::is_full) {
             self.draw(1);
@@ -557,6 +605,8 @@ impl Machine {
         match ask {
             Ask::Make(mode) => self.make(alloc, client, at, mode),
             Ask::Drop => self.put_pool(at, None),
+            Ask::Export => self.export(rt, alloc, at),
+            Ask::Import(_, mode) => self.import(rt, alloc, client, at, mode),
             Ask::New(kind) => {
                 if let Some(is_second) = self.map(kind) {
                     return self.make_object(rt, at, kind_of(kind, is_second));

@@ -26,6 +26,9 @@ const MOVED: [(u32, u64); 4] = [
     (34_427, 0x1000_0020_0300),
 ];
 
+/// What is on the shelf as the file `y`, which is no export file.
+const OTHER_FILE: &[u8] = b"no export file";
+
 /// A device with them, with room for so many device steps and said bytes. They may be read and written by all, and there is room for two more
 /// types.
 pub fn device(rt: &impl Abort, alloc: Global, room: (u32, u32), script: &str) -> MemHost {
@@ -47,6 +50,7 @@ pub fn device(rt: &impl Abort, alloc: Global, room: (u32, u32), script: &str) ->
         ];
         assert!(rt; poke(&mut host, &words));
     }
+    host.put_shelf(alloc, "y", OTHER_FILE).expect(rt, "memory");
     host
 }
 
@@ -56,9 +60,10 @@ pub fn first_machine(rt: &impl Abort, alloc: Global) -> Machine {
 }
 
 /// The words by which lines are refused.
-const REFUSED: [&str; 21] = [
+const REFUSED: [&str; 23] = [
     "bad", "client", "taken", "pool", "exists", "wild", "denied", "busy", "open", "tx", "type",
-    "object", "field", "kind", "held", "deep", "logs", "toobig", "clash", "full", "space",
+    "object", "field", "kind", "held", "deep", "logs", "toobig", "file", "badfile", "clash", "full",
+    "space",
 ];
 
 /// The place of a reply to the line among those words, and behind them of those that are none.
@@ -68,19 +73,21 @@ fn place_of(line: Line, reply: Reply) -> usize {
             .iter()
             .position(|known| *known == word)
             .unwrap_or(99),
-        (Reply::Number(_), _) => 21,
-        (Reply::Object(_), _) => 22,
-        (Reply::List, _) => 23,
-        (Reply::Done, Line::On(_, _, Ask::Later(_, _, _))) => 24,
-        (Reply::Done, Line::On(_, _, Ask::Root(_))) => 25,
-        (Reply::Done, Line::On(_, _, Ask::Free(_))) => 26,
-        (Reply::Done, Line::Rewrite(_, _)) => 27,
-        (Reply::Done, _) => 28,
+        (Reply::Number(_), _) => 23,
+        (Reply::Object(_), _) => 24,
+        (Reply::List, _) => 25,
+        (Reply::Done, Line::On(_, _, Ask::Later(_, _, _))) => 26,
+        (Reply::Done, Line::On(_, _, Ask::Root(_))) => 27,
+        (Reply::Done, Line::On(_, _, Ask::Free(_))) => 28,
+        (Reply::Done, Line::Rewrite(_, _)) => 29,
+        (Reply::Done, Line::On(_, _, Ask::Export)) => 30,
+        (Reply::Done, Line::On(_, _, Ask::Import(_, _))) => 31,
+        (Reply::Done, _) => 32,
     }
 }
 
 /// How often each reply came.
-pub type Counts = [u32; 29];
+pub type Counts = [u32; 33];
 
 /// The lines come next, by the machine.
 pub fn go_on(
@@ -161,7 +168,7 @@ fn run_seed(rt: &impl Abort, alloc: Global, seed: u64, counts: &mut Counts) {
 
 #[test]
 fn lines_that_come_by_chance_are_replied_to_as_the_model_has_it(rt: HostRuntime) {
-    let mut counts: Counts = [0; 29];
+    let mut counts: Counts = [0; 33];
     for seed in 1..9 {
         run_seed(&rt, rt.alloc(), seed * 8_009, &mut counts);
     }

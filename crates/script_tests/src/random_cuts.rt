@@ -10,7 +10,7 @@ use std::alloc::Global;
 use std::process::Abort;
 
 /// The kinds of lines that are cut off.
-const KINDS: usize = 14;
+const KINDS: usize = 15;
 
 /// The place of the line among them, or more.
 fn kind_of(line: Line) -> usize {
@@ -29,6 +29,7 @@ fn kind_of(line: Line) -> usize {
         Line::On(_, _, Ask::Make(_)) => 11,
         Line::On(_, _, Ask::Change(_)) => 12,
         Line::On(_, _, Ask::Drop) => 13,
+        Line::On(_, _, Ask::Import(_, _)) => 14,
         _ => KINDS,
     }
 }
@@ -37,7 +38,7 @@ fn kind_of(line: Line) -> usize {
 fn machine_behind(rt: &impl Abort, alloc: Global, lines: &[Line]) -> (Machine, Talk) {
     let mut machine = first_machine(rt, alloc);
     let mut talk = Talk::new(rt, alloc);
-    let mut counts: Counts = [0; 29];
+    let mut counts: Counts = [0; 33];
     go_on(rt, alloc, (&mut machine, &mut talk), lines, &mut counts);
     (machine, talk)
 }
@@ -48,7 +49,7 @@ fn said_by(rt: &impl Abort, alloc: Global, machine: &mut Machine, lines: &[Line]
         script: String::new(alloc),
         said: String::new(alloc),
     };
-    let mut counts: Counts = [0; 29];
+    let mut counts: Counts = [0; 33];
     go_on(rt, alloc, (machine, &mut talk), lines, &mut counts);
     talk
 }
