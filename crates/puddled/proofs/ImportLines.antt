@@ -42,7 +42,7 @@ use Rattle.ready_daemon.specs.Ready.{KeepsRest, IsReady, Applies}
 use Rattle.ready_daemon.proofs.Applying.{Applies-still}
 use Rattle.ready_daemon.proofs.Beneath.{ready_gate, keeps_tables}
 use Rattle.ready_daemon.proofs.JudgedKept.{KeepsGraphs, KeepsPools}
-use Rattle.ready_daemon.proofs.PlacedPools.{KeepsHeld-imported, KeepsGraphs-then, imported_frames, imported_types, types_beside, Applies-wider}
+use Rattle.ready_daemon.proofs.PlacedPools.{KeepsHeld-imported, KeepsGraphs-then, imported_frames, imported_types, type_beside, Applies-wider}
 use Rattle.ready_daemon.proofs.Pooling.{ChangesBeside, IsNotNamed, absent_apart}
 use Rattle.ready_daemon.proofs.TablesBeside.{HasDurableTables-masked, sound_read}
 use Rattle.puddled.specs.Answered.{as_answered}
@@ -104,7 +104,7 @@ module _ (size : ℕ) (w : World) (memory : Memory) (old new : State) (ready : I
           pools = places (record {
             frames = refl;
             keeps = keeps_tables w memory.held ready.mask old.now.words ready.held;
-            types = record { types = types_beside size w memory old ready };
+            types = record { each = type_beside size w memory old ready };
             off = off;
             settled = ready.settled;
             tables = HasDurableTables-masked F ready.mask old.now.words ready.tables;

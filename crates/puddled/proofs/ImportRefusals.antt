@@ -26,7 +26,8 @@ use Rattle.pud_defs.specs.Step.{contents_in, of_contents, clashes_with, refusal_
 use Rattle.pud_defs.specs.Step.Answer.{of_reply}
 use Rattle.pud_defs.specs.Gives.{may_lack_memory}
 use Rattle.pud_defs.specs.Tables.{Tables, Pool, Reader, tables_of, pool_in}
-use Rattle.pud_defs.specs.Types.{types_of}
+use Rattle.pud_defs.specs.Types.{types_of, used_types}
+use Rattle.pud_defs.proofs.TypeTable.{length-types_of}
 use Rattle.pud_defs.specs.World.{StoredWorld, World}
 use Rattle.pud_defs.proofs.PoolRefusals.{importing_refusal, refusal_of-import, found_by_table, full_by_table}
 use Rattle.pud_defs.proofs.PoolsCounted.{IsMasked, sum_puddles}
@@ -136,16 +137,17 @@ module _ (size : ℕ) (w : World) (memory : Memory) (s : State) (ready : IsReady
       let pools = pools_read size w memory s ready in
       let sound = sound_read size w memory s ready in
       let types : w.stored.types ≡ types_of image = sym (types_read size w memory s ready).types in
+      let count : length w.stored.types ≡ used_types image = ap length types ∙ length-types_of image (types_read size w memory s ready).legal in
       let slots : leb POOL_RECORDS (length w.stored.pools) ≡ is_none (first_free t.pools 0 POOL_RECORDS) = ap (λ ps. leb POOL_RECORDS (length ps)) (sym pools) ∙ sym (full_by_table hold w.stored.next_number t sound) in
       let number : w.stored.next_number ≡ image NEXT_NUMBER_WORD = sym (header_read size w memory s ready).next_number in
       let frames : w.stored.frames ≡ t.frames = sym (frames_of_tables w.stored.frames image) in
       let used : sum_by (λ (e : List ℕ × Pool). e.1.puddles) w.stored.pools ≡ count_used t.puddles 0 t.frames =
       ap (sum_by (λ (e : List ℕ × Pool). e.1.puddles)) (sym pools) ∙ sum_puddles w.stored.next_number t sound hold beyond in
       (λ p. cond (clashes_with (types p) contents.types) (Some refusals.Clash)
-      (cond (slots p || ltb TYPE_RECORDS (length (types p) + length (types_missing (types p) contents.types)) || ltb NUMBER_LIMIT (number p + numbers_drawn contents.puddles)) (Some refusals.Full)
+      (cond (slots p || ltb TYPE_RECORDS (count p + length (types_missing (types p) contents.types)) || ltb NUMBER_LIMIT (number p + numbers_drawn contents.puddles)) (Some refusals.Full)
       (cond (ltb (frames p) (used p + contents.puddles)) (Some refusals.Space) None)))
       ∙ refusal_by_tests (clashes_with (types_of image) contents.types)
-      (is_none (first_free t.pools 0 POOL_RECORDS) || ltb TYPE_RECORDS (length (types_of image) + length (types_missing (types_of image) contents.types)) || ltb NUMBER_LIMIT (image NEXT_NUMBER_WORD + numbers_drawn contents.puddles))
+      (is_none (first_free t.pools 0 POOL_RECORDS) || ltb TYPE_RECORDS (used_types image + length (types_missing (types_of image) contents.types)) || ltb NUMBER_LIMIT (image NEXT_NUMBER_WORD + numbers_drawn contents.puddles))
       (ltb t.frames (count_used t.puddles 0 t.frames + contents.puddles))
 
 -- a pool of the name is there where its record is found

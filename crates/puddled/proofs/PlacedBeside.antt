@@ -30,7 +30,8 @@ use Rattle.registry.specs.Puts.{puts_batch}
 use Rattle.registry.specs.Pools.{OrStill, CommitsPuts, new_record}
 use Rattle.registry.specs.Placing.{placing, IsPlacedFor}
 use Rattle.registry.proofs.PutBatches.{puts_batched}
-use Rattle.pud_import.specs.Placing.{Placement, IsFrameWord, ByFrames, filled_value, AreFilled, PlacesSomewhere, IsOffPlacing}
+use Rattle.pud_import.specs.Filling.{IsFrameWord, ByFrames, filled_value, AreFilled}
+use Rattle.pud_import.specs.Placing.{Placement, PlacesSomewhere, IsOffPlacing}
 use Rattle.ready_daemon.specs.Memory.{Held}
 use Rattle.ready_daemon.specs.Held.{Holds, IsBeside}
 use Rattle.ready_daemon.proofs.Beneath.{IsOff-each, IsBeside-changes, IsBeside-commits, IsBeside-then}

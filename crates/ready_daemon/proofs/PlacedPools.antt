@@ -42,7 +42,8 @@ use Rattle.ready_daemon.proofs.Beside.{held_is}
 use Rattle.ready_daemon.proofs.Defining.{pool_kept}
 use Rattle.ready_daemon.proofs.PoolsApart.{found_beside_put}
 use Rattle.ready_daemon.proofs.Pooling.{IsNotNamed}
-use Rattle.pud_defs.specs.Types.{type_at}
+use Rattle.pud_defs.specs.Types.{type_at, type_record_at}
+use Rattle.pud_defs.proofs.TypeTable.{type_at-same}
 use Rattle.pud_defs.proofs.Keyed.{first_free_some}
 use Rattle.pud_defs.proofs.PutsMade.{with_put-outside}
 use Rattle.pud_defs.proofs.TablesOf.{tables_of-same}
@@ -57,7 +58,7 @@ use Rattle.registry.specs.Placing.{new_type_put, placing, HasFreeRecords, IsPlac
 use Rattle.registry.proofs.NewPuddles.{AreWithin, with_added, adding_of, adding_tables}
 use Rattle.registry.proofs.PutBatches.{of_tables, overwritten-table_puts}
 use Rattle.pud_defs.specs.Imports.{numbers_drawn}
-use Rattle.ready_daemon.proofs.JudgedKept.{KeepsGraphs, KeepsPools, KeepsPools-each, types_same, puddles_same, own_word}
+use Rattle.ready_daemon.proofs.JudgedKept.{KeepsGraphs, KeepsPools, KeepsPools-each, puddles_same, own_word}
 use Rattle.ready_daemon.proofs.JudgedPools.{not_free}
 use Rattle.pm_model.proofs.Words.{Picks-reads}
 use Rattle.pud_defs.specs.declared.machine.Command.{Command}
@@ -364,6 +365,8 @@ module _ (size : ℕ) (w : World) (memory : Memory) (next : StoredWorld) (also :
         ∙ graphs_defined w.stored.types next.types defines st g (ap (λ (ts : List (ℕ × ℕ)). graph_of ts st) (sym (types_read size w memory old ready).types) ∙ is);
   }
 
--- the types are read as they are masked
-pub types_beside : (size : ℕ) (w : World) (memory : Memory) (s : State) (ready : IsReady size w memory s) → types_of (reads (masked ready.mask s.now.words)) ≡ types_of (reads s.now.words)
-types_beside size w memory s ready = types_same (reads s.now.words) (reads (masked ready.mask s.now.words)) (λ k low high. read_beside size w memory s ready k (omega arith))
+-- each record of the type table is read as it is masked
+pub type_beside : (size : ℕ) (w : World) (memory : Memory) (s : State) (ready : IsReady size w memory s) (i : ℕ) → i < TYPE_RECORDS → type_at (reads (masked ready.mask s.now.words)) i ≡ type_at (reads s.now.words) i
+type_beside size w memory s ready i below =
+    type_at-same (reads s.now.words) (reads (masked ready.mask s.now.words)) i
+    (read_beside size w memory s ready (type_record_at i) (omega arith)) (read_beside size w memory s ready (type_record_at i + 1) (omega arith))
