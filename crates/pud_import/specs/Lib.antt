@@ -1,3 +1,5 @@
 pub mod Answers
 pub mod Contents
+pub mod Filling
+pub mod Placing
 pub mod Sized

@@ -12,6 +12,7 @@ mod graph;
 mod header;
 mod judge;
 pub mod laws;
+mod placing;
 mod plain;
 mod sized_file;
 mod types;
@@ -19,3 +20,4 @@ mod types_used;
 mod words;
 
 pub use file_view::{BadFile, FileView, read_file};
+pub use placing::{PlaceFault, place};

@@ -21,3 +21,6 @@ pub mod Settling
 pub mod Led
 pub mod Lines
 pub mod Beginning
+pub mod ImportRefusals
+pub mod PlacedBeside
+pub mod ImportLines

@@ -8,3 +8,4 @@ pub mod Files
 pub mod Reading
 pub mod Finding
 pub mod Rewriting
+pub mod Importing

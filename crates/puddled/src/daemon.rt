@@ -21,6 +21,7 @@ ghost use Rattle.puddled.specs.Daemon.{KeepsAllBut, KeepsLine, CarriesOut, Settl
 
 use crate::answers::{Answered, say_answer, with_reply};
 use crate::clients::come;
+use crate::importing::import;
 use crate::judged::Judged;
 use crate::pools::make;
 use crate::starting::{say_ready, say_refused};
@@ -252,6 +253,20 @@ fn apply<H: Host>(
         Command::Export { client, name, file } => {
             daemon.export_for(alloc, h, client, name, file)
         }
+        Command::Import {
+            client,
+            name,
+            file,
+            mode,
+        } => with_reply(import(
+            alloc,
+            h,
+            daemon.frames,
+            u32::from(client),
+            name,
+            file,
+            mode,
+        )),
         Command::Rewrite { name, n } => with_reply(daemon.rewrite_for(h, name, n)),
         Command::Pools => Ok(Answered::Pools),
         Command::Cut { pick } => with_reply(lose_power(h, pick)),

@@ -8,6 +8,7 @@ mod daemon;
 mod dumping;
 mod exporting;
 mod finding;
+mod importing;
 mod judged;
 mod pools;
 mod reading;

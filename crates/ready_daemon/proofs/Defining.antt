@@ -246,7 +246,7 @@ graph_kept more None g is = absurd (none-some g is)
 graph_kept more (Some p) g is = held_kept more p.holding g is
 
 -- a pool that has a graph has it under one type more
-pool_kept : (id map : ℕ) (s : StoredWorld) (name : List ℕ) (g : Graph) → graph_in (pool_named name s) ≡ Some g → graph_in (pool_named name (with_type_defined id map s)) ≡ Some g
+pub pool_kept : (id map : ℕ) (s : StoredWorld) (name : List ℕ) (g : Graph) → graph_in (pool_named name s) ≡ Some g → graph_in (pool_named name (with_type_defined id map s)) ≡ Some g
 unfolding with_type_defined
 pool_kept id map s name g is =
     let more = with_type id map s.types in

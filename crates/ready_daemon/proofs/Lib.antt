@@ -35,3 +35,5 @@ pub mod JudgedOpen
 pub mod Turns
 pub mod Counting
 pub mod Losing
+pub mod PlacedWords
+pub mod PlacedPools

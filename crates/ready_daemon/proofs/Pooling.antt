@@ -267,7 +267,7 @@ keeps_drop s name held apart = record {
 }
 
 -- no transaction is held on a pool that is not there
-absent_apart : (w : World) (held : List (Option Held)) (mask : Write) (words : Words) (name : List ℕ) → Holds w held mask words → pool_named name w.stored ≡ None → IsNotNamed name held
+pub absent_apart : (w : World) (held : List (Option Held)) (mask : Write) (words : Words) (name : List ℕ) → Holds w held mask words → pool_named name w.stored ≡ None → IsNotNamed name held
 absent_apart w held mask words name holds none number h there same =
     let is = held_is w held mask words holds number h there in
     let no : Some is.undone ≡ None = sym is.stored ∙ ap (λ (n : List ℕ). graph_in (pool_named n w.stored)) same ∙ ap graph_in none in

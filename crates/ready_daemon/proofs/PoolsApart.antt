@@ -96,13 +96,13 @@ module _ (w : World) (held : List (Option Held)) (mask : Write) (words : Words) 
   -- ---- a pool is made
 
   -- a slot that is free is not that of a pool that is held
-  free_apart : (slot : ℕ) → t.pools slot ≡ None → (number : ℕ) (h : Held) → held_under held number ≡ Some h → slot ≡ h.slot → ⊥
+  pub free_apart : (slot : ℕ) → t.pools slot ≡ None → (number : ℕ) (h : Held) → held_under held number ≡ Some h → slot ≡ h.slot → ⊥
   free_apart slot free number h there same =
       let pool = held_pool w held mask words holds number h there in
       let no : None ≡ Some pool.rec = sym free ∙ ap t.pools same ∙ pool.used in
       cc
 
-  free_others : (frame : ℕ) → t.puddles frame ≡ None → IsOfOthers held (t.puddles frame)
+  pub free_others : (frame : ℕ) → t.puddles frame ≡ None → IsOfOthers held (t.puddles frame)
   free_others frame free number h there = ap (is_of_pool h.slot) free
 
   -- the lowest free slot

@@ -1,6 +1,6 @@
 use Rattle.std.proofs.Common.{◌≡◌, ℕ, Some, Ok, refl, sym, ap, subst, ◌∙◌, List}
 use Rattle.pud_defs.specs.declared.machine.Command.{Command}
-use Rattle.pud_defs.specs.declared.machine.Command.TheVariants.{Client, Leave, Define, Chmod, Get, Begin, Commit, Abort, New, Set, Later, Root, Free, Cut, Arm}
+use Rattle.pud_defs.specs.declared.machine.Command.TheVariants.{Client, Leave, Define, Chmod, Get, Begin, Commit, Abort, New, Set, Later, Root, Free, Import, Cut, Arm}
 use Rattle.pud_defs.specs.declared.machine.Command.TheVariants as commands
 use Rattle.pud_defs.specs.Grammar.{IsLegalCommand}
 use Rattle.ready_daemon.specs.Memory.{Memory}
@@ -67,6 +67,14 @@ returns-in-Rewrite-clause-carries g c = λ t size e w ready.
     CarriesOut-as size w c.rewrite_for.new.self _ _ _ _ c.args.command rewrite c.with_reply-in-Rewrite.result c.rewrite_for.result c.in-Rewrite.is c.with_reply-in-Rewrite.ensures
     (CarriesOut-led size w c.rewrite_for.new.self _ _ _ _ rewrite c.rewrite_for.result refl refl (c.rewrite_for.ensures.reply t size w ready) (c.rewrite_for.ensures.applies t size e w ready)
     (ClosesLogs-other w _ _ _ (λ client no. cc)) (c.rewrite_for.ensures.rest t) c.rewrite_for.ensures.cause)
+
+pub returns-in-Import-clause-carries : goal.returns-in-Import-clause-carries
+returns-in-Import-clause-carries g c = λ t size e w ready.
+    let line = Import c.from-in-Import.result c.in-Import.name c.in-Import.file c.in-Import.mode in
+    let is : c.args.command ≡ line = c.in-Import.is ∙ ap (λ (k : ℕ). Import k c.in-Import.name c.in-Import.file c.in-Import.mode) (sym c.from-in-Import.ensures) in
+    let frames = sym (ap (λ (m : Memory). m.frames) c.daemon-in-Import.view_is) in
+    CarriesOut-as size w c.args.daemon.now _ _ _ _ c.args.command line c.with_reply-in-Import.result c.import.result is c.with_reply-in-Import.ensures
+    (c.import.ensures.carries t size e w _ frames ready (subst IsLegalCommand is c.requires.legal))
 
 pub returns-in-Get-clause-carries : goal.returns-in-Get-clause-carries
 returns-in-Get-clause-carries g c = λ t size e w ready.

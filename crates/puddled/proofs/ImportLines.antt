@@ -1,0 +1,258 @@
+-- The line that makes a pool of a file: what it owes, by what its calls did.
+use Rattle.std.proofs.Common.{◌≡◌, ◌≢◌, inl, inr, ℕ, ◌≤◌, true, false, List, take, Option, Some, None, Result, Ok, Err, option_map, is_some, refl, sym, ap, subst, ◌∙◌}
+use Rattle.std.specs.Prelude.{IfOk, ⊤}
+use Rattle.std.proofs.lemmas.Option.{none-some, same_Some}
+use Rattle.pm_model.specs.declared.host.HostFault.{HostFault}
+use Rattle.pm_model.specs.declared.host.HostFault.TheVariants as hosts
+use Rattle.pm_model.specs.declared.host.TheConstants.{FILE_READ_LIMIT}
+use Rattle.pm_model.specs.Counts.{Counts, after_fault, fault_of}
+use Rattle.pm_model.specs.Words.{IsRested, reads}
+use Rattle.pm_model.specs.Moments.{State, Shelf}
+use Rattle.pm_model.specs.Changes.{Write}
+use Rattle.pm_model.specs.Masks.{masked, masked_state}
+use Rattle.pud_defs.specs.declared.layout.TheConstants.{DAEMON_LOG}
+use Rattle.pud_defs.specs.declared.machine.Command.{Command}
+use Rattle.pud_defs.specs.declared.machine.Command.TheVariants.{Import, Leave}
+use Rattle.pud_defs.specs.declared.machine.Refusal.{Refusal}
+use Rattle.pud_defs.specs.declared.machine.Refusal.TheVariants as refusals
+use Rattle.pud_defs.specs.declared.machine.Reply.{Reply}
+use Rattle.pud_defs.specs.declared.machine.Reply.TheVariants as replies
+use Rattle.pud_defs.specs.ExportFile.{FileContents, file_graph}
+use Rattle.pud_defs.specs.Grammar.{IsLegalCommand}
+use Rattle.pud_defs.specs.Image.{Image}
+use Rattle.pud_defs.specs.Imports.{with_imported_pool}
+use Rattle.pud_defs.specs.Listing.{name_text}
+use Rattle.pud_defs.specs.PoolChanges.{pool_named}
+use Rattle.pud_defs.specs.Spaces.{owner}
+use Rattle.pud_defs.specs.Step.{refusal_of, after, answer_by, world_by}
+use Rattle.pud_defs.specs.Step.Answer.{of_reply}
+use Rattle.pud_defs.specs.Stored.{Stored}
+use Rattle.pud_defs.specs.Tables.{tables_of, pool_in}
+use Rattle.pud_defs.specs.World.{StoredWorld, World}
+use Rattle.pud_defs.proofs.Keyed.{option_map_parts}
+use Rattle.pud_defs.proofs.Steps.{refused_world}
+use Rattle.batch.specs.Batches.{HasIdleGate}
+use Rattle.registry.specs.Pools.{OrStill, ChangesMasked, IsLegalPool}
+use Rattle.pud_import.specs.declared.placing.PlaceFault.{PlaceFault}
+use Rattle.pud_import.specs.declared.placing.PlaceFault.TheVariants as faults
+use Rattle.pud_import.proofs.FileParts.{file_graph-limit}
+use Rattle.pud_import.specs.Placing.{place_fault, refusal_in, refusal_by, PlacesSomewhere, MayImport}
+use Rattle.ready_daemon.specs.Memory.{Held, Memory}
+use Rattle.ready_daemon.specs.Ready.{KeepsRest, IsReady, Applies}
+use Rattle.ready_daemon.proofs.Applying.{Applies-still}
+use Rattle.ready_daemon.proofs.Beneath.{ready_gate, keeps_tables}
+use Rattle.ready_daemon.proofs.JudgedKept.{KeepsGraphs, KeepsPools}
+use Rattle.ready_daemon.proofs.PlacedPools.{KeepsHeld-imported, KeepsGraphs-then, imported_frames, imported_types, type_beside, Applies-wider}
+use Rattle.ready_daemon.proofs.Pooling.{ChangesBeside, IsNotNamed, absent_apart}
+use Rattle.ready_daemon.proofs.TablesBeside.{HasDurableTables-masked, sound_read}
+use Rattle.puddled.specs.Answered.{as_answered}
+use Rattle.puddled.specs.Daemon.{CarriesOut}
+use Rattle.puddled.specs.Importing.{MayName, IsFrontOf, reply_of_placing}
+use Rattle.puddled.proofs.Carrying.{ClosesLogs-other, CarriesOut-plain}
+use Rattle.puddled.proofs.Commanding.{IsPlain, CarriesOut-refused}
+use Rattle.puddled.proofs.FileLines.{CarriesOut-read, memory_step}
+use Rattle.puddled.proofs.ImportRefusals.{found_some, import_bad, import_placed, import_gives, import_memory, as_refusal, no_host_by, refused_by_tables, absent_in, fault_of_placing, reply_placed}
+use Rattle.puddled.proofs.PlacedBeside.{off_placing, IsBeside-places, KeepsPools-places}
+
+pub import_is_plain : (client : ℕ) (name file : List ℕ) (mode : ℕ) → IsPlain (Import client name file mode)
+import_is_plain client name file mode = record { kind = refl; file = refl; stays = λ other is. cc }
+
+-- ---- the file is placed
+
+module _ (size : ℕ) (w : World) (memory : Memory) (old new : State) (ready : IsReady size w memory old) (client uid gid mode : ℕ) (name file : List ℕ) (legal : IsLegalCommand (Import client name file mode))
+    (may : MayName w client name uid gid) (bytes : List ℕ) (there : w.shelf (name_text file) ≡ Some bytes) (contents : FileContents) (held : file_graph bytes ≡ Some contents) (stored : Stored)
+    (done : Result (Unit {0}) PlaceFault) where
+  abbrev line : Command
+  line = Import client name file mode
+
+  abbrev F : ℕ
+  F = w.stored.frames
+
+  abbrev image : Image
+  image = reads old.now.words
+
+  abbrev next : StoredWorld
+  next = with_imported_pool name (owner uid gid) mode contents w.stored
+
+  abbrev refused : Option PlaceFault
+  refused = refusal_by F image contents
+
+  refusal_is : refusal_of w line ≡ as_refusal refused
+  refusal_is = import_placed w client mode name file uid gid may bytes there contents held ∙ refused_by_tables size w memory old ready contents
+
+  -- what the call does, on so many frames
+  abbrev Commits : ℕ → Type 0
+  Commits n = HasIdleGate DAEMON_LOG old.now.words → pool_in (tables_of n image) name ≡ None → refusal_by n image contents ≡ None
+      → OrStill (PlacesSomewhere n image stored contents.types name uid gid mode) (place_fault done) old new
+
+  abbrev Places : ℕ → Type 0
+  Places n = MayImport size w.stored n name uid gid mode contents stored ready.mask old.now.words → ChangesMasked ready.mask size w.stored next (λ _. ⊤) (place_fault done) old new
+
+  abbrev Stays : ℕ → Type 0
+  Stays n = pool_in (tables_of n image) name ≡ None → (refusal_by n image contents ≡ None → ⊥) → new ≡ old
+
+  none_there : pool_in (tables_of F image) name ≡ None
+  none_there = absent_in size w memory old ready name may.absent
+
+  module _ (rests : place_fault done ≡ Some hosts.Cut → IsRested new.now.words) where
+    changes_beside : refused ≡ None → Commits F → Places F → ChangesBeside size w.stored next (λ _. ⊤) ready.mask (place_fault done) old new
+    changes_beside none commits places =
+        let off = off_placing w memory.held ready.mask old.now.words ready.held stored contents.types name uid gid mode in
+        let idle = ready_gate size w memory old ready in
+        record {
+          beside = IsBeside-places F image stored contents.types name uid gid mode ready.mask (place_fault done) old new off idle rests (commits idle none_there none);
+          pools = places (record {
+            frames = refl;
+            keeps = keeps_tables w memory.held ready.mask old.now.words ready.held;
+            types = record { each = type_beside size w memory old ready };
+            off = off;
+            settled = ready.settled;
+            tables = HasDurableTables-masked F ready.mask old.now.words ready.tables;
+            legal = record { is_name = legal.1; has_legal_name = legal.2; has_legal_mode = legal.5; uid_fits = may.uid_fits; gid_fits = may.gid_fits };
+            absent = none_there;
+            none = none;
+          });
+        }
+
+    keeps_pools : (none : refused ≡ None) → Commits F → Places F → (f : Option HostFault) → place_fault done ≡ f → f ≡ None → KeepsPools F None image (reads new.now.words)
+    keeps_pools none commits places f is ended =
+        let b = subst (λ (g : Option HostFault). ChangesBeside size w.stored next (λ _. ⊤) ready.mask g old new) (is ∙ ended) (changes_beside none commits places) in
+        let graphs = KeepsGraphs-then size w memory next (λ _. ⊤) old new ready b (imported_frames name (owner uid gid) mode contents w.stored) (imported_types name (owner uid gid) mode contents w.stored) in
+        by_did graphs (subst (λ (g : Option HostFault). OrStill (PlacesSomewhere F image stored contents.types name uid gid mode) g old new) (is ∙ ended) (commits (ready_gate size w memory old ready) none_there none))
+      where
+        by_did : KeepsGraphs image (reads new.now.words) → OrStill (PlacesSomewhere F image stored contents.types name uid gid mode) None old new → KeepsPools F None image (reads new.now.words)
+        by_did graphs (inl still) = absurd (still.1 refl)
+        by_did graphs (inr places) = KeepsPools-places F w.stored.next_number stored contents.types name uid gid mode old new (sound_read size w memory old ready) graphs places
+
+    refused_by : (r : Refusal) → refusal_of w line ≡ Some r → new ≡ old → Applies size w (world_by w (Some line)) memory (place_fault done) old new
+    refused_by r is same = subst (λ (v : World). Applies size w v memory (place_fault done) old new) (sym (refused_world w line r is)) (Applies-still size w memory (place_fault done) old new ready same rests)
+
+    placed_by : (r : Option PlaceFault) → refused ≡ r → Commits F → Places F → Stays F → Applies size w (world_by w (Some line)) memory (place_fault done) old new
+    placed_by None is commits places stays =
+        Applies-wider size w memory line next (λ _. ⊤) (place_fault done) old new ready (refusal_is ∙ ap as_refusal is)
+        (import_gives w client mode name file uid gid may bytes there contents held) (imported_frames name (owner uid gid) mode contents w.stored)
+        (KeepsHeld-imported w memory.held ready.mask old.now.words name (owner uid gid) mode contents ready.held (absent_apart w memory.held ready.mask old.now.words name ready.held may.absent))
+        (changes_beside is commits places) (λ ended. keeps_pools is commits places (place_fault done) refl ended)
+    placed_by (Some (faults.Host f)) is commits places stays = absurd (no_host_by _ _ _ f is)
+    placed_by (Some faults.Clash) is commits places stays = refused_by refusals.Clash (refusal_is ∙ ap as_refusal is) (stays none_there (λ none. none-some faults.Clash (sym none ∙ is)))
+    placed_by (Some faults.Full) is commits places stays = refused_by refusals.Full (refusal_is ∙ ap as_refusal is) (stays none_there (λ none. none-some faults.Full (sym none ∙ is)))
+    placed_by (Some faults.NoSpace) is commits places stays = refused_by refusals.Space (refusal_is ∙ ap as_refusal is) (stays none_there (λ none. none-some faults.NoSpace (sym none ∙ is)))
+
+  -- what the line owes, where the device has so many frames
+  abbrev Owes : ℕ → Type 0
+  Owes n = Commits n → Places n → Stays n → (place_fault done ≡ None → pool_in (tables_of n image) name ≡ None → refusal_in done ≡ refusal_by n image contents)
+      → (first last : Counts) → last ≡ after_fault (place_fault done) first → CarriesOut size w memory (Some line) (as_answered (reply_of_placing done)) first last old new
+
+  owes_there : (place_fault done ≡ Some hosts.Cut → IsRested new.now.words) → KeepsRest old new → Owes F
+  owes_there rests rest commits places stays told first last cause =
+      let fault = fault_of_placing done in
+      CarriesOut-plain size w memory first last old new line (reply_of_placing done) refl refl
+      (reply_placed w client mode name file refused refusal_is done (λ none. told none none_there))
+      (subst (λ (f : Option HostFault). Applies size w (world_by w (Some line)) memory f old new) (sym fault) (placed_by rests refused refl commits places stays))
+      (ClosesLogs-other w (Some line) old new (import_is_plain client name file mode).stays) rest (cause ∙ ap (λ (f : Option HostFault). after_fault f first) (sym fault))
+
+  pub CarriesOut-placed : (n : ℕ) → n ≡ F → (place_fault done ≡ Some hosts.Cut → IsRested new.now.words) → KeepsRest old new → Owes n
+  CarriesOut-placed n on rests rest = subst Owes (sym on) (owes_there rests rest)
+
+-- ---- behind calls that read
+
+-- nothing changed in front of it
+pub CarriesOut-behind : (size : ℕ) (w : World) (memory : Memory) (c : Command) (r : Result Reply HostFault) (first mid last : Counts) (a b d : State) → b ≡ a → mid ≡ first → IsReady size w memory a
+    → (IsReady size w memory b → CarriesOut size w memory (Some c) (as_answered r) mid last b d) → CarriesOut size w memory (Some c) (as_answered r) first last a d
+CarriesOut-behind size w memory c r first mid last a b d same counted ready carries =
+    subst (λ (n : Counts). CarriesOut size w memory (Some c) (as_answered r) n last a d) counted
+    (subst (λ (s : State). CarriesOut size w memory (Some c) (as_answered r) mid last s d) same (carries (subst (λ (s : State). IsReady size w memory s) (sym same) ready)))
+
+-- memory was refused for the file
+pub CarriesOut-memory : (size : ℕ) (w : World) (memory : Memory) (s : State) → IsReady size w memory s → (client uid gid mode : ℕ) (name file bytes : List ℕ) → MayName w client name uid gid → w.shelf (name_text file) ≡ Some bytes
+    → (new : State) → new ≡ s → (first last : Counts) → last ≡ first → CarriesOut size w memory (Some (Import client name file mode)) (as_answered (Ok (replies.No refusals.Memory))) first last s new
+CarriesOut-memory size w memory s ready client uid gid mode name file bytes may there new same first last cause =
+    CarriesOut-read size w memory (Import client name file mode) refl (import_is_plain client name file mode).stays first last s new ready (of_reply (replies.No refusals.Memory))
+    (as_answered (Ok (replies.No refusals.Memory))) (memory_step w (Import client name file mode) (import_memory w client mode name file uid gid may bytes there)) refl tt (λ cut. cc) same cause
+
+-- ---- the bytes that were given of a file
+
+module _ (size : ℕ) (w : World) (memory : Memory) (old new : State) (ready : IsReady size w memory old) (client uid gid mode : ℕ) (name file : List ℕ) (may : MayName w client name uid gid)
+    (bytes : List ℕ) (given : IsFrontOf w file bytes) where
+  abbrev asks : Command
+  asks = Import client name file mode
+
+  -- they decide what the whole file holds
+  same_file : file_graph given.whole ≡ file_graph bytes
+  same_file = sym (ap file_graph given.front ∙ file_graph-limit given.whole)
+
+  none_held : (o : Option FileContents) → is_some o ≡ false → o ≡ None
+  none_held None is = refl
+  none_held (Some x) is = absurd (let no : true ≡ false = is in cc)
+
+  -- they are no export file
+  pub CarriesOut-bad_file : is_some (file_graph bytes) ≡ false → new ≡ old → (first last : Counts) → last ≡ first
+      → CarriesOut size w memory (Some asks) (as_answered (Ok (replies.No refusals.BadFile))) first last old new
+  CarriesOut-bad_file none same first last cause =
+      CarriesOut-refused size w memory first last old new asks (import_is_plain client name file mode) same (subst (λ (s : State). IsReady size w memory s) (sym same) ready) refusals.BadFile
+      (import_bad w client mode name file uid gid may given.whole given.there (same_file ∙ none_held (file_graph bytes) none)) cause
+
+  -- they are one, and it was placed, or not
+  module _ (legal : IsLegalCommand (Import client name file mode)) (is : is_some (file_graph bytes) ≡ true) (view : List ℕ) (same : view ≡ bytes) (stored : Stored) (done : Result (Unit {0}) PlaceFault) (n : ℕ) (on : n ≡ w.stored.frames) where
+    abbrev read : Image
+    read = reads old.now.words
+
+    abbrev Holds : FileContents → Type 0
+    Holds c = file_graph view ≡ Some c
+
+    pub CarriesOut-view : (place_fault done ≡ Some hosts.Cut → IsRested new.now.words) → KeepsRest old new
+        → ((c : FileContents) → Holds c → HasIdleGate DAEMON_LOG old.now.words → pool_in (tables_of n read) name ≡ None → refusal_by n read c ≡ None → OrStill (PlacesSomewhere n read stored c.types name uid gid mode) (place_fault done) old new)
+        → ((c : FileContents) → Holds c → MayImport size w.stored n name uid gid mode c stored ready.mask old.now.words
+        → ChangesMasked ready.mask size w.stored (with_imported_pool name (owner uid gid) mode c w.stored) (λ _. ⊤) (place_fault done) old new)
+        → ((c : FileContents) → Holds c → pool_in (tables_of n read) name ≡ None → (refusal_by n read c ≡ None → ⊥) → new ≡ old)
+        → ((c : FileContents) → Holds c → place_fault done ≡ None → pool_in (tables_of n read) name ≡ None → refusal_in done ≡ refusal_by n read c)
+        → (first last : Counts) → last ≡ after_fault (place_fault done) first → CarriesOut size w memory (Some asks) (as_answered (reply_of_placing done)) first last old new
+    CarriesOut-view rests rest commits places stays told first last cause =
+        let found = found_some (file_graph bytes) is in
+        let c = found.0 in
+        let holds : Holds c = ap file_graph same ∙ found.1 in
+        CarriesOut-placed size w memory old new ready client uid gid mode name file legal may given.whole given.there c (same_file ∙ found.1) stored done n on rests rest
+        (commits c holds) (places c holds) (stays c holds) (told c holds) first last cause
+
+-- ---- a file that is not placed
+
+-- leaves the device as it was
+pub stays_refused : (n : ℕ) (read : Image) (c : FileContents) (old new : State) (done : Result (Unit {0}) PlaceFault) → (place_fault done ≡ None → refusal_in done ≡ refusal_by n read c)
+    → ((refusal_by n read c ≡ None → ⊥) → new ≡ old) → IfOk (reply_of_placing done) (λ reply. reply ≢ replies.Ok → new ≡ old)
+stays_refused n read c old new (Ok x) told stays = λ other. absurd (other refl)
+stays_refused n read c old new (Err faults.Clash) told stays = λ other. stays (λ none. none-some faults.Clash (sym none ∙ sym (told refl)))
+stays_refused n read c old new (Err faults.Full) told stays = λ other. stays (λ none. none-some faults.Full (sym none ∙ sym (told refl)))
+stays_refused n read c old new (Err faults.NoSpace) told stays = λ other. stays (λ none. none-some faults.NoSpace (sym none ∙ sym (told refl)))
+stays_refused n read c old new (Err (faults.Host fault)) told stays = tt
+
+-- on a device of so many frames that is ready
+pub stays_unplaced : (size : ℕ) (w : World) (memory : Memory) (old new : State) → IsReady size w memory old → (client uid gid : ℕ) (name : List ℕ) → MayName w client name uid gid → (view : List ℕ) → is_some (file_graph view) ≡ true
+    → (done : Result (Unit {0}) PlaceFault) (n : ℕ) → n ≡ w.stored.frames
+    → ((c : FileContents) → file_graph view ≡ Some c → place_fault done ≡ None → pool_in (tables_of n (reads old.now.words)) name ≡ None → refusal_in done ≡ refusal_by n (reads old.now.words) c)
+    → ((c : FileContents) → file_graph view ≡ Some c → pool_in (tables_of n (reads old.now.words)) name ≡ None → (refusal_by n (reads old.now.words) c ≡ None → ⊥) → new ≡ old)
+    → IfOk (reply_of_placing done) (λ reply. reply ≢ replies.Ok → new ≡ old)
+stays_unplaced size w memory old new ready client uid gid name may view is done n on told stays =
+    let found = found_some (file_graph view) is in
+    let absent : pool_in (tables_of n (reads old.now.words)) name ≡ None =
+    subst (λ (m : ℕ). pool_in (tables_of m (reads old.now.words)) name ≡ None) (sym on) (absent_in size w memory old ready name may.absent) in
+    stays_refused n (reads old.now.words) found.0 old new done (λ none. told found.0 found.1 none absent) (stays found.0 found.1 absent)
+
+-- ---- what the host gave of a file
+
+-- some bytes: the file is there, and they are its front
+pub front_of : (w : World) (s : State) (file bytes : List ℕ) → s.shelf ≡ w.shelf → Some bytes ≡ option_map (take FILE_READ_LIMIT) (s.shelf (name_text file)) → IsFrontOf w file bytes
+front_of w s file bytes shelf given =
+    let parts = option_map_parts (take FILE_READ_LIMIT) (s.shelf (name_text file)) bytes (sym given) in
+    record { whole = parts.value; there = ap (λ (files : Shelf). files (name_text file)) (sym shelf) ∙ parts.is; front = sym parts.gives }
+
+no_more : (o : Option (List ℕ)) → None ≡ option_map (take FILE_READ_LIMIT) o → o ≡ None
+no_more None given = refl
+no_more (Some bytes) given = absurd (none-some (take FILE_READ_LIMIT bytes) given)
+
+-- none: it is not there
+pub none_given : (w : World) (s : State) (file : List ℕ) → s.shelf ≡ w.shelf → None ≡ option_map (take FILE_READ_LIMIT) (s.shelf (name_text file)) → w.shelf (name_text file) ≡ None
+none_given w s file shelf given = ap (λ (files : Shelf). files (name_text file)) (sym shelf) ∙ no_more (s.shelf (name_text file)) given
+
+-- memory was refused for it: it is there
+pub some_there : (w : World) (s : State) (file : List ℕ) → s.shelf ≡ w.shelf → is_some (s.shelf (name_text file)) ≡ true → (bytes : List ℕ) × (w.shelf (name_text file) ≡ Some bytes)
+some_there w s file shelf is = found_some (w.shelf (name_text file)) (ap (λ (files : Shelf). is_some (files (name_text file))) (sym shelf) ∙ is)

@@ -1,0 +1,199 @@
+-- A file that is placed beside what is held: its calls write no masked word, and each pool that has a graph keeps it.
+use Rattle.std.proofs.Common.{◌≡◌, ◌≢◌, ◌⊎◌, inl, inr, ℕ, zero, suc, ◌+◌, ◌-◌, ◌<◌, ◌≤◌, true, false, List, [], ◌∷◌, map, Option, Some, None, refl, sym, ap, subst, ◌∙◌, arith}
+use Rattle.std.specs.Prelude.{slice_get}
+use Rattle.std.proofs.lemmas.Bool.{cases_lt}
+use Rattle.std.proofs.lemmas.Option.{none-some, same_Some}
+use Rattle.pm_model.specs.declared.host.HostFault.{HostFault}
+use Rattle.pm_model.specs.declared.host.HostFault.TheVariants.{Cut}
+use Rattle.pm_model.specs.Words.{Words, HasOnly, IsRested, reads}
+use Rattle.pm_model.specs.Moments.{State}
+use Rattle.pm_model.specs.Changes.{Write, Changes}
+use Rattle.pm_model.specs.Masks.{IsOff}
+use Rattle.pm_model.proofs.Words.{HasOnly-own}
+use Rattle.pud_defs.specs.declared.layout.TheConstants.{DAEMON_LOG, NEXT_NUMBER_WORD, FRAME_WORDS}
+use Rattle.pud_defs.specs.declared.records.PoolRec.{PoolRec}
+use Rattle.pud_defs.specs.Image.{Image}
+use Rattle.pud_defs.specs.Frames.{frame_at}
+use Rattle.pud_defs.specs.Layout.{IsWithin, frames_at}
+use Rattle.pud_defs.specs.Puddles.{Member, puddle_record_at}
+use Rattle.pud_defs.specs.Stored.{Stored}
+use Rattle.pud_defs.specs.SoundTables.{HasSoundTables}
+use Rattle.pud_defs.specs.Graph.{graph_of}
+use Rattle.pud_defs.specs.Tables.{Tables, tables_of}
+use Rattle.pud_defs.specs.Types.{types_of}
+use Rattle.pud_defs.specs.World.{World}
+use Rattle.pud_defs.proofs.TablesOf.{frames_of_tables}
+use Rattle.batch.specs.Batches.{HasIdleGate, ByBatch}
+use Rattle.batch.proofs.Tables.{StaysDurable, reads_kept}
+use Rattle.registry.specs.declared.adding.Added.{Added}
+use Rattle.registry.specs.Puts.{puts_batch}
+use Rattle.registry.specs.Pools.{OrStill, CommitsPuts, new_record}
+use Rattle.registry.specs.Placing.{placing, IsPlacedFor}
+use Rattle.registry.proofs.PutBatches.{puts_batched}
+use Rattle.pud_import.specs.Filling.{IsFrameWord, ByFrames, filled_value, AreFilled}
+use Rattle.pud_import.specs.Placing.{Placement, PlacesSomewhere, IsOffPlacing}
+use Rattle.ready_daemon.specs.Memory.{Held}
+use Rattle.ready_daemon.specs.Held.{Holds, IsBeside}
+use Rattle.ready_daemon.proofs.Beneath.{IsOff-each, IsBeside-changes, IsBeside-commits, IsBeside-then}
+use Rattle.ready_daemon.proofs.JudgedKept.{KeepsGraphs, KeepsPools, KeepsPools-then, KeepsPools-still, KeepsPools-changes, types_same}
+use Rattle.ready_daemon.proofs.PlacedPools.{KeepsPools-placing}
+use Rattle.ready_daemon.proofs.PlacedWords.{IsFreeFrameWord, placed_frame, placing_words, free_unmasked, free_frame_unmasked, free_not_used, free_frame_not_record}
+use Rattle.ready_daemon.proofs.PoolsApart.{IsBeside-still}
+
+-- ---- the frames that are filled
+
+-- the word is one of these frames, or it is none
+is_among : (F : ℕ) (puddles : List Added) (k : ℕ) → IsFrameWord F puddles k ⊎ (IsFrameWord F puddles k → ⊥)
+is_among F [] k = inr (λ word. none-some word.added word.there)
+is_among F (a ∷ puddles) k = elim (cases_lt k (frame_at F a.frame)) [
+  | inl before ↦ later (λ low high. omega arith)
+  | inr from ↦ elim (cases_lt k (frame_at F a.frame + FRAME_WORDS)) [
+    | inl within ↦ inl (record { ordinal = 0; added = a; there = refl; word = record { low = from; high = within } })
+    | inr behind ↦ later (λ low high. omega arith)
+  ]
+]
+  where
+    shifted : IsFrameWord F puddles k → IsFrameWord F (a ∷ puddles) k
+    shifted word = record { ordinal = suc word.ordinal; added = word.added; there = word.there; word = word.word }
+
+    unshifted : (frame_at F a.frame ≤ k → k < frame_at F a.frame + FRAME_WORDS → ⊥) → (o : ℕ) (b : Added) → slice_get (a ∷ puddles) o ≡ Some b → IsWithin (frame_at F b.frame) (frame_at F b.frame + FRAME_WORDS) k → IsFrameWord F puddles k
+    unshifted not zero b there word =
+        let same : a.frame ≡ b.frame = ap (λ (x : Added). x.frame) (same_Some a b there) in
+        let low = word.low in let high = word.high in
+        absurd (not (omega arith) (omega arith))
+    unshifted not (suc o) b there word = record { ordinal = o; added = b; there = there; word = word }
+
+    later : (frame_at F a.frame ≤ k → k < frame_at F a.frame + FRAME_WORDS → ⊥) → IsFrameWord F (a ∷ puddles) k ⊎ (IsFrameWord F (a ∷ puddles) k → ⊥)
+    later not = elim (is_among F puddles k) [
+      | inl word ↦ inl (shifted word)
+      | inr none ↦ inr (λ word. none (unshifted not word.ordinal word.added word.there word.word))
+    ]
+
+-- each of their words that were filled has one value
+filled_single : (F : ℕ) (file : Stored) (puddles : List Added) (new : State) → AreFilled F file puddles new.now.words → (k : ℕ) → StaysDurable (ByFrames F puddles) new k
+filled_single F file puddles new filled k = elim (is_among F puddles k) [
+  | inl word ↦
+      let low = word.word.low in let high = word.word.high in
+      let at : k ≡ frame_at F word.added.frame + (k - frame_at F word.added.frame) = omega arith in
+      let value = filled_value file word.ordinal word.added.puddle.number (k - frame_at F word.added.frame) in
+      let one : HasOnly (new.now.words k) value =
+      subst (λ (n : ℕ). HasOnly (new.now.words n) value) (sym at) (filled.each word.ordinal (k - frame_at F word.added.frame) word.added word.there (omega arith)) in
+      inr (HasOnly-own (new.now.words k) value one)
+  | inr none ↦ inl (λ v may. none may)
+]
+
+module _ (F : ℕ) (image : Image) (file : List (ℕ × ℕ)) (wanted : List ℕ) (slot : ℕ) (r : PoolRec) (p : Placement) (is : IsPlacedFor F image file wanted slot r p.types p.puddles) where
+  -- they are free
+  frame_words : (k v : ℕ) → ByFrames F p.puddles k v → IsFreeFrameWord F (tables_of F image) k
+  frame_words k v word =
+      let at = placed_frame F image file wanted slot r p.types p.puddles is word.ordinal word.added word.there in
+      let low = word.word.low in let high = word.word.high in let below = at.below in
+      record { frame = word.added.frame; below = omega (arith, frames_of_tables F image); free = at.free; within = record { low = low; high = omega arith } }
+
+-- ---- no masked word is written
+
+-- whatever is held, and wherever the pool is placed
+pub off_placing : (w : World) (held : List (Option Held)) (mask : Write) (words : Words) → Holds w held mask words → (file : Stored) (types : List (ℕ × ℕ)) (name : List ℕ) (uid gid mode : ℕ)
+    → IsOffPlacing mask w.stored.frames (reads words) file types name uid gid mode
+off_placing w held mask words holds file types name uid gid mode = record {
+  each = λ p is.
+      let F = w.stored.frames in
+      let image = reads words in
+      let r = new_record name uid gid mode (image NEXT_NUMBER_WORD) in
+      let wanted = map (λ d. d.base) file.puddles in
+      (
+        IsOff-each mask (ByFrames F p.puddles) (λ k v may. free_frame_unmasked w held mask words holds k (frame_words F image types wanted p.slot r p is k v may)),
+        IsOff-each mask (ByBatch DAEMON_LOG (puts_batch (placing p.slot r p.types p.puddles)))
+        (λ k v may. free_unmasked w held mask words holds k (placing_words F image types wanted p.slot r p.types p.puddles is k v may)),
+      );
+}
+
+-- nor is a word of the record of a puddle that is used
+pub off_used : (F frame : ℕ) (image : Image) (m : Member) → frame < F → (tables_of F image).puddles frame ≡ Some m → (mask : Write)
+    → ((k x : ℕ) → mask k ≡ Some x → (puddle_record_at frame ≤ k) × (k < puddle_record_at (frame + 1))) → (file : Stored) (types : List (ℕ × ℕ)) (name : List ℕ) (uid gid mode : ℕ)
+    → IsOffPlacing mask F image file types name uid gid mode
+off_used F frame image m below used mask record_words file types name uid gid mode = record {
+  each = λ p is.
+      let r = new_record name uid gid mode (image NEXT_NUMBER_WORD) in
+      let wanted = map (λ d. d.base) file.puddles in
+      (
+        record {
+          apart = λ k x v masked may.
+              let of = record_words k x masked in
+              free_frame_not_record F (tables_of F image) frame k below (frame_words F image types wanted p.slot r p is k v may) of.0 of.1;
+        },
+        record {
+          apart = λ k x v masked may.
+              let of = record_words k x masked in
+              free_not_used F (tables_of F image) frame k m used (placing_words F image types wanted p.slot r p.types p.puddles is k v may) of.0 of.1;
+        },
+      );
+}
+
+module _ (F : ℕ) (image : Image) (file : Stored) (types : List (ℕ × ℕ)) (name : List ℕ) (uid gid mode : ℕ) where
+  -- a pool was placed somewhere, off any mask that it is off wherever it is placed
+  places_beside : (mask : Write) (fault : Option HostFault) (old new : State) → IsOffPlacing mask F image file types name uid gid mode → HasIdleGate DAEMON_LOG old.now.words
+      → PlacesSomewhere F image file types name uid gid mode fault old new → IsBeside mask fault old new
+  places_beside mask fault old new off idle d =
+      let p = d.placement in
+      let apart = off.each p d.is in
+      let puts = placing p.slot (new_record name uid gid mode (image NEXT_NUMBER_WORD)) p.types p.puddles in
+      let first : IsBeside mask d.first old d.mid =
+      IsBeside-changes mask (ByFrames F p.puddles) d.first old d.mid apart.0
+      (λ v word. let low = word.word.low in absurd (omega arith)) idle (λ none k. filled_single F file p.puddles d.mid (d.filled none) k) d.fills in
+      elim d.then [
+        | inl end ↦ subst (λ (s : State). IsBeside mask fault old s) (sym end.0) (subst (λ (f : Option HostFault). IsBeside mask f old d.mid) (sym end.1) first)
+        | inr on ↦ IsBeside-then mask fault old d.mid new (subst (λ (f : Option HostFault). IsBeside mask f old d.mid) on.0 first) (IsBeside-commits mask (puts_batch puts) fault d.mid new apart.1 (puts_batched puts) on.1)
+      ]
+
+  pub IsBeside-places : (mask : Write) (fault : Option HostFault) (old new : State) → IsOffPlacing mask F image file types name uid gid mode → HasIdleGate DAEMON_LOG old.now.words → (fault ≡ Some Cut → IsRested new.now.words)
+      → OrStill (PlacesSomewhere F image file types name uid gid mode) fault old new → IsBeside mask fault old new
+  IsBeside-places mask fault old new off idle rests (inl still) = IsBeside-still mask fault old new idle rests still.0
+  IsBeside-places mask fault old new off idle rests (inr places) = places_beside mask fault old new off idle places
+
+-- ---- pools that have a graph
+
+module _ (F next : ℕ) (file : Stored) (types : List (ℕ × ℕ)) (name : List ℕ) (uid gid mode : ℕ) (old new : State) (sound : HasSoundTables next (tables_of F (reads old.now.words)))
+    (graphs : KeepsGraphs (reads old.now.words) (reads new.now.words)) where
+  abbrev image : Image
+  image = reads old.now.words
+
+  module _ (p : Placement) (is : IsPlacedFor F image types (map (λ d. d.base) file.puddles) p.slot (new_record name uid gid mode (image NEXT_NUMBER_WORD)) p.types p.puddles) (mid : State)
+      (fills : Changes (ByFrames F p.puddles) None old mid) where
+    words_free : (k v : ℕ) → ByFrames F p.puddles k v → IsFreeFrameWord F (tables_of F image) k
+    words_free = frame_words F image types (map (λ d. d.base) file.puddles) p.slot (new_record name uid gid mode (image NEXT_NUMBER_WORD)) p is
+
+    -- the frames that are filled are none of a pool's
+    frames_filled : KeepsPools F None image (reads mid.now.words)
+    frames_filled =
+        KeepsPools-changes F None (ByFrames F p.puddles) old mid fills
+        (record {
+          types = λ k v low high may. let from = may.word.low in absurd (omega arith);
+          puddles = λ k v low high may. let from = may.word.low in absurd (omega arith);
+        })
+        (λ slot k v apart own may.
+        let f = words_free k v may in
+        let a = f.within.low in let b = f.within.high in let c = own.low in let d = own.high in
+        let here : own.frame ≡ f.frame = omega arith in
+        none-some own.member (sym f.free ∙ ap (tables_of F image).puddles (sym here) ∙ own.used))
+
+    tables_filled : (k : ℕ) → k < frames_at F → reads mid.now.words k ≡ image k
+    tables_filled k below = reads_kept (ByFrames F p.puddles) old mid k fills (λ v may. let from = may.word.low in absurd (omega arith))
+
+    graphs_then : KeepsGraphs (reads mid.now.words) (reads new.now.words)
+    graphs_then =
+        let same : types_of (reads mid.now.words) ≡ types_of image = types_same image (reads mid.now.words) (λ k low high. tables_filled k (omega arith)) in
+        record { each = λ st g has. graphs.each st g (ap (λ (ts : List (ℕ × ℕ)). graph_of ts st) (sym same) ∙ has) }
+
+    keeps_then : ((new ≡ mid) × (None ≡ None)) ⊎ CommitsPuts (placing p.slot (new_record name uid gid mode (image NEXT_NUMBER_WORD)) p.types p.puddles) None mid new → KeepsPools F None image (reads new.now.words)
+    keeps_then (inl end) = KeepsPools-then F None image (reads mid.now.words) (reads new.now.words) frames_filled (KeepsPools-still F None mid new end.0)
+    keeps_then (inr commits) =
+        KeepsPools-then F None image (reads mid.now.words) (reads new.now.words) frames_filled
+        (KeepsPools-placing F image types (map (λ d. d.base) file.puddles) p.slot (new_record name uid gid mode (image NEXT_NUMBER_WORD)) p.types p.puddles is next sound mid new tables_filled graphs_then commits)
+
+  -- each pool that has a graph keeps it, once the pool is placed
+  pub KeepsPools-places : PlacesSomewhere F image file types name uid gid mode None old new → KeepsPools F None image (reads new.now.words)
+  KeepsPools-places d = elim d.then [
+    | inl end ↦ keeps_then d.placement d.is d.mid (subst (λ (f : Option HostFault). Changes (ByFrames F d.placement.puddles) f old d.mid) (sym end.1) d.fills) (inl (end.0, refl))
+    | inr on ↦ keeps_then d.placement d.is d.mid (subst (λ (f : Option HostFault). Changes (ByFrames F d.placement.puddles) f old d.mid) on.0 d.fills) (inr on.1)
+  ]

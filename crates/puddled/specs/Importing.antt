@@ -1,0 +1,35 @@
+-- What is found for a pool that a line makes of a file, and what is replied.
+use Rattle.std.specs.Prelude.{◌≡◌, ℕ, ◌≤◌, List, take, Some, None, Result, Ok, Err}
+use Rattle.pm_model.specs.declared.host.HostFault.{HostFault}
+use Rattle.pm_model.specs.declared.host.TheConstants.{FILE_READ_LIMIT}
+use Rattle.pud_defs.specs.declared.layout.TheConstants.{MAX_OWNER_ID}
+use Rattle.pud_defs.specs.declared.machine.Reply.{Reply}
+use Rattle.pud_defs.specs.declared.machine.Reply.TheVariants as replies
+use Rattle.pud_defs.specs.declared.machine.Refusal.TheVariants as refusals
+use Rattle.pud_defs.specs.Listing.{name_text}
+use Rattle.pud_defs.specs.PoolChanges.{pool_named}
+use Rattle.pud_defs.specs.Spaces.{owner}
+use Rattle.pud_defs.specs.World.{World}
+use Rattle.pud_import.specs.declared.placing.PlaceFault.{PlaceFault}
+use Rattle.pud_import.specs.declared.placing.PlaceFault.TheVariants as faults
+
+-- the client acts as this owner, which is legal, and no pool has the name
+pub record MayName (w : World) (client : ℕ) (name : List ℕ) (uid gid : ℕ) : Type 0 where
+  pub acts : w.clients client ≡ Some (owner uid gid)
+  pub uid_fits : uid ≤ MAX_OWNER_ID
+  pub gid_fits : gid ≤ MAX_OWNER_ID
+  pub absent : pool_named name w.stored ≡ None
+
+-- there is a file of the name, and these bytes are what is given of it: all of it, or as many from its front as a host gives at most
+pub record IsFrontOf (w : World) (file bytes : List ℕ) : Type 0 where
+  pub whole : List ℕ
+  pub there : w.shelf (name_text file) ≡ Some whole
+  pub front : bytes ≡ take FILE_READ_LIMIT whole
+
+-- what is replied where a file was to be placed, by what became of it
+abbrev pub reply_of_placing : Result (Unit {0}) PlaceFault → Result Reply HostFault
+reply_of_placing (Ok x) = Ok replies.Ok
+reply_of_placing (Err faults.Clash) = Ok (replies.No refusals.Clash)
+reply_of_placing (Err faults.Full) = Ok (replies.No refusals.Full)
+reply_of_placing (Err faults.NoSpace) = Ok (replies.No refusals.Space)
+reply_of_placing (Err (faults.Host fault)) = Err fault

@@ -1,0 +1,182 @@
+//! Lines that make a pool of what an export file holds.
+ghost use Rattle.std.specs.Prelude.{◌≡◌, ◌≢◌, ◌<◌, ◌≤◌, IsTrue, IsSome, ℕ, List, Option, Result, IfOk, option_map, take};
+ghost use Rattle.pm_model.specs.declared.host.TheConstants.{FILE_READ_LIMIT};
+ghost use Rattle.pm_model.specs.Words.{IsRested};
+ghost use Rattle.pm_model.specs.Counts.{after_fault, fault_of, file_fault_of};
+ghost use Rattle.pm_model.specs.Reads.{OnlyReads};
+ghost use Rattle.pud_defs.specs.declared.layout.TheConstants.{CLIENTS, MAX_FRAMES, PUDDLE_TABLE};
+ghost use Rattle.pud_defs.specs.declared.machine.Refusal.{Refusal};
+ghost use Rattle.pud_defs.specs.declared.machine.Command.TheVariants.{Import};
+ghost use Rattle.pud_defs.specs.Layout.{device_words};
+ghost use Rattle.pud_defs.specs.Listing.{name_text};
+ghost use Rattle.pud_defs.specs.Names.{is_legal_name};
+ghost use Rattle.pud_defs.specs.Grammar.{IsLegalCommand};
+ghost use Rattle.pud_defs.specs.Step.{refusal_of};
+ghost use Rattle.pud_defs.specs.World.{World};
+ghost use Rattle.ready_daemon.specs.Memory.{Memory};
+ghost use Rattle.ready_daemon.specs.Ready.{KeepsRest, IsReady};
+ghost use Rattle.puddled.specs.Answered.{as_answered};
+ghost use Rattle.puddled.specs.Daemon.{CarriesOut};
+ghost use Rattle.puddled.specs.Importing.{MayName, IsFrontOf, reply_of_placing};
+
+use log_space::owner;
+use pm_model::{FileFault, Host, HostFault};
+use pool_list::text::{self, add_name};
+use pool_table::find;
+use pud_defs::machine::{Refusal, Reply};
+use pud_defs::records::{Name, Owner};
+use pud_import::{PlaceFault, place, read_file};
+use std::alloc::Global;
+use std::str;
+
+/// What is replied where a file was to be placed, by what became of it.
+fn reply_of(done: Result<(), PlaceFault>) -> Result<Reply, HostFault>
+    ensures { result ≡ reply_of_placing done }
+{
+    match done {
+        Ok(()) => Ok(Reply::Ok),
+        Err(PlaceFault::Clash) => Ok(Reply::No(Refusal::Clash)),
+        Err(PlaceFault::Full) => Ok(Reply::No(Refusal::Full)),
+        Err(PlaceFault::NoSpace) => Ok(Reply::No(Refusal::Space)),
+        Err(PlaceFault::Host(fault)) => Err(fault),
+    }
+}
+
+/// What the host gives of the file on the shelf whose name is this one without the zeros that fill it, or None where there is none.
+fn get_file<H: Host>(
+    alloc: Global,
+    h: &mut H,
+    file: Name,
+) -> Result<Option<Vec<u8>>, FileFault>
+    requires { IsTrue (is_legal_name file) }
+    ensures found { H.tells → IfOk result (λ found.
+        option_map (λ bytes. bytes.items) found ≡ option_map (take FILE_READ_LIMIT) ((H.state h.old).shelf (name_text file))) }
+    ensures memory { H.tells → result ≡ Result.Err FileFault.Memory → IsSome ((H.state h.old).shelf (name_text file)) }
+    ensures only_reads { OnlyReads H.tells H.state H.counts (file_fault_of result) h.old h.new }
+{
+    let mut name = text::Text::new();
+    add_name(&mut name, &file);
+    match str::from_utf8(name.as_slice()) {
+        Ok(name) => h.file_get(alloc, name),
+        // A legal name is ASCII.
+        Err(_) => unreachable!(),
+    }
+}
+
+/// Makes the pool of this name with this owner and mode of what these bytes hold, or refuses to. A refused one changes nothing. The device has so
+/// many frames, and no pool of the name.
+fn place_bytes<H: Host>(
+    h: &mut H,
+    frames: u32,
+    bytes: &[u8],
+    name: Name,
+    uid: u32,
+    gid: u32,
+    mode: u32,
+) -> Result<Reply, HostFault>
+    requires few { frames ≤ MAX_FRAMES }
+    requires room { device_words frames ≤ (H.counts h.old).size }
+    ensures carries { H.tells → (size : ℕ) → size ≡ (H.counts h.old).size → (w : World) → (memory : Memory) → memory.frames ≡ frames → IsReady size w memory (H.state h.old)
+        → (client : ℕ) → (file : List ℕ) → IsLegalCommand (Import client name file mode) → MayName w client name uid gid → IsFrontOf w file bytes.now
+        → CarriesOut size w memory (Option.Some (Import client name file mode)) (as_answered result) (H.counts h.old) (H.counts h.new) (H.state h.old) (H.state h.new) }
+    ensures unchanged { H.tells → (size : ℕ) → (w : World) → (memory : Memory) → memory.frames ≡ frames → IsReady size w memory (H.state h.old)
+        → (client : ℕ) → MayName w client name uid gid → IfOk result (λ reply. reply ≢ Reply.Ok → H.state h.new ≡ H.state h.old) }
+    ensures rest { H.tells → KeepsRest (H.state h.old) (H.state h.new) }
+    ensures rests { H.tells → fault_of result ≡ Option.Some HostFault.Cut → IsRested (H.state h.new).now.words }
+    ensures cause { H.counts h.new ≡ after_fault (fault_of result) (H.counts h.old) }
+{
+    let Ok(view) = read_file(bytes) else {
+        return Ok(Reply::No(Refusal::BadFile));
+    };
+    reply_of(place(h, frames, &view, name, uid, gid, mode))
+}
+
+/// The same of what the file of this name on the shelf holds. The whole file is read before any step of the device.
+fn place_file<H: Host>(
+    alloc: Global,
+    h: &mut H,
+    frames: u32,
+    file: Name,
+    name: Name,
+    uid: u32,
+    gid: u32,
+    mode: u32,
+) -> Result<Reply, HostFault>
+    requires few { frames ≤ MAX_FRAMES }
+    requires room { device_words frames ≤ (H.counts h.old).size }
+    requires name { IsTrue (is_legal_name file) }
+    ensures carries { H.tells → (size : ℕ) → size ≡ (H.counts h.old).size → (w : World) → (memory : Memory) → memory.frames ≡ frames → IsReady size w memory (H.state h.old)
+        → (client : ℕ) → IsLegalCommand (Import client name file mode) → MayName w client name uid gid
+        → CarriesOut size w memory (Option.Some (Import client name file mode)) (as_answered result) (H.counts h.old) (H.counts h.new) (H.state h.old) (H.state h.new) }
+    ensures unchanged { H.tells → (size : ℕ) → (w : World) → (memory : Memory) → memory.frames ≡ frames → IsReady size w memory (H.state h.old)
+        → (client : ℕ) → MayName w client name uid gid → IfOk result (λ reply. reply ≢ Reply.Ok → H.state h.new ≡ H.state h.old) }
+    ensures rest { H.tells → KeepsRest (H.state h.old) (H.state h.new) }
+    ensures rests { H.tells → fault_of result ≡ Option.Some HostFault.Cut → IsRested (H.state h.new).now.words }
+    ensures cause { H.counts h.new ≡ after_fault (fault_of result) (H.counts h.old) }
+{
+    match get_file(alloc, h, file) {
+        Ok(Some(bytes)) => place_bytes(h, frames, bytes.as_slice(), name, uid, gid, mode),
+        Ok(None) => Ok(Reply::No(Refusal::File)),
+        Err(FileFault::Memory) => Ok(Reply::No(Refusal::Memory)),
+        Err(FileFault::Host(fault)) => Err(fault),
+    }
+}
+
+/// The owner as which the client acts who is to make a pool of this name, or why none may be made: the client is not present, or a pool has the name.
+fn find_maker<H: Host>(
+    h: &mut H,
+    client: u32,
+    name: Name,
+) -> Result<Result<Owner, Refusal>, HostFault>
+    requires known { client < CLIENTS }
+    requires room { PUDDLE_TABLE ≤ (H.counts h.old).size }
+    ensures maker { H.tells → (size : ℕ) → (w : World) → (memory : Memory) → IsReady size w memory (H.state h.old)
+        → IfOk result (λ found. IfOk found (λ who. MayName w client name who.uid who.gid)) }
+    ensures refused { H.tells → (size : ℕ) → (w : World) → (memory : Memory) → IsReady size w memory (H.state h.old)
+        → IfOk result (λ found. (refusal : Refusal) → found ≡ Result.Err refusal → (file : List ℕ) → (mode : ℕ) → refusal_of w (Import client name file mode) ≡ Option.Some refusal) }
+    ensures only_reads { OnlyReads H.tells H.state H.counts (fault_of result) h.old h.new }
+{
+    let Some(who) = owner(h, client)? else {
+        return Ok(Err(Refusal::Client));
+    };
+    let there = find(h, name)?;
+    if there.is_some() {
+        return Ok(Err(Refusal::Exists));
+    }
+    Ok(Ok(who))
+}
+
+/// Makes the pool of this name with this mode, for the client, from 0 to 7, of what the export file `file` on the shelf holds, or refuses to. The
+/// client owns it. A refused one changes nothing, and the whole file is read before any step of the device. The device has so many frames.
+///
+/// The reply is `Ok`, or says why none was made, by the first of these that holds: `Client`, the client is not present; `Exists`, a pool has the
+/// name; `File`, the shelf has no such file; `Memory`, memory was refused; `BadFile`, it is no export file; `Clash`, one of its types is defined with
+/// another map; `Full`, a table has no room for it, or too few UUID numbers are left; `Space`, too few frames are free.
+pub(crate) fn import<H: Host>(
+    alloc: Global,
+    h: &mut H,
+    frames: u32,
+    client: u32,
+    name: Name,
+    file: Name,
+    mode: u32,
+) -> Result<Reply, HostFault>
+    requires known { client < CLIENTS }
+    requires few { frames ≤ MAX_FRAMES }
+    requires room { device_words frames ≤ (H.counts h.old).size }
+    requires name { IsTrue (is_legal_name file) }
+    ensures carries { H.tells → (size : ℕ) → size ≡ (H.counts h.old).size → (w : World) → (memory : Memory) → memory.frames ≡ frames → IsReady size w memory (H.state h.old)
+        → IsLegalCommand (Import client name file mode)
+        → CarriesOut size w memory (Option.Some (Import client name file mode)) (as_answered result) (H.counts h.old) (H.counts h.new) (H.state h.old) (H.state h.new) }
+    ensures unchanged { H.tells → (size : ℕ) → (w : World) → (memory : Memory) → memory.frames ≡ frames → IsReady size w memory (H.state h.old)
+        → IfOk result (λ reply. reply ≢ Reply.Ok → H.state h.new ≡ H.state h.old) }
+    ensures rest { H.tells → KeepsRest (H.state h.old) (H.state h.new) }
+    ensures rests { H.tells → fault_of result ≡ Option.Some HostFault.Cut → IsRested (H.state h.new).now.words }
+    ensures cause { H.counts h.new ≡ after_fault (fault_of result) (H.counts h.old) }
+{
+    let who = match find_maker(h, client, name)? {
+        Err(refusal) => return Ok(Reply::No(refusal)),
+        Ok(who) => who,
+    };
+    place_file(alloc, h, frames, file, name, who.uid, who.gid, mode)
+}
