@@ -67,6 +67,7 @@ use Rattle.pud_defs.proofs.IdleWorlds.{standing_beside, standing_idle}
 use Rattle.pud_defs.proofs.Parts.{Holds-same, StandsFor}
 use Rattle.pud_defs.proofs.Parts.Part.{Types}
 use Rattle.pud_defs.proofs.Steps.{done_world}
+use Rattle.ready_daemon.specs.Moves.{Stays, LeavesPuddles}
 use Rattle.ready_daemon.specs.Ready.{IsReady, Applies}
 use Rattle.ready_daemon.proofs.Beside.{Applies-beside}
 use Rattle.ready_daemon.proofs.Beneath.{read_masked-kept}
@@ -327,13 +328,13 @@ module _ (F : ℕ) (image : Image) (file : List (ℕ × ℕ)) (wanted : List ℕ
 
 -- it is carried out beside what is held: the next world has all that is held, and each pool that has a graph keeps it
 pub Applies-wider : (size : ℕ) (w : World) (memory : Memory) (c : Command) (next : StoredWorld) (also : Image → Type 0) (fault : Option HostFault) (old new : State) (ready : IsReady size w memory old)
-    → refusal_of w c ≡ None → after w c ≡ record w { stored = next } → next.frames ≡ w.stored.frames → KeepsHeld w (record w { stored = next }) memory.held
+    → LeavesPuddles w.stored.frames Stays old new → refusal_of w c ≡ None → after w c ≡ record w { stored = next } → next.frames ≡ w.stored.frames → KeepsHeld w (record w { stored = next }) memory.held
     → ChangesBeside size w.stored next also ready.mask fault old new → (fault ≡ None → KeepsPools w.stored.frames None (reads old.now.words) (reads new.now.words))
     → Applies size w (world_by w (Some c)) memory fault old new
-Applies-wider size w memory c next also fault old new ready free gives frames keeps b stay =
+Applies-wider size w memory c next also fault old new ready puddles free gives frames keeps b stay =
     subst (λ (v : World). Applies size w v memory fault old new) (sym (done_world w c free ∙ gives))
     (Applies-beside size w (record w { stored = next }) memory fault old new ready keeps (AppliesMasked-pools size w memory next also fault old new ready b.beside b.pools frames)
-    memory refl refl refl
+    Stays puddles memory refl refl refl
     (λ none. KnowsPools-all w.stored.frames memory.judged ready.held.opens (reads old.now.words) (reads new.now.words) (stay none) ready.knows)
     (λ none. rest_beside size w memory old ready None new (λ number h there no. none-some h.slot no) (stay none) (b.beside.single none)))
 

@@ -40,11 +40,11 @@ pub record_masked : (frame : ℕ) (image : Image) (k : ℕ) → puddle_record_at
 record_masked frame image k low high = cond-true _ _ _ (and_from _ _ (le-leb _ k low) (lt-ltb k _ high))
 
 -- it has no other word
-record IsRecordWord (frame k : ℕ) : Type 0 where
-  low : puddle_record_at frame ≤ k
-  high : k < puddle_record_at (frame + 1)
+pub record IsRecordWord (frame k : ℕ) : Type 0 where
+  pub low : puddle_record_at frame ≤ k
+  pub high : k < puddle_record_at (frame + 1)
 
-masked_record : (frame : ℕ) (image : Image) (k x : ℕ) → record_mask frame image k ≡ Some x → IsRecordWord frame k
+pub masked_record : (frame : ℕ) (image : Image) (k x : ℕ) → record_mask frame image k ≡ Some x → IsRecordWord frame k
 masked_record frame image k x is = elim (cases_Bool (leb (puddle_record_at frame) k && ltb k (puddle_record_at (frame + 1)))) [
   | inl inside ↦
       let parts = and_parts (leb (puddle_record_at frame) k) (ltb k (puddle_record_at (frame + 1))) inside in
