@@ -18,7 +18,7 @@ pub returns-in-Ok-Some-clause-carries : goal.returns-in-Ok-Some-clause-carries
 returns-in-Ok-Some-clause-carries g c = λ t size e w memory frames ready client legal may.
     let k = c.in-Ok-Some.ensures in
     let found = k.found t in
-    let front : IsFrontOf w c.args.file c.in-Ok-Some.bytes.items = front_of w _ c.args.file c.in-Ok-Some.bytes.items ready.shelf (rw c.in-Ok-Some.bytes-is at found) in
+    let front : IsFrontOf w c.args.file c.in-Ok-Some.bytes.items = front_of w (g.H.Host.state c.args.h.now) c.args.file c.in-Ok-Some.bytes.items ready.shelf (rw c.in-Ok-Some.field-0-is at found) in
     CarriesOut-behind size w memory (Import client c.args.name c.args.file c.args.mode) c.place_bytes.result _ _ _ _ _ _ (k.only_reads.stays t) k.only_reads.cause ready
     (λ then. c.place_bytes.ensures.carries t size (still_size k.only_reads e) w memory frames then client c.args.file legal may (subst (IsFrontOf w c.args.file) (sym c.as_slice.ensures.value) front))
 
@@ -34,19 +34,19 @@ returns-in-Ok-None-clause-carries g c = λ t size e w memory frames ready client
     let found = k.found t in
     CarriesOut-refused size w memory _ _ _ _ (Import client c.args.name c.args.file c.args.mode) (import_is_plain client c.args.name c.args.file c.args.mode) (k.only_reads.stays t)
     (ready_read size w memory _ _ (k.only_reads.stays t) ready) refusals.File
-    (import_no_file w client c.args.mode c.args.name c.args.file c.args.uid c.args.gid may (none_given w _ c.args.file ready.shelf (rw c.in-Ok-None.field-0-is at found))) k.only_reads.cause
+    (import_no_file w client c.args.mode c.args.name c.args.file c.args.uid c.args.gid may (none_given w (g.H.Host.state c.args.h.now) c.args.file ready.shelf (rw c.in-Ok-None.field-0-is at found))) k.only_reads.cause
 
 pub returns-in-Err-Memory-clause-carries : goal.returns-in-Err-Memory-clause-carries
 returns-in-Err-Memory-clause-carries g c = λ t size e w memory frames ready client legal may.
     let k = c.in-Err-Memory.ensures in
     let told = k.only_reads in
     let reads = rw c.in-Err-Memory.field-0-is at told in
-    let there = some_there w _ c.args.file ready.shelf (k.memory t (cc)) in
+    let there = some_there w (g.H.Host.state c.args.h.now) c.args.file ready.shelf (k.memory t (cc)) in
     CarriesOut-memory size w memory _ ready client c.args.uid c.args.gid c.args.mode c.args.name c.args.file there.0 may there.1 _ (reads.stays t) _ _ reads.cause
 
 pub returns-in-Err-Host-clause-carries : goal.returns-in-Err-Host-clause-carries
-returns-in-Err-Host-clause-carries g c = λ t size e w memory frames ready client legal may.
+returns-in-Err-Host-clause-carries g c = rw c.in-Err-Host.field-0-is (λ t size e w memory frames ready client legal may.
     let told = c.in-Err-Host.ensures.only_reads in
     let reads = rw c.in-Err-Host.field-0-is at told in
     CarriesOut-unread size w memory _ _ _ _ (Import client c.args.name c.args.file c.args.mode) (import_is_plain client c.args.name c.args.file c.args.mode) (reads.stays t)
-    (ready_read size w memory _ _ (reads.stays t) ready) c.in-Err-Host.fault reads.never_cut reads.cause
+    (ready_read size w memory _ _ (reads.stays t) ready) c.in-Err-Host.fault reads.never_cut reads.cause)
