@@ -217,13 +217,13 @@ module _ (size : ℕ) (w : World) (memory : Memory) (old new : State) (ready : I
 -- ---- a file that is not placed
 
 -- leaves the device as it was
-pub stays_refused : (n : ℕ) (read : Image) (c : FileContents) (old new : State) (done : Result (Unit {0}) PlaceFault) → (place_fault done ≡ None → refusal_in done ≡ refusal_by n read c)
-    → ((refusal_by n read c ≡ None → ⊥) → new ≡ old) → IfOk (reply_of_placing done) (λ reply. reply ≢ replies.Ok → new ≡ old)
-stays_refused n read c old new (Ok x) told stays = λ other. absurd (other refl)
-stays_refused n read c old new (Err faults.Clash) told stays = λ other. stays (λ none. none-some faults.Clash (sym none ∙ sym (told refl)))
-stays_refused n read c old new (Err faults.Full) told stays = λ other. stays (λ none. none-some faults.Full (sym none ∙ sym (told refl)))
-stays_refused n read c old new (Err faults.NoSpace) told stays = λ other. stays (λ none. none-some faults.NoSpace (sym none ∙ sym (told refl)))
-stays_refused n read c old new (Err (faults.Host fault)) told stays = tt
+pub stays_refused : (n : ℕ) (at : Image) (c : FileContents) (old new : State) (done : Result (Unit {0}) PlaceFault) → (place_fault done ≡ None → refusal_in done ≡ refusal_by n at c)
+    → ((refusal_by n at c ≡ None → ⊥) → new ≡ old) → IfOk (reply_of_placing done) (λ reply. reply ≢ replies.Ok → new ≡ old)
+stays_refused n at c old new (Ok x) told stays = λ other. absurd (other refl)
+stays_refused n at c old new (Err faults.Clash) told stays = λ other. stays (λ none. none-some faults.Clash (sym none ∙ sym (told refl)))
+stays_refused n at c old new (Err faults.Full) told stays = λ other. stays (λ none. none-some faults.Full (sym none ∙ sym (told refl)))
+stays_refused n at c old new (Err faults.NoSpace) told stays = λ other. stays (λ none. none-some faults.NoSpace (sym none ∙ sym (told refl)))
+stays_refused n at c old new (Err (faults.Host fault)) told stays = tt
 
 -- on a device of so many frames that is ready
 pub stays_unplaced : (size : ℕ) (w : World) (memory : Memory) (old new : State) → IsReady size w memory old → (client uid gid : ℕ) (name : List ℕ) → MayName w client name uid gid → (view : List ℕ) → is_some (file_graph view) ≡ true

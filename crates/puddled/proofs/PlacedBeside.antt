@@ -42,32 +42,36 @@ use Rattle.ready_daemon.proofs.PoolsApart.{IsBeside-still}
 
 -- ---- the frames that are filled
 
+-- it is no word of a frame
+abbrev IsOutside : (F frame k : ℕ) → Type 0
+IsOutside F frame k = frame_at F frame ≤ k → k < frame_at F frame + FRAME_WORDS → ⊥
+
+among_more : (F : ℕ) (a : Added) (puddles : List Added) (k : ℕ) → IsFrameWord F puddles k → IsFrameWord F (a ∷ puddles) k
+among_more F a puddles k word = record { ordinal = suc word.ordinal; added = word.added; there = word.there; word = word.word }
+
+among_rest : (F : ℕ) (a : Added) (puddles : List Added) (k : ℕ) → IsOutside F a.frame k → (o : ℕ) (b : Added) → slice_get (a ∷ puddles) o ≡ Some b
+    → IsWithin (frame_at F b.frame) (frame_at F b.frame + FRAME_WORDS) k → IsFrameWord F puddles k
+among_rest F a puddles k not zero b there word =
+    let same : a.frame ≡ b.frame = ap (λ (x : Added). x.frame) (same_Some a b there) in
+    let low = word.low in let high = word.high in
+    absurd (not (omega arith) (omega arith))
+among_rest F a puddles k not (suc o) b there word = record { ordinal = o; added = b; there = there; word = word }
+
+among_later : (F : ℕ) (a : Added) (puddles : List Added) (k : ℕ) → IsOutside F a.frame k → IsFrameWord F puddles k ⊎ (IsFrameWord F puddles k → ⊥)
+    → IsFrameWord F (a ∷ puddles) k ⊎ (IsFrameWord F (a ∷ puddles) k → ⊥)
+among_later F a puddles k not (inl word) = inl (among_more F a puddles k word)
+among_later F a puddles k not (inr none) = inr (λ word. none (among_rest F a puddles k not word.ordinal word.added word.there word.word))
+
 -- the word is one of these frames, or it is none
 is_among : (F : ℕ) (puddles : List Added) (k : ℕ) → IsFrameWord F puddles k ⊎ (IsFrameWord F puddles k → ⊥)
 is_among F [] k = inr (λ word. none-some word.added word.there)
 is_among F (a ∷ puddles) k = elim (cases_lt k (frame_at F a.frame)) [
-  | inl before ↦ later (λ low high. omega arith)
+  | inl before ↦ among_later F a puddles k (λ low high. omega arith) (is_among F puddles k)
   | inr from ↦ elim (cases_lt k (frame_at F a.frame + FRAME_WORDS)) [
     | inl within ↦ inl (record { ordinal = 0; added = a; there = refl; word = record { low = from; high = within } })
-    | inr behind ↦ later (λ low high. omega arith)
+    | inr behind ↦ among_later F a puddles k (λ low high. omega arith) (is_among F puddles k)
   ]
 ]
-  where
-    shifted : IsFrameWord F puddles k → IsFrameWord F (a ∷ puddles) k
-    shifted word = record { ordinal = suc word.ordinal; added = word.added; there = word.there; word = word.word }
-
-    unshifted : (frame_at F a.frame ≤ k → k < frame_at F a.frame + FRAME_WORDS → ⊥) → (o : ℕ) (b : Added) → slice_get (a ∷ puddles) o ≡ Some b → IsWithin (frame_at F b.frame) (frame_at F b.frame + FRAME_WORDS) k → IsFrameWord F puddles k
-    unshifted not zero b there word =
-        let same : a.frame ≡ b.frame = ap (λ (x : Added). x.frame) (same_Some a b there) in
-        let low = word.low in let high = word.high in
-        absurd (not (omega arith) (omega arith))
-    unshifted not (suc o) b there word = record { ordinal = o; added = b; there = there; word = word }
-
-    later : (frame_at F a.frame ≤ k → k < frame_at F a.frame + FRAME_WORDS → ⊥) → IsFrameWord F (a ∷ puddles) k ⊎ (IsFrameWord F (a ∷ puddles) k → ⊥)
-    later not = elim (is_among F puddles k) [
-      | inl word ↦ inl (shifted word)
-      | inr none ↦ inr (λ word. none (unshifted not word.ordinal word.added word.there word.word))
-    ]
 
 -- each of their words that were filled has one value
 filled_single : (F : ℕ) (file : Stored) (puddles : List Added) (new : State) → AreFilled F file puddles new.now.words → (k : ℕ) → StaysDurable (ByFrames F puddles) new k
@@ -185,8 +189,8 @@ module _ (F next : ℕ) (file : Stored) (types : List (ℕ × ℕ)) (name : List
         let same : types_of (reads mid.now.words) ≡ types_of image = types_same image (reads mid.now.words) (λ k low high. tables_filled k (omega arith)) in
         record { each = λ st g has. graphs.each st g (ap (λ (ts : List (ℕ × ℕ)). graph_of ts st) (sym same) ∙ has) }
 
-    keeps_then : ((new ≡ mid) × (None ≡ None)) ⊎ CommitsPuts (placing p.slot (new_record name uid gid mode (image NEXT_NUMBER_WORD)) p.types p.puddles) None mid new → KeepsPools F None image (reads new.now.words)
-    keeps_then (inl end) = KeepsPools-then F None image (reads mid.now.words) (reads new.now.words) frames_filled (KeepsPools-still F None mid new end.0)
+    keeps_then : (new ≡ mid) ⊎ CommitsPuts (placing p.slot (new_record name uid gid mode (image NEXT_NUMBER_WORD)) p.types p.puddles) None mid new → KeepsPools F None image (reads new.now.words)
+    keeps_then (inl end) = KeepsPools-then F None image (reads mid.now.words) (reads new.now.words) frames_filled (KeepsPools-still F None mid new end)
     keeps_then (inr commits) =
         KeepsPools-then F None image (reads mid.now.words) (reads new.now.words) frames_filled
         (KeepsPools-placing F image types (map (λ d. d.base) file.puddles) p.slot (new_record name uid gid mode (image NEXT_NUMBER_WORD)) p.types p.puddles is next sound mid new tables_filled graphs_then commits)
@@ -194,6 +198,6 @@ module _ (F next : ℕ) (file : Stored) (types : List (ℕ × ℕ)) (name : List
   -- each pool that has a graph keeps it, once the pool is placed
   pub KeepsPools-places : PlacesSomewhere F image file types name uid gid mode None old new → KeepsPools F None image (reads new.now.words)
   KeepsPools-places d = elim d.then [
-    | inl end ↦ keeps_then d.placement d.is d.mid (subst (λ (f : Option HostFault). Changes (ByFrames F d.placement.puddles) f old d.mid) (sym end.1) d.fills) (inl (end.0, refl))
+    | inl end ↦ keeps_then d.placement d.is d.mid (subst (λ (f : Option HostFault). Changes (ByFrames F d.placement.puddles) f old d.mid) (sym end.1) d.fills) (inl end.0)
     | inr on ↦ keeps_then d.placement d.is d.mid (subst (λ (f : Option HostFault). Changes (ByFrames F d.placement.puddles) f old d.mid) on.0 d.fills) (inr on.1)
   ]

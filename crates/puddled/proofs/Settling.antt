@@ -19,7 +19,7 @@ use Rattle.pud_defs.specs.World.{World, world_of, closed, restart}
 use Rattle.pud_defs.specs.Grammar.{command_of}
 use Rattle.pud_defs.specs.Step.{refusal_of, after, unless_refused, world_by}
 use Rattle.pud_defs.specs.Changing.{Part, part_of, with_part, file_in}
-use Rattle.pud_defs.specs.Changing.Part.{types, pools, clients, transactions, nothing}
+use Rattle.pud_defs.specs.Changing.Part.{types, pools, tables, clients, transactions, nothing}
 use Rattle.pud_defs.proofs.Changing.{after-part, shelf_of_gives, Gives-plain_is, KeepsFiles-none}
 use Rattle.pud_defs.proofs.Commands.{command_of-legal}
 use Rattle.puddled.specs.declared.daemon.StartFault.{StartFault}
@@ -107,6 +107,7 @@ module _ (size : ℕ) (w : World) (memory : Memory) (line : List ℕ) (before be
 frames_of_part : (p : Part) (v w : World) → (with_part p v w).stored.frames ≡ w.stored.frames
 frames_of_part types v w = refl
 frames_of_part pools v w = refl
+frames_of_part tables v w = refl
 frames_of_part clients v w = refl
 frames_of_part transactions v w = refl
 frames_of_part nothing v w = refl
