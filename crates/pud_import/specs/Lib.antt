@@ -2,4 +2,5 @@ pub mod Answers
 pub mod Contents
 pub mod Filling
 pub mod Placing
+pub mod Rewrites
 pub mod Sized

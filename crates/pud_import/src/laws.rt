@@ -1,11 +1,33 @@
 //! Laws of export files. Each function here does nothing; its contract is the law.
 
-ghost use Rattle.std.specs.Prelude.{◌≡◌, ℕ, List, take};
+ghost use Rattle.std.specs.Prelude.{◌≡◌, ℕ, List, Option, true, take, is_some};
+ghost use Rattle.std.specs.Ordering.{nat_cmp};
+ghost use Rattle.std.specs.FinMap.Entries.{is_sorted};
 ghost use Rattle.pm_model.specs.declared.host.TheConstants.{FILE_READ_LIMIT};
+ghost use Rattle.pud_defs.specs.Image.{Image};
+ghost use Rattle.pud_defs.specs.declared.machine.Command.TheVariants.{Import};
 ghost use Rattle.pud_defs.specs.ExportFile.{file_graph};
+ghost use Rattle.pud_defs.specs.World.{StoredWorld, World, world_of};
+ghost use Rattle.pud_defs.specs.PoolChanges.{pool_named};
+ghost use Rattle.pud_defs.specs.Step.{contents_in, contents_named, refusal_of, after};
+ghost use Rattle.pud_defs.specs.Gives.{Shelf, Exports, contents_held};
+ghost use Rattle.pud_import.specs.Rewrites.{behind_rewrites};
 
 /// What a host gives of a file decides what the file holds: as many bytes from its front as a host reads at most are one more
 /// than the largest export file has.
 pub fn front_of_a_file_decides()
     ensures { (bytes : List ℕ) → file_graph (take FILE_READ_LIMIT bytes) ≡ file_graph bytes }
+{}
+
+/// A pool that is imported holds what its file holds: the types, the number of puddles and the graph. So does each file into which it is exported
+/// then, however far it was rewritten before. The types that are defined are taken to stand by ascending ids, as those of
+/// each device do.
+pub fn imported_pool_is_exported_as_its_file()
+    ensures read { (w : World) (client : ℕ) (name : List ℕ) (file : List ℕ) (mode : ℕ) → let c = Import client name file mode in refusal_of w c ≡ Option.None → is_some (contents_named w c) ≡ true }
+    ensures held { (w : World) (client : ℕ) (name : List ℕ) (file : List ℕ) (mode : ℕ) → let c = Import client name file mode in
+        is_sorted nat_cmp w.stored.types ≡ true → refusal_of w c ≡ Option.None → contents_held (after w c).stored.types (pool_named name (after w c).stored) ≡ contents_named w c }
+    ensures exported { (w : World) (client : ℕ) (name : List ℕ) (file : List ℕ) (mode : ℕ) → let c = Import client name file mode in
+        is_sorted nat_cmp w.stored.types ≡ true → refusal_of w c ≡ Option.None
+        → (steps : List ℕ) (again : List ℕ) (shelf : Shelf) → Exports (behind_rewrites name steps (after w c)) name again shelf → contents_in (shelf again) ≡ contents_named w c }
+    ensures ordered { (size : ℕ) (image : Image) (s : StoredWorld) → world_of size image ≡ Option.Some s → is_sorted nat_cmp s.types ≡ true }
 {}

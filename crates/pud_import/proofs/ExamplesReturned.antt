@@ -1,0 +1,35 @@
+-- A file of one type that is imported where another type is defined: what the pool holds then is what the file does.
+use Rattle.std.proofs.Common.{◌≡◌, ℕ, cond, List, [], ◌∷◌, codes, bytes_eq, Some, None, refl}
+use Rattle.pud_defs.specs.declared.machine.Command.{Command}
+use Rattle.pud_defs.specs.declared.machine.Command.TheVariants.{Import}
+use Rattle.pud_defs.specs.Spaces.{owner}
+use Rattle.pud_defs.specs.World.{World, nothing_open, blank_world}
+use Rattle.pud_defs.specs.PoolChanges.{pool_named}
+use Rattle.pud_defs.specs.Step.{contents_named, refusal_of, after}
+use Rattle.pud_defs.specs.Gives.{contents_held}
+use Rattle.pud_defs.proofs.Opened.{opened}
+use Rattle.pud_defs.proofs.ExamplesTransactions.{name_of}
+use Rattle.pud_defs.proofs.ExamplesFiles.{contents, bytes}
+use Rattle.pud_import.specs.Rewrites.{behind_rewrites}
+
+-- types 1 and 9 are defined, of which the file `x` has the first
+abbrev types : List (ℕ × ℕ)
+types = (1, 8589934594) ∷ (9, 4294967296) ∷ []
+
+abbrev beside_another : World
+beside_another = record { stored = record (blank_world 4 7) { types = types }; clients = λ _. Some (owner 5 5); shelf = λ name. cond (bytes_eq name (codes "x")) (Some bytes) None; transactions = nothing_open }
+
+abbrev asked : Command
+asked = Import 0 (name_of 98) (name_of 120) 384
+
+abbrev rewritten : World
+rewritten = behind_rewrites (name_of 98) (3 ∷ 60 ∷ []) (after beside_another asked)
+
+taken : (refusal_of beside_another asked ≡ None) × (contents_named beside_another asked ≡ Some contents)
+unfolding opened
+taken = (refl, refl)
+
+-- type 9 stays, and is none of the pool's
+without_the_other : (rewritten.stored.types ≡ types) × (contents_held rewritten.stored.types (pool_named (name_of 98) rewritten.stored) ≡ Some contents)
+unfolding opened
+without_the_other = (refl, refl)
