@@ -52,7 +52,7 @@ use Rattle.puddled.proofs.Carrying.{ClosesLogs-other, CarriesOut-plain}
 use Rattle.puddled.proofs.Commanding.{IsPlain, CarriesOut-refused}
 use Rattle.puddled.proofs.FileLines.{CarriesOut-read, memory_step}
 use Rattle.puddled.proofs.ImportRefusals.{found_some, import_bad, import_placed, import_gives, import_memory, as_refusal, no_host_by, refused_by_tables, absent_in, fault_of_placing, reply_placed}
-use Rattle.puddled.proofs.PlacedBeside.{off_placing, IsBeside-places, KeepsPools-places}
+use Rattle.puddled.proofs.PlacedBeside.{off_placing, IsBeside-places, KeepsPools-places, LeavesPuddles-places}
 
 pub import_is_plain : (client : ℕ) (name file : List ℕ) (mode : ℕ) → IsPlain (Import client name file mode)
 import_is_plain client name file mode = record { kind = refl; file = refl; stays = λ other is. cc }
@@ -129,7 +129,9 @@ module _ (size : ℕ) (w : World) (memory : Memory) (old new : State) (ready : I
 
     placed_by : (r : Option PlaceFault) → refused ≡ r → Commits F → Places F → Stays F → Applies size w (world_by w (Some line)) memory (place_fault done) old new
     placed_by None is commits places stays =
-        Applies-wider size w memory line next (λ _. ⊤) (place_fault done) old new ready (refusal_is ∙ ap as_refusal is)
+        let idle = ready_gate size w memory old ready in
+        Applies-wider size w memory line next (λ _. ⊤) (place_fault done) old new ready
+        (LeavesPuddles-places F (place_fault done) old new ready.tables idle rests stored contents.types name uid gid mode (commits idle none_there is)) (refusal_is ∙ ap as_refusal is)
         (import_gives w client mode name file uid gid may bytes there contents held) (imported_frames name (owner uid gid) mode contents w.stored)
         (KeepsHeld-imported w memory.held ready.mask old.now.words name (owner uid gid) mode contents ready.held (absent_apart w memory.held ready.mask old.now.words name ready.held may.absent))
         (changes_beside is commits places) (λ ended. keeps_pools is commits places (place_fault done) refl ended)

@@ -23,6 +23,7 @@ use Rattle.pud_defs.specs.Tables.{Tables, tables_of}
 use Rattle.pud_defs.specs.Types.{types_of}
 use Rattle.pud_defs.specs.World.{World}
 use Rattle.pud_defs.proofs.TablesOf.{frames_of_tables}
+use Rattle.batch.specs.Tables.{HasDurableTables}
 use Rattle.batch.specs.Batches.{HasIdleGate, ByBatch}
 use Rattle.batch.proofs.Tables.{StaysDurable, reads_kept}
 use Rattle.registry.specs.declared.adding.Added.{Added}
@@ -38,7 +39,9 @@ use Rattle.ready_daemon.proofs.Beneath.{IsOff-each, IsBeside-changes, IsBeside-c
 use Rattle.ready_daemon.proofs.JudgedKept.{KeepsGraphs, KeepsPools, KeepsPools-then, KeepsPools-still, KeepsPools-changes, types_same}
 use Rattle.ready_daemon.proofs.PlacedPools.{KeepsPools-placing}
 use Rattle.ready_daemon.proofs.PlacedWords.{IsFreeFrameWord, placed_frame, placing_words, free_unmasked, free_frame_unmasked, free_not_used, free_frame_not_record}
+use Rattle.ready_daemon.specs.Moves.{Stays, LeavesPuddles}
 use Rattle.ready_daemon.proofs.PoolsApart.{IsBeside-still}
+use Rattle.ready_daemon.proofs.PuddlesLeft.{record_mask, masked_record, used_below, LeavesPuddles-beside}
 
 -- ---- the frames that are filled
 
@@ -154,6 +157,19 @@ module _ (F : ℕ) (image : Image) (file : Stored) (types : List (ℕ × ℕ)) (
       → OrStill (PlacesSomewhere F image file types name uid gid mode) fault old new → IsBeside mask fault old new
   IsBeside-places mask fault old new off idle rests (inl still) = IsBeside-still mask fault old new idle rests still.0
   IsBeside-places mask fault old new off idle rests (inr places) = places_beside mask fault old new off idle places
+
+-- ---- what is left of records of puddles
+
+-- no record of a puddle that is used is written
+pub LeavesPuddles-places : (F : ℕ) (fault : Option HostFault) (old new : State) → HasDurableTables F old.now.words → HasIdleGate DAEMON_LOG old.now.words → (fault ≡ Some Cut → IsRested new.now.words)
+    → (file : Stored) (types : List (ℕ × ℕ)) (name : List ℕ) (uid gid mode : ℕ) → OrStill (PlacesSomewhere F (reads old.now.words) file types name uid gid mode) fault old new → LeavesPuddles F Stays old new
+LeavesPuddles-places F fault old new tables idle rests file types name uid gid mode does =
+    let image = reads old.now.words in
+    LeavesPuddles-beside F fault old new tables
+    (λ frame m used.
+    let own = record_mask frame image in
+    let off = off_used F frame image m (used_below F image frame m used) used own (λ k x is. let word = masked_record frame image k x is in (word.low, word.high)) file types name uid gid mode in
+    IsBeside-places F image file types name uid gid mode own fault old new off idle rests does)
 
 -- ---- pools that have a graph
 

@@ -202,6 +202,9 @@ returns-in-Dump-clause-steps g c = λ t size e w ready name n is free. absurd (c
 pub returns-in-Export-clause-steps : goal.returns-in-Export-clause-steps
 returns-in-Export-clause-steps g c = λ t size e w ready name n is free. absurd (cc (c.in-Export.is, is))
 
+pub returns-in-Import-clause-steps : goal.returns-in-Import-clause-steps
+returns-in-Import-clause-steps g c = λ t size e w ready name n is free. absurd (cc (c.in-Import.is, is))
+
 pub returns-in-Pools-clause-steps : goal.returns-in-Pools-clause-steps
 returns-in-Pools-clause-steps g c = λ t size e w ready name n is free. absurd (cc (c.in-Pools.is, is))
 
