@@ -1,3 +1,6 @@
 pub mod Answers
 pub mod Contents
+pub mod Filling
+pub mod Places
+pub mod Placing
 pub mod Sized

@@ -1,25 +1,21 @@
 -- A file placed on a device as a pool: why it is not, and what is done.
-use Rattle.std.specs.Prelude.{◌≡◌, ◌≢◌, ◌⊎◌, ℕ, Bool, ◌+◌, ◌<◌, ◌||◌, nat_lt, cond, List, length, map, slice_get, Option, Some, None, is_none, Result, Ok, Err}
+use Rattle.std.specs.Prelude.{◌≡◌, ◌≢◌, ◌⊎◌, ℕ, Bool, ◌+◌, ◌<◌, ◌||◌, nat_lt, cond, List, length, map, Option, Some, None, is_none, Result, Ok, Err}
 use Rattle.std.specs.List.{list_any}
 use Rattle.pm_model.specs.declared.host.HostFault.{HostFault}
-use Rattle.pm_model.specs.Words.{Words, HasOnly, reads}
+use Rattle.pm_model.specs.Words.{Words, reads}
 use Rattle.pm_model.specs.Moments.{State}
-use Rattle.pm_model.specs.Changes.{Footprint, Write, Changes}
+use Rattle.pm_model.specs.Changes.{Write, Changes}
 use Rattle.pm_model.specs.Masks.{masked, IsOff}
-use Rattle.pud_defs.specs.declared.layout.TheConstants.{DAEMON_LOG, NEXT_NUMBER_WORD, NUMBER_LIMIT, TYPE_RECORDS, FRAME_WORDS}
+use Rattle.pud_defs.specs.declared.layout.TheConstants.{DAEMON_LOG, NEXT_NUMBER_WORD, NUMBER_LIMIT, TYPE_RECORDS}
 use Rattle.pud_defs.specs.declared.records.TheConstants.{POOL_RECORDS}
-use Rattle.pud_defs.specs.declared.records.PoolRec.{PoolRec}
-use Rattle.pud_defs.specs.declared.space.TheConstants.{FRAME_NUMBER_WORD}
 use Rattle.pud_defs.specs.Image.{Image}
 use Rattle.pud_defs.specs.Keyed.{first_free, count_used}
-use Rattle.pud_defs.specs.Layout.{IsWithin}
-use Rattle.pud_defs.specs.Frames.{frame_at}
 use Rattle.pud_defs.specs.Stored.{Stored}
 use Rattle.pud_defs.specs.ExportFile.{FileContents}
 use Rattle.pud_defs.specs.Imports.{types_missing, numbers_drawn}
 use Rattle.pud_defs.specs.Step.{is_clash}
 use Rattle.pud_defs.specs.Tables.{Tables, tables_of, pool_in}
-use Rattle.pud_defs.specs.Types.{types_of}
+use Rattle.pud_defs.specs.Types.{type_at, types_of, used_types}
 use Rattle.pud_defs.specs.World.{StoredWorld}
 use Rattle.batch.specs.Batches.{ByBatch}
 use Rattle.batch.specs.Worlds.{IsSettled}
@@ -29,6 +25,7 @@ use Rattle.registry.specs.declared.placing.NewType.{NewType}
 use Rattle.registry.specs.Puts.{puts_batch}
 use Rattle.registry.specs.Pools.{IsLegalPool, KeepsTables, CommitsPuts, new_record}
 use Rattle.registry.specs.Placing.{placing, IsPlacedFor}
+use Rattle.pud_import.specs.Filling.{ByFrames, AreFilled}
 use Rattle.pud_import.specs.declared.placing.PlaceFault.{PlaceFault}
 use Rattle.pud_import.specs.declared.placing.PlaceFault.TheVariants as faults
 
@@ -51,44 +48,39 @@ refusal_in (Err fault) = Some fault
 abbrev pub clashes_with : (types file : List (ℕ × ℕ)) → Bool
 clashes_with types file = list_any (λ d. is_clash types d.0 d.1) file
 
--- Why no file of these contents is placed where these types and tables are there, and this UUID number is the next: a type is defined with another map; no record
--- is free for the pool, or too few for its types, or too few numbers are left; too few frames are free.
-abbrev pub place_refusal : (types : List (ℕ × ℕ)) → Tables → (next : ℕ) → FileContents → Option PlaceFault
-place_refusal types t next file =
+-- the types of the file that are not defined are more than the free records
+abbrev pub lacks_records : (types : List (ℕ × ℕ)) → (used : ℕ) → (file : List (ℕ × ℕ)) → Bool
+lacks_records types used file = nat_lt TYPE_RECORDS (used + length (types_missing types file))
+
+-- why the types of the file are not defined, where an image has these: one clashes, or too few records are free
+abbrev pub types_refusal : Image → (file : List (ℕ × ℕ)) → Option PlaceFault
+types_refusal image file =
+    cond (clashes_with (types_of image) file) (Some faults.Clash) (cond (lacks_records (types_of image) (used_types image) file) (Some faults.Full) None)
+
+-- why no frame is found, by the lowest free one
+abbrev pub frames_refusal : Option ℕ → Option PlaceFault
+frames_refusal None = Some faults.NoSpace
+frames_refusal (Some frame) = None
+
+-- Why no file of these contents is placed where these types are defined, in so many records, these tables are there, and this UUID number is the next: a
+-- type is defined with another map; no record is free for the pool, or too few for its types, or too few numbers are left; too few frames are free.
+abbrev pub place_refusal : (types : List (ℕ × ℕ)) → (used : ℕ) → Tables → (next : ℕ) → FileContents → Option PlaceFault
+place_refusal types used t next file =
     cond (clashes_with types file.types) (Some faults.Clash)
-    (cond (is_none (first_free t.pools 0 POOL_RECORDS) || nat_lt TYPE_RECORDS (length types + length (types_missing types file.types)) || nat_lt NUMBER_LIMIT (next + numbers_drawn file.puddles)) (Some faults.Full)
+    (cond (is_none (first_free t.pools 0 POOL_RECORDS) || lacks_records types used file.types || nat_lt NUMBER_LIMIT (next + numbers_drawn file.puddles)) (Some faults.Full)
     (cond (nat_lt t.frames (count_used t.puddles 0 t.frames + file.puddles)) (Some faults.NoSpace) None))
 
 -- the same by what an image of a device of so many frames holds
 abbrev pub refusal_by : (F : ℕ) → Image → FileContents → Option PlaceFault
-refusal_by F image file = place_refusal (types_of image) (tables_of F image) (image NEXT_NUMBER_WORD) file
+refusal_by F image file = place_refusal (types_of image) (used_types image) (tables_of F image) (image NEXT_NUMBER_WORD) file
 
 -- ---- what is done
 
--- What is placed for a file: the record of its pool and the slot of it, the types that it brings, and its puddles.
+-- What is placed for a file: the slot of its pool, the types that it brings, and its puddles.
 pub record Placement : Type 0 where
   pub slot : ℕ
   pub types : List NewType
   pub puddles : List Added
-
--- the words of the frame of one of these puddles, on a device of so many frames, but for the number the file's
-pub record IsFrameWord (F : ℕ) (puddles : List Added) (k : ℕ) : Type 0 where
-  pub ordinal : ℕ
-  pub added : Added
-  pub there : slice_get puddles ordinal ≡ Some added
-  pub word : IsWithin (frame_at F added.frame) (frame_at F added.frame + FRAME_WORDS) k
-
--- any value may come to the frames of these puddles
-abbrev pub ByFrames : (F : ℕ) → List Added → Footprint
-ByFrames F puddles k v = IsFrameWord F puddles k
-
--- the value of word k of a frame that is filled for a puddle of a file: its UUID number, and else what the file has
-abbrev pub filled_value : Stored → (ordinal number k : ℕ) → ℕ
-filled_value file o number k = cond (nat_lt k FRAME_NUMBER_WORD || nat_lt FRAME_NUMBER_WORD k) (file.word o k) number
-
--- the frames of these puddles hold what the file's do, durably, but for the puddles' own UUID numbers
-pub record AreFilled (F : ℕ) (file : Stored) (puddles : List Added) (words : Words) : Type 0 where
-  pub each : (o k : ℕ) (a : Added) → slice_get puddles o ≡ Some a → k < FRAME_WORDS → HasOnly (words (frame_at F a.frame + k)) (filled_value file o a.puddle.number k)
 
 -- A pool is placed somewhere, as it is to be by what was read: its frames are filled, durably, and only then the batch is written that names them.
 pub record PlacesSomewhere (F : ℕ) (image : Image) (file : Stored) (types : List (ℕ × ℕ)) (name : List ℕ) (uid gid mode : ℕ) (fault : Option HostFault) (old new : State) : Type 0 where
@@ -108,9 +100,9 @@ pub record IsOffPlacing (mask : Write) (F : ℕ) (image : Image) (file : Stored)
   pub each : (p : Placement) → IsPlacedFor F image types (map (λ d. d.base) file.puddles) p.slot (new_record name uid gid mode (image NEXT_NUMBER_WORD)) p.types p.puddles
       → IsOff mask (ByFrames F p.puddles) × IsOff mask (ByBatch DAEMON_LOG (puts_batch (placing p.slot (new_record name uid gid mode (image NEXT_NUMBER_WORD)) p.types p.puddles)))
 
--- the types are masked as they are read
+-- with these words masked each record of the type table is as it is read
 pub record KeepsTypes (mask : Write) (words : Words) : Type 0 where
-  pub types : types_of (reads (masked mask words)) ≡ types_of (reads words)
+  pub each : (i : ℕ) → i < TYPE_RECORDS → type_at (reads (masked mask words)) i ≡ type_at (reads words) i
 
 -- With words masked that the pool does not take, each image stands for a world, the tables are durable, the pool is legal, no pool has its name, and nothing
 -- stands against it.
