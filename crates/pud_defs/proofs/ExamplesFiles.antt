@@ -34,7 +34,7 @@ words =
 abbrev pair : Graph
 pair = record { next_serial = 3; root = 1; objects = (1, object 10 2) ∷ (2, object 0 1) ∷ [] }
 
-abbrev contents : FileContents
+abbrev pub contents : FileContents
 contents = record { types = types; puddles = 1; graph = pair }
 
 -- the word of the file that word k of the frame is, and of a slot

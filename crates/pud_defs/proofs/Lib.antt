@@ -13,6 +13,7 @@ pub mod PutsMade
 pub mod PoolsChanged
 pub mod SoundChanged
 pub mod PuddleMore
+pub mod PuddlesPlaced
 pub mod PoolMembers
 pub mod Exportable
 pub mod RecordsPlaced
@@ -38,6 +39,7 @@ pub mod IdleWorlds
 pub mod Idle
 pub mod ClosedLogs
 pub mod Definitions
+pub mod TypesDefined
 pub mod Blank
 pub mod Lines
 pub mod Runs
@@ -71,6 +73,7 @@ pub mod ExamplesFiles
 pub mod ExamplesDump
 pub mod ExamplesRights
 pub mod ExamplesOpenLogs
+pub mod ExamplesImports
 pub mod Stands
 pub mod DistinctKeys
 pub mod Contents

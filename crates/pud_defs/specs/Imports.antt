@@ -7,7 +7,9 @@ use Rattle.pud_defs.specs.declared.layout.TheConstants.{TYPE_RECORDS, NUMBER_LIM
 use Rattle.pud_defs.specs.declared.records.TheConstants.{POOL_RECORDS}
 use Rattle.pud_defs.specs.Spaces.{Owner}
 use Rattle.pud_defs.specs.Names.{name_cmp}
-use Rattle.pud_defs.specs.Types.{map_of}
+use Rattle.pud_defs.specs.declared.records.Put.{Put}
+use Rattle.pud_defs.specs.Types.{type_record_at, map_of}
+use Rattle.pud_defs.specs.Puts.{put_of}
 use Rattle.pud_defs.specs.Holdings.Holding.{Sound}
 use Rattle.pud_defs.specs.ExportFile.{FileContents}
 use Rattle.pud_defs.specs.Tables.{Pool}
@@ -19,6 +21,10 @@ use Rattle.pud_defs.specs.PoolChanges.{with_type_defined, lacks_frames}
 -- the types of a file that are not defined, by ascending ids
 abbrev pub types_missing : (types file : List (ℕ × ℕ)) → List (ℕ × ℕ)
 types_missing types file = where_key nat_cmp (λ id. is_none (map_of id types)) file
+
+-- the words that put a type into a record of the table
+abbrev pub type_put : (record_number id map : ℕ) → Put
+type_put n id map = put_of (type_record_at n) (id ∷ map ∷ [])
 
 -- the world with these types defined, one behind the other
 unfoldable pub with_types_defined : List (ℕ × ℕ) → StoredWorld → StoredWorld

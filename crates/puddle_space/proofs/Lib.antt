@@ -2,3 +2,4 @@ pub mod Records
 pub mod Located
 pub mod Kept
 pub mod Lowest
+pub mod HasBase

@@ -184,7 +184,8 @@ not_spaces F k v low high (inl log) = let to = log.high in absurd (omega arith)
 not_spaces F k v low high (inr (inl (inl word))) = let to = word.high in absurd (omega arith)
 not_spaces F k v low high (inr (inl (inr (inl word)))) = let to = word.high in absurd (omega arith)
 not_spaces F k v low high (inr (inl (inr (inr word)))) = let from = word.low in absurd (omega arith)
-not_spaces F k v low high (inr (inr frame)) = let from = frame.low in absurd (omega arith)
+not_spaces F k v low high (inr (inr (inl frame))) = let from = frame.low in absurd (omega arith)
+not_spaces F k v low high (inr (inr (inr type))) = let to = type.high in absurd (omega arith)
 
 -- nor is the log of a client
 not_logs : (F k v : ℕ) → tables_end F ≤ k → k < frames_at F → ByPools F k v → ⊥
@@ -192,7 +193,8 @@ not_logs F k v low high (inl log) = let to = log.high in absurd (omega arith)
 not_logs F k v low high (inr (inl (inl word))) = let to = word.high in absurd (omega arith)
 not_logs F k v low high (inr (inl (inr (inl word)))) = let to = word.high in absurd (omega arith)
 not_logs F k v low high (inr (inl (inr (inr word)))) = let to = word.high in absurd (omega arith)
-not_logs F k v low high (inr (inr frame)) = let from = frame.low in absurd (omega arith)
+not_logs F k v low high (inr (inr (inl frame))) = let from = frame.low in absurd (omega arith)
+not_logs F k v low high (inr (inr (inr type))) = let to = type.high in absurd (omega arith)
 
 module _ (size : ℕ) (w : World) (memory : Memory) (next : StoredWorld) (also : Image → Type 0) (fault : Option HostFault) (old new : State) (ready : IsReady size w memory old)
     (b : IsBeside ready.mask fault old new) (p : ChangesPools size w.stored next also fault (masked_state ready.mask old) (masked_state ready.mask new)) where

@@ -75,7 +75,7 @@ module _ (F frame : ℕ) (words : List ℕ) (whole : length words ≡ FRAME_WORD
   filled_from before image from k outside = elim (from.each k) [ inl same ↦ same | inr may ↦ absurd (outside (fills_frame k (image k) may)) ]
 
   ByPools-filled : (k v : ℕ) → written write k v → ByPools F k v
-  ByPools-filled k v may = inr (inr (fills k v may))
+  ByPools-filled k v may = inr (inr (inl (fills k v may)))
 
   -- the daemon log counts nothing still
   pub HasIdleGate-filled : (fault : Option HostFault) (a b : State) → Changes (written write) fault a b → HasIdleGate DAEMON_LOG a.now.words → HasIdleGate DAEMON_LOG b.now.words

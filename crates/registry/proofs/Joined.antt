@@ -38,7 +38,7 @@ use Rattle.registry.specs.Adding.{filling, IsFilled, PersistsThenCommits, IsOffA
 use Rattle.registry.specs.Places.{IsFirstFor}
 use Rattle.registry.specs.Pools.{changing, dropping, making, new_record, OrStill, MakesSomewhere, KeepsTables, IsPoolAt, HasFreshFrame, MayStand, ChangesPools, ChangesMasked, MayMake, MakesPool}
 use Rattle.registry.specs.Growth.{growing, added_puddle, with_kept_longer, GrowsAt}
-use Rattle.registry.proofs.PutBatches.{IsFree-puts}
+use Rattle.registry.proofs.PutBatches.{of_tables, IsFree-puts}
 use Rattle.registry.proofs.Moved.{ReadsWorld, reads_world, MovesBy-puts, ChangesPools-moves}
 use Rattle.registry.proofs.Changed.{MakesPools-mode, mode_world, MakesPools-drop, drop_world}
 use Rattle.registry.proofs.Made.{MakesPools-made, made_world}
@@ -53,7 +53,7 @@ changes_by : (size : ℕ) (s next : StoredWorld) (number : ℕ) (ps : List (List
     → (MovesBy size s next (puts_batch puts) a.now.words → Moves size s next (puts_batch puts) fault a b)
     → ChangesPools size s next also fault a b
 changes_by size s next number ps puts has also fault a b is settled tables makes before besides moves =
-    ChangesPools-moves size s next puts also fault a b makes.of tables besides
+    ChangesPools-moves size s next puts also fault a b (of_tables s.frames puts makes.of) tables besides
     (moves (subst (λ (n : StoredWorld). MovesBy size s n (puts_batch puts) a.now.words) is (MovesBy-puts size s number ps puts a.now.words settled tables has makes before)))
 
 -- a pool's mode is changed

@@ -10,3 +10,6 @@ pub mod Grown
 pub mod Joined
 pub mod Placed
 pub mod PuddlesCounted
+pub mod TypesPut
+pub mod PlacedPool
+pub mod PutsListed

@@ -45,11 +45,11 @@ none_mapped g None none = refl
 none_mapped g (Some x) none = absurd (let no : Some (g x) ≡ None = none in cc)
 
 -- no record has the name
-no_name : (t : Tables) (name : List ℕ) → pool_in t name ≡ None → first_from name_cmp name (named t) 0 POOL_RECORDS ≡ None
+pub no_name : (t : Tables) (name : List ℕ) → pool_in t name ≡ None → first_from name_cmp name (named t) 0 POOL_RECORDS ≡ None
 unfolding records_of
 no_name t name absent = sym (find-keyed name_cmp nat_list_cmp_total name (named t) 0 POOL_RECORDS) ∙ none_mapped _ _ absent
 
-none_of : (slot frame : ℕ) (o : Option Member) → member_of slot frame o ≡ None → is_of_pool slot o ≡ false
+pub none_of : (slot frame : ℕ) (o : Option Member) → member_of slot frame o ≡ None → is_of_pool slot o ≡ false
 none_of slot frame None none = refl
 none_of slot frame (Some m) none = elim (cases_Bool (eqb m.pool (slot + 1))) [
   | inl of ↦ absurd (let some : Some (m.ordinal, (frame, m.puddle)) ≡ None = sym (cond-true _ _ _ of) ∙ none in cc)

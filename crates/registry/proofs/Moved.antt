@@ -21,17 +21,17 @@ use Rattle.pud_defs.proofs.Replay.{settled_by-idle, outside_log}
 use Rattle.pud_defs.proofs.TablesOf.{tables_of-same, frames_of_tables}
 use Rattle.pud_defs.proofs.SoundChanged.{sound_from, sound_test}
 use Rattle.pud_defs.proofs.Held.{HasSameFrame, frame_among, pools_of-held, pools_in-same}
-use Rattle.pud_defs.proofs.Parts.{HasPools, standing_with_pools}
+use Rattle.pud_defs.proofs.Parts.{StandsFor, HasPools, standing_with_pools}
 use Rattle.pud_defs.proofs.Parts.Part.{Header, Pools}
 use Rattle.pud_defs.proofs.IdleWorlds.{standing_of_idle_world, idle_registry_standing}
 use Rattle.batch.specs.Batches.{ByBatch}
 use Rattle.batch.specs.Worlds.{IsSettled, with_batch, MovesBy, IsBetween, Moves}
 use Rattle.batch.specs.Tables.{HasDurableTables}
 use Rattle.batch.proofs.Tables.{HasDurableTables-committed}
-use Rattle.registry.specs.Puts.{puts_batch, with_puts, AreOfPools, IsPoolsWord, ByPools}
+use Rattle.registry.specs.Puts.{puts_batch, with_puts, AreOfTables, IsPoolsWord, ByPools}
 use Rattle.registry.specs.Adding.{MakesPools, pools_next}
 use Rattle.registry.specs.Pools.{MayStand, ChangesPools}
-use Rattle.registry.proofs.PutBatches.{overwritten-puts, with_puts-stays, ByPools-batch, puts_allowed}
+use Rattle.registry.proofs.PutBatches.{of_tables, overwritten-puts, with_puts-stays, ByPools-batch, puts_allowed}
 
 -- ---- tables that are durable
 
@@ -90,29 +90,33 @@ not_of_pools F k below number pools puddles (inl of) = let low = of.low in let h
 not_of_pools F k below number pools puddles (inr (inl of)) = pools of.low of.high
 not_of_pools F k below number pools puddles (inr (inr of)) = puddles of.low of.high
 
+-- an image that stands for the world, has these tables and has this besides, with the changes over it
+pub standing_with_puts : (size : ℕ) (s : StoredWorld) (number : ℕ) (ps : List (List ℕ × Pool)) (puts : List Put) (has : Image → Type 0) (t : Tables) → MakesPools s number ps puts has t → (i : Image)
+    → StandsFor size i s → tables_of s.frames i ≡ t → has i → StandsFor size (with_puts puts i) (pools_next s number ps)
+standing_with_puts size s number ps puts has t m i stands tables_before besides =
+    let j = with_puts puts i in
+    let tables_now = m.tables i tables_before in
+    let hold = holding_in s.types s.frames in
+    let kept : (frame : ℕ) → frame < m.now.frames → is_some (m.now.puddles frame) ≡ true → HasSameFrame s.frames i j frame = λ frame below used.
+    frame_among s.frames frame i j (let F = frames_of_tables s.frames j in let same = ap (λ (t : Tables). t.frames) tables_now in omega (arith, F, same))
+    (λ k low high. with_puts-stays s.frames puts i k m.of (frames_apart s.frames k low)) in
+    let pools_now : pools_of (hold i) m.now ≡ ps = m.pools i besides (ap (pools_of (hold i)) (sym tables_before) ∙ (stands.holds Pools).pools) in
+    let pools : HasPools s.types s.frames number ps j = record { pools = ap (pools_of (hold j)) tables_now ∙ pools_of-held s.types s.frames i j m.now kept ∙ pools_now; sound = ap (are_sound_tables number) tables_now ∙ sound_test number m.now m.sound } in
+    standing_with_pools size i j s number ps stands
+    (λ k below apart no_pool no_puddle. with_puts-stays s.frames puts i k m.of (not_of_pools s.frames k below apart no_pool no_puddle))
+    (m.next i (stands.holds Header).next_number) m.low m.high pools
+
 module _ (size : ℕ) (s : StoredWorld) (number : ℕ) (ps : List (List ℕ × Pool)) (puts : List Put) (words : Words) (settled : IsSettled size s words) (tables : HasDurableTables s.frames words)
     (has : Image → Type 0) (m : MakesPools s number ps puts has (tables_of s.frames (reads words))) (besides : (image : Image) → Picks words image → has (settled_by DAEMON_LOG image)) where
   makes : (image : Image) → Picks words image → idle_registry size (with_batch (puts_batch puts) image) ≡ Some (pools_next s number ps)
   makes image picked =
       let i = settled_by DAEMON_LOG image in
-      let j = with_puts puts i in
-      let stands = standing_of_idle_world size image s (settled.stands image picked) in
-      let tables_before = settled_tables size s words image settled tables picked in
-      let tables_now = m.tables i tables_before in
-      let hold = holding_in s.types s.frames in
-      let kept : (frame : ℕ) → frame < m.now.frames → is_some (m.now.puddles frame) ≡ true → HasSameFrame s.frames i j frame = λ frame below used.
-      frame_among s.frames frame i j (let F = frames_of_tables s.frames j in let same = ap (λ (t : Tables). t.frames) tables_now in omega (arith, F, same))
-      (λ k low high. with_puts-stays s.frames puts i k m.of (frames_apart s.frames k low)) in
-      let pools_now : pools_of (hold i) m.now ≡ ps = m.pools i (besides image picked) (ap (pools_of (hold i)) (sym tables_before) ∙ (stands.holds Pools).pools) in
-      let pools : HasPools s.types s.frames number ps j = record { pools = ap (pools_of (hold j)) tables_now ∙ pools_of-held s.types s.frames i j m.now kept ∙ pools_now; sound = ap (are_sound_tables number) tables_now ∙ sound_test number m.now m.sound } in
       ap (idle_registry size) (overwritten-puts s.frames puts i m.of)
-      ∙ idle_registry_standing size j (pools_next s number ps)
-      (standing_with_pools size i j s number ps stands
-      (λ k below apart no_pool no_puddle. with_puts-stays s.frames puts i k m.of (not_of_pools s.frames k below apart no_pool no_puddle))
-      (m.next i (stands.holds Header).next_number) m.low m.high pools)
+      ∙ idle_registry_standing size (with_puts puts i) (pools_next s number ps)
+      (standing_with_puts size s number ps puts has (tables_of s.frames (reads words)) m i (standing_of_idle_world size image s (settled.stands image picked)) (settled_tables size s words image settled tables picked) (besides image picked))
 
   pub MovesBy-puts : MovesBy size s (pools_next s number ps) (puts_batch puts) words
-  MovesBy-puts = record { allowed = puts_allowed s.frames (puts_batch puts) puts m.of; stands = makes }
+  MovesBy-puts = record { allowed = puts_allowed s.frames (puts_batch puts) puts (of_tables s.frames puts m.of); stands = makes }
 
 -- ---- what a call owes
 
@@ -126,8 +130,8 @@ ChangesPools-still size s next also fault old new settled not_cut not_none same 
   tables = λ none. absurd (not_none none);
 }
 
--- a batch moved the world
-pub ChangesPools-moves : (size : ℕ) (s next : StoredWorld) (puts : List Put) (also : Image → Type 0) (fault : Option HostFault) (old new : State) → AreOfPools s.frames puts
+-- a batch of changes of tables moved the world
+pub ChangesPools-moves : (size : ℕ) (s next : StoredWorld) (puts : List Put) (also : Image → Type 0) (fault : Option HostFault) (old new : State) → AreOfTables s.frames puts
     → HasDurableTables s.frames old.now.words
     → ((image : Image) → IsBetween size s next (puts_batch puts) old.now.words image → also image)
     → Moves size s next (puts_batch puts) fault old new → ChangesPools size s next also fault old new

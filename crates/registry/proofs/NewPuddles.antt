@@ -22,7 +22,7 @@ use Rattle.pud_defs.proofs.Spaces.{all_below-each}
 use Rattle.pud_defs.proofs.TablesOf.{tables_of-same}
 use Rattle.registry.specs.declared.adding.Added.{Added}
 use Rattle.registry.specs.Puts.{AreOfPools, number_put, with_puts}
-use Rattle.registry.specs.Adding.{IsNewPuddle, adding}
+use Rattle.registry.specs.Adding.{IsNewPuddle, puddle_records, adding}
 
 -- ---- what their changes make
 
@@ -36,10 +36,7 @@ abbrev pub with_added : List Added → Tables → Tables
 with_added [] t = t
 with_added (a ∷ all) t = with_added all (with_puddle_at a.frame (Some (member_by a.puddle)) t)
 
-abbrev records : List Added → List Put
-records all = map (λ (a : Added). puddle_put a.frame a.puddle) all
-
-records_of : (F : ℕ) (all : List Added) → AreWithin F all → AreOfPools F (records all)
+records_of : (F : ℕ) (all : List Added) → AreWithin F all → AreOfPools F (puddle_records all)
 records_of F [] within = tt
 records_of F (a ∷ all) within = let below = within.0 in (inr (inr (record { low = omega arith; high = omega arith; some = omega arith; fits = omega arith })), records_of F all within.2)
 
@@ -47,7 +44,7 @@ records_of F (a ∷ all) within = let below = within.0 in (inr (inr (record { lo
 pub adding_of : (F next : ℕ) (all : List Added) → AreWithin F all → AreOfPools F (adding next all)
 adding_of F next all within = (inl (record { low = omega arith; high = omega arith; some = omega arith; fits = omega arith }), records_of F all within)
 
-records_front : (all : List Added) (i : Image) (k : ℕ) → k < PUDDLE_TABLE → with_puts (records all) i k ≡ i k
+records_front : (all : List Added) (i : Image) (k : ℕ) → k < PUDDLE_TABLE → with_puts (puddle_records all) i k ≡ i k
 unfolding with_puts
 records_front [] i k below = refl
 records_front (a ∷ all) i k below = records_front all (with_put (puddle_put a.frame a.puddle) i) k below ∙ with_put-outside (puddle_put a.frame a.puddle) i k (λ low high. omega arith)
@@ -58,7 +55,7 @@ adding_next next all i =
     records_front all (with_put (number_put next) i) NEXT_NUMBER_WORD (omega arith)
     ∙ with_put-inside (number_put next) i NEXT_NUMBER_WORD 0 (omega arith) (omega arith)
 
-records_tables : (F : ℕ) (all : List Added) (i : Image) → AreWithin F all → tables_of F (with_puts (records all) i) ≡ with_added all (tables_of F i)
+records_tables : (F : ℕ) (all : List Added) (i : Image) → AreWithin F all → tables_of F (with_puts (puddle_records all) i) ≡ with_added all (tables_of F i)
 unfolding with_puts
 records_tables F [] i within = refl
 records_tables F (a ∷ all) i within =

@@ -58,9 +58,13 @@ filling F a = frame_write F a.frame a.puddle.number a.puddle.ordinal
 abbrev pub IsFilled : ℕ → Added → Image → Type 0
 IsFilled F a image = IsFreshFrame F a.frame a.puddle.number a.puddle.ordinal image
 
+-- the records of puddles that are added
+abbrev pub puddle_records : List Added → List Put
+puddle_records added = map (λ (a : Added). puddle_put a.frame a.puddle) added
+
 -- puddles are added: the next UUID number, and the record of each
 abbrev pub adding : (next : ℕ) → List Added → List Put
-adding next added = number_put next ∷ map (λ (a : Added). puddle_put a.frame a.puddle) added
+adding next added = number_put next ∷ puddle_records added
 
 -- ---- what a call does
 

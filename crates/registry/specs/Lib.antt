@@ -4,3 +4,4 @@ pub mod Adding
 pub mod Places
 pub mod Pools
 pub mod Growth
+pub mod Placing

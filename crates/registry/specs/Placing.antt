@@ -12,14 +12,14 @@ use Rattle.pud_defs.specs.declared.records.Puddle.{Puddle}
 use Rattle.pud_defs.specs.declared.records.Put.{Put}
 use Rattle.pud_defs.specs.Image.{Image}
 use Rattle.pud_defs.specs.Keyed.{first_free}
-use Rattle.pud_defs.specs.Types.{type_record_at, type_at, types_of, is_sound_type}
+use Rattle.pud_defs.specs.Types.{type_at, types_of}
 use Rattle.pud_defs.specs.Graph.{graph_of}
 use Rattle.pud_defs.specs.Stored.{stored_in}
 use Rattle.pud_defs.specs.ExportFile.{FileContents, are_file_types, are_file_bases}
 use Rattle.pud_defs.specs.Replay.{settled_by}
-use Rattle.pud_defs.specs.Puts.{put_of, pool_put, member_by}
+use Rattle.pud_defs.specs.Puts.{pool_put, member_by}
 use Rattle.pud_defs.specs.Placement.{ArePlaced}
-use Rattle.pud_defs.specs.Imports.{types_missing, numbers_drawn, with_types_defined}
+use Rattle.pud_defs.specs.Imports.{type_put, types_missing, numbers_drawn, with_types_defined}
 use Rattle.pud_defs.specs.Tables.{Tables, tables_of, pool_in}
 use Rattle.pud_defs.specs.World.{StoredWorld}
 use Rattle.batch.specs.Batches.{ByBatch}
@@ -34,12 +34,12 @@ use Rattle.registry.specs.Pools.{IsLegalPool}
 -- ---- what the batch writes
 
 -- a type in a record of the table
-abbrev pub type_put : NewType → Put
-type_put t = put_of (type_record_at t.record_number) (t.id ∷ t.map ∷ [])
+abbrev pub new_type_put : NewType → Put
+new_type_put t = type_put t.record_number t.id t.map
 
 -- a pool is placed: the types, its record, and its puddles, behind which so many UUID numbers were given out
 abbrev pub placing : (slot : ℕ) → PoolRec → List NewType → List Added → List Put
-placing slot r types puddles = map type_put types ++ pool_put slot r ∷ adding (r.number + numbers_drawn (length puddles)) puddles
+placing slot r types puddles = map new_type_put types ++ pool_put slot r ∷ adding (r.number + numbers_drawn (length puddles)) puddles
 
 -- ---- what is placed
 

@@ -1,7 +1,7 @@
 -- Changes of records as entries of a batch, and what a batch of them makes of an image.
 use Rattle.std.specs.Prelude.{◌⊎◌, ℕ, ◌+◌, ◌≤◌, List, [], ◌∷◌, length, take, map, ⊤}
 use Rattle.pm_model.specs.Changes.{Footprint}
-use Rattle.pud_defs.specs.declared.layout.TheConstants.{NEXT_NUMBER_WORD, DAEMON_LOG, POOL_TABLE, SPACE_TABLE, PUDDLE_TABLE}
+use Rattle.pud_defs.specs.declared.layout.TheConstants.{NEXT_NUMBER_WORD, DAEMON_LOG, TYPE_TABLE, POOL_TABLE, SPACE_TABLE, PUDDLE_TABLE}
 use Rattle.pud_defs.specs.declared.records.Put.{Put}
 use Rattle.pud_defs.specs.Image.{Image}
 use Rattle.pud_defs.specs.Layout.{IsWithin, tables_end, frames_at, device_words}
@@ -46,6 +46,14 @@ AreOfPools F (put ∷ puts) = IsOfPools F put × AreOfPools F puts
 abbrev pub IsPoolsWord : ℕ → ℕ → Type 0
 IsPoolsWord F k = IsWithin NEXT_NUMBER_WORD (NEXT_NUMBER_WORD + 1) k ⊎ (IsWithin POOL_TABLE SPACE_TABLE k ⊎ IsWithin PUDDLE_TABLE (tables_end F) k)
 
--- any value may come to the daemon log, to these words, and to the frames
+-- the change is of these, or of the type table
+abbrev pub IsOfTables : ℕ → Put → Type 0
+IsOfTables F put = IsOfPools F put ⊎ LiesWithin TYPE_TABLE POOL_TABLE put
+
+abbrev pub AreOfTables : ℕ → List Put → Type 0
+AreOfTables F [] = ⊤
+AreOfTables F (put ∷ puts) = IsOfTables F put × AreOfTables F puts
+
+-- any value may come to the daemon log, to the words of pools, to the frames, and to the type table, for a pool may bring types
 abbrev pub ByPools : ℕ → Footprint
-ByPools F k v = IsInLog DAEMON_LOG k ⊎ (IsPoolsWord F k ⊎ IsWithin (frames_at F) (device_words F) k)
+ByPools F k v = IsInLog DAEMON_LOG k ⊎ (IsPoolsWord F k ⊎ (IsWithin (frames_at F) (device_words F) k ⊎ IsWithin TYPE_TABLE POOL_TABLE k))

@@ -1,4 +1,4 @@
-//! The registry of a device: judged, brought up to date by its daemon log, and its pools made, changed and dropped.
+//! The registry of a device: judged, brought up to date by its daemon log, and its pools made, placed, changed and dropped.
 #![tactic(auto)]
 
 ghost use Rattle.std.specs.Prelude.{◌≡◌, ◌≢◌, ◌↔◌, ℕ, Option, Result, IfOk};
@@ -17,6 +17,7 @@ mod changing;
 mod frames;
 mod growing;
 mod making;
+mod placing;
 mod puts;
 
 pub use adding::Added;
@@ -25,6 +26,7 @@ pub use growing::{find_growth, grow_pool};
 use log_replay::{Target, settle_log};
 pub use making::{MakeFault, make_pool};
 use pm_model::{Host, HostFault};
+pub use placing::{NewType, place_pool};
 use pud_defs::layout::{DAEMON_LOG, MACHINE_WORD};
 pub use soundness::sound_frames;
 

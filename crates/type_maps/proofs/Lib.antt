@@ -1,3 +1,4 @@
 pub mod LookUp
 pub mod OneWord
 pub mod Moments
+pub mod FreeRecords

@@ -1,1 +1,2 @@
 pub mod Define
+pub mod FreeRecords

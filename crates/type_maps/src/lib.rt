@@ -6,12 +6,17 @@ ghost use Rattle.pm_model.specs.Words.{IsRested, reads};
 ghost use Rattle.pm_model.specs.Counts.{after_fault, fault_of};
 ghost use Rattle.pm_model.specs.Reads.{OnlyReads};
 ghost use Rattle.pud_defs.specs.Image.{Image};
+ghost use Rattle.pud_defs.specs.Imports.{type_put};
 ghost use Rattle.pud_defs.specs.Types.{map_of, types_of};
 ghost use Rattle.type_maps.specs.Define.{fault_in, refusal_in, table_refusal, place_for, place_of, IsInTable, Defines};
 
+mod free;
+
+pub use free::{FreeRecords, free_records};
 use pm_model::{Host, HostFault, Loads};
 use pm_persist::persist_word;
 use pud_defs::layout::{POOL_TABLE, TYPE_RECORD_WORDS, TYPE_RECORDS, TYPE_TABLE};
+use pud_defs::records::Put;
 
 /// Why a type was not defined. Nothing changed but after a fault of the host.
 #[derive(Clone, Copy, Debug, PartialEq, Eq, thiserror::Error)]
@@ -82,6 +87,18 @@ pub fn find<H: Loads>(h: &mut H, id: u64) -> Result<Option<u64>, HostFault>
     match look_up(h, id)? {
         Place::Defined(map) => Ok(Some(map)),
         Place::Free(_) | Place::Full => Ok(None),
+    }
+}
+
+/// The words that put the type into the record, whatever it held.
+pub fn record_put(record_number: u32, id: u32, map: u64) -> Put
+    requires { record_number < TYPE_RECORDS }
+    ensures { result ≡ type_put record_number id map }
+{
+    Put {
+        w: TYPE_TABLE + TYPE_RECORD_WORDS * record_number,
+        n: TYPE_RECORD_WORDS as usize,
+        vals: [u64::from(id), map, 0, 0, 0, 0, 0, 0],
     }
 }
 

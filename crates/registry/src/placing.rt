@@ -1,0 +1,114 @@
+//! Pools that are placed: all of a pool's puddles, whose frames were filled before, and the types that it brings.
+
+ghost use Rattle.std.specs.Prelude.{◌≡◌, ◌+◌, ◌<◌, ◌≤◌, ⊤, ℕ, List, All, ◌++◌, length, map};
+ghost use Rattle.pm_model.specs.Counts.{after_fault, fault_of};
+ghost use Rattle.pm_model.specs.Changes.{Changes, Write};
+ghost use Rattle.log_replay.specs.Replaying.{Anything};
+ghost use Rattle.pud_defs.specs.declared.layout.TheConstants.{DAEMON_LOG, LOG_ENTRY_WORDS, NUMBER_LIMIT, TYPE_RECORDS};
+ghost use Rattle.pud_defs.specs.declared.records.TheConstants.{POOL_RECORDS, MAX_PUDDLES};
+ghost use Rattle.pud_defs.specs.ExportFile.{FileContents};
+ghost use Rattle.pud_defs.specs.Imports.{with_imported_pool};
+ghost use Rattle.pud_defs.specs.Layout.{device_words};
+ghost use Rattle.pud_defs.specs.Spaces.{owner};
+ghost use Rattle.pud_defs.specs.World.{StoredWorld};
+ghost use Rattle.batch.specs.Batches.{HasIdleGate, words_of};
+ghost use Rattle.registry.specs.Puts.{puts_batch};
+ghost use Rattle.registry.specs.Adding.{IsAddedWithin, puddle_records};
+ghost use Rattle.registry.specs.Placing.{new_type_put, placing, MayPlace};
+ghost use Rattle.registry.specs.Pools.{CommitsPuts, ChangesMasked};
+
+use crate::adding::Added;
+use crate::puts::{add_put, number_put};
+use batch::Batch;
+use pm_model::{Host, HostFault};
+use pud_defs::layout::{MAX_FRAMES, NUMBER_LIMIT, TYPE_RECORDS};
+use pud_defs::records::{MAX_PUDDLES, POOL_RECORDS, PoolRec};
+
+/// A type that is defined in a free record of the type table.
+#[derive(Clone, Copy, Debug, PartialEq, Eq)]
+pub struct NewType {
+    /// Its record.
+    pub record_number: u32,
+    /// Its id.
+    pub id: u32,
+    /// Its map.
+    pub map: u64,
+}
+
+/// Adds the records of the types to the batch.
+fn add_types(batch: &mut Batch, types: &[NewType])
+    requires records { All (λ t. t.record_number < TYPE_RECORDS) types.now }
+    ensures { words_of batch.old + words_of (puts_batch (map new_type_put types.now)) ≤ LOG_ENTRY_WORDS → batch.new ≡ batch.old ++ puts_batch (map new_type_put types.now) }
+{
+    for t in types {
+        add_put(
+            batch,
+            &type_maps::record_put(t.record_number, t.id, t.map),
+        );
+    }
+}
+
+/// Adds the records of the puddles to the batch.
+fn add_puddles(batch: &mut Batch, puddles: &[Added])
+    requires within { All (IsAddedWithin MAX_FRAMES) puddles.now }
+    ensures { words_of batch.old + words_of (puts_batch (puddle_records puddles.now)) ≤ LOG_ENTRY_WORDS → batch.new ≡ batch.old ++ puts_batch (puddle_records puddles.now) }
+{
+    for added in puddles {
+        add_put(
+            batch,
+            &puddle_table::record_put(added.frame, added.puddle),
+        );
+    }
+}
+
+/// The batch that places the pool of this record in the slot, with its types and its puddles.
+fn placing(slot: u32, rec: PoolRec, types: &[NewType], puddles: &[Added]) -> Batch
+    requires slot { slot < POOL_RECORDS }
+    requires number { rec.number < NUMBER_LIMIT }
+    requires types { length types.now ≤ TYPE_RECORDS }
+    requires records { All (λ t. t.record_number < TYPE_RECORDS) types.now }
+    requires puddles { length puddles.now ≤ MAX_PUDDLES }
+    requires within { All (IsAddedWithin MAX_FRAMES) puddles.now }
+    ensures { result ≡ puts_batch (placing slot rec types.now puddles.now) }
+{
+    let mut batch = Batch::new();
+    add_types(&mut batch, types);
+    add_put(&mut batch, &pool_table::record_put(slot, rec));
+    let numbers_drawn = 1 + puddles.len() as u64;
+    add_put(&mut batch, &number_put(rec.number + numbers_drawn));
+    add_puddles(&mut batch, puddles);
+    batch
+}
+
+/// Places a pool of this record in the slot, with these puddles and with these types, by one batch. The frames of the puddles were filled before.
+///
+/// The device has so many frames and the words that they need. Nothing is read. Where the daemon log counts nothing in each image, each image left
+/// meanwhile has, with that log replayed, all of the records or none; at `Ok` they are durable, and the daemon log is closed. Where each image stands
+/// for a world besides, the tables are durable, and the pool may be placed for a file, each image left meanwhile stands for that world, or for the one
+/// that has the pool of the file and its types; at `Ok` each stands for the latter. The only errors are the host's own.
+pub fn place_pool<H: Host>(
+    h: &mut H,
+    frames: u32,
+    slot: u32,
+    rec: PoolRec,
+    types: &[NewType],
+    puddles: &[Added],
+) -> Result<(), HostFault>
+    requires few { frames ≤ MAX_FRAMES }
+    requires room { device_words frames ≤ (H.counts h.old).size }
+    requires slot { slot < POOL_RECORDS }
+    requires number { rec.number < NUMBER_LIMIT }
+    requires types { length types.now ≤ TYPE_RECORDS }
+    requires records { All (λ t. t.record_number < TYPE_RECORDS) types.now }
+    requires puddles { length puddles.now ≤ MAX_PUDDLES }
+    requires within { All (IsAddedWithin frames) puddles.now }
+    ensures commits { H.tells → HasIdleGate DAEMON_LOG (H.state h.old).now.words
+        → CommitsPuts (placing slot rec types.now puddles.now) (fault_of result) (H.state h.old) (H.state h.new) }
+    ensures places { H.tells → (size : ℕ) → size ≡ (H.counts h.old).size → (s : StoredWorld) (file : FileContents) (wanted : List ℕ) (mask : Write)
+        → MayPlace size s frames file wanted slot rec types.now puddles.now mask (H.state h.old).now.words
+        → ChangesMasked mask size s (with_imported_pool rec.name (owner rec.uid rec.gid) rec.mode file s) (λ _. ⊤) (fault_of result) (H.state h.old) (H.state h.new) }
+    ensures any { H.tells → Changes Anything (fault_of result) (H.state h.old) (H.state h.new) }
+    ensures cause { H.counts h.new ≡ after_fault (fault_of result) (H.counts h.old) }
+{
+    placing(slot, rec, types, puddles).commit(h)
+}
