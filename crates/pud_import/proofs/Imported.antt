@@ -39,6 +39,7 @@ use Rattle.batch.specs.Worlds.{IsSettled}
 use Rattle.batch.proofs.Tables.{reads_kept}
 use Rattle.graph_laws.specs.Placed.{AreFrontiers}
 use Rattle.registry.specs.declared.adding.Added.{Added}
+use Rattle.registry.specs.declared.placing.NewType.{NewType}
 use Rattle.registry.specs.Placing.{puddle_of, IsPlacedFor, MayPlace}
 use Rattle.registry.specs.Pools.{new_record, ChangesPools}
 use Rattle.registry.proofs.Moved.{settled_frames}
@@ -252,3 +253,12 @@ module _ (size : ℕ) (s : StoredWorld) (F : ℕ) (name : List ℕ) (uid gid mod
       → ChangesPools size s next (λ _. ⊤) fault (masked_state mask mid) (masked_state mask new))
       → ChangesPools size s next (λ _. ⊤) fault (masked_state mask old) (masked_state mask new)) (sym m.frames)
       (λ m is count c filled places. import_filled size s name uid gid mode file stored mask p old mid h m is count c filled next fault new places) m
+
+-- ---- what was found, by equal lists
+
+pub placed_lists : (F : ℕ) (i : Image) (own file : List (ℕ × ℕ)) (wanted : List ℕ) (slot : ℕ) (r : PoolRec) (found new : List NewType) (listed puddles : List Added) → own ≡ file → new ≡ found → puddles ≡ listed
+    → IsPlacedFor F i own wanted slot r found listed → IsPlacedFor F i file wanted slot r new puddles
+placed_lists F i own file wanted slot r found new listed puddles same_file same_new same_puddles is =
+    subst (λ (ts : List (ℕ × ℕ)). IsPlacedFor F i ts wanted slot r new puddles) same_file
+    (subst (λ (ts : List NewType). IsPlacedFor F i own wanted slot r ts puddles) (sym same_new)
+    (subst (λ (ps : List Added). IsPlacedFor F i own wanted slot r found ps) (sym same_puddles) is))

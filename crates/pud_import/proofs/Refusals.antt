@@ -1,5 +1,5 @@
 -- Why a file is not placed, by the parts that are looked at in turn.
-use Rattle.std.proofs.Common.{◌≡◌, ℕ, ◌+◌, Bool, true, false, ◌||◌, cond, List, Option, Some, None, is_none, refl, sym, ap, ◌∙◌}
+use Rattle.std.proofs.Common.{◌≡◌, ℕ, ◌+◌, Bool, true, false, ◌||◌, cond, List, Option, Some, None, is_none, refl, sym, ap, ap₂, ◌∙◌}
 use Rattle.std.specs.Prelude.{nat_lt}
 use Rattle.std.specs.Option.{option_or}
 use Rattle.std.proofs.lemmas.Bool.{cond-true}
@@ -86,3 +86,14 @@ not_refused false fault none = refl
 pub refused_for_space : (o : Option ℕ) (fault : PlaceFault) (lacks : Bool) → Some fault ≡ frames_refusal o → (o ≡ None → lacks ≡ true) → Some fault ≡ refused_if lacks faults.NoSpace
 refused_for_space None fault lacks is decides = is ∙ sym (cond-true lacks (Some faults.NoSpace) None (decides refl))
 refused_for_space (Some frame) fault lacks is decides = absurd (none-some fault (sym is))
+
+-- types that clash, that find too few records, and that are placed
+pub refused_by_clash : (clash lacks : Bool) (fault : PlaceFault) → Some fault ≡ refused_if clash faults.Clash → Some fault ≡ cond clash (Some faults.Clash) (refused_if lacks faults.Full)
+refused_by_clash true lacks fault is = is
+refused_by_clash false lacks fault is = absurd (none-some fault (sym is))
+
+pub refused_for_records : (clash lacks : Bool) → clash ≡ false → lacks ≡ true → Some faults.Full ≡ cond clash (Some faults.Clash) (refused_if lacks faults.Full)
+refused_for_records clash lacks none full = sym (ap₂ (λ (a b : Bool). cond a (Some faults.Clash) (refused_if b faults.Full)) none full)
+
+pub types_not_refused : (clash lacks : Bool) → clash ≡ false → lacks ≡ false → None ≡ cond clash (Some faults.Clash) (refused_if lacks faults.Full)
+types_not_refused clash lacks none enough = sym (ap₂ (λ (a b : Bool). cond a (Some faults.Clash) (refused_if b faults.Full)) none enough)

@@ -1,16 +1,19 @@
 -- The types of a file that are not defined, type by type, and free records for them.
-use Rattle.std.proofs.Common.{◌≡◌, ℕ, zero, suc, ◌+◌, ◌-◌, ◌<◌, Bool, true, false, ◌||◌, cond, List, [], ◌∷◌, ◌++◌, map, Option, Some, None, is_none, refl, sym, ap, ap₂, subst, ◌∙◌, arith}
-use Rattle.std.proofs.lemmas.Bool.{cond-true, cond-false}
+use Rattle.std.proofs.Common.{◌≡◌, ℕ, zero, suc, ◌+◌, ◌-◌, ◌<◌, ◌≤◌, Bool, true, false, ◌||◌, cond, List, [], ◌∷◌, ◌++◌, map, length, take, ltb, Option, Some, None, is_none, refl, sym, ap, ap₂, subst, ◌∙◌, arith}
+use Rattle.std.proofs.lemmas.Bool.{cond-true, cond-false, lt-ltb, le-ltb}
 use Rattle.std.proofs.lemmas.List.{append-nil}
 use Rattle.std.proofs.lemmas.List.FromFn.{map-range_with_len_more}
 use Rattle.pud_defs.specs.Image.{Image}
-use Rattle.pud_defs.specs.Types.{map_of}
+use Rattle.pud_defs.specs.declared.layout.TheConstants.{TYPE_RECORDS}
+use Rattle.pud_defs.specs.Keyed.{count_used}
+use Rattle.pud_defs.specs.Types.{map_of, type_at, used_types}
 use Rattle.pud_defs.specs.ExportFile.{file_type, file_types}
 use Rattle.pud_defs.specs.Imports.{types_missing}
 use Rattle.pud_defs.specs.Step.{is_clash}
 use Rattle.registry.specs.declared.placing.NewType.{NewType}
 use Rattle.registry.specs.Placing.{HasFreeRecords}
-use Rattle.type_maps.specs.Free.{AreFreeFrom}
+use Rattle.type_maps.specs.FreeRecords.{free_places, free_records, AreFreeRecords}
+use Rattle.type_maps.proofs.FreeRecords.{AreFreeRecords-lowest}
 use Rattle.pud_import.specs.Placing.{clashes_with}
 
 -- ---- type by type
@@ -69,11 +72,44 @@ clash_there types words i n below clash =
 
 -- ---- records
 
-pub in_free_records : (at : ℕ → Option (ℕ × ℕ)) (from : ℕ) (types : List NewType) (records : List ℕ) → map (λ (t : NewType). t.record_number) types ≡ records → AreFreeFrom at from records → HasFreeRecords at from types
+pub in_free_records : (at : ℕ → Option (ℕ × ℕ)) (from : ℕ) (types : List NewType) (records : List ℕ) → map (λ (t : NewType). t.record_number) types ≡ records → AreFreeRecords at from records → HasFreeRecords at from types
 in_free_records at from [] [] same free = free
 in_free_records at from [] (r ∷ records) same free = cc
 in_free_records at from (t ∷ types) [] same free = cc
 in_free_records at from (t ∷ types) (r ∷ records) same free =
     let here : t.record_number ≡ r = cc in
     let rest : map (λ (t : NewType). t.record_number) types ≡ records = cc in
-    (free.0 ∙ ap (λ (n : ℕ). Some n) (sym here), in_free_records at (t.record_number + 1) types records rest (subst (λ (n : ℕ). AreFreeFrom at (n + 1) records) (sym here) free.1))
+    (free.0 ∙ ap (λ (n : ℕ). Some n) (sym here), in_free_records at (t.record_number + 1) types records rest (subst (λ (n : ℕ). AreFreeRecords at (n + 1) records) (sym here) free.1))
+
+-- ---- how many records are free
+
+free_first : (o : Option (ℕ × ℕ)) (from used count : ℕ) (later : List ℕ) → length later + used ≡ count → length (cond (is_none o) (from ∷ later) later) + cond (is_none o) used (used + 1) ≡ suc count
+free_first None from used count later is = omega (arith, is)
+free_first (Some t) from used count later is = omega (arith, is)
+
+free_or_used : (at : ℕ → Option (ℕ × ℕ)) (from count : ℕ) → length (free_places at from count) + count_used at from count ≡ count
+unfolding free_places count_used
+free_or_used at from zero = refl
+free_or_used at from (suc count) = free_first (at from) from (count_used at (from + 1) count) count (free_places at (from + 1) count) (free_or_used at (from + 1) count)
+
+module _ (image : Image) (count : ℕ) where
+  pub too_few_records : length (free_records image) < count → ltb TYPE_RECORDS (used_types image + count) ≡ true
+  too_few_records few = let all = free_or_used (type_at image) 0 TYPE_RECORDS in lt-ltb TYPE_RECORDS (used_types image + count) (omega (arith, all))
+
+  pub enough_records : (records : List ℕ) → records ≡ take count (free_records image) → length records ≡ count → ltb TYPE_RECORDS (used_types image + count) ≡ false
+  enough_records records is many =
+      let all = free_or_used (type_at image) 0 TYPE_RECORDS in
+      let most : length records ≤ length (free_records image) = ap_le (ap length is) (length_take_most count (free_records image)) in
+      le-ltb TYPE_RECORDS (used_types image + count) (omega (arith, all, most, many))
+    where
+      ap_le : {a b n : ℕ} → a ≡ b → b ≤ n → a ≤ n
+      ap_le same low = omega arith
+
+      length_take_most : (n : ℕ) (xs : List ℕ) → length (take n xs) ≤ length xs
+      length_take_most zero xs = omega arith
+      length_take_most (suc n) [] = omega arith
+      length_take_most (suc n) (x ∷ xs) = let rest = length_take_most n xs in omega arith
+
+  pub records_in_turn : (types : List NewType) (records : List ℕ) → map (λ (t : NewType). t.record_number) types ≡ records → records ≡ take count (free_records image) → HasFreeRecords (type_at image) 0 types
+  records_in_turn types records same is =
+      in_free_records (type_at image) 0 types records same (subst (λ (l : List ℕ). AreFreeRecords (type_at image) 0 l) (sym is) (AreFreeRecords-lowest (type_at image) count))

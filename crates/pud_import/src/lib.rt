@@ -1,7 +1,9 @@
-//! Export files, read: whether bytes are a file, and what the file holds. No memory is taken.
+//! Export files: whether bytes are a file, what the file holds, and how a pool is made of it. No memory is taken.
 //!
 //! The judge of graphs is that of pools on devices: a file answers it as a device that has the file's types in its type table
 //! and the file's frames as its own.
+//!
+//! A file is placed in two steps: what is found for it is found by reads alone, and then frames are filled and one batch is written.
 #![tactic(auto)]
 
 mod bases;

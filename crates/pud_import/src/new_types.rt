@@ -104,8 +104,9 @@ pub(crate) fn find_types<H: Host>(
     ensures only_reads { OnlyReads H.tells H.state H.counts (place_fault result) h.old h.new }
 {
     let missing = missing_types(h, view)?;
-    match free_records(h, missing.len() as u32)? {
-        Some(records) => Ok(in_records(missing.as_slice(), records.as_slice())),
+    let types = missing.as_slice();
+    match free_records(h, types.len() as u32)? {
+        Some(records) => Ok(in_records(types, records.as_slice())),
         None => Err(PlaceFault::Full),
     }
 }

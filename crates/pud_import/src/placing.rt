@@ -89,7 +89,9 @@ pub fn place<H: Host>(
     ensures cause { H.counts h.new ≡ after_fault (place_fault result) (H.counts h.old) }
 {
     let plan = find_plan(h, frames, view, name)?;
-    fill_frames(h, frames, view, plan.puddles.as_slice())?;
+    let types = plan.types.as_slice();
+    let puddles = plan.puddles.as_slice();
+    fill_frames(h, frames, view, puddles)?;
     let rec = PoolRec {
         name,
         uid,
@@ -97,12 +99,5 @@ pub fn place<H: Host>(
         mode,
         number: plan.number,
     };
-    Ok(place_pool(
-        h,
-        frames,
-        plan.slot,
-        rec,
-        plan.types.as_slice(),
-        plan.puddles.as_slice(),
-    )?)
+    Ok(place_pool(h, frames, plan.slot, rec, types, puddles)?)
 }

@@ -151,15 +151,12 @@ fn find_puddles<H: Host>(
     ensures only_reads { OnlyReads H.tells H.state H.counts (place_fault result) h.old h.new }
 {
     let found = find_frames(h, frames, view.puddles())?;
+    let at = found.as_slice();
     let wanted = wanted_bases(view);
-    let bases = find_bases(h, frames, wanted.as_slice())?;
-    Ok(added_puddles(
-        slot,
-        number,
-        found.as_slice(),
-        bases.as_slice(),
-        wanted.as_slice(),
-    ))
+    let old_bases = wanted.as_slice();
+    let given = find_bases(h, frames, old_bases)?;
+    let bases = given.as_slice();
+    Ok(added_puddles(slot, number, at, bases, old_bases))
 }
 
 /// What is found for a pool of this name that holds what the file does: the lowest free slot, the next UUID number, free records for the types that

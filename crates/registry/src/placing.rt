@@ -25,7 +25,7 @@ use pud_defs::layout::{MAX_FRAMES, NUMBER_LIMIT, TYPE_RECORDS};
 use pud_defs::records::{MAX_PUDDLES, POOL_RECORDS, PoolRec};
 
 /// A type that is defined in a free record of the type table.
-#[derive(Clone, Copy, Debug, PartialEq, Eq)]
+#[derive(Clone, Copy, Debug, Default, PartialEq, Eq)]
 pub struct NewType {
     /// Its record.
     pub record_number: u32,
