@@ -1,7 +1,9 @@
 -- The types of a file that are not defined, type by type, and free records for them.
-use Rattle.std.proofs.Common.{◌≡◌, ℕ, zero, suc, ◌+◌, ◌-◌, ◌<◌, ◌≤◌, Bool, true, false, ◌||◌, cond, List, [], ◌∷◌, ◌++◌, map, length, take, ltb, Option, Some, None, is_none, refl, sym, ap, ap₂, subst, ◌∙◌, arith}
+use Rattle.std.proofs.Common.{◌≡◌, ℕ, zero, suc, ◌+◌, ◌-◌, ◌<◌, ◌≤◌, Bool, true, false, ◌||◌, cond, List, [], ◌∷◌, ◌++◌, map, length, take, get_or, All, ltb, Option, Some, None, is_none, option_map, refl, sym, ap, ap₂, subst, ◌∙◌, arith}
 use Rattle.std.proofs.lemmas.Bool.{cond-true, cond-false, lt-ltb, le-ltb}
-use Rattle.std.proofs.lemmas.List.{append-nil}
+use Rattle.std.specs.Prelude.{slice_get}
+use Rattle.std.proofs.lemmas.List.{append-nil, length-map}
+use Rattle.std.proofs.lemmas.Option.{slice_get-map, slice_get-get_or, get_or_from_slice_get}
 use Rattle.std.proofs.lemmas.List.FromFn.{map-range_with_len_more}
 use Rattle.pud_defs.specs.Image.{Image}
 use Rattle.pud_defs.specs.declared.layout.TheConstants.{TYPE_RECORDS}
@@ -113,3 +115,12 @@ module _ (image : Image) (count : ℕ) where
   pub records_in_turn : (types : List NewType) (records : List ℕ) → map (λ (t : NewType). t.record_number) types ≡ records → records ≡ take count (free_records image) → HasFreeRecords (type_at image) 0 types
   records_in_turn types records same is =
       in_free_records (type_at image) 0 types records same (subst (λ (l : List ℕ). AreFreeRecords (type_at image) 0 l) (sym is) (AreFreeRecords-lowest (type_at image) count))
+
+pub records_within : (types : List NewType) (records : List ℕ) → map (λ (t : NewType). t.record_number) types ≡ records → All (λ n. n < TYPE_RECORDS) records → All (λ (t : NewType). t.record_number < TYPE_RECORDS) types
+records_within types records same within = λ k d below.
+    let number = λ (t : NewType). t.record_number in
+    let there = ap (λ (l : List ℕ). slice_get l k) (sym same) ∙ slice_get-map number types k ∙ ap (option_map number) (slice_get-get_or types k d below) in
+    let is = get_or_from_slice_get records k (get_or types k d).record_number 0 there in
+    let few : k < length records = omega (arith, sym (length-map types number) ∙ ap length same) in
+    let low = within k 0 few in
+    omega (arith, is)

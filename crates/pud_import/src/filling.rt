@@ -4,6 +4,7 @@ ghost use Rattle.std.specs.Prelude.{◌≡◌, ◌<◌, ◌≤◌, ℕ, Option, 
 ghost use Rattle.pm_model.specs.Changes.{Changes};
 ghost use Rattle.pm_model.specs.Counts.{after_fault, fault_of};
 ghost use Rattle.pud_defs.specs.declared.layout.TheConstants.{FRAME_WORDS};
+ghost use Rattle.pud_defs.specs.declared.records.TheConstants.{MAX_PUDDLES};
 ghost use Rattle.pud_defs.specs.Layout.{device_words};
 ghost use Rattle.registry.specs.Adding.{IsAddedWithin};
 ghost use Rattle.pud_import.specs.Contents.{puddles_counted, stored_held};
@@ -14,6 +15,7 @@ use crate::file_view::FileView;
 use pm_model::{Host, HostFault};
 use pm_persist::persist_range;
 use pud_defs::layout::{FRAME_WORDS, MAX_FRAMES};
+use pud_defs::records::MAX_PUDDLES;
 use pud_defs::space::{FRAME_NUMBER_WORD, frame_at};
 use registry::Added;
 
@@ -73,6 +75,7 @@ pub(crate) fn fill_frames<H: Host>(
     requires few { frames ≤ MAX_FRAMES }
     requires room { device_words frames ≤ (H.counts h.old).size }
     requires count { length puddles.now ≤ puddles_counted view.now }
+    requires few_puddles { length puddles.now ≤ MAX_PUDDLES }
     requires within { All (IsAddedWithin frames) puddles.now }
     ensures changes { H.tells → Changes (ByFrames frames puddles.now) (fault_of result) (H.state h.old) (H.state h.new) }
     ensures filled { H.tells → FramesRise puddles.now → fault_of result ≡ Option.None → AreFilled frames (stored_held view.now) puddles.now (H.state h.new).now.words }

@@ -29,7 +29,7 @@ returns-in_err-frame-clause-refusal g c =
     let below = c.loop-ordinal-test.true in
     refused_for_space (first_free at from (c.args.frames - from)) c.in_err-frame.field-0.0 (ltb c.args.frames (count_used at 0 c.args.frames + c.args.count))
     (c.in_err-frame.ensures.refusal t image (still_reads c.loop-ordinal.invariant.only_reads t same) none)
-    (λ full. counted_end at c.args.frames c.loop-ordinal.ordinal from c.args.count (omega (arith, below)) (c.loop-ordinal.invariant.counted t image same) full))
+    (λ full. counted_end at c.args.frames c.loop-ordinal._ordinal from c.args.count (omega (arith, below)) (c.loop-ordinal.invariant.counted t image same) full))
 
 pub loop-ordinal-preserved : goal.loop-ordinal-preserved
 loop-ordinal-preserved g c =
@@ -48,7 +48,7 @@ loop-ordinal-preserved g c =
           (subst (λ (n : ℕ). first_free at n (c.args.frames - n) ≡ Some frame) (sym c.loop-ordinal.invariant.next) is));
       counted = λ t image same.
           let at = (tables_of c.args.frames image).puddles in
-          counted_more at c.args.frames c.loop-ordinal.ordinal c.loop-ordinal.from frame (c.loop-ordinal.invariant.counted t image same)
+          counted_more at c.args.frames c.loop-ordinal._ordinal c.loop-ordinal.from frame (c.loop-ordinal.invariant.counted t image same)
           (c.in_ok-frame.ensures.frame t image (still_reads c.loop-ordinal.invariant.only_reads t same));
     }
 
@@ -56,4 +56,4 @@ pub returns-clause-refusal : goal.returns-clause-refusal
 returns-clause-refusal g c = λ t image same none.
     let at = (tables_of c.args.frames image).puddles in
     let past = c.loop-ordinal-test.false in
-    sym (ap (λ (b : Bool). refused_if b faults.NoSpace) (counted_all at c.args.frames c.loop-ordinal.ordinal c.loop-ordinal.from c.args.count (omega (arith, past)) (c.loop-ordinal.invariant.counted t image same)))
+    sym (ap (λ (b : Bool). refused_if b faults.NoSpace) (counted_all at c.args.frames c.loop-ordinal._ordinal c.loop-ordinal.from c.args.count (omega (arith, past)) (c.loop-ordinal.invariant.counted t image same)))

@@ -204,3 +204,8 @@ returns-clause-places g c = λ t size same s file mask held may.
 pub returns-clause-any : goal.returns-clause-any
 returns-clause-any g c = λ t.
     Changes-then Anything _ _ _ _ (Changes-then Anything _ _ _ _ (Changes-read c.in_ok-plan.ensures.only_reads t) (Changes-wider _ Anything _ _ _ (λ k v of. tt) (c.in_ok-fill_frames.ensures.changes t))) (c.in_ok-place_pool.ensures.any t)
+
+pub returns-in_err-plan-clause-any : goal.returns-in_err-plan-clause-any
+returns-in_err-plan-clause-any g c =
+    let p = err_from_is_err_and c.from_residual.result c.from_residual.ensures.1 in
+    rw (p.1, p.2) (Changes-read c.in_err-plan.ensures.only_reads)

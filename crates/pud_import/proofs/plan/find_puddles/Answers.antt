@@ -1,5 +1,6 @@
 use Rattle.std.proofs.Common.{◌≡◌, ◌<◌, ◌+◌, ℕ, List, [], map, length, cond, refl, sym, ap, subst, ◌∙◌, arith}
 use Rattle.std.specs.Prelude.{nat_lt, bytes_eq}
+use Rattle.std.proofs.lemmas.List.{length-map}
 use Rattle.std.proofs.lemmas.List.Elements.{All-same}
 use Rattle.std.proofs.lemmas.Result.{err_from_is_err_and}
 use Rattle.pm_model.specs.Words.{reads}
@@ -11,6 +12,8 @@ use Rattle.pud_defs.specs.Tables.{tables_of}
 use Rattle.pud_defs.proofs.TablesOf.{frames_of_tables}
 use Rattle.registry.specs.Placing.{puddle_of}
 use Rattle.pud_import.specs.declared.placing.PlaceFault.TheVariants as faults
+use Rattle.pud_import.specs.Contents.{file_image, types_counted, puddles_counted, stored_held}
+use Rattle.pud_import.proofs.UsedPlaces.{puddles-file}
 use Rattle.pud_import.specs.Places.{AreFreeFrames, AreBasesFor}
 use Rattle.pud_import.proofs.PlacedPuddles.{placed_puddles, placed_members, placed_count, placed_rise, placed_within}
 use Rattle.pud_import.proofs.Refusals.{refused_if}
@@ -69,3 +72,16 @@ returns-clause-within g c =
     let many = ap length c.as_slice-at.ensures.value ∙ c.in_ok-found.ensures.count ∙ c.puddles.ensures.counted in
     placed_within c.args.slot c.args.number (cond (bytes_eq bases old) LAST_FRONTIER 0) c.args.frames c.as_slice-at.result.now bases old c.added_puddles.result.items c.added_puddles.ensures c.requires.slot
     (let left = c.requires.numbers in omega (arith, many, left)) (All-same (λ frame. frame < c.args.frames) _ _ c.as_slice-at.ensures.value c.in_ok-found.ensures.within)
+
+pub added_puddles-requires-clause-wanted : goal.added_puddles-requires-clause-wanted
+added_puddles-requires-clause-wanted g c =
+    let view = c.args.view.now in
+    ap length (c.as_slice-old_bases.ensures.value ∙ c.wanted_bases-wanted.ensures) ∙ length-map (stored_held view).puddles (λ d. d.base) ∙ puddles-file (file_image view) (types_counted view) (puddles_counted view)
+    ∙ sym (ap length c.as_slice-at.ensures.value ∙ c.in_ok-found.ensures.count ∙ c.puddles.ensures.counted)
+
+pub added_puddles-requires-clause-bases : goal.added_puddles-requires-clause-bases
+added_puddles-requires-clause-bases g c =
+    let view = c.args.view.now in
+    ap length c.as_slice-bases.ensures.value ∙ c.in_ok-given.ensures.count
+    ∙ ap length (c.as_slice-old_bases.ensures.value ∙ c.wanted_bases-wanted.ensures) ∙ length-map (stored_held view).puddles (λ d. d.base) ∙ puddles-file (file_image view) (types_counted view) (puddles_counted view)
+    ∙ sym (ap length c.as_slice-at.ensures.value ∙ c.in_ok-found.ensures.count ∙ c.puddles.ensures.counted)
