@@ -3,4 +3,5 @@ pub mod Contents
 pub mod Filling
 pub mod Placing
 pub mod Rewrites
+pub mod Places
 pub mod Sized

@@ -1,12 +1,11 @@
-//! Files that are placed on a device as pools.
+//! A file placed on a device as a pool.
 
-ghost use Rattle.std.specs.Prelude.{◌≡◌, ◌≢◌, ◌≤◌, ℕ, ⊤, Option};
-ghost use Rattle.pm_model.specs.Words.{reads};
-ghost use Rattle.pm_model.specs.Counts.{after_fault};
+ghost use Rattle.std.specs.Prelude.{◌≡◌, ◌≢◌, ◌≤◌, ⊤, ℕ, Option};
+ghost use Rattle.pm_model.specs.Words.{Image, reads};
 ghost use Rattle.pm_model.specs.Changes.{Changes, Write};
+ghost use Rattle.pm_model.specs.Counts.{after_fault};
 ghost use Rattle.log_replay.specs.Replaying.{Anything};
-ghost use Rattle.pud_defs.specs.declared.layout.TheConstants.{DAEMON_LOG, MAX_FRAMES};
-ghost use Rattle.pud_defs.specs.Image.{Image};
+ghost use Rattle.pud_defs.specs.declared.layout.TheConstants.{DAEMON_LOG};
 ghost use Rattle.pud_defs.specs.ExportFile.{FileContents, file_graph};
 ghost use Rattle.pud_defs.specs.Imports.{with_imported_pool};
 ghost use Rattle.pud_defs.specs.Layout.{device_words};
@@ -19,17 +18,21 @@ ghost use Rattle.pud_import.specs.Contents.{stored_held};
 ghost use Rattle.pud_import.specs.Placing.{place_fault, refusal_in, refusal_by, PlacesSomewhere, MayImport};
 
 use crate::file_view::FileView;
+use crate::filling::fill_frames;
+use crate::plan::find_plan;
 use pm_model::{Host, HostFault};
-use pud_defs::records::Name;
+use pud_defs::layout::MAX_FRAMES;
+use pud_defs::records::{Name, PoolRec};
+use registry::place_pool;
 
-/// Why a file was not placed.
+/// Why a file was not placed. Nothing changed, but by a fault of the host.
 #[derive(Clone, Copy, Debug, PartialEq, Eq, thiserror::Error)]
 pub enum PlaceFault {
     /// A type of the file is defined with another map.
     #[error("a type of the file is defined with another map")]
     Clash,
-    /// A table is full, or too few UUID numbers are left.
-    #[error("there is no room for a pool more, or for its types")]
+    /// All records of the pool table are used, or too few of the type table are free, or too few UUID numbers are left.
+    #[error("there is no room for the pool or for its types")]
     Full,
     /// Too few frames are free.
     #[error("too few frames are free")]
@@ -39,7 +42,27 @@ pub enum PlaceFault {
     Host(HostFault),
 }
 
-/// A stub.
+impl From<HostFault> for PlaceFault {
+    ghost use Rattle.pud_import.specs.declared.placing.PlaceFault.TheVariants.{Host};
+
+    ghost from_gives = { λ fault e. e ≡ Host fault };
+
+    fn from(fault: HostFault) -> Self {
+        PlaceFault::Host(fault)
+    }
+}
+
+/// Makes a pool of this name, owner, group and mode that holds the graph of the file, under UUID numbers of its own, and defines the types of the file that
+/// are not defined.
+///
+/// The device has so many frames and the words that they need. Where no pool has the name, `Clash` comes exactly where a type of the file is defined with
+/// another map; `Full` exactly where none is, but no record is free for the pool, or too few for its types, or too few UUID numbers are left; `NoSpace`
+/// exactly where none of these is so, but too few frames are free; and then nothing changes. Each puddle gets the base that it has in the file, unless a
+/// puddle of the device or one before it has it, and else the lowest free one. Where each got its own, its pointers stand over its bases; else they stay as
+/// they are in the file, whose bases are the old ones of the puddles, and no step is rewritten yet.
+///
+/// The frames are filled first, with a fence a frame, and then one batch names them. Where each image stands for a world and the tables are durable, each image
+/// left meanwhile stands for that world, or for the one that has the pool and its types; at `Ok` each stands for the latter.
 pub fn place<H: Host>(
     h: &mut H,
     frames: u32,
@@ -51,13 +74,13 @@ pub fn place<H: Host>(
 ) -> Result<(), PlaceFault>
     requires few { frames ≤ MAX_FRAMES }
     requires room { device_words frames ≤ (H.counts h.old).size }
-    requires stub { 1 ≤ 0 }
-    ensures refusal { H.tells → (image : Image) → reads (H.state h.old).now.words ≡ image → place_fault result ≡ Option.None → (file : FileContents) → file_graph view.now ≡ Option.Some file
-        → pool_in (tables_of frames image) name ≡ Option.None → refusal_in result ≡ refusal_by frames image file }
-    ensures unchanged { H.tells → (image : Image) → reads (H.state h.old).now.words ≡ image → (file : FileContents) → file_graph view.now ≡ Option.Some file
-        → pool_in (tables_of frames image) name ≡ Option.None → refusal_by frames image file ≢ Option.None → H.state h.new ≡ H.state h.old }
-    ensures commits { H.tells → (image : Image) → reads (H.state h.old).now.words ≡ image → HasIdleGate DAEMON_LOG (H.state h.old).now.words → (file : FileContents) → file_graph view.now ≡ Option.Some file
-        → pool_in (tables_of frames image) name ≡ Option.None → refusal_by frames image file ≡ Option.None
+    ensures refusal { H.tells → (image : Image) → reads (H.state h.old).now.words ≡ image → place_fault result ≡ Option.None
+        → (file : FileContents) → file_graph view.now ≡ Option.Some file → pool_in (tables_of frames image) name ≡ Option.None → refusal_in result ≡ refusal_by frames image file }
+    ensures unchanged { H.tells → (image : Image) → reads (H.state h.old).now.words ≡ image
+        → (file : FileContents) → file_graph view.now ≡ Option.Some file → pool_in (tables_of frames image) name ≡ Option.None → refusal_by frames image file ≢ Option.None
+        → H.state h.new ≡ H.state h.old }
+    ensures commits { H.tells → (image : Image) → reads (H.state h.old).now.words ≡ image → HasIdleGate DAEMON_LOG (H.state h.old).now.words
+        → (file : FileContents) → file_graph view.now ≡ Option.Some file → pool_in (tables_of frames image) name ≡ Option.None → refusal_by frames image file ≡ Option.None
         → OrStill (PlacesSomewhere frames image (stored_held view.now) file.types name uid gid mode) (place_fault result) (H.state h.old) (H.state h.new) }
     ensures places { H.tells → (size : ℕ) → size ≡ (H.counts h.old).size → (s : StoredWorld) (file : FileContents) (mask : Write) → file_graph view.now ≡ Option.Some file
         → MayImport size s frames name uid gid mode file (stored_held view.now) mask (H.state h.old).now.words
@@ -65,5 +88,16 @@ pub fn place<H: Host>(
     ensures any { H.tells → Changes Anything (place_fault result) (H.state h.old) (H.state h.new) }
     ensures cause { H.counts h.new ≡ after_fault (place_fault result) (H.counts h.old) }
 {
-    Ok(())
+    let plan = find_plan(h, frames, view, name)?;
+    let types = plan.types.as_slice();
+    let puddles = plan.puddles.as_slice();
+    fill_frames(h, frames, view, puddles)?;
+    let rec = PoolRec {
+        name,
+        uid,
+        gid,
+        mode,
+        number: plan.number,
+    };
+    Ok(place_pool(h, frames, plan.slot, rec, types, puddles)?)
 }

@@ -1,0 +1,264 @@
+-- A file placed on a device whose images stand for a world: each image left meanwhile stands for that world, or for the one that has the pool too.
+use Rattle.std.proofs.Common.{◌≡◌, ℕ, ◌+◌, ◌<◌, ◌≤◌, Bool, true, false, ◌||◌, cond, List, map, length, nat_cmp, Option, Some, None, option_map, zero, suc, ◌-◌, [], ◌∷◌, ◌++◌, inr, is_some, refl, sym, ap, subst, ◌∙◌, arith}
+use Rattle.std.specs.Prelude.{slice_get, ⊤}
+use Rattle.std.specs.List.{range_with_len}
+use Rattle.std.proofs.lemmas.Option.{slice_get-map, none-some, same_Some}
+use Rattle.std.proofs.lemmas.List.FromFn.{length-map-range_with_len}
+use Rattle.pm_model.specs.declared.host.HostFault.{HostFault}
+use Rattle.pm_model.specs.Words.{Words, Picks, HasOnly, reads}
+use Rattle.pm_model.specs.Moments.{State}
+use Rattle.pm_model.specs.Changes.{Write, Changes}
+use Rattle.pm_model.specs.Masks.{masked, masked_state}
+use Rattle.pm_model.proofs.Words.{Picks-reads}
+use Rattle.pm_model.proofs.Masks.{reads-masked, HasOnly-masked, IsOff-none, Changes-masked}
+use Rattle.pud_defs.specs.declared.layout.TheConstants.{DAEMON_LOG, NEXT_NUMBER_WORD, TYPE_TABLE, TYPE_RECORDS, FRAME_WORDS}
+use Rattle.pud_defs.specs.declared.records.TheConstants.{MAX_PUDDLES}
+use Rattle.pud_defs.specs.declared.records.PoolRec.{PoolRec}
+use Rattle.pud_defs.specs.declared.records.Puddle.{Puddle}
+use Rattle.pud_defs.specs.declared.space.TheConstants.{LAST_FRONTIER, SLOT_TYPE_WORD}
+use Rattle.pud_defs.specs.Image.{Image}
+use Rattle.pud_defs.specs.Layout.{frames_at}
+use Rattle.pud_defs.specs.Frames.{frame_at}
+use Rattle.pud_defs.specs.Graph.{graph_of}
+use Rattle.pud_defs.specs.Stored.{Stored, place_word, stored_in}
+use Rattle.pud_defs.specs.ExportFile.{FileContents, file_puddle, file_graph, are_file_types, are_file_bases}
+use Rattle.pud_defs.specs.Imports.{types_missing, with_types_defined, with_imported_pool}
+use Rattle.pud_defs.specs.Placement.{ArePlacedFrom}
+use Rattle.pud_defs.specs.Replay.{settled_by}
+use Rattle.pud_defs.specs.Tables.{Tables, tables_of}
+use Rattle.pud_defs.specs.Types.{type_record_at, type_at, types_of}
+use Rattle.pud_defs.specs.World.{StoredWorld}
+use Rattle.pud_defs.proofs.IdleWorlds.{standing_of_idle_world}
+use Rattle.pud_defs.proofs.Keyed.{keyed-same, first_free_some, option_map_parts}
+use Rattle.pud_defs.proofs.Parts.{Types}
+use Rattle.pud_defs.proofs.Replay.{settled_by-idle, outside_log}
+use Rattle.pud_defs.proofs.TablesOf.{frames_of_tables, tables_of-same}
+use Rattle.pud_defs.proofs.TypeMore.{graph_of-wider}
+use Rattle.pud_defs.proofs.TypeTable.{type_at-same}
+use Rattle.batch.specs.Worlds.{IsSettled}
+use Rattle.batch.proofs.Tables.{reads_kept}
+use Rattle.graph_laws.specs.Placed.{AreFrontiers}
+use Rattle.registry.specs.declared.adding.Added.{Added}
+use Rattle.registry.specs.declared.placing.NewType.{NewType}
+use Rattle.registry.specs.Placing.{puddle_of, IsPlacedFor, MayPlace}
+use Rattle.registry.specs.Pools.{new_record, ChangesPools}
+use Rattle.registry.proofs.Moved.{settled_frames}
+use Rattle.pud_import.specs.Contents.{file_image, types_counted, puddles_counted, types_held, stored_held, contents_held}
+use Rattle.pud_import.specs.Filling.{IsFrameWord, ByFrames, AreFilled, filled_value}
+use Rattle.pud_import.specs.declared.placing.PlaceFault.TheVariants as faults
+use Rattle.pud_import.specs.Placing.{Placement, clashes_with, MayImport}
+use Rattle.pud_import.proofs.FileParts.{exportable, contents_of_file}
+use Rattle.pud_import.proofs.FilledWorlds.{AreFree, not_before, IsSettled-frames, HasDurableTables-frames, ChangesPools-unfilled, ChangesPools-filled}
+use Rattle.pud_import.proofs.PlacedWorlds.{IsPlacedFor-same, HoldFile, graph_of-filled}
+use Rattle.pud_import.proofs.TypesWider.{defined_then}
+
+-- ---- what a file holds
+
+-- The contents are those of these frames: they are legal, and each pointer stands over the bases.
+pub record HoldsFile (file : FileContents) (stored : Stored) : Type 0 where
+  pub types : are_file_types file.types ≡ true
+  pub bases : are_file_bases stored.puddles ≡ true
+  pub count : length stored.puddles ≡ file.puddles
+  pub some : 1 ≤ length stored.puddles
+  pub few : length stored.puddles ≤ MAX_PUDDLES
+  pub ends : AreFrontiers LAST_FRONTIER stored.puddles
+  pub graph : graph_of file.types stored ≡ Some file.graph
+
+-- a file's contents are those of its own frames
+pub file_held : (bytes : List ℕ) (file : FileContents) → file_graph bytes ≡ Some file → HoldsFile file (stored_held bytes)
+file_held bytes file is =
+    let there : is_some (file_graph bytes) ≡ true = ap is_some is in
+    let parts = option_map_parts (contents_held bytes) (graph_of (types_held bytes) (stored_held bytes)) file (sym (contents_of_file bytes there) ∙ is) in
+    let legal = exportable bytes there in
+    let types : types_held bytes ≡ file.types = ap (λ (f : FileContents). f.types) parts.gives in
+    let K = puddles_counted bytes in
+    let words = file_image bytes in
+    record {
+      types = sym (ap are_file_types types) ∙ legal.legal_types;
+      bases = legal.legal_bases;
+      count = length-map-range_with_len (file_puddle words (types_counted bytes) K) 0 K ∙ ap (λ (f : FileContents). f.puddles) parts.gives;
+      some = legal.some;
+      few = legal.few;
+      ends = record {
+        each = λ o d at.
+            let puddle = option_map_parts (file_puddle words (types_counted bytes) K) (slice_get (range_with_len 0 K) o) d (sym (slice_get-map (file_puddle words (types_counted bytes) K) (range_with_len 0 K) o) ∙ at) in
+            ap (λ (d : Puddle). d.frontier) (sym puddle.gives);
+      };
+      graph = ap (λ (ts : List (ℕ × ℕ)). graph_of ts (stored_held bytes)) (sym types) ∙ parts.is ∙ ap (λ (f : FileContents). Some f.graph) parts.gives;
+    }
+
+-- what is listed for a file's types is listed for its contents
+pub types_of_file : (bytes : List ℕ) (file : FileContents) → file_graph bytes ≡ Some file → (types_held bytes ≡ file.types) × (puddles_counted bytes ≡ file.puddles)
+types_of_file bytes file is =
+    let there : is_some (file_graph bytes) ≡ true = ap is_some is in
+    let parts = option_map_parts (contents_held bytes) (graph_of (types_held bytes) (stored_held bytes)) file (sym (contents_of_file bytes there) ∙ is) in
+    (ap (λ (f : FileContents). f.types) parts.gives, ap (λ (f : FileContents). f.puddles) parts.gives)
+
+-- ---- free frames
+
+free_placed : (t : Tables) (frame : ℕ) (taken wanted : List ℕ) (at : List (ℕ × Puddle)) → ArePlacedFrom t frame taken wanted at → (o : ℕ) (e : ℕ × Puddle) → slice_get at o ≡ Some e → (e.0 < t.frames) × (t.puddles e.0 ≡ None)
+free_placed t frame taken [] [] placed o e is = absurd (none-some e is)
+free_placed t frame taken [] (x ∷ at) placed o e is = absurd placed
+free_placed t frame taken (base ∷ wanted) [] placed o e is = absurd placed
+free_placed t frame taken (base ∷ wanted) (x ∷ at) placed zero e is =
+    let lowest = first_free_some t.puddles frame (t.frames - frame) x.0 placed.0 in
+    let low = lowest.low in
+    let high = lowest.high in
+    let same : x ≡ e = same_Some x e is in
+    subst (λ (e : ℕ × Puddle). (e.0 < t.frames) × (t.puddles e.0 ≡ None)) same (omega arith, lowest.free)
+free_placed t frame taken (base ∷ wanted) (x ∷ at) placed (suc o) e is = free_placed t (x.0 + 1) (taken ++ x.1.base ∷ []) wanted at placed.3 o e is
+
+pub are_free : (F : ℕ) (t : Tables) (wanted : List ℕ) (puddles : List Added) → t.frames ≡ F → ArePlacedFrom t 0 [] wanted (map puddle_of puddles) → AreFree F t puddles
+are_free F t wanted puddles frames placed =
+    let one = λ (o : ℕ) (a : Added) (is : slice_get puddles o ≡ Some a). free_placed t 0 [] wanted (map puddle_of puddles) placed o (puddle_of a) (slice_get-map puddle_of puddles o ∙ ap (option_map puddle_of) is) in
+    record {
+      within = λ o a is. let below = (one o a is).0 in omega arith;
+      free = λ o a is. (one o a is).1;
+    }
+
+-- ---- no type clashes
+
+no_clash : (clash full lacks : Bool) → cond clash (Some faults.Clash) (cond full (Some faults.Full) (cond lacks (Some faults.NoSpace) None)) ≡ None → clash ≡ false
+no_clash true full lacks none = cc
+no_clash false full lacks none = refl
+
+-- ---- the world
+
+module _ (size : ℕ) (s : StoredWorld) (name : List ℕ) (uid gid mode : ℕ) (file : FileContents) (stored : Stored) (mask : Write) (p : Placement) (old mid : State) (h : HoldsFile file stored)
+    (m : MayImport size s s.frames name uid gid mode file stored mask old.now.words) where
+  abbrev F : ℕ
+  F = s.frames
+
+  abbrev image : Image
+  image = reads old.now.words
+
+  abbrev rec : PoolRec
+  rec = new_record name uid gid mode (image NEXT_NUMBER_WORD)
+
+  abbrev wanted : List ℕ
+  wanted = map (λ (d : Puddle). d.base) stored.puddles
+
+  abbrev a : State
+  a = masked_state mask old
+
+  abbrev b : State
+  b = masked_state mask mid
+
+  same_tables : tables_of F (reads a.now.words) ≡ tables_of F image
+  same_tables = ap (tables_of F) (reads-masked mask old.now.words) ∙ m.keeps.tables
+
+  -- the types that are read are those of the world
+  types_read : types_of image ≡ s.types
+  types_read =
+      let read = reads a.now.words in
+      let picked = Picks-reads a.now.words in
+      let closed = m.settled.idle (read DAEMON_LOG) (picked.each DAEMON_LOG) in
+      let stands = standing_of_idle_world size read s (m.settled.stands read picked) in
+      let word : (k : ℕ) → TYPE_TABLE ≤ k → settled_by DAEMON_LOG read k ≡ read k = λ k high. settled_by-idle DAEMON_LOG read k closed (outside_log DAEMON_LOG k (inr (omega arith))) in
+      keyed-same nat_cmp (type_at image) (type_at (settled_by DAEMON_LOG read)) 0 TYPE_RECORDS
+      (λ n low high. sym (m.types.each n (omega arith)) ∙ sym (type_at-same read (settled_by DAEMON_LOG read) n (word (type_record_at n) (omega arith)) (word (type_record_at n + 1) (omega arith))))
+      ∙ (stands.holds Types).types
+
+  module _ (is : IsPlacedFor F image file.types wanted p.slot rec p.types p.puddles) where
+    are : AreFree F (tables_of F (reads a.now.words)) p.puddles
+    are = subst (λ (t : Tables). AreFree F t p.puddles) (sym same_tables) (are_free F (tables_of F image) wanted p.puddles (frames_of_tables F image) is.placed.turn)
+
+    -- the frames could not be filled
+    pub import_unfilled : (next : StoredWorld) (fault : HostFault) → Changes (ByFrames F p.puddles) (Some fault) old mid → ChangesPools size s next (λ _. ⊤) (Some fault) a b
+    import_unfilled next fault c =
+        ChangesPools-unfilled size s p.puddles (Some fault) a b m.settled m.tables are (Changes-masked mask (ByFrames F p.puddles) (Some fault) old mid c) next (λ _. ⊤) (λ none. let no : Some fault ≡ None = none in cc)
+
+    module _ (count : length p.puddles ≡ length stored.puddles) (c : Changes (ByFrames F p.puddles) None old mid) (filled : AreFilled F stored p.puddles mid.now.words) where
+      there : Changes (ByFrames F p.puddles) None a b
+      there = Changes-masked mask (ByFrames F p.puddles) None old mid c
+
+      kept : (k : ℕ) → k < frames_at F → reads b.now.words k ≡ reads a.now.words k
+      kept k below = reads_kept (ByFrames F p.puddles) a b k there (λ v. not_before size s p.puddles None a b m.settled m.tables are there k v below)
+
+      settled_then : IsSettled size s b.now.words
+      settled_then = IsSettled-frames size s p.puddles None a b m.settled m.tables are there
+
+      still_placed : IsPlacedFor F (reads b.now.words) file.types wanted p.slot rec p.types p.puddles
+      still_placed = IsPlacedFor-same F image (reads b.now.words)
+          (tables_of-same F (reads b.now.words) (reads a.now.words) (λ k low high. kept k (omega arith)) (λ k low high. kept k (omega arith)) ∙ same_tables)
+          (kept NEXT_NUMBER_WORD (omega arith) ∙ ap (λ (i : Image). i NEXT_NUMBER_WORD) (reads-masked mask old.now.words) ∙ m.keeps.number)
+          (λ k below. type_at-same (reads a.now.words) (reads b.now.words) k (kept (type_record_at k) (omega arith)) (kept (type_record_at k + 1) (omega arith)) ∙ m.types.each k below)
+          file.types wanted p.slot rec p.types p.puddles is
+
+      -- each image holds the file in these frames
+      holds_file : (i : Image) → Picks b.now.words i → HoldFile F stored p.puddles (settled_by DAEMON_LOG i)
+      holds_file i picked = record {
+        each = λ o k d at few.
+            let w = frame_at F d.frame + k in
+            let v = filled_value stored o d.puddle.number k in
+            let of : IsFrameWord F p.puddles w = record { ordinal = o; added = d; there = at; word = record { low = omega arith; high = omega arith } } in
+            settled_frames size s b.now.words i w settled_then picked (omega arith)
+            ∙ (HasOnly-masked mask mid.now.words w v (IsOff-none mask (ByFrames F p.puddles) w v (m.off.each p is).0 of) (filled.each o k d at few)).each (i w) (picked.each w);
+      }
+
+      -- and the graph of the file, by the types that are defined then
+      holds_graph : (i : Image) → Picks b.now.words i → graph_of (with_types_defined (types_missing s.types file.types) s).types (stored_in F (map puddle_of p.puddles) (settled_by DAEMON_LOG i)) ≡ Some file.graph
+      holds_graph i picked =
+          let now = settled_by DAEMON_LOG i in
+          let later = stored_in F (map puddle_of p.puddles) now in
+          let wide = (with_types_defined (types_missing s.types file.types) s).types in
+          let none : clashes_with s.types file.types ≡ false = ap (λ (ts : List (ℕ × ℕ)). clashes_with ts file.types) (sym types_read) ∙ no_clash (clashes_with (types_of image) file.types) _ _ m.none in
+          graph_of-wider file.types wide later file.graph (record { each = λ q k below live known. defined_then file.types s (place_word later q SLOT_TYPE_WORD) k h.types none known })
+          (graph_of-filled F stored p.puddles now count (holds_file i picked) (tables_of F image) (image NEXT_NUMBER_WORD) file.types file.graph h.some h.ends is.placed h.graph)
+
+      may_place : MayPlace size s F file wanted p.slot rec p.types p.puddles mask mid.now.words
+      may_place = record {
+        frames = refl;
+        off = (m.off.each p is).1;
+        settled = settled_then;
+        tables = HasDurableTables-frames size s p.puddles None a b m.settled m.tables are there;
+        legal = m.legal;
+        legal_types = h.types;
+        file_puddles = stored.puddles;
+        wanted_is = refl;
+        legal_bases = h.bases;
+        count = count ∙ h.count;
+        some = let some = h.some in omega arith;
+        few = let few = h.few in omega arith;
+        is = still_placed;
+        holds = holds_graph;
+      }
+
+      -- they were, and then the batch is written
+      pub import_filled : (next : StoredWorld) (fault : Option HostFault) (new : State) → (MayPlace size s F file wanted p.slot rec p.types p.puddles mask mid.now.words → ChangesPools size s next (λ _. ⊤) fault b (masked_state mask new))
+          → ChangesPools size s next (λ _. ⊤) fault a (masked_state mask new)
+      import_filled next fault new places = ChangesPools-filled size s p.puddles next (λ _. ⊤) fault a b (masked_state mask new) m.settled m.tables are there (places may_place)
+
+-- ---- on so many frames
+
+module _ (size : ℕ) (s : StoredWorld) (F : ℕ) (name : List ℕ) (uid gid mode : ℕ) (file : FileContents) (stored : Stored) (mask : Write) (p : Placement) (old mid : State) (h : HoldsFile file stored) where
+  abbrev May : ℕ → Type 0
+  May n = MayImport size s n name uid gid mode file stored mask old.now.words
+
+  abbrev Placed : ℕ → Type 0
+  Placed n = IsPlacedFor n (reads old.now.words) file.types (map (λ (d : Puddle). d.base) stored.puddles) p.slot (new_record name uid gid mode (reads old.now.words NEXT_NUMBER_WORD)) p.types p.puddles
+
+  pub ChangesPools-unfilled_import : (next : StoredWorld) (fault : HostFault) → May F → Placed F → Changes (ByFrames F p.puddles) (Some fault) old mid → ChangesPools size s next (λ _. ⊤) (Some fault) (masked_state mask old) (masked_state mask mid)
+  ChangesPools-unfilled_import next fault m =
+      subst (λ (n : ℕ). May n → Placed n → Changes (ByFrames n p.puddles) (Some fault) old mid → ChangesPools size s next (λ _. ⊤) (Some fault) (masked_state mask old) (masked_state mask mid)) (sym m.frames)
+      (λ m is c. import_unfilled size s name uid gid mode file stored mask p old mid h m is next fault c) m
+
+  pub ChangesPools-filled_import : (next : StoredWorld) (fault : Option HostFault) (new : State) → May F → Placed F → length p.puddles ≡ length stored.puddles → Changes (ByFrames F p.puddles) None old mid → AreFilled F stored p.puddles mid.now.words
+      → (MayPlace size s F file (map (λ (d : Puddle). d.base) stored.puddles) p.slot (new_record name uid gid mode (reads old.now.words NEXT_NUMBER_WORD)) p.types p.puddles mask mid.now.words
+      → ChangesPools size s next (λ _. ⊤) fault (masked_state mask mid) (masked_state mask new))
+      → ChangesPools size s next (λ _. ⊤) fault (masked_state mask old) (masked_state mask new)
+  ChangesPools-filled_import next fault new m =
+      subst (λ (n : ℕ). May n → Placed n → length p.puddles ≡ length stored.puddles → Changes (ByFrames n p.puddles) None old mid → AreFilled n stored p.puddles mid.now.words
+      → (MayPlace size s n file (map (λ (d : Puddle). d.base) stored.puddles) p.slot (new_record name uid gid mode (reads old.now.words NEXT_NUMBER_WORD)) p.types p.puddles mask mid.now.words
+      → ChangesPools size s next (λ _. ⊤) fault (masked_state mask mid) (masked_state mask new))
+      → ChangesPools size s next (λ _. ⊤) fault (masked_state mask old) (masked_state mask new)) (sym m.frames)
+      (λ m is count c filled places. import_filled size s name uid gid mode file stored mask p old mid h m is count c filled next fault new places) m
+
+-- ---- what was found, by equal lists
+
+pub placed_lists : (F : ℕ) (i : Image) (own file : List (ℕ × ℕ)) (wanted : List ℕ) (slot : ℕ) (r : PoolRec) (found new : List NewType) (listed puddles : List Added) → own ≡ file → new ≡ found → puddles ≡ listed
+    → IsPlacedFor F i own wanted slot r found listed → IsPlacedFor F i file wanted slot r new puddles
+placed_lists F i own file wanted slot r found new listed puddles same_file same_new same_puddles is =
+    subst (λ (ts : List (ℕ × ℕ)). IsPlacedFor F i ts wanted slot r new puddles) same_file
+    (subst (λ (ts : List NewType). IsPlacedFor F i own wanted slot r ts puddles) (sym same_new)
+    (subst (λ (ps : List Added). IsPlacedFor F i own wanted slot r found ps) (sym same_puddles) is))

@@ -1,0 +1,165 @@
+-- A pool that is placed where frames were filled with what a file has: it may be placed, in each image.
+use Rattle.std.proofs.Common.{◌≡◌, ◌⊎◌, inl, inr, ⊎_elim, ℕ, zero, suc, ◌+◌, ◌-◌, ◌<◌, ◌≤◌, Bool, true, false, cond, eqb, ltb, List, [], ◌∷◌, ◌++◌, map, length, nat_cmp, Option, Some, None, is_none, option_map, refl, sym, ap, ap₂, subst, ◌∙◌, arith, eq-eqb, ne_eqb}
+use Rattle.std.specs.Prelude.{slice_get, bytes_eq}
+use Rattle.std.proofs.lemmas.Bool.{cases_eq, cases_Bool, cond-true, cond-false, and_parts, and_from, lt-ltb, eqb-true}
+use Rattle.std.proofs.lemmas.List.{length-map}
+use Rattle.std.proofs.lemmas.Option.{slice_get-map}
+use Rattle.std.proofs.lemmas.Slice.Eq.{bytes_eq-Decides}
+use Rattle.pud_defs.specs.declared.layout.TheConstants.{FRAME_WORDS, TYPE_RECORDS, NEXT_NUMBER_WORD}
+use Rattle.pud_defs.specs.declared.space.TheConstants.{FRAME_MAGIC, FRAME_MAGIC_WORD, FRAME_NUMBER_WORD, FRAME_ORDINAL_WORD, LAST_FRONTIER}
+use Rattle.pud_defs.specs.declared.records.TheConstants.{POOL_RECORDS}
+use Rattle.pud_defs.specs.declared.records.Puddle.{Puddle}
+use Rattle.pud_defs.specs.declared.records.PoolRec.{PoolRec}
+use Rattle.pud_defs.specs.Image.{Image}
+use Rattle.pud_defs.specs.Frames.{frame_at, frame_word}
+use Rattle.pud_defs.specs.Keyed.{first_free}
+use Rattle.pud_defs.specs.Spaces.{all_below}
+use Rattle.pud_defs.specs.Stored.{Stored, stored_in, word_in_frame}
+use Rattle.pud_defs.specs.Graph.{Graph, has_header, headers_fit, graph_of, pointee_at}
+use Rattle.pud_defs.specs.Placement.{ArePlacedFrom, ArePlaced, placed_frontier}
+use Rattle.pud_defs.specs.Tables.{Tables, tables_of, pool_in}
+use Rattle.pud_defs.specs.Types.{type_at, types_of}
+use Rattle.pud_defs.specs.Imports.{types_missing}
+use Rattle.pud_defs.proofs.Keyed.{keyed-same, option_map_parts}
+use Rattle.pud_defs.proofs.Spaces.{all_below-from, all_below-each}
+use Rattle.pud_defs.proofs.Graphs.{graph_of-each}
+use Rattle.graph_laws.specs.Placed.{IsPlaced, AreFrontiers, KeepsBases, MovesBases}
+use Rattle.graph_laws.proofs.Pointers.{there_is_puddle}
+use Rattle.graph_laws.proofs.Placed.{pointers-kept, pointers-moved, graph_of-placed}
+use Rattle.registry.specs.declared.adding.Added.{Added}
+use Rattle.registry.specs.declared.placing.NewType.{NewType}
+use Rattle.registry.specs.Placing.{puddle_of, type_of, HasFreeRecords, IsPlacedFor}
+use Rattle.pud_import.specs.Filling.{filled_value}
+
+-- ---- the same read of another image
+
+first_free-alike : {A : Type 0} (f g : ℕ → Option A) (from count : ℕ) → ((j : ℕ) → from ≤ j → j < from + count → g j ≡ f j) → first_free g from count ≡ first_free f from count
+unfolding first_free
+first_free-alike f g from zero same = refl
+first_free-alike f g from (suc count) same =
+    ap₂ (λ (o : Option _) (later : Option ℕ). cond (is_none o) (Some from) later) (same from (omega arith) (omega arith)) (first_free-alike f g (from + 1) count (λ j low high. same j (omega arith) (omega arith)))
+
+free_records_alike : (f g : ℕ → Option (ℕ × ℕ)) → ((j : ℕ) → j < TYPE_RECORDS → g j ≡ f j) → (from : ℕ) (types : List NewType) → HasFreeRecords f from types → HasFreeRecords g from types
+free_records_alike f g same from [] free = free
+free_records_alike f g same from (t ∷ types) free =
+    (first_free-alike f g from (TYPE_RECORDS - from) (λ j low high. same j (omega arith)) ∙ free.0, free_records_alike f g same (t.record_number + 1) types free.1)
+
+module _ (F : ℕ) (i j : Image) (tables : tables_of F j ≡ tables_of F i) (number : j NEXT_NUMBER_WORD ≡ i NEXT_NUMBER_WORD) (types : (k : ℕ) → k < TYPE_RECORDS → type_at j k ≡ type_at i k) where
+  same_types : types_of j ≡ types_of i
+  same_types = keyed-same nat_cmp (type_at j) (type_at i) 0 TYPE_RECORDS (λ k low high. types k (omega arith))
+
+  pub IsPlacedFor-same : (file : List (ℕ × ℕ)) (wanted : List ℕ) (slot : ℕ) (r : PoolRec) (new : List NewType) (puddles : List Added) → IsPlacedFor F i file wanted slot r new puddles → IsPlacedFor F j file wanted slot r new puddles
+  IsPlacedFor-same file wanted slot r new puddles is = record {
+    slot_is = ap (λ (t : Tables). first_free t.pools 0 POOL_RECORDS) tables ∙ is.slot_is;
+    absent = ap (λ (t : Tables). pool_in t r.name) tables ∙ is.absent;
+    number = is.number ∙ sym number;
+    enough = is.enough;
+    types_are = is.types_are ∙ ap (λ (ts : List (ℕ × ℕ)). types_missing ts file) (sym same_types);
+    records = free_records_alike (type_at i) (type_at j) types 0 new is.records;
+    placed = subst (λ (t : Tables). ArePlaced t r.number wanted (map puddle_of puddles)) (sym tables) is.placed;
+    members = is.members;
+  }
+
+-- ---- frontiers and bases
+
+-- the puddles that were placed stand, by ordinal, for the bases that are wanted
+old_bases_placed : (t : Tables) (frame : ℕ) (taken wanted : List ℕ) (at : List (ℕ × Puddle)) → ArePlacedFrom t frame taken wanted at → map (λ (d : Puddle). d.old_base) (map (λ (e : ℕ × Puddle). e.1) at) ≡ wanted
+old_bases_placed t frame taken [] [] placed = refl
+old_bases_placed t frame taken [] (e ∷ at) placed = absurd placed
+old_bases_placed t frame taken (base ∷ wanted) [] placed = absurd placed
+old_bases_placed t frame taken (base ∷ wanted) (e ∷ at) placed = ap₂ (λ (b : ℕ) (bases : List ℕ). b ∷ bases) placed.2 (old_bases_placed t (e.0 + 1) (taken ++ e.1.base ∷ []) wanted at placed.3)
+
+bases_placed : (at : List (ℕ × Puddle)) → map (λ (d : Puddle). d.base) (map (λ (e : ℕ × Puddle). e.1) at) ≡ map (λ (e : ℕ × Puddle). e.1.base) at
+bases_placed [] = refl
+bases_placed (e ∷ at) = ap (λ (bases : List ℕ). e.1.base ∷ bases) (bases_placed at)
+
+record IsListed (at : List (ℕ × Puddle)) (o : ℕ) (d : Puddle) : Type 0 where
+  entry : ℕ × Puddle
+  there : slice_get at o ≡ Some entry
+  is : entry.1 ≡ d
+
+listed_there : (at : List (ℕ × Puddle)) (o : ℕ) (d : Puddle) → slice_get (map (λ (e : ℕ × Puddle). e.1) at) o ≡ Some d → IsListed at o d
+listed_there at o d is =
+    let parts = option_map_parts (λ (e : ℕ × Puddle). e.1) (slice_get at o) d (sym (slice_get-map (λ (e : ℕ × Puddle). e.1) at o) ∙ is) in
+    record { entry = parts.value; there = parts.is; is = parts.gives }
+
+module _ (t : Tables) (next : ℕ) (file : List Puddle) (at : List (ℕ × Puddle)) (ends : AreFrontiers LAST_FRONTIER file) (placed : ArePlaced t next (map (λ d. d.base) file) at) where
+  abbrev puddles : List Puddle
+  puddles = map (λ (e : ℕ × Puddle). e.1) at
+
+  abbrev wanted : List ℕ
+  wanted = map (λ (d : Puddle). d.base) file
+
+  frontiers_are : (frontier : ℕ) → placed_frontier wanted at ≡ frontier → AreFrontiers frontier puddles
+  frontiers_are frontier is = record {
+    each = λ o d there. let e = listed_there at o d there in ap (λ (d : Puddle). d.frontier) (sym e.is) ∙ placed.frontier o e.entry e.there ∙ is;
+  }
+
+  -- each pointer stands for the same as in the file
+  pub pointers-placed : (o step v : ℕ) → o < length file → step < LAST_FRONTIER → pointee_at puddles o step v ≡ pointee_at file o step v
+  pointers-placed o step v below low = ⊎_elim
+      (λ kept. pointers-kept file puddles ends (record { frontiers = frontiers_are LAST_FRONTIER (cond-true (bytes_eq (map (λ (e : ℕ × Puddle). e.1.base) at) wanted) LAST_FRONTIER 0 kept); bases = bases_placed at ∙ (bytes_eq-Decides (map (λ (e : ℕ × Puddle). e.1.base) at) wanted).0 kept }) o step v below low)
+      (λ moved. pointers-moved file puddles ends (record { frontiers = frontiers_are 0 (cond-false (bytes_eq (map (λ (e : ℕ × Puddle). e.1.base) at) wanted) LAST_FRONTIER 0 moved); bases = old_bases_placed t 0 [] wanted at placed.turn }) o step v below low)
+      (cases_Bool (bytes_eq (map (λ (e : ℕ × Puddle). e.1.base) at) wanted))
+
+-- ---- the graph
+
+-- in an image the frames of these puddles hold what the file's do
+pub record HoldFile (F : ℕ) (file : Stored) (puddles : List Added) (image : Image) : Type 0 where
+  pub each : (o k : ℕ) (a : Added) → slice_get puddles o ≡ Some a → k < FRAME_WORDS → image (frame_at F a.frame + k) ≡ filled_value file o a.puddle.number k
+
+module _ (F : ℕ) (file : Stored) (puddles : List Added) (image : Image) (count : length puddles ≡ length file.puddles) (hold : HoldFile F file puddles image) where
+  abbrev later : Stored
+  later = stored_in F (map puddle_of puddles) image
+
+  length-later : length later.puddles ≡ length file.puddles
+  length-later = length-map (map puddle_of puddles) (λ (e : ℕ × Puddle). e.1) ∙ length-map puddles puddle_of ∙ count
+
+  word_there : (o k : ℕ) (a : Added) → slice_get puddles o ≡ Some a → k < FRAME_WORDS → later.word o k ≡ filled_value file o a.puddle.number k
+  word_there o k a there few =
+      ap (word_in_frame F image k) (slice_get-map puddle_of puddles o ∙ ap (option_map puddle_of) there)
+      ∙ cond-true (ltb k FRAME_WORDS) (frame_word F a.frame k image) 0 (lt-ltb k FRAME_WORDS few)
+      ∙ hold.each o k a there few
+
+  added_there : (o : ℕ) → o < length file.puddles → (a : Added) × (slice_get puddles o ≡ Some a)
+  added_there o below = there_is puddles o (omega arith)
+    where
+      there_is : (puddles : List Added) (o : ℕ) → o < length puddles → (a : Added) × (slice_get puddles o ≡ Some a)
+      there_is [] o below = absurd (omega arith)
+      there_is (a ∷ puddles) zero below = (a, refl)
+      there_is (a ∷ puddles) (suc o) below = there_is puddles o (omega arith)
+
+  words_there : (o k : ℕ) → o < length file.puddles → k < FRAME_WORDS → (k ≡ FRAME_NUMBER_WORD → ⊥) → later.word o k ≡ file.word o k
+  words_there o k below few other =
+      let a = added_there o below in
+      word_there o k a.0 a.1 few ∙ cond-false (eqb k FRAME_NUMBER_WORD) a.0.puddle.number (file.word o k) (ne_eqb k FRAME_NUMBER_WORD other)
+
+  headers_there : headers_fit file ≡ true → headers_fit later ≡ true
+  unfolding headers_fit
+  headers_there fit =
+      ap (λ n. all_below n (λ o. has_header o (later.word o) (slice_get later.puddles o))) length-later
+      ∙ all_below-from (length file.puddles) (λ o. has_header o (later.word o) (slice_get later.puddles o)) one
+    where
+      one : (o : ℕ) → o < length file.puddles → has_header o (later.word o) (slice_get later.puddles o) ≡ true
+      one o below =
+          let a = added_there o below in
+          let d = there_is_puddle file.puddles o below in
+          let was = sym (ap (has_header o (file.word o)) d.1) ∙ all_below-each (length file.puddles) (λ o. has_header o (file.word o) (slice_get file.puddles o)) fit o below in
+          let parts = and_parts _ (eqb (file.word o FRAME_ORDINAL_WORD) o) was in
+          let first = and_parts (eqb (file.word o FRAME_MAGIC_WORD) FRAME_MAGIC) _ parts.0 in
+          ap (has_header o (later.word o)) (slice_get-map (λ (e : ℕ × Puddle). e.1) (map puddle_of puddles) o ∙ ap (option_map (λ (e : ℕ × Puddle). e.1)) (slice_get-map puddle_of puddles o ∙ ap (option_map puddle_of) a.1))
+          ∙ and_from _ _
+          (and_from _ _
+          (eq-eqb (later.word o FRAME_MAGIC_WORD) FRAME_MAGIC (words_there o FRAME_MAGIC_WORD below (omega arith) (λ e. absurd (omega arith)) ∙ eqb-true _ _ first.0))
+          (eq-eqb (later.word o FRAME_NUMBER_WORD) a.0.puddle.number (word_there o FRAME_NUMBER_WORD a.0 a.1 (omega arith))))
+          (eq-eqb (later.word o FRAME_ORDINAL_WORD) o (words_there o FRAME_ORDINAL_WORD below (omega arith) (λ e. absurd (omega arith)) ∙ eqb-true _ _ parts.1))
+
+  -- the pool has the graph of the file
+  pub graph_of-filled : (t : Tables) (next : ℕ) (types : List (ℕ × ℕ)) (g : Graph) → 1 ≤ length file.puddles → AreFrontiers LAST_FRONTIER file.puddles → ArePlaced t next (map (λ d. d.base) file.puddles) (map puddle_of puddles)
+      → graph_of types file ≡ Some g → graph_of types later ≡ Some g
+  graph_of-filled t next types g some ends placed is = graph_of-placed types file later g (record {
+    count = length-later;
+    headers = headers_there (graph_of-each types file g is).headers;
+    words = words_there;
+    pointers = pointers-placed t next file.puddles (map puddle_of puddles) ends placed;
+  }) some is
