@@ -38,22 +38,6 @@ pub struct Added {
     pub puddle: PuddleRec,
 }
 
-impl Default for Added {
-    fn default() -> Self {
-        Added {
-            frame: 0,
-            puddle: PuddleRec {
-                pool: 0,
-                ordinal: 0,
-                number: 0,
-                base: 0,
-                old_base: 0,
-                frontier: 0,
-            },
-        }
-    }
-}
-
 /// The new puddle of this ordinal and of this UUID number in the pool of the slot: in the lowest free frame, at the lowest free base.
 /// `NoSpace` comes only where no frame is free, and nothing changes.
 pub(crate) fn find_place<H: Host>(
