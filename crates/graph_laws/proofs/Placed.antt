@@ -1,6 +1,5 @@
 -- Frames that are placed elsewhere hold the graph that they held, whether their pointers are read over bases that were kept, or over old ones.
-use Rattle.std.proofs.Common.{◌≡◌, ℕ, zero, suc, ◌+◌, ◌<◌, ◌≤◌, true, cond, eqb, ltb, List, [], ◌∷◌, map, length, Option, Some, None, option_map, refl, sym, ap, ap₂, ◌∙◌, arith}
-use Rattle.std.specs.Prelude.{slice_get}
+use Rattle.std.proofs.Common.{◌≡◌, ℕ, ◌+◌, ◌<◌, ◌≤◌, cond, eqb, ltb, List, [], ◌∷◌, map, length, Option, Some, None, option_map, refl, sym, ap, ap₂, ◌∙◌, arith}
 use Rattle.std.specs.Option.{option_or}
 use Rattle.std.proofs.lemmas.Bool.{cond-true, cond-false, lt-ltb, le-ltb}
 use Rattle.std.proofs.lemmas.List.{length-map}
@@ -10,12 +9,12 @@ use Rattle.pud_defs.specs.TypeMap.{is_pointer}
 use Rattle.pud_defs.specs.Geometry.{ordinal_of, slot_of, places_among}
 use Rattle.pud_defs.specs.Types.{map_of}
 use Rattle.pud_defs.specs.Stored.{Stored, places_of, place_begins, place_word}
-use Rattle.pud_defs.specs.Graph.{Content, Number, Null, table_of, contents_by, slot_in, place_in, at_place, target, over_old, puddles_by, pointee_at, content, field_count, Graph, graph_of}
+use Rattle.pud_defs.specs.Graph.{Content, Number, Null, contents_by, slot_in, place_in, at_place, target, over_old, puddles_by, pointee_at, content, field_count, Graph, graph_of}
 use Rattle.pud_defs.proofs.Graphs.{graph_of-each}
 use Rattle.graph_laws.specs.Placed.{IsPlaced, AreFrontiers, KeepsBases, MovesBases}
 use Rattle.graph_laws.proofs.Words.{few_fields, map-range_same}
 use Rattle.graph_laws.proofs.Pointers.{there_is_puddle}
-use Rattle.graph_laws.proofs.Same.{StandsSame, graph_of-kept}
+use Rattle.graph_laws.proofs.Same.{graph_of-kept}
 
 -- ---- pointers
 

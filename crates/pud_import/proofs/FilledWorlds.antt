@@ -1,17 +1,17 @@
 -- Frames filled while nothing names them: each image stands for the same world.
-use Rattle.std.proofs.Common.{◌≡◌, ◌⊎◌, inl, inr, ⊎_elim, ℕ, ◌+◌, ◌<◌, ◌≤◌, true, false, cond, List, [], Option, Some, None, is_some, refl, sym, ap, subst, ◌∙◌, arith, true≢false}
+use Rattle.std.proofs.Common.{◌≡◌, ◌⊎◌, inl, inr, ⊎_elim, ℕ, ◌+◌, ◌<◌, ◌≤◌, true, cond, List, [], Option, Some, None, is_some, sym, ap, subst, ◌∙◌, arith, true≢false}
 use Rattle.std.specs.Prelude.{slice_get}
 use Rattle.std.proofs.lemmas.Bool.{cases_eq}
 use Rattle.std.proofs.lemmas.List.{append-nil}
 use Rattle.pm_model.specs.declared.host.HostFault.{HostFault}
-use Rattle.pm_model.specs.Words.{Words, Picks, reads}
+use Rattle.pm_model.specs.Words.{Picks, reads}
 use Rattle.pm_model.specs.Moments.{State}
 use Rattle.pm_model.specs.Changes.{IsFrom, Changes, Leaves, Silently}
 use Rattle.pm_model.proofs.Changes.{Changes-said, Changes-now, Changes-then, Changes-wider}
 use Rattle.pm_model.proofs.Leaves.{Leaves-changes, Leaves-weaker, Leaves-then, Leaves-now}
 use Rattle.pud_defs.specs.declared.layout.TheConstants.{DAEMON_LOG, FRAME_WORDS, TYPE_TABLE}
 use Rattle.pud_defs.specs.Image.{Image}
-use Rattle.pud_defs.specs.Layout.{IsWithin, frames_at, device_words, tables_end}
+use Rattle.pud_defs.specs.Layout.{IsWithin, frames_at, device_words}
 use Rattle.pud_defs.specs.Frames.{frame_at}
 use Rattle.pud_defs.specs.Entries.{is_idle_gate}
 use Rattle.pud_defs.specs.Replay.{is_in_log, beside_log}
@@ -23,7 +23,6 @@ use Rattle.pud_defs.proofs.IdleWorlds.{idle_registry_standing, idle_world_of-bes
 use Rattle.pud_defs.proofs.Parts.{Header, Types, Pools, Spaces, Part, IsReadBy, Holds, Holds-same, part_place, StandsFor}
 use Rattle.pud_defs.proofs.Replay.{settled_by-beside}
 use Rattle.pud_defs.proofs.TablesOf.{tables_of-same}
-use Rattle.batch.specs.Batches.{HasIdleGate}
 use Rattle.batch.specs.Worlds.{IsSettled}
 use Rattle.batch.specs.Tables.{HasDurableTables}
 use Rattle.batch.proofs.Tables.{HasDurableTables-kept}

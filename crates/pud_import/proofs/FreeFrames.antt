@@ -5,7 +5,7 @@ use Rattle.std.proofs.lemmas.Bool.{cond-true, cond-false, lt-ltb, le-ltb}
 use Rattle.std.proofs.lemmas.Option.{none-some, same_Some}
 use Rattle.pud_defs.specs.Keyed.{first_free, count_used}
 use Rattle.pud_defs.specs.Puddles.{Member}
-use Rattle.pud_defs.proofs.Keyed.{IsLowestFree, first_free_some, count_used_step, count_used_full, count_used_most}
+use Rattle.pud_defs.proofs.Keyed.{first_free_some, count_used_step, count_used_full, count_used_most}
 use Rattle.pud_import.specs.Places.{AreFreeFrames}
 
 -- the frame from which the search goes on behind these

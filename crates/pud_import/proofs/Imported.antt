@@ -1,17 +1,17 @@
 -- A file placed on a device whose images stand for a world: each image left meanwhile stands for that world, or for the one that has the pool too.
-use Rattle.std.proofs.Common.{◌≡◌, ℕ, ◌+◌, ◌<◌, ◌≤◌, Bool, true, false, ◌||◌, cond, List, map, length, nat_cmp, Option, Some, None, option_map, zero, suc, ◌-◌, [], ◌∷◌, ◌++◌, inr, is_some, refl, sym, ap, subst, ◌∙◌, arith}
+use Rattle.std.proofs.Common.{◌≡◌, ℕ, ◌+◌, ◌<◌, ◌≤◌, Bool, true, false, cond, List, map, length, nat_cmp, Option, Some, None, option_map, zero, suc, ◌-◌, [], ◌∷◌, ◌++◌, inr, is_some, refl, sym, ap, subst, ◌∙◌, arith}
 use Rattle.std.specs.Prelude.{slice_get, ⊤}
 use Rattle.std.specs.List.{range_with_len}
 use Rattle.std.proofs.lemmas.Option.{slice_get-map, none-some, same_Some}
 use Rattle.std.proofs.lemmas.List.FromFn.{length-map-range_with_len}
 use Rattle.pm_model.specs.declared.host.HostFault.{HostFault}
-use Rattle.pm_model.specs.Words.{Words, Picks, HasOnly, reads}
+use Rattle.pm_model.specs.Words.{Picks, reads}
 use Rattle.pm_model.specs.Moments.{State}
 use Rattle.pm_model.specs.Changes.{Write, Changes}
-use Rattle.pm_model.specs.Masks.{masked, masked_state}
+use Rattle.pm_model.specs.Masks.{masked_state}
 use Rattle.pm_model.proofs.Words.{Picks-reads}
 use Rattle.pm_model.proofs.Masks.{reads-masked, HasOnly-masked, IsOff-none, Changes-masked}
-use Rattle.pud_defs.specs.declared.layout.TheConstants.{DAEMON_LOG, NEXT_NUMBER_WORD, TYPE_TABLE, TYPE_RECORDS, FRAME_WORDS}
+use Rattle.pud_defs.specs.declared.layout.TheConstants.{DAEMON_LOG, NEXT_NUMBER_WORD, TYPE_TABLE, TYPE_RECORDS}
 use Rattle.pud_defs.specs.declared.records.TheConstants.{MAX_PUDDLES}
 use Rattle.pud_defs.specs.declared.records.PoolRec.{PoolRec}
 use Rattle.pud_defs.specs.declared.records.Puddle.{Puddle}
@@ -22,7 +22,7 @@ use Rattle.pud_defs.specs.Frames.{frame_at}
 use Rattle.pud_defs.specs.Graph.{graph_of}
 use Rattle.pud_defs.specs.Stored.{Stored, place_word, stored_in}
 use Rattle.pud_defs.specs.ExportFile.{FileContents, file_puddle, file_graph, are_file_types, are_file_bases}
-use Rattle.pud_defs.specs.Imports.{types_missing, with_types_defined, with_imported_pool}
+use Rattle.pud_defs.specs.Imports.{types_missing, with_types_defined}
 use Rattle.pud_defs.specs.Placement.{ArePlacedFrom}
 use Rattle.pud_defs.specs.Replay.{settled_by}
 use Rattle.pud_defs.specs.Tables.{Tables, tables_of}

@@ -1,5 +1,5 @@
 -- A pool that is placed by the words: its frames are filled, and then its batch is written.
-use Rattle.std.proofs.Common.{◌≡◌, inl, inr, ⊎_elim, ℕ, ◌<◌, List, map, Option, Some, None, refl, arith}
+use Rattle.std.proofs.Common.{◌≡◌, inl, inr, ⊎_elim, ℕ, List, map, Option, Some, None, refl, arith}
 use Rattle.pm_model.specs.declared.host.HostFault.{HostFault}
 use Rattle.pm_model.specs.Moments.{State}
 use Rattle.pm_model.specs.Changes.{Changes}
@@ -12,7 +12,7 @@ use Rattle.batch.specs.Batches.{HasIdleGate}
 use Rattle.registry.specs.declared.adding.Added.{Added}
 use Rattle.registry.specs.Placing.{placing, IsPlacedFor}
 use Rattle.registry.specs.Pools.{new_record, CommitsPuts}
-use Rattle.pud_import.specs.Filling.{IsFrameWord, ByFrames, AreFilled}
+use Rattle.pud_import.specs.Filling.{ByFrames, AreFilled}
 use Rattle.pud_import.specs.Placing.{Placement, PlacesSomewhere}
 
 -- filling frames leaves the daemon log as it was

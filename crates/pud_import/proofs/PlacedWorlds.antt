@@ -1,7 +1,7 @@
 -- A pool that is placed where frames were filled with what a file has: it may be placed, in each image.
-use Rattle.std.proofs.Common.{◌≡◌, ◌⊎◌, inl, inr, ⊎_elim, ℕ, zero, suc, ◌+◌, ◌-◌, ◌<◌, ◌≤◌, Bool, true, false, cond, eqb, ltb, List, [], ◌∷◌, ◌++◌, map, length, nat_cmp, Option, Some, None, is_none, option_map, refl, sym, ap, ap₂, subst, ◌∙◌, arith, eq-eqb, ne_eqb}
+use Rattle.std.proofs.Common.{◌≡◌, ⊎_elim, ℕ, zero, suc, ◌+◌, ◌-◌, ◌<◌, ◌≤◌, true, cond, eqb, ltb, List, [], ◌∷◌, ◌++◌, map, length, nat_cmp, Option, Some, is_none, option_map, refl, sym, ap, ap₂, subst, ◌∙◌, arith, eq-eqb, ne_eqb}
 use Rattle.std.specs.Prelude.{slice_get, bytes_eq}
-use Rattle.std.proofs.lemmas.Bool.{cases_eq, cases_Bool, cond-true, cond-false, and_parts, and_from, lt-ltb, eqb-true}
+use Rattle.std.proofs.lemmas.Bool.{cases_Bool, cond-true, cond-false, and_parts, and_from, lt-ltb, eqb-true}
 use Rattle.std.proofs.lemmas.List.{length-map}
 use Rattle.std.proofs.lemmas.Option.{slice_get-map}
 use Rattle.std.proofs.lemmas.Slice.Eq.{bytes_eq-Decides}
@@ -23,12 +23,12 @@ use Rattle.pud_defs.specs.Imports.{types_missing}
 use Rattle.pud_defs.proofs.Keyed.{keyed-same, option_map_parts}
 use Rattle.pud_defs.proofs.Spaces.{all_below-from, all_below-each}
 use Rattle.pud_defs.proofs.Graphs.{graph_of-each}
-use Rattle.graph_laws.specs.Placed.{IsPlaced, AreFrontiers, KeepsBases, MovesBases}
+use Rattle.graph_laws.specs.Placed.{AreFrontiers}
 use Rattle.graph_laws.proofs.Pointers.{there_is_puddle}
 use Rattle.graph_laws.proofs.Placed.{pointers-kept, pointers-moved, graph_of-placed}
 use Rattle.registry.specs.declared.adding.Added.{Added}
 use Rattle.registry.specs.declared.placing.NewType.{NewType}
-use Rattle.registry.specs.Placing.{puddle_of, type_of, HasFreeRecords, IsPlacedFor}
+use Rattle.registry.specs.Placing.{puddle_of, HasFreeRecords, IsPlacedFor}
 use Rattle.pud_import.specs.Filling.{filled_value}
 
 -- ---- the same read of another image

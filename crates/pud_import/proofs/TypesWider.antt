@@ -1,6 +1,5 @@
 -- Each type of a file is defined, with its map, where those that were missing are defined and none clashed.
-use Rattle.std.proofs.Common.{◌≡◌, ◌⊎◌, inl, inr, ℕ, ◌<◌, Bool, true, false, not, ◌||◌, cond, eqb, List, [], ◌∷◌, Option, Some, None, is_none, nat_cmp, Equal, refl, sym, ap, subst, ◌∙◌, arith, ne_eqb, eq-eqb, T}
-use Rattle.std.specs.List.{list_any}
+use Rattle.std.proofs.Common.{◌≡◌, ◌⊎◌, inl, inr, ℕ, ◌<◌, Bool, true, false, not, ◌||◌, cond, eqb, List, [], ◌∷◌, Option, Some, None, is_none, nat_cmp, refl, sym, ap, subst, ◌∙◌, arith, ne_eqb, eq-eqb, T}
 use Rattle.std.specs.Ordering.{is_lt}
 use Rattle.std.specs.FinMap.Entries.{below_all, is_sorted, is_sorted-where_key, find-put, find-where_key}
 use Rattle.std.proofs.lemmas.Bool.{cases_eq, cond-true, cond-false, and_parts, eqb-true}

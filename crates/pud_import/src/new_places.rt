@@ -132,7 +132,11 @@ pub(crate) fn wanted_bases(view: &FileView<'_>) -> Bases
 }
 
 /// The bases that puddles get that have these in a file, one behind the other.
-pub(crate) fn find_bases<H: Host>(h: &mut H, frames: u32, wanted: &[u64]) -> Result<Bases, HostFault>
+pub(crate) fn find_bases<H: Host>(
+    h: &mut H,
+    frames: u32,
+    wanted: &[u64],
+) -> Result<Bases, HostFault>
     requires few { frames ≤ MAX_FRAMES }
     requires table { tables_end frames ≤ (H.counts h.old).size }
     requires few_puddles { length wanted.now ≤ MAX_PUDDLES }

@@ -90,10 +90,7 @@ fn in_records(types: &[(u32, u64)], records: &[u32]) -> NewTypes
 
 /// The types of a file that are not defined, by ascending ids, each with a free record, the lowest ones in order. `Clash` comes exactly where a type
 /// of the file is defined with another map, and `Full` exactly where none is but too few records are free.
-pub(crate) fn find_types<H: Host>(
-    h: &mut H,
-    view: &FileView<'_>,
-) -> Result<NewTypes, PlaceFault>
+pub(crate) fn find_types<H: Host>(h: &mut H, view: &FileView<'_>) -> Result<NewTypes, PlaceFault>
     requires { POOL_TABLE ≤ (H.counts h.old).size }
     ensures refusal { H.tells → (image : Image) → reads (H.state h.old).now.words ≡ image → place_fault result ≡ Option.None
         → refusal_in result ≡ types_refusal image (types_held view.now) }

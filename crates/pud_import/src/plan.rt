@@ -173,7 +173,7 @@ pub(crate) fn find_plan<H: Host>(
         → (file : FileContents) → file_graph view.now ≡ Option.Some file → pool_in (tables_of frames image) name ≡ Option.None → refusal_in result ≡ refusal_by frames image file }
     ensures placed { H.tells → (image : Image) → reads (H.state h.old).now.words ≡ image → pool_in (tables_of frames image) name ≡ Option.None → (uid : ℕ) (gid : ℕ) (mode : ℕ)
         → IfOk result (λ plan. IsPlacedFor frames image (types_held view.now) (map (λ d. d.base) (stored_held view.now).puddles) plan.slot
-            (new_record name uid gid mode (image NEXT_NUMBER_WORD)) plan.types.items plan.puddles.items) }
+        (new_record name uid gid mode (image NEXT_NUMBER_WORD)) plan.types.items plan.puddles.items) }
     ensures number { H.tells → (image : Image) → reads (H.state h.old).now.words ≡ image → IfOk result (λ plan. plan.number ≡ image NEXT_NUMBER_WORD) }
     ensures rising { H.tells → IfOk result (λ plan. FramesRise plan.puddles.items) }
     ensures slot { IfOk result (λ plan. plan.slot < POOL_RECORDS) }

@@ -1,8 +1,7 @@
-use Rattle.std.proofs.Common.{ℕ, List, ◌≡◌, length, subst, rules}
+use Rattle.std.proofs.Common.{ℕ, ◌≡◌, length, subst, rules}
 use Rattle.pm_model.specs.Changes.{placed, Persists}
 use Rattle.pm_model.specs.Counts.{fault_of}
 use Rattle.pud_defs.specs.declared.layout.TheConstants.{FRAME_WORDS}
-use Rattle.pud_defs.specs.Frames.{frame_at}
 use Rattle.pud_import.specs.Contents.{stored_held}
 use Rattle.pud_import.specs.Filling.{filled_value}
 use Rattle.pud_import.proofs.FilledFrames.{FillsFrame-persisted}

@@ -1,6 +1,5 @@
 use Rattle.std.proofs.Common.{◌≡◌, None}
 use Rattle.pm_model.specs.Changes.{Changes}
-use Rattle.pm_model.specs.Counts.{Counts}
 use Rattle.pud_import.specs.Contents.{stored_held}
 use Rattle.pud_import.specs.Filling.{ByFrames}
 use Rattle.pud_import.specs.Places.{FramesRise}

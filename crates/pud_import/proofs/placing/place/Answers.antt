@@ -53,8 +53,8 @@ returns-in_err-fill_frames-clause-commits g c =
     let stays = c.in_ok-plan.ensures.only_reads.stays t in
     let own = types_of_file view file held in
     let is = placed_lists F image (types_held view) file.types (map (λ d. d.base) (stored_held view).puddles) p.slot (new_record c.args.name c.args.uid c.args.gid c.args.mode (image NEXT_NUMBER_WORD))
-        c.in_ok-plan.plan.types.items types c.in_ok-plan.plan.puddles.items puddles own.0 c.as_slice-types.ensures.value c.as_slice-puddles.ensures.value
-        (c.in_ok-plan.ensures.placed t image same absent c.args.uid c.args.gid c.args.mode) in
+    c.in_ok-plan.plan.types.items types c.in_ok-plan.plan.puddles.items puddles own.0 c.as_slice-types.ensures.value c.as_slice-puddles.ensures.value
+    (c.in_ok-plan.ensures.placed t image same absent c.args.uid c.args.gid c.args.mode) in
     inr (PlacesSomewhere-unfilled F image (stored_held view) file.types c.args.name c.args.uid c.args.gid c.args.mode p is c.in_err-fill_frames.field-0.0 old mid
     (subst (λ (s : State). Changes (ByFrames F puddles) (Some c.in_err-fill_frames.field-0.0) s mid) stays (c.in_err-fill_frames.ensures.changes t))))
 
@@ -73,8 +73,8 @@ returns-in_err-fill_frames-clause-places g c =
     let image = reads old.now.words in
     let own = types_of_file view file held in
     let is = placed_lists F image (types_held view) file.types (map (λ d. d.base) (stored_held view).puddles) p.slot (new_record c.args.name c.args.uid c.args.gid c.args.mode (image NEXT_NUMBER_WORD))
-        c.in_ok-plan.plan.types.items types c.in_ok-plan.plan.puddles.items puddles own.0 c.as_slice-types.ensures.value c.as_slice-puddles.ensures.value
-        (c.in_ok-plan.ensures.placed t image refl may.absent c.args.uid c.args.gid c.args.mode) in
+    c.in_ok-plan.plan.types.items types c.in_ok-plan.plan.puddles.items puddles own.0 c.as_slice-types.ensures.value c.as_slice-puddles.ensures.value
+    (c.in_ok-plan.ensures.placed t image refl may.absent c.args.uid c.args.gid c.args.mode) in
     ChangesPools-unfilled_import size s F c.args.name c.args.uid c.args.gid c.args.mode file (stored_held view) mask p old mid (file_held view file held) _ c.in_err-fill_frames.field-0.0 may is
     (subst (λ (s : State). Changes (ByFrames F puddles) (Some c.in_err-fill_frames.field-0.0) s mid) stays (c.in_err-fill_frames.ensures.changes t)))
 
@@ -103,8 +103,8 @@ returns-in_err-place_pool-clause-commits g c =
     let new = g.H.Host.state c.place_pool.new.h in
     let own = types_of_file view file held in
     let is = placed_lists F image (types_held view) file.types (map (λ d. d.base) (stored_held view).puddles) p.slot (new_record c.args.name c.args.uid c.args.gid c.args.mode (image NEXT_NUMBER_WORD))
-        c.in_ok-plan.plan.types.items types c.in_ok-plan.plan.puddles.items puddles own.0 c.as_slice-types.ensures.value c.as_slice-puddles.ensures.value
-        (c.in_ok-plan.ensures.placed t image same absent c.args.uid c.args.gid c.args.mode) in
+    c.in_ok-plan.plan.types.items types c.in_ok-plan.plan.puddles.items puddles own.0 c.as_slice-types.ensures.value c.as_slice-puddles.ensures.value
+    (c.in_ok-plan.ensures.placed t image same absent c.args.uid c.args.gid c.args.mode) in
     let filling = subst (λ (s : State). Changes (ByFrames F puddles) None s mid) stays (c.in_ok-fill_frames.ensures.changes t) in
     let rise = subst FramesRise (sym c.as_slice-puddles.ensures.value) (c.in_ok-plan.ensures.rising t) in
     let filled = c.in_ok-fill_frames.ensures.filled t rise refl in
@@ -129,8 +129,8 @@ returns-in_err-place_pool-clause-places g c =
     let image = reads old.now.words in
     let own = types_of_file view file held in
     let is = placed_lists F image (types_held view) file.types (map (λ d. d.base) (stored_held view).puddles) p.slot (new_record c.args.name c.args.uid c.args.gid c.args.mode (image NEXT_NUMBER_WORD))
-        c.in_ok-plan.plan.types.items types c.in_ok-plan.plan.puddles.items puddles own.0 c.as_slice-types.ensures.value c.as_slice-puddles.ensures.value
-        (c.in_ok-plan.ensures.placed t image refl may.absent c.args.uid c.args.gid c.args.mode) in
+    c.in_ok-plan.plan.types.items types c.in_ok-plan.plan.puddles.items puddles own.0 c.as_slice-types.ensures.value c.as_slice-puddles.ensures.value
+    (c.in_ok-plan.ensures.placed t image refl may.absent c.args.uid c.args.gid c.args.mode) in
     let filling = subst (λ (s : State). Changes (ByFrames F puddles) None s mid) stays (c.in_ok-fill_frames.ensures.changes t) in
     let rise = subst FramesRise (sym c.as_slice-puddles.ensures.value) (c.in_ok-plan.ensures.rising t) in
     let filled = c.in_ok-fill_frames.ensures.filled t rise refl in
@@ -164,8 +164,8 @@ returns-clause-commits g c = λ t image same idle file held absent nothing.
     let new = g.H.Host.state c.place_pool.new.h in
     let own = types_of_file view file held in
     let is = placed_lists F image (types_held view) file.types (map (λ d. d.base) (stored_held view).puddles) p.slot (new_record c.args.name c.args.uid c.args.gid c.args.mode (image NEXT_NUMBER_WORD))
-        c.in_ok-plan.plan.types.items types c.in_ok-plan.plan.puddles.items puddles own.0 c.as_slice-types.ensures.value c.as_slice-puddles.ensures.value
-        (c.in_ok-plan.ensures.placed t image same absent c.args.uid c.args.gid c.args.mode) in
+    c.in_ok-plan.plan.types.items types c.in_ok-plan.plan.puddles.items puddles own.0 c.as_slice-types.ensures.value c.as_slice-puddles.ensures.value
+    (c.in_ok-plan.ensures.placed t image same absent c.args.uid c.args.gid c.args.mode) in
     let filling = subst (λ (s : State). Changes (ByFrames F puddles) None s mid) stays (c.in_ok-fill_frames.ensures.changes t) in
     let rise = subst FramesRise (sym c.as_slice-puddles.ensures.value) (c.in_ok-plan.ensures.rising t) in
     let filled = c.in_ok-fill_frames.ensures.filled t rise refl in
@@ -188,8 +188,8 @@ returns-clause-places g c = λ t size same s file mask held may.
     let image = reads old.now.words in
     let own = types_of_file view file held in
     let is = placed_lists F image (types_held view) file.types (map (λ d. d.base) (stored_held view).puddles) p.slot (new_record c.args.name c.args.uid c.args.gid c.args.mode (image NEXT_NUMBER_WORD))
-        c.in_ok-plan.plan.types.items types c.in_ok-plan.plan.puddles.items puddles own.0 c.as_slice-types.ensures.value c.as_slice-puddles.ensures.value
-        (c.in_ok-plan.ensures.placed t image refl may.absent c.args.uid c.args.gid c.args.mode) in
+    c.in_ok-plan.plan.types.items types c.in_ok-plan.plan.puddles.items puddles own.0 c.as_slice-types.ensures.value c.as_slice-puddles.ensures.value
+    (c.in_ok-plan.ensures.placed t image refl may.absent c.args.uid c.args.gid c.args.mode) in
     let filling = subst (λ (s : State). Changes (ByFrames F puddles) None s mid) stays (c.in_ok-fill_frames.ensures.changes t) in
     let rise = subst FramesRise (sym c.as_slice-puddles.ensures.value) (c.in_ok-plan.ensures.rising t) in
     let filled = c.in_ok-fill_frames.ensures.filled t rise refl in

@@ -1,4 +1,4 @@
-use Rattle.std.proofs.Common.{◌≡◌, take}
+use Rattle.std.proofs.Common.{take}
 use Rattle.pud_import.specs.Places.{ArePuddlesAt}
 use Rattle.pud_import.proofs.plan.added_puddles.Given as goal
 

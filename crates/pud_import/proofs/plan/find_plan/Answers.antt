@@ -54,7 +54,7 @@ returns-in_err-puddles-clause-refusal g c =
     let number_read = still_reads c.in_ok-slot.ensures.only_reads t slot_read in
     let puddles_read = still_reads c.in_ok-number.ensures.only_reads t number_read in
     let numbered = ap (λ (n : ℕ). refused_if (nat_lt NUMBER_LIMIT (image NEXT_NUMBER_WORD + numbers_drawn n)) faults.Full) (sym (c.puddles.ensures.counted ∙ own.1))
-        ∙ sym (c.in_ok-number.ensures.refusal t image number_read refl) in
+    ∙ sym (c.in_ok-number.ensures.refusal t image number_read refl) in
     refused_by_space c.args.frames image file typed slotted _ numbered
     (c.in_err-puddles.ensures.refusal t image puddles_read none
     ∙ ap (λ (n : ℕ). refused_if (nat_lt c.args.frames (count_used (tables_of c.args.frames image).puddles 0 c.args.frames + n)) faults.NoSpace) own.1))
@@ -68,7 +68,7 @@ returns-clause-refusal g c = λ t image same none file held absent.
     let number_read = still_reads c.in_ok-slot.ensures.only_reads t slot_read in
     let puddles_read = still_reads c.in_ok-number.ensures.only_reads t number_read in
     let numbered = ap (λ (n : ℕ). refused_if (nat_lt NUMBER_LIMIT (image NEXT_NUMBER_WORD + numbers_drawn n)) faults.Full) (sym (c.puddles.ensures.counted ∙ own.1))
-        ∙ sym (c.in_ok-number.ensures.refusal t image number_read refl) in
+    ∙ sym (c.in_ok-number.ensures.refusal t image number_read refl) in
     refused_by_space c.args.frames image file typed slotted _ numbered
     (c.in_ok-puddles.ensures.refusal t image puddles_read refl
     ∙ ap (λ (n : ℕ). refused_if (nat_lt c.args.frames (count_used (tables_of c.args.frames image).puddles 0 c.args.frames + n)) faults.NoSpace) own.1)
