@@ -107,11 +107,10 @@ off_placing w held mask words holds file types name uid gid mode = record {
       let F = w.stored.frames in
       let image = reads words in
       let r = new_record name uid gid mode (image NEXT_NUMBER_WORD) in
-      let wanted = map (λ d. d.base) file.puddles in
-      (
+      let wanted = map (λ d. d.base) file.puddles in (
         IsOff-each mask (ByFrames F p.puddles) (λ k v may. free_frame_unmasked w held mask words holds k (frame_words F image types wanted p.slot r p is k v may)),
         IsOff-each mask (ByBatch DAEMON_LOG (puts_batch (placing p.slot r p.types p.puddles)))
-        (λ k v may. free_unmasked w held mask words holds k (placing_words F image types wanted p.slot r p.types p.puddles is k v may)),
+            (λ k v may. free_unmasked w held mask words holds k (placing_words F image types wanted p.slot r p.types p.puddles is k v may)),
       );
 }
 
@@ -122,8 +121,7 @@ pub off_used : (F frame : ℕ) (image : Image) (m : Member) → frame < F → (t
 off_used F frame image m below used mask record_words file types name uid gid mode = record {
   each = λ p is.
       let r = new_record name uid gid mode (image NEXT_NUMBER_WORD) in
-      let wanted = map (λ d. d.base) file.puddles in
-      (
+      let wanted = map (λ d. d.base) file.puddles in (
         record {
           apart = λ k x v masked may.
               let of = record_words k x masked in

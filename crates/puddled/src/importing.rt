@@ -43,11 +43,7 @@ fn reply_of(done: Result<(), PlaceFault>) -> Result<Reply, HostFault>
 }
 
 /// What the host gives of the file on the shelf whose name is this one without the zeros that fill it, or None where there is none.
-fn get_file<H: Host>(
-    alloc: Global,
-    h: &mut H,
-    file: Name,
-) -> Result<Option<Vec<u8>>, FileFault>
+fn get_file<H: Host>(alloc: Global, h: &mut H, file: Name) -> Result<Option<Vec<u8>>, FileFault>
     requires { IsTrue (is_legal_name file) }
     ensures found { H.tells → IfOk result (λ found.
         option_map (λ bytes. bytes.items) found ≡ option_map (take FILE_READ_LIMIT) ((H.state h.old).shelf (name_text file))) }

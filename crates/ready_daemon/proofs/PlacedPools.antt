@@ -286,7 +286,7 @@ module _ (F : ℕ) (image : Image) (file : List (ℕ × ℕ)) (wanted : List ℕ
       (others_by F other slot (tables_of F mid) puddles apart (λ o a there. (
         (is.members o a there).0,
         let at = placed_frame F image file wanted slot r types puddles is o a there in
-        puddles_same F image mid kept a.frame (their_frame o a there).1 ∙ at.free,
+            puddles_same F image mid kept a.frame (their_frame o a there).1 ∙ at.free,
       )))
       ∙ ap (member_of other f) (puddles_same F image mid kept f below)
 

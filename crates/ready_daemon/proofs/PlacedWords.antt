@@ -130,9 +130,10 @@ module _ (F : ℕ) (t : Tables) (frames : t.frames ≡ F) where
   record_words [] free = tt
   record_words (a ∷ puddles) free =
       let here = free 0 a refl in
-      let below = here.below in
-      (λ k low high. inr (inr (record { frame = a.frame; below = omega (arith, frames); free = here.free; within = record { low = low; high = omega arith } })),
-      record_words puddles (λ o b there. free (suc o) b there))
+      let below = here.below in (
+        λ k low high. inr (inr (record { frame = a.frame; below = omega (arith, frames); free = here.free; within = record { low = low; high = omega arith } })),
+        record_words puddles (λ o b there. free (suc o) b there),
+      )
 
 module _ (F : ℕ) (image : Image) (file : List (ℕ × ℕ)) (wanted : List ℕ) (slot : ℕ) (r : PoolRec) (types : List NewType) (puddles : List Added) (is : IsPlacedFor F image file wanted slot r types puddles) where
   abbrev t : Tables
@@ -152,8 +153,7 @@ module _ (F : ℕ) (image : Image) (file : List (ℕ × ℕ)) (wanted : List ℕ
   placed_words : AreWords (IsFreeWord F t) (placing slot r types puddles)
   placed_words =
       AreWords-append (IsFreeWord F t) (map new_type_put types) (pool_put slot r ∷ adding (r.number + (1 + length puddles)) puddles)
-      (type_words F t (frames_of_tables F image) (type_at image) 0 types is.records (omega arith))
-      (
+      (type_words F t (frames_of_tables F image) (type_at image) 0 types is.records (omega arith)) (
         λ k low high. inr (inl (record { slot = slot; below = placed_slot.0; free = placed_slot.1; within = record { low = low; high = omega arith } })),
         (λ k low high. inl (omega arith), record_words F t (frames_of_tables F image) puddles placed_frame),
       )
