@@ -57,6 +57,14 @@ module _ (at : List (ℕ × Puddle)) (o : ℕ) where
   pub HaveMoved-finished : HaveMoved at (finished_at o at)
   HaveMoved-finished = moved_by (slice_get at o) refl
 
+  other_by : (found : Option (ℕ × Puddle)) (i : ℕ) → (i ≡ o → ⊥) → slice_get (then found) i ≡ slice_get at i
+  other_by None i apart = refl
+  other_by (Some e) i apart = slice_get-set_other at o i (e.0, moved_to (e.1.frontier + steps_left e.1) e.1) apart
+
+  -- the others stay
+  pub finished-other : (i : ℕ) → (i ≡ o → ⊥) → slice_get (finished_at o at) i ≡ slice_get at i
+  finished-other = other_by (slice_get at o)
+
   low_by : (F : ℕ) → HasLowBases at → (found : Option (ℕ × Puddle)) → slice_get at o ≡ found → HasLowBases (then found)
   low_by F low None here = low
   low_by F low (Some e) here = low_bases-steps F at o (e.1.frontier + steps_left e.1) e here low
@@ -146,7 +154,7 @@ one_or_none true near far below = below
 one_or_none false near far below = omega arith
 
 -- nor is that of one of them alone
-one_no_lower : (at later : List (ℕ × Puddle)) (o : ℕ) → HaveMoved at later → (i : ℕ) → frontier_at o at i ≤ frontiers_of later i
+pub one_no_lower : (at later : List (ℕ × Puddle)) (o : ℕ) → HaveMoved at later → (i : ℕ) → frontier_at o at i ≤ frontiers_of later i
 one_no_lower at later o moved i = one_or_none (i == o) (frontiers_of at i) (frontiers_of later i) (frontiers_no_lower at later moved i)
 
 module _ (F o : ℕ) (at : List (ℕ × Puddle)) where

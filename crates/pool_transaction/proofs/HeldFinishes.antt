@@ -3,6 +3,7 @@ use Rattle.std.proofs.Common.{◌≡◌, ℕ, ◌+◌, ◌%◌, ◌^◌, ◌<◌
 use Rattle.std.specs.Prelude.{slice_get}
 use Rattle.std.proofs.lemmas.Bool.{and_parts, leb-true, ltb-true}
 use Rattle.std.proofs.lemmas.List.{get_or-set_same, length-map}
+use Rattle.std.proofs.lemmas.Option.{none-some}
 use Rattle.std.proofs.lemmas.List.Elements.{All-weaker}
 use Rattle.pm_model.specs.declared.host.HostFault.{HostFault}
 use Rattle.pm_model.specs.Words.{reads}
@@ -33,15 +34,16 @@ use Rattle.hybrid_tx.specs.Grounds.{IsPlaced, IsRewrittenAt}
 use Rattle.ready_daemon.specs.Memory.{Held, Memory, held_under}
 use Rattle.ready_daemon.specs.Held.{IsHeld}
 use Rattle.ready_daemon.specs.Judged.{known_in}
-use Rattle.ready_daemon.specs.Moves.{Stays, MovesTo, MovesOn, led_in}
+use Rattle.ready_daemon.specs.Moves.{MovesTo, led_in}
 use Rattle.ready_daemon.specs.Ready.{IsReady, AppliesBy, Applies}
-use Rattle.ready_daemon.proofs.Applying.{Applies-closed, AppliesBy-then, AppliesBy-weaker}
-use Rattle.ready_daemon.proofs.Goals.{led_further, Joins-led_stays}
 use Rattle.ready_daemon.proofs.Beneath.{ready_gate}
 use Rattle.ready_daemon.proofs.InTurn.{held_known, known_in_turn}
 use Rattle.ready_daemon.proofs.JudgedOpen.{known_within}
 use Rattle.ready_daemon.proofs.TablesBeside.{sound_read}
 use Rattle.pool_transaction.specs.Changing.{both_finished}
+use Rattle.pool_transaction.specs.Finishing.{AppliesTo}
+use Rattle.pool_transaction.proofs.Arriving.{AreEnds, AppliesBy-used, narrowed, arrives_known}
+use Rattle.pool_transaction.proofs.Leading.{AppliesTo-closed, AppliesTo-stays}
 use Rattle.pool_transaction.proofs.FinishedPools.{HasLegalFrontiers, HasNoneLeft, first_finished, other_finished, both_finished-none, Rewrites-none_left}
 use Rattle.pool_transaction.proofs.HeldRuns.{is_held, held_placed}
 use Rattle.pool_transaction.proofs.Rewriting.{Applies-rewrites}
@@ -120,15 +122,35 @@ module _ (size : ℕ) (w : World) (memory : Memory) (held : Held) (old : State) 
       does : Rewrites F goal at later fault old mid
       does = owes (ready_gate size w memory old ready) (low_of_placed F at its_placed)
 
-      -- frontiers of its pool alone move
-      pub Applies-finished : AppliesBy (MovesOn held.slot) size w w memory_finished fault old mid
-      Applies-finished =
-          AppliesBy-weaker (MovesTo (led_in held.slot (upto goal))) (MovesOn held.slot) (led_further held.slot (upto goal) (λ _. LAST_FRONTIER) (λ o. omega arith)) size w w memory_finished fault old mid
-          (Applies-rewrites size w memory held.slot at later goal fault old mid ready is.pool.slot known (subst (λ (n : ℕ). Rewrites n goal at later fault old mid) same does))
+      -- frontiers of its pool alone move, towards these
+      Applies-finished : AppliesBy (MovesTo (led_in held.slot (upto goal))) size w w memory_finished fault old mid
+      Applies-finished = Applies-rewrites size w memory held.slot at later goal fault old mid ready is.pool.slot known (subst (λ (n : ℕ). Rewrites n goal at later fault old mid) same does)
 
-    -- one of them failed, of a line that leaves the stored world
-    pub Applies-unfinished : (fault : HostFault) (mid : State) → OwesRewrites (Some fault) mid → (next : World) (behind : Memory) → closed w ≡ closed next → AppliesBy (MovesOn held.slot) size w next behind (Some fault) old mid
-    Applies-unfinished fault mid owes next behind stored = Applies-closed size w w next memory_finished behind fault old mid stored (Applies-finished (Some fault) mid owes)
+    -- to ends that are goals
+    module _ (final : List (ℕ × Puddle)) (target : ℕ → ℕ) (ends : AreEnds at final (upto goal) target) where
+      AppliesTo-finished : (fault : Option HostFault) (mid : State) → OwesRewrites fault mid → (fault ≡ None → later ≡ final) → AppliesTo (led_in held.slot target) size w w memory_finished fault old mid
+      AppliesTo-finished fault mid owes all =
+          let applies = AppliesBy-used (MovesTo (led_in held.slot (upto goal))) (MovesTo (led_in held.slot target)) size w w memory_finished fault old mid
+          (narrowed size w memory old ready held.slot is.pool.slot at known target final ends.reached (upto goal) ends.near) (Applies-finished fault mid owes) in
+          record {
+            applies = applies;
+            arrives = λ done.
+                arrives_known size w memory old ready held.slot is.pool.slot at known target final ends.reached w memory_finished mid refl
+                (get_or-set_same memory.judged held.slot (Some later) None (known_within memory.judged held.slot at known) ∙ ap (λ (ps : List (ℕ × Puddle)). Some ps) (all done))
+                (subst (λ (f : Option HostFault). AppliesBy (MovesTo (led_in held.slot target)) size w w memory_finished f old mid) done applies);
+          }
+
+      -- one of them failed, of a line that leaves the stored world
+      pub Applies-unfinished : (fault : HostFault) (mid : State) → OwesRewrites (Some fault) mid → (next : World) (behind : Memory) → closed w ≡ closed next
+          → AppliesTo (led_in held.slot target) size w next behind (Some fault) old mid
+      Applies-unfinished fault mid owes next behind stored =
+          AppliesTo-closed held.slot target size w w next memory_finished behind fault old mid stored (AppliesTo-finished (Some fault) mid owes (λ done. absurd (none-some fault (sym done))))
+
+      -- or then the line goes on
+      pub Applies-behind : (mid : State) → OwesRewrites None mid → later ≡ final → (next : World) (behind : Memory) (fault : Option HostFault) (new : State) → closed w ≡ closed next
+          → Applies size w next behind fault mid new → AppliesTo (led_in held.slot target) size w next behind fault old new
+      Applies-behind mid owes all next behind fault new stored later_does =
+          AppliesTo-stays held.slot target size w next memory_finished behind fault old mid new stored (AppliesTo-finished None mid owes (λ done. all)) later_does
 
     module _ (mid : State) (owes : OwesRewrites None mid) where
       pub ready_finished : IsReady size w memory_finished mid
@@ -140,12 +162,6 @@ module _ (size : ℕ) (w : World) (memory : Memory) (held : Held) (old : State) 
 
       pub spared_finished : SparesObjects F at later (reads old.now.words) (reads mid.now.words)
       spared_finished = Rewrites-spare F goal at later old mid (does None mid owes) its_frames
-
-      -- and then the line goes on
-      pub Applies-behind : (next : World) (behind : Memory) (fault : Option HostFault) (new : State) → closed w ≡ closed next → Applies size w next behind fault mid new → AppliesBy (MovesOn held.slot) size w next behind fault old new
-      Applies-behind next behind fault new stored later_does =
-          AppliesBy-then (MovesOn held.slot) Stays (MovesOn held.slot) (Joins-led_stays held.slot (λ _. LAST_FRONTIER)) size w w next memory_finished behind fault old mid new stored refl (Applies-finished None mid owes)
-          later_does
 
       -- a free slot is free still
       pub may_make_at : (slot : Slot) → later ≡ both_finished slot.ordinal at → IsLowestFreeSlot (stored_in F at (reads old.now.words)) (place_of_slot slot) → MayMakeAt F later (reads mid.now.words) slot

@@ -6,7 +6,7 @@ use Rattle.std.specs.Cmp.{tied_itself}
 use Rattle.std.specs.Cmp.Lexicographic.{nat_list_cmp_total}
 use Rattle.std.specs.Ordering.{is_eq}
 use Rattle.std.proofs.lemmas.Bool.{cases_lt, cond-true}
-use Rattle.std.proofs.lemmas.List.{length_push}
+use Rattle.std.proofs.lemmas.List.{length_push, length-map}
 use Rattle.std.proofs.lemmas.Option.{none-some, same_Some, slice_get_within}
 use Rattle.pm_model.specs.declared.host.HostFault.{HostFault}
 use Rattle.pm_model.specs.declared.host.HostFault.TheVariants.{Cut}
@@ -28,7 +28,7 @@ use Rattle.pud_defs.specs.SoundTables.{HasSoundTables}
 use Rattle.pud_defs.specs.Spaces.{owner_of}
 use Rattle.pud_defs.specs.Step.{graph_in}
 use Rattle.pud_defs.specs.Tables.{Tables, Pool, tables_of, puddles_in_turn}
-use Rattle.pud_defs.specs.Stored.{stored_in}
+use Rattle.pud_defs.specs.Stored.{Stored, stored_in, word_in_frame}
 use Rattle.pud_defs.specs.Types.{map_of, types_of}
 use Rattle.pud_defs.specs.World.{StoredWorld, World}
 use Rattle.pud_defs.proofs.PoolMembers.{IsMemberOf, HasMembers, members_in_turn}
@@ -51,7 +51,12 @@ use Rattle.registry.proofs.PuddlesCounted.{puddle_count_by_world}
 use Rattle.registry.proofs.Moved.{ReadsWorld, reads_world}
 use Rattle.hybrid_tx.specs.Open.ManyOpen.{OpenTransaction, Opens, with_transaction, IsOneMore}
 use Rattle.hybrid_tx.proofs.Open.ManyIdle.{one_ended, one_put}
-use Rattle.pud_defs.specs.Geometry.{steps_of}
+use Rattle.pud_defs.specs.declared.space.TheConstants.{SLOT_SERIAL_WORD}
+use Rattle.pud_defs.specs.Frames.{frame_at}
+use Rattle.pud_defs.specs.Geometry.{steps_of, ordinal_of, slot_of, puddle_slot_at}
+use Rattle.graph_laws.proofs.StoredImages.{stored_in-same}
+use Rattle.hybrid_tx.proofs.PoolGrounds.{pool_mine-from}
+use Rattle.pool_transaction.specs.Finishing.{IsLonger}
 use Rattle.ready_daemon.proofs.RestBeside.{rest_by_words, held_graph}
 use Rattle.ready_daemon.specs.Memory.{Held, Memory, held_under}
 use Rattle.ready_daemon.specs.Held.{open_held, IsHeld, IsHeldUnder, Holds, HasDurableFrames, ByOthers, IsBeside}
@@ -431,6 +436,30 @@ module _ (size : ℕ) (w : World) (memory : Memory) (held : Held) (old : State) 
           knows = subst (λ (n : ℕ). KnowsPools n (set memory.judged held.slot (Some at)) (with_transaction number (Some more) ready.held.opens) (reads words)) (sym same) knows_then;
         }
 
+    -- its frames are as they were
+    stored_then : stored_in F is.at (reads words) ≡ stored_in F is.at image
+    stored_then =
+        stored_in-same F is.at image (reads words)
+        (record {
+          each = λ o k d here below.
+              words_grow F a old new (within by) by.puddle.frame commits held.slot is.at (held_graph size w memory old ready number held there) (frame_at F d.0 + k)
+              (pool_mine-from F is.at (frame_at F d.0 + k) (record { ordinal = o; puddle = d; there = here; low = omega arith; high = omega arith }));
+        })
+
+    word_longer : (o k : ℕ) → o < length is.at → (stored_in F at (reads words)).word o k ≡ (stored_in F is.at image).word o k
+    word_longer o k low = ap (word_in_frame F (reads words) k) (slice_get-front is.at (e ∷ []) o low) ∙ ap (λ (st : Stored). st.word o k) stored_then
+
+    -- so each slot in which an object lived has one still
+    longer : IsLonger F is.at at image (reads words)
+    longer = record {
+      count = length_push is.at e;
+      live = λ p low live. let below : ordinal_of p < length is.at = omega (arith, low, length-map is.at (λ (x : ℕ × Puddle). x.1)) in
+          λ none. live (sym (word_longer (ordinal_of p) (puddle_slot_at (slot_of p) + SLOT_SERIAL_WORD) below) ∙ none);
+    }
+
+    pub IsLonger-wide : (puddles : List (ℕ × Puddle)) → puddles ≡ puddles_in_turn t held.slot → IsLonger F is.at puddles image (reads words)
+    IsLonger-wide puddles scanned = subst (λ (ps : List (ℕ × Puddle)). IsLonger F is.at ps image (reads words)) (sym (scanned ∙ listed_then)) longer
+
     -- whatever a scan gives
     pub Applies-wide : (puddles : List (ℕ × Puddle)) → puddles ≡ puddles_in_turn t held.slot → Applies size w next (with_opened number held.slot held puddles memory) None old new
     Applies-wide puddles scanned =
@@ -478,3 +507,12 @@ module _ (size : ℕ) (w : World) (memory : Memory) (held : Held) (old : State) 
         subst (λ (s : State). Applies size w next (with_opened number held.slot held puddles memory) None old s) (sym still)
         (Applies-wide by_world mid (growth_there None mid grows) (worlds_there None mid worlds) puddles
         (subst (λ (m : ℕ). puddles ≡ puddles_in_turn (tables_of m (reads mid.now.words)) held.slot) same scanned))
+
+    pub grows_longer : (puddles : List (ℕ × Puddle)) (mid new : State) → OwesGrowth n None mid → OwesWorld n None mid → new ≡ mid → puddles ≡ puddles_in_turn (tables_of n (reads mid.now.words)) held.slot
+        → IsLonger n pool puddles image (reads new.now.words)
+    grows_longer puddles mid new grows worlds still scanned =
+        subst (λ (m : ℕ). IsLonger m pool puddles image (reads new.now.words)) (sym same)
+        (subst (λ (ps : List (ℕ × Puddle)). IsLonger F ps puddles image (reads new.now.words)) (held_known size w memory old ready number held there pool known)
+        (subst (λ (s : State). IsLonger F is.at puddles image (reads s.now.words)) (sym still)
+        (IsLonger-wide by_world mid (growth_there None mid grows) (worlds_there None mid worlds) puddles
+        (subst (λ (m : ℕ). puddles ≡ puddles_in_turn (tables_of m (reads mid.now.words)) held.slot) same scanned))))

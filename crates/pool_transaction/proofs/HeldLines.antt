@@ -6,7 +6,6 @@ use Rattle.pm_model.specs.declared.host.HostFault.{HostFault}
 use Rattle.pm_model.specs.declared.host.HostFault.TheVariants.{Cut}
 use Rattle.pm_model.specs.Words.{IsRested, reads}
 use Rattle.pm_model.specs.Moments.{State}
-use Rattle.pud_defs.specs.declared.space.TheConstants.{LAST_FRONTIER}
 use Rattle.pud_defs.specs.declared.machine.Command.{Command}
 use Rattle.pud_defs.specs.declared.machine.Command.TheVariants.{New}
 use Rattle.pud_defs.specs.declared.machine.Reply.TheVariants as replies
@@ -21,15 +20,15 @@ use Rattle.ready_daemon.specs.Judged.{known_in}
 use Rattle.ready_daemon.specs.Memory.{Held, Memory, held_under, with_held}
 use Rattle.registry.specs.declared.adding.Added.{Added}
 use Rattle.pool_transaction.specs.Changing.{IsHeldIn, with_opened, refusal_by_tables, GrowsBy, refusal_by_world, with_more, with_made}
-use Rattle.ready_daemon.specs.Moves.{Stays, MovesOn, MovesUnless}
-use Rattle.ready_daemon.specs.Ready.{IsReady, AppliesBy, Applies}
-use Rattle.ready_daemon.proofs.Applying.{Applies-refused, Applies-stopped, Applies-closed, AppliesBy-then, still_line, moving_line}
-use Rattle.ready_daemon.proofs.Goals.{led_stays}
-use Rattle.ready_daemon.proofs.PuddlesLeft.{Joins-stays}
+use Rattle.ready_daemon.specs.Moves.{led_in}
+use Rattle.ready_daemon.specs.Ready.{IsReady, Applies}
+use Rattle.ready_daemon.proofs.Applying.{Applies-refused, Applies-stopped, Applies-closed}
 use Rattle.ready_daemon.proofs.InTurn.{held_known}
 use Rattle.ready_daemon.proofs.JudgedOpen.{known_within}
 use Rattle.ready_daemon.proofs.HeldUnder.{held_within, held_here, held_same}
+use Rattle.pool_transaction.specs.Finishing.{FinishesUnless, AppliesTo, AppliesFinishing}
 use Rattle.pool_transaction.proofs.HeldGrows.{grown_frames}
+use Rattle.pool_transaction.proofs.Leading.{AppliesTo-then, finishing_failed, finishing_refused, finishing_unless, finishing_stopped}
 use Rattle.pool_transaction.proofs.HeldNew.{refused_less, refused_more, answer_new, world_less, world_more, serial_is_some, grown_less, grown_refusal, grown_next}
 
 -- what is known already of a pool may be kept once more
@@ -62,52 +61,47 @@ module _ (size : ℕ) (w : World) (memory : Memory) (held : Held) (old : State) 
   same_memory : (at : List (ℕ × Puddle)) → known_in memory.judged held.slot ≡ Some at → memory_with held at ≡ memory
   same_memory at known = memory_on held at known ∙ held_same memory number held there
 
-  -- what the line owes
-  abbrev pub AppliesNew : Held → List (ℕ × Puddle) → Option HostFault → State → Type 0
-  AppliesNew behind at fault new = AppliesBy (MovesUnless (refusal_of w line) held.slot) size w given (memory_with behind at) fault old new
-
-  -- where no frontier moves the line owes no more
-  new_still : (behind : Held) (at : List (ℕ × Puddle)) (fault : Option HostFault) (new : State) → Applies size w given (memory_with behind at) fault old new → AppliesNew behind at fault new
-  new_still behind at fault new = still_line (refusal_of w line) held.slot size w given (memory_with behind at) fault old new
-
-  -- and where it is not refused
-  new_moving : (behind : Held) (at : List (ℕ × Puddle)) (fault : Option HostFault) (new : State) → refusal_of w line ≡ None → AppliesBy (MovesOn held.slot) size w given (memory_with behind at) fault old new
-      → AppliesNew behind at fault new
-  new_moving behind at fault new = moving_line (refusal_of w line) held.slot size w given (memory_with behind at) fault old new
+  -- what the line owes, with such goals
+  abbrev pub AppliesNew : ((ℕ → ℕ) → Type 0) → Held → List (ℕ × Puddle) → Option HostFault → State → Type 0
+  AppliesNew finishes behind at fault new = AppliesFinishing held.slot (FinishesUnless (refusal_of w line) finishes) size w given (memory_with behind at) fault old new
 
   -- a reading failed
-  pub new_failed : (behind : Held) (at : List (ℕ × Puddle)) (fault : HostFault) (new : State) → new ≡ old → (Some fault ≡ Some Cut → ⊥) → AppliesNew behind at (Some fault) new
-  new_failed behind at fault new same never_cut =
-      new_still behind at (Some fault) new (Applies-stopped size w given memory (memory_with behind at) fault old new ready same (λ cut. absurd (never_cut cut)))
+  pub new_failed : (finishes : (ℕ → ℕ) → Type 0) (behind : Held) (at : List (ℕ × Puddle)) (fault : HostFault) (new : State) → new ≡ old → (Some fault ≡ Some Cut → ⊥) → AppliesNew finishes behind at (Some fault) new
+  new_failed finishes behind at fault new same never_cut =
+      finishing_failed held.slot (FinishesUnless (refusal_of w line) finishes) size w given (memory_with behind at) fault old new never_cut
+      (Applies-stopped size w given memory (memory_with behind at) fault old new ready same (λ cut. absurd (never_cut cut)))
 
   -- it is refused
-  pub new_refused : (r : Refusal) (at : List (ℕ × Puddle)) (new : State) → known_in memory.judged held.slot ≡ Some at → refusal_of w line ≡ Some r → new ≡ old → AppliesNew held at None new
-  new_refused r at new known refused same =
-      new_still held at None new (subst (λ (m : Memory). Applies size w given m None old new) (sym (same_memory at known)) (Applies-refused size w memory line r old new ready refused same))
+  pub new_refused : (finishes : (ℕ → ℕ) → Type 0) (r : Refusal) (at : List (ℕ × Puddle)) (new : State) → known_in memory.judged held.slot ≡ Some at → refusal_of w line ≡ Some r → new ≡ old → AppliesNew finishes held at None new
+  new_refused finishes r at new known refused same =
+      finishing_refused held.slot finishes (refusal_of w line) r refused size w given (memory_with held at) None old new
+      (subst (λ (m : Memory). Applies size w given m None old new) (sym (same_memory at known)) (Applies-refused size w memory line r old new ready refused same))
 
   pub reply_refused : (r : Refusal) → refusal_of w line ≡ Some r → of_reply (replies.No r) ≡ answer_by w (Some line)
   reply_refused r refused = sym (refused_answer w line r refused)
 
   module _ (none : refusal_by_world w held id ≡ None) where
     -- an object was made where a slot is free
-    pub new_made : (behind : Held) (at : List (ℕ × Puddle)) (fault : Option HostFault) (new : State) → grows w held.name ≡ false
-        → AppliesBy (MovesOn held.slot) size w (with_made held.name id w) (memory_with behind at) fault old new → AppliesNew behind at fault new
-    new_made behind at fault new less a =
+    pub new_made : (finishes : (ℕ → ℕ) → Type 0) (behind : Held) (at : List (ℕ × Puddle)) (fault : Option HostFault) (new : State) → grows w held.name ≡ false
+        → AppliesFinishing held.slot finishes size w (with_made held.name id w) (memory_with behind at) fault old new → AppliesNew finishes behind at fault new
+    new_made finishes behind at fault new less a =
         let free = refused_less size w memory held old number there ready id none less in
-        new_moving behind at fault new free
-        (subst (λ (v : World). AppliesBy (MovesOn held.slot) size w v (memory_with behind at) fault old new) (sym (world_less size w memory held old number there ready id free less)) a)
+        finishing_unless held.slot finishes (refusal_of w line) free size w given (memory_with behind at) fault old new
+        (subst (λ (v : World). AppliesFinishing held.slot finishes size w v (memory_with behind at) fault old new) (sym (world_less size w memory held old number there ready id free less)) a)
 
     pub reply_made : (serial : ℕ) → grows w held.name ≡ false → serial ≡ next_in (graph_seen (open_on held.name w) (pool_named held.name w.stored)) → of_reply (replies.Ref serial) ≡ answer_by w (Some line)
     reply_made serial less is =
         ap (λ (n : ℕ). of_reply (replies.Ref n)) is ∙ sym (answer_new size w memory held old number there ready id (refused_less size w memory held old number there ready id none less))
 
     -- its making failed
-    pub new_unmade : (behind : Held) (at : List (ℕ × Puddle)) (fault : HostFault) (new : State)
-        → (grows w held.name ≡ false → AppliesBy (MovesOn held.slot) size w (with_made held.name id w) (memory_with behind at) (Some fault) old new)
-        → (grows w held.name ≡ true → new ≡ old) → (Some fault ≡ Some Cut → IsRested new.now.words) → AppliesNew behind at (Some fault) new
-    new_unmade behind at fault new makes full rests = elim (cases_Bool (grows w held.name)) [
-      | inl more ↦ new_still behind at (Some fault) new (Applies-stopped size w given memory (memory_with behind at) fault old new ready (full more) rests)
-      | inr less ↦ new_made behind at (Some fault) new less (makes less)
+    pub new_unmade : (finishes : (ℕ → ℕ) → Type 0) (goal : ℕ → ℕ) (behind : Held) (at : List (ℕ × Puddle)) (fault : HostFault) (new : State)
+        → (grows w held.name ≡ false → AppliesFinishing held.slot finishes size w (with_made held.name id w) (memory_with behind at) (Some fault) old new) → (grows w held.name ≡ true → finishes goal)
+        → (grows w held.name ≡ true → new ≡ old) → (Some fault ≡ Some Cut → IsRested new.now.words) → AppliesNew finishes behind at (Some fault) new
+    new_unmade finishes goal behind at fault new makes known full rests = elim (cases_Bool (grows w held.name)) [
+      | inl more ↦
+          finishing_stopped held.slot finishes (refusal_of w line) goal (known more) size w given (memory_with behind at) fault old new
+          (Applies-stopped size w given memory (memory_with behind at) fault old new ready (full more) rests)
+      | inr less ↦ new_made finishes behind at (Some fault) new less (makes less)
     ]
 
     -- a serial tells whether a slot was free
@@ -151,9 +145,10 @@ module _ (size : ℕ) (w : World) (memory : Memory) (held : Held) (old : State) 
         has_grown : (pool : List (ℕ × Puddle)) (fault : Option HostFault) (start mid : State) → start ≡ old → OwesMore pool fault start mid → Applies size w grown (memory_with held pool) fault old mid
         has_grown pool fault start mid still grows = subst (λ (s : State). OwesMore pool fault s mid) still grows ready by
 
-        pub new_ungrown : (pool : List (ℕ × Puddle)) (fault : HostFault) (start new : State) → start ≡ old → OwesMore pool (Some fault) start new → AppliesNew held pool (Some fault) new
-        new_ungrown pool fault start new still grows =
-            new_still held pool (Some fault) new
+        pub new_ungrown : (finishes : (ℕ → ℕ) → Type 0) (goal : ℕ → ℕ) → finishes goal → (pool : List (ℕ × Puddle)) (fault : HostFault) (start new : State) → start ≡ old → OwesMore pool (Some fault) start new
+            → AppliesNew finishes held pool (Some fault) new
+        new_ungrown finishes goal so pool fault start new still grows =
+            finishing_stopped held.slot finishes (refusal_of w line) goal so size w given (memory_with held pool) fault old new
             (Applies-closed size w grown given (memory_with held pool) (memory_with held pool) fault old new same_closed (has_grown pool (Some fault) start new still grows))
 
         module _ (pool : List (ℕ × Puddle)) (start mid : State) (still : start ≡ old) (grows_so : OwesMore pool None start mid) where
@@ -176,18 +171,22 @@ module _ (size : ℕ) (w : World) (memory : Memory) (held : Held) (old : State) 
           instead behind later =
               ap₂ (λ (l : List (Option Held)) (js : List (Option (List (ℕ × Puddle)))). record memory { held = l; judged = js }) (set-set memory.held number (Some held) (Some behind)) (set-set memory.judged held.slot (Some pool) (Some later))
 
-          pub new_in_more : (behind : Held) (later : List (ℕ × Puddle)) (fault : Option HostFault) (new : State)
+          pub new_in_more : (late finishes : (ℕ → ℕ) → Type 0) → ((goal : ℕ → ℕ) → late goal → finishes goal) → (behind : Held) (later : List (ℕ × Puddle)) (fault : Option HostFault) (new : State)
               → (IsReady size grown (memory_with held pool) mid → refusal_by_world grown held id ≡ None → grows grown held.name ≡ false
-              → AppliesBy (MovesOn held.slot) size grown (with_made held.name id grown) (with_opened held.number held.slot behind later (memory_with held pool)) fault mid new)
-              → AppliesNew behind later fault new
-          new_in_more behind later fault new makes =
+              → AppliesFinishing held.slot late size grown (with_made held.name id grown) (with_opened held.number held.slot behind later (memory_with held pool)) fault mid new)
+              → AppliesNew finishes behind later fault new
+          new_in_more late finishes so behind later fault new makes =
               let made = makes (after_growth.ready refl) (grown_refusal size w memory held old number there ready id held refl refl none) less_then in
-              new_moving behind later fault new free
-              (subst (λ (v : World). AppliesBy (MovesOn held.slot) size w v (memory_with behind later) fault old new) (sym (world_more size w memory held old number there ready id free more))
-              (AppliesBy-then Stays (MovesOn held.slot) (MovesOn held.slot) (Joins-stays (MovesOn held.slot) (led_stays held.slot (λ _. LAST_FRONTIER))) size w grown (with_made held.name id grown) (memory_with held pool) (memory_with behind later) fault old mid new
-              refl (sym (grown_frames held.name w.stored)) after_growth
-              (subst (λ (m : Memory). AppliesBy (MovesOn held.slot) size grown (with_made held.name id grown) m fault mid new)
-              (ap (λ (n : ℕ). with_opened n held.slot behind later (memory_with held pool)) number_is ∙ instead behind later) made)))
+              finishing_unless held.slot finishes (refusal_of w line) free size w given (memory_with behind later) fault old new
+              (record {
+                goal = made.goal;
+                finishing = λ never. so made.goal (made.finishing never);
+                applies = subst (λ (v : World). AppliesTo (led_in held.slot made.goal) size w v (memory_with behind later) fault old new) (sym (world_more size w memory held old number there ready id free more))
+                    (AppliesTo-then held.slot made.goal size w grown (with_made held.name id grown) (memory_with held pool) (memory_with behind later) fault old mid new
+                    refl (sym (grown_frames held.name w.stored)) after_growth
+                    (subst (λ (m : Memory). AppliesTo (led_in held.slot made.goal) size grown (with_made held.name id grown) m fault mid new)
+                    (ap (λ (n : ℕ). with_opened n held.slot behind later (memory_with held pool)) number_is ∙ instead behind later) made.applies));
+              })
 
           pub reply_in_more : (serial : ℕ) → (IsReady size grown (memory_with held pool) mid → grows grown held.name ≡ false → serial ≡ next_in (graph_seen (open_on held.name grown) (pool_named held.name grown.stored)))
               → of_reply (replies.Ref serial) ≡ answer_by w (Some line)

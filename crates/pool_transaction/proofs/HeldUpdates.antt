@@ -25,10 +25,14 @@ use Rattle.pool_transaction.specs.Changing.{IsHeldIn, with_opened, update_line, 
 use Rattle.ready_daemon.specs.Judged.{known_in}
 use Rattle.ready_daemon.specs.Memory.{Held, Memory}
 use Rattle.ready_daemon.specs.Held.{IsHeld}
-use Rattle.ready_daemon.specs.Moves.{MovesOn}
-use Rattle.ready_daemon.specs.Ready.{IsReady, AppliesBy}
+use Rattle.ready_daemon.specs.Moves.{led_in}
+use Rattle.ready_daemon.specs.Ready.{IsReady}
 use Rattle.ready_daemon.proofs.HeldUnder.{held_same}
 use Rattle.ready_daemon.proofs.InTurn.{held_known}
+use Rattle.pool_transaction.specs.Finishing.{end_of, AppliesTo}
+use Rattle.pool_transaction.proofs.Arriving.{AreEnds}
+use Rattle.pool_transaction.proofs.Leading.{ends_finished}
+use Rattle.pool_transaction.proofs.StepsMoved.{upto}
 use Rattle.pool_transaction.proofs.HeldLines.{known_same}
 use Rattle.pool_transaction.proofs.HeldRuns.{with_tx, is_held}
 use Rattle.pool_transaction.proofs.HeldSets.{same_stored, Applies-line}
@@ -71,10 +75,16 @@ module _ (size : ℕ) (w : World) (memory : Memory) (held : Held) (old : State) 
   abbrev pub Finishes : Option HostFault → Type 0
   Finishes fault = HasIdleGate DAEMON_LOG old.now.words → HasLowBases at → Rewrites F goal at later fault old mid
 
+  its_ends : AreEnds at (finished_at o at) (upto goal) (end_of o)
+  its_ends = ends_finished at o (its_frontiers size w memory held old held.number its.there ready F on at its.known)
+
   -- it failed
-  pub Applies-unfinished_update : (behind : Memory) (fault : HostFault) → Finishes (Some fault) → AppliesBy (MovesOn held.slot) size w next behind (Some fault) old mid
-  Applies-unfinished_update behind fault finishes =
-      Applies-unfinished size w memory held old held.number its.there ready F on at its.known goal later fault mid finishes next behind (same_stored w held.client held.name update)
+  pub Applies-unfinished_update : (found : Found) → o ≡ ordinal_written found → (behind : Memory) (fault : HostFault) → Finishes (Some fault)
+      → AppliesTo (led_in held.slot (end_of (ordinal_written found))) size w next behind (Some fault) old mid
+  Applies-unfinished_update found is behind fault finishes =
+      subst (λ (n : ℕ). AppliesTo (led_in held.slot (end_of n)) size w next behind (Some fault) old mid) is
+      (Applies-unfinished size w memory held old held.number its.there ready F on at its.known goal later (finished_at o at) (end_of o) its_ends fault mid finishes next behind
+      (same_stored w held.client held.name update))
 
   -- or the update is made behind it
   module _ (found : Found) (is : o ≡ ordinal_written found) (finished : later ≡ finished_at o at) (finishes : Finishes None) (lent : List (ℕ × Puddle)) (same : lent ≡ later) where
@@ -96,12 +106,14 @@ module _ (size : ℕ) (w : World) (memory : Memory) (held : Held) (old : State) 
 
     pub Applies-update : (tx : OpenTx) (new : State) → tx.log.at ≡ held.tx.log.at → (done : Result Unit HostFault) → refusal_of w (update_line update held.client held.name) ≡ None
         → IsFoundBy F at (reads old.now.words) update found → CarriesOut F lent found held.tx.log tx.log (fault_of done) mid new → CountsOut F lent held.tx tx done mid
-        → AppliesBy (MovesOn held.slot) size w next (with_opened held.number held.slot (with_tx tx held) later memory) (fault_of done) old new
+        → AppliesTo (led_in held.slot (end_of (ordinal_written found))) size w next (with_opened held.number held.slot (with_tx tx held) later memory) (fault_of done) old new
     Applies-update tx new gate done free by runs counts =
         let listed = same ∙ sym (held_known size w then mid still_ready held.number held its.there later known_then) in
         let one : IsHeld w held still_ready.mask mid.now.words = is_held size w then held mid held.number its.there still_ready in
-        Applies-behind size w memory held old held.number its.there ready F on at its.known goal later mid finishes next (with_opened held.number held.slot (with_tx tx held) later memory) (fault_of done) new
+        subst (λ (n : ℕ). AppliesTo (led_in held.slot (end_of n)) size w next (with_opened held.number held.slot (with_tx tx held) later memory) (fault_of done) old new) is
+        (Applies-behind size w memory held old held.number its.there ready F on at its.known goal later (finished_at o at) (end_of o) its_ends mid finishes finished next
+        (with_opened held.number held.slot (with_tx tx held) later memory) (fault_of done) new
         (same_stored w held.client held.name update)
         (Applies-line size w then held mid held.number its.there still_ready F lent on listed tx new gate update done free
         (λ may placed running. runs w.stored.types one.before one.undone one.transaction update placed rewritten_lent running may (found_lent by))
-        (λ placed running. counts w.stored.types one.before one.undone one.transaction.now one.transaction.laters running))
+        (λ placed running. counts w.stored.types one.before one.undone one.transaction.now one.transaction.laters running)))

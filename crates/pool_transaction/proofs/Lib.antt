@@ -8,8 +8,10 @@ pub mod HeldStepped
 pub mod StepsBeside
 pub mod StepsKept
 pub mod StepsMoved
+pub mod Arriving
 pub mod Rewriting
 pub mod FinishedPools
+pub mod Leading
 pub mod FoundBehind
 pub mod HeldFinishes
 pub mod HeldSets

@@ -1,3 +1,4 @@
 pub mod Changing
 pub mod Refusing
 pub mod Lifetime
+pub mod Finishing

@@ -31,8 +31,9 @@ ghost use Rattle.ready_daemon.specs.Held.{IsHeldWithin};
 ghost use Rattle.registry.specs.Adding.{IsAddedWithin};
 ghost use Rattle.registry.specs.Places.{refusal_in};
 ghost use Rattle.pool_transaction.specs.Changing.{IsHeldIn, with_opened, line_of, update_line, changed_by, IsLegalChange, IsLegalUpdate, ordinal_written, IsFoundWithin, IsFoundBy, MayChange, StaysOpen, refusal_to_make, refusal_by_tables, GrowsBy, refusal_by_world, with_more, with_made, both_finished, MakesBehind};
-ghost use Rattle.ready_daemon.specs.Moves.{MovesOn, MovesUnless};
-ghost use Rattle.ready_daemon.specs.Ready.{KeepsRest, IsReady, AppliesBy, Applies};
+ghost use Rattle.pool_transaction.specs.Finishing.{end_of, FinishesFor, FinishesLowest, FinishesTaken, Finishes, FinishesUnless, IsLonger, AppliesTo, AppliesFinishing};
+ghost use Rattle.ready_daemon.specs.Moves.{led_in};
+ghost use Rattle.ready_daemon.specs.Ready.{KeepsRest, IsReady, Applies};
 
 use crate::opened::Opened;
 use hybrid_tx::Tx;
@@ -212,7 +213,7 @@ impl Opened {
         ensures applies { H.tells → (update : Update) → (size : ℕ) → size ≡ (H.counts h.old).size → (w : World) → (memory : Memory) → IsHeldIn frames self.old pool.old memory
             → IsReady size w memory (H.state h.old) → refusal_of w (update_line update (self.old).client (self.old).name) ≡ Option.None
             → IsFoundBy frames pool.old (reads (H.state h.old).now.words) update found
-            → AppliesBy (MovesOn (self.old).slot) size w (after w (update_line update (self.old).client (self.old).name)) (with_opened (self.old).number (self.old).slot self.new pool.new memory) (fault_of result) (H.state h.old) (H.state h.new) }
+            → AppliesTo (led_in (self.old).slot (end_of (ordinal_written found))) size w (after w (update_line update (self.old).client (self.old).name)) (with_opened (self.old).number (self.old).slot self.new pool.new memory) (fault_of result) (H.state h.old) (H.state h.new) }
         ensures pool { IfOk result (λ _. pool.new ≡ finished_at (ordinal_written found) pool.old) }
         ensures within { IsHeldWithin frames self.new }
         ensures known { IsOnDevice frames pool.new }
@@ -247,7 +248,7 @@ impl Opened {
         ensures reply { H.tells → (size : ℕ) → (w : World) → (memory : Memory) → IsHeldIn frames self.old pool.old memory → IsReady size w memory (H.state h.old)
             → IfOk result (λ reply. of_reply reply ≡ answer_by w (Option.Some (update_line update (self.old).client (self.old).name))) }
         ensures applies { H.tells → (size : ℕ) → size ≡ (H.counts h.old).size → (w : World) → (memory : Memory) → IsHeldIn frames self.old pool.old memory → IsReady size w memory (H.state h.old)
-            → AppliesBy (MovesUnless (refusal_of w (update_line update (self.old).client (self.old).name)) (self.old).slot) size w (world_by w (Option.Some (update_line update (self.old).client (self.old).name))) (with_opened (self.old).number (self.old).slot self.new pool.new memory)
+            → AppliesFinishing (self.old).slot (FinishesUnless (refusal_of w (update_line update (self.old).client (self.old).name)) (FinishesFor frames pool.old (reads (H.state h.old).now.words) update)) size w (world_by w (Option.Some (update_line update (self.old).client (self.old).name))) (with_opened (self.old).number (self.old).slot self.new pool.new memory)
             (fault_of result) (H.state h.old) (H.state h.new) }
         ensures refused { IfOk result (λ reply. (why : Refusal) → reply ≡ Reply.No why → pool.new ≡ pool.old) }
         ensures within { IsHeldWithin frames self.new }
@@ -330,7 +331,7 @@ impl Opened {
         requires known { IsOnDevice frames pool.old }
         requires units { (self.old).tx.units + NEW_UNITS ≤ LOG_ENTRY_WORDS }
         ensures makes { H.tells → (size : ℕ) → (w : World) → (memory : Memory) → IsHeldIn frames self.old pool.old memory → IsReady size w memory (H.state h.old) → refusal_by_world w self.old t ≡ Option.None → grows w (self.old).name ≡ false
-            → AppliesBy (MovesOn (self.old).slot) size w (with_made (self.old).name t w) (with_opened (self.old).number (self.old).slot self.new pool.new memory) (fault_of result) (H.state h.old) (H.state h.new) }
+            → AppliesFinishing (self.old).slot (FinishesLowest frames pool.old (reads (H.state h.old).now.words)) size w (with_made (self.old).name t w) (with_opened (self.old).number (self.old).slot self.new pool.new memory) (fault_of result) (H.state h.old) (H.state h.new) }
         ensures serial { H.tells → (size : ℕ) → (w : World) → (memory : Memory) → IsHeldIn frames self.old pool.old memory → IsReady size w memory (H.state h.old) → grows w (self.old).name ≡ false
             → IfOk result (λ serial. serial ≡ next_in (graph_seen (open_on (self.old).name w) (pool_named (self.old).name w.stored))) }
         ensures full { H.tells → (size : ℕ) → (w : World) → (memory : Memory) → IsHeldIn frames self.old pool.old memory → IsReady size w memory (H.state h.old) → grows w (self.old).name ≡ true
@@ -373,6 +374,8 @@ impl Opened {
         requires puddle { IsAddedWithin frames added }
         ensures grows { H.tells → (size : ℕ) → size ≡ (H.counts h.old).size → (w : World) → (memory : Memory) → IsHeldIn frames self.now pool.old memory → IsReady size w memory (H.state h.old) → GrowsBy frames (self.now).slot pool.old (reads (H.state h.old).now.words) added
             → Applies size w (with_more (self.now).name w) (with_opened (self.now).number (self.now).slot self.now pool.new memory) (fault_of result) (H.state h.old) (H.state h.new) }
+        ensures longer { H.tells → (size : ℕ) → size ≡ (H.counts h.old).size → (w : World) → (memory : Memory) → IsHeldIn frames self.now pool.old memory → IsReady size w memory (H.state h.old) → GrowsBy frames (self.now).slot pool.old (reads (H.state h.old).now.words) added
+            → IfOk result (λ _. IsLonger frames pool.old pool.new (reads (H.state h.old).now.words) (reads (H.state h.new).now.words)) }
         ensures known { IsOnDevice frames pool.new }
         ensures rest { H.tells → KeepsRest (H.state h.old) (H.state h.new) }
         ensures rests { H.tells → fault_of result ≡ Option.Some HostFault.Cut → IsRested (H.state h.new).now.words }
@@ -398,7 +401,7 @@ impl Opened {
         ensures reply { H.tells → (size : ℕ) → size ≡ (H.counts h.old).size → (w : World) → (memory : Memory) → IsHeldIn frames self.old pool.old memory → IsReady size w memory (H.state h.old) → refusal_by_world w self.old t ≡ Option.None → grows w (self.old).name ≡ true
             → IfOk result (λ reply. of_reply reply ≡ answer_by w (Option.Some (commands.New (self.old).client (self.old).name t))) }
         ensures applies { H.tells → (size : ℕ) → size ≡ (H.counts h.old).size → (w : World) → (memory : Memory) → IsHeldIn frames self.old pool.old memory → IsReady size w memory (H.state h.old) → refusal_by_world w self.old t ≡ Option.None → grows w (self.old).name ≡ true
-            → AppliesBy (MovesUnless (refusal_of w (commands.New (self.old).client (self.old).name t)) (self.old).slot) size w (world_by w (Option.Some (commands.New (self.old).client (self.old).name t))) (with_opened (self.old).number (self.old).slot self.new pool.new memory) (fault_of result)
+            → AppliesFinishing (self.old).slot (FinishesUnless (refusal_of w (commands.New (self.old).client (self.old).name t)) (FinishesTaken frames pool.old (reads (H.state h.old).now.words))) size w (world_by w (Option.Some (commands.New (self.old).client (self.old).name t))) (with_opened (self.old).number (self.old).slot self.new pool.new memory) (fault_of result)
             (H.state h.old) (H.state h.new) }
         ensures within { IsHeldWithin frames self.new }
         ensures known { IsOnDevice frames pool.new }
@@ -433,7 +436,7 @@ impl Opened {
         requires known { IsOnDevice frames pool.old }
         ensures reply { H.tells → (size : ℕ) → size ≡ (H.counts h.old).size → (w : World) → (memory : Memory) → IsHeldIn frames self.old pool.old memory → IsReady size w memory (H.state h.old) → IfOk result (λ reply. of_reply reply ≡ answer_by w (Option.Some (commands.New (self.old).client (self.old).name t))) }
         ensures applies { H.tells → (size : ℕ) → size ≡ (H.counts h.old).size → (w : World) → (memory : Memory) → IsHeldIn frames self.old pool.old memory → IsReady size w memory (H.state h.old)
-            → AppliesBy (MovesUnless (refusal_of w (commands.New (self.old).client (self.old).name t)) (self.old).slot) size w (world_by w (Option.Some (commands.New (self.old).client (self.old).name t))) (with_opened (self.old).number (self.old).slot self.new pool.new memory) (fault_of result)
+            → AppliesFinishing (self.old).slot (FinishesUnless (refusal_of w (commands.New (self.old).client (self.old).name t)) (FinishesTaken frames pool.old (reads (H.state h.old).now.words))) size w (world_by w (Option.Some (commands.New (self.old).client (self.old).name t))) (with_opened (self.old).number (self.old).slot self.new pool.new memory) (fault_of result)
             (H.state h.old) (H.state h.new) }
         ensures within { IsHeldWithin frames self.new }
         ensures known { IsOnDevice frames pool.new }
@@ -473,7 +476,7 @@ impl Opened {
         ensures reply { H.tells → (size : ℕ) → size ≡ (H.counts h.old).size → (w : World) → (memory : Memory) → IsHeldIn frames self.old pool.old memory → IsReady size w memory (H.state h.old)
             → IfOk result (λ reply. of_reply reply ≡ answer_by w (Option.Some (line_of change (self.old).client (self.old).name))) }
         ensures applies { H.tells → (size : ℕ) → size ≡ (H.counts h.old).size → (w : World) → (memory : Memory) → IsHeldIn frames self.old pool.old memory → IsReady size w memory (H.state h.old)
-            → AppliesBy (MovesUnless (refusal_of w (line_of change (self.old).client (self.old).name)) (self.old).slot) size w (world_by w (Option.Some (line_of change (self.old).client (self.old).name))) (with_opened (self.old).number (self.old).slot self.new pool.new memory) (fault_of result)
+            → AppliesFinishing (self.old).slot (FinishesUnless (refusal_of w (line_of change (self.old).client (self.old).name)) (Finishes frames pool.old (reads (H.state h.old).now.words) change)) size w (world_by w (Option.Some (line_of change (self.old).client (self.old).name))) (with_opened (self.old).number (self.old).slot self.new pool.new memory) (fault_of result)
             (H.state h.old) (H.state h.new) }
         ensures within { IsHeldWithin frames self.new }
         ensures known { IsOnDevice frames pool.new }

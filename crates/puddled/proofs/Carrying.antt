@@ -1,7 +1,8 @@
 -- What each command owes, from what its own call ensures.
+use Rattle.pm_model.specs.Words.{reads}
 use Rattle.std.proofs.Common.{◌≡◌, inl, inr, ℕ, true, List, Option, Some, None, Result, Ok, Err, refl, sym, ap, subst, ◌∙◌}
 use Rattle.std.specs.Prelude.{IfOk, is_some}
-use Rattle.std.proofs.lemmas.Option.{same_Some}
+use Rattle.std.proofs.lemmas.Option.{same_Some, none-some}
 use Rattle.pm_model.specs.declared.host.HostFault.{HostFault}
 use Rattle.pm_model.specs.declared.host.HostFault.TheVariants as hosts
 use Rattle.pm_model.specs.Counts.{Counts, after_fault, after_arm, after_loss_of, fault_of}
@@ -29,7 +30,7 @@ use Rattle.ready_daemon.specs.Moves.{Stays, MovesTo, still}
 use Rattle.ready_daemon.specs.Ready.{KeepsRest, IsReady, AppliesBy, Applies, ClosesBefore, ClosesLogs}
 use Rattle.puddled.specs.Daemon.{KeepsAllBut, CarriesOut}
 use Rattle.puddled.specs.Frontiers.{AppliesAs}
-use Rattle.puddled.proofs.Frontiers.{AppliesAs-still}
+use Rattle.puddled.proofs.Frontiers.{MovesNone, leads_none, arrives_still, AppliesAs-none}
 use Rattle.ready_daemon.proofs.Applying.{Applies-idle, AppliesBy-weaker}
 use Rattle.ready_daemon.proofs.Goals.{stays_still}
 
@@ -127,7 +128,8 @@ module _ (size : ℕ) (w : World) (memory : Memory) (before after : Counts) (old
     one_line = tt;
     goal = applies.goal;
     leads = applies.leads;
-    applies = applies.applies;
+    applies = applies.applies.applies;
+    arrives = applies.applies.arrives;
     files = KeepsFiles-still (file_of c) old.shelf new.shelf rest.shelf;
     no_file = λ _. none;
     closes = closes;
@@ -142,7 +144,8 @@ module _ (size : ℕ) (w : World) (memory : Memory) (before after : Counts) (old
     one_line = tt;
     goal = applies.goal;
     leads = applies.leads;
-    applies = applies.applies;
+    applies = applies.applies.applies;
+    arrives = applies.applies.arrives;
     files = KeepsFiles-still (file_of c) old.shelf new.shelf rest.shelf;
     no_file = λ _. none;
     closes = closes;
@@ -150,11 +153,11 @@ module _ (size : ℕ) (w : World) (memory : Memory) (before after : Counts) (old
   }
 
   -- and moves no frontier
-  pub CarriesOut-plain : (c : Command) (done : Result Reply HostFault) → kind_of (Some c) ≡ ordinary → file_of c ≡ None → IfOk done (λ reply. of_reply reply ≡ answer_by w (Some c))
+  pub CarriesOut-plain : (c : Command) (done : Result Reply HostFault) → kind_of (Some c) ≡ ordinary → file_of c ≡ None → MovesNone c → IfOk done (λ reply. of_reply reply ≡ answer_by w (Some c))
       → Applies size w (world_by w (Some c)) memory (fault_of done) old new → ClosesLogs ClosesBefore w (Some c) old new → KeepsRest old new → after ≡ after_fault (fault_of done) before
       → CarriesOut size w memory (Some c) (as_answered done) before after old new
-  CarriesOut-plain c done plain none replied applies closes rest cause =
-      CarriesOut-led c done plain none replied (AppliesAs-still size w (world_by w (Some c)) (Some c) memory (fault_of done) old new applies) closes rest cause
+  CarriesOut-plain c done plain none moves replied applies closes rest cause =
+      CarriesOut-led c done plain none replied (AppliesAs-none size w (world_by w (Some c)) memory (fault_of done) old new c moves applies) closes rest cause
 
   -- by the command that it is, and what was replied
   pub CarriesOut-as : (x c : Command) (r : Result Answered HostFault) (done : Result Reply HostFault) → x ≡ c → r ≡ as_answered done → CarriesOut size w memory (Some c) (as_answered done) before after old new
@@ -164,7 +167,7 @@ module _ (size : ℕ) (w : World) (memory : Memory) (before after : Counts) (old
 
   -- the list of the pools is asked for
   pub CarriesOut-listed : IsReady size w memory old → new ≡ old → after ≡ before → CarriesOut size w memory (Some Pools) (Ok answers.Pools) before after old new
-  CarriesOut-listed ready same cause = record {
+  CarriesOut-listed ready same cause = let applies = subst (λ (v : World). Applies size w v memory None old new) (sym (world_of_pools w)) (Applies-idle size w memory old new ready same) in record {
     said = answer_by w (Some Pools);
     under = world_by w (Some Pools);
     step = plain_step w (Some Pools) refl;
@@ -172,8 +175,9 @@ module _ (size : ℕ) (w : World) (memory : Memory) (before after : Counts) (old
     one_line = tt;
     replied = ap (λ (v : World). of_text (pools_text v.stored)) (world_of_pools w) ∙ sym (answer_of_pools w);
     goal = still;
-    leads = inl refl;
-    applies = unmoved None (subst (λ (v : World). Applies size w v memory None old new) (sym (world_of_pools w)) (Applies-idle size w memory old new ready same));
+    leads = λ never. leads_none w Pools (record { none = λ F before. refl }) (reads old.now.words);
+    applies = unmoved None applies;
+    arrives = arrives_still size w (world_by w (Some Pools)) memory None old new applies;
     files = KeepsFiles-still None old.shelf new.shelf (ap (λ (s : State). s.shelf) same);
     no_file = λ _. refl;
     closes = ClosesLogs-other w (Some Pools) old new (λ client is. cc);
@@ -191,7 +195,8 @@ module _ (size : ℕ) (w : World) (memory : Memory) (before after : Counts) (old
     replied = tt;
     one_line = tt;
     goal = still;
-    leads = inl refl;
+    leads = λ never. leads_none w (Cut pick) (record { none = λ F before. refl }) (reads old.now.words);
+    arrives = λ no. absurd (none-some hosts.Cut (sym no));
     applies = unmoved (Some hosts.Cut) (subst (λ (v : World). Applies size w v memory (Some hosts.Cut) old new) (sym (world_of_cut w pick)) applies);
     files = KeepsFiles-still None old.shelf new.shelf rest.shelf;
     no_file = λ _. refl;
@@ -210,8 +215,9 @@ module _ (size : ℕ) (w : World) (memory : Memory) (before after : Counts) (old
     one_line = tt;
     replied = sym (answer_is_ok w (Arm step pick) refl refl (arm_is_free w step pick));
     goal = still;
-    leads = inl refl;
+    leads = λ never. leads_none w (Arm step pick) (record { none = λ F before. refl }) (reads old.now.words);
     applies = unmoved None (subst (λ (v : World). Applies size w v memory None old new) (sym (world_of_arm w step pick)) (Applies-idle size w memory old new ready same));
+    arrives = arrives_still size w (world_by w (Some (Arm step pick))) memory None old new (subst (λ (v : World). Applies size w v memory None old new) (sym (world_of_arm w step pick)) (Applies-idle size w memory old new ready same));
     files = KeepsFiles-still None old.shelf new.shelf (ap (λ (s : State). s.shelf) same);
     no_file = λ _. refl;
     closes = ClosesLogs-other w (Some (Arm step pick)) old new (λ client is. cc);
@@ -228,8 +234,9 @@ module _ (size : ℕ) (w : World) (memory : Memory) (before after : Counts) (old
     replied = refl;
     one_line = tt;
     goal = still;
-    leads = refl;
+    leads = λ never. refl;
     applies = unmoved None (Applies-idle size w memory old new ready same);
+    arrives = arrives_still size w w memory None old new (Applies-idle size w memory old new ready same);
     files = KeepsFiles-still None old.shelf new.shelf (ap (λ (s : State). s.shelf) same);
     no_file = λ _. refl;
     closes = ClosesLogs-other w None old new (λ client is. cc);

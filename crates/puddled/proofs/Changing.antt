@@ -11,7 +11,7 @@ use Rattle.pud_defs.specs.declared.records.Puddle.{Puddle}
 use Rattle.pud_defs.specs.declared.machine.Command.TheVariants.{Commit}
 use Rattle.pud_defs.specs.declared.machine.Refusal.{Refusal}
 use Rattle.pud_defs.specs.Step.{refusal_of, world_by}
-use Rattle.pud_defs.specs.Tables.{tables_of}
+use Rattle.pud_defs.specs.Tables.{tables_of, puddles_in_turn}
 use Rattle.pud_defs.specs.World.{World}
 use Rattle.nesting.specs.declared.Session.{Session}
 use Rattle.pool_transaction.specs.declared.changing.Change.{Change}
@@ -20,11 +20,12 @@ use Rattle.pool_transaction.specs.Changing.{IsHeldIn, with_opened, line_of}
 use Rattle.ready_daemon.specs.Judged.{known_in}
 use Rattle.ready_daemon.specs.Memory.{Held, Memory, held_under}
 use Rattle.ready_daemon.specs.Holding.{IsOwnOn}
-use Rattle.ready_daemon.specs.Moves.{MovesUnless}
 use Rattle.ready_daemon.specs.Owning.{IsSlotOf}
-use Rattle.ready_daemon.specs.Ready.{IsReady, AppliesBy}
+use Rattle.ready_daemon.specs.Ready.{IsReady}
 use Rattle.ready_daemon.proofs.Beside.{held_is}
 use Rattle.ready_daemon.proofs.PoolsBeside.{used_still}
+use Rattle.pool_transaction.specs.Finishing.{Finishes, FinishesUnless, AppliesFinishing}
+use Rattle.ready_daemon.proofs.InTurn.{known_in_turn}
 use Rattle.puddled.specs.Frontiers.{AppliesAs}
 use Rattle.puddled.proofs.Frontiers.{AppliesAs-change}
 use Rattle.pool_transaction.proofs.TransactionRefusals.{refused_change, refused_new}
@@ -71,13 +72,20 @@ module _ (size : ℕ) (w : World) (F : ℕ) (all : List (Option Held)) (sessions
         }
 
     pub Applies-changed : (change : Change) (now : Held) (pool : List (ℕ × Puddle)) (fault : Option HostFault) (new : State)
-        → AppliesBy (MovesUnless (refusal_of w (line_of change mine.client mine.name)) mine.slot) size w (world_by w (Some (line_of change mine.client mine.name))) (with_opened mine.number mine.slot now pool memory) fault s new
+        → AppliesFinishing mine.slot (FinishesUnless (refusal_of w (line_of change mine.client mine.name)) (Finishes F at (reads s.now.words) change)) size w (world_by w (Some (line_of change mine.client mine.name)))
+        (with_opened mine.number mine.slot now pool memory) fault s new
         → AppliesAs size w (world_by w (Some (line_of change client name))) (Some (line_of change client name)) (record { frames = F; held = set all number (Some now); sessions = sessions; judged = set judged slot (Some pool) }) fault s new
     Applies-changed change now pool fault new applies =
+        let line = line_of change mine.client mine.name in
+        let finishes : (ℕ → ℕ) → Type 0 = Finishes w.stored.frames (puddles_in_turn (tables_of w.stored.frames (reads s.now.words)) slot) (reads s.now.words) change in
         AppliesAs-change size w (world_by w (Some (line_of change client name))) client name change (with_opened number slot now pool memory) fault s new slot at_slot
-        (subst (λ (c : Command). AppliesBy (MovesUnless (refusal_of w c) slot) size w (world_by w (Some c)) (with_opened number slot now pool memory) fault s new) (asked change)
-        (subst (λ (i : ℕ). AppliesBy (MovesUnless (refusal_of w (line_of change mine.client mine.name)) i) size w (world_by w (Some (line_of change mine.client mine.name))) (with_opened number i now pool memory) fault s new) slot_is
-        (subst (λ (n : ℕ). AppliesBy (MovesUnless (refusal_of w (line_of change mine.client mine.name)) mine.slot) size w (world_by w (Some (line_of change mine.client mine.name))) (with_opened n mine.slot now pool memory) fault s new) number_is applies)))
+        (subst (λ (c : Command). AppliesFinishing slot (FinishesUnless (refusal_of w c) finishes) size w (world_by w (Some c)) (with_opened number slot now pool memory) fault s new) (asked change)
+        (subst (λ (i : ℕ). AppliesFinishing i (FinishesUnless (refusal_of w line) finishes) size w (world_by w (Some line)) (with_opened number i now pool memory) fault s new) slot_is
+        (subst (λ (n : ℕ). AppliesFinishing mine.slot (FinishesUnless (refusal_of w line) finishes) size w (world_by w (Some line)) (with_opened n mine.slot now pool memory) fault s new) number_is
+        (subst (λ (ps : List (ℕ × Puddle)). AppliesFinishing mine.slot (FinishesUnless (refusal_of w line) (Finishes w.stored.frames ps (reads s.now.words) change)) size w (world_by w (Some line))
+        (with_opened mine.number mine.slot now pool memory) fault s new) (sym (known_in_turn size w memory s ready slot at known))
+        (subst (λ (n : ℕ). AppliesFinishing mine.slot (FinishesUnless (refusal_of w line) (Finishes n at (reads s.now.words) change)) size w (world_by w (Some line))
+        (with_opened mine.number mine.slot now pool memory) fault s new) ready.frames applies)))))
 
 -- where a line on the client's own is refused before what it asks is looked at, so is the line of each change
 pub refused_line : (w : World) (client : ℕ) (name : List ℕ) (r : Refusal) → refusal_of w (Commit client name) ≡ Some r → (change : Change) → refusal_of w (line_of change client name) ≡ Some r

@@ -16,6 +16,7 @@ use Rattle.pud_defs.specs.World.{World}
 use Rattle.pud_defs.specs.Step.{refusal_of, after, answer_by, world_by}
 use Rattle.pud_defs.specs.Step.Answer.{of_reply}
 use Rattle.pud_defs.proofs.Steps.{refused_answer, done_world}
+use Rattle.puddled.proofs.Frontiers.{MovesNone, AppliesAs-refused, AppliesAs-failed}
 use Rattle.puddled.specs.Answered.{as_answered}
 use Rattle.pool_transaction.specs.declared.changing.Change.{Change}
 use Rattle.pool_transaction.specs.declared.changing.Change.TheVariants as changes
@@ -53,30 +54,30 @@ module _ (size : ℕ) (w : World) (memory : Memory) (first last : Counts) (old n
   -- it was refused by what was read
   pub CarriesOut-refused : (r : Refusal) → refusal_of w c ≡ Some r → last ≡ first → CarriesOut size w memory (Some c) (as_answered (Ok (replies.No r))) first last old new
   CarriesOut-refused r refused cause =
-      CarriesOut-plain size w memory first last old new c (Ok (replies.No r)) plain.kind plain.file (sym (refused_answer w c r refused))
-      (Applies-refused size w memory c r old new ready_before refused same) (ClosesLogs-other w (Some c) old new plain.stays) (KeepsRest-still old new same) cause
+      CarriesOut-led size w memory first last old new c (Ok (replies.No r)) plain.kind plain.file (sym (refused_answer w c r refused))
+      (AppliesAs-refused size w (world_by w (Some c)) memory None old new c r refused (Applies-refused size w memory c r old new ready_before refused same)) (ClosesLogs-other w (Some c) old new plain.stays) (KeepsRest-still old new same) cause
 
   -- one of them failed
   pub CarriesOut-unread : (fault : HostFault) → (Some fault ≡ Some Cut → ⊥) → last ≡ after_fault (Some fault) first → CarriesOut size w memory (Some c) (as_answered (Err fault)) first last old new
   CarriesOut-unread fault never_cut cause =
-      CarriesOut-plain size w memory first last old new c (Err fault) plain.kind plain.file tt
-      (Applies-failed size w (world_by w (Some c)) memory fault old new ready_before same never_cut) (ClosesLogs-other w (Some c) old new plain.stays) (KeepsRest-still old new same) cause
+      CarriesOut-led size w memory first last old new c (Err fault) plain.kind plain.file tt
+      (AppliesAs-failed size w (world_by w (Some c)) memory fault old new (Some c) never_cut (Applies-failed size w (world_by w (Some c)) memory fault old new ready_before same never_cut)) (ClosesLogs-other w (Some c) old new plain.stays) (KeepsRest-still old new same) cause
 
 -- behind calls that read it is carried out
-module _ (size : ℕ) (w : World) (memory : Memory) (first mid last : Counts) (a b d : State) (c : Command) (plain : IsPlain c) (free : refusal_of w c ≡ None) (same : b ≡ a) (counted : mid ≡ first)
+module _ (size : ℕ) (w : World) (memory : Memory) (first mid last : Counts) (a b d : State) (c : Command) (plain : IsPlain c) (moves : MovesNone c) (free : refusal_of w c ≡ None) (same : b ≡ a) (counted : mid ≡ first)
     (rest : KeepsRest b d) where
   -- a call that does so failed
   pub CarriesOut-stopped : (fault : HostFault) → Applies size w (after w c) memory (Some fault) b d → last ≡ after_fault (Some fault) mid → CarriesOut size w memory (Some c) (as_answered (Err fault)) first last a d
   CarriesOut-stopped fault applies cause =
       subst (λ (s : State). CarriesOut size w memory (Some c) (as_answered (Err fault)) first last s d) same
-      (CarriesOut-plain size w memory first last b d c (Err fault) plain.kind plain.file tt
+      (CarriesOut-plain size w memory first last b d c (Err fault) plain.kind plain.file moves tt
       (subst (λ (v : World). Applies size w v memory (Some fault) b d) (sym (done_world w c free)) applies) (ClosesLogs-other w (Some c) b d plain.stays) rest (cause ∙ ap (after_fault (Some fault)) counted))
 
   -- it was, and replied to so
   pub CarriesOut-done : (reply : Reply) → of_reply reply ≡ answer_by w (Some c) → Applies size w (after w c) memory None b d → last ≡ mid → CarriesOut size w memory (Some c) (as_answered (Ok reply)) first last a d
   CarriesOut-done reply replied applies cause =
       subst (λ (s : State). CarriesOut size w memory (Some c) (as_answered (Ok reply)) first last s d) same
-      (CarriesOut-plain size w memory first last b d c (Ok reply) plain.kind plain.file replied
+      (CarriesOut-plain size w memory first last b d c (Ok reply) plain.kind plain.file moves replied
       (subst (λ (v : World). Applies size w v memory None b d) (sym (done_world w c free)) applies) (ClosesLogs-other w (Some c) b d plain.stays) rest (cause ∙ counted))
 
   -- it was, and replied to with `ok`, or it failed
@@ -112,6 +113,15 @@ module _ (client : ℕ) (name : List ℕ) where
 
   pub commit_is_plain : IsPlain (Commit client name)
   commit_is_plain = record { kind = refl; file = refl; stays = λ other is. cc }
+
+  pub commit_moves_none : MovesNone (Commit client name)
+  commit_moves_none = record { none = λ F before. refl }
+
+  pub abort_moves_none : MovesNone (Abort client name)
+  abort_moves_none = record { none = λ F before. refl }
+
+  pub begin_moves_none : MovesNone (Begin client name)
+  begin_moves_none = record { none = λ F before. refl }
 
   pub abort_is_plain : IsPlain (Abort client name)
   abort_is_plain = record { kind = refl; file = refl; stays = λ other is. cc }

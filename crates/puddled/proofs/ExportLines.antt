@@ -32,7 +32,7 @@ use Rattle.ready_daemon.specs.Held.{IsOwn}
 use Rattle.ready_daemon.specs.Judged.{known_in}
 use Rattle.ready_daemon.specs.Ready.{IsReady, Applies}
 use Rattle.ready_daemon.proofs.OpenBeside.{open_here}
-use Rattle.puddled.proofs.FileLines.{memory_of-export, memory_step, some_step, export_is_plain, CarriesOut-read, CarriesOut-file, Applies-shelved, Applies-unwritten, KeepsFiles-shelved, exported_step, contents_are}
+use Rattle.puddled.proofs.FileLines.{memory_of-export, memory_step, some_step, export_is_plain, export_moves_none, CarriesOut-read, CarriesOut-file, Applies-shelved, Applies-unwritten, KeepsFiles-shelved, exported_step, contents_are}
 
 -- ---- the client's own transaction is open on the pool
 
@@ -67,7 +67,7 @@ module _ (size : ℕ) (w : World) (memory : Memory) (old : State) (ready : IsRea
       let given : new ≡ with_shelf shelf old = holds.given ∙ ap (λ (s : Shelf). with_shelf (shelved (name_text file) (Some holds.bytes) s) old) ready.shelf in
       let contents : file_graph holds.bytes ≡ Some (contents_for w.stored.types pool.pool.puddles pool.graph) =
       holds.holds ∙ ap₂ (λ (types : List (ℕ × ℕ)) (n : ℕ). Some (contents_for types n pool.graph)) pool.types pool.count in
-      CarriesOut-file size w memory line refl (export_is_plain client name file) first last old new (of_reply replies.Ok) under (Ok (answers.Reply replies.Ok))
+      CarriesOut-file size w memory line refl (export_is_plain client name file) (export_moves_none client name file) first last old new (of_reply replies.Ok) under (Ok (answers.Reply replies.Ok))
       (exported_step w client name file (contents_for w.stored.types pool.pool.puddles pool.graph) holds.bytes free (contents_are w F name (reads old.now.words) number puddles pool) contents)
       refl tt (λ cut. cc)
       (subst (λ (s : State). Applies size w under memory None old s) (sym given) (Applies-shelved size w memory shelf old ready))
@@ -78,7 +78,7 @@ module _ (size : ℕ) (w : World) (memory : Memory) (old : State) (ready : IsRea
   carries_unwritten : LeavesFile (name_text file) old new → last ≡ after_fault (Some hosts.Failed) first → CarriesOut size w memory (Some line) (Err hosts.Failed) first last old new
   carries_unwritten left cause =
       let s = some_step w line (memory_of-export w client name file) in
-      CarriesOut-file size w memory line refl (export_is_plain client name file) first last old new s.said w (Err hosts.Failed) s.step tt tt (λ cut. cc)
+      CarriesOut-file size w memory line refl (export_is_plain client name file) (export_moves_none client name file) first last old new s.said w (Err hosts.Failed) s.step tt tt (λ cut. cc)
       (subst (λ (t : State). Applies size w w memory (Some hosts.Failed) old t) (sym left.is) (Applies-unwritten size w memory old.shelf old ready (shelved (name_text file) left.entry old.shelf)))
       (subst (λ (t : Shelf). KeepsFiles (Some (name_text file)) old.shelf t) (sym (ap (λ (t : State). t.shelf) left.is)) (KeepsFiles-shelved (name_text file) left.entry old.shelf))
       cause
@@ -88,7 +88,7 @@ module _ (size : ℕ) (w : World) (memory : Memory) (old : State) (ready : IsRea
       → LeavesFile (name_text file) old new → last ≡ after_fault (file_fault_of done) first → (file_fault_of done ≡ Some hosts.Cut → ⊥) → CarriesOut size w memory (Some line) (file_answer done) first last old new
   CarriesOut-written (Ok done) holds memory left cause never = carries_written holds cause
   CarriesOut-written (Err files.Memory) holds memory_same left cause never =
-      CarriesOut-read size w memory line refl (export_is_plain client name file) first last old new ready (of_reply (replies.No refusals.Memory)) (Ok (answers.Reply (replies.No refusals.Memory)))
+      CarriesOut-read size w memory line refl (export_is_plain client name file) (export_moves_none client name file) first last old new ready (of_reply (replies.No refusals.Memory)) (Ok (answers.Reply (replies.No refusals.Memory)))
       (memory_step w line (memory_of-export w client name file ∙ ap is_none free)) refl tt (λ cut. cc) (memory_same refl) cause
   CarriesOut-written (Err (files.Host hosts.Failed)) holds memory left cause never = carries_unwritten left cause
   CarriesOut-written (Err (files.Host hosts.Cut)) holds memory left cause never = absurd (never refl)

@@ -1,4 +1,5 @@
 -- Lines that read a pool whole: why they are refused, and what they owe.
+use Rattle.pm_model.specs.Words.{reads}
 use Rattle.std.proofs.Common.{◌≡◌, inl, inr, ℕ, ◌*◌, true, cond, List, ◌++◌, length, codes, Option, Some, None, is_none, option_map, Result, Ok, Err, refl, sym, ap, subst, ◌∙◌}
 use Rattle.std.specs.Prelude.{IfOk, bytes_eq}
 use Rattle.std.proofs.lemmas.Bool.{cases_Bool, cond-false}
@@ -42,6 +43,7 @@ use Rattle.pud_defs.proofs.Steps.{refused_answer, refused_world, done_answer, do
 use Rattle.graph_dump.specs.declared.fault.DumpFault.{DumpFault}
 use Rattle.graph_dump.specs.declared.fault.DumpFault.TheVariants as dumps
 use Rattle.graph_dump.specs.Faults.{fault_in as dump_fault_in}
+use Rattle.puddled.proofs.Frontiers.{MovesNone, leads_none, arrives_still}
 use Rattle.puddled.specs.declared.answers.Answered.{Answered}
 use Rattle.puddled.specs.declared.answers.Answered.TheVariants as answers
 use Rattle.puddled.specs.Answered.{answer_of, IsOneLine}
@@ -116,7 +118,7 @@ module _ (w : World) (c : Command) where
 
 -- ---- what a line owes that leaves the device
 
-module _ (size : ℕ) (w : World) (memory : Memory) (c : Command) (plain : kind_of (Some c) ≡ ordinary) (other : (client : ℕ) → Some c ≡ Some (Leave client) → ⊥) (first last : Counts) (old new : State) where
+module _ (size : ℕ) (w : World) (memory : Memory) (c : Command) (plain : kind_of (Some c) ≡ ordinary) (other : (client : ℕ) → Some c ≡ Some (Leave client) → ⊥) (moves : MovesNone c) (first last : Counts) (old new : State) where
   counted_plain : (fault : Option HostFault) → last ≡ after_fault fault first → CountsCommand (kind_of (Some c)) fault first last
   counted_plain fault cause = subst (λ (k : Kind). CountsCommand k fault first last) (sym plain) cause
 
@@ -132,8 +134,9 @@ module _ (size : ℕ) (w : World) (memory : Memory) (c : Command) (plain : kind_
     replied = replied;
     one_line = one;
     goal = still;
-    leads = inl refl;
+    leads = λ never. leads_none w c moves (reads old.now.words);
     applies = AppliesBy-weaker Stays (MovesTo still) stays_still size w w memory (fault_of done) old new applies;
+    arrives = arrives_still size w w memory (fault_of done) old new applies;
     files = KeepsFiles-still (file_of c) old.shelf new.shelf (ap (λ (s : State). s.shelf) same);
     no_file = λ cut. absurd (never cut);
     closes = ClosesLogs-other w (Some c) old new other;
@@ -152,8 +155,9 @@ module _ (size : ℕ) (w : World) (memory : Memory) (c : Command) (plain : kind_
     replied = replied;
     one_line = one;
     goal = still;
-    leads = inl refl;
+    leads = λ never. leads_none w c moves (reads old.now.words);
     applies = AppliesBy-weaker Stays (MovesTo still) stays_still size w under memory (fault_of done) old new applies;
+    arrives = arrives_still size w under memory (fault_of done) old new applies;
     files = files;
     no_file = λ cut. absurd (never cut);
     closes = ClosesLogs-other w (Some c) old new other;
@@ -161,11 +165,11 @@ module _ (size : ℕ) (w : World) (memory : Memory) (c : Command) (plain : kind_
   }
 
 -- calls that read came, and nothing else changed
-pub CarriesOut-read : (size : ℕ) (w : World) (memory : Memory) (c : Command) → kind_of (Some c) ≡ ordinary → ((client : ℕ) → Some c ≡ Some (Leave client) → ⊥) → (first last : Counts) (old new : State)
+pub CarriesOut-read : (size : ℕ) (w : World) (memory : Memory) (c : Command) → kind_of (Some c) ≡ ordinary → ((client : ℕ) → Some c ≡ Some (Leave client) → ⊥) → MovesNone c → (first last : Counts) (old new : State)
     → IsReady size w memory old → (said : Answer) (done : Result Answered HostFault) → StepBy w (Some c) said w → IfOk done (λ answered. answer_of w answered ≡ said) → IfOk done IsOneLine
     → (fault_of done ≡ Some hosts.Cut → ⊥) → new ≡ old → last ≡ after_fault (fault_of done) first → CarriesOut size w memory (Some c) done first last old new
-CarriesOut-read size w memory c plain other first last old new ready said done step replied one never same cause =
-    CarriesOut-still size w memory c plain other first last old new said done step replied one never
+CarriesOut-read size w memory c plain other moves first last old new ready said done step replied one never same cause =
+    CarriesOut-still size w memory c plain other moves first last old new said done step replied one never
     (Applies-still size w memory (fault_of done) old new ready same (λ cut. absurd (never cut))) same cause
 
 -- ---- a text
@@ -175,6 +179,12 @@ dump_is_plain client name other is = cc
 
 pub export_is_plain : (client : ℕ) (name file : List ℕ) (other : ℕ) → Some (Export client name file) ≡ Some (Leave other) → ⊥
 export_is_plain client name file other is = cc
+
+pub dump_moves_none : (client : ℕ) (name : List ℕ) → MovesNone (Dump client name)
+dump_moves_none client name = record { none = λ F before. refl }
+
+pub export_moves_none : (client : ℕ) (name file : List ℕ) → MovesNone (Export client name file)
+export_moves_none client name file = record { none = λ F before. refl }
 
 module _ (w : World) (client : ℕ) (name : List ℕ) (F : ℕ) (image : Image) (puddles : List (ℕ × Puddle)) (holds : HoldsGraph w F name image puddles) (free : refusal_to w needs.Read client name ≡ None) where
   abbrev line : Command

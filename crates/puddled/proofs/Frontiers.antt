@@ -1,73 +1,167 @@
 -- Where lines lead frontiers.
-use Rattle.std.proofs.Common.{◌≡◌, inl, inr, ℕ, List, Option, Some, None, refl, sym, ap, subst, ◌∙◌}
+use Rattle.std.proofs.Common.{◌≡◌, ℕ, zero, suc, ◌+◌, ◌<◌, ◌≤◌, Bool, true, false, eqb, cond, List, [], ◌∷◌, Option, Some, None, refl, sym, ap, subst, ◌∙◌, arith}
+use Rattle.std.specs.Prelude.{◌-◌, max, min, slice_get}
+use Rattle.std.proofs.lemmas.Option.{none-some, same_Some}
 use Rattle.pm_model.specs.declared.host.HostFault.{HostFault}
+use Rattle.pm_model.specs.declared.host.HostFault.TheVariants.{Cut, Failed}
 use Rattle.pm_model.specs.Words.{reads}
 use Rattle.pm_model.specs.Moments.{State}
 use Rattle.pud_defs.specs.declared.machine.Command.{Command}
-use Rattle.pud_defs.specs.declared.machine.Command.TheVariants.{Drop}
+use Rattle.pud_defs.specs.declared.machine.Command.TheVariants.{Drop, Rewrite}
 use Rattle.pud_defs.specs.declared.machine.Refusal.{Refusal}
+use Rattle.pud_defs.specs.declared.records.Puddle.{Puddle}
+use Rattle.pud_defs.specs.declared.records.TheConstants.{POOL_RECORDS}
 use Rattle.pud_defs.specs.Image.{Image}
 use Rattle.pud_defs.specs.Puddles.{Member}
 use Rattle.pud_defs.specs.Step.{refusal_of, world_by}
+use Rattle.pud_defs.specs.Tables.{tables_of, puddles_in_turn}
 use Rattle.pud_defs.specs.World.{World}
+use Rattle.lazy_rewrite.specs.Frontiers.{steps_left, steps_from, frontiers_of}
 use Rattle.pool_transaction.specs.declared.changing.Change.{Change}
 use Rattle.pool_transaction.specs.declared.changing.Change.TheVariants as changes
 use Rattle.pool_transaction.specs.declared.changing.Update.TheVariants as updates
 use Rattle.pool_transaction.specs.Changing.{line_of}
+use Rattle.pool_transaction.specs.Finishing.{Finishes, FinishesUnless, IsAt, Arrives, AppliesFinishing}
+use Rattle.pool_transaction.proofs.Arriving.{HaveReached, became, arrives_known}
+use Rattle.ready_daemon.specs.Judged.{known_in}
 use Rattle.ready_daemon.specs.Memory.{Memory}
-use Rattle.ready_daemon.specs.Moves.{Stays, MovesTo, MovesUnless, still, freed_in}
+use Rattle.ready_daemon.specs.Moves.{Stays, IsOnTheWay, MovesTo, still, freed_in, led_in}
 use Rattle.ready_daemon.specs.Owning.{IsSlotOf}
-use Rattle.ready_daemon.specs.Ready.{AppliesBy, Applies}
+use Rattle.ready_daemon.specs.Ready.{IsReady, AppliesBy, Applies}
 use Rattle.ready_daemon.proofs.Applying.{AppliesBy-weaker}
-use Rattle.ready_daemon.proofs.Goals.{stays_still, unless_still}
-use Rattle.puddled.specs.Frontiers.{ends_in, OfPool, MovesFrontiers, Leads, AppliesAs}
+use Rattle.ready_daemon.proofs.Goals.{stays_still, still_stays}
+use Rattle.ready_daemon.proofs.InTurn.{known_in_turn}
+use Rattle.puddled.specs.Frontiers.{LeadsPool, MovesFrontiers, LeadsUnless, Leads, AppliesAs}
 
--- a line that moves none
-leads_still : (w : World) (command : Option Command) (before : Image) → Leads w command before still
-leads_still w None before = refl
-leads_still w (Some command) before = inl refl
+-- ---- no frontier moves
 
-pub AppliesAs-still : (size : ℕ) (w next : World) (command : Option Command) (memory : Memory) (fault : Option HostFault) (old new : State) → Applies size w next memory fault old new
-    → AppliesAs size w next command memory fault old new
-AppliesAs-still size w next command memory fault old new a = record {
-  goal = still;
-  leads = leads_still w command (reads old.now.words);
-  applies = AppliesBy-weaker Stays (MovesTo still) stays_still size w next memory fault old new a;
-}
+-- The command moves none.
+pub record MovesNone (c : Command) : Type 0 where
+  pub none : (F : ℕ) (before : Image) → MovesFrontiers F c before still
+
+none_unless : (why : Option Refusal) (F : ℕ) (c : Command) (before : Image) → MovesNone c → LeadsUnless why F c before still
+none_unless None F c before moves = moves.none F before
+none_unless (Some r) F c before moves = refl
+
+pub leads_none : (w : World) (c : Command) → MovesNone c → (before : Image) → Leads w (Some c) before still
+leads_none w c moves before = none_unless (refusal_of w c) w.stored.frames c before moves
+
+-- nor does one that is refused
+pub leads_refused : (w : World) (c : Command) (r : Refusal) → refusal_of w c ≡ Some r → (before : Image) → Leads w (Some c) before still
+leads_refused w c r refused before = subst (λ (o : Option Refusal). LeadsUnless o w.stored.frames c before still) (sym refused) refl
+
+-- a fault that is no power loss is the host's failure
+pub failed_alone : {A : Type 0} (fault : HostFault) → (Some fault ≡ Some Cut → ⊥) → (Some fault ≡ Some Failed → ⊥) → A
+failed_alone Cut never_cut never = absurd (never_cut refl)
+failed_alone Failed never_cut never = absurd (never refl)
+
+module _ (size : ℕ) (w next : World) (memory : Memory) (fault : Option HostFault) (old new : State) where
+  -- each record is where it was
+  pub arrives_still : Applies size w next memory fault old new → fault ≡ None → Arrives w.stored.frames still (reads old.now.words) (reads new.now.words)
+  arrives_still a done = record { each = λ frame m used. became Stays size w next memory old new (subst (λ (f : Option HostFault). Applies size w next memory f old new) done a) frame m used }
+
+  pub AppliesAs-still : (command : Option Command) → ((fault ≡ Some Failed → ⊥) → Leads w command (reads old.now.words) still) → Applies size w next memory fault old new
+      → AppliesAs size w next command memory fault old new
+  AppliesAs-still command leads a = record {
+    goal = still;
+    leads = leads;
+    applies = record { applies = AppliesBy-weaker Stays (MovesTo still) stays_still size w next memory fault old new a; arrives = arrives_still a };
+  }
+
+  pub AppliesAs-none : (c : Command) → MovesNone c → Applies size w next memory fault old new → AppliesAs size w next (Some c) memory fault old new
+  AppliesAs-none c moves a = AppliesAs-still (Some c) (λ never. leads_none w c moves (reads old.now.words)) a
+
+  pub AppliesAs-refused : (c : Command) (r : Refusal) → refusal_of w c ≡ Some r → Applies size w next memory fault old new → AppliesAs size w next (Some c) memory fault old new
+  AppliesAs-refused c r refused a = AppliesAs-still (Some c) (λ never. leads_refused w c r refused (reads old.now.words)) a
+
+-- a reading failed
+pub AppliesAs-failed : (size : ℕ) (w next : World) (memory : Memory) (fault : HostFault) (old new : State) (command : Option Command) → (Some fault ≡ Some Cut → ⊥) → Applies size w next memory (Some fault) old new
+    → AppliesAs size w next command memory (Some fault) old new
+AppliesAs-failed size w next memory fault old new command never_cut a = AppliesAs-still size w next memory (Some fault) old new command (failed_alone fault never_cut) a
 
 -- ---- a change of a transaction
 
-change_leads : (F : ℕ) (client : ℕ) (name : List ℕ) (before : Image) (goal : Member → Option ℕ) (change : Change) → OfPool F name before ends_in goal → MovesFrontiers F (line_of change client name) before goal
+change_leads : (F : ℕ) (client : ℕ) (name : List ℕ) (before : Image) (goal : Member → Option ℕ) (change : Change) → LeadsPool F name before (λ at by. Finishes F at before change by) goal
+    → MovesFrontiers F (line_of change client name) before goal
 change_leads F client name before goal (changes.New t) of = of
 change_leads F client name before goal (changes.Update (updates.Set s f x)) of = of
 change_leads F client name before goal (changes.Update (updates.Later s f x)) of = of
 change_leads F client name before goal (changes.Update (updates.Root s)) of = of
 change_leads F client name before goal (changes.Update (updates.Free s)) of = of
 
+unled : (own : Bool) (f : ℕ) → cond own (max f 0) f ≡ f
+unled true f = omega arith
+unled false f = refl
+
 module _ (size : ℕ) (w next : World) (client : ℕ) (name : List ℕ) (change : Change) (memory : Memory) (fault : Option HostFault) (old new : State) (slot : ℕ)
     (at : IsSlotOf w.stored.frames name (reads old.now.words) slot) where
   abbrev line : Command
   line = line_of change client name
 
-  change_as : (why : Option Refusal) → refusal_of w line ≡ why → AppliesBy (MovesUnless why slot) size w next memory fault old new → AppliesAs size w next (Some line) memory fault old new
-  change_as None free a = record {
-    goal = ends_in slot;
-    leads = inr (free, change_leads w.stored.frames client name (reads old.now.words) (ends_in slot) change (record { slot = slot; is = at; goal_is = refl }));
-    applies = a;
-  }
-  change_as (Some why) refused a = record {
-    goal = still;
-    leads = inl refl;
-    applies = AppliesBy-weaker (MovesUnless (Some why) slot) (MovesTo still) (unless_still why slot) size w next memory fault old new a;
-  }
+  -- its goals, as the refusal says
+  change_goals : (why : Option Refusal) (goal : ℕ → ℕ) → FinishesUnless why (Finishes w.stored.frames (puddles_in_turn (tables_of w.stored.frames (reads old.now.words)) slot) (reads old.now.words) change) goal
+      → LeadsUnless why w.stored.frames line (reads old.now.words) (led_in slot goal)
+  change_goals None goal so = change_leads w.stored.frames client name (reads old.now.words) (led_in slot goal) change (record { slot = slot; is = at; by = goal; goals_are = so; goal_is = refl })
+  change_goals (Some why) goal so = ap (led_in slot) so ∙ (λ i m. Some (unled (eqb m.pool (slot + 1)) m.puddle.frontier i))
 
   -- it leads them as its refusal says
-  pub AppliesAs-change : AppliesBy (MovesUnless (refusal_of w line) slot) size w next memory fault old new → AppliesAs size w next (Some line) memory fault old new
-  AppliesAs-change = change_as (refusal_of w line) refl
+  pub AppliesAs-change : AppliesFinishing slot (FinishesUnless (refusal_of w line) (Finishes w.stored.frames (puddles_in_turn (tables_of w.stored.frames (reads old.now.words)) slot) (reads old.now.words) change)) size w next memory fault old new
+      → AppliesAs size w next (Some line) memory fault old new
+  AppliesAs-change a = record { goal = led_in slot a.goal; leads = λ never. change_goals (refusal_of w line) a.goal (a.finishing never); applies = a.applies }
 
 -- ---- a pool is dropped
+
+at_freed : (own : Bool) (m : Member) (now : Option Member) → IsOnTheWay (cond own None (still m)) m now → IsAt (cond own None (still m)) m now
+at_freed true m now so = tt
+at_freed false m now so = still_stays m now so
 
 pub AppliesAs-drop : (size : ℕ) (w : World) (client : ℕ) (name : List ℕ) (behind : Memory) (fault : Option HostFault) (old new : State) (slot : ℕ) → refusal_of w (Drop client name) ≡ None
     → IsSlotOf w.stored.frames name (reads old.now.words) slot → AppliesBy (MovesTo (freed_in slot)) size w (world_by w (Some (Drop client name))) behind fault old new
     → AppliesAs size w (world_by w (Some (Drop client name))) (Some (Drop client name)) behind fault old new
-AppliesAs-drop size w client name behind fault old new slot free at a = record { goal = freed_in slot; leads = inr (free, record { slot = slot; is = at; goal_is = refl }); applies = a }
+AppliesAs-drop size w client name behind fault old new slot free at a =
+    let next = world_by w (Some (Drop client name)) in
+    record {
+      goal = freed_in slot;
+      leads = λ never. subst (λ (o : Option Refusal). LeadsUnless o w.stored.frames (Drop client name) (reads old.now.words) (freed_in slot)) (sym free) (record { slot = slot; is = at; goal_is = refl });
+      applies = record {
+        applies = a;
+        arrives = λ done. record {
+          each = λ frame m used.
+              at_freed (eqb m.pool (slot + 1)) m ((tables_of w.stored.frames (reads new.now.words)).puddles frame)
+              (became (MovesTo (freed_in slot)) size w next behind old new (subst (λ (f : Option HostFault). AppliesBy (MovesTo (freed_in slot)) size w next behind f old new) done a) frame m used);
+        };
+      };
+    }
+
+-- ---- steps are done
+
+-- no frontier is led back by them
+no_lower : (at : List (ℕ × Puddle)) (o : ℕ) (e : ℕ × Puddle) → slice_get at o ≡ Some e → (n : ℕ) → e.1.frontier ≤ frontiers_of (steps_from n at) o
+unfolding steps_from
+no_lower [] o e here n = absurd (none-some e here)
+no_lower (x ∷ at) zero e here n = let same = ap (λ (d : ℕ × Puddle). d.1.frontier) (same_Some x e here) in omega (arith, same)
+no_lower (x ∷ at) (suc o) e here n = no_lower at o e here (n - min n (steps_left x.1))
+
+reached_steps : (n : ℕ) (at : List (ℕ × Puddle)) → HaveReached at (steps_from n at) (frontiers_of (steps_from n at))
+reached_steps n at = record { each = λ o e here. let least = no_lower at o e here n in omega (arith, least) }
+
+pub AppliesAs-rewrite : (size : ℕ) (w : World) (memory behind : Memory) (name : List ℕ) (n slot : ℕ) (at : List (ℕ × Puddle)) (fault : Option HostFault) (old new : State) → IsReady size w memory old → slot < POOL_RECORDS
+    → known_in memory.judged slot ≡ Some at → refusal_of w (Rewrite name n) ≡ None → world_by w (Some (Rewrite name n)) ≡ w → IsSlotOf w.stored.frames name (reads old.now.words) slot
+    → (fault ≡ None → known_in behind.judged slot ≡ Some (steps_from n at))
+    → AppliesBy (MovesTo (led_in slot (frontiers_of (steps_from n at)))) size w (world_by w (Some (Rewrite name n))) behind fault old new
+    → AppliesAs size w (world_by w (Some (Rewrite name n))) (Some (Rewrite name n)) behind fault old new
+AppliesAs-rewrite size w memory behind name n slot at fault old new ready low known free same is behind_known a =
+    let turn = known_in_turn size w memory old ready slot at known in
+    let by = frontiers_of (steps_from n at) in
+    let next = world_by w (Some (Rewrite name n)) in
+    record {
+      goal = led_in slot by;
+      leads = λ never. subst (λ (o : Option Refusal). LeadsUnless o w.stored.frames (Rewrite name n) (reads old.now.words) (led_in slot by)) (sym free)
+          (record { slot = slot; is = is; by = by; goals_are = ap (λ (ps : List (ℕ × Puddle)). frontiers_of (steps_from n ps)) (sym turn); goal_is = refl });
+      applies = record {
+        applies = a;
+        arrives = λ done.
+            arrives_known size w memory old ready slot low at known by (steps_from n at) (reached_steps n at) next behind new (ap (λ (v : World). v.stored.frames) same) (behind_known done)
+            (subst (λ (f : Option HostFault). AppliesBy (MovesTo (led_in slot by)) size w next behind f old new) done a);
+      };
+    }

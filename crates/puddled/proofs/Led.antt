@@ -1,9 +1,9 @@
 -- Where frontiers are behind a line, and behind a restart.
-use Rattle.std.proofs.Common.{◌≡◌, ◌⊎◌, inl, inr, ℕ, ◌+◌, ◌<◌, ◌≤◌, List, [], Option, Some, None, Result, Ok, Err, refl, sym, ap, subst, ◌∙◌, arith}
+use Rattle.std.proofs.Common.{◌≡◌, ◌⊎◌, inl, inr, ℕ, ◌<◌, ◌≤◌, List, [], Option, Some, None, Result, Ok, Err, refl, sym, ap, subst, ◌∙◌, arith}
 use Rattle.std.proofs.lemmas.List.{append-nil}
 use Rattle.pm_model.specs.declared.host.HostFault.{HostFault}
 use Rattle.pm_model.specs.declared.host.HostFault.TheVariants as hosts
-use Rattle.pm_model.specs.Counts.{Counts, fault_of}
+use Rattle.pm_model.specs.Counts.{Counts}
 use Rattle.pm_model.specs.Words.{reads}
 use Rattle.pm_model.specs.Moments.{State}
 use Rattle.pm_model.specs.Changes.{Silently}
@@ -19,32 +19,46 @@ use Rattle.pud_defs.specs.Registry.{frames_of}
 use Rattle.pud_defs.specs.Replay.{settled_by}
 use Rattle.pud_defs.specs.Tables.{Tables, tables_of}
 use Rattle.pud_defs.specs.World.{World}
-use Rattle.pud_defs.proofs.Replay.{outside_log, settled_by-idle}
+use Rattle.pud_defs.proofs.Replay.{outside_log}
 use Rattle.pud_defs.proofs.TablesOf.{tables_of-same}
 use Rattle.pud_defs.proofs.Worlds.{frames_of_world, settled-below}
 use Rattle.ready_daemon.specs.Memory.{Memory}
 use Rattle.ready_daemon.specs.Moves.{MovesTo, still}
-use Rattle.ready_daemon.specs.Ready.{IsReady}
-use Rattle.ready_daemon.proofs.Beneath.{ready_gate}
-use Rattle.ready_daemon.proofs.Goals.{stays_still}
+use Rattle.ready_daemon.proofs.Goals.{stays_still, still_stays}
 use Rattle.puddled.specs.declared.answers.Answered.{Answered}
 use Rattle.puddled.specs.Daemon.{CarriesOut}
-use Rattle.puddled.specs.Frontiers.{LeadFrontiers}
+use Rattle.puddled.specs.Frontiers.{LeadsUnless, Leads, LeadFrontiers}
+use Rattle.puddled.specs.Faults.{Kind, ordinary, loses, arms, kind_of, behind_loss, CountsCommand}
+use Rattle.puddled.specs.declared.answers.Answered.TheVariants as answers
+use Rattle.pud_defs.specs.declared.machine.Command.TheVariants.{Cut, Arm}
+use Rattle.pud_defs.specs.declared.machine.Refusal.{Refusal}
+use Rattle.pud_defs.specs.declared.machine.Reply.{Reply}
+use Rattle.pud_defs.specs.declared.machine.Reply.TheVariants as replies
+use Rattle.pud_defs.specs.Step.{refusal_of}
+use Rattle.std.proofs.lemmas.Option.{none-some}
+use Rattle.pool_transaction.specs.Finishing.{Arrives}
+use Rattle.pool_transaction.proofs.Arriving.{settled_gate}
 use Rattle.puddled.specs.Starting.{IsReplayed}
 use Rattle.puddled.proofs.Restarts.{below_logs}
-use Rattle.puddled.proofs.Settling.{found_world, found_stands, found_frames}
+use Rattle.puddled.proofs.Settling.{found_stands, found_frames}
 
 -- nothing changed, at a line that is no command
-pub LeadFrontiers-bad : (w : World) (image : Image) → LeadFrontiers w None image image
-LeadFrontiers-bad w image = record { goal = still; leads = refl; each = λ frame m used. stays_still m ((tables_of w.stored.frames image).puddles frame) used }
+pub LeadFrontiers-bad : (w : World) (answered : Type 0) (image : Image) → LeadFrontiers w None answered image image
+LeadFrontiers-bad w answered image = record { goal = still; leads = refl; each = λ frame m used. stays_still m ((tables_of w.stored.frames image).puddles frame) used; arrives = λ done. record { each = λ frame m used. used } }
 
--- on a daemon that is ready the tables are read as they are with its log replayed, of so many frames
-settled_gate : (size : ℕ) (w : World) (memory : Memory) (s : State) (F : ℕ) → IsReady size w memory s → tables_of F (settled_by DAEMON_LOG (reads s.now.words)) ≡ tables_of F (reads s.now.words)
-settled_gate size w memory s F ready =
-    let image = reads s.now.words in
-    let idle = (ready_gate size w memory s ready).each (image DAEMON_LOG) ((Picks-reads s.now.words).each DAEMON_LOG) in
-    tables_of-same F (settled_by DAEMON_LOG image) image
-    (λ k low high. settled_by-idle DAEMON_LOG image k idle (outside_log DAEMON_LOG k (inr (omega arith)))) (λ k low high. settled_by-idle DAEMON_LOG image k idle (outside_log DAEMON_LOG k (inr (omega arith))))
+-- where less is asked of the answer
+pub LeadFrontiers-when : (w : World) (command : Option Command) (answered more : Type 0) (before after : Image) → (more → answered) → LeadFrontiers w command answered before after → LeadFrontiers w command more before after
+LeadFrontiers-when w command answered more before after so l = record { goal = l.goal; leads = l.leads; each = l.each; arrives = λ m. l.arrives (so m) }
+
+goal_unless : (why : Option Refusal) (F pick : ℕ) (before : Image) (goal : Member → Option ℕ) → LeadsUnless why F (Cut pick) before goal → goal ≡ still
+goal_unless None F pick before goal so = so
+goal_unless (Some r) F pick before goal so = so
+
+-- a line that asks for a loss of power moves none
+lost_is_still : (w : World) (command : Option Command) (pick : ℕ) → kind_of command ≡ loses pick → (before : Image) (goal : Member → Option ℕ) → Leads w command before goal → goal ≡ still
+lost_is_still w (Some (Cut p)) pick is before goal leads = goal_unless (refusal_of w (Cut p)) w.stored.frames p before goal leads
+lost_is_still w (Some (Arm step p)) pick is before goal leads = absurd (let no : arms step p ≡ loses pick = is in cc)
+lost_is_still w command pick is before goal leads = absurd (let no : ordinary ≡ loses pick = is in cc)
 
 module _ (size : ℕ) (w : World) (memory : Memory) (command : Option Command) (counted between : Counts) (old mid : State) where
   -- what has become of each record at the end of the command, with the daemon log replayed
@@ -56,10 +70,11 @@ module _ (size : ℕ) (w : World) (memory : Memory) (command : Option Command) (
       (k.applies.puddles.each frame m used) (reads mid.now.words) (Picks-reads mid.now.words)).1
 
   -- it was carried out
-  pub LeadFrontiers-done : (answered : Answered) → CarriesOut size w memory command (Ok answered) counted between old mid → LeadFrontiers w command (reads old.now.words) (reads mid.now.words)
-  LeadFrontiers-done answered k = record {
+  pub LeadFrontiers-done : (so : Type 0) (answered : Answered) → CarriesOut size w memory command (Ok answered) counted between old mid → LeadFrontiers w command so (reads old.now.words) (reads mid.now.words)
+  LeadFrontiers-done so answered k = record {
     goal = k.goal;
-    leads = k.leads;
+    leads = k.leads (λ no. none-some hosts.Failed no);
+    arrives = λ it. k.arrives refl;
     each = at_end (Ok answered) k (tables_of w.stored.frames (reads mid.now.words)) (settled_gate size k.under memory mid w.stored.frames (k.applies.ready refl));
   }
 
@@ -82,9 +97,25 @@ module _ (size : ℕ) (w : World) (memory : Memory) (line : List ℕ) (counted b
   settled_tables =
       tables_of-same w.stored.frames (settled_by DAEMON_LOG image) now (λ n low high. settled_word n (inl high) low (omega arith)) (λ n low high. settled_word n (inr low) (omega arith) high)
 
-  pub LeadFrontiers-lost : LeadFrontiers w (command_of line) (reads old.now.words) now
-  LeadFrontiers-lost = record {
+  each_lost : (frame : ℕ) (m : Member) → (tables_of w.stored.frames (reads old.now.words)).puddles frame ≡ Some m → MovesTo k.goal m ((tables_of w.stored.frames now).puddles frame)
+  each_lost = at_end size w memory (command_of line) counted between old mid (Err hosts.Cut) k (tables_of w.stored.frames now) settled_tables
+
+  leads_lost : Leads w (command_of line) (reads old.now.words) k.goal
+  leads_lost = k.leads (λ no. let it : Some hosts.Cut ≡ Some hosts.Failed = no in cc)
+
+  -- a line that is answered `cut` says no more; one that asks for the loss moves none
+  arrives_lost : (kind : Kind) → kind_of (command_of line) ≡ kind → (answers.Reply (behind_loss kind) ≡ answers.Reply replies.Cut → ⊥) → Arrives w.stored.frames k.goal (reads old.now.words) now
+  arrives_lost ordinary is uncut = absurd (uncut refl)
+  arrives_lost (loses pick) is uncut =
+      let goal = lost_is_still w (command_of line) pick is (reads old.now.words) k.goal leads_lost in
+      subst (λ (to : Member → Option ℕ). Arrives w.stored.frames to (reads old.now.words) now) (sym goal)
+      (record { each = λ frame m used. still_stays m ((tables_of w.stored.frames now).puddles frame) (subst (λ (to : Member → Option ℕ). MovesTo to m ((tables_of w.stored.frames now).puddles frame)) goal (each_lost frame m used)) })
+  arrives_lost (arms step pick) is uncut = absurd (let no : Some hosts.Cut ≡ None = (subst (λ (x : Kind). CountsCommand x (Some hosts.Cut) counted between) is k.counted).0 in cc)
+
+  pub LeadFrontiers-lost : (reply : Reply) → reply ≡ behind_loss (kind_of (command_of line)) → LeadFrontiers w (command_of line) (answers.Reply reply ≡ answers.Reply replies.Cut → ⊥) (reads old.now.words) now
+  LeadFrontiers-lost reply is = record {
     goal = k.goal;
-    leads = k.leads;
-    each = at_end size w memory (command_of line) counted between old mid (Err hosts.Cut) k (tables_of w.stored.frames now) settled_tables;
+    leads = leads_lost;
+    each = each_lost;
+    arrives = λ uncut. arrives_lost (kind_of (command_of line)) refl (λ cut. uncut (ap (λ (r : Reply). answers.Reply r) is ∙ cut));
   }

@@ -1,5 +1,5 @@
 -- The line that rewrites pointers of a pool: why it is refused, and what its steps leave.
-use Rattle.std.proofs.Common.{◌≡◌, inl, inr, ℕ, ◌<◌, ◌≤◌, Bool, true, false, is_some, refl, List, length, Option, Some, None, Result, Ok, Err, sym, ap, ap₂, subst, ◌∙◌, arith}
+use Rattle.std.proofs.Common.{◌≡◌, inl, inr, ℕ, ◌<◌, Bool, true, false, is_some, refl, List, length, Option, Some, None, Result, Ok, Err, sym, ap, ap₂, subst, ◌∙◌, arith}
 use Rattle.std.specs.Prelude.{cond, is_none, set, IfOk}
 use Rattle.std.proofs.lemmas.Bool.{cases_lt}
 use Rattle.std.proofs.lemmas.List.{get_or-set_same, get_or_past}
@@ -20,7 +20,7 @@ use Rattle.pud_defs.proofs.Steps.{done_world}
 use Rattle.batch.specs.Batches.{HasIdleGate}
 use Rattle.lazy_rewrite.specs.Entries.{HasLowBases}
 use Rattle.lazy_rewrite.specs.Batches.{Rewrites}
-use Rattle.lazy_rewrite.specs.Frontiers.{steps_from, frontiers_of}
+use Rattle.lazy_rewrite.specs.Frontiers.{steps_from}
 use Rattle.nesting.specs.declared.Session.{Session}
 use Rattle.ready_daemon.specs.Judged.{known_in}
 use Rattle.ready_daemon.specs.Memory.{Held, Memory}
@@ -29,13 +29,11 @@ use Rattle.ready_daemon.specs.Moves.{MovesTo, led_in}
 use Rattle.ready_daemon.specs.Ready.{IsReady, AppliesBy}
 use Rattle.ready_daemon.proofs.Applying.{AppliesBy-weaker}
 use Rattle.ready_daemon.proofs.Goals.{led_further}
-use Rattle.puddled.specs.Frontiers.{steps_in, AppliesAs}
 use Rattle.pud_defs.specs.declared.machine.Reply.{Reply}
 use Rattle.pud_defs.specs.Image.{Image}
 use Rattle.puddled.specs.declared.answers.Answered.{Answered}
 use Rattle.puddled.specs.Answered.{as_answered}
 use Rattle.puddled.specs.Rewriting.{DoesSteps}
-use Rattle.ready_daemon.proofs.InTurn.{known_in_turn}
 use Rattle.ready_daemon.proofs.Beneath.{ready_gate}
 use Rattle.pool_transaction.proofs.HeldFinishes.{low_of_placed}
 use Rattle.pool_transaction.proofs.Rewriting.{Applies-rewrites}
@@ -114,18 +112,9 @@ module _ (size : ℕ) (w : World) (F : ℕ) (held : List (Option Held)) (session
     behind = then.knows.judged.each slot (steps_from n at) (ap (λ (js : List (Option (List (ℕ × Puddle)))). known_in js slot) moves ∙ get_or-set_same judged slot (Some (steps_from n at)) None (known_within judged slot at known));
   }
 
--- where the line leads them
-pub AppliesAs-rewrite : (size : ℕ) (w : World) (memory behind : Memory) (name : List ℕ) (n slot : ℕ) (at : List (ℕ × Puddle)) (fault : Option HostFault) (old new : State) → IsReady size w memory old
-    → known_in memory.judged slot ≡ Some at → refusal_of w (Rewrite name n) ≡ None → IsSlotOf w.stored.frames name (reads old.now.words) slot
-    → AppliesBy (MovesTo (led_in slot (frontiers_of (steps_from n at)))) size w (world_by w (Some (Rewrite name n))) behind fault old new
-    → AppliesAs size w (world_by w (Some (Rewrite name n))) (Some (Rewrite name n)) behind fault old new
-AppliesAs-rewrite size w memory behind name n slot at fault old new ready known free is a =
-    let turn = known_in_turn size w memory old ready slot at known in
-    record {
-      goal = steps_in w.stored.frames (reads old.now.words) n slot;
-      leads = inr (free, record { slot = slot; is = is; goal_is = refl });
-      applies = subst (λ (ps : List (ℕ × Puddle)). AppliesBy (MovesTo (led_in slot (frontiers_of (steps_from n ps)))) size w (world_by w (Some (Rewrite name n))) behind fault old new) (sym turn) a;
-    }
+-- the pool is known by what they made of it
+pub stepped_known : (judged now : List (Option (List (ℕ × Puddle)))) (slot : ℕ) (at later : List (ℕ × Puddle)) → known_in judged slot ≡ Some at → now ≡ set judged slot (Some later) → known_in now slot ≡ Some later
+stepped_known judged now slot at later known moves = ap (λ (js : List (Option (List (ℕ × Puddle)))). known_in js slot) moves ∙ get_or-set_same judged slot (Some later) None (known_within judged slot at known)
 
 -- the steps are those behind the answer
 pub steps_answered : (F : ℕ) (name : List ℕ) (n : ℕ) (old new : Image) (done : Result Reply HostFault) (result : Result Answered HostFault) → result ≡ as_answered done

@@ -17,6 +17,7 @@ use Rattle.pud_defs.specs.Run.{Turn, IsTurn, cuts_of}
 use Rattle.pud_defs.specs.Texts.{answer_text, begins_with_ok}
 use Rattle.pud_defs.specs.Stands.{StandsWith}
 use Rattle.ready_daemon.specs.Memory.{Memory}
+use Rattle.pool_transaction.specs.Finishing.{Arrives}
 use Rattle.ready_daemon.specs.Moves.{MovesTo}
 use Rattle.ready_daemon.specs.Ready.{IsReady, RefusesNone, AppliesBy, ClosesFirst, ClosesBefore, ClosesLogs}
 use Rattle.puddled.specs.declared.answers.Answered.{Answered}
@@ -39,7 +40,7 @@ pub record KeepsAllBut (file : Option (List ℕ)) (old new : State) : Type 0 whe
   pub files : KeepsFiles file old.shelf new.shelf
 
 -- What each command owes, before the daemon goes on behind it: a step of the machine was made, and answered so, in one line, and at every moment
--- each frontier is on its way to where the line leads it; only a file that it
+-- each frontier is on its way to where the line leads it, and without a fault there; only a file that it
 -- names was written, and it names none where power was lost, in which case the world is one that it gives where memory is not refused; a client that
 -- goes has its logs closed first; it was counted by its kind.
 pub record CarriesOut (size : ℕ) (w : World) (memory : Memory) (command : Option Command) (done : Result Answered HostFault) (before after : Counts) (old new : State) : Type 0 where
@@ -50,8 +51,9 @@ pub record CarriesOut (size : ℕ) (w : World) (memory : Memory) (command : Opti
   pub replied : IfOk done (λ answered. answer_of under answered ≡ said)
   pub one_line : IfOk done IsOneLine
   pub goal : Member → Option ℕ
-  pub leads : Leads w command (reads old.now.words) goal
+  pub leads : (fault_of done ≡ Some hosts.Failed → ⊥) → Leads w command (reads old.now.words) goal
   pub applies : AppliesBy (MovesTo goal) size w under memory (fault_of done) old new
+  pub arrives : fault_of done ≡ None → Arrives w.stored.frames goal (reads old.now.words) (reads new.now.words)
   pub files : KeepsFiles (file_in command) old.shelf new.shelf
   pub no_file : fault_of done ≡ Some hosts.Cut → file_in command ≡ None
   pub closes : ClosesLogs ClosesBefore w command old new

@@ -289,11 +289,11 @@ fn go_on<H: Host>(
         → command_of line ≡ Option.Some command → before.shelf ≡ w.shelf
         → CarriesOut size w daemon.old (command_of line) done counted (H.counts h.old) before (H.state h.old)
         → Settles size w line result daemon.new counted (H.counts h.new) before (H.state h.new) }
-    // Each frontier is on the way to where the command leads it.
+    // Each frontier is on the way to where the command leads it, and there where it was not cut.
     ensures frontiers { H.tells → (size : ℕ) → size ≡ (H.counts h.old).size → (w : World) → (line : List ℕ) → (counted : Counts) → (before : State)
         → command_of line ≡ Option.Some command → before.shelf ≡ w.shelf
         → CarriesOut size w daemon.old (command_of line) done counted (H.counts h.old) before (H.state h.old)
-        → IfOk result (λ _. LeadFrontiers w (command_of line) (reads before.now.words) (reads (H.state h.new).now.words)) }
+        → IfOk result (λ answered. LeadFrontiers w (command_of line) (answered ≡ Answered.Reply Reply.Cut → ⊥) (reads before.now.words) (reads (H.state h.new).now.words)) }
     // A line that rewrites has done its steps, where it was not cut.
     ensures steps { H.tells → (F : ℕ) (name : List ℕ) (n : ℕ) (before : State) → IfOk done (λ _. DoesSteps F name n (reads before.now.words) (reads (H.state h.old).now.words))
         → command ≡ commands.Rewrite name n → IfOk result (λ answered. (answered ≡ Answered.Reply Reply.Cut → ⊥) → DoesSteps F name n (reads before.now.words) (reads (H.state h.new).now.words)) }
@@ -331,7 +331,7 @@ fn settle<H: Host>(
     ensures settles { H.tells → (size : ℕ) → size ≡ (H.counts h.old).size → (w : World) → IsReady size w daemon.old (H.state h.old)
         → Settles size w line.now result daemon.new (H.counts h.old) (H.counts h.new) (H.state h.old) (H.state h.new) }
     ensures frontiers { H.tells → (size : ℕ) → size ≡ (H.counts h.old).size → (w : World) → IsReady size w daemon.old (H.state h.old)
-        → IfOk result (λ _. LeadFrontiers w (command_of line.now) (reads (H.state h.old).now.words) (reads (H.state h.new).now.words)) }
+        → IfOk result (λ answered. LeadFrontiers w (command_of line.now) (answered ≡ Answered.Reply Reply.Cut → ⊥) (reads (H.state h.old).now.words) (reads (H.state h.new).now.words)) }
     ensures steps { H.tells → (size : ℕ) → size ≡ (H.counts h.old).size → (w : World) → IsReady size w daemon.old (H.state h.old) → (name : List ℕ) (n : ℕ)
         → command_of line.now ≡ Option.Some (commands.Rewrite name n) → refusal_of w (commands.Rewrite name n) ≡ Option.None
         → IfOk result (λ answered. (answered ≡ Answered.Reply Reply.Cut → ⊥) → DoesSteps w.stored.frames name n (reads (H.state h.old).now.words) (reads (H.state h.new).now.words)) }
@@ -431,10 +431,11 @@ impl Daemon {
         requires { device_words self.old.frames ≤ (H.counts h.old).size }
         ensures answers { H.tells → (size : ℕ) → size ≡ (H.counts h.old).size → (w : World) → IsReady size w self.old (H.state h.old)
             → Answers size w line.now aloud result self.new (H.counts h.old) (H.counts h.new) (H.state h.old) (H.state h.new) }
-        // Each frontier is behind it on the way to where the line leads it, also where power was lost in it: a line that is refused, and one that
+        // Each frontier is behind it on the way to where the line leads it, also where power was lost in it, and with its `ok` each is there: a line that
+        // rewrites leads to where its steps end, one that writes objects the puddles that it writes to their ends; a line that is refused, and one that
         // neither rewrites, writes objects nor drops its pool, moves none, and no line moves any of another pool.
         ensures frontiers { H.tells → (size : ℕ) → size ≡ (H.counts h.old).size → (w : World) → IsReady size w self.old (H.state h.old)
-            → IfOk result (λ _. LeadFrontiers w (command_of line.now) (reads (H.state h.old).now.words) (reads (H.state h.new).now.words)) }
+            → IfOk result (λ ok. LeadFrontiers w (command_of line.now) (ok ≡ true) (reads (H.state h.old).now.words) (reads (H.state h.new).now.words)) }
         // With its `ok` a line that rewrites has done its next n steps, or all that were left.
         ensures steps { H.tells → (size : ℕ) → size ≡ (H.counts h.old).size → (w : World) → IsReady size w self.old (H.state h.old) → (name : List ℕ) (n : ℕ)
             → command_of line.now ≡ Option.Some (commands.Rewrite name n) → refusal_of w (commands.Rewrite name n) ≡ Option.None

@@ -20,13 +20,13 @@ returns-in-Client-clause-carries g c = λ t size e w ready.
     let is : c.args.command ≡ Client c.from.result c.in-Client.uid c.in-Client.gid = c.in-Client.is ∙ ap (λ (k : ℕ). Client k c.in-Client.uid c.in-Client.gid) (sym c.from.ensures) in
     let frames = sym (ap (λ (m : Memory). m.frames) c.daemon.view_is) in
     CarriesOut-as size w c.args.daemon.now _ _ _ _ c.args.command (Client c.from.result c.in-Client.uid c.in-Client.gid) c.with_reply.result c.come.result is c.with_reply.ensures
-    (CarriesOut-plain size w c.args.daemon.now _ _ _ _ (Client c.from.result c.in-Client.uid c.in-Client.gid) c.come.result refl refl (c.come.ensures.reply t size e w _ frames ready) (c.come.ensures.applies t size e w _ frames ready)
+    (CarriesOut-plain size w c.args.daemon.now _ _ _ _ (Client c.from.result c.in-Client.uid c.in-Client.gid) c.come.result refl refl (record { none = λ F before. refl }) (c.come.ensures.reply t size e w _ frames ready) (c.come.ensures.applies t size e w _ frames ready)
     (ClosesLogs-other w _ _ _ (λ client no. cc)) (c.come.ensures.rest t) c.come.ensures.cause)
 
 pub returns-in-Leave-clause-carries : goal.returns-in-Leave-clause-carries
 returns-in-Leave-clause-carries g c = λ t size e w ready.
     CarriesOut-as size w c.leave.new.self _ _ _ _ c.args.command (Leave c.in-Leave.client) c.with_reply-in-Leave.result c.leave.result c.in-Leave.is c.with_reply-in-Leave.ensures
-    (CarriesOut-plain size w c.leave.new.self _ _ _ _ (Leave c.in-Leave.client) c.leave.result refl refl (c.leave.ensures.reply t size e w ready) (c.leave.ensures.applies t size e w ready)
+    (CarriesOut-plain size w c.leave.new.self _ _ _ _ (Leave c.in-Leave.client) c.leave.result refl refl (record { none = λ F before. refl }) (c.leave.ensures.reply t size e w ready) (c.leave.ensures.applies t size e w ready)
     (ClosesLogs-leave w _ _ _ (c.leave.ensures.closes_first t size e w ready)) (c.leave.ensures.rest t) c.leave.ensures.cause)
 
 pub returns-in-Define-clause-carries : goal.returns-in-Define-clause-carries
@@ -34,7 +34,7 @@ returns-in-Define-clause-carries g c = λ t size e w ready.
     let is : c.args.command ≡ Define c.in-Define.t c.in-Define.map = c.in-Define.is in
     let legal = subst IsLegalCommand is c.requires.legal in
     CarriesOut-as size w c.args.daemon.now _ _ _ _ c.args.command (Define c.in-Define.t c.in-Define.map) c.with_reply-in-Define.result c.define_type.result is c.with_reply-in-Define.ensures
-    (CarriesOut-plain size w c.args.daemon.now _ _ _ _ (Define c.in-Define.t c.in-Define.map) c.define_type.result refl refl (c.define_type.ensures.reply t size e w _ ready) (c.define_type.ensures.applies t size e w _ ready legal.0 legal.1)
+    (CarriesOut-plain size w c.args.daemon.now _ _ _ _ (Define c.in-Define.t c.in-Define.map) c.define_type.result refl refl (record { none = λ F before. refl }) (c.define_type.ensures.reply t size e w _ ready) (c.define_type.ensures.applies t size e w _ ready legal.0 legal.1)
     (ClosesLogs-other w _ _ _ (λ client no. cc)) (c.define_type.ensures.rest t) c.define_type.ensures.cause)
 
 pub returns-in-Pool-clause-carries : goal.returns-in-Pool-clause-carries
@@ -43,7 +43,7 @@ returns-in-Pool-clause-carries g c = λ t size e w ready.
     let frames = sym (ap (λ (m : Memory). m.frames) c.daemon-in-Pool.view_is) in
     let legal = subst IsLegalCommand is c.requires.legal in
     CarriesOut-as size w c.args.daemon.now _ _ _ _ c.args.command (commands.Pool c.from-in-Pool.result c.in-Pool.name c.in-Pool.mode) c.with_reply-in-Pool.result c.make.result is c.with_reply-in-Pool.ensures
-    (CarriesOut-plain size w c.args.daemon.now _ _ _ _ (commands.Pool c.from-in-Pool.result c.in-Pool.name c.in-Pool.mode) c.make.result refl refl (c.make.ensures.reply t size e w _ frames ready) (c.make.ensures.applies t size e w _ frames ready legal)
+    (CarriesOut-plain size w c.args.daemon.now _ _ _ _ (commands.Pool c.from-in-Pool.result c.in-Pool.name c.in-Pool.mode) c.make.result refl refl (record { none = λ F before. refl }) (c.make.ensures.reply t size e w _ frames ready) (c.make.ensures.applies t size e w _ frames ready legal)
     (ClosesLogs-other w _ _ _ (λ client no. cc)) (c.make.ensures.rest t) c.make.ensures.cause)
 
 pub returns-in-Chmod-clause-carries : goal.returns-in-Chmod-clause-carries
@@ -51,7 +51,7 @@ returns-in-Chmod-clause-carries g c = λ t size e w ready.
     let chmod = Chmod c.in-Chmod.client c.in-Chmod.name c.in-Chmod.mode in
     let legal = subst IsLegalCommand c.in-Chmod.is c.requires.legal in
     CarriesOut-as size w c.change_for.new.self _ _ _ _ c.args.command chmod c.with_reply-in-Chmod.result c.change_for.result c.in-Chmod.is c.with_reply-in-Chmod.ensures
-    (CarriesOut-plain size w c.change_for.new.self _ _ _ _ chmod c.change_for.result refl refl (c.change_for.ensures.reply t size w ready) (c.change_for.ensures.applies t size e w ready legal)
+    (CarriesOut-plain size w c.change_for.new.self _ _ _ _ chmod c.change_for.result refl refl (record { none = λ F before. refl }) (c.change_for.ensures.reply t size w ready) (c.change_for.ensures.applies t size e w ready legal)
     (ClosesLogs-other w _ _ _ (λ client no. cc)) (c.change_for.ensures.rest t) c.change_for.ensures.cause)
 
 pub returns-in-Drop-clause-carries : goal.returns-in-Drop-clause-carries
@@ -80,7 +80,7 @@ pub returns-in-Get-clause-carries : goal.returns-in-Get-clause-carries
 returns-in-Get-clause-carries g c = λ t size e w ready.
     let get = Get c.in-Get.client c.in-Get.name c.in-Get.s c.in-Get.f in
     CarriesOut-as size w c.get_for.new.self _ _ _ _ c.args.command get c.with_reply-in-Get.result c.get_for.result c.in-Get.is c.with_reply-in-Get.ensures
-    (CarriesOut-plain size w c.get_for.new.self _ _ _ _ get c.get_for.result refl refl (c.get_for.ensures.reply t size w ready) (c.get_for.ensures.applies t size w ready)
+    (CarriesOut-plain size w c.get_for.new.self _ _ _ _ get c.get_for.result refl refl (record { none = λ F before. refl }) (c.get_for.ensures.reply t size w ready) (c.get_for.ensures.applies t size w ready)
     (ClosesLogs-other w _ _ _ (λ client no. cc)) (KeepsRest-still _ _ (c.get_for.ensures.only_reads.stays t)) c.get_for.ensures.only_reads.cause)
 
 pub returns-in-Begin-clause-carries : goal.returns-in-Begin-clause-carries

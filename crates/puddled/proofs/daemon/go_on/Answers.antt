@@ -1,4 +1,4 @@
-use Rattle.std.proofs.Common.{◌≡◌, ℕ, inl, inr, ⊎_elim, Some, Result, Ok, Err, refl, ap, subst, ◌∙◌}
+use Rattle.std.proofs.Common.{sym, ◌≡◌, ℕ, inl, inr, ⊎_elim, Some, Result, Ok, Err, refl, ap, subst, ◌∙◌, Option}
 use Rattle.std.proofs.lemmas.Result.{err_from_is_err_and}
 use Rattle.pm_model.specs.declared.host.HostFault.{HostFault}
 use Rattle.pm_model.specs.declared.host.HostFault.TheVariants as hosts
@@ -94,7 +94,7 @@ returns-in_ok-started-in-Err-Cut-clause-restarted g c = λ t rested counted coun
 
 pub returns-in-Ok-clause-frontiers : goal.returns-in-Ok-clause-frontiers
 returns-in-Ok-clause-frontiers g c = λ t size e w line counted before of_line shelf carries.
-    LeadFrontiers-done size w _ (command_of line) _ _ before _ _
+    LeadFrontiers-done size w _ (command_of line) _ _ before _ _ _
     (subst (λ (r : Result Answered HostFault). CarriesOut size w c.args.daemon.now (command_of line) r counted (g.H.Host.counts c.args.h.now) before (g.H.Host.state c.args.h.now)) c.in-Ok.is carries)
 
 pub returns-in_ok-started-in-Err-Cut-clause-frontiers : goal.returns-in_ok-started-in-Err-Cut-clause-frontiers
@@ -102,7 +102,8 @@ returns-in_ok-started-in-Err-Cut-clause-frontiers g c = λ t size e w line count
     let is : c.args.done ≡ Err hosts.Cut = c.in-Err-Cut.is ∙ ap Err (rw c.in-Err-Cut.is at c.in-Err-Cut.field-0-is) in
     let mid = g.H.Host.state c.args.h.now in
     let k = subst (λ (r : Result Answered HostFault). CarriesOut size w c.args.daemon.now (command_of line) r counted (g.H.Host.counts c.args.h.now) before mid) is carries in
-    LeadFrontiers-lost size w _ line _ _ before mid k shelf _ (c.in_ok-started-in-Err-Cut.ensures.replays t (k.applies.rests refl))
+    LeadFrontiers-lost size w _ line _ _ before mid k shelf _ (c.in_ok-started-in-Err-Cut.ensures.replays t (k.applies.rests refl)) c.reply_behind_loss.result
+    (c.reply_behind_loss.ensures ∙ ap (λ (x : Option Command). behind_loss (kind_of x)) (sym of_line))
 
 pub returns-in-Ok-clause-steps : goal.returns-in-Ok-clause-steps
 returns-in-Ok-clause-steps g c = λ t F name n before does is cut.

@@ -70,7 +70,8 @@ returns-clause-room g c =
 pub returns-in_default-clause-frontiers : goal.returns-in_default-clause-frontiers
 returns-in_default-clause-frontiers g c = λ t size e w ready.
     let image = reads (g.H.Host.state c.args.h.now).now.words in
-    subst (λ (o : Option Command). LeadFrontiers w o image image) (ap result_ok (sym c.in_default.is) ∙ c.parse_line.ensures.command) (LeadFrontiers-bad w image)
+    subst (λ (o : Option Command). LeadFrontiers w o (answers.Reply (replies.No refusals.Bad) ≡ answers.Reply replies.Cut → ⊥) image image) (ap result_ok (sym c.in_default.is) ∙ c.parse_line.ensures.command)
+    (LeadFrontiers-bad w (answers.Reply (replies.No refusals.Bad) ≡ answers.Reply replies.Cut → ⊥) image)
 
 pub returns-clause-frontiers : goal.returns-clause-frontiers
 returns-clause-frontiers g c = λ t size e w ready.

@@ -4,7 +4,7 @@ use Rattle.pm_model.specs.Words.{reads}
 use Rattle.pud_defs.specs.Tables.{tables_of, puddles_in_turn}
 use Rattle.ready_daemon.specs.Memory.{Held}
 use Rattle.pool_transaction.specs.Changing.{with_opened}
-use Rattle.pool_transaction.proofs.HeldGrows.{grows_failed, grows_unread, grows_done}
+use Rattle.pool_transaction.proofs.HeldGrows.{grows_failed, grows_unread, grows_done, grows_longer}
 use Rattle.ready_daemon.proofs.Keeping.{KeepsRest-changes, KeepsRest-still, KeepsRest-then}
 use Rattle.pool_transaction.proofs.opened.Opened.grow.Goals as goal
 
@@ -33,6 +33,16 @@ pub returns-clause-grows : goal.returns-clause-grows
 returns-clause-grows g c = λ t size e w memory its ready by.
     let held = c.args.self.now in
     grows_done size w memory held (g.H.Host.state c.args.h.now) held.number its.there ready c.args.added c.args.frames (sym its.frames ∙ ready.frames) c.args.pool.now its.known by
+    c.in_ok-pool.field-0 (g.H.Host.state c.grow_pool.new.h) (g.H.Host.state c.find_puddles.new.h)
+    (λ idle. c.in_ok-grow_pool.ensures.commits t idle)
+    (λ mask at. c.in_ok-grow_pool.ensures.grows t size e w.stored _ mask at)
+    (c.in_ok-pool.ensures.only_reads.stays t)
+    (c.in_ok-pool.ensures.found t _ refl ∙ ap (λ (h : Held). puddles_in_turn (tables_of c.args.frames (reads (g.H.Host.state c.grow_pool.new.h).now.words)) h.slot) c.self.view_is)
+
+pub returns-clause-longer : goal.returns-clause-longer
+returns-clause-longer g c = λ t size e w memory its ready by.
+    let held = c.args.self.now in
+    grows_longer size w memory held (g.H.Host.state c.args.h.now) held.number its.there ready c.args.added c.args.frames (sym its.frames ∙ ready.frames) c.args.pool.now its.known by
     c.in_ok-pool.field-0 (g.H.Host.state c.grow_pool.new.h) (g.H.Host.state c.find_puddles.new.h)
     (λ idle. c.in_ok-grow_pool.ensures.commits t idle)
     (λ mask at. c.in_ok-grow_pool.ensures.grows t size e w.stored _ mask at)

@@ -23,14 +23,16 @@ use Rattle.hybrid_tx.proofs.Objects.LowestSlot.{one_lowest, lowest_is_free, one_
 use Rattle.hybrid_tx.proofs.Objects.ObjectPut.{MakesIn-stopped}
 use Rattle.ready_daemon.specs.Judged.{known_in}
 use Rattle.ready_daemon.specs.Memory.{Held, held_under}
-use Rattle.ready_daemon.specs.Moves.{MovesOn}
-use Rattle.ready_daemon.specs.Ready.{IsReady, AppliesBy}
+use Rattle.ready_daemon.specs.Moves.{led_in}
+use Rattle.ready_daemon.specs.Ready.{IsReady}
+use Rattle.pool_transaction.specs.Finishing.{end_of_both, FinishesLowest, AppliesTo, AppliesFinishing}
+use Rattle.pool_transaction.proofs.Leading.{ends_both, finishes_lowest, finishing_failed, finishing_led}
 use Rattle.ready_daemon.proofs.Beneath.{ready_gate}
-use Rattle.ready_daemon.proofs.Applying.{Applies-stopped, still_line}
+use Rattle.ready_daemon.proofs.Applying.{Applies-stopped}
 use Rattle.ready_daemon.proofs.Keeping.{KeepsRest-still, KeepsRest-changes, KeepsRest-then}
 use Rattle.pool_transaction.specs.Changing.{with_opened, refusal_by_world, with_made, both_finished, MakesBehind}
 use Rattle.pool_transaction.proofs.FinishedPools.{HaveMoved-both, IsSlotOf-moved}
-use Rattle.pool_transaction.proofs.HeldFinishes.{its_puddles, its_placed, low_of_placed, memory_finished, MayMakeAt, Applies-unfinished, ready_finished, known_finished, Applies-behind, may_make_at}
+use Rattle.pool_transaction.proofs.HeldFinishes.{its_puddles, its_placed, its_frontiers, low_of_placed, memory_finished, MayMakeAt, Applies-unfinished, ready_finished, known_finished, Applies-behind, may_make_at}
 use Rattle.pool_transaction.proofs.HeldMakes.{all_live, not_live, serial_made, made_there, Applies-made}
 use Rattle.pool_transaction.proofs.HeldRuns.{with_tx}
 use Rattle.pool_transaction.proofs.opened.Opened.make.Goals as goal
@@ -47,7 +49,7 @@ returns-in-Err-Full-clause-makes g c = λ t size w memory its ready none less.
     let held = c.args.self.now in
     let old = g.H.Host.state c.args.h.now in
     let same = sym its.frames ∙ ready.frames in
-    absurd {A = AppliesBy (MovesOn held.slot) size w (with_made held.name c.args.t w) (with_opened held.number held.slot held c.args.pool.now memory) None old (g.H.Host.state c.alloc_slot.new.h)}
+    absurd {A = AppliesFinishing held.slot (FinishesLowest c.args.frames c.args.pool.now (reads old.now.words)) size w (with_made held.name c.args.t w) (with_opened held.number held.slot held c.args.pool.now memory) None old (g.H.Host.state c.alloc_slot.new.h)}
     (not_live size w memory held old held.number its.there ready c.args.frames c.args.pool.now same (its_puddles size w memory held old held.number its.there ready c.args.frames same c.args.pool.now its.known) less
     (all_live_there c.args.frames c.args.pool.now c.as_slice.result.now (reads (g.H.Host.state c.args.h.now).now.words) c.in-Err-Full.field-0 c.as_slice.ensures.puddles c.in-Err-Full.field-0-is (c.in-Err-Full.ensures.full t _ refl)))
 
@@ -69,7 +71,7 @@ pub returns-in-Err-Host-clause-makes : goal.returns-in-Err-Host-clause-makes
 returns-in-Err-Host-clause-makes g c = λ t size w memory its ready none less.
     let read = rw c.in-Err-Host.field-0-is at c.in-Err-Host.ensures.only_reads in
     let held = c.args.self.now in
-    still_line None held.slot size w _ _ _ _ _
+    finishing_failed held.slot (FinishesLowest c.args.frames c.args.pool.now (reads (g.H.Host.state c.args.h.now).now.words)) size w _ _ _ _ _ read.never_cut
     (Applies-stopped size w (with_made held.name c.args.t w) memory (with_opened held.number held.slot held c.args.pool.now memory) c.in-Err-Host.fault (g.H.Host.state c.args.h.now) (g.H.Host.state c.alloc_slot.new.h) ready
     (read.stays t) (λ cut. absurd (read.never_cut cut)))
 
@@ -96,9 +98,16 @@ returns-in_err-finish_both-clause-makes g c =
     let mid = g.H.Host.state c.finish_both.new.h in
     let still = c.in-Ok.ensures.only_reads.stays t in
     let then = subst (λ (s : State). IsReady size w memory s) (sym still) ready in
-    subst (λ (s : State). AppliesBy (MovesOn held.slot) size w (with_made held.name c.args.t w) (with_opened held.number held.slot held c.finish_both.new.pool memory) (Some c.in_err-finish_both.field-0.0) s mid) still
-    (Applies-unfinished size w memory held start held.number its.there then c.args.frames (sym its.frames ∙ ready.frames) at its.known (frontiers_of (both_finished c.in-Ok.at.ordinal at)) c.finish_both.new.pool
-    c.in_err-finish_both.field-0.0 mid (c.in_err-finish_both.ensures.rewrites t) (with_made held.name c.args.t w) (with_opened held.number held.slot held c.finish_both.new.pool memory) refl))
+    let same = sym its.frames ∙ ready.frames in
+    let o = c.in-Ok.at.ordinal in
+    let image : Image = reads (g.H.Host.state c.args.h.now).now.words in
+    let found = subst (λ (ds : List (ℕ × Puddle)). IsLowestFreeSlot (stored_in c.args.frames ds image) (place_of_slot c.in-Ok.at)) c.as_slice.ensures.puddles (c.in-Ok.ensures.free t image refl) in
+    let within = subst (λ (ds : List (ℕ × Puddle)). IsSlotOf ds c.in-Ok.at) c.as_slice.ensures.puddles c.in-Ok.ensures.within in
+    finishing_led held.slot (FinishesLowest c.args.frames at image) (end_of_both o) (finishes_lowest c.args.frames at image c.in-Ok.at within found) size w _ _ _ _ _
+    (subst (λ (s : State). AppliesTo (led_in held.slot (end_of_both o)) size w (with_made held.name c.args.t w) (with_opened held.number held.slot held c.finish_both.new.pool memory) (Some c.in_err-finish_both.field-0.0) s mid) still
+    (Applies-unfinished size w memory held start held.number its.there then c.args.frames same at its.known (frontiers_of (both_finished o at)) c.finish_both.new.pool
+    (both_finished o at) (end_of_both o) (ends_both at o (its_frontiers size w memory held start held.number its.there then c.args.frames same at its.known))
+    c.in_err-finish_both.field-0.0 mid (c.in_err-finish_both.ensures.rewrites t) (with_made held.name c.args.t w) (with_opened held.number held.slot held c.finish_both.new.pool memory) refl)))
 
 pub returns-in_err-finish_both-clause-full : goal.returns-in_err-finish_both-clause-full
 returns-in_err-finish_both-clause-full g c = λ t size w memory its ready more.
@@ -161,10 +170,15 @@ returns-clause-makes g c = λ t size w memory its ready none less.
     let owes = c.in_ok-finish_both.ensures.rewrites t in
     let lowest = subst (λ (ds : List (ℕ × Puddle)). IsLowestFreeSlot (stored_in F ds (reads start.now.words)) (place_of_slot c.in-Ok.at)) c.as_slice.ensures.puddles
     (c.in-Ok.ensures.free t (reads start.now.words) (ap (λ (s : State). reads s.now.words) (sym still))) in
-    subst (λ (s : State). AppliesBy (MovesOn c.args.self.now.slot) size w (with_made c.args.self.now.name c.args.t w) (with_opened c.args.self.now.number c.args.self.now.slot (with_tx c.new_at-made.new.self held) later memory) fault s new) still
+    let o = c.in-Ok.at.ordinal in
+    let image : Image = reads (g.H.Host.state c.args.h.now).now.words in
+    let found = subst (λ (ds : List (ℕ × Puddle)). IsLowestFreeSlot (stored_in F ds image) (place_of_slot c.in-Ok.at)) c.as_slice.ensures.puddles (c.in-Ok.ensures.free t image refl) in
+    let within = subst (λ (ds : List (ℕ × Puddle)). IsSlotOf ds c.in-Ok.at) c.as_slice.ensures.puddles c.in-Ok.ensures.within in
+    finishing_led c.args.self.now.slot (FinishesLowest F at image) (end_of_both o) (finishes_lowest F at image c.in-Ok.at within found) size w _ _ _ _ _
+    (subst (λ (s : State). AppliesTo (led_in c.args.self.now.slot (end_of_both o)) size w (with_made c.args.self.now.name c.args.t w) (with_opened c.args.self.now.number c.args.self.now.slot (with_tx c.new_at-made.new.self held) later memory) fault s new) still
     (subst (λ (o : Held).
     held_under memory.held o.number ≡ Some o → known_in memory.judged o.slot ≡ Some at → refusal_by_world w o c.args.t ≡ None
-    → AppliesBy (MovesOn o.slot) size w (with_made o.name c.args.t w) (with_opened o.number o.slot (with_tx c.new_at-made.new.self held) later memory) fault start new)
+    → AppliesTo (led_in o.slot (end_of_both c.in-Ok.at.ordinal)) size w (with_made o.name c.args.t w) (with_opened o.number o.slot (with_tx c.new_at-made.new.self held) later memory) fault start new)
     c.self.view_is
     (λ there known none.
     let behind = memory_finished size w memory held start held.number there then F same at known goal later in
@@ -172,12 +186,13 @@ returns-clause-makes g c = λ t size w memory its ready none less.
     let known_then = known_finished size w memory held start held.number there then F same at known goal later mid owes in
     let may = subst (λ (ds : List (ℕ × Puddle)). MayMakeAt F ds (reads mid.now.words) c.in-Ok.at) (sym c.as_slice-2.ensures.puddles)
     (may_make_at size w memory held start held.number there then F same at known goal later mid owes c.in-Ok.at c.in_ok-finish_both.ensures.pool lowest) in
-    Applies-behind size w memory held start held.number there then F same at known goal later mid owes (with_made held.name c.args.t w) (with_opened held.number held.slot (with_tx c.new_at-made.new.self held) later memory) fault new refl
+    Applies-behind size w memory held start held.number there then F same at known goal later (both_finished c.in-Ok.at.ordinal at) (end_of_both c.in-Ok.at.ordinal)
+    (ends_both at c.in-Ok.at.ordinal (its_frontiers size w memory held start held.number there then F same at known)) mid owes c.in_ok-finish_both.ensures.pool (with_made held.name c.args.t w) (with_opened held.number held.slot (with_tx c.new_at-made.new.self held) later memory) fault new refl
     (Applies-made size w behind held mid held.number there ready_then F c.as_slice-2.result.now same (c.as_slice-2.ensures.puddles ∙ its_puddles size w behind held mid held.number there ready_then F same later known_then)
     c.args.t none c.new_at-made.new.self new c.new_at-made.ensures.at c.new_at-made.result
     (λ m defined left placed running. c.new_at-made.ensures.runs t _ m _ _ _ _ placed running defined left may.first may.its may.free)
     c.new_at-made.ensures.counts))
-    its.there its.known none)
+    its.there its.known none))
 
 pub returns-clause-serial : goal.returns-clause-serial
 returns-clause-serial g c = λ t size w memory its ready less.

@@ -8,13 +8,14 @@ use Rattle.lazy_rewrite.proofs.Spared.{HaveMoved}
 use Rattle.pool_transaction.specs.Changing.{IsHeldIn, with_opened, update_line}
 use Rattle.ready_daemon.specs.Memory.{Held}
 use Rattle.ready_daemon.specs.Held.{IsHeldWithin}
-use Rattle.ready_daemon.specs.Moves.{MovesOn}
-use Rattle.ready_daemon.specs.Ready.{AppliesBy}
 use Rattle.ready_daemon.proofs.Keeping.{KeepsRest-changes, KeepsRest-then}
 use Rattle.pool_transaction.proofs.HeldRuns.{with_tx}
 use Rattle.pool_transaction.proofs.FinishedPools.{HaveMoved-finished}
 use Rattle.pool_transaction.proofs.FoundBehind.{found_within_behind}
 use Rattle.pool_transaction.proofs.HeldUpdates.{Applies-unfinished_update, Applies-update}
+use Rattle.ready_daemon.specs.Moves.{led_in}
+use Rattle.pool_transaction.specs.Finishing.{end_of, AppliesTo}
+use Rattle.pool_transaction.specs.Changing.{ordinal_written}
 use Rattle.pool_transaction.proofs.opened.Opened.update.Goals as goal
 
 pub returns-in_err-finish-clause-applies : goal.returns-in_err-finish-clause-applies
@@ -22,7 +23,7 @@ returns-in_err-finish-clause-applies g c =
     let p = err_from_is_err_and c.from_residual.result c.from_residual.ensures.1 in
     rw (p.1, p.2) (λ t update size e w memory its ready free found.
     let held = c.args.self.now in
-    Applies-unfinished_update size w memory held (g.H.Host.state c.args.h.now) c.args.frames c.args.pool.now its ready update c.ordinal_written.result c.finish.new.pool (g.H.Host.state c.finish.new.h)
+    Applies-unfinished_update size w memory held (g.H.Host.state c.args.h.now) c.args.frames c.args.pool.now its ready update c.ordinal_written.result c.finish.new.pool (g.H.Host.state c.finish.new.h) c.args.found c.ordinal_written.ensures
     (with_opened held.number held.slot held c.finish.new.pool memory) c.in_err-finish.field-0.0 (c.in_err-finish.ensures.rewrites t size e))
 
 pub returns-in_err-finish-clause-rest : goal.returns-in_err-finish-clause-rest
@@ -47,7 +48,7 @@ returns-clause-applies g c = λ t update size e w memory its ready free found.
     let new = g.H.Host.state c.carry_out-done.new.h in
     subst (λ (h : Held).
     IsHeldIn c.args.frames h at memory → refusal_of w (update_line update h.client h.name) ≡ None
-    → AppliesBy (MovesOn h.slot) size w (after w (update_line update h.client h.name)) (with_opened h.number h.slot (with_tx c.carry_out-done.new.tx held) later memory) (fault_of c.carry_out-done.result) old new)
+    → AppliesTo (led_in h.slot (end_of (ordinal_written c.args.found))) size w (after w (update_line update h.client h.name)) (with_opened h.number h.slot (with_tx c.carry_out-done.new.tx held) later memory) (fault_of c.carry_out-done.result) old new)
     c.self.view_is
     (λ its free.
     Applies-update size w memory held old c.args.frames at its ready update o later (g.H.Host.state c.finish.new.h) c.args.found c.ordinal_written.ensures c.in_ok-finish.ensures.pool (c.in_ok-finish.ensures.rewrites t size e)

@@ -11,10 +11,14 @@ use Rattle.pool_transaction.specs.Changing.{IsHeldIn, with_opened, update_line, 
 use Rattle.hybrid_tx.specs.Grounds.{IsPlaced}
 use Rattle.ready_daemon.specs.Memory.{Memory}
 use Rattle.ready_daemon.specs.Ready.{IsReady}
-use Rattle.ready_daemon.proofs.Applying.{Applies-stopped, Applies-refused, Applies-behind_reads, still_line, moving_line}
+use Rattle.ready_daemon.proofs.Applying.{Applies-stopped, Applies-refused}
 use Rattle.pool_transaction.proofs.ChangeAnswers.{change_answer}
 use Rattle.pool_transaction.proofs.HeldFinishes.{its_placed}
 use Rattle.pool_transaction.proofs.HeldUpdates.{opened_same}
+use Rattle.pool_transaction.specs.Finishing.{end_of, FinishesFor, FinishesUnless}
+use Rattle.pool_transaction.specs.Changing.{ordinal_written}
+use Rattle.pool_transaction.proofs.Leading.{AppliesTo-behind_reads, finishes_found, finishing_failed, finishing_refused, finishing_free}
+use Rattle.pud_defs.specs.Image.{Image}
 use Rattle.pool_transaction.proofs.opened.Opened.update_or_refuse.Goals as goal
 
 pub returns-in_err-found-clause-applies : goal.returns-in_err-found-clause-applies
@@ -23,7 +27,7 @@ returns-in_err-found-clause-applies g c =
     rw (p.1, p.2) (λ t size e w memory its ready.
     let held = c.args.self.now in
     let k = c.in_err-found.ensures.only_reads in
-    still_line (refusal_of w (update_line c.args.update held.client held.name)) held.slot size w _ _ _ _ _
+    finishing_failed held.slot (FinishesUnless (refusal_of w (update_line c.args.update held.client held.name)) (FinishesFor c.args.frames c.args.pool.now (reads (g.H.Host.state c.args.h.now).now.words) c.args.update)) size w _ _ _ _ _ k.never_cut
     (Applies-stopped size w (world_by w (Some (update_line c.args.update held.client held.name))) memory (with_opened held.number held.slot held c.args.pool.now memory) c.in_err-found.field-0.0 _ _
     ready (k.stays t) (λ cut. absurd (k.never_cut cut))))
 
@@ -37,10 +41,11 @@ pub returns-in-Err-clause-applies : goal.returns-in-Err-clause-applies
 returns-in-Err-clause-applies g c = λ t size e w memory its ready.
     let held = c.args.self.now in
     let lent = subst (λ (at : List (ℕ × Puddle)). IsHeldIn c.args.frames held at memory) (sym c.as_slice.ensures.puddles) its in
-    still_line (refusal_of w (update_line c.args.update held.client held.name)) held.slot size w _ _ _ _ _
+    let refused = sym (c.in_ok-found.ensures.refusal t size w memory lent ready) ∙ ap refusal_in c.in-Err.is in
+    finishing_refused held.slot (FinishesFor c.args.frames c.args.pool.now (reads (g.H.Host.state c.args.h.now).now.words) c.args.update) (refusal_of w (update_line c.args.update held.client held.name)) c.in-Err.refusal refused size w _ _ _ _ _
     (Applies-refused size w (with_opened held.number held.slot held c.args.pool.now memory) (update_line c.args.update held.client held.name) c.in-Err.refusal _ _
     (subst (λ (m : Memory). IsReady size w m (g.H.Host.state c.args.h.now)) (sym (opened_same c.args.frames held c.args.pool.now memory its)) ready)
-    (sym (c.in_ok-found.ensures.refusal t size w memory lent ready) ∙ ap refusal_in c.in-Err.is) (c.in_ok-found.ensures.only_reads.stays t))
+    refused (c.in_ok-found.ensures.only_reads.stays t))
 
 pub update-requires-clause-found : goal.update-requires-clause-found
 update-requires-clause-found g c = subst (λ (at : List (ℕ × Puddle)). IsFoundWithin at c.in-Ok.found) c.as_slice.ensures.puddles (rw c.in-Ok.is at c.in_ok-found.ensures.within)
@@ -66,10 +71,15 @@ returns-in_err-update-clause-applies g c =
     let placed = subst (λ (at : List (ℕ × Puddle)). IsPlaced c.args.frames at) (sym same) (its_placed size w memory held old held.number its.there ready c.args.frames (sym its.frames ∙ ready.frames) at its.known) in
     let now = reads (g.H.Host.state c.find_update.new.h).now.words in
     let found = rw c.in-Ok.is at (k.found t now (sym (still_reads k.only_reads t refl)) placed) in
-    moving_line (refusal_of w (update_line c.args.update held.client held.name)) held.slot size w _ _ _ _ _ free
-    (Applies-behind_reads size w (with_opened held.number held.slot c.update.new.self c.update.new.pool memory) (update_line c.args.update held.client held.name) (Some c.in_err-update.field-0.0) _ _ _ free (k.only_reads.stays t)
+    let by = subst (λ (ds : List (ℕ × Puddle)). IsFoundBy c.args.frames ds now c.args.update c.in-Ok.found) same found in
+    let within = subst (λ (ds : List (ℕ × Puddle)). IsFoundWithin ds c.in-Ok.found) same (rw c.in-Ok.is at c.in_ok-found.ensures.within) in
+    let still = ap (λ (x : State). reads x.now.words) (k.only_reads.stays t) in
+    let by_then = subst (λ (i : Image). IsFoundBy c.args.frames at i c.args.update c.in-Ok.found) still by in
+    finishing_free held.slot (FinishesFor c.args.frames at (reads old.now.words) c.args.update) (refusal_of w (update_line c.args.update held.client held.name)) free (end_of (ordinal_written c.in-Ok.found))
+    (finishes_found c.args.frames at (reads old.now.words) c.args.update c.in-Ok.found within by_then) size w _ _ _ _ _
+    (AppliesTo-behind_reads held.slot (end_of (ordinal_written c.in-Ok.found)) size w (with_opened held.number held.slot c.update.new.self c.update.new.pool memory) (update_line c.args.update held.client held.name) (Some c.in_err-update.field-0.0) _ _ _ free (k.only_reads.stays t)
     (c.in_err-update.ensures.applies t c.args.update size (still_size k.only_reads e) w memory its then free
-    (subst (λ (at : List (ℕ × Puddle)). IsFoundBy c.args.frames at now c.args.update c.in-Ok.found) same found))))
+    by)))
 
 pub returns-clause-applies : goal.returns-clause-applies
 returns-clause-applies g c = λ t size e w memory its ready.
@@ -84,7 +94,12 @@ returns-clause-applies g c = λ t size e w memory its ready.
     let placed = subst (λ (at : List (ℕ × Puddle)). IsPlaced c.args.frames at) (sym same) (its_placed size w memory held old held.number its.there ready c.args.frames (sym its.frames ∙ ready.frames) at its.known) in
     let now = reads (g.H.Host.state c.find_update.new.h).now.words in
     let found = rw c.in-Ok.is at (k.found t now (sym (still_reads k.only_reads t refl)) placed) in
-    moving_line (refusal_of w (update_line c.args.update held.client held.name)) held.slot size w _ _ _ _ _ free
-    (Applies-behind_reads size w (with_opened held.number held.slot c.update.new.self c.update.new.pool memory) (update_line c.args.update held.client held.name) _ _ _ _ free (k.only_reads.stays t)
+    let by = subst (λ (ds : List (ℕ × Puddle)). IsFoundBy c.args.frames ds now c.args.update c.in-Ok.found) same found in
+    let within = subst (λ (ds : List (ℕ × Puddle)). IsFoundWithin ds c.in-Ok.found) same (rw c.in-Ok.is at c.in_ok-found.ensures.within) in
+    let still = ap (λ (x : State). reads x.now.words) (k.only_reads.stays t) in
+    let by_then = subst (λ (i : Image). IsFoundBy c.args.frames at i c.args.update c.in-Ok.found) still by in
+    finishing_free held.slot (FinishesFor c.args.frames at (reads old.now.words) c.args.update) (refusal_of w (update_line c.args.update held.client held.name)) free (end_of (ordinal_written c.in-Ok.found))
+    (finishes_found c.args.frames at (reads old.now.words) c.args.update c.in-Ok.found within by_then) size w _ _ _ _ _
+    (AppliesTo-behind_reads held.slot (end_of (ordinal_written c.in-Ok.found)) size w (with_opened held.number held.slot c.update.new.self c.update.new.pool memory) (update_line c.args.update held.client held.name) _ _ _ _ free (k.only_reads.stays t)
     (c.in_ok-update.ensures.applies t c.args.update size (still_size k.only_reads e) w memory its then free
-    (subst (λ (at : List (ℕ × Puddle)). IsFoundBy c.args.frames at now c.args.update c.in-Ok.found) same found)))
+    by))

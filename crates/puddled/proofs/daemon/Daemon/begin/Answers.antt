@@ -13,8 +13,8 @@ use Rattle.ready_daemon.specs.Owning.{refusal_found}
 use Rattle.puddled.specs.declared.finding.Found.{Found}
 use Rattle.puddled.specs.declared.finding.Need.TheVariants as needs
 use Rattle.puddled.specs.Finding.{needs_graph, IsFound}
-use Rattle.puddled.proofs.Frontiers.{AppliesAs-still}
-use Rattle.puddled.proofs.Commanding.{ready_read, CarriesOut-refused, CarriesOut-unread, CarriesOut-replied, Applies-untouched, begin_is_plain}
+use Rattle.puddled.proofs.Frontiers.{AppliesAs-none}
+use Rattle.puddled.proofs.Commanding.{ready_read, CarriesOut-refused, CarriesOut-unread, CarriesOut-replied, Applies-untouched, begin_is_plain, begin_moves_none}
 use Rattle.puddled.proofs.Entering.{there_is}
 use Rattle.puddled.proofs.Found.{finds, may_begin}
 use Rattle.puddled.proofs.Needs.{refused_begin}
@@ -48,7 +48,7 @@ returns-in-Some-clause-carries g c = λ t size e w ready.
     let n = c.begin_deeper.ensures in
     CarriesOut-replied size w c.begin_deeper.new.self _ _ _ _ _ _ (Begin c.args.client c.args.name) (begin_is_plain c.args.client c.args.name) (k.only_reads.stays t) k.only_reads.cause (KeepsRest-still _ _ refl)
     (Ok c.begin_deeper.result) (n.reply size w c.args.name s here.ready mine here.free)
-    (AppliesAs-still size w _ _ _ _ _ _
+    (AppliesAs-none size w _ _ _ _ _ (Begin c.args.client c.args.name) (begin_moves_none c.args.client c.args.name)
     (Applies-untouched size w (world_by w (Some (Begin c.args.client c.args.name))) now c.begin_deeper.new.self s here.ready (n.ready size w c.args.name s here.ready mine here.free))) refl
 
 pub returns-in-None-clause-carries : goal.returns-in-None-clause-carries
@@ -66,7 +66,7 @@ returns-in-None-clause-carries g c = λ t size e w ready.
     let n = c.begin_on.ensures in
     let same = still_size k.only_reads e in
     CarriesOut-replied size w c.begin_on.new.self _ _ _ _ _ _ (Begin c.args.client c.args.name) (begin_is_plain c.args.client c.args.name) (k.only_reads.stays t) k.only_reads.cause (n.rest t)
-    c.begin_on.result (n.reply t size same w at here.ready here.free there might) (AppliesAs-still size w _ _ _ _ _ _ (n.applies t size same w at here.ready here.free there might)) n.cause
+    c.begin_on.result (n.reply t size same w at here.ready here.free there might) (AppliesAs-none size w _ _ _ _ _ (Begin c.args.client c.args.name) (begin_moves_none c.args.client c.args.name) (n.applies t size same w at here.ready here.free there might)) n.cause
 
 -- ---- a transaction is open on the pool
 

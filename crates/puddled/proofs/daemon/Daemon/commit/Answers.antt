@@ -6,7 +6,7 @@ use Rattle.pud_defs.proofs.Steps.{answer_is_ok}
 use Rattle.ready_daemon.specs.Memory.{Held}
 use Rattle.ready_daemon.specs.Holding.{IsOwnOn}
 use Rattle.ready_daemon.specs.Owning.{refusal_found}
-use Rattle.puddled.proofs.Commanding.{ready_read, CarriesOut-refused, CarriesOut-unread, CarriesOut-stopped, CarriesOut-done, commit_is_plain}
+use Rattle.puddled.proofs.Commanding.{ready_read, CarriesOut-refused, CarriesOut-unread, CarriesOut-stopped, CarriesOut-done, commit_is_plain, commit_moves_none}
 use Rattle.puddled.proofs.Depth.{depth_by_world}
 use Rattle.puddled.proofs.daemon.Daemon.commit.Goals as goal
 use Rattle.pm_model.proofs.Reading.{still_size}
@@ -36,7 +36,7 @@ returns-in_err-commit_own-clause-carries g c =
     let found = rw c.in-Ok.is at (k.own t size w ready) in
     let own = subst (λ (held : List (Option Held)). IsOwnOn c.args.client c.args.name c.in-Ok.own.slot c.in-Ok.own.number held) (sym k.held) found in
     let n = c.in_err-commit_own.ensures in
-    CarriesOut-stopped size w c.commit_own.new.self _ _ _ _ _ _ (Commit c.args.client c.args.name) (commit_is_plain c.args.client c.args.name) free (k.only_reads.stays t) k.only_reads.cause (n.rest t) c.in_err-commit_own.field-0.0
+    CarriesOut-stopped size w c.commit_own.new.self _ _ _ _ _ _ (Commit c.args.client c.args.name) (commit_is_plain c.args.client c.args.name) (commit_moves_none c.args.client c.args.name) free (k.only_reads.stays t) k.only_reads.cause (n.rest t) c.in_err-commit_own.field-0.0
     (n.applies t size (still_size k.only_reads e) w c.args.name known own) n.cause)
 
 pub returns-clause-carries : goal.returns-clause-carries
@@ -47,7 +47,7 @@ returns-clause-carries g c = λ t size e w ready.
     let found = rw c.in-Ok.is at (k.own t size w ready) in
     let own = subst (λ (held : List (Option Held)). IsOwnOn c.args.client c.args.name c.in-Ok.own.slot c.in-Ok.own.number held) (sym k.held) found in
     let n = c.in_ok-commit_own.ensures in
-    CarriesOut-done size w c.commit_own.new.self _ _ _ _ _ _ (Commit c.args.client c.args.name) (commit_is_plain c.args.client c.args.name) free (k.only_reads.stays t) k.only_reads.cause (n.rest t) replies.Ok
+    CarriesOut-done size w c.commit_own.new.self _ _ _ _ _ _ (Commit c.args.client c.args.name) (commit_is_plain c.args.client c.args.name) (commit_moves_none c.args.client c.args.name) free (k.only_reads.stays t) k.only_reads.cause (n.rest t) replies.Ok
     (sym (answer_is_ok w (Commit c.args.client c.args.name) refl refl free))
     (n.applies t size (still_size k.only_reads e) w c.args.name known own) n.cause
 

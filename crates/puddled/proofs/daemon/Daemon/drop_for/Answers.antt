@@ -14,7 +14,7 @@ use Rattle.ready_daemon.specs.Judged.{AreOnDevice}
 use Rattle.ready_daemon.specs.Owning.{refusal_found, IsSlotOf}
 use Rattle.ready_daemon.specs.Moves.{MovesTo, freed_in}
 use Rattle.ready_daemon.specs.Ready.{IsReady, AppliesBy}
-use Rattle.puddled.proofs.Frontiers.{AppliesAs-still, AppliesAs-drop}
+use Rattle.puddled.proofs.Frontiers.{AppliesAs-failed, AppliesAs-refused, AppliesAs-drop}
 use Rattle.ready_daemon.proofs.Known.{AreOnDevice-forgotten}
 use Rattle.ready_daemon.proofs.Applying.{Applies-failed, Applies-refused}
 use Rattle.ready_daemon.proofs.Pooling.{Applies-behind, Applies-drop}
@@ -27,7 +27,7 @@ returns-in_err-refusal-clause-applies g c =
     let p = err_from_is_err_and c.from_residual.result c.from_residual.ensures.1 in
     rw (p.1, p.2) (λ t size e w ready.
     let k = c.in_err-refusal.ensures in
-    AppliesAs-still size w _ _ _ _ _ _
+    AppliesAs-failed size w _ _ _ _ _ (Some (commands.Drop c.args.client c.args.name)) k.only_reads.never_cut
     (Applies-failed size w (world_by w (Some (commands.Drop c.args.client c.args.name))) c.find_owned.new.self c.in_err-refusal.field-0.0 _ _ (k.ready t size w ready) (k.only_reads.stays t) k.only_reads.never_cut))
 
 pub returns-in-Err-clause-reply : goal.returns-in-Err-clause-reply
@@ -37,8 +37,9 @@ returns-in-Err-clause-reply g c = λ t size w ready.
 pub returns-in-Err-clause-applies : goal.returns-in-Err-clause-applies
 returns-in-Err-clause-applies g c = λ t size e w ready.
     let k = c.in_ok-refusal.ensures in
-    AppliesAs-still size w _ _ _ _ _ _
-    (Applies-refused size w c.find_owned.new.self (commands.Drop c.args.client c.args.name) c.in-Err.refusal _ _ (k.ready t size w ready) (sym (k.refusal t size w ready) ∙ ap refusal_found c.in-Err.is) (k.only_reads.stays t))
+    let refused = sym (k.refusal t size w ready) ∙ ap refusal_found c.in-Err.is in
+    AppliesAs-refused size w _ _ _ _ _ (commands.Drop c.args.client c.args.name) c.in-Err.refusal refused
+    (Applies-refused size w c.find_owned.new.self (commands.Drop c.args.client c.args.name) c.in-Err.refusal _ _ (k.ready t size w ready) refused (k.only_reads.stays t))
 
 pub returns-clause-reply : goal.returns-clause-reply
 returns-clause-reply g c = λ t size w ready.

@@ -16,7 +16,7 @@ use Rattle.ready_daemon.specs.Owning.{refusal_found}
 use Rattle.puddled.proofs.Found.{finds}
 use Rattle.puddled.proofs.Needs.{refusal_of-dump}
 use Rattle.puddled.proofs.Readable.{holds_found}
-use Rattle.puddled.proofs.FileLines.{memory_of-dump, refused_step, memory_step, some_step, dump_is_plain, CarriesOut-read, dump_fault, dump_unmade, dump_failed, dumped_step, one_line_dump}
+use Rattle.puddled.proofs.FileLines.{memory_of-dump, refused_step, memory_step, some_step, dump_is_plain, dump_moves_none, CarriesOut-read, dump_fault, dump_unmade, dump_failed, dumped_step, one_line_dump}
 use Rattle.puddled.proofs.daemon.Daemon.dump_for.Goals as goal
 
 pub returns-in_err-refusal-clause-carries : goal.returns-in_err-refusal-clause-carries
@@ -26,7 +26,7 @@ returns-in_err-refusal-clause-carries g c =
     let k = c.in_err-refusal.ensures in
     let line = Dump c.args.client c.args.name in
     let s = some_step w line (memory_of-dump w c.args.client c.args.name) in
-    CarriesOut-read size w c.find_pool.new.self line refl (dump_is_plain c.args.client c.args.name) _ _ _ _ (k.ready t size w ready)
+    CarriesOut-read size w c.find_pool.new.self line refl (dump_is_plain c.args.client c.args.name) (dump_moves_none c.args.client c.args.name) _ _ _ _ (k.ready t size w ready)
     s.said (Err c.in_err-refusal.field-0.0) s.step tt tt k.only_reads.never_cut (k.only_reads.stays t) k.only_reads.cause)
 
 pub returns-in-Err-clause-carries : goal.returns-in-Err-clause-carries
@@ -34,7 +34,7 @@ returns-in-Err-clause-carries g c = λ t size e w ready.
     let k = c.in_ok-refusal.ensures in
     let line = Dump c.args.client c.args.name in
     let refused = refusal_of-dump w c.args.client c.args.name ∙ sym (k.refusal t size w ready) ∙ ap refusal_found c.in-Err.is in
-    CarriesOut-read size w c.find_pool.new.self line refl (dump_is_plain c.args.client c.args.name) _ _ _ _ (k.ready t size w ready)
+    CarriesOut-read size w c.find_pool.new.self line refl (dump_is_plain c.args.client c.args.name) (dump_moves_none c.args.client c.args.name) _ _ _ _ (k.ready t size w ready)
     (of_reply (replies.No c.in-Err.refusal)) (Ok (answers.Reply (replies.No c.in-Err.refusal))) (refused_step w line c.in-Err.refusal refused) refl tt (λ cut. cc) (k.only_reads.stays t) k.only_reads.cause
 
 pub returns-in-Ok-dump_json-clause-carries : goal.returns-in-Ok-dump_json-clause-carries
@@ -48,7 +48,7 @@ returns-in-Ok-dump_json-clause-carries g c = λ t size e w ready.
     let holds = holds_found size w now _ here.ready c.args.client c.args.name c.in-Ok.found c.puddles_of.result.now here.is c.puddles_of.ensures.known in
     let on = ap (λ (m : Memory). m.frames) c.self.view_is ∙ here.ready.frames in
     let is = c.new.ensures ∙ c.in-Ok-dump_json.ensures.text t image refl holds.graph (ap (λ F. graph_of (types_of image) (stored_in F c.puddles_of.result.now image)) on ∙ holds.stored) in
-    CarriesOut-read size w now line refl (dump_is_plain c.args.client c.args.name) _ _ _ _ (k.ready t size w ready)
+    CarriesOut-read size w now line refl (dump_is_plain c.args.client c.args.name) (dump_moves_none c.args.client c.args.name) _ _ _ _ (k.ready t size w ready)
     (of_text (codes " " ++ dump_text holds.graph)) (Ok (answers.Text c.new.result)) (dumped_step w c.args.client c.args.name w.stored.frames image c.puddles_of.result.now holds here.free)
     (ap (λ (l : List ℕ). of_text (codes " " ++ l)) is) (one_line_dump holds.graph c.new.result is) (λ cut. cc)
     (c.in-Ok-dump_json.ensures.only_reads.stays t ∙ k.only_reads.stays t) (c.in-Ok-dump_json.ensures.only_reads.cause ∙ k.only_reads.cause)
@@ -59,7 +59,7 @@ returns-in-Err-Memory-clause-carries g c = λ t size e w ready.
     let line = Dump c.args.client c.args.name in
     let free = refusal_of-dump w c.args.client c.args.name ∙ sym (k.refusal t size w ready) ∙ ap refusal_found c.in-Ok.is in
     let may = memory_of-dump w c.args.client c.args.name ∙ ap is_none free in
-    CarriesOut-read size w c.find_pool.new.self line refl (dump_is_plain c.args.client c.args.name) _ _ _ _ (k.ready t size w ready)
+    CarriesOut-read size w c.find_pool.new.self line refl (dump_is_plain c.args.client c.args.name) (dump_moves_none c.args.client c.args.name) _ _ _ _ (k.ready t size w ready)
     (of_reply (replies.No refusals.Memory)) (Ok (answers.Reply (replies.No refusals.Memory))) (memory_step w line may) refl tt (λ cut. cc)
     (c.in-Err-Memory.ensures.only_reads.stays t ∙ k.only_reads.stays t) (dump_unmade _ _ _ c.in-Err-Memory.field-0-is c.in-Err-Memory.ensures.only_reads.cause ∙ k.only_reads.cause)
 
@@ -69,6 +69,6 @@ returns-in-Err-Host-clause-carries g c = λ t size e w ready.
     let line = Dump c.args.client c.args.name in
     let s = some_step w line (memory_of-dump w c.args.client c.args.name) in
     let of_host = ap dump_fault c.in-Err-Host.field-0-is in
-    CarriesOut-read size w c.find_pool.new.self line refl (dump_is_plain c.args.client c.args.name) _ _ _ _ (k.ready t size w ready)
+    CarriesOut-read size w c.find_pool.new.self line refl (dump_is_plain c.args.client c.args.name) (dump_moves_none c.args.client c.args.name) _ _ _ _ (k.ready t size w ready)
     s.said (Err c.in-Err-Host.fault) s.step tt tt (λ cut. c.in-Err-Host.ensures.only_reads.never_cut (of_host ∙ cut)) (c.in-Err-Host.ensures.only_reads.stays t ∙ k.only_reads.stays t)
     (dump_failed _ c.in-Err-Host.fault _ _ _ c.in-Err-Host.field-0-is c.in-Err-Host.ensures.only_reads.cause k.only_reads.cause)

@@ -15,6 +15,7 @@ use Rattle.puddled.specs.declared.answers.Answered.TheVariants as answers
 use Rattle.puddled.specs.Answered.{answer_of}
 use Rattle.puddled.proofs.Listed.{said_by}
 use Rattle.puddled.proofs.Lines.{answer_last, nothing_last, Answers-fault, Answers-unsaid, Answers-said, KeepsLine-says, KeepsLine-unsaid, SaysAnswer-aloud, SaysAnswer-unsaid, SaysAnswer-failed, sound_said, words_said}
+use Rattle.puddled.proofs.Led.{LeadFrontiers-when}
 use Rattle.puddled.specs.Frontiers.{LeadFrontiers}
 use Rattle.puddled.specs.Rewriting.{DoesSteps}
 use Rattle.puddled.proofs.daemon.Daemon.exec.Goals as goal
@@ -121,13 +122,18 @@ returns-in_err-say_answer-clause-speaks g c =
     (λ none. absurd (not_none (of_host fault) none)) (c.in_err-say_answer.ensures.says t _ refl))
 
 pub returns-clause-frontiers : goal.returns-clause-frontiers
-returns-clause-frontiers g c = λ t size e w ready. elim c.if-aloud.branch [
-  | then-aloud+in_ok-say_answer b ↦
-      rw b.h-is
-      (subst (λ (x : Words). LeadFrontiers w (command_of c.args.line.now) (reads (g.H.Host.state c.args.h.now).now.words) (reads x)) (sym (words_said _ _ _ _ (b.in_ok-say_answer.ensures.says t _ refl)))
-      (c.in_ok-answered.ensures.frontiers t size e w ready))
-  | else-aloud b ↦ rw b.h-is (c.in_ok-answered.ensures.frontiers t size e w ready)
-]
+returns-clause-frontiers g c = λ t size e w ready.
+    let old = reads (g.H.Host.state c.args.h.now).now.words in
+    let settled = reads (g.H.Host.state c.settle.new.h).now.words in
+    let line = command_of c.args.line.now in
+    let uncut : c.is_ok.result ≡ true → c.in_ok-answered.answered ≡ answers.Reply replies.Cut → ⊥ = λ ok cut.
+    let no : true ≡ false = sym ok ∙ c.is_ok.ensures no_world ∙ ap (λ (a : Answered). begins_with_ok (answer_of no_world a)) cut ∙ cut_is_not_ok in cc in
+    let led = LeadFrontiers-when w line (c.in_ok-answered.answered ≡ answers.Reply replies.Cut → ⊥) (c.is_ok.result ≡ true) old settled uncut (c.in_ok-answered.ensures.frontiers t size e w ready) in
+    elim c.if-aloud.branch [
+      | then-aloud+in_ok-say_answer b ↦
+          rw b.h-is (subst (λ (x : Words). LeadFrontiers w line (c.is_ok.result ≡ true) old (reads x)) (sym (words_said _ _ _ _ (b.in_ok-say_answer.ensures.says t _ refl))) led)
+      | else-aloud b ↦ rw b.h-is led
+    ]
 
 pub returns-clause-steps : goal.returns-clause-steps
 returns-clause-steps g c = λ t size e w ready name n is free.

@@ -18,7 +18,7 @@ use Rattle.puddled.specs.Files.{IsStoredPool, HoldsPool}
 use Rattle.ready_daemon.specs.Memory.{Memory}
 use Rattle.ready_daemon.specs.Judged.{known_in}
 use Rattle.ready_daemon.specs.Owning.{refusal_found}
-use Rattle.puddled.proofs.FileLines.{memory_of-export, export_unread, export_open, export_free, refused_step, some_step, export_is_plain, CarriesOut-read}
+use Rattle.puddled.proofs.FileLines.{memory_of-export, export_unread, export_open, export_free, refused_step, some_step, export_is_plain, export_moves_none, CarriesOut-read}
 use Rattle.puddled.proofs.Found.{finds, its_number, no_number}
 use Rattle.puddled.proofs.ExportLines.{own_is_open, stored_found, CarriesOut-written, HoldsOneOf-written}
 use Rattle.puddled.proofs.daemon.Daemon.export_for.Goals as goal
@@ -30,7 +30,7 @@ returns-in_err-refusal-clause-carries g c =
     let k = c.in_err-refusal.ensures in
     let line = Export c.args.client c.args.name c.args.file in
     let s = some_step w line (memory_of-export w c.args.client c.args.name c.args.file) in
-    CarriesOut-read size w c.find_pool.new.self line refl (export_is_plain c.args.client c.args.name c.args.file) _ _ _ _ (k.ready t size w ready)
+    CarriesOut-read size w c.find_pool.new.self line refl (export_is_plain c.args.client c.args.name c.args.file) (export_moves_none c.args.client c.args.name c.args.file) _ _ _ _ (k.ready t size w ready)
     s.said (Err c.in_err-refusal.field-0.0) s.step tt tt k.only_reads.never_cut (k.only_reads.stays t) k.only_reads.cause)
 
 pub returns-in-Err-clause-carries : goal.returns-in-Err-clause-carries
@@ -38,7 +38,7 @@ returns-in-Err-clause-carries g c = λ t size e w ready.
     let k = c.in_ok-refusal.ensures in
     let line = Export c.args.client c.args.name c.args.file in
     let refused = export_unread w c.args.client c.args.name c.args.file c.in-Err.refusal (sym (k.refusal t size w ready) ∙ ap refusal_found c.in-Err.is) in
-    CarriesOut-read size w c.find_pool.new.self line refl (export_is_plain c.args.client c.args.name c.args.file) _ _ _ _ (k.ready t size w ready)
+    CarriesOut-read size w c.find_pool.new.self line refl (export_is_plain c.args.client c.args.name c.args.file) (export_moves_none c.args.client c.args.name c.args.file) _ _ _ _ (k.ready t size w ready)
     (of_reply (replies.No c.in-Err.refusal)) (Ok (answers.Reply (replies.No c.in-Err.refusal))) (refused_step w line c.in-Err.refusal refused) refl tt (λ cut. cc) (k.only_reads.stays t) k.only_reads.cause
 
 pub returns-then-is_some-clause-carries : goal.returns-then-is_some-clause-carries
@@ -50,7 +50,7 @@ returns-then-is_some-clause-carries g c = λ t size e w ready.
     let mine = its_number c.in-Ok.found.own (sym c.is_some.ensures ∙ c.if-is_some.true) in
     let own = here.is.own mine.0 mine.1 in
     let opened = own_is_open size w now _ here.ready c.args.client c.args.name mine.0 own.own in
-    CarriesOut-read size w now line refl (export_is_plain c.args.client c.args.name c.args.file) _ _ _ _ here.ready
+    CarriesOut-read size w now line refl (export_is_plain c.args.client c.args.name c.args.file) (export_moves_none c.args.client c.args.name c.args.file) _ _ _ _ here.ready
     (of_reply (replies.No refusals.OpenHere)) (Ok (answers.Reply (replies.No refusals.OpenHere))) (refused_step w line refusals.OpenHere (export_open w c.args.client c.args.name c.args.file here.free opened)) refl tt (λ cut. cc)
     (k.only_reads.stays t) k.only_reads.cause
 

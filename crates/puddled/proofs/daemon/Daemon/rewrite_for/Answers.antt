@@ -13,13 +13,13 @@ use Rattle.ready_daemon.specs.Judged.{known_in}
 use Rattle.ready_daemon.specs.Moves.{MovesTo, led_in}
 use Rattle.ready_daemon.specs.Ready.{IsReady, AppliesBy}
 use Rattle.lazy_rewrite.specs.Frontiers.{steps_from, frontiers_of}
-use Rattle.puddled.proofs.Frontiers.{AppliesAs-still}
+use Rattle.puddled.proofs.Frontiers.{AppliesAs-failed, AppliesAs-refused, AppliesAs-rewrite}
 use Rattle.ready_daemon.proofs.Applying.{Applies-failed, Applies-refused}
 use Rattle.ready_daemon.proofs.Pooling.{Applies-behind}
 use Rattle.puddled.specs.Finding.{IsRecordOf}
 use Rattle.puddled.proofs.Commanding.{ready_read}
 use Rattle.puddled.proofs.Found.{named, unnamed, slot_is}
-use Rattle.puddled.proofs.Rewritten.{refused_unnamed, refused_by_graph, world_of_rewrite, is_there, AppliesAs-rewrite, DoesSteps-stepped}
+use Rattle.puddled.proofs.Rewritten.{refused_unnamed, refused_by_graph, world_of_rewrite, is_there, DoesSteps-stepped, stepped_known}
 use Rattle.puddled.proofs.daemon.Daemon.rewrite_for.Goals as goal
 
 -- ---- no pool has the name
@@ -29,7 +29,7 @@ returns-in_err-slot-clause-applies g c =
     let p = err_from_is_err_and c.from_residual.result c.from_residual.ensures.1 in
     rw (p.1, p.2) (λ t size e w ready.
     let k = c.in_err-slot.ensures in
-    AppliesAs-still size w _ _ _ _ _ _ (Applies-failed size w _ _ c.in_err-slot.field-0.0 _ _ ready (k.only_reads.stays t) k.only_reads.never_cut))
+    AppliesAs-failed size w _ _ _ _ _ (Some (commands.Rewrite c.args.name c.args.n)) k.only_reads.never_cut (Applies-failed size w _ _ c.in_err-slot.field-0.0 _ _ ready (k.only_reads.stays t) k.only_reads.never_cut))
 
 pub returns-in_default-clause-reply : goal.returns-in_default-clause-reply
 returns-in_default-clause-reply g c = λ t size w ready.
@@ -39,8 +39,9 @@ returns-in_default-clause-reply g c = λ t size w ready.
 pub returns-in_default-clause-applies : goal.returns-in_default-clause-applies
 returns-in_default-clause-applies g c = λ t size e w ready.
     let none = unnamed size w _ _ ready 0 c.args.name (sym c.in_default.is ∙ c.in_ok-slot.ensures.found t _ refl w.stored.frames) in
-    AppliesAs-still size w _ _ _ _ _ _
-    (Applies-refused size w _ (commands.Rewrite c.args.name c.args.n) refusals.Pool _ _ ready (refused_unnamed w c.args.name c.args.n none) (c.in_ok-slot.ensures.only_reads.stays t))
+    let refused = refused_unnamed w c.args.name c.args.n none in
+    AppliesAs-refused size w _ _ _ _ _ (commands.Rewrite c.args.name c.args.n) refusals.Pool refused
+    (Applies-refused size w _ (commands.Rewrite c.args.name c.args.n) refusals.Pool _ _ ready refused (c.in_ok-slot.ensures.only_reads.stays t))
 
 -- ---- it has no graph
 
@@ -51,7 +52,7 @@ returns-in_err-lacks_graph-clause-applies g c =
     let k = c.in_err-lacks_graph.ensures in
     let same = c.in_ok-slot.ensures.only_reads.stays t in
     let before = ready_read size w _ _ _ same ready in
-    AppliesAs-still size w _ _ _ _ _ _
+    AppliesAs-failed size w _ _ _ _ _ (Some (commands.Rewrite c.args.name c.args.n)) k.only_reads.never_cut
     (Applies-failed size w _ _ c.in_err-lacks_graph.field-0.0 _ _ (ready_read size w _ _ _ (sym same) (k.ready t size w before)) (k.only_reads.stays t ∙ same) k.only_reads.never_cut))
 
 pub returns-then-branch-clause-reply : goal.returns-then-branch-clause-reply
@@ -70,9 +71,10 @@ returns-then-branch-clause-applies g c = λ t size e w ready.
     let before = ready_read size w _ _ _ same ready in
     let k = c.in_ok-lacks_graph.ensures in
     let lacks = k.lacks t size w before c.args.name c.in-Some.field-0-1 (subst (λ (s : State). IsRecordOf w.stored.frames c.args.name (reads s.now.words) c.in-Some.slot c.in-Some.field-0-1) (sym same) there) in
-    AppliesAs-still size w _ _ _ _ _ _
+    let refused = refused_by_graph w c.args.name c.args.n _ true (named size w _ _ ready 0 c.args.name c.in-Some.slot c.in-Some.field-0-1 there) (sym c.if-branch.true ∙ lacks) in
+    AppliesAs-refused size w _ _ _ _ _ (commands.Rewrite c.args.name c.args.n) refusals.Wild refused
     (Applies-refused size w _ (commands.Rewrite c.args.name c.args.n) refusals.Wild _ _ (ready_read size w _ _ _ (sym same) (k.ready t size w before))
-    (refused_by_graph w c.args.name c.args.n _ true (named size w _ _ ready 0 c.args.name c.in-Some.slot c.in-Some.field-0-1 there) (sym c.if-branch.true ∙ lacks)) (k.only_reads.stays t ∙ same))
+    refused (k.only_reads.stays t ∙ same))
 
 -- ---- its steps are done
 
@@ -93,8 +95,8 @@ returns-in_err-_done-clause-applies g c =
     let stays = k.only_reads.stays t ∙ same in
     let start = ready_read size w now _ _ (sym same) then in
     let it = is_there (known_in i.judged c.in-Some.slot) known in
-    AppliesAs-rewrite size w now (record now { judged = c.step_in.new.judged }) c.args.name c.args.n c.in-Some.slot it.0 (Some c.in_err-_done.field-0.0) (g.H.Host.state c.args.h.now) (g.H.Host.state c.step_in.new.h) start it.1 free
-    (slot_is size w _ _ ready 0 c.args.name c.in-Some.slot c.in-Some.field-0-1 there)
+    AppliesAs-rewrite size w now (record now { judged = c.step_in.new.judged }) c.args.name c.args.n c.in-Some.slot it.0 (Some c.in_err-_done.field-0.0) (g.H.Host.state c.args.h.now) (g.H.Host.state c.step_in.new.h) start (search rules) it.1 free
+    (world_of_rewrite w c.args.name c.args.n free) (slot_is size w _ _ ready 0 c.args.name c.in-Some.slot c.in-Some.field-0-1 there) (λ done. absurd (none-some c.in_err-_done.field-0.0 (sym done)))
     (subst (λ (v : World). AppliesBy (MovesTo (led_in c.in-Some.slot (frontiers_of (steps_from c.args.n it.0)))) size w v (record now { judged = c.step_in.new.judged }) (Some c.in_err-_done.field-0.0) (g.H.Host.state c.args.h.now) (g.H.Host.state c.step_in.new.h)) (sym (world_of_rewrite w c.args.name c.args.n free))
     (Applies-behind size w w now (record now { judged = c.step_in.new.judged }) (Some c.in_err-_done.field-0.0) (g.H.Host.state c.args.h.now) (g.H.Host.state c.lacks_graph.new.h) (g.H.Host.state c.step_in.new.h) stays
     (λ ready_then. c.in_err-_done.ensures.applies t size (still_size k.only_reads (still_size c.in_ok-slot.ensures.only_reads e)) it.0 it.1 w i.opened i.sessions ready_then) start)))
@@ -123,8 +125,8 @@ returns-clause-applies g c = λ t size e w ready.
     let stays = k.only_reads.stays t ∙ same in
     let start = ready_read size w now _ _ (sym same) then in
     let it = is_there (known_in i.judged c.in-Some.slot) known in
-    AppliesAs-rewrite size w now (record now { judged = c.step_in.new.judged }) c.args.name c.args.n c.in-Some.slot it.0 None (g.H.Host.state c.args.h.now) (g.H.Host.state c.step_in.new.h) start it.1 free
-    (slot_is size w _ _ ready 0 c.args.name c.in-Some.slot c.in-Some.field-0-1 there)
+    AppliesAs-rewrite size w now (record now { judged = c.step_in.new.judged }) c.args.name c.args.n c.in-Some.slot it.0 None (g.H.Host.state c.args.h.now) (g.H.Host.state c.step_in.new.h) start (search rules) it.1 free
+    (world_of_rewrite w c.args.name c.args.n free) (slot_is size w _ _ ready 0 c.args.name c.in-Some.slot c.in-Some.field-0-1 there) (λ done. stepped_known i.judged c.step_in.new.judged c.in-Some.slot it.0 (steps_from c.args.n it.0) it.1 (c.in_ok-_done.ensures.moves it.0 it.1))
     (subst (λ (v : World). AppliesBy (MovesTo (led_in c.in-Some.slot (frontiers_of (steps_from c.args.n it.0)))) size w v (record now { judged = c.step_in.new.judged }) None (g.H.Host.state c.args.h.now) (g.H.Host.state c.step_in.new.h)) (sym (world_of_rewrite w c.args.name c.args.n free))
     (Applies-behind size w w now (record now { judged = c.step_in.new.judged }) None (g.H.Host.state c.args.h.now) (g.H.Host.state c.lacks_graph.new.h) (g.H.Host.state c.step_in.new.h) stays
     (λ ready_then. c.in_ok-_done.ensures.applies t size (still_size k.only_reads (still_size c.in_ok-slot.ensures.only_reads e)) it.0 it.1 w i.opened i.sessions ready_then) start))

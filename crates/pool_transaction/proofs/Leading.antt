@@ -1,0 +1,254 @@
+-- Lines that lead frontiers of a pool to goals, call by call.
+use Rattle.std.proofs.Common.{◌≡◌, inl, inr, ℕ, ◌+◌, ◌<◌, ◌≤◌, Bool, true, false, cond, eqb, List, length, Option, Some, None, refl, sym, ap, subst, ◌∙◌, arith, eq-eqb, ne_eqb}
+use Rattle.std.specs.Prelude.{max, min, slice_get}
+use Rattle.std.proofs.lemmas.Bool.{cases_eq, cases_lt, cond-true, cond-false}
+use Rattle.std.proofs.lemmas.List.{length-map}
+use Rattle.std.proofs.lemmas.Option.{none-some}
+use Rattle.pm_model.specs.declared.host.HostFault.{HostFault}
+use Rattle.pm_model.specs.declared.host.HostFault.TheVariants.{Cut, Failed}
+use Rattle.pm_model.specs.Words.{reads}
+use Rattle.pm_model.specs.Moments.{State}
+use Rattle.pud_defs.specs.declared.machine.Refusal.{Refusal}
+use Rattle.pud_defs.specs.declared.objects.Val.{Val}
+use Rattle.pud_defs.specs.declared.records.Puddle.{Puddle}
+use Rattle.pud_defs.specs.declared.records.Slot.{Slot}
+use Rattle.pud_defs.specs.declared.space.TheConstants.{LAST_FRONTIER}
+use Rattle.pud_defs.specs.Geometry.{ordinal_of}
+use Rattle.pud_defs.specs.Image.{Image}
+use Rattle.pud_defs.specs.Puddles.{Member, member_moved, moved_to}
+use Rattle.pud_defs.specs.Stored.{stored_in, places_of}
+use Rattle.pud_defs.specs.Tables.{tables_of}
+use Rattle.pud_defs.specs.declared.machine.Command.{Command}
+use Rattle.pud_defs.specs.Step.{refusal_of, after, world_by}
+use Rattle.pud_defs.specs.World.{World, closed}
+use Rattle.pud_defs.proofs.Steps.{done_world}
+use Rattle.graph_laws.specs.Slots.{AreAllLive, IsLowestFreeSlot}
+use Rattle.graph_read.specs.Reading.{place_in_pool}
+use Rattle.puddle_header.specs.Places.{place_of_slot, IsSlotOf}
+use Rattle.puddle_header.proofs.Placed.{place_ordinal}
+use Rattle.lazy_rewrite.specs.Frontiers.{frontier_in, frontiers_of, frontier_at, finished_at}
+use Rattle.lazy_rewrite.proofs.Spared.{HaveMoved-same}
+use Rattle.ready_daemon.specs.Memory.{Memory}
+use Rattle.ready_daemon.specs.Moves.{Stays, MovesTo, led_to, led_in}
+use Rattle.ready_daemon.specs.Ready.{AppliesBy, Applies}
+use Rattle.ready_daemon.proofs.Applying.{Applies-closed, AppliesBy-then, AppliesBy-weaker}
+use Rattle.ready_daemon.proofs.Goals.{led_stays, Joins-led_stays}
+use Rattle.ready_daemon.proofs.PuddlesLeft.{Joins-stays}
+use Rattle.pool_transaction.specs.declared.changing.Update.{Update}
+use Rattle.pool_transaction.specs.declared.changing.Found.{Found}
+use Rattle.pool_transaction.specs.declared.changing.Found.TheVariants.{Field, Root, Object}
+use Rattle.pool_transaction.specs.Changing.{both_finished, field_change, IsFoundBy, IsFoundWithin, ordinal_written}
+use Rattle.pool_transaction.specs.Finishing.{end_of, end_of_both, no_end, FinishesObject, FinishesFor, FinishesLowest, FinishesTaken, IsLonger, FinishesUnless, IsAt, Arrives, AppliesTo, AppliesFinishing}
+use Rattle.pool_transaction.proofs.Arriving.{HaveReached, AreEnds, became}
+use Rattle.pool_transaction.proofs.FinishedPools.{HasLegalFrontiers, HaveMoved-finished, finished-other, legal-finished, IsRewrittenAt-finished, one_no_lower}
+use Rattle.pool_transaction.proofs.StepsMoved.{upto}
+
+-- ---- puddles at their ends
+
+module _ (at : List (ℕ × Puddle)) (o : ℕ) (legal : HasLegalFrontiers at) where
+  -- the puddle of an ordinal is at its end
+  HaveReached-finished : HaveReached at (finished_at o at) (end_of o)
+  HaveReached-finished = record {
+    each = λ i e there. elim (cases_eq i o) [
+      | inl same ↦
+          let m = (HaveMoved-finished at o).each i e there in
+          let end = (IsRewrittenAt-finished at o legal).each (e.0, moved_to m.frontier e.1) (ap (slice_get (finished_at o at)) (sym same) ∙ m.there) in
+          let goal : end_of o i ≡ LAST_FRONTIER = cond-true (eqb i o) LAST_FRONTIER 0 (eq-eqb i o same) in
+          let low = legal.each i e there in
+          omega (arith, ap frontier_in m.there, end, goal, low)
+      | inr other ↦
+          let goal : end_of o i ≡ 0 = cond-false (eqb i o) LAST_FRONTIER 0 (ne_eqb i o other) in
+          omega (arith, ap frontier_in (finished-other at o i other ∙ there), goal)
+    ];
+  }
+
+  pub ends_finished : AreEnds at (finished_at o at) (upto (frontier_at o (finished_at o at))) (end_of o)
+  ends_finished = record {
+    reached = HaveReached-finished;
+    near = λ i. let least = one_no_lower (finished_at o at) (finished_at o at) o (HaveMoved-same (finished_at o at)) i in omega (arith, least);
+  }
+
+module _ (at : List (ℕ × Puddle)) (o : ℕ) (legal : HasLegalFrontiers at) where
+  -- and so is the first one
+  pub ends_both : AreEnds at (both_finished o at) (upto (frontiers_of (both_finished o at))) (end_of_both o)
+  ends_both = record {
+    reached = record {
+      each = λ i e there.
+          let m = (HaveMoved-finished at 0).each i e there in
+          let first = (HaveReached-finished at 0 legal).each i e there in
+          let then = (HaveReached-finished (finished_at 0 at) o (legal-finished at 0 legal)).each i (e.0, moved_to m.frontier e.1) m.there in
+          omega (arith, first, then, ap frontier_in m.there);
+    };
+    near = λ i. omega arith;
+  }
+
+-- ---- what was found of an update
+
+finishes_object : (F : ℕ) (at : List (ℕ × Puddle)) (image : Image) (s : ℕ) (slot : Slot) → IsSlotOf at slot → place_in_pool F at image s ≡ Some (place_of_slot slot) → FinishesObject F at image s (end_of slot.ordinal)
+finishes_object F at image s slot of there =
+    let below = of.below in
+    record { place = place_of_slot slot; is = there; goal_is = ap end_of (sym (place_ordinal slot.ordinal slot.slot (omega arith))) }
+
+finishes_field : (F : ℕ) (at : List (ℕ × Puddle)) (image : Image) (later : Bool) (s f : ℕ) (x : Val) (goal : ℕ → ℕ) → FinishesObject F at image s goal → FinishesFor F at image (field_change later s f x) goal
+finishes_field F at image true s f x goal so = so
+finishes_field F at image false s f x goal so = so
+
+-- the puddle that it writes is that of its object, or of the root
+pub finishes_found : (F : ℕ) (at : List (ℕ × Puddle)) (image : Image) (update : Update) (found : Found) → IsFoundWithin at found → IsFoundBy F at image update found
+    → FinishesFor F at image update (end_of (ordinal_written found))
+finishes_found F at image update (Field slot f word later) within by =
+    subst (λ (u : Update). FinishesFor F at image u (end_of slot.ordinal)) (sym by.is) (finishes_field F at image later by.s f by.x (end_of slot.ordinal) (finishes_object F at image by.s slot within.0 by.found.0))
+finishes_found F at image update (Root word) within by = subst (λ (u : Update). FinishesFor F at image u (end_of 0)) (sym by.is) refl
+finishes_found F at image update (Object slot) within by =
+    subst (λ (u : Update). FinishesFor F at image u (end_of slot.ordinal)) (sym by.is) (finishes_object F at image by.s slot within by.found)
+
+-- an object is made in the lowest free slot
+pub finishes_lowest : (F : ℕ) (at : List (ℕ × Puddle)) (image : Image) (slot : Slot) → IsSlotOf at slot → IsLowestFreeSlot (stored_in F at image) (place_of_slot slot) → FinishesLowest F at image (end_of_both slot.ordinal)
+finishes_lowest F at image slot of lowest =
+    let below = of.below in
+    record { place = place_of_slot slot; lowest = lowest; goal_is = ap end_of_both (sym (place_ordinal slot.ordinal slot.slot (omega arith))) }
+
+-- where each is live the pool grows
+pub finishes_more : (F : ℕ) (at : List (ℕ × Puddle)) (image : Image) → AreAllLive (stored_in F at image) → FinishesTaken F at image (end_of_both (length at))
+finishes_more F at image live = inr (live, refl)
+
+-- then the lowest free slot lies in the puddle that came
+pub finishes_grown : (F : ℕ) (at later : List (ℕ × Puddle)) (before after : Image) → IsLonger F at later before after → AreAllLive (stored_in F at before) → (goal : ℕ → ℕ) → FinishesLowest F later after goal
+    → FinishesTaken F at before goal
+finishes_grown F at later before after longer live goal so = elim (cases_lt so.place (places_of (stored_in F at before))) [
+  | inl old ↦ absurd (longer.live so.place old (live.each so.place old) so.lowest.free)
+  | inr past ↦
+      let count = longer.count in
+      let within = so.lowest.within in
+      let here : ordinal_of so.place ≡ length at = omega (arith, past, within, count, length-map at (λ (e : ℕ × Puddle). e.1), length-map later (λ (e : ℕ × Puddle). e.1)) in
+      inr (live, so.goal_is ∙ ap end_of_both here)
+]
+
+-- ---- calls in turn
+
+not_done : {A : Type 0} (fault : HostFault) → Some fault ≡ None → A
+not_done fault done = absurd (none-some fault (sym done))
+
+unled : (own : Bool) (f : ℕ) → cond own (max f 0) f ≡ f
+unled true f = omega arith
+unled false f = refl
+
+module _ (slot : ℕ) where
+  -- a call that moves no frontier leads none anywhere
+  pub AppliesTo-still : (size : ℕ) (w next : World) (memory : Memory) (fault : Option HostFault) (old new : State) → Applies size w next memory fault old new
+      → AppliesTo (led_in slot no_end) size w next memory fault old new
+  AppliesTo-still size w next memory fault old new a = record {
+    applies = AppliesBy-weaker Stays (MovesTo (led_in slot no_end)) (led_stays slot no_end) size w next memory fault old new a;
+    arrives = λ done. record {
+      each = λ frame m used.
+          became Stays size w next memory old new (subst (λ (f : Option HostFault). Applies size w next memory f old new) done a) frame m used
+          ∙ ap (λ (n : ℕ). Some (member_moved n m)) (sym (unled (eqb m.pool (slot + 1)) m.puddle.frontier));
+    };
+  }
+
+  module _ (goal : ℕ → ℕ) where
+    abbrev Led : Member → Option ℕ
+    Led = led_in slot goal
+
+    -- one that failed is on the way to whatever goals
+    pub AppliesTo-unmoved : (size : ℕ) (w next : World) (memory : Memory) (fault : HostFault) (old new : State) → Applies size w next memory (Some fault) old new
+        → AppliesTo (led_in slot goal) size w next memory (Some fault) old new
+    AppliesTo-unmoved size w next memory fault old new a = record {
+      applies = AppliesBy-weaker Stays (MovesTo Led) (led_stays slot goal) size w next memory (Some fault) old new a;
+      arrives = not_done fault;
+    }
+
+    pub AppliesTo-closed : (size : ℕ) (w mid next : World) (memory behind : Memory) (fault : HostFault) (old new : State) → closed mid ≡ closed next → AppliesTo (led_in slot goal) size w mid memory (Some fault) old new
+        → AppliesTo (led_in slot goal) size w next behind (Some fault) old new
+    AppliesTo-closed size w mid next memory behind fault old new same a = record {
+      applies = Applies-closed size w mid next memory behind fault old new same a.applies;
+      arrives = not_done fault;
+    }
+
+    -- calls that read came first
+    pub AppliesTo-behind_reads : (size : ℕ) (w : World) (memory : Memory) (c : Command) (fault : Option HostFault) (a b d : State) → refusal_of w c ≡ None → b ≡ a
+        → AppliesTo (led_in slot goal) size w (after w c) memory fault b d → AppliesTo (led_in slot goal) size w (world_by w (Some c)) memory fault a d
+    AppliesTo-behind_reads size w memory c fault a b d free same applies =
+        subst (λ (v : World). AppliesTo Led size w v memory fault a d) (sym (done_world w c free)) (subst (λ (s : State). AppliesTo Led size w (after w c) memory fault s d) same applies)
+
+    -- frontiers are led there, and stay
+    pub AppliesTo-stays : (size : ℕ) (w next : World) (first behind : Memory) (fault : Option HostFault) (a b c : State) → closed w ≡ closed next → AppliesTo (led_in slot goal) size w w first None a b
+        → Applies size w next behind fault b c → AppliesTo (led_in slot goal) size w next behind fault a c
+    AppliesTo-stays size w next first behind fault a b c same p q = record {
+      applies = AppliesBy-then (MovesTo Led) Stays (MovesTo Led) (Joins-led_stays slot goal) size w w next first behind fault a b c same refl p.applies q;
+      arrives = λ done. record {
+        each = λ frame m used.
+            became Stays size w next behind b c (subst (λ (f : Option HostFault). Applies size w next behind f b c) done q) frame (member_moved (led_to slot goal m) m) ((p.arrives refl).each frame m used);
+      };
+    }
+
+    -- they stay, and are led there then
+    pub AppliesTo-then : (size : ℕ) (w mid next : World) (first behind : Memory) (fault : Option HostFault) (a b c : State) → closed mid ≡ closed next → w.stored.frames ≡ mid.stored.frames → Applies size w mid first None a b
+        → AppliesTo (led_in slot goal) size mid next behind fault b c → AppliesTo (led_in slot goal) size w next behind fault a c
+    AppliesTo-then size w mid next first behind fault a b c same frames p q = record {
+      applies = AppliesBy-then Stays (MovesTo Led) (MovesTo Led) (Joins-stays (MovesTo Led) (led_stays slot goal)) size w mid next first behind fault a b c same frames p q.applies;
+      arrives = λ done. record {
+        each = λ frame m used.
+            let there = subst (λ (n : ℕ). (tables_of n (reads b.now.words)).puddles frame ≡ Some m) frames (became Stays size w mid first a b p frame m used) in
+            subst (λ (n : ℕ). (tables_of n (reads c.now.words)).puddles frame ≡ Some (member_moved (led_to slot goal m) m)) (sym frames) ((q.arrives done).each frame m there);
+      };
+    }
+
+  -- ---- lines
+
+  -- an object was made where a slot is free
+  pub finishing_taken : (F : ℕ) (at : List (ℕ × Puddle)) (image : Image) (size : ℕ) (w next : World) (memory : Memory) (fault : Option HostFault) (old new : State) → AppliesFinishing slot (FinishesLowest F at image) size w next memory fault old new
+      → AppliesFinishing slot (FinishesTaken F at image) size w next memory fault old new
+  finishing_taken F at image size w next memory fault old new a = record { goal = a.goal; finishing = λ never. inl (a.finishing never); applies = a.applies }
+
+  module _ (finishes : (ℕ → ℕ) → Type 0) where
+    failed_alone : {A : Type 0} (fault : HostFault) → (Some fault ≡ Some Cut → ⊥) → (Some fault ≡ Some Failed → ⊥) → A
+    failed_alone Cut never_cut never = absurd (never_cut refl)
+    failed_alone Failed never_cut never = absurd (never refl)
+
+    -- a reading failed before the goals were known
+    pub finishing_failed : (size : ℕ) (w next : World) (memory : Memory) (fault : HostFault) (old new : State) → (Some fault ≡ Some Cut → ⊥) → Applies size w next memory (Some fault) old new
+        → AppliesFinishing slot finishes size w next memory (Some fault) old new
+    finishing_failed size w next memory fault old new never_cut a = record {
+      goal = no_end;
+      finishing = failed_alone fault never_cut;
+      applies = AppliesTo-still size w next memory (Some fault) old new a;
+    }
+
+    -- the line is refused
+    pub finishing_refused : (why : Option Refusal) (r : Refusal) → why ≡ Some r → (size : ℕ) (w next : World) (memory : Memory) (fault : Option HostFault) (old new : State) → Applies size w next memory fault old new
+        → AppliesFinishing slot (FinishesUnless why finishes) size w next memory fault old new
+    finishing_refused why r refused size w next memory fault old new a = record {
+      goal = no_end;
+      finishing = λ never. subst (λ (o : Option Refusal). FinishesUnless o finishes no_end) (sym refused) refl;
+      applies = AppliesTo-still size w next memory fault old new a;
+    }
+
+    -- it is not
+    pub finishing_free : (why : Option Refusal) → why ≡ None → (goal : ℕ → ℕ) → finishes goal → (size : ℕ) (w next : World) (memory : Memory) (fault : Option HostFault) (old new : State)
+        → AppliesTo (led_in slot goal) size w next memory fault old new → AppliesFinishing slot (FinishesUnless why finishes) size w next memory fault old new
+    finishing_free why free goal so size w next memory fault old new a = record {
+      goal = goal;
+      finishing = λ never. subst (λ (o : Option Refusal). FinishesUnless o finishes goal) (sym free) so;
+      applies = a;
+    }
+
+    -- the goals are known
+    pub finishing_led : (goal : ℕ → ℕ) → finishes goal → (size : ℕ) (w next : World) (memory : Memory) (fault : Option HostFault) (old new : State) → AppliesTo (led_in slot goal) size w next memory fault old new
+        → AppliesFinishing slot finishes size w next memory fault old new
+    finishing_led goal so size w next memory fault old new a = record { goal = goal; finishing = λ never. so; applies = a }
+
+    -- the goals are those of a line that is not refused
+    pub finishing_unless : (why : Option Refusal) → why ≡ None → (size : ℕ) (w next : World) (memory : Memory) (fault : Option HostFault) (old new : State) → AppliesFinishing slot finishes size w next memory fault old new
+        → AppliesFinishing slot (FinishesUnless why finishes) size w next memory fault old new
+    finishing_unless why free size w next memory fault old new a = record {
+      goal = a.goal;
+      finishing = λ never. subst (λ (o : Option Refusal). FinishesUnless o finishes a.goal) (sym free) (a.finishing never);
+      applies = a.applies;
+    }
+
+    -- the goals are known, if it is not refused, and it stopped before any frontier moved
+    pub finishing_stopped : (why : Option Refusal) (goal : ℕ → ℕ) → finishes goal → (size : ℕ) (w next : World) (memory : Memory) (fault : HostFault) (old new : State) → Applies size w next memory (Some fault) old new
+        → AppliesFinishing slot (FinishesUnless why finishes) size w next memory (Some fault) old new
+    finishing_stopped None goal so size w next memory fault old new a = record { goal = goal; finishing = λ never. so; applies = AppliesTo-unmoved goal size w next memory fault old new a }
+    finishing_stopped (Some r) goal so size w next memory fault old new a = record { goal = no_end; finishing = λ never. refl; applies = AppliesTo-still size w next memory (Some fault) old new a }
