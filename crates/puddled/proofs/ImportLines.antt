@@ -51,11 +51,15 @@ use Rattle.puddled.specs.Importing.{MayName, IsFrontOf, reply_of_placing}
 use Rattle.puddled.proofs.Carrying.{ClosesLogs-other, CarriesOut-plain}
 use Rattle.puddled.proofs.Commanding.{IsPlain, CarriesOut-refused}
 use Rattle.puddled.proofs.FileLines.{CarriesOut-read, memory_step}
+use Rattle.puddled.proofs.Frontiers.{MovesNone}
 use Rattle.puddled.proofs.ImportRefusals.{found_some, import_bad, import_placed, import_gives, import_memory, as_refusal, no_host_by, refused_by_tables, absent_in, fault_of_placing, reply_placed}
 use Rattle.puddled.proofs.PlacedBeside.{off_placing, IsBeside-places, KeepsPools-places, LeavesPuddles-places}
 
 pub import_is_plain : (client : ℕ) (name file : List ℕ) (mode : ℕ) → IsPlain (Import client name file mode)
 import_is_plain client name file mode = record { kind = refl; file = refl; stays = λ other is. cc }
+
+import_moves_none : (client : ℕ) (name file : List ℕ) (mode : ℕ) → MovesNone (Import client name file mode)
+import_moves_none client name file mode = record { none = λ F before. refl }
 
 -- ---- the file is placed
 
@@ -148,7 +152,7 @@ module _ (size : ℕ) (w : World) (memory : Memory) (old new : State) (ready : I
   owes_there : (place_fault done ≡ Some hosts.Cut → IsRested new.now.words) → KeepsRest old new → Owes F
   owes_there rests rest commits places stays told first last cause =
       let fault = fault_of_placing done in
-      CarriesOut-plain size w memory first last old new line (reply_of_placing done) refl refl
+      CarriesOut-plain size w memory first last old new line (reply_of_placing done) refl refl (import_moves_none client name file mode)
       (reply_placed w client mode name file refused refusal_is done (λ none. told none none_there))
       (subst (λ (f : Option HostFault). Applies size w (world_by w (Some line)) memory f old new) (sym fault) (placed_by rests refused refl commits places stays))
       (ClosesLogs-other w (Some line) old new (import_is_plain client name file mode).stays) rest (cause ∙ ap (λ (f : Option HostFault). after_fault f first) (sym fault))
@@ -169,7 +173,7 @@ CarriesOut-behind size w memory c r first mid last a b d same counted ready carr
 pub CarriesOut-memory : (size : ℕ) (w : World) (memory : Memory) (s : State) → IsReady size w memory s → (client uid gid mode : ℕ) (name file bytes : List ℕ) → MayName w client name uid gid → w.shelf (name_text file) ≡ Some bytes
     → (new : State) → new ≡ s → (first last : Counts) → last ≡ first → CarriesOut size w memory (Some (Import client name file mode)) (as_answered (Ok (replies.No refusals.Memory))) first last s new
 CarriesOut-memory size w memory s ready client uid gid mode name file bytes may there new same first last cause =
-    CarriesOut-read size w memory (Import client name file mode) refl (import_is_plain client name file mode).stays first last s new ready (of_reply (replies.No refusals.Memory))
+    CarriesOut-read size w memory (Import client name file mode) refl (import_is_plain client name file mode).stays (import_moves_none client name file mode) first last s new ready (of_reply (replies.No refusals.Memory))
     (as_answered (Ok (replies.No refusals.Memory))) (memory_step w (Import client name file mode) (import_memory w client mode name file uid gid may bytes there)) refl tt (λ cut. cc) same cause
 
 -- ---- the bytes that were given of a file
