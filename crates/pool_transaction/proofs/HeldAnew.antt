@@ -1,6 +1,6 @@
 -- One of the transactions that are held comes to have another list of puddles and another beginning, beside the others, over calls that write no masked
 -- word: the words of all are then masked by what they are, and what was so with the words masked is so still.
-use Rattle.std.proofs.Common.{◌≡◌, ◌≢◌, ◌⊎◌, inl, inr, ℕ, ◌<◌, ◌≤◌, true, List, Option, Some, None, refl, sym, ap, subst, ◌∙◌, arith}
+use Rattle.std.proofs.Common.{◌≡◌, ◌≢◌, inl, inr, ℕ, true, List, Option, Some, None, refl, sym, ap, subst, ◌∙◌}
 use Rattle.std.proofs.lemmas.Bool.{cases_eq}
 use Rattle.std.proofs.lemmas.Option.{none-some, same_Some}
 use Rattle.pm_model.specs.Words.{reads}
@@ -12,18 +12,17 @@ use Rattle.pud_defs.specs.declared.records.Puddle.{Puddle}
 use Rattle.pud_defs.specs.Image.{Image}
 use Rattle.pud_defs.specs.Layout.{log_at}
 use Rattle.pud_defs.specs.Spaces.{Owner}
-use Rattle.pud_defs.specs.Step.{graph_in}
-use Rattle.pud_defs.specs.World.{Transaction, StoredWorld, World}
+use Rattle.pud_defs.specs.World.{StoredWorld, World}
 use Rattle.batch.specs.Worlds.{IsSettled}
 use Rattle.batch.proofs.Tables.{reads_kept}
-use Rattle.hybrid_tx.specs.Open.Masks.{OpenPool, is_open_record, open_mask, IsOpenPool}
+use Rattle.hybrid_tx.specs.Open.Masks.{is_open_record, open_mask, IsOpenPool}
 use Rattle.hybrid_tx.specs.Open.ManyOpen.{OpenTransaction, Opens, with_transaction, open_masks, MasksAll, AreOpenPools, HasRecords, IsOneMore}
 use Rattle.hybrid_tx.specs.Objects.Transactions.{RestsAs}
 use Rattle.hybrid_tx.proofs.Open.ManyMasks.{open_masks_all, masks_of_record}
 use Rattle.hybrid_tx.proofs.Open.ManyIdle.{one_ended, one_put, others_open, others_records, opens_more, records_more, masks_elsewhere, masks_changed}
 use Rattle.ready_daemon.specs.Memory.{Held, held_under}
 use Rattle.ready_daemon.specs.Held.{pool_held, open_held, IsHeld, IsHeldUnder, Holds, HasDurableFrames, HasIdleLogs, ByOthers}
-use Rattle.ready_daemon.proofs.Beside.{KeepsOne, others_apart, held_still, record_masked, records_all}
+use Rattle.ready_daemon.proofs.Beside.{KeepsOne, others_apart, held_still, records_all}
 use Rattle.pool_transaction.proofs.Widened.{IsMaskedMore, masked_more, one_more}
 
 -- the same world has the same of each

@@ -1,6 +1,5 @@
 -- Puddles of the pool of a transaction that is held are rewritten to their ends, before it writes there.
-use Rattle.std.proofs.Common.{◌≡◌, ℕ, ◌+◌, ◌%◌, ◌^◌, ◌<◌, ◌≤◌, true, ◌&&◌, leb, ltb, eqb, List, set, Option, Some, None, refl, sym, ap, ◌∙◌, subst, arith}
-use Rattle.std.specs.Prelude.{slice_get}
+use Rattle.std.proofs.Common.{◌≡◌, ℕ, ◌+◌, ◌%◌, ◌^◌, ◌≤◌, true, ◌&&◌, leb, ltb, eqb, List, set, Option, Some, None, refl, sym, ap, ◌∙◌, subst, arith}
 use Rattle.std.proofs.lemmas.Bool.{and_parts, leb-true, ltb-true}
 use Rattle.std.proofs.lemmas.List.{get_or-set_same, length-map}
 use Rattle.std.proofs.lemmas.Option.{none-some}
@@ -9,7 +8,7 @@ use Rattle.pm_model.specs.declared.host.HostFault.{HostFault}
 use Rattle.pm_model.specs.Words.{reads}
 use Rattle.pm_model.specs.Moments.{State}
 use Rattle.pud_defs.specs.declared.layout.TheConstants.{DAEMON_LOG}
-use Rattle.pud_defs.specs.declared.space.TheConstants.{SPACE_START, SPACE_BYTES, RANGE_BYTES, LAST_FRONTIER}
+use Rattle.pud_defs.specs.declared.space.TheConstants.{SPACE_START, SPACE_BYTES, RANGE_BYTES}
 use Rattle.pud_defs.specs.declared.records.Puddle.{Puddle}
 use Rattle.pud_defs.specs.declared.records.Slot.{Slot}
 use Rattle.pud_defs.specs.Bases.{is_legal_base}
@@ -20,10 +19,10 @@ use Rattle.pud_defs.specs.SoundTables.{is_sound_puddle, is_legal_member, HasSoun
 use Rattle.pud_defs.specs.Stored.{stored_in, IsFreePlace}
 use Rattle.pud_defs.specs.Tables.{Tables, tables_of}
 use Rattle.pud_defs.specs.World.{World, closed}
-use Rattle.pud_defs.proofs.PoolMembers.{IsMemberOf, HasMembers, members_in_turn}
+use Rattle.pud_defs.proofs.PoolMembers.{HasMembers, members_in_turn}
 use Rattle.pud_defs.proofs.SoundChanged.{legal_puddle}
 use Rattle.graph_laws.specs.Slots.{IsLowestFreeSlot}
-use Rattle.puddle_header.specs.Places.{place_of_slot, IsSlotOf}
+use Rattle.puddle_header.specs.Places.{place_of_slot}
 use Rattle.batch.specs.Batches.{HasIdleGate}
 use Rattle.lazy_rewrite.specs.Entries.{HasLowBases}
 use Rattle.lazy_rewrite.specs.Frontiers.{frontiers_of}

@@ -33,9 +33,8 @@ use Rattle.pud_defs.proofs.Steps.{done_answer, done_world}
 use Rattle.pud_defs.proofs.TablesOf.{pools_beyond, frames_of_tables}
 use Rattle.registry.specs.Growth.{has_room}
 use Rattle.hybrid_tx.specs.Objects.Transactions.{OpenTx}
-use Rattle.hybrid_tx.proofs.Open.OpenPools.{open_on_device}
 use Rattle.ready_daemon.specs.Memory.{Held, Memory, held_under}
-use Rattle.ready_daemon.specs.Held.{pool_held, IsHeld}
+use Rattle.ready_daemon.specs.Held.{IsHeld}
 use Rattle.pool_transaction.specs.Changing.{refusal_to_make, refusal_by_tables, refusal_by_world, with_more, with_made}
 use Rattle.ready_daemon.specs.Ready.{IsReady}
 use Rattle.ready_daemon.proofs.TablesBeside.{header_read, types_read, pools_read, sound_read}

@@ -14,11 +14,9 @@ use Rattle.pud_defs.specs.declared.layout.TheConstants.{DAEMON_LOG}
 use Rattle.pud_defs.specs.Image.{Image}
 use Rattle.pud_defs.specs.Entries.{is_idle_gate}
 use Rattle.pud_defs.specs.Layout.{tables_end, log_at}
-use Rattle.pud_defs.specs.Tables.{tables_of}
 use Rattle.pud_defs.specs.Transactions.{with_changed}
 use Rattle.pud_defs.specs.World.{Transaction, World, world_of, idle_world_of, closed}
 use Rattle.pud_defs.proofs.Spaces.{owner_of-same}
-use Rattle.pud_defs.proofs.TablesOf.{frames_of_tables}
 use Rattle.batch.specs.Worlds.{IsSettled}
 use Rattle.batch.proofs.Tables.{reads_kept, HasDurableTables-kept}
 use Rattle.word_transaction.specs.Running.{SettlesTo, ByTransaction}
@@ -28,7 +26,6 @@ use Rattle.hybrid_tx.specs.Open.Masks.{OpenPool, IsLeftOpen}
 use Rattle.hybrid_tx.specs.Objects.Transactions.{OpenTx, RunsOn}
 use Rattle.hybrid_tx.proofs.Open.OpenMasks.{open_record_place, mine_behind}
 use Rattle.hybrid_tx.proofs.Open.OpenPools.{open_on_device, placed_by_tables}
-use Rattle.hybrid_tx.proofs.Open.PoolPlaces.{placed_of_puddles}
 use Rattle.pool_transaction.specs.Changing.{StaysOpen}
 use Rattle.ready_daemon.proofs.RestBeside.{held_graph}
 use Rattle.ready_daemon.specs.Memory.{Held, Memory, held_under, with_held}
@@ -40,7 +37,7 @@ use Rattle.ready_daemon.proofs.Beneath.{ready_gate}
 use Rattle.ready_daemon.proofs.PuddlesLeft.{LeavesPuddles-behind}
 use Rattle.ready_daemon.proofs.OpenNames.{changed_there, changed_elsewhere, WereOpen, WereOpen-changed, Charges}
 use Rattle.pool_transaction.proofs.HeldChanged.{Holds-later, HasSessions-later}
-use Rattle.ready_daemon.proofs.PoolsBeside.{puddles_still, one_slot}
+use Rattle.ready_daemon.proofs.PoolsBeside.{one_slot}
 use Rattle.ready_daemon.proofs.InTurn.{held_in_turn}
 use Rattle.ready_daemon.proofs.JudgedKept.{HasGraphIn}
 use Rattle.ready_daemon.proofs.JudgedOpen.{KeepsPools-held, graph_held_in, KnowsPools-later, rest_held}

@@ -1,11 +1,11 @@
 -- A transaction that is held while steps of a puddle of its pool are rewritten, which is not finished before and may be behind: it stays open, and its
 -- own words are then those of the puddles that are finished then.
-use Rattle.std.proofs.Common.{◌≡◌, ◌≢◌, ◌⊎◌, inl, inr, ℕ, ◌+◌, ◌-◌, ◌<◌, ◌≤◌, true, false, cond, ◌||◌, List, map, length, Option, Some, None, refl, sym, ap, subst, ◌∙◌, arith, eq-eqb}
-use Rattle.std.specs.Prelude.{set, slice_get, unwrap_or}
+use Rattle.std.proofs.Common.{◌≡◌, inl, inr, ℕ, ◌+◌, ◌-◌, ◌<◌, true, false, cond, ◌||◌, List, map, Option, Some, None, refl, sym, ap, subst, ◌∙◌, arith}
+use Rattle.std.specs.Prelude.{slice_get, unwrap_or}
 use Rattle.std.specs.List.{list_any}
 use Rattle.std.proofs.lemmas.Bool.{cases_Bool, cond-true, cond-false, or_cases, or_parts, or_left, or_right, eqb-true}
-use Rattle.std.proofs.lemmas.Option.{none-some, same_Some}
-use Rattle.pm_model.specs.Words.{Words, HasOnly, reads}
+use Rattle.std.proofs.lemmas.Option.{same_Some}
+use Rattle.pm_model.specs.Words.{HasOnly, reads}
 use Rattle.pm_model.specs.Moments.{State}
 use Rattle.pm_model.specs.Changes.{Write, Changes}
 use Rattle.pm_model.proofs.Words.{HasOnly-own, HasOnly-newest}
@@ -27,7 +27,7 @@ use Rattle.pud_defs.specs.Types.{types_of}
 use Rattle.pud_defs.specs.World.{World}
 use Rattle.pud_defs.proofs.Replay.{overwritten-stays, outside_log}
 use Rattle.pud_defs.proofs.Spaces.{owner_of-same}
-use Rattle.pud_defs.proofs.TablesOf.{tables_of-same, frames_of_tables}
+use Rattle.pud_defs.proofs.TablesOf.{tables_of-same}
 use Rattle.graph_laws.specs.Steps.{steps_in, with_steps}
 use Rattle.graph_laws.proofs.Rewritten.{slice_get-set_other}
 use Rattle.graph_laws.proofs.StepsStored.{write-other, graph_of-written, steps_in-same}

@@ -1,6 +1,6 @@
 -- Lines that lead frontiers of a pool to goals, call by call.
-use Rattle.std.proofs.Common.{◌≡◌, inl, inr, ℕ, ◌+◌, ◌<◌, ◌≤◌, Bool, true, false, cond, eqb, List, length, Option, Some, None, refl, sym, ap, subst, ◌∙◌, arith, eq-eqb, ne_eqb}
-use Rattle.std.specs.Prelude.{max, min, slice_get}
+use Rattle.std.proofs.Common.{◌≡◌, inl, inr, ℕ, ◌+◌, Bool, true, false, cond, eqb, List, length, Option, Some, None, refl, sym, ap, subst, ◌∙◌, arith, eq-eqb, ne_eqb}
+use Rattle.std.specs.Prelude.{max, slice_get}
 use Rattle.std.proofs.lemmas.Bool.{cases_eq, cases_lt, cond-true, cond-false}
 use Rattle.std.proofs.lemmas.List.{length-map}
 use Rattle.std.proofs.lemmas.Option.{none-some}
@@ -30,7 +30,7 @@ use Rattle.lazy_rewrite.specs.Frontiers.{frontier_in, frontiers_of, frontier_at,
 use Rattle.lazy_rewrite.proofs.Spared.{HaveMoved-same}
 use Rattle.ready_daemon.specs.Memory.{Memory}
 use Rattle.ready_daemon.specs.Moves.{Stays, MovesTo, led_to, led_in}
-use Rattle.ready_daemon.specs.Ready.{AppliesBy, Applies}
+use Rattle.ready_daemon.specs.Ready.{Applies}
 use Rattle.ready_daemon.proofs.Applying.{Applies-closed, AppliesBy-then, AppliesBy-weaker}
 use Rattle.ready_daemon.proofs.Goals.{led_stays, Joins-led_stays}
 use Rattle.ready_daemon.proofs.PuddlesLeft.{Joins-stays}
@@ -38,7 +38,7 @@ use Rattle.pool_transaction.specs.declared.changing.Update.{Update}
 use Rattle.pool_transaction.specs.declared.changing.Found.{Found}
 use Rattle.pool_transaction.specs.declared.changing.Found.TheVariants.{Field, Root, Object}
 use Rattle.pool_transaction.specs.Changing.{both_finished, field_change, IsFoundBy, IsFoundWithin, ordinal_written}
-use Rattle.pool_transaction.specs.Finishing.{end_of, end_of_both, no_end, FinishesObject, FinishesFor, FinishesLowest, FinishesTaken, IsLonger, FinishesUnless, IsAt, Arrives, AppliesTo, AppliesFinishing}
+use Rattle.pool_transaction.specs.Finishing.{end_of, end_of_both, no_end, FinishesObject, FinishesFor, FinishesLowest, FinishesTaken, IsLonger, FinishesUnless, AppliesTo, AppliesFinishing}
 use Rattle.pool_transaction.proofs.Arriving.{HaveReached, AreEnds, became}
 use Rattle.pool_transaction.proofs.FinishedPools.{HasLegalFrontiers, HaveMoved-finished, finished-other, legal-finished, IsRewrittenAt-finished, one_no_lower}
 use Rattle.pool_transaction.proofs.StepsMoved.{upto}

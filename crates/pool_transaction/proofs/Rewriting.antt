@@ -1,6 +1,6 @@
 -- Frontiers of a pool move on beside what is held, on the pool itself too: the world stays.
-use Rattle.std.proofs.Common.{◌≡◌, ◌≢◌, inl, inr, ℕ, zero, suc, ◌<◌, ◌≤◌, true, false, ◌-◌, not, eqb, List, [], ◌∷◌, Option, Some, None, is_some, refl, sym, ap, subst, ◌∙◌, arith}
-use Rattle.std.specs.Prelude.{set, slice_get}
+use Rattle.std.proofs.Common.{◌≡◌, ◌≢◌, inl, inr, ℕ, zero, suc, ◌<◌, true, false, ◌-◌, not, eqb, List, [], ◌∷◌, Option, Some, None, is_some, refl, sym, ap, subst, ◌∙◌, arith}
+use Rattle.std.specs.Prelude.{set}
 use Rattle.std.proofs.lemmas.Bool.{and_parts}
 use Rattle.std.proofs.lemmas.List.{get_or-set_same, get_or-set_other, set-set}
 use Rattle.std.proofs.lemmas.Option.{none-some, same_Some}
@@ -11,7 +11,7 @@ use Rattle.pm_model.specs.Moments.{State}
 use Rattle.pm_model.specs.Changes.{Write}
 use Rattle.pm_model.proofs.Changes.{Changes-said}
 use Rattle.pm_model.proofs.Words.{HasOnly-own, HasOnly-newest}
-use Rattle.pud_defs.specs.declared.layout.TheConstants.{DAEMON_LOG, CLIENTS}
+use Rattle.pud_defs.specs.declared.layout.TheConstants.{DAEMON_LOG}
 use Rattle.pud_defs.specs.declared.records.Puddle.{Puddle}
 use Rattle.pud_defs.specs.declared.records.PoolRec.{PoolRec}
 use Rattle.pud_defs.specs.declared.records.TheConstants.{POOL_RECORDS}
@@ -27,7 +27,7 @@ use Rattle.pud_defs.proofs.SoundChanged.{legal_puddle}
 use Rattle.graph_laws.specs.Steps.{with_steps}
 use Rattle.lazy_rewrite.specs.Batches.{AreNextSteps, CommitsSteps, RewritesOnce, RewritesInTurn, Rewrites}
 use Rattle.lazy_rewrite.proofs.Stepped.{member_of_pool}
-use Rattle.hybrid_tx.specs.Grounds.{pool_mine, IsPlaced}
+use Rattle.hybrid_tx.specs.Grounds.{IsPlaced}
 use Rattle.hybrid_tx.specs.Open.Masks.{is_open_record, open_mask, IsOpenPool}
 use Rattle.hybrid_tx.specs.Open.ManyOpen.{with_transaction}
 use Rattle.hybrid_tx.specs.Objects.Transactions.{RestsAs}

@@ -1,5 +1,5 @@
 -- A batch of steps of a pool that is known, beside what is held, on that pool too: it writes no masked word, and the world stays.
-use Rattle.std.proofs.Common.{◌≡◌, ◌≢◌, ◌⊎◌, inl, inr, ℕ, ◌+◌, ◌<◌, ◌≤◌, true, false, eqb, cond, List, map, Option, Some, None, refl, sym, ap, subst, ◌∙◌, arith, eq-eqb, ne_eqb}
+use Rattle.std.proofs.Common.{◌≡◌, ◌≢◌, ◌⊎◌, inl, inr, ℕ, ◌+◌, ◌<◌, ◌≤◌, true, eqb, cond, List, Option, Some, None, refl, sym, ap, subst, ◌∙◌, arith, eq-eqb, ne_eqb}
 use Rattle.std.specs.Prelude.{slice_get}
 use Rattle.std.proofs.lemmas.Bool.{cases_Bool, cases_eq, cond-true, cond-false, le-leb}
 use Rattle.std.proofs.lemmas.Option.{none-some, same_Some}
@@ -11,7 +11,7 @@ use Rattle.pm_model.specs.Masks.{masked, masked_state, IsOff}
 use Rattle.pm_model.proofs.Leaves.{Leaves-weaker}
 use Rattle.pm_model.proofs.Masks.{Changes-masked, masked-there, masked-elsewhere}
 use Rattle.pm_model.proofs.Words.{HasOnly-newest}
-use Rattle.pud_defs.specs.declared.layout.TheConstants.{DAEMON_LOG, SPACE_TABLE, PUDDLE_TABLE, POOL_TABLE}
+use Rattle.pud_defs.specs.declared.layout.TheConstants.{DAEMON_LOG, SPACE_TABLE, PUDDLE_TABLE}
 use Rattle.pud_defs.specs.declared.records.TheConstants.{POOL_RECORDS}
 use Rattle.pud_defs.specs.declared.records.PoolRec.{PoolRec}
 use Rattle.pud_defs.specs.declared.records.Puddle.{Puddle}
@@ -20,22 +20,21 @@ use Rattle.pud_defs.specs.Image.{Image}
 use Rattle.pud_defs.specs.Frames.{frame_at}
 use Rattle.pud_defs.specs.Graph.{Graph, graph_of}
 use Rattle.pud_defs.specs.Layout.{tables_end, frames_at}
-use Rattle.pud_defs.specs.Puddles.{Member, moved_to, frontier_word}
+use Rattle.pud_defs.specs.Puddles.{moved_to}
 use Rattle.pud_defs.specs.Puts.{is_of_pool}
-use Rattle.pud_defs.specs.SoundTables.{HasSoundTables}
 use Rattle.pud_defs.specs.Stored.{stored_in}
 use Rattle.pud_defs.specs.Tables.{Tables, tables_of, puddles_in_turn}
 use Rattle.pud_defs.specs.Types.{types_of}
-use Rattle.pud_defs.specs.World.{Transaction, World, idle_world_of, closed}
+use Rattle.pud_defs.specs.World.{World, idle_world_of, closed}
 use Rattle.pud_defs.proofs.PoolMembers.{IsMemberOf}
 use Rattle.pud_defs.proofs.Spaces.{owner_of-same}
 use Rattle.pud_defs.proofs.TablesOf.{frames_of_tables}
-use Rattle.batch.specs.Batches.{HasIdleGate, ByBatch}
+use Rattle.batch.specs.Batches.{ByBatch}
 use Rattle.batch.proofs.Tables.{HasDurableTables-committed, reads_kept}
 use Rattle.nesting.specs.declared.Session.{Session}
 use Rattle.nesting.specs.Sessions.{session_in}
 use Rattle.lazy_rewrite.specs.Batches.{IsRewritten, ByRewriting, AreNextSteps, CommitsSteps}
-use Rattle.lazy_rewrite.specs.Graphs.{IsOffTypes, IsRewritable, IsRewritableIn}
+use Rattle.lazy_rewrite.specs.Graphs.{IsRewritableIn}
 use Rattle.lazy_rewrite.proofs.Stepped.{member_of_pool, types_of-same}
 use Rattle.lazy_rewrite.proofs.Turns.{by_batch}
 use Rattle.lazy_rewrite.proofs.Worlds.{batch_keeps_world}
@@ -46,7 +45,7 @@ use Rattle.hybrid_tx.proofs.Open.OpenMasks.{mask_of_mine}
 use Rattle.hybrid_tx.proofs.Open.OpenPools.{placed_by_tables}
 use Rattle.hybrid_tx.proofs.PoolGrounds.{pool_mine-each}
 use Rattle.ready_daemon.specs.Memory.{Held, Memory, held_under}
-use Rattle.ready_daemon.specs.Held.{pool_held, IsHeld, IsHeldOn, IsBeside}
+use Rattle.ready_daemon.specs.Held.{pool_held, IsHeldOn, IsBeside}
 use Rattle.ready_daemon.specs.Judged.{known_in}
 use Rattle.ready_daemon.specs.Ready.{IsReady, AppliesMasked}
 use Rattle.ready_daemon.proofs.Beneath.{IsOff-each, IsBeside-commits, logs_kept, ready_gate}
@@ -55,7 +54,7 @@ use Rattle.ready_daemon.proofs.InTurn.{known_in_turn, held_known}
 use Rattle.ready_daemon.proofs.JudgedKept.{HasGraphIn, graph_parts}
 use Rattle.ready_daemon.proofs.PoolsBeside.{unmasked_frame, unmasked_moving_record, unmasked_moving_frame}
 use Rattle.ready_daemon.proofs.RestBeside.{rest_unmasked}
-use Rattle.ready_daemon.proofs.TablesBeside.{HasDurableTables-masked, tables_read, read_beside, under_durable, types_read, sound_read}
+use Rattle.ready_daemon.proofs.TablesBeside.{tables_read, read_beside, under_durable, types_read, sound_read}
 
 -- none is held on the pool in the slot
 pub record IsShutIn (held : List (Option Held)) (slot : ℕ) : Type 0 where

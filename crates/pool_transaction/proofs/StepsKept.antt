@@ -1,23 +1,20 @@
 -- What a batch of steps of a pool that is known leaves: the pool has its graph, by the frontiers that it has then, and each other pool stays.
-use Rattle.std.proofs.Common.{◌≡◌, ◌≢◌, ◌⊎◌, inl, inr, ℕ, ◌+◌, ◌<◌, ◌≤◌, eqb, cond, List, map, Option, Some, None, option_map, refl, sym, ap, subst, ◌∙◌, arith, eq-eqb, ne_eqb}
+use Rattle.std.proofs.Common.{◌≡◌, ◌≢◌, ◌⊎◌, inl, inr, ℕ, ◌+◌, ◌<◌, ◌≤◌, List, Some, None, option_map, sym, ap, subst, ◌∙◌, arith, eq-eqb, ne_eqb}
 use Rattle.std.specs.Prelude.{slice_get}
 use Rattle.std.proofs.lemmas.Bool.{cases_eq, cond-true, cond-false, le-leb}
 use Rattle.pm_model.specs.Words.{Cell, HasOnly, reads}
 use Rattle.pm_model.specs.Moments.{State}
 use Rattle.pm_model.proofs.Masks.{masked-elsewhere}
 use Rattle.pud_defs.specs.declared.layout.TheConstants.{DAEMON_LOG, LOG_WORDS, FRAME_WORDS}
-use Rattle.pud_defs.specs.declared.records.TheConstants.{POOL_RECORDS}
-use Rattle.pud_defs.specs.declared.records.PoolRec.{PoolRec}
 use Rattle.pud_defs.specs.declared.records.Puddle.{Puddle}
 use Rattle.pud_defs.specs.Geometry.{steps_of, is_legal_frontier}
 use Rattle.pud_defs.specs.Image.{Image}
 use Rattle.pud_defs.specs.Frames.{frame_at}
 use Rattle.pud_defs.specs.Graph.{graph_of}
-use Rattle.pud_defs.specs.Layout.{frames_at, tables_end}
+use Rattle.pud_defs.specs.Layout.{tables_end}
 use Rattle.pud_defs.specs.Puddles.{Member, member_moved, moved_to, frontier_word}
 use Rattle.pud_defs.specs.Puts.{with_frontier_at}
 use Rattle.pud_defs.specs.SoundTables.{HasSoundTables}
-use Rattle.pud_defs.specs.Stored.{Stored, stored_in}
 use Rattle.pud_defs.specs.Tables.{Tables, tables_of, member_of, members, puddles_in_turn}
 use Rattle.pud_defs.specs.Types.{types_of}
 use Rattle.pud_defs.specs.World.{World}

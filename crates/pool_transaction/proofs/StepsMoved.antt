@@ -1,6 +1,6 @@
 -- A batch of steps moves the frontier of its puddle towards its goal, and no other record.
-use Rattle.std.proofs.Common.{◌≡◌, inl, inr, ℕ, ◌+◌, ◌<◌, ◌≤◌, true, eqb, List, Option, Some, None, refl, sym, ap, subst, ◌∙◌, arith, eq-eqb, ne_eqb}
-use Rattle.std.specs.Prelude.{min, option_map, slice_get}
+use Rattle.std.proofs.Common.{◌≡◌, inl, inr, ℕ, ◌+◌, ◌<◌, ◌≤◌, eqb, List, Option, Some, sym, ap, subst, ◌∙◌, arith, eq-eqb, ne_eqb}
+use Rattle.std.specs.Prelude.{min, option_map}
 use Rattle.std.proofs.lemmas.Bool.{cases_eq, cond-true, cond-false}
 use Rattle.std.proofs.lemmas.Option.{same_Some}
 use Rattle.pm_model.specs.declared.host.HostFault.{HostFault}
@@ -28,7 +28,7 @@ use Rattle.lazy_rewrite.proofs.Kept.{settled_single}
 use Rattle.lazy_rewrite.proofs.Stepped.{write, member_of_pool, unwritten, frontier_written}
 use Rattle.ready_daemon.specs.Judged.{known_in}
 use Rattle.ready_daemon.specs.Memory.{Memory}
-use Rattle.ready_daemon.specs.Moves.{Stays, MovesTo, LeavesPuddles, led_in}
+use Rattle.ready_daemon.specs.Moves.{MovesTo, LeavesPuddles, led_in}
 use Rattle.ready_daemon.specs.Ready.{IsReady}
 use Rattle.ready_daemon.proofs.Beneath.{ready_gate}
 use Rattle.ready_daemon.proofs.Goals.{led_stays, led_moved}
