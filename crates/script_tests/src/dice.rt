@@ -14,6 +14,8 @@ struct Dice {
     client: u8,
     pool: u8,
     left: u8,
+    /// Whether pools are exported, and files imported.
+    has_files: bool,
 }
 
 impl Dice {
@@ -120,8 +122,8 @@ impl Dice {
             7..=9 => Line::Define(self.roll(4), self.roll(4) == 0),
             10 if self.roll(4) == 0 => Line::Cut(u64::from(self.roll(2))),
             11..=12 => Line::Rewrite(self.roll(7), 1 + u16::from(self.roll(16))),
-            13..=14 => Line::On(self.roll(8), self.roll(7), Ask::Export),
-            15..=17 => Line::On(self.roll(8), self.roll(7), self.import()),
+            13..=14 if self.has_files => Line::On(self.roll(8), self.roll(7), Ask::Export),
+            15..=17 if self.has_files => { Line::On(self.roll(8), self.roll(7), self.import()) }
             _ => self.ask_on(),
         }
     }
@@ -152,13 +154,20 @@ fn begin_all(rt: &impl Abort, client: u8, lines: &mut Vec<Line>) {
 }
 
 /// So many lines, or a few more, from this seed. All clients come first, and behind each power loss; some lines
-/// come up to so often, and behind one that is none a client begins on all pools.
-pub fn lines_of(rt: &impl Abort, alloc: Global, seed: u64, count: usize, most: u8) -> Vec<Line> {
+/// come up to so often, and behind one that is none a client begins on all pools. Files are among them where it is said so.
+pub fn lines_of(
+    rt: &impl Abort,
+    alloc: Global,
+    seed: u64,
+    (count, most): (usize, u8),
+    has_files: bool,
+) -> Vec<Line> {
     let mut dice = Dice {
         now: seed,
         client: 0,
         pool: 0,
         left: 0,
+        has_files,
     };
     let mut lines = Vec::new(alloc);
     come(rt, &mut dice, &mut lines);

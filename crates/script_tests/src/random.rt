@@ -154,7 +154,7 @@ pub fn reading(rt: &impl Abort, alloc: Global, machines: [&Machine; 2]) -> Vec<L
 
 /// The lines of a seed are replied to as the model has it, and then, behind a power loss, all is read so.
 fn run_seed(rt: &impl Abort, alloc: Global, seed: u64, counts: &mut Counts) {
-    let mut lines = lines_of(rt, alloc, seed, 400, 40);
+    let mut lines = lines_of(rt, alloc, seed, (400, 40), true);
     lines.push(Line::Cut(EVERY_OTHER)).expect(rt, "memory");
     let mut machine = first_machine(rt, alloc);
     let mut talk = Talk::new(rt, alloc);

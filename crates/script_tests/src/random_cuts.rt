@@ -10,7 +10,7 @@ use std::alloc::Global;
 use std::process::Abort;
 
 /// The kinds of lines that are cut off.
-const KINDS: usize = 15;
+const KINDS: usize = 14;
 
 /// The place of the line among them, or more.
 fn kind_of(line: Line) -> usize {
@@ -29,7 +29,6 @@ fn kind_of(line: Line) -> usize {
         Line::On(_, _, Ask::Make(_)) => 11,
         Line::On(_, _, Ask::Change(_)) => 12,
         Line::On(_, _, Ask::Drop) => 13,
-        Line::On(_, _, Ask::Import(_, _)) => 14,
         _ => KINDS,
     }
 }
@@ -163,7 +162,7 @@ fn last_lines(rt: &impl Abort, alloc: Global, lines: &[Line]) -> [usize; KINDS] 
 /// are done or not, and both come; but that a type is there is durable only with the last step. The seeds are such that each kind is there, and that
 /// one of the lines is the first use of the pool that moved.
 fn cut_off_each(rt: &impl Abort, alloc: Global, seed: u64, pick: u64) {
-    let lines = lines_of(rt, alloc, seed, 80, 3);
+    let lines = lines_of(rt, alloc, seed, (80, 3), false);
     for (kind, at) in last_lines(rt, alloc, &lines).iter().enumerate() {
         let is_kept = kind > 8 && (kind != 10 || pick != OLDEST);
         let mut counts = [0u32; 3];
@@ -183,19 +182,19 @@ fn cut_off_each(rt: &impl Abort, alloc: Global, seed: u64, pick: u64) {
 fn each_kind_of_line_behind_lines_that_come_by_chance_is_cut_off_with_the_newest_values(
     rt: HostRuntime,
 ) {
-    cut_off_each(&rt, rt.alloc(), 4_075_635, NEWEST);
+    cut_off_each(&rt, rt.alloc(), 310_489, NEWEST);
 }
 
 #[test]
 fn each_kind_of_line_behind_lines_that_come_by_chance_is_cut_off_with_the_oldest_values(
     rt: HostRuntime,
 ) {
-    cut_off_each(&rt, rt.alloc(), 1_875_178, OLDEST);
+    cut_off_each(&rt, rt.alloc(), 77_401, OLDEST);
 }
 
 #[test]
 fn each_kind_of_line_behind_lines_that_come_by_chance_is_cut_off_with_every_other_newest_value(
     rt: HostRuntime,
 ) {
-    cut_off_each(&rt, rt.alloc(), 900_615, EVERY_OTHER);
+    cut_off_each(&rt, rt.alloc(), 182_323, EVERY_OTHER);
 }
