@@ -20,10 +20,9 @@ use Rattle.pud_defs.specs.Step.{refusal_of, after, unless_refused, world_by}
 use Rattle.pud_defs.proofs.Steps.{done_world}
 use Rattle.ready_daemon.specs.Memory.{Memory}
 use Rattle.ready_daemon.specs.KnownPools.{KnowsPools}
-use Rattle.ready_daemon.specs.Moves.{Stays, LeavesPuddles, MovesOn, MovesUnless, ends_unless}
+use Rattle.ready_daemon.specs.Moves.{Stays, LeavesPuddles}
 use Rattle.ready_daemon.specs.Ready.{IsReady, StandsBetween, AppliesBy, Applies}
 use Rattle.ready_daemon.proofs.Beside.{ready_stands}
-use Rattle.ready_daemon.proofs.Goals.{led_stays}
 use Rattle.ready_daemon.proofs.PuddlesLeft.{Joins, Joins-stays, LeavesPuddles-still, LeavesPuddles-then, LeavesPuddles-weaker, settled_ready}
 
 -- nothing happened
@@ -161,14 +160,3 @@ pub Applies-behind_reads : {becomes : Member → Option Member → Type 0} (size
     → AppliesBy becomes size w (after w c) memory fault b d → AppliesBy becomes size w (world_by w (Some c)) memory fault a d
 Applies-behind_reads {becomes} size w memory c fault a b d free same applies =
     subst (λ (v : World). AppliesBy becomes size w v memory fault a d) (sym (done_world w c free)) (subst (λ (s : State). AppliesBy becomes size w (after w c) memory fault s d) same applies)
-
--- ---- lines that may move frontiers of a pool
-
-module _ (why : Option Refusal) (slot size : ℕ) (w next : World) (memory : Memory) (fault : Option HostFault) (old new : State) where
-  -- one that moves none does what it may
-  pub still_line : Applies size w next memory fault old new → AppliesBy (MovesUnless why slot) size w next memory fault old new
-  still_line = AppliesBy-weaker Stays (MovesUnless why slot) (led_stays slot (ends_unless why)) size w next memory fault old new
-
-  -- and so does one that is not refused and moves some
-  pub moving_line : why ≡ None → AppliesBy (MovesOn slot) size w next memory fault old new → AppliesBy (MovesUnless why slot) size w next memory fault old new
-  moving_line none = subst (λ (r : Option Refusal). AppliesBy (MovesUnless r slot) size w next memory fault old new) (sym none)

@@ -1,10 +1,9 @@
 -- Records of puddles on the way to their goals.
-use Rattle.std.proofs.Common.{◌≡◌, inl, inr, ℕ, ◌+◌, ◌≤◌, Bool, true, false, eqb, cond, Option, Some, refl, sym, ap, ◌∙◌, arith, eq-eqb}
+use Rattle.std.proofs.Common.{◌≡◌, ℕ, ◌+◌, ◌≤◌, Bool, true, false, eqb, cond, Option, Some, ap, ◌∙◌, arith, eq-eqb}
 use Rattle.std.specs.Prelude.{max}
-use Rattle.std.proofs.lemmas.Bool.{cases_Bool, cond-true, cond-false}
-use Rattle.pud_defs.specs.declared.machine.Refusal.{Refusal}
+use Rattle.std.proofs.lemmas.Bool.{cond-true}
 use Rattle.pud_defs.specs.Puddles.{Member, member_moved}
-use Rattle.ready_daemon.specs.Moves.{Stays, IsBetween, MovesTo, MovesUnless, still, led_to, led_in}
+use Rattle.ready_daemon.specs.Moves.{Stays, IsBetween, MovesTo, still, led_to, led_in}
 use Rattle.ready_daemon.proofs.PuddlesLeft.{GoesOn, Joins}
 
 -- a record that stays is on its way to any goal that is not behind it
@@ -84,12 +83,3 @@ far_by false f n g h less most = most
 pub led_further : (slot : ℕ) (goal far : ℕ → ℕ) → ((o : ℕ) → goal o ≤ far o) → (m : Member) (now : Option Member) → MovesTo (led_in slot goal) m now → MovesTo (led_in slot far) m now
 led_further slot goal far less m now so =
     record { frontier = so.frontier; least = so.least; most = far_by (eqb m.pool (slot + 1)) m.puddle.frontier so.frontier (goal m.ordinal) (far m.ordinal) (less m.ordinal) so.most; is = so.is }
-
--- of a line that is refused none is led anywhere
-none_by : (own : Bool) (f n : ℕ) → n ≤ cond own (max f 0) f → n ≤ f
-none_by true f n most = omega arith
-none_by false f n most = most
-
-pub unless_still : (why : Refusal) (slot : ℕ) (m : Member) (now : Option Member) → MovesUnless (Some why) slot m now → MovesTo still m now
-unless_still why slot m now so =
-    record { frontier = so.frontier; least = so.least; most = none_by (eqb m.pool (slot + 1)) m.puddle.frontier so.frontier so.most; is = so.is }

@@ -1,42 +1,39 @@
 -- A pool that is placed beside what is held: the world that it gives keeps what is held, and each pool that has a graph keeps it, and its puddles.
-use Rattle.std.proofs.Common.{◌≡◌, ◌≢◌, ◌⊎◌, inl, inr, ℕ, zero, suc, ◌+◌, ◌-◌, ◌^◌, ◌<◌, ◌≤◌, Bool, true, false, cond, eqb, List, [], ◌∷◌, ◌++◌, map, length, Option, Some, None, option_map, is_none, nat_cmp, refl, sym, ap, subst, ◌∙◌, arith, ne_eqb}
+use Rattle.std.proofs.Common.{◌≡◌, ◌≢◌, inl, inr, ℕ, suc, ◌+◌, ◌-◌, ◌<◌, ◌≤◌, true, false, eqb, List, [], ◌∷◌, ◌++◌, map, length, Option, Some, None, is_none, nat_cmp, refl, sym, ap, subst, ◌∙◌, arith, ne_eqb}
 use Rattle.std.specs.Prelude.{slice_get, ⊤}
-use Rattle.std.specs.FinMap.Entries.{find, put, find-put, where_key}
+use Rattle.std.specs.FinMap.Entries.{put, find-put}
 use Rattle.std.proofs.lemmas.Bool.{cases_eq, cases_Bool, cond-true, cond-false}
 use Rattle.std.proofs.lemmas.Cmp.{nat_cmp_total}
-use Rattle.std.proofs.lemmas.Option.{none-some, same_Some}
+use Rattle.std.proofs.lemmas.Option.{none-some}
 use Rattle.pm_model.specs.declared.host.HostFault.{HostFault}
 use Rattle.pm_model.specs.Words.{Words, reads}
 use Rattle.pm_model.specs.Moments.{State}
 use Rattle.pm_model.specs.Changes.{Write}
-use Rattle.pm_model.specs.Masks.{masked, masked_state, IsOff}
-use Rattle.pud_defs.specs.declared.layout.TheConstants.{DAEMON_LOG, TYPE_RECORDS, TYPE_TABLE, POOL_TABLE, PUDDLE_TABLE, NEXT_NUMBER_WORD}
+use Rattle.pm_model.specs.Masks.{masked}
+use Rattle.pud_defs.specs.declared.layout.TheConstants.{DAEMON_LOG, TYPE_RECORDS, TYPE_TABLE, PUDDLE_TABLE}
 use Rattle.pud_defs.specs.declared.records.TheConstants.{POOL_RECORDS}
 use Rattle.pud_defs.specs.declared.records.PoolRec.{PoolRec}
 use Rattle.pud_defs.specs.declared.records.PuddleRec.{PuddleRec}
-use Rattle.pud_defs.specs.declared.records.Puddle.{Puddle}
 use Rattle.pud_defs.specs.declared.records.Put.{Put}
 use Rattle.pud_defs.specs.ExportFile.{FileContents}
 use Rattle.pud_defs.specs.Graph.{Graph, graph_of}
 use Rattle.pud_defs.specs.Image.{Image}
 use Rattle.pud_defs.specs.Imports.{types_missing, with_types_defined, imported_pool, with_imported_pool}
 use Rattle.pud_defs.specs.Layout.{tables_end, frames_at}
-use Rattle.pud_defs.specs.Names.{name_cmp}
 use Rattle.pud_defs.specs.PoolChanges.{pool_named, with_type_defined}
-use Rattle.pud_defs.specs.Puddles.{Member}
 use Rattle.pud_defs.specs.Puts.{with_put, pool_put, member_by, changed_at, with_puddle_at}
 use Rattle.pud_defs.specs.SoundTables.{HasSoundTables}
 use Rattle.pud_defs.specs.Spaces.{Owner}
 use Rattle.pud_defs.specs.Step.{graph_in}
-use Rattle.pud_defs.specs.Stored.{Stored, stored_in, places_of, place_word}
-use Rattle.pud_defs.specs.Tables.{Tables, Pool, tables_of, member_of, members}
+use Rattle.pud_defs.specs.Stored.{Stored}
+use Rattle.pud_defs.specs.Tables.{Tables, tables_of, member_of}
 use Rattle.pud_defs.specs.Types.{map_of, with_type, types_of}
 use Rattle.pud_defs.specs.World.{StoredWorld, World}
 use Rattle.pud_defs.proofs.PoolsChanged.{changed_here, changed_elsewhere}
 use Rattle.pud_defs.proofs.TablesOf.{frames_of_tables}
 use Rattle.pud_defs.proofs.TypeLists.{same_test}
 use Rattle.pud_defs.proofs.TypeMore.{graph_of-wider}
-use Rattle.ready_daemon.specs.Memory.{Held, Memory, held_under}
+use Rattle.ready_daemon.specs.Memory.{Held, Memory}
 use Rattle.ready_daemon.specs.Held.{Holds, KeepsHeld}
 use Rattle.ready_daemon.proofs.Beside.{held_is}
 use Rattle.ready_daemon.proofs.Defining.{pool_kept}

@@ -1,17 +1,15 @@
 -- Which words a pool that is placed takes: none in a record that is used, nor in a frame of a puddle.
 use Rattle.std.proofs.Common.{◌≡◌, ◌⊎◌, inl, inr, ℕ, zero, suc, ◌+◌, ◌-◌, ◌<◌, ◌≤◌, List, [], ◌∷◌, ◌++◌, map, length, take, Option, Some, None, refl, sym, ap, ◌∙◌, arith, length-take}
 use Rattle.std.specs.Prelude.{slice_get, ⊤}
-use Rattle.std.proofs.lemmas.Bool.{cases_lt}
 use Rattle.std.proofs.lemmas.Option.{none-some, same_Some}
 use Rattle.pm_persist.proofs.Ranges.{placed_within}
-use Rattle.pud_defs.specs.declared.layout.TheConstants.{DAEMON_LOG, TYPE_RECORDS, POOL_TABLE, FRAME_WORDS}
+use Rattle.pud_defs.specs.declared.layout.TheConstants.{DAEMON_LOG, TYPE_RECORDS, POOL_TABLE}
 use Rattle.pud_defs.specs.declared.records.TheConstants.{POOL_RECORDS}
 use Rattle.pud_defs.specs.declared.records.PoolRec.{PoolRec}
 use Rattle.pud_defs.specs.declared.records.Puddle.{Puddle}
 use Rattle.pud_defs.specs.declared.records.Put.{Put}
 use Rattle.pud_defs.specs.Image.{Image}
 use Rattle.pud_defs.specs.Frames.{frame_at}
-use Rattle.pud_defs.specs.Keyed.{first_free}
 use Rattle.pud_defs.specs.Layout.{IsWithin}
 use Rattle.pud_defs.specs.Placement.{ArePlacedFrom}
 use Rattle.pud_defs.specs.Pools.{pool_record_at}
@@ -25,7 +23,7 @@ use Rattle.pud_defs.proofs.TablesOf.{frames_of_tables}
 use Rattle.batch.specs.Batches.{batch_write, ByBatch}
 use Rattle.registry.specs.declared.adding.Added.{Added}
 use Rattle.registry.specs.declared.placing.NewType.{NewType}
-use Rattle.registry.specs.Puts.{puts_batch, number_put}
+use Rattle.registry.specs.Puts.{puts_batch}
 use Rattle.registry.specs.Adding.{adding}
 use Rattle.registry.specs.Placing.{new_type_put, placing, puddle_of, HasFreeRecords, IsPlacedFor}
 use Rattle.registry.proofs.PutBatches.{either_some}

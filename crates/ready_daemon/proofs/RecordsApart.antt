@@ -1,24 +1,21 @@
 -- Changes of pools beside the records of puddles: none is written that is used, but those of a pool that is dropped.
-use Rattle.std.proofs.Common.{◌≡◌, inl, inr, ℕ, zero, suc, ◌+◌, ◌<◌, ◌≤◌, true, false, eqb, cond, List, [], ◌∷◌, Option, Some, None, refl, sym, ap, subst, ◌∙◌, arith, eqb-true, ne_eqb, eq-eqb}
-use Rattle.std.specs.Prelude.{⊤}
+use Rattle.std.proofs.Common.{◌≡◌, inl, inr, ℕ, zero, suc, ◌+◌, ◌<◌, ◌≤◌, true, false, eqb, List, [], ◌∷◌, Option, Some, None, refl, sym, ap, subst, ◌∙◌, arith}
 use Rattle.std.proofs.lemmas.Bool.{cases_Bool, cond-true, cond-false}
-use Rattle.std.proofs.lemmas.Option.{none-some, same_Some}
+use Rattle.std.proofs.lemmas.Option.{none-some}
 use Rattle.pm_model.specs.declared.host.HostFault.{HostFault}
 use Rattle.pm_model.specs.declared.host.HostFault.TheVariants.{Cut}
 use Rattle.pm_model.specs.Words.{IsRested, reads}
 use Rattle.pm_model.specs.Moments.{State}
-use Rattle.pm_model.specs.Changes.{Write, written, Leaves, Silently}
+use Rattle.pm_model.specs.Changes.{Write, written, Silently}
 use Rattle.pm_model.specs.Masks.{IsOff}
 use Rattle.pm_model.proofs.Leaves.{Leaves-weaker}
 use Rattle.pm_persist.proofs.Ranges.{placed_within}
 use Rattle.pud_defs.specs.declared.layout.TheConstants.{DAEMON_LOG, PUDDLE_TABLE}
 use Rattle.pud_defs.specs.declared.records.TheConstants.{POOL_RECORDS}
-use Rattle.pud_defs.specs.declared.records.PoolRec.{PoolRec}
 use Rattle.pud_defs.specs.declared.records.Put.{Put}
 use Rattle.pud_defs.specs.Image.{Image}
 use Rattle.pud_defs.specs.Frames.{frame_at, fresh_frame}
 use Rattle.pud_defs.specs.Keyed.{first_free}
-use Rattle.pud_defs.specs.Layout.{tables_end}
 use Rattle.pud_defs.specs.Puddles.{Member, puddle_record_at}
 use Rattle.pud_defs.specs.Puts.{is_of_pool}
 use Rattle.pud_defs.specs.Replay.{settled_by}

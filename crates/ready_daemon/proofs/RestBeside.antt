@@ -1,5 +1,5 @@
 -- The words of puddles that are not finished rest, of each pool on which a transaction is held, beside calls that leave pools as they are.
-use Rattle.std.proofs.Common.{◌≡◌, ◌≢◌, inr, ℕ, true, false, Option, Some, None, sym, ap, subst, ◌∙◌, arith, List, refl, inl}
+use Rattle.std.proofs.Common.{◌≡◌, ◌≢◌, inr, ℕ, true, false, Option, Some, None, sym, ap, subst, ◌∙◌, arith, List, inl}
 use Rattle.pm_model.specs.Words.{HasOnly, reads}
 use Rattle.pm_model.specs.Moments.{State}
 use Rattle.pm_model.proofs.Words.{HasOnly-own, HasOnly-newest}
@@ -8,14 +8,13 @@ use Rattle.pud_defs.specs.Replay.{is_in_log}
 use Rattle.pud_defs.specs.World.{World}
 use Rattle.pud_defs.proofs.Replay.{outside_log}
 use Rattle.hybrid_tx.specs.Grounds.{pool_mine, finished_of}
-use Rattle.hybrid_tx.specs.Objects.Transactions.{RestsAs}
 use Rattle.hybrid_tx.proofs.PoolGrounds.{pool_mine-each}
 use Rattle.std.proofs.lemmas.Bool.{cases_eq, false_from_ne_true}
 use Rattle.std.proofs.lemmas.Option.{same_Some}
 use Rattle.pud_defs.specs.declared.records.Puddle.{Puddle}
 use Rattle.pud_defs.specs.Tables.{tables_of, puddles_in_turn}
 use Rattle.pud_defs.specs.Settled.{log_number_at}
-use Rattle.hybrid_tx.specs.Open.Masks.{open_mask, is_open_record}
+use Rattle.hybrid_tx.specs.Open.Masks.{is_open_record}
 use Rattle.hybrid_tx.proofs.Open.OpenMasks.{mask_of_others, open_record_place}
 use Rattle.hybrid_tx.proofs.Open.OpenPools.{open_on_device}
 use Rattle.ready_daemon.proofs.PoolsBeside.{puddles_still, one_slot}

@@ -4,8 +4,6 @@ use Rattle.pm_model.specs.Words.{reads}
 use Rattle.pm_model.specs.Moments.{State}
 use Rattle.pm_model.specs.Changes.{Leaves, Silently}
 use Rattle.pud_defs.specs.declared.layout.TheConstants.{DAEMON_LOG}
-use Rattle.pud_defs.specs.declared.machine.Refusal.{Refusal}
-use Rattle.pud_defs.specs.declared.space.TheConstants.{LAST_FRONTIER}
 use Rattle.pud_defs.specs.Puddles.{Member, member_moved}
 use Rattle.pud_defs.specs.Replay.{settled_by}
 use Rattle.pud_defs.specs.Tables.{tables_of}
@@ -51,16 +49,3 @@ led_to slot goal m = cond (m.pool == slot + 1) (max m.puddle.frontier (goal m.or
 
 abbrev pub led_in : (slot : ℕ) → (ℕ → ℕ) → Member → Option ℕ
 led_in slot goal m = Some (led_to slot goal m)
-
--- The frontiers of the pool in a slot move on, at most to the ends of its puddles, and no other moves.
-abbrev pub MovesOn : (slot : ℕ) → Member → Option Member → Type 0
-MovesOn slot = MovesTo (led_in slot (λ _. LAST_FRONTIER))
-
--- the ends of puddles, where nothing stands against a line
-abbrev pub ends_unless : Option Refusal → ℕ → ℕ
-ends_unless None o = LAST_FRONTIER
-ends_unless (Some why) o = 0
-
--- the same of a line on the pool that may be refused; where it is, none moves
-abbrev pub MovesUnless : Option Refusal → (slot : ℕ) → Member → Option Member → Type 0
-MovesUnless why slot = MovesTo (led_in slot (ends_unless why))
