@@ -1,5 +1,5 @@
 -- A pool whose puddles are known behind calls that move its frontiers has them at their goals.
-use Rattle.std.proofs.Common.{◌≡◌, inl, inr, ℕ, zero, suc, ◌+◌, ◌-◌, ◌<◌, ◌≤◌, true, false, not, eqb, List, [], ◌∷◌, map, Option, Some, None, is_some, nat_cmp, refl, sym, ap, subst, ◌∙◌, arith, eq-eqb, eqb-true, ne_eqb}
+use Rattle.std.proofs.Common.{◌≡◌, inl, inr, ℕ, zero, suc, ◌+◌, ◌-◌, ◌<◌, ◌≤◌, Bool, true, false, not, eqb, cond, List, [], ◌∷◌, map, Option, Some, None, is_some, nat_cmp, refl, sym, ap, subst, ◌∙◌, arith, eq-eqb, eqb-true, ne_eqb}
 use Rattle.std.specs.Prelude.{max, slice_get}
 use Rattle.std.specs.FinMap.Entries.{find}
 use Rattle.std.proofs.lemmas.Bool.{and_parts, cases_eq, cond-true, cond-false}
@@ -27,16 +27,16 @@ use Rattle.pud_defs.proofs.PuddlesListed.{puddles_in_turn-listed, passed_by, fou
 use Rattle.pud_defs.proofs.Replay.{outside_log, settled_by-idle}
 use Rattle.pud_defs.proofs.SoundChanged.{legal_puddle, distinct_ordinals}
 use Rattle.pud_defs.proofs.TablesOf.{tables_of-same, frames_of_tables}
-use Rattle.lazy_rewrite.specs.Frontiers.{frontier_in, frontiers_of}
+use Rattle.lazy_rewrite.specs.Frontiers.{frontiers_of}
 use Rattle.ready_daemon.specs.Judged.{known_in}
 use Rattle.ready_daemon.specs.Memory.{Memory}
-use Rattle.ready_daemon.specs.Moves.{IsBetween, MovesTo, led_to, led_in}
+use Rattle.ready_daemon.specs.Moves.{MovesTo, led_to, led_in}
 use Rattle.ready_daemon.specs.Ready.{IsReady, AppliesBy}
 use Rattle.ready_daemon.proofs.Beneath.{ready_gate}
 use Rattle.ready_daemon.proofs.InTurn.{known_in_turn}
 use Rattle.ready_daemon.proofs.PuddlesLeft.{used_below}
 use Rattle.ready_daemon.proofs.TablesBeside.{sound_read}
-use Rattle.pool_transaction.specs.Finishing.{Arrives}
+use Rattle.pool_transaction.specs.Finishing.{Arrives, AppliesTo}
 
 -- ---- a record that is used stands under its ordinal
 
@@ -128,14 +128,20 @@ AppliesBy-used early becomes size w next memory fault old new weaker a = record 
 
 -- ---- goals of the pool in a slot
 
--- these puddles have the frontiers that the goals ask for of those before
+-- These puddles have the frontiers that the goals ask for of those before, and none is behind its goal.
 pub record HaveReached (at final : List (ℕ × Puddle)) (goal : ℕ → ℕ) : Type 0 where
   pub each : (o : ℕ) (e : ℕ × Puddle) → slice_get at o ≡ Some e → frontiers_of final o ≡ max e.1.frontier (goal o)
+  pub none_behind : (o : ℕ) (e : ℕ × Puddle) → slice_get final o ≡ Some e → goal o ≤ e.1.frontier
 
 -- So they have, and none is asked to go further than they are.
 pub record AreEnds (at final : List (ℕ × Puddle)) (far goal : ℕ → ℕ) : Type 0 where
   pub reached : HaveReached at final goal
   pub near : (o : ℕ) → far o ≤ frontiers_of final o
+
+-- what is on the way to its goal, and not behind it, is there
+at_goal : (own : Bool) (f n g : ℕ) → f ≤ n → n ≤ cond own (max f g) f → cond own (max n g) n ≡ n → n ≡ cond own (max f g) f
+at_goal true f n g least most there = omega arith
+at_goal false f n g least most there = omega arith
 
 module _ (size : ℕ) (w : World) (memory : Memory) (old : State) (ready : IsReady size w memory old) (slot : ℕ) (low : slot < POOL_RECORDS) (at : List (ℕ × Puddle)) (known : known_in memory.judged slot ≡ Some at)
     (goal : ℕ → ℕ) (final : List (ℕ × Puddle)) (reached : HaveReached at final goal) where
@@ -174,24 +180,30 @@ module _ (size : ℕ) (w : World) (memory : Memory) (old : State) (ready : IsRea
         let most = so.most in
         record { frontier = so.frontier; least = so.least; most = omega (arith, most, nearer frame m used); is = so.is }
 
-  -- and where the pool is known by those puddles each record is at its goal
+  -- and where the pool is known by those puddles each record is at its goal, whether it was used before or not
   module _ (next : World) (behind : Memory) (new : State) (frames : next.stored.frames ≡ F) (after : known_in behind.judged slot ≡ Some final) (a : AppliesBy (MovesTo (led_in slot goal)) size w next behind None old new) where
-    at_goal : (frame : ℕ) (m : Member) → t.puddles frame ≡ Some m → (so : IsBetween m (led_to slot goal m) ((tables_of F (reads new.now.words)).puddles frame)) → so.frontier ≡ led_to slot goal m
-    at_goal frame m used so = elim (cases_eq m.pool (slot + 1)) [
+    goal_then : (frame : ℕ) (m : Member) → (tables_of F (reads new.now.words)).puddles frame ≡ Some m → led_to slot goal m ≡ m.puddle.frontier
+    goal_then frame m used = elim (cases_eq m.pool (slot + 1)) [
       | inl own ↦
-          let there = subst (λ (n : ℕ). (tables_of n (reads new.now.words)).puddles frame ≡ Some (member_moved so.frontier m)) (sym frames) so.is in
-          let here = listed_member size next behind new (a.ready refl) slot low final after frame (member_moved so.frontier m) there own in
-          sym (ap frontier_in here) ∙ sym (goal_there frame m used own)
-      | inr other ↦
-          let is = goal_elsewhere m other in
-          let least = so.least in
-          let most = so.most in
-          omega (arith, is, least, most)
+          let there = subst (λ (n : ℕ). (tables_of n (reads new.now.words)).puddles frame ≡ Some m) (sym frames) used in
+          let least = reached.none_behind m.ordinal (frame, m.puddle) (listed_member size next behind new (a.ready refl) slot low final after frame m there own) in
+          let is : led_to slot goal m ≡ max m.puddle.frontier (goal m.ordinal) = cond-true _ _ _ (eq-eqb m.pool (slot + 1) own) in
+          omega (arith, is, least)
+      | inr other ↦ goal_elsewhere m other
     ]
 
     pub arrives_known : Arrives F (led_in slot goal) (reads old.now.words) (reads new.now.words)
     arrives_known = record {
       each = λ frame m used.
           let so = became (MovesTo (led_in slot goal)) size w next behind old new a frame m used in
-          so.is ∙ ap (λ (n : ℕ). Some (member_moved n m)) (at_goal frame m used so);
+          let there = goal_then frame (member_moved so.frontier m) so.is in
+          so.is ∙ ap (λ (n : ℕ). Some (member_moved n m)) (at_goal (eqb m.pool (slot + 1)) m.puddle.frontier so.frontier (goal m.ordinal) so.least so.most there);
+      come = λ frame m used. ap (λ (n : ℕ). Some (member_moved n m)) (sym (goal_then frame m used));
     }
+
+  pub AppliesTo-known : (next : World) (behind : Memory) (fault : Option HostFault) (new : State) → next.stored.frames ≡ F → (fault ≡ None → known_in behind.judged slot ≡ Some final)
+      → AppliesBy (MovesTo (led_in slot goal)) size w next behind fault old new → AppliesTo (led_in slot goal) size w next behind fault old new
+  AppliesTo-known next behind fault new frames after a = record {
+    applies = a;
+    arrives = λ done. arrives_known next behind new frames (after done) (subst (λ (f : Option HostFault). AppliesBy (MovesTo (led_in slot goal)) size w next behind f old new) done a);
+  }

@@ -18,7 +18,7 @@ use Rattle.pud_defs.specs.Puddles.{Member, is_legal_puddle}
 use Rattle.pud_defs.specs.SoundTables.{is_sound_puddle, is_legal_member, HasSoundTables}
 use Rattle.pud_defs.specs.Stored.{stored_in, IsFreePlace}
 use Rattle.pud_defs.specs.Tables.{Tables, tables_of}
-use Rattle.pud_defs.specs.World.{World, closed}
+use Rattle.pud_defs.specs.World.{StoredWorld, World, closed}
 use Rattle.pud_defs.proofs.PoolMembers.{HasMembers, members_in_turn}
 use Rattle.pud_defs.proofs.SoundChanged.{legal_puddle}
 use Rattle.graph_laws.specs.Slots.{IsLowestFreeSlot}
@@ -33,16 +33,17 @@ use Rattle.hybrid_tx.specs.Grounds.{IsPlaced, IsRewrittenAt}
 use Rattle.ready_daemon.specs.Memory.{Held, Memory, held_under}
 use Rattle.ready_daemon.specs.Held.{IsHeld}
 use Rattle.ready_daemon.specs.Judged.{known_in}
-use Rattle.ready_daemon.specs.Moves.{MovesTo, led_in}
+use Rattle.ready_daemon.specs.Moves.{Stays, MovesTo, led_in}
 use Rattle.ready_daemon.specs.Ready.{IsReady, AppliesBy, Applies}
+use Rattle.ready_daemon.proofs.Applying.{Applies-closed, AppliesBy-then}
 use Rattle.ready_daemon.proofs.Beneath.{ready_gate}
+use Rattle.ready_daemon.proofs.Goals.{Joins-led_stays}
 use Rattle.ready_daemon.proofs.InTurn.{held_known, known_in_turn}
 use Rattle.ready_daemon.proofs.JudgedOpen.{known_within}
 use Rattle.ready_daemon.proofs.TablesBeside.{sound_read}
 use Rattle.pool_transaction.specs.Changing.{both_finished}
 use Rattle.pool_transaction.specs.Finishing.{AppliesTo}
-use Rattle.pool_transaction.proofs.Arriving.{AreEnds, AppliesBy-used, narrowed, arrives_known}
-use Rattle.pool_transaction.proofs.Leading.{AppliesTo-closed, AppliesTo-stays}
+use Rattle.pool_transaction.proofs.Arriving.{AreEnds, AppliesBy-used, narrowed, AppliesTo-known}
 use Rattle.pool_transaction.proofs.FinishedPools.{HasLegalFrontiers, HasNoneLeft, first_finished, other_finished, both_finished-none, Rewrites-none_left}
 use Rattle.pool_transaction.proofs.HeldRuns.{is_held, held_placed}
 use Rattle.pool_transaction.proofs.Rewriting.{Applies-rewrites}
@@ -127,29 +128,26 @@ module _ (size : ℕ) (w : World) (memory : Memory) (held : Held) (old : State) 
 
     -- to ends that are goals
     module _ (final : List (ℕ × Puddle)) (target : ℕ → ℕ) (ends : AreEnds at final (upto goal) target) where
-      AppliesTo-finished : (fault : Option HostFault) (mid : State) → OwesRewrites fault mid → (fault ≡ None → later ≡ final) → AppliesTo (led_in held.slot target) size w w memory_finished fault old mid
-      AppliesTo-finished fault mid owes all =
-          let applies = AppliesBy-used (MovesTo (led_in held.slot (upto goal))) (MovesTo (led_in held.slot target)) size w w memory_finished fault old mid
-          (narrowed size w memory old ready held.slot is.pool.slot at known target final ends.reached (upto goal) ends.near) (Applies-finished fault mid owes) in
-          record {
-            applies = applies;
-            arrives = λ done.
-                arrives_known size w memory old ready held.slot is.pool.slot at known target final ends.reached w memory_finished mid refl
-                (get_or-set_same memory.judged held.slot (Some later) None (known_within memory.judged held.slot at known) ∙ ap (λ (ps : List (ℕ × Puddle)). Some ps) (all done))
-                (subst (λ (f : Option HostFault). AppliesBy (MovesTo (led_in held.slot target)) size w w memory_finished f old mid) done applies);
-          }
+      Applies-led : (fault : Option HostFault) (mid : State) → OwesRewrites fault mid → AppliesBy (MovesTo (led_in held.slot target)) size w w memory_finished fault old mid
+      Applies-led fault mid owes =
+          AppliesBy-used (MovesTo (led_in held.slot (upto goal))) (MovesTo (led_in held.slot target)) size w w memory_finished fault old mid
+          (narrowed size w memory old ready held.slot is.pool.slot at known target final ends.reached (upto goal) ends.near) (Applies-finished fault mid owes)
 
       -- one of them failed, of a line that leaves the stored world
       pub Applies-unfinished : (fault : HostFault) (mid : State) → OwesRewrites (Some fault) mid → (next : World) (behind : Memory) → closed w ≡ closed next
           → AppliesTo (led_in held.slot target) size w next behind (Some fault) old mid
-      Applies-unfinished fault mid owes next behind stored =
-          AppliesTo-closed held.slot target size w w next memory_finished behind fault old mid stored (AppliesTo-finished (Some fault) mid owes (λ done. absurd (none-some fault (sym done))))
+      Applies-unfinished fault mid owes next behind stored = record {
+        applies = Applies-closed size w w next memory_finished behind fault old mid stored (Applies-led (Some fault) mid owes);
+        arrives = λ done. absurd (none-some fault (sym done));
+      }
 
-      -- or then the line goes on
-      pub Applies-behind : (mid : State) → OwesRewrites None mid → later ≡ final → (next : World) (behind : Memory) (fault : Option HostFault) (new : State) → closed w ≡ closed next
+      -- or then the line goes on, with the puddles that are known
+      pub Applies-behind : (mid : State) → OwesRewrites None mid → (next : World) (behind : Memory) (fault : Option HostFault) (new : State) → closed w ≡ closed next → known_in behind.judged held.slot ≡ Some final
           → Applies size w next behind fault mid new → AppliesTo (led_in held.slot target) size w next behind fault old new
-      Applies-behind mid owes all next behind fault new stored later_does =
-          AppliesTo-stays held.slot target size w next memory_finished behind fault old mid new stored (AppliesTo-finished None mid owes (λ done. all)) later_does
+      Applies-behind mid owes next behind fault new stored after later_does =
+          AppliesTo-known size w memory old ready held.slot is.pool.slot at known target final ends.reached next behind fault new (ap (λ (v : StoredWorld). v.frames) (sym stored)) (λ done. after)
+          (AppliesBy-then (MovesTo (led_in held.slot target)) Stays (MovesTo (led_in held.slot target)) (Joins-led_stays held.slot target) size w w next memory_finished behind fault old mid new stored refl
+          (Applies-led None mid owes) later_does)
 
     module _ (mid : State) (owes : OwesRewrites None mid) where
       pub ready_finished : IsReady size w memory_finished mid

@@ -1,5 +1,5 @@
 -- A line that updates a transaction that is held: the puddle that it writes is rewritten to its end, and then the update is made.
-use Rattle.std.proofs.Common.{◌≡◌, ℕ, ◌+◌, List, set, Option, Some, None, Result, sym, subst, ◌∙◌}
+use Rattle.std.proofs.Common.{◌≡◌, ℕ, ◌+◌, List, set, Option, Some, None, Result, sym, ap, subst, ◌∙◌}
 use Rattle.std.specs.Prelude.{IfOk}
 use Rattle.pm_model.specs.declared.host.HostFault.{HostFault}
 use Rattle.pm_model.specs.Counts.{fault_of}
@@ -111,9 +111,9 @@ module _ (size : ℕ) (w : World) (memory : Memory) (held : Held) (old : State) 
         let listed = same ∙ sym (held_known size w then mid still_ready held.number held its.there later known_then) in
         let one : IsHeld w held still_ready.mask mid.now.words = is_held size w then held mid held.number its.there still_ready in
         subst (λ (n : ℕ). AppliesTo (led_in held.slot (end_of n)) size w next (with_opened held.number held.slot (with_tx tx held) later memory) (fault_of done) old new) is
-        (Applies-behind size w memory held old held.number its.there ready F on at its.known goal later (finished_at o at) (end_of o) its_ends mid finishes finished next
+        (Applies-behind size w memory held old held.number its.there ready F on at its.known goal later (finished_at o at) (end_of o) its_ends mid finishes next
         (with_opened held.number held.slot (with_tx tx held) later memory) (fault_of done) new
-        (same_stored w held.client held.name update)
+        (same_stored w held.client held.name update) (known_then ∙ ap (λ (ds : List (ℕ × Puddle)). Some ds) finished)
         (Applies-line size w then held mid held.number its.there still_ready F lent on listed tx new gate update done free
         (λ may placed running. runs w.stored.types one.before one.undone one.transaction update placed rewritten_lent running may (found_lent by))
         (λ placed running. counts w.stored.types one.before one.undone one.transaction.now one.transaction.laters running)))

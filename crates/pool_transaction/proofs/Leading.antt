@@ -1,5 +1,5 @@
 -- Lines that lead frontiers of a pool to goals, call by call.
-use Rattle.std.proofs.Common.{◌≡◌, inl, inr, ℕ, ◌+◌, Bool, true, false, cond, eqb, List, length, Option, Some, None, refl, sym, ap, subst, ◌∙◌, arith, eq-eqb, ne_eqb}
+use Rattle.std.proofs.Common.{◌≡◌, inl, inr, ℕ, ◌+◌, ◌≤◌, Bool, true, false, cond, eqb, List, length, Option, Some, None, refl, sym, ap, subst, ◌∙◌, arith, eq-eqb, ne_eqb}
 use Rattle.std.specs.Prelude.{max, slice_get}
 use Rattle.std.proofs.lemmas.Bool.{cases_eq, cases_lt, cond-true, cond-false}
 use Rattle.std.proofs.lemmas.List.{length-map}
@@ -28,11 +28,12 @@ use Rattle.puddle_header.specs.Places.{place_of_slot, IsSlotOf}
 use Rattle.puddle_header.proofs.Placed.{place_ordinal}
 use Rattle.lazy_rewrite.specs.Frontiers.{frontier_in, frontiers_of, frontier_at, finished_at}
 use Rattle.lazy_rewrite.proofs.Spared.{HaveMoved-same}
+use Rattle.hybrid_tx.specs.Grounds.{IsRewrittenAt}
 use Rattle.ready_daemon.specs.Memory.{Memory}
 use Rattle.ready_daemon.specs.Moves.{Stays, MovesTo, led_to, led_in}
 use Rattle.ready_daemon.specs.Ready.{Applies}
-use Rattle.ready_daemon.proofs.Applying.{Applies-closed, AppliesBy-then, AppliesBy-weaker}
-use Rattle.ready_daemon.proofs.Goals.{led_stays, Joins-led_stays}
+use Rattle.ready_daemon.proofs.Applying.{AppliesBy-then, AppliesBy-weaker}
+use Rattle.ready_daemon.proofs.Goals.{led_stays}
 use Rattle.ready_daemon.proofs.PuddlesLeft.{Joins-stays}
 use Rattle.pool_transaction.specs.declared.changing.Update.{Update}
 use Rattle.pool_transaction.specs.declared.changing.Found.{Found}
@@ -40,10 +41,19 @@ use Rattle.pool_transaction.specs.declared.changing.Found.TheVariants.{Field, Ro
 use Rattle.pool_transaction.specs.Changing.{both_finished, field_change, IsFoundBy, IsFoundWithin, ordinal_written}
 use Rattle.pool_transaction.specs.Finishing.{end_of, end_of_both, no_end, FinishesObject, FinishesFor, FinishesLowest, FinishesTaken, IsLonger, FinishesUnless, AppliesTo, AppliesFinishing}
 use Rattle.pool_transaction.proofs.Arriving.{HaveReached, AreEnds, became}
-use Rattle.pool_transaction.proofs.FinishedPools.{HasLegalFrontiers, HaveMoved-finished, finished-other, legal-finished, IsRewrittenAt-finished, one_no_lower}
+use Rattle.pool_transaction.proofs.FinishedPools.{HasLegalFrontiers, HaveMoved-finished, finished-other, legal-finished, IsRewrittenAt-finished, first_finished, other_finished, one_no_lower}
 use Rattle.pool_transaction.proofs.StepsMoved.{upto}
 
 -- ---- puddles at their ends
+
+-- one that is at its end is not behind the goal
+end_not_behind : (ds : List (ℕ × Puddle)) (o : ℕ) → IsRewrittenAt ds o → (i : ℕ) (e : ℕ × Puddle) → slice_get ds i ≡ Some e → end_of o i ≤ e.1.frontier
+end_not_behind ds o rewritten i e there = elim (cases_eq i o) [
+  | inl same ↦
+      let end = rewritten.each e (ap (slice_get ds) (sym same) ∙ there) in
+      omega (arith, end, cond-true (eqb i o) LAST_FRONTIER 0 (eq-eqb i o same))
+  | inr other ↦ omega (arith, cond-false (eqb i o) LAST_FRONTIER 0 (ne_eqb i o other))
+]
 
 module _ (at : List (ℕ × Puddle)) (o : ℕ) (legal : HasLegalFrontiers at) where
   -- the puddle of an ordinal is at its end
@@ -60,6 +70,7 @@ module _ (at : List (ℕ × Puddle)) (o : ℕ) (legal : HasLegalFrontiers at) wh
           let goal : end_of o i ≡ 0 = cond-false (eqb i o) LAST_FRONTIER 0 (ne_eqb i o other) in
           omega (arith, ap frontier_in (finished-other at o i other ∙ there), goal)
     ];
+    none_behind = end_not_behind (finished_at o at) o (IsRewrittenAt-finished at o legal);
   }
 
   pub ends_finished : AreEnds at (finished_at o at) (upto (frontier_at o (finished_at o at))) (end_of o)
@@ -78,6 +89,10 @@ module _ (at : List (ℕ × Puddle)) (o : ℕ) (legal : HasLegalFrontiers at) wh
           let first = (HaveReached-finished at 0 legal).each i e there in
           let then = (HaveReached-finished (finished_at 0 at) o (legal-finished at 0 legal)).each i (e.0, moved_to m.frontier e.1) m.there in
           omega (arith, first, then, ap frontier_in m.there);
+      none_behind = λ i e there.
+          let first = end_not_behind (both_finished o at) 0 (first_finished o at legal) i e there in
+          let other = end_not_behind (both_finished o at) o (other_finished o at legal) i e there in
+          omega (arith, first, other);
     };
     near = λ i. omega arith;
   }
@@ -140,11 +155,13 @@ module _ (slot : ℕ) where
   AppliesTo-still size w next memory fault old new a = record {
     applies = AppliesBy-weaker Stays (MovesTo (led_in slot no_end)) (led_stays slot no_end) size w next memory fault old new a;
     arrives = λ done. record {
-      each = λ frame m used.
-          became Stays size w next memory old new (subst (λ (f : Option HostFault). Applies size w next memory f old new) done a) frame m used
-          ∙ ap (λ (n : ℕ). Some (member_moved n m)) (sym (unled (eqb m.pool (slot + 1)) m.puddle.frontier));
+      each = λ frame m used. became Stays size w next memory old new (subst (λ (f : Option HostFault). Applies size w next memory f old new) done a) frame m used ∙ at_none m;
+      come = λ frame m used. at_none m;
     };
   }
+    where
+      at_none : (m : Member) → Some m ≡ Some (member_moved (led_to slot no_end m) m)
+      at_none m = ap (λ (n : ℕ). Some (member_moved n m)) (sym (unled (eqb m.pool (slot + 1)) m.puddle.frontier))
 
   module _ (goal : ℕ → ℕ) where
     abbrev Led : Member → Option ℕ
@@ -158,29 +175,11 @@ module _ (slot : ℕ) where
       arrives = not_done fault;
     }
 
-    pub AppliesTo-closed : (size : ℕ) (w mid next : World) (memory behind : Memory) (fault : HostFault) (old new : State) → closed mid ≡ closed next → AppliesTo (led_in slot goal) size w mid memory (Some fault) old new
-        → AppliesTo (led_in slot goal) size w next behind (Some fault) old new
-    AppliesTo-closed size w mid next memory behind fault old new same a = record {
-      applies = Applies-closed size w mid next memory behind fault old new same a.applies;
-      arrives = not_done fault;
-    }
-
     -- calls that read came first
     pub AppliesTo-behind_reads : (size : ℕ) (w : World) (memory : Memory) (c : Command) (fault : Option HostFault) (a b d : State) → refusal_of w c ≡ None → b ≡ a
         → AppliesTo (led_in slot goal) size w (after w c) memory fault b d → AppliesTo (led_in slot goal) size w (world_by w (Some c)) memory fault a d
     AppliesTo-behind_reads size w memory c fault a b d free same applies =
         subst (λ (v : World). AppliesTo Led size w v memory fault a d) (sym (done_world w c free)) (subst (λ (s : State). AppliesTo Led size w (after w c) memory fault s d) same applies)
-
-    -- frontiers are led there, and stay
-    pub AppliesTo-stays : (size : ℕ) (w next : World) (first behind : Memory) (fault : Option HostFault) (a b c : State) → closed w ≡ closed next → AppliesTo (led_in slot goal) size w w first None a b
-        → Applies size w next behind fault b c → AppliesTo (led_in slot goal) size w next behind fault a c
-    AppliesTo-stays size w next first behind fault a b c same p q = record {
-      applies = AppliesBy-then (MovesTo Led) Stays (MovesTo Led) (Joins-led_stays slot goal) size w w next first behind fault a b c same refl p.applies q;
-      arrives = λ done. record {
-        each = λ frame m used.
-            became Stays size w next behind b c (subst (λ (f : Option HostFault). Applies size w next behind f b c) done q) frame (member_moved (led_to slot goal m) m) ((p.arrives refl).each frame m used);
-      };
-    }
 
     -- they stay, and are led there then
     pub AppliesTo-then : (size : ℕ) (w mid next : World) (first behind : Memory) (fault : Option HostFault) (a b c : State) → closed mid ≡ closed next → w.stored.frames ≡ mid.stored.frames → Applies size w mid first None a b
@@ -191,6 +190,7 @@ module _ (slot : ℕ) where
         each = λ frame m used.
             let there = subst (λ (n : ℕ). (tables_of n (reads b.now.words)).puddles frame ≡ Some m) frames (became Stays size w mid first a b p frame m used) in
             subst (λ (n : ℕ). (tables_of n (reads c.now.words)).puddles frame ≡ Some (member_moved (led_to slot goal m) m)) (sym frames) ((q.arrives done).each frame m there);
+        come = λ frame m used. (q.arrives done).come frame m (subst (λ (n : ℕ). (tables_of n (reads c.now.words)).puddles frame ≡ Some m) frames used);
       };
     }
 

@@ -85,9 +85,10 @@ abbrev pub IsAt : Option ℕ → Member → Option Member → Type 0
 IsAt None m now = Unit {0}
 IsAt (Some goal) m now = now ≡ Some (member_moved goal m)
 
--- Each record that was used is at its goal.
+-- Each record that was used is at its goal, and so is each that is used then, one that was free before among them.
 pub record Arrives (F : ℕ) (goal : Member → Option ℕ) (before after : Image) : Type 0 where
   pub each : (frame : ℕ) (m : Member) → (tables_of F before).puddles frame ≡ Some m → IsAt (goal m) m ((tables_of F after).puddles frame)
+  pub come : (frame : ℕ) (m : Member) → (tables_of F after).puddles frame ≡ Some m → IsAt (goal m) m (Some m)
 
 -- A command was carried out, at every moment each frontier is on the way to its goal, and without a fault each is there.
 pub record AppliesTo (goal : Member → Option ℕ) (size : ℕ) (w next : World) (memory : Memory) (fault : Option HostFault) (old new : State) : Type 0 where

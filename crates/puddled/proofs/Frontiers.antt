@@ -16,13 +16,13 @@ use Rattle.pud_defs.specs.Puddles.{Member}
 use Rattle.pud_defs.specs.Step.{refusal_of, world_by}
 use Rattle.pud_defs.specs.Tables.{tables_of, puddles_in_turn}
 use Rattle.pud_defs.specs.World.{World}
-use Rattle.lazy_rewrite.specs.Frontiers.{steps_left, steps_from, frontiers_of}
+use Rattle.lazy_rewrite.specs.Frontiers.{steps_left, steps_from, frontier_in, frontiers_of}
 use Rattle.pool_transaction.specs.declared.changing.Change.{Change}
 use Rattle.pool_transaction.specs.declared.changing.Change.TheVariants as changes
 use Rattle.pool_transaction.specs.declared.changing.Update.TheVariants as updates
 use Rattle.pool_transaction.specs.Changing.{line_of}
 use Rattle.pool_transaction.specs.Finishing.{Finishes, FinishesUnless, IsAt, Arrives, AppliesFinishing}
-use Rattle.pool_transaction.proofs.Arriving.{HaveReached, became, arrives_known}
+use Rattle.pool_transaction.proofs.Arriving.{HaveReached, became, AppliesTo-known}
 use Rattle.ready_daemon.specs.Judged.{known_in}
 use Rattle.ready_daemon.specs.Memory.{Memory}
 use Rattle.ready_daemon.specs.Moves.{Stays, IsOnTheWay, MovesTo, still, freed_in, led_in}
@@ -58,7 +58,10 @@ failed_alone Failed never_cut never = absurd (never refl)
 module _ (size : ℕ) (w next : World) (memory : Memory) (fault : Option HostFault) (old new : State) where
   -- each record is where it was
   pub arrives_still : Applies size w next memory fault old new → fault ≡ None → Arrives w.stored.frames still (reads old.now.words) (reads new.now.words)
-  arrives_still a done = record { each = λ frame m used. became Stays size w next memory old new (subst (λ (f : Option HostFault). Applies size w next memory f old new) done a) frame m used }
+  arrives_still a done = record {
+    each = λ frame m used. became Stays size w next memory old new (subst (λ (f : Option HostFault). Applies size w next memory f old new) done a) frame m used;
+    come = λ frame m used. refl;
+  }
 
   pub AppliesAs-still : (command : Option Command) → ((fault ≡ Some Failed → ⊥) → Leads w command (reads old.now.words) still) → Applies size w next memory fault old new
       → AppliesAs size w next command memory fault old new
@@ -115,6 +118,10 @@ at_freed : (own : Bool) (m : Member) (now : Option Member) → IsOnTheWay (cond 
 at_freed true m now so = tt
 at_freed false m now so = still_stays m now so
 
+freed_then : (own : Bool) (m : Member) → IsAt (cond own None (still m)) m (Some m)
+freed_then true m = tt
+freed_then false m = refl
+
 pub AppliesAs-drop : (size : ℕ) (w : World) (client : ℕ) (name : List ℕ) (behind : Memory) (fault : Option HostFault) (old new : State) (slot : ℕ) → refusal_of w (Drop client name) ≡ None
     → IsSlotOf w.stored.frames name (reads old.now.words) slot → AppliesBy (MovesTo (freed_in slot)) size w (world_by w (Some (Drop client name))) behind fault old new
     → AppliesAs size w (world_by w (Some (Drop client name))) (Some (Drop client name)) behind fault old new
@@ -129,6 +136,7 @@ AppliesAs-drop size w client name behind fault old new slot free at a =
           each = λ frame m used.
               at_freed (eqb m.pool (slot + 1)) m ((tables_of w.stored.frames (reads new.now.words)).puddles frame)
               (became (MovesTo (freed_in slot)) size w next behind old new (subst (λ (f : Option HostFault). AppliesBy (MovesTo (freed_in slot)) size w next behind f old new) done a) frame m used);
+          come = λ frame m used. freed_then (eqb m.pool (slot + 1)) m;
         };
       };
     }
@@ -143,7 +151,10 @@ no_lower (x ∷ at) zero e here n = let same = ap (λ (d : ℕ × Puddle). d.1.f
 no_lower (x ∷ at) (suc o) e here n = no_lower at o e here (n - min n (steps_left x.1))
 
 reached_steps : (n : ℕ) (at : List (ℕ × Puddle)) → HaveReached at (steps_from n at) (frontiers_of (steps_from n at))
-reached_steps n at = record { each = λ o e here. let least = no_lower at o e here n in omega (arith, least) }
+reached_steps n at = record {
+  each = λ o e here. let least = no_lower at o e here n in omega (arith, least);
+  none_behind = λ o e here. let is = ap frontier_in here in omega (arith, is);
+}
 
 pub AppliesAs-rewrite : (size : ℕ) (w : World) (memory behind : Memory) (name : List ℕ) (n slot : ℕ) (at : List (ℕ × Puddle)) (fault : Option HostFault) (old new : State) → IsReady size w memory old → slot < POOL_RECORDS
     → known_in memory.judged slot ≡ Some at → refusal_of w (Rewrite name n) ≡ None → world_by w (Some (Rewrite name n)) ≡ w → IsSlotOf w.stored.frames name (reads old.now.words) slot
@@ -158,10 +169,5 @@ AppliesAs-rewrite size w memory behind name n slot at fault old new ready low kn
       goal = led_in slot by;
       leads = λ never. subst (λ (o : Option Refusal). LeadsUnless o w.stored.frames (Rewrite name n) (reads old.now.words) (led_in slot by)) (sym free)
           (record { slot = slot; is = is; by = by; goals_are = ap (λ (ps : List (ℕ × Puddle)). frontiers_of (steps_from n ps)) (sym turn); goal_is = refl });
-      applies = record {
-        applies = a;
-        arrives = λ done.
-            arrives_known size w memory old ready slot low at known by (steps_from n at) (reached_steps n at) next behind new (ap (λ (v : World). v.stored.frames) same) (behind_known done)
-            (subst (λ (f : Option HostFault). AppliesBy (MovesTo (led_in slot by)) size w next behind f old new) done a);
-      };
+      applies = AppliesTo-known size w memory old ready slot low at known by (steps_from n at) (reached_steps n at) next behind fault new (ap (λ (v : World). v.stored.frames) same) behind_known a;
     }

@@ -44,7 +44,12 @@ use Rattle.puddled.proofs.Settling.{found_stands, found_frames}
 
 -- nothing changed, at a line that is no command
 pub LeadFrontiers-bad : (w : World) (answered : Type 0) (image : Image) → LeadFrontiers w None answered image image
-LeadFrontiers-bad w answered image = record { goal = still; leads = refl; each = λ frame m used. stays_still m ((tables_of w.stored.frames image).puddles frame) used; arrives = λ done. record { each = λ frame m used. used } }
+LeadFrontiers-bad w answered image = record {
+  goal = still;
+  leads = refl;
+  each = λ frame m used. stays_still m ((tables_of w.stored.frames image).puddles frame) used;
+  arrives = λ done. record { each = λ frame m used. used; come = λ frame m used. refl };
+}
 
 -- where less is asked of the answer
 pub LeadFrontiers-when : (w : World) (command : Option Command) (answered more : Type 0) (before after : Image) → (more → answered) → LeadFrontiers w command answered before after → LeadFrontiers w command more before after
@@ -109,7 +114,10 @@ module _ (size : ℕ) (w : World) (memory : Memory) (line : List ℕ) (counted b
   arrives_lost (loses pick) is uncut =
       let goal = lost_is_still w (command_of line) pick is (reads old.now.words) k.goal leads_lost in
       subst (λ (to : Member → Option ℕ). Arrives w.stored.frames to (reads old.now.words) now) (sym goal)
-      (record { each = λ frame m used. still_stays m ((tables_of w.stored.frames now).puddles frame) (subst (λ (to : Member → Option ℕ). MovesTo to m ((tables_of w.stored.frames now).puddles frame)) goal (each_lost frame m used)) })
+      (record {
+        each = λ frame m used. still_stays m ((tables_of w.stored.frames now).puddles frame) (subst (λ (to : Member → Option ℕ). MovesTo to m ((tables_of w.stored.frames now).puddles frame)) goal (each_lost frame m used));
+        come = λ frame m used. refl;
+      })
   arrives_lost (arms step pick) is uncut = absurd (let no : Some hosts.Cut ≡ None = (subst (λ (x : Kind). CountsCommand x (Some hosts.Cut) counted between) is k.counted).0 in cc)
 
   pub LeadFrontiers-lost : (reply : Reply) → reply ≡ behind_loss (kind_of (command_of line)) → LeadFrontiers w (command_of line) (answers.Reply reply ≡ answers.Reply replies.Cut → ⊥) (reads old.now.words) now

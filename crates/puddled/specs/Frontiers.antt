@@ -61,8 +61,8 @@ pub record AppliesAs (size : ℕ) (w next : World) (command : Option Command) (m
   pub leads : (fault ≡ Some hosts.Failed → ⊥) → Leads w command (reads old.now.words) goal
   pub applies : AppliesTo goal size w next memory fault old new
 
--- Behind a line each frontier is on the way to where the line leads it, and where it is answered so each is there: by the records of puddles, as they were
--- read before it and are read behind it.
+-- Behind a line each frontier is on the way to where the line leads it, and where it is answered so each is there, that of a puddle that came among them: by
+-- the records of puddles, as they were read before it and are read behind it.
 pub record LeadFrontiers (w : World) (command : Option Command) (answered : Type 0) (before after : Image) : Type 0 where
   pub goal : Member → Option ℕ
   pub leads : Leads w command before goal

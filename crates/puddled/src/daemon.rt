@@ -431,9 +431,10 @@ impl Daemon {
         requires { device_words self.old.frames ≤ (H.counts h.old).size }
         ensures answers { H.tells → (size : ℕ) → size ≡ (H.counts h.old).size → (w : World) → IsReady size w self.old (H.state h.old)
             → Answers size w line.now aloud result self.new (H.counts h.old) (H.counts h.new) (H.state h.old) (H.state h.new) }
-        // Each frontier is behind it on the way to where the line leads it, also where power was lost in it, and with its `ok` each is there: a line that
-        // rewrites leads to where its steps end, one that writes objects the puddles that it writes to their ends; a line that is refused, and one that
-        // neither rewrites, writes objects nor drops its pool, moves none, and no line moves any of another pool.
+        // Each frontier is behind it on the way to where the line leads it, also where power was lost in it, and with its `ok` each is there, that of a
+        // puddle that came among them: a line that rewrites leads to where its steps end, one that writes objects the puddles that it writes to their
+        // ends; a line that is refused, and one that neither rewrites, writes objects nor drops its pool, moves none, and no line moves any of another
+        // pool.
         ensures frontiers { H.tells → (size : ℕ) → size ≡ (H.counts h.old).size → (w : World) → IsReady size w self.old (H.state h.old)
             → IfOk result (λ ok. LeadFrontiers w (command_of line.now) (ok ≡ true) (reads (H.state h.old).now.words) (reads (H.state h.new).now.words)) }
         // With its `ok` a line that rewrites has done its next n steps, or all that were left.

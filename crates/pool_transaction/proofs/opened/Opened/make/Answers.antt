@@ -187,7 +187,8 @@ returns-clause-makes g c = λ t size w memory its ready none less.
     let may = subst (λ (ds : List (ℕ × Puddle)). MayMakeAt F ds (reads mid.now.words) c.in-Ok.at) (sym c.as_slice-2.ensures.puddles)
     (may_make_at size w memory held start held.number there then F same at known goal later mid owes c.in-Ok.at c.in_ok-finish_both.ensures.pool lowest) in
     Applies-behind size w memory held start held.number there then F same at known goal later (both_finished c.in-Ok.at.ordinal at) (end_of_both c.in-Ok.at.ordinal)
-    (ends_both at c.in-Ok.at.ordinal (its_frontiers size w memory held start held.number there then F same at known)) mid owes c.in_ok-finish_both.ensures.pool (with_made held.name c.args.t w) (with_opened held.number held.slot (with_tx c.new_at-made.new.self held) later memory) fault new refl
+    (ends_both at c.in-Ok.at.ordinal (its_frontiers size w memory held start held.number there then F same at known)) mid owes (with_made held.name c.args.t w) (with_opened held.number held.slot (with_tx c.new_at-made.new.self held) later memory) fault new refl
+    (known_then ∙ ap (λ (ds : List (ℕ × Puddle)). Some ds) c.in_ok-finish_both.ensures.pool)
     (Applies-made size w behind held mid held.number there ready_then F c.as_slice-2.result.now same (c.as_slice-2.ensures.puddles ∙ its_puddles size w behind held mid held.number there ready_then F same later known_then)
     c.args.t none c.new_at-made.new.self new c.new_at-made.ensures.at c.new_at-made.result
     (λ m defined left placed running. c.new_at-made.ensures.runs t _ m _ _ _ _ placed running defined left may.first may.its may.free)
