@@ -60,7 +60,7 @@ some_record (Some rec) some = (rec, refl)
 module _ (next : ℕ) (t : Tables) (sound : HasSoundTables next t) (slot : ℕ) (within : slot < POOL_RECORDS) (frame : ℕ) (m : Member) (below : frame < t.frames) (used : t.puddles frame ≡ Some m)
     (pool : m.pool ≡ slot + 1) where
   -- its pool is one of the table
-  pool_used : (rec : PoolRec) × (t.pools slot ≡ Some rec)
+  pub pool_used : (rec : PoolRec) × (t.pools slot ≡ Some rec)
   pool_used =
       let legal : is_legal_member next t m ≡ true = sym (ap (is_sound_puddle next t) used) ∙ legal_puddle next t sound frame below in
       let some = and_parts (not (eqb m.pool 0)) (is_some (t.pools (m.pool - 1))) (and_parts (is_pool t m.pool) _ (and_parts _ _ legal).0).0 in

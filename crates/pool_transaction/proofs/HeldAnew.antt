@@ -15,26 +15,24 @@ use Rattle.pud_defs.specs.Spaces.{Owner}
 use Rattle.pud_defs.specs.World.{StoredWorld, World}
 use Rattle.batch.specs.Worlds.{IsSettled}
 use Rattle.batch.proofs.Tables.{reads_kept}
-use Rattle.hybrid_tx.specs.Open.Masks.{is_open_record, open_mask, IsOpenPool}
+use Rattle.hybrid_tx.specs.Open.Masks.{is_open_record, open_mask}
 use Rattle.hybrid_tx.specs.Open.ManyOpen.{OpenTransaction, Opens, with_transaction, open_masks, MasksAll, AreOpenPools, HasRecords, IsOneMore}
 use Rattle.hybrid_tx.specs.Objects.Transactions.{RestsAs}
 use Rattle.hybrid_tx.proofs.Open.ManyMasks.{open_masks_all, masks_of_record}
 use Rattle.hybrid_tx.proofs.Open.ManyIdle.{one_ended, one_put, others_open, others_records, opens_more, records_more, masks_elsewhere, masks_changed}
 use Rattle.ready_daemon.specs.Memory.{Held, held_under}
-use Rattle.ready_daemon.specs.Held.{pool_held, open_held, IsHeld, IsHeldUnder, Holds, HasDurableFrames, HasIdleLogs, ByOthers}
+use Rattle.ready_daemon.specs.Held.{open_held, IsHeld, IsHeldUnder, Holds, HasDurableFrames, HasIdleLogs, ByOthers}
 use Rattle.ready_daemon.proofs.Beside.{KeepsOne, others_apart, held_still, records_all}
-use Rattle.pool_transaction.proofs.Widened.{IsMaskedMore, masked_more, one_more}
+use Rattle.pool_transaction.proofs.OwnMore.{IsMaskedMore, masked_more, one_more, OpensAnew}
 
 -- the same world has the same of each
 keeps_all : (w : World) (h : Held) → KeepsOne w w h
 keeps_all w h = record { frames = refl; transaction = refl; present = refl; stored = refl; types = λ id m is. is; graphs = λ st g is. is }
 
 module _ (w : World) (all : List (Option Held)) (mask : Write) (old new : State) (holds : Holds w all mask old.now.words) (held : Held) (number : ℕ) (there : held_under all number ≡ Some held)
-    (beside : Changes (ByOthers mask) None old new) (at : List (ℕ × Puddle)) (before : Image)
-    (pool : IsOpenPool w.stored.frames (pool_held held at (holds.each number held there).is.rec (holds.each number held there).is.who) before)
-    (records : (k : ℕ) → is_open_record (pool_held held at (holds.each number held there).is.rec (holds.each number held there).is.who) k ≡ true → reads new.now.words k ≡ before k)
-    (more : (k : ℕ) → IsMaskedMore (open_mask w.stored.frames (pool_held held (holds.each number held there).is.at (holds.each number held there).is.rec (holds.each number held there).is.who) (holds.each number held there).is.before)
-    (open_mask w.stored.frames (pool_held held at (holds.each number held there).is.rec (holds.each number held there).is.who) before) new.now.words k) where
+    (beside : Changes (ByOthers mask) None old new) {at : List (ℕ × Puddle)} {before : Image}
+    (anew : OpensAnew w.stored.frames (open_held held (holds.each number held there).is.at (holds.each number held there).is.rec (holds.each number held there).is.who (holds.each number held there).is.before)
+    (open_held held at (holds.each number held there).is.rec (holds.each number held there).is.who before) new.now.words) where
   abbrev n : ℕ
   n = w.stored.frames
 
@@ -76,7 +74,7 @@ module _ (w : World) (all : List (Option Held)) (mask : Write) (old new : State)
 
   pub are_anew : AreOpenPools n opens_anew
   are_anew =
-      opens_more number q others opens_anew then_one n are_others under.number_is pool
+      opens_more number q others opens_anew then_one n are_others under.number_is anew.pool
       (λ m x has same. never_it m x has (holds.are.slots m number x o (was_one.same m (never_it m x has) ∙ has) under.opened same))
 
   -- the records of the others are read as they were
@@ -93,8 +91,8 @@ module _ (w : World) (all : List (Option Held)) (mask : Write) (old new : State)
   records_others : HasRecords others image
   records_others = others_records number o others holds.opens was_one image records_still
 
-  records_opened : HasRecords opens_anew image
-  records_opened = records_more number q others opens_anew then_one image records_others records
+  pub records_opened : HasRecords opens_anew image
+  records_opened = records_more number q others opens_anew then_one image records_others anew.records
 
   -- all their words
   abbrev pub wide : Write
@@ -122,7 +120,7 @@ module _ (w : World) (all : List (Option Held)) (mask : Write) (old new : State)
 
   -- they are those that were masked, with their values, and others, with what is read of them
   wider_mask : (k : ℕ) → IsMaskedMore mask wide new.now.words k
-  wider_mask k = elim (more k) [
+  wider_mask k = elim (anew.more k) [
     | inl same ↦ inl (masks_changed number o q others holds.opens opens_anew was_one then_one n mask wide rest_mask holds.masks masks_anew masks_others k same)
     | inr fresh ↦ one_wider k (mask k) refl fresh.0 (masks_anew.has number q then_one.here k (image k) fresh.1)
   ]

@@ -1,9 +1,8 @@
 -- A transaction that is held while steps of a puddle of its pool are rewritten, which is not finished before and may be behind: it stays open, and its
 -- own words are then those of the puddles that are finished then.
-use Rattle.std.proofs.Common.{◌≡◌, inl, inr, ℕ, ◌+◌, ◌-◌, ◌<◌, true, false, cond, ◌||◌, List, map, Option, Some, None, refl, sym, ap, subst, ◌∙◌, arith}
+use Rattle.std.proofs.Common.{◌≡◌, inl, inr, ℕ, ◌+◌, ◌-◌, ◌<◌, true, false, List, map, Option, Some, None, refl, sym, ap, subst, ◌∙◌, arith}
 use Rattle.std.specs.Prelude.{slice_get, unwrap_or}
-use Rattle.std.specs.List.{list_any}
-use Rattle.std.proofs.lemmas.Bool.{cases_Bool, cond-true, cond-false, or_cases, or_parts, or_left, or_right, eqb-true}
+use Rattle.std.proofs.lemmas.Bool.{cases_Bool, eqb-true}
 use Rattle.std.proofs.lemmas.Option.{same_Some}
 use Rattle.pm_model.specs.Words.{HasOnly, reads}
 use Rattle.pm_model.specs.Moments.{State}
@@ -15,19 +14,16 @@ use Rattle.pud_defs.specs.Geometry.{steps_of}
 use Rattle.pud_defs.specs.Image.{Image}
 use Rattle.pud_defs.specs.Frames.{frame_at, frame_word}
 use Rattle.pud_defs.specs.Graph.{Graph, graph_of}
-use Rattle.pud_defs.specs.Layout.{frames_at, tables_end, device_words}
+use Rattle.pud_defs.specs.Layout.{device_words}
 use Rattle.pud_defs.specs.Puddles.{moved_to}
-use Rattle.pud_defs.specs.Replay.{overwritten, is_in_log}
-use Rattle.pud_defs.specs.Settled.{client_of_log, log_number_at}
+use Rattle.pud_defs.specs.Replay.{overwritten}
 use Rattle.pud_defs.specs.SoundTables.{HasSoundTables}
 use Rattle.pud_defs.specs.Spaces.{owner_of}
 use Rattle.pud_defs.specs.Stored.{stored_in}
-use Rattle.pud_defs.specs.Tables.{Tables, tables_of, puddles_in_turn}
+use Rattle.pud_defs.specs.Tables.{tables_of, puddles_in_turn}
 use Rattle.pud_defs.specs.Types.{types_of}
 use Rattle.pud_defs.specs.World.{World}
 use Rattle.pud_defs.proofs.Replay.{overwritten-stays, outside_log}
-use Rattle.pud_defs.proofs.Spaces.{owner_of-same}
-use Rattle.pud_defs.proofs.TablesOf.{tables_of-same}
 use Rattle.graph_laws.specs.Steps.{steps_in, with_steps}
 use Rattle.graph_laws.proofs.Rewritten.{slice_get-set_other}
 use Rattle.graph_laws.proofs.StepsStored.{write-other, graph_of-written, steps_in-same}
@@ -41,21 +37,18 @@ use Rattle.word_transaction.specs.Ground.{IsGround}
 use Rattle.word_transaction.proofs.Calls.{IsRunning-kept}
 use Rattle.word_transaction.proofs.Growing.{IsWider, IsRunning-values, IsRunning-wider}
 use Rattle.hybrid_tx.specs.Grounds.{pool_mine, pool_ground, IsPlaced, is_finished, finished_of}
-use Rattle.hybrid_tx.specs.Open.Masks.{OpenPool, is_in_pool_record, is_in_space_record, is_in_puddle_record, is_open_record, open_mask, ArePuddlesOf, IsOpenPool}
+use Rattle.hybrid_tx.specs.Open.Masks.{OpenPool, open_mask}
 use Rattle.hybrid_tx.specs.Open.ManyOpen.{OpenTransaction}
 use Rattle.hybrid_tx.specs.Objects.Transactions.{IsOpenOn, RestsAs}
-use Rattle.hybrid_tx.proofs.FinishedPuddles.{stood, finished_there, finished_placed, mine_of_finished, finished_puddles}
-use Rattle.hybrid_tx.proofs.PoolGrounds.{all_there, any_element, element_passes, pool_mine-each, pool_mine-from, pool_may-named, pool_may-from, pool_place-there, is_ground}
+use Rattle.hybrid_tx.proofs.FinishedPuddles.{stood, finished_there, finished_placed, mine_of_finished}
+use Rattle.hybrid_tx.proofs.PoolGrounds.{all_there, pool_mine-each, pool_mine-from, is_ground}
 use Rattle.hybrid_tx.proofs.Objects.LatersKept.{KeepsFinished, KeepsObjects-same, AreLaters-wider}
 use Rattle.hybrid_tx.proofs.Objects.Opening.{stored_in-mine}
-use Rattle.hybrid_tx.proofs.Open.OpenMasks.{mine_behind, open_record_place, mask_of_own, mask_of_mine, mask_of_record, mask_of_others}
-use Rattle.hybrid_tx.proofs.Open.OpenPools.{open_on_device, placed_by_tables}
-use Rattle.hybrid_tx.proofs.Open.PoolPlaces.{are_puddles_in_turn}
+use Rattle.hybrid_tx.proofs.Open.OpenPools.{placed_by_tables}
 use Rattle.ready_daemon.specs.Memory.{Held}
 use Rattle.ready_daemon.specs.Held.{pool_held, open_held, IsHeld, StaysSingle, ByOthers}
-use Rattle.ready_daemon.proofs.Beside.{record_masked, own_masked, log_masked}
-use Rattle.ready_daemon.proofs.PoolsBeside.{used_still}
-use Rattle.pool_transaction.proofs.Widened.{IsMaskedMore}
+use Rattle.ready_daemon.proofs.Beside.{own_masked, log_masked}
+use Rattle.pool_transaction.proofs.OwnMore.{OpensAnew, begun, own_begun, other_begun, FinishesMore, mine_later, wider_ground, comes_open}
 
 -- ---- puddles that are finished stay so, where they are
 
@@ -82,11 +75,8 @@ module _ (F : ℕ) (at : List (ℕ × Puddle)) (goal : ℕ → ℕ) (o m : ℕ) 
       let finished : d.1.frontier ≡ steps_of d.1 = eqb-true d.1.frontier (steps_of d.1) s.passes in
       finished_there F stepped s.index d (finished_stays s.index d s.there finished) finished
 
-  pub mine_later : (k : ℕ) → pool_mine F (finished_of at) k ≡ true → pool_mine F (finished_of stepped) k ≡ true
-  mine_later k mine =
-      let own = pool_mine-each F (finished_of at) k mine in
-      let later = finished_later own.ordinal own.puddle own.there in
-      pool_mine-from F (finished_of stepped) k (record { ordinal = later.0; puddle = own.puddle; there = later.1; low = own.low; high = own.high })
+  pub later : FinishesMore at stepped
+  later = record { each = finished_later }
 
   -- the words of all of them are the same
   pub mine_before : (k : ℕ) → pool_mine F stepped k ≡ true → pool_mine F at k ≡ true
@@ -114,9 +104,6 @@ module _ (w : World) (held : Held) (mask : Write) (old new : State) (is : IsHeld
   abbrev now : Image
   now = reads new.now.words
 
-  abbrev p : OpenPool
-  p = pool_held held is.at is.rec is.who
-
   -- its puddles with these steps
   abbrev pub at : List (ℕ × Puddle)
   at = stepped F is.at goal o m e next
@@ -126,22 +113,16 @@ module _ (w : World) (held : Held) (mask : Write) (old new : State) (is : IsHeld
 
   -- the values of its beginning, and of the words that were not its own those that are read
   abbrev pub before : Image
-  before k = cond (pool_mine F (finished_of is.at) k) (is.before k) (now k)
+  before = begun F is.at is.before now
 
   abbrev pub opened_stepped : OpenTransaction
   opened_stepped = open_held held at is.rec is.who before
 
   own_word : (k : ℕ) → pool_mine F (finished_of is.at) k ≡ true → before k ≡ is.before k
-  own_word k own = cond-true _ _ _ own
+  own_word = own_begun F is.at is.before now
 
   other_word : (k : ℕ) → pool_mine F (finished_of is.at) k ≡ false → before k ≡ now k
-  other_word k other = cond-false _ _ _ other
-
-  table_word : (k : ℕ) → k < frames_at F → before k ≡ now k
-  table_word k below = other_word k (mine_behind F (finished_of is.at) k below)
-
-  same_tables : tables_of F before ≡ tables_of F now
-  same_tables = tables_of-same F before now (λ k low high. table_word k (omega arith)) (λ k low high. table_word k (omega arith))
+  other_word = other_begun F is.at is.before now
 
   -- a masked word is read as it was
   masked_word : (k : ℕ) → (mask k ≡ None → ⊥) → now k ≡ reads old.now.words k
@@ -166,94 +147,13 @@ module _ (w : World) (held : Held) (mask : Write) (old new : State) (is : IsHeld
     frames : AreFrames F is.at
     frames = record { distinct = placed_was.frames; below = λ i d there. all_there (λ (x : ℕ × Puddle). x.0 < F) is.at i d placed_was.on_device.frames there }
 
-    -- ---- the pool
-
-    owner_there : owner_of before (client_of_log held.number) ≡ Some is.who
-    owner_there =
-        let whose = is.owner in
-        let known = is.pool.known in
-        owner_of-same before now (client_of_log held.number) (omega arith) (λ k low high. table_word k (omega arith))
-        ∙ ap (owner_of now) whose
-        ∙ owners
-        ∙ is.present
-
-    pub pool_stepped : IsOpenPool F q before
-    pool_stepped = record {
-      known = is.pool.known;
-      slot = is.pool.slot;
-      used = ap (λ (t : Tables). t.pools held.slot) same_tables ∙ same_pools ∙ used_still w held mask old.now.words is;
-      puddles = subst (λ (t : Tables). ArePuddlesOf t held.slot (finished_of at)) (sym same_tables)
-          (finished_puddles (tables_of F now) held.slot at (subst (λ (ps : List (ℕ × Puddle)). ArePuddlesOf (tables_of F now) held.slot ps) listed (are_puddles_in_turn number (tables_of F now) held.slot sound)));
-      owned = owner_there;
-      right = is.pool.right;
-    }
-
-    record_there : (k : ℕ) → is_open_record q k ≡ true → k < tables_end F
-    record_there k of = (open_record_place F q k is.pool.slot is.pool.known (open_on_device F q before pool_stepped) of).high
-
-    -- ---- its words
-
-    mask_outside : (k : ℕ) → is_in_log (log_number_at F held.number) k ≡ false → before k ≡ now k → open_mask F p is.before k ≡ None → IsMaskedMore (open_mask F p is.before) (open_mask F q before) new.now.words k
-    mask_outside k outside other none = elim (cases_Bool (pool_mine F (finished_of at) k || is_open_record q k)) [
-      | inl own ↦ inr (none, mask_of_own F q before k outside own ∙ ap (λ (v : ℕ). Some v) other)
-      | inr not ↦ let parts = or_parts (pool_mine F (finished_of at) k) (is_open_record q k) not in inl (mask_of_others F q before k outside parts.0 parts.1 ∙ sym none)
-    ]
-
-    mask_in_log : (k : ℕ) → is_in_log (log_number_at F held.number) k ≡ true → open_mask F q before k ≡ open_mask F p is.before k
-    unfolding open_mask
-    mask_in_log k inside = cond-true _ _ _ inside ∙ sym (cond-true _ _ _ inside)
-
-    -- a record that it rested on is one still
-    record_before : (k : ℕ) → is_open_record p k ≡ true → is_open_record q k ≡ true
-    unfolding is_open_record
-    record_before k of = elim (or_cases (is_in_pool_record held.slot k || is_in_space_record (client_of_log held.number) k) (list_any (is_in_puddle_record k) (finished_of is.at)) of) [
-      | inl first ↦ or_left _ _ first
-      | inr puddle ↦
-          let found = any_element (is_in_puddle_record k) (finished_of is.at) puddle in
-          let later = finished_later F is.at goal o m e next found.index found.element found.there in
-          or_right (is_in_pool_record held.slot k || is_in_space_record (client_of_log held.number) k) _ (element_passes (is_in_puddle_record k) (finished_of at) later.0 found.element later.1 found.passes)
-    ]
-
-    -- they are those that it had, with their values, and others, with what is read of them
-    pub mask_stepped : (k : ℕ) → IsMaskedMore (open_mask F p is.before) (open_mask F q before) new.now.words k
-    mask_stepped k = elim (cases_Bool (is_in_log (log_number_at F held.number) k)) [
-      | inl inside ↦ inl (mask_in_log k inside)
-      | inr outside ↦ elim (cases_Bool (pool_mine F (finished_of is.at) k)) [
-        | inl own ↦
-            inl (mask_of_mine F q before k is.pool.known (mine_later F is.at goal o m e next k own) ∙ ap (λ (v : ℕ). Some v) (own_word k own) ∙ sym (mask_of_mine F p is.before k is.pool.known own))
-        | inr other ↦ elim (cases_Bool (is_open_record p k)) [
-          | inl of ↦
-              let below = record_there k (record_before k of) in
-              inl (mask_of_record F q before k below (record_before k of)
-              ∙ ap (λ (v : ℕ). Some v) (table_word k (omega (arith, below)) ∙ masked_word k (record_masked w held mask old.now.words is k of) ∙ is.records k of)
-              ∙ sym (mask_of_record F p is.before k below of))
-          | inr not ↦ mask_outside k outside (other_word k other) (mask_of_others F p is.before k outside other not)
-        ]
-      ]
-    ]
-
-    -- its records are read as they are then
-    pub records_stepped : (k : ℕ) → is_open_record q k ≡ true → now k ≡ before k
-    records_stepped k of = sym (table_word k (let below = record_there k of in omega arith))
+    pub comes_stepped : OpensAnew F (open_held held is.at is.rec is.who is.before) opened_stepped new.now.words
+    comes_stepped = comes_open w held mask old.now.words new.now.words is masked_word at (later F is.at goal o m e next) number sound same_pools owners listed
 
     -- ---- what is open
 
     wider : IsWider (pool_ground F (finished_of is.at)) (pool_ground F (finished_of at))
-    wider = record {
-      may = λ address count may.
-          let n = pool_may-named (finished_of is.at) address count may in
-          let later = finished_later F is.at goal o m e next n.ordinal n.puddle n.there in
-          pool_may-from (finished_of at) address count (record { ordinal = later.0; puddle = n.puddle; there = later.1; low = n.low; high = n.high; aligned = n.aligned; some = n.some });
-      place = λ address count may.
-          let n = pool_may-named (finished_of is.at) address count may in
-          let later = finished_later F is.at goal o m e next n.ordinal n.puddle n.there in
-          let low = n.low in
-          let high = n.high in
-          let least = n.some in
-          pool_place-there F (finished_of at) later.0 n.puddle address (finished_placed F at placed).bases later.1 low (omega arith)
-          ∙ sym (pool_place-there F (finished_of is.at) n.ordinal n.puddle address placed_before.bases n.there low (omega arith));
-      mine = mine_later F is.at goal o m e next;
-    }
+    wider = wider_ground F is.at at (later F is.at goal o m e next) placed_before (finished_placed F at placed)
 
     fresh_word : (k : ℕ) → pool_mine F (finished_of at) k ≡ true → pool_mine F (finished_of is.at) k ≡ false → HasOnly (new.now.words k) (before k)
     fresh_word k own other = rest_single k (mine_before F is.at goal o m e next k (mine_of_finished F at k own)) other
@@ -263,7 +163,7 @@ module _ (w : World) (held : Held) (mask : Write) (old new : State) (is : IsHeld
       each = λ k mine other.
           rest_single k (mine_before F is.at goal o m e next k mine) (elim (cases_Bool (pool_mine F (finished_of is.at) k)) [
             | inr none ↦ none
-            | inl own ↦ absurd (let no : true ≡ false = sym (mine_later F is.at goal o m e next k own) ∙ other in cc)
+            | inl own ↦ absurd (let no : true ≡ false = sym (mine_later F is.at at (later F is.at goal o m e next) k own) ∙ other in cc)
           ]);
     }
 
@@ -371,8 +271,8 @@ module _ (w : World) (held : Held) (mask : Write) (old new : State) (is : IsHeld
       gate = is.gate;
       name = is.name;
       stored = is.stored;
-      pool = pool_stepped;
-      records = records_stepped;
+      pool = comes_stepped.pool;
+      records = comes_stepped.records;
       running = running_stepped;
       masked = masks;
     }

@@ -30,7 +30,7 @@ use Rattle.lazy_rewrite.specs.Frontiers.{frontier_in, frontiers_of, frontier_at,
 use Rattle.lazy_rewrite.proofs.Spared.{HaveMoved-same}
 use Rattle.hybrid_tx.specs.Grounds.{IsRewrittenAt}
 use Rattle.ready_daemon.specs.Memory.{Memory}
-use Rattle.ready_daemon.specs.Moves.{Stays, MovesTo, led_to, led_in}
+use Rattle.ready_daemon.specs.Moves.{Stays, MovesTo, still, led_to, led_in}
 use Rattle.ready_daemon.specs.Ready.{Applies}
 use Rattle.ready_daemon.proofs.Applying.{AppliesBy-then, AppliesBy-weaker}
 use Rattle.ready_daemon.proofs.Goals.{led_stays}
@@ -148,6 +148,15 @@ unled : (own : Bool) (f : ℕ) → cond own (max f 0) f ≡ f
 unled true f = omega arith
 unled false f = refl
 
+-- with no goals none is led anywhere
+pub led_none : (slot : ℕ) → led_in slot no_end ≡ still
+led_none slot = λ i m. Some (unled (eqb m.pool (slot + 1)) m.puddle.frontier i)
+
+-- a fault that is no power loss is the host's failure
+pub failed_alone : {A : Type 0} (fault : HostFault) → (Some fault ≡ Some Cut → ⊥) → (Some fault ≡ Some Failed → ⊥) → A
+failed_alone Cut never_cut never = absurd (never_cut refl)
+failed_alone Failed never_cut never = absurd (never refl)
+
 module _ (slot : ℕ) where
   -- a call that moves no frontier leads none anywhere
   pub AppliesTo-still : (size : ℕ) (w next : World) (memory : Memory) (fault : Option HostFault) (old new : State) → Applies size w next memory fault old new
@@ -202,10 +211,6 @@ module _ (slot : ℕ) where
   finishing_taken F at image size w next memory fault old new a = record { goal = a.goal; finishing = λ never. inl (a.finishing never); applies = a.applies }
 
   module _ (finishes : (ℕ → ℕ) → Type 0) where
-    failed_alone : {A : Type 0} (fault : HostFault) → (Some fault ≡ Some Cut → ⊥) → (Some fault ≡ Some Failed → ⊥) → A
-    failed_alone Cut never_cut never = absurd (never_cut refl)
-    failed_alone Failed never_cut never = absurd (never refl)
-
     -- a reading failed before the goals were known
     pub finishing_failed : (size : ℕ) (w next : World) (memory : Memory) (fault : HostFault) (old new : State) → (Some fault ≡ Some Cut → ⊥) → Applies size w next memory (Some fault) old new
         → AppliesFinishing slot finishes size w next memory (Some fault) old new

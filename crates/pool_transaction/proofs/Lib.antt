@@ -2,6 +2,7 @@ pub mod TransactionRefusals
 pub mod FieldsTyped
 pub mod HeldChanged
 pub mod HeldRuns
+pub mod OwnMore
 pub mod Widened
 pub mod HeldAnew
 pub mod HeldStepped

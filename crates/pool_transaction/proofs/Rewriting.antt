@@ -1,7 +1,6 @@
 -- Frontiers of a pool move on beside what is held, on the pool itself too: the world stays.
-use Rattle.std.proofs.Common.{◌≡◌, ◌≢◌, inl, inr, ℕ, zero, suc, ◌<◌, true, false, ◌-◌, not, eqb, List, [], ◌∷◌, Option, Some, None, is_some, refl, sym, ap, subst, ◌∙◌, arith}
+use Rattle.std.proofs.Common.{◌≡◌, ◌≢◌, inl, inr, ℕ, zero, suc, ◌<◌, List, [], ◌∷◌, Option, Some, None, refl, sym, ap, subst, ◌∙◌, arith}
 use Rattle.std.specs.Prelude.{set}
-use Rattle.std.proofs.lemmas.Bool.{and_parts}
 use Rattle.std.proofs.lemmas.List.{get_or-set_same, get_or-set_other, set-set}
 use Rattle.std.proofs.lemmas.Option.{none-some, same_Some}
 use Rattle.pm_model.specs.declared.host.HostFault.{HostFault}
@@ -17,18 +16,17 @@ use Rattle.pud_defs.specs.declared.records.PoolRec.{PoolRec}
 use Rattle.pud_defs.specs.declared.records.TheConstants.{POOL_RECORDS}
 use Rattle.pud_defs.specs.Image.{Image}
 use Rattle.pud_defs.specs.Puddles.{Member}
-use Rattle.pud_defs.specs.SoundTables.{is_pool, is_sound_puddle, is_legal_member, HasSoundTables}
+use Rattle.pud_defs.specs.SoundTables.{HasSoundTables}
 use Rattle.pud_defs.specs.Spaces.{owner_of}
 use Rattle.pud_defs.specs.Tables.{Tables, tables_of, puddles_in_turn}
 use Rattle.pud_defs.specs.Types.{types_of}
 use Rattle.pud_defs.specs.World.{World, closed}
 use Rattle.pud_defs.proofs.Replay.{outside_log}
-use Rattle.pud_defs.proofs.SoundChanged.{legal_puddle}
 use Rattle.graph_laws.specs.Steps.{with_steps}
 use Rattle.lazy_rewrite.specs.Batches.{AreNextSteps, CommitsSteps, RewritesOnce, RewritesInTurn, Rewrites}
 use Rattle.lazy_rewrite.proofs.Stepped.{member_of_pool}
 use Rattle.hybrid_tx.specs.Grounds.{IsPlaced}
-use Rattle.hybrid_tx.specs.Open.Masks.{is_open_record, open_mask, IsOpenPool}
+use Rattle.hybrid_tx.specs.Open.Masks.{open_mask}
 use Rattle.hybrid_tx.specs.Open.ManyOpen.{with_transaction}
 use Rattle.hybrid_tx.specs.Objects.Transactions.{RestsAs}
 use Rattle.hybrid_tx.proofs.PoolGrounds.{pool_mine-each}
@@ -48,9 +46,10 @@ use Rattle.ready_daemon.proofs.PoolsBeside.{one_slot, used_still}
 use Rattle.ready_daemon.proofs.RestBeside.{held_graph, rest_beside}
 use Rattle.ready_daemon.proofs.TablesBeside.{types_read, sound_read}
 use Rattle.pool_transaction.proofs.HeldAnew.{opens_anew, was_one, then_one, wide, holds_anew, settled_anew, rest_anew, logs_anew}
-use Rattle.pool_transaction.proofs.HeldStepped.{before, pool_stepped, mask_stepped, records_stepped, held_stepped}
+use Rattle.pool_transaction.proofs.HeldStepped.{before, comes_stepped, held_stepped}
 use Rattle.pool_transaction.proofs.StepsBeside.{IsShutIn, cases_held, known_placed, steps_apply}
-use Rattle.pool_transaction.proofs.Widened.{IsMaskedMore}
+use Rattle.pool_transaction.proofs.OwnMore.{OpensAnew}
+use Rattle.pool_transaction.proofs.Arriving.{pool_used}
 use Rattle.pool_transaction.proofs.StepsMoved.{upto, LeavesPuddles-steps}
 use Rattle.pool_transaction.proofs.StepsKept.{listed_then, graph_then, tables_then, sound_then, KeepsPools-steps}
 
@@ -177,14 +176,8 @@ module _ (size : ℕ) (w : World) (memory : Memory) (old new : State) (ready : I
     abbrev was_before : Image
     was_before = before w held ready.mask old new its goal o m e next c types_were applied.beside.changes (applied.beside.single refl)
 
-    its_pool : IsOpenPool n (pool_held held stepped_its its.rec its.who) was_before
-    its_pool = pool_stepped w held ready.mask old new its goal o m e next c types_were applied.beside.changes (applied.beside.single refl) w.stored.next_number sound_after same_pools owner_then placed_its listed_its
-
-    its_records : (k : ℕ) → is_open_record (pool_held held stepped_its its.rec its.who) k ≡ true → reads new.now.words k ≡ was_before k
-    its_records = records_stepped w held ready.mask old new its goal o m e next c types_were applied.beside.changes (applied.beside.single refl) w.stored.next_number sound_after same_pools owner_then placed_its listed_its
-
-    its_mask : (k : ℕ) → IsMaskedMore (open_mask n (pool_held held its.at its.rec its.who) its.before) (open_mask n (pool_held held stepped_its its.rec its.who) was_before) new.now.words k
-    its_mask = mask_stepped w held ready.mask old new its goal o m e next c types_were applied.beside.changes (applied.beside.single refl) w.stored.next_number sound_after same_pools owner_then placed_its listed_its
+    its_opened : OpensAnew n (open_held held its.at its.rec its.who its.before) (open_held held stepped_its its.rec its.who was_before) new.now.words
+    its_opened = comes_stepped w held ready.mask old new its goal o m e next c types_were applied.beside.changes (applied.beside.single refl) w.stored.next_number sound_after same_pools owner_then placed_its listed_its
 
     abbrev its_anew : (anew : Write) → ((k v : ℕ) → open_mask n (pool_held held stepped_its its.rec its.who) was_before k ≡ Some v → anew k ≡ Some v)
         → (h : IsHeld w held anew new.now.words) × (open_held held h.at h.rec h.who h.before ≡ open_held held stepped_its its.rec its.who was_before)
@@ -195,32 +188,32 @@ module _ (size : ℕ) (w : World) (memory : Memory) (old new : State) (ready : I
     shut_others : IsShut (with_transaction number None ready.held.opens) held.slot
     shut_others i x here same =
         let it = open_held held its.at its.rec its.who its.before in
-        let was = was_one w memory.held ready.mask old new ready.held held number there applied.beside.changes stepped_its was_before its_pool its_records its_mask in
+        let was = was_one w memory.held ready.mask old new ready.held held number there applied.beside.changes its_opened in
         let elsewhere : i ≢ number = λ at_it. none-some x (sym was.none ∙ ap (with_transaction number None ready.held.opens) (sym at_it) ∙ here) in
         elsewhere (ready.held.are.slots i number x it (was.same i elsewhere ∙ here) (ready.held.each number held there).opened same)
 
     knows_then : KnowsPools n (set memory.judged held.slot (Some stepped_its))
-        (opens_anew w memory.held ready.mask old new ready.held held number there applied.beside.changes stepped_its was_before its_pool its_records its_mask) (reads new.now.words)
+        (opens_anew w memory.held ready.mask old new ready.held held number there applied.beside.changes its_opened) (reads new.now.words)
     knows_then =
         KnowsPools-grown n memory.judged number (open_held held its.at its.rec its.who its.before) (open_held held stepped_its its.rec its.who was_before) (with_transaction number None ready.held.opens) ready.held.opens
-        (opens_anew w memory.held ready.mask old new ready.held held number there applied.beside.changes stepped_its was_before its_pool its_records its_mask) (reads old.now.words) (reads new.now.words)
-        (was_one w memory.held ready.mask old new ready.held held number there applied.beside.changes stepped_its was_before its_pool its_records its_mask)
-        (then_one w memory.held ready.mask old new ready.held held number there applied.beside.changes stepped_its was_before its_pool its_records its_mask) refl shut_others keeps_others
+        (opens_anew w memory.held ready.mask old new ready.held held number there applied.beside.changes its_opened) (reads old.now.words) (reads new.now.words)
+        (was_one w memory.held ready.mask old new ready.held held number there applied.beside.changes its_opened)
+        (then_one w memory.held ready.mask old new ready.held held number there applied.beside.changes its_opened) refl shut_others keeps_others
         (graph_then size w memory held.slot its.at old new ready known_its goal o m e next c) ready.knows
 
     ready_then : IsReady size w (record memory { judged = set memory.judged held.slot (Some stepped_its) }) new
     ready_then = record {
-      mask = wide w memory.held ready.mask old new ready.held held number there applied.beside.changes stepped_its was_before its_pool its_records its_mask;
-      settled = settled_anew w memory.held ready.mask old new ready.held held number there applied.beside.changes stepped_its was_before its_pool its_records its_mask size (closed w) (applied.settled refl);
+      mask = wide w memory.held ready.mask old new ready.held held number there applied.beside.changes its_opened;
+      settled = settled_anew w memory.held ready.mask old new ready.held held number there applied.beside.changes its_opened size (closed w) (applied.settled refl);
       tables = applied.tables refl;
       clients = applied.clients refl;
       frames = ready.frames;
       shelf = applied.beside.changes.shelf ∙ ready.shelf;
-      held = holds_anew w memory.held ready.mask old new ready.held held number there applied.beside.changes stepped_its was_before its_pool its_records its_mask its_anew rest_others;
+      held = holds_anew w memory.held ready.mask old new ready.held held number there applied.beside.changes its_opened its_anew rest_others;
       sessions = ready.sessions;
-      rest = rest_anew w memory.held ready.mask old new ready.held held number there applied.beside.changes stepped_its was_before its_pool its_records its_mask
+      rest = rest_anew w memory.held ready.mask old new ready.held held number there applied.beside.changes its_opened
           (durable_frames_still n ready.mask old new (applied.beside.single refl) ready.rest);
-      logs = logs_anew w memory.held ready.mask old new ready.held held number there applied.beside.changes stepped_its was_before its_pool its_records its_mask n w.clients (applied.logs refl);
+      logs = logs_anew w memory.held ready.mask old new ready.held held number there applied.beside.changes its_opened n w.clients (applied.logs refl);
       knows = knows_then;
     }
 
@@ -245,21 +238,12 @@ module _ (size : ℕ) (w : World) (slot : ℕ) (low : slot < POOL_RECORDS) (goal
   abbrev Led : Member → Option Member → Type 0
   Led = MovesTo (led_in slot (upto goal))
 
-  some_record : (r : Option PoolRec) → is_some r ≡ true → (rec : PoolRec) × (r ≡ Some rec)
-  some_record None some = absurd (let it : false ≡ true = some in cc)
-  some_record (Some rec) some = (rec, refl)
-
   -- the pool of a puddle is one of the table
   used_of : (memory : Memory) (at : List (ℕ × Puddle)) (o m : ℕ) (e : ℕ × Puddle) (old : State) (ready : IsReady size w memory old) → known_in memory.judged slot ≡ Some at → AreNextSteps at goal o m e
       → (rec : PoolRec) × ((tables_of w.stored.frames (reads old.now.words)).pools slot ≡ Some rec)
   used_of memory at o m e old ready known next =
-      let t = tables_of w.stored.frames (reads old.now.words) in
       let of = member_of_pool w.stored.frames slot at (reads old.now.words) (known_in_turn size w memory old ready slot at known) o e next.here in
-      let legal : is_legal_member w.stored.next_number t of.member ≡ true =
-      sym (ap (is_sound_puddle w.stored.next_number t) of.used) ∙ legal_puddle w.stored.next_number t (sound_read size w memory old ready) e.0 of.below in
-      let pool = and_parts (not (eqb of.member.pool 0)) (is_some (t.pools (of.member.pool - 1))) (and_parts (is_pool t of.member.pool) _ (and_parts _ _ legal).0).0 in
-      let its : of.member.pool - 1 ≡ slot = let is = of.pool in omega arith in
-      some_record (t.pools slot) (ap (λ (i : ℕ). is_some (t.pools i)) (sym its) ∙ pool.1)
+      pool_used w.stored.next_number (tables_of w.stored.frames (reads old.now.words)) (sound_read size w memory old ready) slot low e.0 of.member of.below of.used of.pool
 
   -- whichever transaction is held on it, or none
   Applies-batch : (memory : Memory) (at : List (ℕ × Puddle)) (o m : ℕ) (e : ℕ × Puddle) (old new : State) (ready : IsReady size w memory old) → known_in memory.judged slot ≡ Some at → AreNextSteps at goal o m e

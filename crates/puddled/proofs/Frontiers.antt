@@ -23,6 +23,7 @@ use Rattle.pool_transaction.specs.declared.changing.Update.TheVariants as update
 use Rattle.pool_transaction.specs.Changing.{line_of}
 use Rattle.pool_transaction.specs.Finishing.{Finishes, FinishesUnless, IsAt, Arrives, AppliesFinishing}
 use Rattle.pool_transaction.proofs.Arriving.{HaveReached, became, AppliesTo-known}
+use Rattle.pool_transaction.proofs.Leading.{led_none, failed_alone}
 use Rattle.ready_daemon.specs.Judged.{known_in}
 use Rattle.ready_daemon.specs.Memory.{Memory}
 use Rattle.ready_daemon.specs.Moves.{Stays, IsOnTheWay, MovesTo, still, freed_in, led_in}
@@ -49,11 +50,6 @@ leads_none w c moves before = none_unless (refusal_of w c) w.stored.frames c bef
 -- nor does one that is refused
 pub leads_refused : (w : World) (c : Command) (r : Refusal) → refusal_of w c ≡ Some r → (before : Image) → Leads w (Some c) before still
 leads_refused w c r refused before = subst (λ (o : Option Refusal). LeadsUnless o w.stored.frames c before still) (sym refused) refl
-
--- a fault that is no power loss is the host's failure
-pub failed_alone : {A : Type 0} (fault : HostFault) → (Some fault ≡ Some Cut → ⊥) → (Some fault ≡ Some Failed → ⊥) → A
-failed_alone Cut never_cut never = absurd (never_cut refl)
-failed_alone Failed never_cut never = absurd (never refl)
 
 module _ (size : ℕ) (w next : World) (memory : Memory) (fault : Option HostFault) (old new : State) where
   -- each record is where it was
@@ -92,10 +88,6 @@ change_leads F client name before goal (changes.Update (updates.Later s f x)) of
 change_leads F client name before goal (changes.Update (updates.Root s)) of = of
 change_leads F client name before goal (changes.Update (updates.Free s)) of = of
 
-unled : (own : Bool) (f : ℕ) → cond own (max f 0) f ≡ f
-unled true f = omega arith
-unled false f = refl
-
 module _ (size : ℕ) (w next : World) (client : ℕ) (name : List ℕ) (change : Change) (memory : Memory) (fault : Option HostFault) (old new : State) (slot : ℕ)
     (at : IsSlotOf w.stored.frames name (reads old.now.words) slot) where
   abbrev line : Command
@@ -105,7 +97,7 @@ module _ (size : ℕ) (w next : World) (client : ℕ) (name : List ℕ) (change 
   change_goals : (why : Option Refusal) (goal : ℕ → ℕ) → FinishesUnless why (Finishes w.stored.frames (puddles_in_turn (tables_of w.stored.frames (reads old.now.words)) slot) (reads old.now.words) change) goal
       → LeadsUnless why w.stored.frames line (reads old.now.words) (led_in slot goal)
   change_goals None goal so = change_leads w.stored.frames client name (reads old.now.words) (led_in slot goal) change (record { slot = slot; is = at; by = goal; goals_are = so; goal_is = refl })
-  change_goals (Some why) goal so = ap (led_in slot) so ∙ (λ i m. Some (unled (eqb m.pool (slot + 1)) m.puddle.frontier i))
+  change_goals (Some why) goal so = ap (led_in slot) so ∙ led_none slot
 
   -- it leads them as its refusal says
   pub AppliesAs-change : AppliesFinishing slot (FinishesUnless (refusal_of w line) (Finishes w.stored.frames (puddles_in_turn (tables_of w.stored.frames (reads old.now.words)) slot) (reads old.now.words) change)) size w next memory fault old new
