@@ -1,18 +1,16 @@
 -- The line that makes a pool of a file: what it owes, by what its calls did.
-use Rattle.std.proofs.Common.{◌≡◌, ◌≢◌, inl, inr, ℕ, ◌≤◌, true, false, List, take, Option, Some, None, Result, Ok, Err, option_map, is_some, refl, sym, ap, subst, ◌∙◌}
+use Rattle.std.proofs.Common.{◌≡◌, ◌≢◌, inl, inr, ℕ, true, false, List, take, Option, Some, None, Result, Ok, Err, option_map, is_some, refl, sym, ap, subst, ◌∙◌}
 use Rattle.std.specs.Prelude.{IfOk, ⊤}
-use Rattle.std.proofs.lemmas.Option.{none-some, same_Some}
+use Rattle.std.proofs.lemmas.Option.{none-some}
 use Rattle.pm_model.specs.declared.host.HostFault.{HostFault}
 use Rattle.pm_model.specs.declared.host.HostFault.TheVariants as hosts
 use Rattle.pm_model.specs.declared.host.TheConstants.{FILE_READ_LIMIT}
-use Rattle.pm_model.specs.Counts.{Counts, after_fault, fault_of}
+use Rattle.pm_model.specs.Counts.{Counts, after_fault}
 use Rattle.pm_model.specs.Words.{IsRested, reads}
 use Rattle.pm_model.specs.Moments.{State, Shelf}
-use Rattle.pm_model.specs.Changes.{Write}
-use Rattle.pm_model.specs.Masks.{masked, masked_state}
 use Rattle.pud_defs.specs.declared.layout.TheConstants.{DAEMON_LOG}
 use Rattle.pud_defs.specs.declared.machine.Command.{Command}
-use Rattle.pud_defs.specs.declared.machine.Command.TheVariants.{Import, Leave}
+use Rattle.pud_defs.specs.declared.machine.Command.TheVariants.{Import}
 use Rattle.pud_defs.specs.declared.machine.Refusal.{Refusal}
 use Rattle.pud_defs.specs.declared.machine.Refusal.TheVariants as refusals
 use Rattle.pud_defs.specs.declared.machine.Reply.{Reply}
@@ -22,9 +20,8 @@ use Rattle.pud_defs.specs.Grammar.{IsLegalCommand}
 use Rattle.pud_defs.specs.Image.{Image}
 use Rattle.pud_defs.specs.Imports.{with_imported_pool}
 use Rattle.pud_defs.specs.Listing.{name_text}
-use Rattle.pud_defs.specs.PoolChanges.{pool_named}
 use Rattle.pud_defs.specs.Spaces.{owner}
-use Rattle.pud_defs.specs.Step.{refusal_of, after, answer_by, world_by}
+use Rattle.pud_defs.specs.Step.{refusal_of, world_by}
 use Rattle.pud_defs.specs.Step.Answer.{of_reply}
 use Rattle.pud_defs.specs.Stored.{Stored}
 use Rattle.pud_defs.specs.Tables.{tables_of, pool_in}
@@ -32,18 +29,18 @@ use Rattle.pud_defs.specs.World.{StoredWorld, World}
 use Rattle.pud_defs.proofs.Keyed.{option_map_parts}
 use Rattle.pud_defs.proofs.Steps.{refused_world}
 use Rattle.batch.specs.Batches.{HasIdleGate}
-use Rattle.registry.specs.Pools.{OrStill, ChangesMasked, IsLegalPool}
+use Rattle.registry.specs.Pools.{OrStill, ChangesMasked}
 use Rattle.pud_import.specs.declared.placing.PlaceFault.{PlaceFault}
 use Rattle.pud_import.specs.declared.placing.PlaceFault.TheVariants as faults
 use Rattle.pud_import.proofs.FileParts.{file_graph-limit}
 use Rattle.pud_import.specs.Placing.{place_fault, refusal_in, refusal_by, PlacesSomewhere, MayImport}
-use Rattle.ready_daemon.specs.Memory.{Held, Memory}
+use Rattle.ready_daemon.specs.Memory.{Memory}
 use Rattle.ready_daemon.specs.Ready.{KeepsRest, IsReady, Applies}
 use Rattle.ready_daemon.proofs.Applying.{Applies-still}
 use Rattle.ready_daemon.proofs.Beneath.{ready_gate, keeps_tables}
 use Rattle.ready_daemon.proofs.JudgedKept.{KeepsGraphs, KeepsPools}
 use Rattle.ready_daemon.proofs.PlacedPools.{KeepsHeld-imported, KeepsGraphs-then, imported_frames, imported_types, type_beside, Applies-wider}
-use Rattle.ready_daemon.proofs.Pooling.{ChangesBeside, IsNotNamed, absent_apart}
+use Rattle.ready_daemon.proofs.Pooling.{ChangesBeside, absent_apart}
 use Rattle.ready_daemon.proofs.TablesBeside.{HasDurableTables-masked, sound_read}
 use Rattle.puddled.specs.Answered.{as_answered}
 use Rattle.puddled.specs.Daemon.{CarriesOut}

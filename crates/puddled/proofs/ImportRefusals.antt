@@ -1,5 +1,5 @@
 -- Why a line that makes a pool of a file is refused, and that a file is not placed for the same reasons.
-use Rattle.std.proofs.Common.{◌≡◌, ℕ, ◌+◌, ◌<◌, ◌≤◌, Bool, true, false, not, cond, ◌||◌, leb, ltb, List, length, Option, Some, None, Result, Ok, Err, is_some, is_none, refl, sym, ap, ap₂, sum_by, ◌∙◌}
+use Rattle.std.proofs.Common.{◌≡◌, ℕ, ◌+◌, Bool, true, false, not, cond, ◌||◌, leb, ltb, List, length, Option, Some, None, Result, Ok, Err, is_some, is_none, refl, sym, ap, sum_by, ◌∙◌}
 use Rattle.std.specs.Prelude.{IfOk, unwrap_or}
 use Rattle.std.specs.FinMap.Entries.{find}
 use Rattle.pm_model.specs.declared.host.HostFault.{HostFault}
@@ -22,7 +22,7 @@ use Rattle.pud_defs.specs.Listing.{name_text}
 use Rattle.pud_defs.specs.Names.{name_cmp}
 use Rattle.pud_defs.specs.PoolChanges.{pool_named}
 use Rattle.pud_defs.specs.Spaces.{Owner, owner}
-use Rattle.pud_defs.specs.Step.{holds, contents_in, of_contents, clashes_with, refusal_of, after, answer_by, world_by}
+use Rattle.pud_defs.specs.Step.{holds, contents_in, of_contents, clashes_with, refusal_of, after, answer_by}
 use Rattle.pud_defs.specs.Step.Answer.{of_reply}
 use Rattle.pud_defs.specs.Gives.{may_lack_memory}
 use Rattle.pud_defs.specs.Tables.{Tables, Pool, Reader, tables_of, pool_in}

@@ -1,5 +1,5 @@
 -- A file that is placed beside what is held: its calls write no masked word, and each pool that has a graph keeps it.
-use Rattle.std.proofs.Common.{◌≡◌, ◌≢◌, ◌⊎◌, inl, inr, ℕ, zero, suc, ◌+◌, ◌-◌, ◌<◌, ◌≤◌, true, false, List, [], ◌∷◌, map, Option, Some, None, refl, sym, ap, subst, ◌∙◌, arith}
+use Rattle.std.proofs.Common.{◌≡◌, ◌⊎◌, inl, inr, ℕ, zero, suc, ◌+◌, ◌-◌, ◌<◌, ◌≤◌, List, [], ◌∷◌, map, Option, Some, None, refl, sym, ap, subst, ◌∙◌, arith}
 use Rattle.std.specs.Prelude.{slice_get}
 use Rattle.std.proofs.lemmas.Bool.{cases_lt}
 use Rattle.std.proofs.lemmas.Option.{none-some, same_Some}
@@ -8,7 +8,6 @@ use Rattle.pm_model.specs.declared.host.HostFault.TheVariants.{Cut}
 use Rattle.pm_model.specs.Words.{Words, HasOnly, IsRested, reads}
 use Rattle.pm_model.specs.Moments.{State}
 use Rattle.pm_model.specs.Changes.{Write, Changes}
-use Rattle.pm_model.specs.Masks.{IsOff}
 use Rattle.pm_model.proofs.Words.{HasOnly-own}
 use Rattle.pud_defs.specs.declared.layout.TheConstants.{DAEMON_LOG, NEXT_NUMBER_WORD, FRAME_WORDS}
 use Rattle.pud_defs.specs.declared.records.PoolRec.{PoolRec}
@@ -19,7 +18,7 @@ use Rattle.pud_defs.specs.Puddles.{Member, puddle_record_at}
 use Rattle.pud_defs.specs.Stored.{Stored}
 use Rattle.pud_defs.specs.SoundTables.{HasSoundTables}
 use Rattle.pud_defs.specs.Graph.{graph_of}
-use Rattle.pud_defs.specs.Tables.{Tables, tables_of}
+use Rattle.pud_defs.specs.Tables.{tables_of}
 use Rattle.pud_defs.specs.Types.{types_of}
 use Rattle.pud_defs.specs.World.{World}
 use Rattle.pud_defs.proofs.TablesOf.{frames_of_tables}

@@ -1,13 +1,10 @@
-use Rattle.std.proofs.Common.{◌≡◌, ◌≢◌, List, take, Option, Some, None, option_map, refl, sym, ap, subst, ◌∙◌}
+use Rattle.std.proofs.Common.{◌≡◌, ◌≢◌, sym, subst}
 use Rattle.std.specs.Prelude.{IfOk}
 use Rattle.pm_model.proofs.Reading.{still_size}
-use Rattle.pm_model.specs.declared.host.TheConstants.{FILE_READ_LIMIT}
 use Rattle.pm_model.specs.Moments.{State}
 use Rattle.pud_defs.specs.declared.machine.Command.TheVariants.{Import}
 use Rattle.pud_defs.specs.declared.machine.Refusal.TheVariants as refusals
 use Rattle.pud_defs.specs.declared.machine.Reply.TheVariants as replies
-use Rattle.pud_defs.specs.Listing.{name_text}
-use Rattle.ready_daemon.proofs.Keeping.{KeepsRest-still, KeepsRest-then}
 use Rattle.puddled.specs.Importing.{IsFrontOf}
 use Rattle.puddled.proofs.Commanding.{ready_read, CarriesOut-refused, CarriesOut-unread}
 use Rattle.puddled.proofs.ImportRefusals.{import_no_file}
