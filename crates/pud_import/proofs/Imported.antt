@@ -25,6 +25,7 @@ use Rattle.pud_defs.specs.ExportFile.{FileContents, file_puddle, file_graph, are
 use Rattle.pud_defs.specs.Imports.{types_missing, with_types_defined}
 use Rattle.pud_defs.specs.Placement.{ArePlacedFrom}
 use Rattle.pud_defs.specs.Replay.{settled_by}
+use Rattle.pud_defs.specs.Step.{clashes_with}
 use Rattle.pud_defs.specs.Tables.{Tables, tables_of}
 use Rattle.pud_defs.specs.Types.{type_record_at, type_at, types_of}
 use Rattle.pud_defs.specs.World.{StoredWorld}
@@ -41,14 +42,16 @@ use Rattle.graph_laws.specs.Placed.{AreFrontiers}
 use Rattle.registry.specs.declared.adding.Added.{Added}
 use Rattle.registry.specs.declared.placing.NewType.{NewType}
 use Rattle.registry.specs.Placing.{puddle_of, IsPlacedFor, MayPlace}
-use Rattle.registry.specs.Pools.{new_record, ChangesPools}
+use Rattle.registry.specs.Pools.{new_record, ChangesPools, ChangesMasked}
 use Rattle.registry.proofs.Moved.{settled_frames}
 use Rattle.pud_import.specs.Contents.{file_image, types_counted, puddles_counted, types_held, stored_held, contents_held}
 use Rattle.pud_import.specs.Filling.{IsFrameWord, ByFrames, AreFilled, filled_value}
 use Rattle.pud_import.specs.declared.placing.PlaceFault.TheVariants as faults
-use Rattle.pud_import.specs.Placing.{Placement, clashes_with, MayImport}
+use Rattle.pud_import.specs.Places.{FramesRise}
+use Rattle.pud_import.specs.Placing.{Placement, MayImport}
 use Rattle.pud_import.proofs.FileParts.{exportable, contents_of_file}
 use Rattle.pud_import.proofs.FilledWorlds.{AreFree, not_before, IsSettled-frames, HasDurableTables-frames, ChangesPools-unfilled, ChangesPools-filled}
+use Rattle.pud_import.proofs.PlacedPuddles.{placed_rise}
 use Rattle.pud_import.proofs.PlacedWorlds.{IsPlacedFor-same, HoldFile, graph_of-filled}
 use Rattle.pud_import.proofs.TypesWider.{defined_then}
 
@@ -121,6 +124,24 @@ are_free F t wanted puddles frames placed =
 no_clash : (clash full lacks : Bool) → cond clash (Some faults.Clash) (cond full (Some faults.Full) (cond lacks (Some faults.NoSpace) None)) ≡ None → clash ≡ false
 no_clash true full lacks none = cc
 no_clash false full lacks none = refl
+
+-- ---- what was found, by equal lists
+
+pub placed_lists : {F slot : ℕ} {i : Image} {own file : List (ℕ × ℕ)} {wanted : List ℕ} {r : PoolRec} {found new : List NewType} {listed puddles : List Added} → own ≡ file → new ≡ found → puddles ≡ listed
+    → IsPlacedFor F i own wanted slot r found listed → IsPlacedFor F i file wanted slot r new puddles
+placed_lists {F = F} {slot = slot} {i = i} {own = own} {wanted = wanted} {r = r} {found = found} {new = new} {puddles = puddles} same_file same_new same_puddles is =
+    subst (λ (ts : List (ℕ × ℕ)). IsPlacedFor F i ts wanted slot r new puddles) same_file
+    (subst (λ (ts : List NewType). IsPlacedFor F i own wanted slot r ts puddles) (sym same_new)
+    (subst (λ (ps : List Added). IsPlacedFor F i own wanted slot r found ps) (sym same_puddles) is))
+
+-- a state of which only was read before
+pub import_behind : {size F slot : ℕ} {s next : StoredWorld} {r : PoolRec} {file : FileContents} {stored : Stored} {wanted : List ℕ} {new : List NewType} {puddles : List Added} {mask : Write} {fault : Option HostFault} {old read : State} (later : State) → read ≡ old
+    → (MayImport size s F r.name r.uid r.gid r.mode file stored mask read.now.words → IsPlacedFor F (reads read.now.words) file.types wanted slot r new puddles → ChangesMasked mask size s next (λ _. ⊤) fault read later)
+    → MayImport size s F r.name r.uid r.gid r.mode file stored mask old.now.words → IsPlacedFor F (reads old.now.words) file.types wanted slot r new puddles → ChangesMasked mask size s next (λ _. ⊤) fault old later
+import_behind {size = size} {F = F} {slot = slot} {s = s} {next = next} {r = r} {file = file} {stored = stored} {wanted = wanted} {new = new} {puddles = puddles} {mask = mask} {fault = fault} later same =
+    subst
+    (λ (a : State). MayImport size s F r.name r.uid r.gid r.mode file stored mask a.now.words → IsPlacedFor F (reads a.now.words) file.types wanted slot r new puddles → ChangesMasked mask size s next (λ _. ⊤) fault a later)
+    same
 
 -- ---- the world
 
@@ -231,34 +252,47 @@ module _ (size : ℕ) (s : StoredWorld) (name : List ℕ) (uid gid mode : ℕ) (
 
 -- ---- on so many frames
 
-module _ (size : ℕ) (s : StoredWorld) (F : ℕ) (name : List ℕ) (uid gid mode : ℕ) (file : FileContents) (stored : Stored) (mask : Write) (p : Placement) (old mid : State) (h : HoldsFile file stored) where
+module _ (size : ℕ) (s : StoredWorld) (F slot : ℕ) (r : PoolRec) (new : List NewType) (puddles : List Added) (bytes : List ℕ) (file : FileContents) (held : file_graph bytes ≡ Some file) (mask : Write) (old mid : State)
+    (is : IsPlacedFor F (reads old.now.words) file.types (map (λ d. d.base) (stored_held bytes).puddles) slot r new puddles) where
+  abbrev stored : Stored
+  stored = stored_held bytes
+
+  abbrev bases : List ℕ
+  bases = map (λ (d : Puddle). d.base) stored.puddles
+
+  abbrev p : Placement
+  p = record { slot = slot; types = new; puddles = puddles }
+
+  abbrev h : HoldsFile file stored
+  h = file_held bytes file held
+
+  abbrev drawn : PoolRec
+  drawn = new_record r.name r.uid r.gid r.mode (reads old.now.words NEXT_NUMBER_WORD)
+
   abbrev May : ℕ → Type 0
-  May n = MayImport size s n name uid gid mode file stored mask old.now.words
+  May n = MayImport size s n r.name r.uid r.gid r.mode file stored mask old.now.words
 
-  abbrev Placed : ℕ → Type 0
-  Placed n = IsPlacedFor n (reads old.now.words) file.types (map (λ (d : Puddle). d.base) stored.puddles) p.slot (new_record name uid gid mode (reads old.now.words NEXT_NUMBER_WORD)) p.types p.puddles
+  abbrev Placed : ℕ → PoolRec → Type 0
+  Placed n r = IsPlacedFor n (reads old.now.words) file.types bases slot r new puddles
 
-  pub ChangesPools-unfilled_import : (next : StoredWorld) (fault : HostFault) → May F → Placed F → Changes (ByFrames F p.puddles) (Some fault) old mid → ChangesPools size s next (λ _. ⊤) (Some fault) (masked_state mask old) (masked_state mask mid)
+  abbrev Then : ℕ → PoolRec → Type 0
+  Then n r = MayPlace size s n file bases slot r new puddles mask mid.now.words
+
+  abbrev Moves : StoredWorld → Option HostFault → State → State → Type 0
+  Moves next fault a b = ChangesMasked mask size s next (λ _. ⊤) fault a b
+
+  is_drawn : r ≡ drawn
+  is_drawn = ap (new_record r.name r.uid r.gid r.mode) is.number
+
+  pub ChangesPools-unfilled_import : (next : StoredWorld) (fault : HostFault) → May F → Changes (ByFrames F puddles) (Some fault) old mid → Moves next (Some fault) old mid
   ChangesPools-unfilled_import next fault m =
-      subst (λ (n : ℕ). May n → Placed n → Changes (ByFrames n p.puddles) (Some fault) old mid → ChangesPools size s next (λ _. ⊤) (Some fault) (masked_state mask old) (masked_state mask mid)) (sym m.frames)
-      (λ m is c. import_unfilled size s name uid gid mode file stored mask p old mid h m is next fault c) m
+      subst (λ (n : ℕ). May n → Placed n drawn → Changes (ByFrames n puddles) (Some fault) old mid → Moves next (Some fault) old mid) (sym m.frames)
+      (λ m is c. import_unfilled size s r.name r.uid r.gid r.mode file stored mask p old mid h m is next fault c) m (subst (Placed F) is_drawn is)
 
-  pub ChangesPools-filled_import : (next : StoredWorld) (fault : Option HostFault) (new : State) → May F → Placed F → length p.puddles ≡ length stored.puddles → Changes (ByFrames F p.puddles) None old mid → AreFilled F stored p.puddles mid.now.words
-      → (MayPlace size s F file (map (λ (d : Puddle). d.base) stored.puddles) p.slot (new_record name uid gid mode (reads old.now.words NEXT_NUMBER_WORD)) p.types p.puddles mask mid.now.words
-      → ChangesPools size s next (λ _. ⊤) fault (masked_state mask mid) (masked_state mask new))
-      → ChangesPools size s next (λ _. ⊤) fault (masked_state mask old) (masked_state mask new)
-  ChangesPools-filled_import next fault new m =
-      subst (λ (n : ℕ). May n → Placed n → length p.puddles ≡ length stored.puddles → Changes (ByFrames n p.puddles) None old mid → AreFilled n stored p.puddles mid.now.words
-      → (MayPlace size s n file (map (λ (d : Puddle). d.base) stored.puddles) p.slot (new_record name uid gid mode (reads old.now.words NEXT_NUMBER_WORD)) p.types p.puddles mask mid.now.words
-      → ChangesPools size s next (λ _. ⊤) fault (masked_state mask mid) (masked_state mask new))
-      → ChangesPools size s next (λ _. ⊤) fault (masked_state mask old) (masked_state mask new)) (sym m.frames)
-      (λ m is count c filled places. import_filled size s name uid gid mode file stored mask p old mid h m is count c filled next fault new places) m
-
--- ---- what was found, by equal lists
-
-pub placed_lists : (F : ℕ) (i : Image) (own file : List (ℕ × ℕ)) (wanted : List ℕ) (slot : ℕ) (r : PoolRec) (found new : List NewType) (listed puddles : List Added) → own ≡ file → new ≡ found → puddles ≡ listed
-    → IsPlacedFor F i own wanted slot r found listed → IsPlacedFor F i file wanted slot r new puddles
-placed_lists F i own file wanted slot r found new listed puddles same_file same_new same_puddles is =
-    subst (λ (ts : List (ℕ × ℕ)). IsPlacedFor F i ts wanted slot r new puddles) same_file
-    (subst (λ (ts : List NewType). IsPlacedFor F i own wanted slot r ts puddles) (sym same_new)
-    (subst (λ (ps : List Added). IsPlacedFor F i own wanted slot r found ps) (sym same_puddles) is))
+  pub ChangesPools-filled_import : (next : StoredWorld) (fault : Option HostFault) (later : State) → May F → length puddles ≡ puddles_counted bytes → Changes (ByFrames F puddles) None old mid
+      → (FramesRise puddles → ◌≡◌ {A = Option HostFault} None None → AreFilled F stored puddles mid.now.words) → (Then F r → Moves next fault mid later) → Moves next fault old later
+  ChangesPools-filled_import next fault later m count c filled places =
+      subst
+      (λ (n : ℕ). May n → Placed n drawn → length puddles ≡ length stored.puddles → Changes (ByFrames n puddles) None old mid → AreFilled n stored puddles mid.now.words → (Then n drawn → Moves next fault mid later) → Moves next fault old later)
+      (sym m.frames) (λ m is count c filled places. import_filled size s r.name r.uid r.gid r.mode file stored mask p old mid h m is count c filled next fault later places) m (subst (Placed F) is_drawn is)
+      (count ∙ (types_of_file bytes file held).1 ∙ sym h.count) c (filled (placed_rise F (reads old.now.words) file.types bases slot r new puddles is) refl) (λ may. places (subst (Then F) (sym is_drawn) may))

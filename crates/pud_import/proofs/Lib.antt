@@ -1,7 +1,6 @@
 pub mod AsDevice
 pub mod BasesApart
 mod ExamplesReturned
-pub mod BasesFound
 pub mod FileParts
 pub mod FilledFrames
 pub mod FilledWorlds

@@ -1,97 +1,100 @@
--- Puddles that are added in free frames, at bases that were found: they are placed.
-use Rattle.std.proofs.Common.{◌≡◌, ◌⊎◌, inl, inr, ℕ, zero, suc, ◌+◌, ◌-◌, ◌<◌, ◌≤◌, cond, List, [], ◌∷◌, ◌++◌, map, length, take, get_or, All, Some, option_map, refl, sym, ap, ap₂, subst, ◌∙◌, arith}
+-- Puddles that are placed one behind the other: one more, that their frames rise, and their frontier.
+use Rattle.std.proofs.Common.{◌≡◌, ◌⊎◌, inl, inr, ℕ, zero, suc, ◌+◌, ◌-◌, ◌<◌, ◌≤◌, Bool, ◌&&◌, eqb, cond, List, [], ◌∷◌, ◌++◌, map, length, All, Some, refl, sym, ap, ap₂, subst, ◌∙◌, append_assoc, arith}
 use Rattle.std.specs.Prelude.{slice_get, bytes_eq}
-use Rattle.std.proofs.lemmas.Option.{slice_get-map, slice_get-get_or, get_or_from_slice_get, none-some, same_Some}
-use Rattle.std.proofs.lemmas.List.{length-map, map-append, take_more, length-take-le}
-use Rattle.pud_defs.specs.declared.layout.TheConstants.{NUMBER_LIMIT}
-use Rattle.pud_defs.specs.declared.records.TheConstants.{POOL_RECORDS}
+use Rattle.std.specs.List.{list_all}
+use Rattle.std.proofs.lemmas.Option.{slice_get-map, none-some, same_Some}
+use Rattle.std.proofs.lemmas.List.{append-nil, length-append, map-append}
+use Rattle.std.proofs.lemmas.List.Elements.{All-push, All-nil, All-map}
+use Rattle.pud_defs.specs.declared.records.PoolRec.{PoolRec}
 use Rattle.pud_defs.specs.declared.records.Puddle.{Puddle}
 use Rattle.pud_defs.specs.declared.space.TheConstants.{LAST_FRONTIER}
+use Rattle.pud_defs.specs.Image.{Image}
 use Rattle.pud_defs.specs.Keyed.{first_free}
-use Rattle.pud_defs.specs.Imports.{numbers_drawn}
-use Rattle.pud_defs.specs.Placement.{ArePlacedFrom, ArePlaced}
-use Rattle.pud_defs.specs.Tables.{Tables}
-use Rattle.pud_defs.proofs.Keyed.{IsMapped, option_map_parts}
+use Rattle.pud_defs.specs.Placement.{IsBaseFor, ArePlacedFrom, ArePlaced}
+use Rattle.pud_defs.specs.Tables.{Tables, tables_of}
+use Rattle.pud_defs.proofs.Keyed.{IsMapped, option_map_parts, first_free_some}
 use Rattle.registry.specs.declared.adding.Added.{Added}
+use Rattle.registry.specs.declared.placing.NewType.{NewType}
 use Rattle.registry.specs.Adding.{IsAddedWithin}
-use Rattle.registry.specs.Placing.{puddle_of}
-use Rattle.pud_import.specs.Places.{AreFreeFrames, AreBasesFor, IsPuddleAt, ArePuddlesAt, AreMembers, FramesRise}
-use Rattle.pud_import.proofs.FreeFrames.{frames_rise}
+use Rattle.registry.specs.Placing.{puddle_of, IsPlacedFor}
+use Rattle.pud_import.specs.Places.{at_frontier, IsPuddleAt, AreMembers, FramesRise}
 
-abbrev frame_of : Added → ℕ
-frame_of a = a.frame
-
-abbrev base_of : Added → ℕ
+abbrev pub base_of : Added → ℕ
 base_of a = a.puddle.base
 
-abbrev old_base_of : Added → ℕ
-old_base_of a = a.puddle.old_base
+-- the frame from which the search goes on behind these
+unfoldable pub next_from : (from : ℕ) → List Added → ℕ
+next_from from [] = from
+next_from from (a ∷ puddles) = next_from (a.frame + 1) puddles
 
--- a puddle that is listed with its frame is one that is added
-listed : (puddles : List Added) (o : ℕ) (e : ℕ × Puddle) → slice_get (map puddle_of puddles) o ≡ Some e → IsMapped puddle_of (slice_get puddles o) e
-listed puddles o e is = option_map_parts puddle_of (slice_get puddles o) e (sym (slice_get-map puddle_of puddles o) ∙ is)
+next_from-more : (from : ℕ) (puddles : List Added) (a : Added) → next_from from (puddles ++ a ∷ []) ≡ a.frame + 1
+unfolding next_from
+next_from-more from [] a = refl
+next_from-more from (b ∷ puddles) a = next_from-more (b.frame + 1) puddles a
 
--- their bases
-pub bases_listed : (puddles : List Added) → map (λ (e : ℕ × Puddle). e.1.base) (map puddle_of puddles) ≡ map base_of puddles
-bases_listed [] = refl
-bases_listed (a ∷ puddles) = ap (λ (bases : List ℕ). a.puddle.base ∷ bases) (bases_listed puddles)
+module _ (t : Tables) where
+  -- one puddle more
+  placed_more : (from : ℕ) (taken wanted : List ℕ) (puddles : List Added) (a : Added) → ArePlacedFrom t from taken wanted (map puddle_of puddles) → first_free t.puddles (next_from from puddles) (t.frames - next_from from puddles) ≡ Some a.frame
+      → IsBaseFor t (taken ++ map base_of puddles) a.puddle.old_base a.puddle.base → ArePlacedFrom t from taken (wanted ++ a.puddle.old_base ∷ []) (map puddle_of (puddles ++ a ∷ []))
+  unfolding next_from
+  placed_more from taken [] [] a placed frame base = (frame, subst (λ (l : List ℕ). IsBaseFor t l a.puddle.old_base a.puddle.base) (append-nil taken) base, refl, placed)
+  placed_more from taken [] (b ∷ puddles) a placed frame base = absurd placed
+  placed_more from taken (w ∷ wanted) [] a placed frame base = absurd placed
+  placed_more from taken (w ∷ wanted) (b ∷ puddles) a placed frame base = (
+    placed.0,
+    placed.1,
+    placed.2,
+    placed_more (b.frame + 1) (taken ++ b.puddle.base ∷ []) wanted puddles a placed.3 frame
+        (subst (λ (l : List ℕ). IsBaseFor t l a.puddle.old_base a.puddle.base) (sym (append_assoc taken (b.puddle.base ∷ []) (map base_of puddles))) base),
+  )
 
--- a value of one of them is in the list of these values
-pub value_there : {X : Type 0} (f : Added → X) (xs : List X) (puddles : List Added) (o : ℕ) (a : Added) → map f puddles ≡ xs → slice_get puddles o ≡ Some a → slice_get xs o ≡ Some (f a)
-value_there f xs puddles o a same is = ap (λ l. slice_get l o) (sym same) ∙ slice_get-map f puddles o ∙ ap (option_map f) is
+  -- each frame lies behind those before
+  behind_from : (from : ℕ) (taken wanted : List ℕ) (puddles : List Added) → ArePlacedFrom t from taken wanted (map puddle_of puddles) → (j : ℕ) (a : Added) → slice_get puddles j ≡ Some a → from ≤ a.frame
+  behind_from from taken [] [] placed j a is = absurd (none-some a is)
+  behind_from from taken (w ∷ wanted) [] placed j a is = absurd placed
+  behind_from from taken [] (x ∷ puddles) placed j a is = absurd placed
+  behind_from from taken (w ∷ wanted) (x ∷ puddles) placed zero a is =
+      let low = (first_free_some t.puddles from (t.frames - from) x.frame placed.0).low in
+      let same : x.frame ≡ a.frame = ap (λ (a : Added). a.frame) (same_Some x a is) in
+      omega arith
+  behind_from from taken (w ∷ wanted) (x ∷ puddles) placed (suc j) a is =
+      let low = (first_free_some t.puddles from (t.frames - from) x.frame placed.0).low in
+      let later = behind_from (x.frame + 1) (taken ++ x.puddle.base ∷ []) wanted puddles placed.3 j a is in
+      omega arith
 
-module _ (t : Tables) (F : ℕ) (frames : t.frames ≡ F) where
-  placed_from : (frame : ℕ) (taken : List ℕ) (puddles : List Added) → AreFreeFrames t.puddles F frame (map frame_of puddles) → AreBasesFor t taken (map old_base_of puddles) (map base_of puddles)
-      → ArePlacedFrom t frame taken (map old_base_of puddles) (map puddle_of puddles)
-  placed_from frame taken [] free found = free
-  placed_from frame taken (a ∷ puddles) free found =
-      (ap (λ (n : ℕ). first_free t.puddles frame (n - frame)) frames ∙ free.0, found.0, refl, placed_from (a.frame + 1) (taken ++ a.puddle.base ∷ []) puddles free.1 found.1)
+  rise : (from : ℕ) (taken wanted : List ℕ) (puddles : List Added) → ArePlacedFrom t from taken wanted (map puddle_of puddles) → (i j : ℕ) (a b : Added) → i < j → slice_get puddles i ≡ Some a → slice_get puddles j ≡ Some b → a.frame < b.frame
+  rise from taken [] [] placed i j a b less is_a is_b = absurd (none-some a is_a)
+  rise from taken (w ∷ wanted) [] placed i j a b less is_a is_b = absurd placed
+  rise from taken [] (x ∷ puddles) placed i j a b less is_a is_b = absurd placed
+  rise from taken (w ∷ wanted) (x ∷ puddles) placed i zero a b less is_a is_b = absurd (omega arith)
+  rise from taken (w ∷ wanted) (x ∷ puddles) placed zero (suc j) a b less is_a is_b =
+      let later = behind_from (x.frame + 1) (taken ++ x.puddle.base ∷ []) wanted puddles placed.3 j b is_b in
+      let same : x.frame ≡ a.frame = ap (λ (a : Added). a.frame) (same_Some x a is_a) in
+      omega arith
+  rise from taken (w ∷ wanted) (x ∷ puddles) placed (suc i) (suc j) a b less is_a is_b = rise (x.frame + 1) (taken ++ x.puddle.base ∷ []) wanted puddles placed.3 i j a b (omega arith) is_a is_b
 
-  pub placed_puddles : (slot next : ℕ) (at bases wanted : List ℕ) (puddles : List Added) → ArePuddlesAt slot next (cond (bytes_eq bases wanted) LAST_FRONTIER 0) at bases wanted puddles
-      → AreFreeFrames t.puddles F 0 at → AreBasesFor t [] wanted bases → ArePlaced t next wanted (map puddle_of puddles)
-  placed_puddles slot next at bases wanted puddles h free found = record {
-    turn =
-        subst (λ (w : List ℕ). ArePlacedFrom t 0 [] w (map puddle_of puddles)) h.from_bases
-        (placed_from 0 [] puddles (subst (λ (l : List ℕ). AreFreeFrames t.puddles F 0 l) (sym h.in_frames) free)
-        (subst (λ (l : List ℕ). AreBasesFor t [] l (map base_of puddles)) (sym h.from_bases) (subst (λ (l : List ℕ). AreBasesFor t [] wanted l) (sym h.at_bases) found)));
-    frontier = λ o e is.
-        let a = listed puddles o e is in
-        ap (λ (e : ℕ × Puddle). e.1.frontier) (sym a.gives) ∙ (h.each o a.value a.is).is_frontier
-        ∙ ap (λ (l : List ℕ). cond (bytes_eq l wanted) LAST_FRONTIER 0) (sym (bases_listed puddles ∙ h.at_bases));
-    number = λ o e is.
-        let a = listed puddles o e is in
-        ap (λ (e : ℕ × Puddle). e.1.number) (sym a.gives) ∙ (h.each o a.value a.is).number;
-  }
+pub placed_rise : (F : ℕ) (image : Image) (types : List (ℕ × ℕ)) (wanted : List ℕ) (slot : ℕ) (r : PoolRec) (new : List NewType) (puddles : List Added) → IsPlacedFor F image types wanted slot r new puddles → FramesRise puddles
+placed_rise F image types wanted slot r new puddles is = record { each = rise (tables_of F image) 0 [] wanted puddles is.placed.turn }
 
-module _ (slot next frontier F : ℕ) (at bases wanted : List ℕ) (puddles : List Added) (h : ArePuddlesAt slot next frontier at bases wanted puddles) where
-  pub placed_members : AreMembers slot puddles
-  placed_members = record { each = λ o a is. ((h.each o a is).pool, (h.each o a is).is_ordinal) }
+-- ---- found one behind the other
 
-  pub placed_count : length puddles ≡ length at
-  placed_count = sym (length-map puddles frame_of) ∙ ap length h.in_frames
+-- So many were found: they are members, the search goes on behind their frames, and these are their bases.
+pub record AreFound (F slot next o from : ℕ) (bases : List ℕ) (puddles : List Added) : Type 0 where
+  pub count : length puddles ≡ o
+  pub are_bases : bases ≡ map base_of puddles
+  pub goes_on : next_from 0 puddles ≡ from
+  pub members : AreMembers slot next puddles
+  pub within : All (IsAddedWithin F) puddles
 
-  pub placed_rise : (t : Tables) → AreFreeFrames t.puddles F 0 at → FramesRise puddles
-  placed_rise t free = record {
-    each = λ i j a b less is_a is_b.
-        frames_rise t.puddles F 0 at free i j a.frame b.frame less (value_there frame_of at puddles i a h.in_frames is_a) (value_there frame_of at puddles j b h.in_frames is_b);
-  }
-
-  pub placed_within : slot < POOL_RECORDS → next + numbers_drawn (length at) ≤ NUMBER_LIMIT → All (λ frame. frame < F) at → All (IsAddedWithin F) puddles
-  placed_within known left within = λ k d below.
-      let a = get_or puddles k d in
-      let there = slice_get-get_or puddles k d below in
-      let is = h.each k a there in
-      let number = is.number in
-      let pool = is.pool in
-      let few : k < length at = omega (arith, placed_count) in
-      let framed = get_or_from_slice_get at k a.frame 0 (value_there frame_of at puddles k a h.in_frames there) in
-      record {
-        frame = let low = within k 0 few in omega (arith, framed);
-        slot = omega arith;
-        number = omega arith;
-      }
-
--- ---- one more
+pub found_none : (F slot next : ℕ) → AreFound F slot next 0 0 [] []
+unfolding next_from
+found_none F slot next = record {
+  count = refl;
+  are_bases = refl;
+  goes_on = refl;
+  members = record { each = λ o a is. absurd (none-some a is) };
+  within = All-nil (IsAddedWithin F);
+}
 
 got_more : {X : Type 0} (xs : List X) (x : X) (o : ℕ) (d : X) → slice_get (xs ++ x ∷ []) o ≡ Some d → (slice_get xs o ≡ Some d) ⊎ ((o ≡ length xs) × (x ≡ d))
 got_more [] x zero d is = inr (refl, same_Some x d is)
@@ -99,23 +102,79 @@ got_more [] x (suc o) d is = absurd (none-some d is)
 got_more (y ∷ xs) x zero d is = inl is
 got_more (y ∷ xs) x (suc o) d is = elim (got_more xs x o d is) [ inl there ↦ inl there | inr last ↦ let at = last.0 in inr (omega arith, last.1) ]
 
-value_more : (f : Added → ℕ) (xs : List ℕ) (puddles : List Added) (i : ℕ) (a : Added) → i < length xs → map f puddles ≡ take i xs → slice_get xs i ≡ Some (f a) → map f (puddles ++ a ∷ []) ≡ take (i + 1) xs
-value_more f xs puddles i a below before is =
-    map-append f puddles (a ∷ []) ∙ ap₂ (λ (l : List ℕ) (x : ℕ). l ++ x ∷ []) before (sym (get_or_from_slice_get xs i (f a) 0 is)) ∙ sym (take_more xs i 0 below)
-
-pub puddles_more : (slot next frontier : ℕ) (at bases wanted : List ℕ) (puddles new : List Added) (i : ℕ) (a : Added) → i < length at → length bases ≡ length at → length wanted ≡ length at → new ≡ puddles ++ a ∷ []
-    → ArePuddlesAt slot next frontier (take i at) (take i bases) (take i wanted) puddles → slice_get at i ≡ Some a.frame → slice_get bases i ≡ Some a.puddle.base → slice_get wanted i ≡ Some a.puddle.old_base
-    → IsPuddleAt slot next frontier i a → ArePuddlesAt slot next frontier (take (i + 1) at) (take (i + 1) bases) (take (i + 1) wanted) new
-puddles_more slot next frontier at bases wanted puddles new i a below same_bases same_wanted is h framed based from one =
-    let many : length puddles ≡ i = sym (length-map puddles frame_of) ∙ ap length h.in_frames ∙ length-take-le i at (omega arith) in
-    subst (ArePuddlesAt slot next frontier (take (i + 1) at) (take (i + 1) bases) (take (i + 1) wanted)) (sym is) (record {
-      in_frames = value_more frame_of at puddles i a below h.in_frames framed;
-      at_bases = value_more base_of bases puddles i a (omega arith) h.at_bases based;
-      from_bases = value_more old_base_of wanted puddles i a (omega arith) h.from_bases from;
-      each = λ o d there. elim (got_more puddles a o d there) [
-        | inl before ↦ h.each o d before
+module _ (F slot next o from : ℕ) (bases : List ℕ) (puddles : List Added) (h : AreFound F slot next o from bases puddles) (a : Added) where
+  pub found_more : IsPuddleAt slot next o a → IsAddedWithin F a → AreFound F slot next (o + 1) (a.frame + 1) (bases ++ a.puddle.base ∷ []) (puddles ++ a ∷ [])
+  found_more one within = record {
+    count = length-append puddles (a ∷ []) ∙ ap (λ n. n + 1) h.count;
+    are_bases = ap (λ (l : List ℕ). l ++ a.puddle.base ∷ []) h.are_bases ∙ sym (map-append base_of puddles (a ∷ []));
+    goes_on = next_from-more 0 puddles a;
+    members = record {
+      each = λ n d there. elim (got_more puddles a n d there) [
+        | inl before ↦ h.members.each n d before
         | inr last ↦
-            let here : o ≡ i = last.0 ∙ many in
-            subst (λ (d : Added). IsPuddleAt slot next frontier o d) last.1 (subst (λ (n : ℕ). IsPuddleAt slot next frontier n a) (sym here) one)
+            let here : n ≡ o = last.0 ∙ h.count in
+            subst (λ (d : Added). IsPuddleAt slot next n d) last.1 (subst (λ (n : ℕ). IsPuddleAt slot next n a) (sym here) one)
       ];
-    })
+    };
+    within = All-push (IsAddedWithin F) puddles a h.within within;
+  }
+
+  pub placed_next : (t : Tables) (wanted : List ℕ) → t.frames ≡ F → ArePlacedFrom t 0 [] wanted (map puddle_of puddles) → first_free t.puddles from (F - from) ≡ Some a.frame → IsBaseFor t bases a.puddle.old_base a.puddle.base
+      → ArePlacedFrom t 0 [] (wanted ++ a.puddle.old_base ∷ []) (map puddle_of (puddles ++ a ∷ []))
+  placed_next t wanted frames placed frame base =
+      placed_more t 0 [] wanted puddles a placed (subst (λ (n : ℕ). first_free t.puddles n (t.frames - n) ≡ Some a.frame) (sym h.goes_on) (ap (λ (n : ℕ). first_free t.puddles from (n - from)) frames ∙ frame))
+      (subst (λ (l : List ℕ). IsBaseFor t l a.puddle.old_base a.puddle.base) h.are_bases base)
+
+-- ---- with a frontier
+
+module _ (f : ℕ) where
+  at_bases : (puddles : List Added) → map (λ (e : ℕ × Puddle). e.1.base) (map puddle_of (map (at_frontier f) puddles)) ≡ map (λ (e : ℕ × Puddle). e.1.base) (map puddle_of puddles)
+  at_bases [] = refl
+  at_bases (a ∷ puddles) = ap (λ (bases : List ℕ). a.puddle.base ∷ bases) (at_bases puddles)
+
+  placed_at : (t : Tables) (from : ℕ) (taken wanted : List ℕ) (puddles : List Added) → ArePlacedFrom t from taken wanted (map puddle_of puddles) → ArePlacedFrom t from taken wanted (map puddle_of (map (at_frontier f) puddles))
+  placed_at t from taken [] [] placed = placed
+  placed_at t from taken [] (a ∷ puddles) placed = absurd placed
+  placed_at t from taken (w ∷ wanted) [] placed = absurd placed
+  placed_at t from taken (w ∷ wanted) (a ∷ puddles) placed = (placed.0, placed.1, placed.2, placed_at t (a.frame + 1) (taken ++ a.puddle.base ∷ []) wanted puddles placed.3)
+
+  -- one of these is one of those before, but for its frontier
+  one_of : (puddles : List Added) (o : ℕ) (a : Added) → slice_get (map (at_frontier f) puddles) o ≡ Some a → IsMapped (at_frontier f) (slice_get puddles o) a
+  one_of puddles o a is = option_map_parts (at_frontier f) (slice_get puddles o) a (sym (slice_get-map (at_frontier f) puddles o) ∙ is)
+
+  pub members_at : (slot next : ℕ) (puddles : List Added) → AreMembers slot next puddles → AreMembers slot next (map (at_frontier f) puddles)
+  members_at slot next puddles h = record {
+    each = λ o a is.
+        let b = one_of puddles o a is in
+        let was = h.each o b.value b.is in
+        subst (IsPuddleAt slot next o) b.gives (record { pool = was.pool; is_ordinal = was.is_ordinal; number = was.number });
+  }
+
+  pub within_at : (F : ℕ) (puddles : List Added) → All (IsAddedWithin F) puddles → All (IsAddedWithin F) (map (at_frontier f) puddles)
+  within_at F puddles within = All-map (IsAddedWithin F) (at_frontier f) puddles (λ k d below. let w = within k d below in record { frame = w.frame; slot = w.slot; number = w.number })
+
+-- each kept its base where those that they have are those that are wanted
+kept_wanted : (t : Tables) (from : ℕ) (taken wanted : List ℕ) (puddles : List Added) → ArePlacedFrom t from taken wanted (map puddle_of puddles)
+    → list_all (λ (a : Added). eqb a.puddle.base a.puddle.old_base) puddles ≡ bytes_eq (map (λ (e : ℕ × Puddle). e.1.base) (map puddle_of puddles)) wanted
+kept_wanted t from taken [] [] placed = refl
+kept_wanted t from taken [] (a ∷ puddles) placed = absurd placed
+kept_wanted t from taken (w ∷ wanted) [] placed = absurd placed
+kept_wanted t from taken (w ∷ wanted) (a ∷ puddles) placed =
+    ap₂ (λ (n : ℕ) (b : Bool). eqb a.puddle.base n && b) placed.2 (kept_wanted t (a.frame + 1) (taken ++ a.puddle.base ∷ []) wanted puddles placed.3)
+
+pub placed_whole : (t : Tables) (slot next : ℕ) (wanted : List ℕ) (puddles : List Added) → AreMembers slot next puddles → ArePlacedFrom t 0 [] wanted (map puddle_of puddles)
+    → ArePlaced t next wanted (map puddle_of (map (at_frontier (cond (list_all (λ (a : Added). eqb a.puddle.base a.puddle.old_base) puddles) LAST_FRONTIER 0)) puddles))
+placed_whole t slot next wanted puddles members placed =
+    let f = cond (list_all (λ (a : Added). eqb a.puddle.base a.puddle.old_base) puddles) LAST_FRONTIER 0 in
+    let new = map (at_frontier f) puddles in
+    record {
+      turn = placed_at f t 0 [] wanted puddles placed;
+      frontier = λ o e is.
+          let a = option_map_parts puddle_of (slice_get new o) e (sym (slice_get-map puddle_of new o) ∙ is) in
+          let b = one_of f puddles o a.value a.is in
+          sym (ap (λ (a : Added). a.puddle.frontier) b.gives ∙ ap (λ (e : ℕ × Puddle). e.1.frontier) a.gives)
+          ∙ ap (λ (b : Bool). cond b LAST_FRONTIER 0) (kept_wanted t 0 [] wanted puddles placed ∙ ap (λ (l : List ℕ). bytes_eq l wanted) (sym (at_bases f puddles)));
+      number = λ o e is.
+          let a = option_map_parts puddle_of (slice_get new o) e (sym (slice_get-map puddle_of new o) ∙ is) in
+          sym (ap (λ (e : ℕ × Puddle). e.1.number) a.gives) ∙ ((members_at f slot next puddles members).each o a.value a.is).number;
+    }

@@ -1,5 +1,5 @@
 -- Why a file is not placed, by the parts that are looked at in turn.
-use Rattle.std.proofs.Common.{◌≡◌, ℕ, ◌+◌, Bool, true, false, ◌||◌, cond, Option, Some, None, is_none, refl, sym, ap, ap₂, ◌∙◌}
+use Rattle.std.proofs.Common.{◌≡◌, ℕ, ◌+◌, Bool, true, false, ◌||◌, cond, List, Option, Some, None, is_none, refl, sym, ap, ap₂, ◌∙◌}
 use Rattle.std.specs.Prelude.{nat_lt}
 use Rattle.std.specs.Option.{option_or}
 use Rattle.std.proofs.lemmas.Bool.{cond-true}
@@ -10,12 +10,13 @@ use Rattle.pud_defs.specs.Image.{Image}
 use Rattle.pud_defs.specs.Keyed.{first_free, count_used}
 use Rattle.pud_defs.specs.ExportFile.{FileContents}
 use Rattle.pud_defs.specs.Imports.{numbers_drawn}
+use Rattle.pud_defs.specs.Step.{clashes_with}
 use Rattle.pud_defs.specs.Tables.{Tables, tables_of}
 use Rattle.pud_defs.specs.Types.{types_of, used_types}
 use Rattle.pud_defs.proofs.TablesOf.{frames_of_tables}
 use Rattle.pud_import.specs.declared.placing.PlaceFault.{PlaceFault}
 use Rattle.pud_import.specs.declared.placing.PlaceFault.TheVariants as faults
-use Rattle.pud_import.specs.Placing.{clashes_with, lacks_records, types_refusal, frames_refusal, refusal_by}
+use Rattle.pud_import.specs.Placing.{lacks_records, types_refusal, frames_refusal, refusal_by}
 
 -- a refusal where something is so
 abbrev pub refused_if : Bool → PlaceFault → Option PlaceFault
@@ -36,41 +37,45 @@ module _ (F : ℕ) (image : Image) (file : FileContents) where
   abbrev t : Tables
   t = tables_of F image
 
-  abbrev pub slot_refusal : Option PlaceFault
+  abbrev slot_refusal : Option PlaceFault
   slot_refusal = refused_if (is_none (first_free t.pools 0 POOL_RECORDS)) faults.Full
 
-  abbrev pub number_refusal : Option PlaceFault
-  number_refusal = refused_if (nat_lt NUMBER_LIMIT (image NEXT_NUMBER_WORD + numbers_drawn file.puddles)) faults.Full
+  abbrev number_refusal : ℕ → Option PlaceFault
+  number_refusal n = refused_if (nat_lt NUMBER_LIMIT (image NEXT_NUMBER_WORD + numbers_drawn n)) faults.Full
 
-  abbrev pub space_refusal : Option PlaceFault
-  space_refusal = refused_if (nat_lt F (count_used t.puddles 0 F + file.puddles)) faults.NoSpace
+  abbrev space_refusal : ℕ → Option PlaceFault
+  space_refusal n = refused_if (nat_lt F (count_used t.puddles 0 F + n)) faults.NoSpace
 
-  pub refusal_in_turn : option_or (types_refusal image file.types) (option_or slot_refusal (option_or number_refusal space_refusal)) ≡ refusal_by F image file
+  refusal_in_turn : option_or (types_refusal image file.types) (option_or slot_refusal (option_or (number_refusal file.puddles) (space_refusal file.puddles))) ≡ refusal_by F image file
   refusal_in_turn =
-      ap (λ (n : ℕ). option_or (types_refusal image file.types) (option_or slot_refusal (option_or number_refusal (refused_if (nat_lt n (count_used t.puddles 0 n + file.puddles)) faults.NoSpace)))) (sym (frames_of_tables F image))
+      ap (λ (n : ℕ). option_or (types_refusal image file.types) (option_or slot_refusal (option_or (number_refusal file.puddles) (refused_if (nat_lt n (count_used t.puddles 0 n + file.puddles)) faults.NoSpace)))) (sym (frames_of_tables F image))
       ∙ all_refusals (clashes_with (types_of image) file.types) (is_none (first_free t.pools 0 POOL_RECORDS)) (lacks_records (types_of image) (used_types image) file.types)
       (nat_lt NUMBER_LIMIT (image NEXT_NUMBER_WORD + numbers_drawn file.puddles)) (nat_lt t.frames (count_used t.puddles 0 t.frames + file.puddles))
 
-  -- what is found first is why
-  pub refused_by_types : (fault : PlaceFault) → types_refusal image file.types ≡ Some fault → Some fault ≡ refusal_by F image file
-  refused_by_types fault is = sym (ap (λ o. option_or o (option_or slot_refusal (option_or number_refusal space_refusal))) is) ∙ refusal_in_turn
+  -- what is found first is why, for a list and a count that are those of the file
+  module _ {types : List (ℕ × ℕ)} {count : ℕ} (own : (types ≡ file.types) × (count ≡ file.puddles)) where
+    own_in_turn : option_or (types_refusal image types) (option_or slot_refusal (option_or (number_refusal count) (space_refusal count))) ≡ refusal_by F image file
+    own_in_turn = ap₂ (λ (ts : List (ℕ × ℕ)) (n : ℕ). option_or (types_refusal image ts) (option_or slot_refusal (option_or (number_refusal n) (space_refusal n)))) own.0 own.1 ∙ refusal_in_turn
 
-  module _ (typed : types_refusal image file.types ≡ None) where
-    in_tables : option_or slot_refusal (option_or number_refusal space_refusal) ≡ refusal_by F image file
-    in_tables = sym (ap (λ o. option_or o (option_or slot_refusal (option_or number_refusal space_refusal))) typed) ∙ refusal_in_turn
+    pub refused_by_types : (fault : PlaceFault) → Some fault ≡ types_refusal image types → Some fault ≡ refusal_by F image file
+    refused_by_types fault is = ap (λ o. option_or o (option_or slot_refusal (option_or (number_refusal count) (space_refusal count)))) is ∙ own_in_turn
 
-    pub refused_by_slot : (fault : PlaceFault) → slot_refusal ≡ Some fault → Some fault ≡ refusal_by F image file
-    refused_by_slot fault is = sym (ap (λ o. option_or o (option_or number_refusal space_refusal)) is) ∙ in_tables
+    module _ (typed : None ≡ types_refusal image types) where
+      behind_types : option_or slot_refusal (option_or (number_refusal count) (space_refusal count)) ≡ refusal_by F image file
+      behind_types = ap (λ o. option_or o (option_or slot_refusal (option_or (number_refusal count) (space_refusal count)))) typed ∙ own_in_turn
 
-    module _ (slotted : slot_refusal ≡ None) where
-      behind_slot : option_or number_refusal space_refusal ≡ refusal_by F image file
-      behind_slot = sym (ap (λ o. option_or o (option_or number_refusal space_refusal)) slotted) ∙ in_tables
+      pub refused_by_slot : (fault : PlaceFault) → Some fault ≡ slot_refusal → Some fault ≡ refusal_by F image file
+      refused_by_slot fault is = ap (λ o. option_or o (option_or (number_refusal count) (space_refusal count))) is ∙ behind_types
 
-      pub refused_by_number : (fault : PlaceFault) → number_refusal ≡ Some fault → Some fault ≡ refusal_by F image file
-      refused_by_number fault is = sym (ap (λ o. option_or o space_refusal) is) ∙ behind_slot
+      module _ (slotted : None ≡ slot_refusal) {drawn : ℕ} (same : drawn ≡ count) where
+        behind_slot : option_or (number_refusal drawn) (space_refusal count) ≡ refusal_by F image file
+        behind_slot = ap (λ (n : ℕ). option_or (number_refusal n) (space_refusal count)) same ∙ ap (λ o. option_or o (option_or (number_refusal count) (space_refusal count))) slotted ∙ behind_types
 
-      pub refused_by_space : (o : Option PlaceFault) → number_refusal ≡ None → o ≡ space_refusal → o ≡ refusal_by F image file
-      refused_by_space o numbered is = is ∙ sym (ap (λ o. option_or o space_refusal) numbered) ∙ behind_slot
+        pub refused_by_number : (fault : PlaceFault) → Some fault ≡ number_refusal drawn → Some fault ≡ refusal_by F image file
+        refused_by_number fault is = ap (λ o. option_or o (space_refusal count)) is ∙ behind_slot
+
+        pub refused_by_space : (o : Option PlaceFault) → None ≡ number_refusal drawn → o ≡ space_refusal count → o ≡ refusal_by F image file
+        refused_by_space o numbered is = is ∙ ap (λ o. option_or o (space_refusal count)) numbered ∙ behind_slot
 
 -- a refusal of one thing decides that of all
 pub refused_with : (one all : Bool) (as_one fault : PlaceFault) → Some fault ≡ refused_if one as_one → (one ≡ true → all ≡ true) → Some fault ≡ refused_if all as_one

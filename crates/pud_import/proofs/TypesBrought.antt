@@ -1,10 +1,10 @@
 -- The types of a file behind its import: those that its objects have, of all that are defined then.
-use Rattle.std.proofs.Common.{◌≡◌, ℕ, ◌<◌, Bool, true, false, not, cond, eqb, T, List, [], ◌∷◌, Option, Some, None, is_none, nat_cmp, refl, sym, ap, ap₂, ◌∙◌, subst, arith, eqb-true, eq-eqb, inl, inr, zero-add}
+use Rattle.std.proofs.Common.{◌≡◌, ℕ, ◌<◌, Bool, ◌&&◌, true, false, not, cond, eqb, T, List, [], ◌∷◌, Option, Some, None, is_none, nat_cmp, refl, sym, ap, ap₂, ◌∙◌, subst, arith, eqb-true, eq-eqb, inl, inr, zero-add}
 use Rattle.std.specs.List.{list_any, list_all, range_with_len}
 use Rattle.std.specs.Option.{option_or}
 use Rattle.std.specs.Ordering.{is_lt, eq_by_cmp}
 use Rattle.std.specs.FinMap.Entries.{below_all, is_sorted, find-put, find-where_key, is_sorted-where_key, same_entries}
-use Rattle.std.proofs.lemmas.Bool.{cases_Bool, cond-true, cond-false, and_parts, or_parts, not-false, not_from_true}
+use Rattle.std.proofs.lemmas.Bool.{cases_Bool, cond-true, cond-false, and_parts, or_parts, not-true, not-false, not_from_true}
 use Rattle.std.proofs.lemmas.Bool.Decides.{nat_tests}
 use Rattle.std.proofs.lemmas.Cmp.{nat_cmp_total}
 use Rattle.std.proofs.lemmas.List.FromFn.{length-range_with_len, get_or-range_with_len}
@@ -26,17 +26,7 @@ use Rattle.graph_laws.proofs.UsedTypes.{is_type_used-scanned}
 
 -- ---- types that are found
 
--- a test that no type passes fails at each that is found
-found_fails : (test : ℕ × ℕ → Bool) (id m : ℕ) (types : List (ℕ × ℕ)) → list_any test types ≡ false → map_of id types ≡ Some m → test (id, m) ≡ false
-found_fails test id m [] none there = absurd (none-some m there)
-found_fails test id m (t ∷ types) none there =
-    let parts = or_parts (test t) (list_any test types) none in
-    elim (eq_by_cmp nat_cmp id t.0) as (λ b. eq_by_cmp nat_cmp id t.0 ≡ b → cond b (Some t.1) (map_of id types) ≡ Some m → test (id, m) ≡ false) [
-      | true ↦ λ same is. let key : id ≡ t.0 = eqb-true id t.0 (sym (same_test id t.0) ∙ same) in let value : t.1 ≡ m = same_Some t.1 m is in ap₂ (λ (k v : ℕ). test (k, v)) key (sym value) ∙ parts.0
-      | false ↦ λ other is. found_fails test id m types parts.1 is
-    ] refl there
-
--- one that each passes succeeds
+-- a test that each type passes succeeds at each that is found
 found_passes : (test : ℕ × ℕ → Bool) (id m : ℕ) (types : List (ℕ × ℕ)) → list_all test types ≡ true → map_of id types ≡ Some m → test (id, m) ≡ true
 found_passes test id m [] all there = absurd (none-some m there)
 found_passes test id m (t ∷ types) all there =
@@ -45,6 +35,14 @@ found_passes test id m (t ∷ types) all there =
       | true ↦ λ same is. let key : id ≡ t.0 = eqb-true id t.0 (sym (same_test id t.0) ∙ same) in let value : t.1 ≡ m = same_Some t.1 m is in ap₂ (λ (k v : ℕ). test (k, v)) key (sym value) ∙ parts.0
       | false ↦ λ other is. found_passes test id m types parts.1 is
     ] refl there
+
+-- one that none passes fails
+none_passes : (test : ℕ × ℕ → Bool) (types : List (ℕ × ℕ)) → list_any test types ≡ false → list_all (λ t. not (test t)) types ≡ true
+none_passes test [] none = refl
+none_passes test (t ∷ types) none = let parts = or_parts (test t) (list_any test types) none in ap₂ (λ (a b : Bool). not a && b) parts.0 (none_passes test types parts.1)
+
+found_fails : (test : ℕ × ℕ → Bool) (id m : ℕ) (types : List (ℕ × ℕ)) → list_any test types ≡ false → map_of id types ≡ Some m → test (id, m) ≡ false
+found_fails test id m types none there = not-true (test (id, m)) (found_passes (λ t. not (test t)) id m types (none_passes test types none) there)
 
 -- ---- types that are defined one behind the other
 

@@ -1,5 +1,5 @@
 -- The types of a file that are not defined, type by type, and free records for them.
-use Rattle.std.proofs.Common.{◌≡◌, ℕ, zero, suc, ◌+◌, ◌-◌, ◌<◌, ◌≤◌, Bool, true, false, ◌||◌, cond, List, [], ◌∷◌, ◌++◌, map, length, take, get_or, All, ltb, Option, Some, None, is_none, option_map, refl, sym, ap, ap₂, subst, ◌∙◌, arith}
+use Rattle.std.proofs.Common.{◌≡◌, ℕ, zero, suc, ◌+◌, ◌-◌, ◌<◌, ◌≤◌, Bool, true, false, ◌||◌, cond, List, [], ◌∷◌, ◌++◌, map, length, take, get_or, All, ltb, Option, Some, is_none, option_map, refl, sym, ap, ap₂, subst, ◌∙◌, arith}
 use Rattle.std.proofs.lemmas.Bool.{cond-true, cond-false, lt-ltb, le-ltb}
 use Rattle.std.specs.Prelude.{slice_get}
 use Rattle.std.proofs.lemmas.List.{append-nil, length-map}
@@ -7,16 +7,14 @@ use Rattle.std.proofs.lemmas.Option.{slice_get-map, slice_get-get_or, get_or_fro
 use Rattle.std.proofs.lemmas.List.FromFn.{map-range_with_len_more}
 use Rattle.pud_defs.specs.Image.{Image}
 use Rattle.pud_defs.specs.declared.layout.TheConstants.{TYPE_RECORDS}
-use Rattle.pud_defs.specs.Keyed.{count_used}
 use Rattle.pud_defs.specs.Types.{map_of, type_at, used_types}
 use Rattle.pud_defs.specs.ExportFile.{file_type, file_types}
 use Rattle.pud_defs.specs.Imports.{types_missing}
-use Rattle.pud_defs.specs.Step.{is_clash}
+use Rattle.pud_defs.specs.Step.{is_clash, clashes_with}
 use Rattle.registry.specs.declared.placing.NewType.{NewType}
 use Rattle.registry.specs.Placing.{HasFreeRecords}
-use Rattle.type_maps.specs.FreeRecords.{free_places, free_records, AreFreeRecords}
-use Rattle.type_maps.proofs.FreeRecords.{AreFreeRecords-lowest}
-use Rattle.pud_import.specs.Placing.{clashes_with}
+use Rattle.type_maps.specs.FreeRecords.{free_records, AreFreeRecords}
+use Rattle.type_maps.proofs.FreeRecords.{length-free_places, AreFreeRecords-lowest}
 
 -- ---- type by type
 
@@ -85,22 +83,13 @@ in_free_records at from (t ∷ types) (r ∷ records) same free =
 
 -- ---- how many records are free
 
-free_first : (o : Option (ℕ × ℕ)) (from used count : ℕ) (later : List ℕ) → length later + used ≡ count → length (cond (is_none o) (from ∷ later) later) + cond (is_none o) used (used + 1) ≡ suc count
-free_first None from used count later is = omega (arith, is)
-free_first (Some t) from used count later is = omega (arith, is)
-
-free_or_used : (at : ℕ → Option (ℕ × ℕ)) (from count : ℕ) → length (free_places at from count) + count_used at from count ≡ count
-unfolding free_places count_used
-free_or_used at from zero = refl
-free_or_used at from (suc count) = free_first (at from) from (count_used at (from + 1) count) count (free_places at (from + 1) count) (free_or_used at (from + 1) count)
-
 module _ (image : Image) (count : ℕ) where
   pub too_few_records : length (free_records image) < count → ltb TYPE_RECORDS (used_types image + count) ≡ true
-  too_few_records few = let all = free_or_used (type_at image) 0 TYPE_RECORDS in lt-ltb TYPE_RECORDS (used_types image + count) (omega (arith, all))
+  too_few_records few = let all = length-free_places (type_at image) 0 TYPE_RECORDS in lt-ltb TYPE_RECORDS (used_types image + count) (omega (arith, all))
 
   pub enough_records : (records : List ℕ) → records ≡ take count (free_records image) → length records ≡ count → ltb TYPE_RECORDS (used_types image + count) ≡ false
   enough_records records is many =
-      let all = free_or_used (type_at image) 0 TYPE_RECORDS in
+      let all = length-free_places (type_at image) 0 TYPE_RECORDS in
       let most : length records ≤ length (free_records image) = ap_le (ap length is) (length_take_most count (free_records image)) in
       le-ltb TYPE_RECORDS (used_types image + count) (omega (arith, all, most, many))
     where

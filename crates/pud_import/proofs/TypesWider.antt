@@ -10,10 +10,9 @@ use Rattle.pud_defs.specs.Types.{map_of, with_type}
 use Rattle.pud_defs.specs.ExportFile.{are_file_types}
 use Rattle.pud_defs.specs.Imports.{types_missing, with_types_defined}
 use Rattle.pud_defs.specs.PoolChanges.{with_type_defined}
-use Rattle.pud_defs.specs.Step.{is_other, is_clash}
+use Rattle.pud_defs.specs.Step.{is_other, is_clash, clashes_with}
 use Rattle.pud_defs.specs.World.{StoredWorld}
 use Rattle.pud_defs.proofs.TypeLists.{same_test, same_number, true_when}
-use Rattle.pud_import.specs.Placing.{clashes_with}
 
 -- ---- types put into a list
 

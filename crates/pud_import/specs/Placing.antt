@@ -1,6 +1,5 @@
 -- A file placed on a device as a pool: why it is not, and what is done.
 use Rattle.std.specs.Prelude.{◌≡◌, ◌⊎◌, ℕ, Bool, ◌+◌, ◌<◌, ◌||◌, nat_lt, cond, List, length, map, Option, Some, None, is_none, Result, Ok, Err}
-use Rattle.std.specs.List.{list_any}
 use Rattle.pm_model.specs.declared.host.HostFault.{HostFault}
 use Rattle.pm_model.specs.Words.{Words, reads}
 use Rattle.pm_model.specs.Moments.{State}
@@ -13,7 +12,7 @@ use Rattle.pud_defs.specs.Keyed.{first_free, count_used}
 use Rattle.pud_defs.specs.Stored.{Stored}
 use Rattle.pud_defs.specs.ExportFile.{FileContents}
 use Rattle.pud_defs.specs.Imports.{types_missing, numbers_drawn}
-use Rattle.pud_defs.specs.Step.{is_clash}
+use Rattle.pud_defs.specs.Step.{clashes_with}
 use Rattle.pud_defs.specs.Tables.{Tables, tables_of, pool_in}
 use Rattle.pud_defs.specs.Types.{type_at, types_of, used_types}
 use Rattle.pud_defs.specs.World.{StoredWorld}
@@ -43,10 +42,6 @@ place_fault (Err (faults.Host fault)) = Some fault
 abbrev pub refusal_in : {T : Type 0} → Result T PlaceFault → Option PlaceFault
 refusal_in (Ok x) = None
 refusal_in (Err fault) = Some fault
-
--- some type of the file is defined with another map
-abbrev pub clashes_with : (types file : List (ℕ × ℕ)) → Bool
-clashes_with types file = list_any (λ d. is_clash types d.0 d.1) file
 
 -- the types of the file that are not defined are more than the free records
 abbrev pub lacks_records : (types : List (ℕ × ℕ)) → (used : ℕ) → (file : List (ℕ × ℕ)) → Bool

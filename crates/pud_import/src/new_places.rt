@@ -1,36 +1,39 @@
 //! Where the puddles of a file are placed: in which frames, and at which bases.
 
-ghost use Rattle.std.specs.Prelude.{◌≡◌, ◌||◌, ◌+◌, ◌-◌, ◌<◌, ◌≤◌, ℕ, [], ◌∷◌, Option, IfOk, All, cond, nat_lt, ◌==◌, length, map};
+ghost use Rattle.std.specs.Prelude.{◌≡◌, ◌||◌, ◌+◌, ◌-◌, ◌<◌, ◌≤◌, ℕ, [], Option, IfOk, All, cond, nat_lt, ◌==◌, length, map};
 ghost use Rattle.std.specs.List.{list_any};
 ghost use Rattle.pm_model.specs.Words.{Image, reads};
 ghost use Rattle.pm_model.specs.Counts.{fault_of};
 ghost use Rattle.pm_model.specs.Reads.{OnlyReads};
-ghost use Rattle.pud_defs.specs.declared.records.TheConstants.{MAX_PUDDLES};
+ghost use Rattle.pud_defs.specs.declared.layout.TheConstants.{NUMBER_LIMIT};
+ghost use Rattle.pud_defs.specs.declared.records.TheConstants.{POOL_RECORDS, MAX_PUDDLES};
+ghost use Rattle.pud_defs.specs.Imports.{numbers_drawn};
 ghost use Rattle.pud_defs.specs.Keyed.{first_free, count_used};
 ghost use Rattle.pud_defs.specs.Layout.{tables_end};
-ghost use Rattle.pud_defs.specs.Placement.{is_taken_base, IsBaseFor};
+ghost use Rattle.pud_defs.specs.Placement.{is_taken_base, IsBaseFor, ArePlacedFrom};
 ghost use Rattle.pud_defs.specs.Tables.{tables_of};
-ghost use Rattle.pud_import.specs.Contents.{stored_held};
-ghost use Rattle.pud_import.specs.Places.{AreFreeFrames, AreBasesFor};
+ghost use Rattle.registry.specs.Adding.{IsAddedWithin};
+ghost use Rattle.registry.specs.Placing.{puddle_of};
+ghost use Rattle.pud_import.specs.Contents.{puddles_counted, stored_held};
+ghost use Rattle.pud_import.specs.Places.{AreMembers};
 ghost use Rattle.pud_import.specs.Placing.{place_fault, refusal_in, frames_refusal};
 
+use crate::bases::PUDDLES;
 use crate::file_view::FileView;
 use crate::placing::PlaceFault;
 use arrayvec::ArrayVec;
 use pm_model::{Host, HostFault};
-use pud_defs::layout::MAX_FRAMES;
-use pud_defs::records::MAX_PUDDLES;
+use pud_defs::layout::{MAX_FRAMES, NUMBER_LIMIT};
+use pud_defs::records::{MAX_PUDDLES, POOL_RECORDS, PuddleRec};
 use puddle_space::{free_base, has_base};
 use puddle_table::{PuddleFault, free_frame};
+use registry::Added;
 
-/// How many puddles a pool has at most.
-pub(crate) const PUDDLES: usize = MAX_PUDDLES as usize;
-
-/// Frames, or record numbers, one a puddle.
-pub(crate) type Frames = ArrayVec<u32, { PUDDLES }>;
+/// Puddles that are added, by their ordinals.
+pub(crate) type NewPuddles = ArrayVec<Added, { PUDDLES }>;
 
 /// Bases, one a puddle.
-pub(crate) type Bases = ArrayVec<u64, { PUDDLES }>;
+type Bases = ArrayVec<u64, { PUDDLES }>;
 
 /// The lowest free frame from one on. `NoSpace` comes exactly where none is free.
 fn next_frame<H: Host>(h: &mut H, frames: u32, from: u32) -> Result<u32, PlaceFault>
@@ -48,28 +51,6 @@ fn next_frame<H: Host>(h: &mut H, frames: u32, from: u32) -> Result<u32, PlaceFa
         Err(PuddleFault::NoSpace) => Err(PlaceFault::NoSpace),
         Err(PuddleFault::Host(fault)) => Err(PlaceFault::Host(fault)),
     }
-}
-
-/// So many free frames, the lowest ones in order. `NoSpace` comes exactly where fewer are free.
-pub(crate) fn find_frames<H: Host>(h: &mut H, frames: u32, count: u32) -> Result<Frames, PlaceFault>
-    requires few { frames ≤ MAX_FRAMES }
-    requires table { tables_end frames ≤ (H.counts h.old).size }
-    requires few_puddles { count ≤ MAX_PUDDLES }
-    ensures refusal { H.tells → (image : Image) → reads (H.state h.old).now.words ≡ image → place_fault result ≡ Option.None
-        → refusal_in result ≡ cond (nat_lt frames (count_used (tables_of frames image).puddles 0 frames + count)) (Option.Some PlaceFault.NoSpace) Option.None }
-    ensures free { H.tells → (image : Image) → reads (H.state h.old).now.words ≡ image → IfOk result (λ found. AreFreeFrames (tables_of frames image).puddles frames 0 found.items) }
-    ensures count { IfOk result (λ found. length found.items ≡ count) }
-    ensures within { IfOk result (λ found. All (λ frame. frame < frames) found.items) }
-    ensures only_reads { OnlyReads H.tells H.state H.counts (place_fault result) h.old h.new }
-{
-    let mut found = Frames::new();
-    let mut from = 0;
-    for _ordinal in 0..count {
-        let frame = next_frame(h, frames, from)?;
-        found.push(frame);
-        from = frame + 1;
-    }
-    Ok(found)
 }
 
 /// Whether one of the bases is this one.
@@ -120,34 +101,50 @@ fn base_for<H: Host>(h: &mut H, frames: u32, taken: &[u64], wanted: u64) -> Resu
     }
 }
 
-/// The bases of a file, by the ordinals of its puddles.
-pub(crate) fn wanted_bases(view: &FileView<'_>) -> Bases
-    ensures { result.items ≡ map (λ d. d.base) (stored_held view.now).puddles }
-{
-    let mut bases = Bases::new();
-    for ordinal in 0..view.puddles() {
-        bases.push(view.base(ordinal));
-    }
-    bases
-}
-
-/// The bases that puddles get that have these in a file, one behind the other.
-pub(crate) fn find_bases<H: Host>(
+/// The puddles of a file, placed one behind the other for the pool of the slot that draws this UUID number: each in the lowest free frame behind that of
+/// the one before, at the base that it has in the file unless that one is taken. None of their steps is rewritten. `NoSpace` comes exactly where fewer
+/// frames are free than the file has puddles.
+pub(crate) fn find_places<H: Host>(
     h: &mut H,
     frames: u32,
-    wanted: &[u64],
-) -> Result<Bases, HostFault>
+    view: &FileView<'_>,
+    slot: u32,
+    number: u64,
+) -> Result<NewPuddles, PlaceFault>
     requires few { frames ≤ MAX_FRAMES }
     requires table { tables_end frames ≤ (H.counts h.old).size }
-    requires few_puddles { length wanted.now ≤ MAX_PUDDLES }
-    ensures bases { H.tells → (image : Image) → reads (H.state h.old).now.words ≡ image → IfOk result (λ bases. AreBasesFor (tables_of frames image) [] wanted.now bases.items) }
-    ensures count { IfOk result (λ bases. length bases.items ≡ length wanted.now) }
-    ensures only_reads { OnlyReads H.tells H.state H.counts (fault_of result) h.old h.new }
+    requires slot { slot < POOL_RECORDS }
+    requires numbers { number + numbers_drawn (puddles_counted view.now) ≤ NUMBER_LIMIT }
+    ensures refusal { H.tells → (image : Image) → reads (H.state h.old).now.words ≡ image → place_fault result ≡ Option.None
+        → refusal_in result
+        ≡ cond (nat_lt frames (count_used (tables_of frames image).puddles 0 frames + puddles_counted view.now)) (Option.Some PlaceFault.NoSpace) Option.None }
+    ensures turn { H.tells → (image : Image) → reads (H.state h.old).now.words ≡ image
+        → IfOk result (λ puddles. ArePlacedFrom (tables_of frames image) 0 [] (map (λ d. d.base) (stored_held view.now).puddles) (map puddle_of puddles.items)) }
+    ensures members { IfOk result (λ puddles. AreMembers slot number puddles.items) }
+    ensures count { IfOk result (λ puddles. length puddles.items ≡ puddles_counted view.now) }
+    ensures within { IfOk result (λ puddles. All (IsAddedWithin frames) puddles.items) }
+    ensures only_reads { OnlyReads H.tells H.state H.counts (place_fault result) h.old h.new }
 {
+    let mut puddles = NewPuddles::new();
     let mut bases = Bases::new();
-    for base in wanted {
-        let given = base_for(h, frames, bases.as_slice(), *base)?;
-        bases.push(given);
+    let mut from = 0;
+    for ordinal in 0..view.puddles() {
+        let old_base = view.base(ordinal);
+        let frame = next_frame(h, frames, from)?;
+        let base = base_for(h, frames, bases.as_slice(), old_base)?;
+        bases.push(base);
+        puddles.push(Added {
+            frame,
+            puddle: PuddleRec {
+                pool: slot,
+                ordinal,
+                number: number + 1 + u64::from(ordinal),
+                base,
+                old_base,
+                frontier: 0,
+            },
+        });
+        from = frame + 1;
     }
-    Ok(bases)
+    Ok(puddles)
 }

@@ -1,11 +1,12 @@
 //! A file placed on a device as a pool.
 
-ghost use Rattle.std.specs.Prelude.{◌≡◌, ◌≢◌, ◌≤◌, ⊤, ℕ, Option};
+ghost use Rattle.std.specs.Prelude.{◌≡◌, ◌≢◌, ◌<◌, ◌≤◌, ⊤, ℕ, List, Option, All, length, map};
 ghost use Rattle.pm_model.specs.Words.{Image, reads};
 ghost use Rattle.pm_model.specs.Changes.{Changes, Write};
-ghost use Rattle.pm_model.specs.Counts.{after_fault};
+ghost use Rattle.pm_model.specs.Counts.{after_fault, fault_of};
 ghost use Rattle.log_replay.specs.Replaying.{Anything};
-ghost use Rattle.pud_defs.specs.declared.layout.TheConstants.{DAEMON_LOG};
+ghost use Rattle.pud_defs.specs.declared.layout.TheConstants.{DAEMON_LOG, NUMBER_LIMIT, TYPE_RECORDS};
+ghost use Rattle.pud_defs.specs.declared.records.TheConstants.{POOL_RECORDS, MAX_PUDDLES};
 ghost use Rattle.pud_defs.specs.ExportFile.{FileContents, file_graph};
 ghost use Rattle.pud_defs.specs.Imports.{with_imported_pool};
 ghost use Rattle.pud_defs.specs.Layout.{device_words};
@@ -13,17 +14,19 @@ ghost use Rattle.pud_defs.specs.Spaces.{owner};
 ghost use Rattle.pud_defs.specs.Tables.{tables_of, pool_in};
 ghost use Rattle.pud_defs.specs.World.{StoredWorld};
 ghost use Rattle.batch.specs.Batches.{HasIdleGate};
+ghost use Rattle.registry.specs.Adding.{IsAddedWithin};
+ghost use Rattle.registry.specs.Placing.{IsPlacedFor};
 ghost use Rattle.registry.specs.Pools.{OrStill, ChangesMasked};
-ghost use Rattle.pud_import.specs.Contents.{stored_held};
+ghost use Rattle.pud_import.specs.Contents.{puddles_counted, stored_held};
 ghost use Rattle.pud_import.specs.Placing.{place_fault, refusal_in, refusal_by, PlacesSomewhere, MayImport};
 
 use crate::file_view::FileView;
 use crate::filling::fill_frames;
 use crate::plan::find_plan;
 use pm_model::{Host, HostFault};
-use pud_defs::layout::MAX_FRAMES;
-use pud_defs::records::{Name, PoolRec};
-use registry::place_pool;
+use pud_defs::layout::{MAX_FRAMES, NUMBER_LIMIT, TYPE_RECORDS};
+use pud_defs::records::{MAX_PUDDLES, Name, POOL_RECORDS, PoolRec};
+use registry::{Added, NewType, place_pool};
 
 /// Why a file was not placed. Nothing changed, but by a fault of the host.
 #[derive(Clone, Copy, Debug, PartialEq, Eq, thiserror::Error)]
@@ -50,6 +53,40 @@ impl From<HostFault> for PlaceFault {
     fn from(fault: HostFault) -> Self {
         PlaceFault::Host(fault)
     }
+}
+
+/// Fills the frames of the puddles with what the file has, and then places the pool of this record in the slot, with these puddles and with these types, by
+/// one batch.
+fn fill_and_place<H: Host>(
+    h: &mut H,
+    frames: u32,
+    view: &FileView<'_>,
+    slot: u32,
+    rec: PoolRec,
+    types: &[NewType],
+    puddles: &[Added],
+) -> Result<(), HostFault>
+    requires few { frames ≤ MAX_FRAMES }
+    requires room { device_words frames ≤ (H.counts h.old).size }
+    requires slot { slot < POOL_RECORDS }
+    requires number { rec.number < NUMBER_LIMIT }
+    requires types { length types.now ≤ TYPE_RECORDS }
+    requires records { All (λ t. t.record_number < TYPE_RECORDS) types.now }
+    requires count { length puddles.now ≡ puddles_counted view.now }
+    requires few_puddles { length puddles.now ≤ MAX_PUDDLES }
+    requires within { All (IsAddedWithin frames) puddles.now }
+    ensures commits { H.tells → (image : Image) (file : List (ℕ × ℕ)) → IsPlacedFor frames image file (map (λ d. d.base) (stored_held view.now).puddles) slot rec types.now puddles.now
+        → HasIdleGate DAEMON_LOG (H.state h.old).now.words
+        → PlacesSomewhere frames image (stored_held view.now) file rec.name rec.uid rec.gid rec.mode (fault_of result) (H.state h.old) (H.state h.new) }
+    ensures places { H.tells → (size : ℕ) → size ≡ (H.counts h.old).size → (s : StoredWorld) (file : FileContents) (mask : Write) → file_graph view.now ≡ Option.Some file
+        → MayImport size s frames rec.name rec.uid rec.gid rec.mode file (stored_held view.now) mask (H.state h.old).now.words
+        → IsPlacedFor frames (reads (H.state h.old).now.words) file.types (map (λ d. d.base) (stored_held view.now).puddles) slot rec types.now puddles.now
+        → ChangesMasked mask size s (with_imported_pool rec.name (owner rec.uid rec.gid) rec.mode file s) (λ _. ⊤) (fault_of result) (H.state h.old) (H.state h.new) }
+    ensures any { H.tells → Changes Anything (fault_of result) (H.state h.old) (H.state h.new) }
+    ensures cause { H.counts h.new ≡ after_fault (fault_of result) (H.counts h.old) }
+{
+    fill_frames(h, frames, view, puddles)?;
+    place_pool(h, frames, slot, rec, types, puddles)
 }
 
 /// Makes a pool of this name, owner, group and mode that holds the graph of the file, under UUID numbers of its own, and defines the types of the file that
@@ -91,7 +128,6 @@ pub fn place<H: Host>(
     let plan = find_plan(h, frames, view, name)?;
     let types = plan.types.as_slice();
     let puddles = plan.puddles.as_slice();
-    fill_frames(h, frames, view, puddles)?;
     let rec = PoolRec {
         name,
         uid,
@@ -99,5 +135,5 @@ pub fn place<H: Host>(
         mode,
         number: plan.number,
     };
-    Ok(place_pool(h, frames, plan.slot, rec, types, puddles)?)
+    Ok(fill_and_place(h, frames, view, plan.slot, rec, types, puddles)?)
 }

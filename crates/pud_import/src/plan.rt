@@ -1,6 +1,7 @@
 //! What is found for a pool that is to be placed.
 
-ghost use Rattle.std.specs.Prelude.{◌≡◌, ◌+◌, ◌<◌, ◌≤◌, ℕ, Option, IfOk, All, cond, nat_lt, is_none, bytes_eq, length, map};
+ghost use Rattle.std.specs.Prelude.{◌≡◌, ◌+◌, ◌<◌, ◌≤◌, ℕ, Option, IfOk, All, cond, nat_lt, is_none, ◌==◌, length, map};
+ghost use Rattle.std.specs.List.{list_all};
 ghost use Rattle.pm_model.specs.Words.{Image, reads};
 ghost use Rattle.pm_model.specs.Reads.{OnlyReads};
 ghost use Rattle.pud_defs.specs.declared.layout.TheConstants.{NEXT_NUMBER_WORD, NUMBER_LIMIT, TYPE_RECORDS};
@@ -16,23 +17,19 @@ ghost use Rattle.registry.specs.Adding.{IsAddedWithin};
 ghost use Rattle.registry.specs.Placing.{puddle_of, IsPlacedFor};
 ghost use Rattle.registry.specs.Pools.{new_record};
 ghost use Rattle.pud_import.specs.Contents.{puddles_counted, types_held, stored_held};
-ghost use Rattle.pud_import.specs.Places.{ArePuddlesAt, AreMembers, FramesRise};
+ghost use Rattle.pud_import.specs.Places.{at_frontier, AreMembers};
 ghost use Rattle.pud_import.specs.Placing.{place_fault, refusal_in, refusal_by};
 
 use crate::file_view::FileView;
-use crate::new_places::{PUDDLES, find_bases, find_frames, wanted_bases};
+use crate::new_places::{NewPuddles, find_places};
 use crate::new_types::{NewTypes, find_types};
 use crate::placing::PlaceFault;
-use arrayvec::ArrayVec;
 use pm_model::Host;
 use pool_table::{PoolFault, free_slot};
 use pud_defs::layout::{MAX_FRAMES, NEXT_NUMBER_WORD, NUMBER_LIMIT, SPACE_TABLE};
 use pud_defs::records::{MAX_PUDDLES, Name, POOL_RECORDS, PuddleRec};
 use pud_defs::space::LAST_FRONTIER;
 use registry::Added;
-
-/// Puddles that are added, by their ordinals.
-pub(crate) type NewPuddles = ArrayVec<Added, { PUDDLES }>;
 
 /// What is found for a pool that is to be placed.
 #[derive(Drop)]
@@ -84,46 +81,43 @@ fn find_number<H: Host>(h: &mut H, puddles: u32) -> Result<u64, PlaceFault>
     Ok(number)
 }
 
-/// How many steps are rewritten of each puddle: all where each kept its base, and else none.
-fn frontier_for(bases: &[u64], wanted: &[u64]) -> u32
-    ensures { result ≡ cond (bytes_eq bases.now wanted.now) LAST_FRONTIER 0 }
+/// Whether each puddle got the base that it has in the file.
+fn keep_bases(puddles: &[Added]) -> bool
+    ensures { result ≡ list_all (λ a. a.puddle.base == a.puddle.old_base) puddles.now }
 {
-    if bases == wanted { LAST_FRONTIER } else { 0 }
+    for added in puddles {
+        if added.puddle.base != added.puddle.old_base {
+            return false;
+        }
+    }
+    true
 }
 
-/// The puddles of the pool of the slot that draws this UUID number, by their ordinals, in these frames, at these bases and with these old ones.
-fn added_puddles(
-    slot: u32,
-    number: u64,
-    frames: &[u32],
-    bases: &[u64],
-    wanted: &[u64],
-) -> NewPuddles
-    requires few { length frames.now ≤ MAX_PUDDLES }
-    requires bases { length bases.now ≡ length frames.now }
-    requires wanted { length wanted.now ≡ length frames.now }
-    requires numbers { number + numbers_drawn (length frames.now) ≤ NUMBER_LIMIT }
-    ensures { ArePuddlesAt slot number (cond (bytes_eq bases.now wanted.now) LAST_FRONTIER 0) frames.now bases.now wanted.now result.items }
+/// How many steps are rewritten of each puddle: all where each got the base that it has in the file, and else none.
+fn frontier_for(puddles: &[Added]) -> u32
+    ensures { result ≡ cond (list_all (λ a. a.puddle.base == a.puddle.old_base) puddles.now) LAST_FRONTIER 0 }
 {
-    let frontier = frontier_for(bases, wanted);
-    let mut puddles = NewPuddles::new();
-    for ordinal in 0..frames.len() {
-        let frame = frames[ordinal];
-        let base = bases[ordinal];
-        let old_base = wanted[ordinal];
-        puddles.push(Added {
-            frame,
-            puddle: PuddleRec {
-                pool: slot,
-                ordinal: ordinal as u32,
-                number: number + 1 + ordinal as u64,
-                base,
-                old_base,
-                frontier,
-            },
-        });
+    if keep_bases(puddles) {
+        LAST_FRONTIER
+    } else {
+        0
     }
-    puddles
+}
+
+/// The puddles, with so many steps rewritten of each.
+fn with_frontier(puddles: &[Added], frontier: u32) -> NewPuddles
+    requires { length puddles.now ≤ MAX_PUDDLES }
+    ensures { result.items ≡ map (at_frontier frontier) puddles.now }
+{
+    let mut new = NewPuddles::new();
+    for added in puddles {
+        let puddle = PuddleRec {
+            frontier,
+            ..added.puddle
+        };
+        new.push(Added { puddle, ..*added });
+    }
+    new
 }
 
 /// The puddles of a file, placed for the pool of the slot that draws this UUID number: each in the lowest free frame behind that of the one before, at
@@ -144,19 +138,14 @@ fn find_puddles<H: Host>(
         ≡ cond (nat_lt frames (count_used (tables_of frames image).puddles 0 frames + puddles_counted view.now)) (Option.Some PlaceFault.NoSpace) Option.None }
     ensures placed { H.tells → (image : Image) → reads (H.state h.old).now.words ≡ image
         → IfOk result (λ puddles. ArePlaced (tables_of frames image) number (map (λ d. d.base) (stored_held view.now).puddles) (map puddle_of puddles.items)) }
-    ensures members { IfOk result (λ puddles. AreMembers slot puddles.items) }
-    ensures rising { H.tells → IfOk result (λ puddles. FramesRise puddles.items) }
+    ensures members { IfOk result (λ puddles. AreMembers slot number puddles.items) }
     ensures count { IfOk result (λ puddles. length puddles.items ≡ puddles_counted view.now) }
     ensures within { IfOk result (λ puddles. All (IsAddedWithin frames) puddles.items) }
     ensures only_reads { OnlyReads H.tells H.state H.counts (place_fault result) h.old h.new }
 {
-    let found = find_frames(h, frames, view.puddles())?;
-    let at = found.as_slice();
-    let wanted = wanted_bases(view);
-    let old_bases = wanted.as_slice();
-    let given = find_bases(h, frames, old_bases)?;
-    let bases = given.as_slice();
-    Ok(added_puddles(slot, number, at, bases, old_bases))
+    let found = find_places(h, frames, view, slot, number)?;
+    let puddles = found.as_slice();
+    Ok(with_frontier(puddles, frontier_for(puddles)))
 }
 
 /// What is found for a pool of this name that holds what the file does: the lowest free slot, the next UUID number, free records for the types that
@@ -173,9 +162,8 @@ pub(crate) fn find_plan<H: Host>(
         → (file : FileContents) → file_graph view.now ≡ Option.Some file → pool_in (tables_of frames image) name ≡ Option.None → refusal_in result ≡ refusal_by frames image file }
     ensures placed { H.tells → (image : Image) → reads (H.state h.old).now.words ≡ image → pool_in (tables_of frames image) name ≡ Option.None → (uid : ℕ) (gid : ℕ) (mode : ℕ)
         → IfOk result (λ plan. IsPlacedFor frames image (types_held view.now) (map (λ d. d.base) (stored_held view.now).puddles) plan.slot
-        (new_record name uid gid mode (image NEXT_NUMBER_WORD)) plan.types.items plan.puddles.items) }
+        (new_record name uid gid mode plan.number) plan.types.items plan.puddles.items) }
     ensures number { H.tells → (image : Image) → reads (H.state h.old).now.words ≡ image → IfOk result (λ plan. plan.number ≡ image NEXT_NUMBER_WORD) }
-    ensures rising { H.tells → IfOk result (λ plan. FramesRise plan.puddles.items) }
     ensures slot { IfOk result (λ plan. plan.slot < POOL_RECORDS) }
     ensures left { IfOk result (λ plan. plan.number < NUMBER_LIMIT) }
     ensures records { IfOk result (λ plan. All (λ t. t.record_number < TYPE_RECORDS) plan.types.items) }

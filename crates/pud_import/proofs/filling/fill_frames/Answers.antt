@@ -30,7 +30,7 @@ loop-ordinal-preserved g c =
     record {
       changes = λ t. Changes-frame F st puddles i _ _ None (g.H.Host.state c.args.h.now) b then there (c.loop-ordinal.invariant.changes t) (c.in_ok-fill_frame.ensures.fills t);
       filled = λ t rise. filled_more F st puddles i _ b then rise there (c.in_ok-fill_frame.ensures.fills t) (c.loop-ordinal.invariant.filled t rise);
-      counts = c.in_ok-fill_frame.ensures.cause ∙ c.loop-ordinal.invariant.counts;
+      counts = ◌∙◌ {b = g.H.Host.counts c.loop-ordinal.h} c.in_ok-fill_frame.ensures.cause c.loop-ordinal.invariant.counts;
     }
 
 pub returns-in_err-fill_frame-clause-changes : goal.returns-in_err-fill_frame-clause-changes

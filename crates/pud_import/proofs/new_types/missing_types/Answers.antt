@@ -1,12 +1,11 @@
-use Rattle.std.proofs.Common.{ℕ, Bool, List, ◌≡◌, ◌++◌, [], ◌∷◌, length, is_none, refl, sym, ap, ap₂, ◌∙◌, arith}
+use Rattle.std.proofs.Common.{ℕ, Bool, List, ◌≡◌, ◌++◌, [], ◌∷◌, length, None, is_none, refl, sym, ap, ap₂, ◌∙◌, arith}
 use Rattle.std.proofs.lemmas.Result.{err_from_is_err_and}
 use Rattle.pm_model.proofs.Reading.{OnlyReads-then, still_reads}
 use Rattle.pud_defs.specs.ExportFile.{file_types}
 use Rattle.pud_defs.specs.Imports.{types_missing}
-use Rattle.pud_defs.specs.Step.{is_clash}
+use Rattle.pud_defs.specs.Step.{is_clash, clashes_with}
 use Rattle.pud_defs.specs.Types.{map_of, types_of}
 use Rattle.pud_import.specs.Contents.{file_image, types_counted, types_held}
-use Rattle.pud_import.specs.Placing.{clashes_with}
 use Rattle.pud_import.specs.declared.placing.PlaceFault.TheVariants as faults
 use Rattle.pud_import.proofs.Refusals.{refused_if, refused_with, not_refused}
 use Rattle.pud_import.proofs.TypesMissing.{missing_more, missing_same, clashes_same, clash_there}
@@ -37,7 +36,7 @@ loop-i-preserved g c =
         | then-branch w ↦ omega (arith, w.push.ensures.len, ap length (ap (λ v. v.items) w.types-is), c.loop-i.invariant.few)
         | else-branch w ↦ omega (arith, ap length (ap (λ v. v.items) w.types-is), c.loop-i.invariant.few)
       ];
-      only_reads = OnlyReads-then c.loop-i.invariant.only_reads c.in_ok-is_missing.ensures.only_reads;
+      only_reads = OnlyReads-then {fault = None} c.loop-i.invariant.only_reads c.in_ok-is_missing.ensures.only_reads;
       missing = λ t image same.
           let types = types_of image in
           let so_far = c.loop-i.invariant.missing t image same in

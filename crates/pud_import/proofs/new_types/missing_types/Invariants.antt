@@ -4,9 +4,9 @@ use Rattle.pm_model.specs.Reads.{OnlyReads}
 use Rattle.pud_defs.specs.Image.{Image}
 use Rattle.pud_defs.specs.ExportFile.{file_types}
 use Rattle.pud_defs.specs.Imports.{types_missing}
+use Rattle.pud_defs.specs.Step.{clashes_with}
 use Rattle.pud_defs.specs.Types.{types_of}
 use Rattle.pud_import.specs.Contents.{file_image}
-use Rattle.pud_import.specs.Placing.{clashes_with}
 use Rattle.pud_import.proofs.new_types.missing_types.Given as goal
 
 abbrev pub invariant-loop-i : goal.invariant-loop-i

@@ -1,0 +1,24 @@
+use Rattle.std.proofs.Common.{◌≡◌, None, [], length, map}
+use Rattle.std.specs.List.{range_with_len}
+use Rattle.pm_model.specs.Words.{reads}
+use Rattle.pm_model.specs.Reads.{OnlyReads}
+use Rattle.pud_defs.specs.ExportFile.{file_puddle}
+use Rattle.pud_defs.specs.Image.{Image}
+use Rattle.pud_defs.specs.Placement.{ArePlacedFrom}
+use Rattle.pud_defs.specs.Tables.{tables_of}
+use Rattle.registry.specs.Placing.{puddle_of}
+use Rattle.pud_import.specs.Contents.{file_image, types_counted, puddles_counted}
+use Rattle.pud_import.proofs.FreeFrames.{HasCounted}
+use Rattle.pud_import.proofs.PlacedPuddles.{AreFound}
+use Rattle.pud_import.proofs.new_places.find_places.Given as goal
+
+abbrev pub invariant-loop-ordinal : goal.invariant-loop-ordinal
+invariant-loop-ordinal g l = record {
+  count : length l.puddles.items ≡ l.ordinal;
+  many : length l.bases.items ≡ l.ordinal;
+  found : AreFound l.frames l.slot l.number l.ordinal l.from l.bases.items l.puddles.items;
+  only_reads : OnlyReads g.H.Host.tells g.H.Host.state g.H.Host.counts None l.initial.h l.h;
+  counted : g.H.Host.tells → (image : Image) → reads (g.H.Host.state l.initial.h).now.words ≡ image → HasCounted (tables_of l.frames image).puddles l.frames l.ordinal l.from;
+  turn : g.H.Host.tells → (image : Image) → reads (g.H.Host.state l.initial.h).now.words ≡ image
+      → ArePlacedFrom (tables_of l.frames image) 0 [] (map (λ d. d.base) (map (file_puddle (file_image l.view) (types_counted l.view) (puddles_counted l.view)) (range_with_len 0 l.ordinal))) (map puddle_of l.puddles.items);
+}
