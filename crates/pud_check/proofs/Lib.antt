@@ -4,3 +4,4 @@ pub mod Saying
 pub mod Checking
 pub mod Summing
 pub mod Summarized
+mod ExamplesSums

@@ -1,5 +1,5 @@
 -- The sum of the number fields of a pool, field by field and place by place, and that it is the one of its graph.
-use Rattle.std.proofs.Common.{◌≡◌, ◌≢◌, ℕ, zero, suc, ◌+◌, ◌-◌, ◌%◌, ◌^◌, ◌<◌, ◌≤◌, Bool, true, false, cond, List, [], ◌∷◌, map, length, sum_by, Option, Some, None, option_map, nat_cmp, refl, sym, ap, ap₂, ◌∙◌, arith, zero-add}
+use Rattle.std.proofs.Common.{◌≡◌, ◌≢◌, ℕ, suc, ◌+◌, ◌-◌, ◌%◌, ◌^◌, ◌<◌, ◌≤◌, Bool, true, false, ◌==◌, cond, List, [], ◌∷◌, map, length, sum_by, Option, Some, None, option_map, nat_cmp, refl, sym, ap, ap₂, ◌∙◌, arith, zero-add}
 use Rattle.std.specs.List.{range_with_len}
 use Rattle.std.proofs.Math.Nat.{mod-add-mod, add-mod-mod}
 use Rattle.std.proofs.lemmas.Bool.{cond-true, cond-false}
@@ -11,7 +11,7 @@ use Rattle.pud_defs.specs.declared.space.TheConstants.{SLOT_FIELDS_WORD}
 use Rattle.pud_defs.specs.declared.records.Puddle.{Puddle}
 use Rattle.pud_defs.specs.TypeMap.{is_pointer}
 use Rattle.pud_defs.specs.Stored.{Stored, places_of, place_word}
-use Rattle.pud_defs.specs.Graph.{Content, Number, Null, At, Nowhere, Object, Table, Graph, at_place, target, content, field_count, contents_or_none, table_of, value_of, object_at, live, graph_of}
+use Rattle.pud_defs.specs.Graph.{Content, Number, Null, At, Nowhere, Object, Table, Graph, at_place, place_in, target, content, contents_or_none, table_of, value_of, object_at, live, graph_of}
 use Rattle.pud_defs.specs.Holdings.{held_as}
 use Rattle.pud_defs.proofs.Graphs.{under_serial-free, under_serial-used, graph_of-each, distinct_live}
 use Rattle.pud_defs.proofs.PoolsCounted.{sum_places, sum_places-same, worth, sum-keyed}
@@ -31,7 +31,7 @@ number_either false c e = e
 
 number_of_target : (puddles : List Puddle) (v : ℕ) → number_by (target puddles v) ≡ 0
 unfolding target
-number_of_target puddles v = number_either _ _ (number_at_place _)
+number_of_target puddles v = number_either (v == 0) (at_place (place_in 0 puddles v)) (number_at_place (place_in 0 puddles v))
 
 module _ (puddles : List Puddle) (m place f v : ℕ) where
   -- a pointer counts nothing, whatever it leads to
@@ -90,6 +90,9 @@ module _ (t : Table) (p : ℕ) where
 -- what is left to be added from a place on
 abbrev pub left_from : (ℕ → ℕ) → (from end : ℕ) → ℕ
 left_from h from end = sum_places h from (end - from)
+
+pub left_from-start : (h : ℕ → ℕ) (n : ℕ) → left_from h 0 n ≡ sum_places h 0 n
+left_from-start h n = let all : n - 0 ≡ n = omega arith in ap (sum_places h 0) all
 
 module _ (h : ℕ → ℕ) (from end : ℕ) where
   left_from-more : from < end → left_from h from end ≡ h from + left_from h (from + 1) end

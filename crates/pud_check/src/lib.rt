@@ -23,9 +23,7 @@ ghost use Rattle.puddle_table.specs.Placed.{HoldsPlaces};
 ghost use Rattle.pud_check.specs.LayoutListed.{puddle_listed, puddles_listed, pool_listed, listed_layout};
 
 pub use check::check_pools;
-pub use laws::{
-    sound_tables_are_checked, sound_tables_are_laid_out, sound_tables_are_summed_up,
-};
+pub use laws::{sound_tables_are_checked, sound_tables_are_laid_out, sound_tables_are_summed_up};
 use pm_model::{Host, HostFault};
 use pool_table::in_order;
 use pud_defs::layout::{MACHINE_WORD, NEXT_NUMBER_WORD};
