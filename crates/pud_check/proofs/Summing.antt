@@ -2,7 +2,7 @@
 use Rattle.std.proofs.Common.{◌≡◌, ◌≢◌, ℕ, suc, ◌+◌, ◌-◌, ◌%◌, ◌^◌, ◌<◌, ◌≤◌, Bool, true, false, ◌==◌, cond, List, [], ◌∷◌, map, length, sum_by, Option, Some, None, option_map, nat_cmp, refl, sym, ap, ap₂, ◌∙◌, arith, zero-add}
 use Rattle.std.specs.List.{range_with_len}
 use Rattle.std.proofs.Math.Nat.{mod-add-mod, add-mod-mod}
-use Rattle.std.proofs.lemmas.Bool.{cond-true, cond-false}
+use Rattle.std.proofs.lemmas.Bool.{cond-true}
 use Rattle.std.proofs.lemmas.Cmp.{nat_cmp_total}
 use Rattle.std.proofs.lemmas.Option.{none-some, same_Some}
 use Rattle.std.proofs.lemmas.List.FromFn.{sum_by-map-range_with_len_more}
@@ -33,13 +33,9 @@ number_of_target : (puddles : List Puddle) (v : ℕ) → number_by (target puddl
 unfolding target
 number_of_target puddles v = number_either (v == 0) (at_place (place_in 0 puddles v)) (number_at_place (place_in 0 puddles v))
 
-module _ (puddles : List Puddle) (m place f v : ℕ) where
-  -- a pointer counts nothing, whatever it leads to
-  pub number_by-pointer : is_pointer m f ≡ true → number_by (content puddles m place f v) ≡ 0
-  number_by-pointer pointer = ap number_by (cond-true _ _ _ pointer) ∙ number_of_target _ v
-
-  pub number_by-number : is_pointer m f ≡ false → number_by (content puddles m place f v) ≡ v
-  number_by-number number = ap number_by (cond-false _ _ _ number)
+-- a pointer counts nothing, whatever it leads to
+pub number_by-pointer : (puddles : List Puddle) (m place f v : ℕ) → is_pointer m f ≡ true → number_by (content puddles m place f v) ≡ 0
+number_by-pointer puddles m place f v pointer = ap number_by (cond-true _ _ _ pointer) ∙ number_of_target _ v
 
 -- ---- the fields of a place
 
