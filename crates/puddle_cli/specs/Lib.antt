@@ -1,5 +1,7 @@
 pub mod Status
 pub mod Formatting
+pub mod Source
+pub mod Generated
 pub mod Serving
 pub mod Replying
 pub mod Headline

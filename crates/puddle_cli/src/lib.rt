@@ -2,9 +2,11 @@
 #![tactic(auto)]
 
 mod format;
+mod generated;
 mod piece;
 mod run;
 mod show;
+mod source;
 mod status;
 mod top;
 
