@@ -21,7 +21,8 @@ impl Bench {
         Ok(self.host.put_shelf(self.alloc, name, bytes.as_slice())?)
     }
 
-    /// Gives words of a file of the shelf other values: behind its name stand the first of them, and then the values.
+    /// Gives words of a file of the shelf other values: behind its name stand the first of them, and then the values,
+    /// of which none may stand behind the last whole word of the file.
     pub(crate) fn set_words(&mut self, number: u32, said: &str) -> Result<(), Trouble> {
         let (name, rest) = first_word(said);
         let numbers = numbers_of(self.alloc, number, rest)?;
@@ -30,6 +31,14 @@ impl Bench {
         };
         let first = usize::try_from(*first).unwrap_or(usize::MAX);
         let old = self.file_bytes(number, name)?;
+        let words = old.len() / 8;
+        if first.saturating_add(values.len()) > words {
+            let at = first.max(words);
+            return Err(amiss(
+                number,
+                format!(in self.alloc; "there is no word {at} of {name}"),
+            ));
+        }
         let mut bytes = Vec::new(self.alloc);
         for (at, word) in old.chunks(8).enumerate() {
             match at.checked_sub(first).and_then(|place| values.get(place)) {

@@ -1,0 +1,2 @@
+pub mod GenLines
+pub mod Parts
