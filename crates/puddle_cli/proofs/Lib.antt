@@ -5,3 +5,6 @@ pub mod Answering
 pub mod Replying
 pub mod Statuses
 pub mod Running
+pub mod GeneratedLines
+pub mod PlainLines
+pub mod NoneOpen

@@ -1,5 +1,9 @@
--- Bytes that are taken one by one.
-use Rattle.std.specs.Prelude.{◌≡◌, ℕ, List, [], ◌∷◌, Option, Some, None}
+-- The bytes of generated lines.
+use Rattle.std.specs.Prelude.{◌≡◌, ℕ, List, [], ◌∷◌, ◌++◌, flat_map, Option, Some, None}
+
+-- those of some lines, each closed by a newline
+abbrev pub bytes_of : List (List ℕ) → List ℕ
+bytes_of lines = flat_map (λ line. line ++ 10 ∷ []) lines
 
 -- the first byte was taken, or there was none
 abbrev pub TakesFirst : Option ℕ → (bytes left : List ℕ) → Type 0

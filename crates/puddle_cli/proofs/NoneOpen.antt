@@ -1,0 +1,93 @@
+-- Behind a generated script no transaction is open: power is lost in it, and no line behind that begins one.
+use Rattle.std.proofs.Common.{◌≡◌, ℕ, Bool, true, false, List, [], ◌∷◌, ◌++◌, map, Option, Some, None, inl, inr, refl, sym, ap, subst, ◌∙◌}
+use Rattle.std.specs.Prelude.{⊤, codes}
+use Rattle.std.specs.Fmt.{digits}
+use Rattle.pud_defs.specs.declared.machine.Command.{Command}
+use Rattle.pud_defs.specs.declared.machine.Command.TheVariants.{Client, Export, Import, Rewrite}
+use Rattle.pud_defs.specs.declared.machine.Command.TheVariants as commands
+use Rattle.pud_defs.specs.declared.machine.Refusal.{Refusal}
+use Rattle.pud_defs.specs.Gives.{Gives, StepBy, Step}
+use Rattle.pud_defs.specs.Grammar.{command_of}
+use Rattle.pud_defs.specs.Run.{Turn, IsTurn, IsRun, last_world}
+use Rattle.pud_defs.specs.Step.{Answer, after, refusal_of, unless_refused, world_by}
+use Rattle.pud_defs.specs.World.{World, restart, nothing_open}
+use Rattle.gen_work.specs.GenLines.{opening_lines, object_lines, closing_lines, number_at, gen_lines}
+
+-- no transaction is open
+abbrev IsIdle : World → Type 0
+IsIdle w = w.transactions ≡ nothing_open
+
+-- the command leaves open what is open
+abbrev Leaves : Option Command → Type 0
+Leaves command = (w : World) → (world_by w command).transactions ≡ w.transactions
+
+either : (why : Option Refusal) (w next : World) → next.transactions ≡ w.transactions → (unless_refused why w next).transactions ≡ w.transactions
+either None w next same = same
+either (Some why) w next same = refl
+
+leaves_client : (client uid gid : ℕ) → Leaves (Some (Client client uid gid))
+unfolding after
+leaves_client client uid gid w = either (refusal_of w (Client client uid gid)) w _ refl
+
+leaves_export : (client : ℕ) (name file : List ℕ) → Leaves (Some (Export client name file))
+unfolding after
+leaves_export client name file w = either (refusal_of w (Export client name file)) w _ refl
+
+leaves_import : (client : ℕ) (name file : List ℕ) (mode : ℕ) → Leaves (Some (Import client name file mode))
+unfolding after
+leaves_import client name file mode w = either (refusal_of w (Import client name file mode)) w _ refl
+
+leaves_rewrite : (name : List ℕ) (n : ℕ) → Leaves (Some (Rewrite name n))
+unfolding after
+leaves_rewrite name n w = either (refusal_of w (Rewrite name n)) w _ refl
+
+-- so does a step by it
+leaves_step : (command : Option Command) → Leaves command → (w : World) (said : Answer) (next : World) → StepBy w command said next → next.transactions ≡ w.transactions
+leaves_step command leaves w said next (inl done) = ap (λ (v : World). v.transactions) done.gives.rest ∙ leaves w
+leaves_step command leaves w said next (inr refused) = ap (λ (v : World). v.transactions) refused.stays
+
+-- a turn by it leaves none open where none was
+leaves_turn : (w : World) (t : Turn) → Leaves (command_of t.line) → IsTurn w t → IsIdle w → IsIdle t.next
+leaves_turn w t leaves (inl turn) idle = ap (λ (v : World). v.transactions) turn.goes_on ∙ leaves_step (command_of t.line) leaves w t.answer t.under turn.step ∙ idle
+leaves_turn w t leaves (inr turn) idle = elim turn.goes_on [ inl before ↦ ap (λ (v : World). v.transactions) before | inr behind ↦ ap (λ (v : World). v.transactions) behind ]
+
+lost_step : (w : World) (said : Answer) (next : World) (pick : ℕ) → StepBy w (Some (commands.Cut pick)) said next → IsIdle next
+lost_step w said next pick (inl done) = ap (λ (v : World). v.transactions) (done.gives.rest ∙ ap (λ (v : World). record v { shelf = next.shelf }) (world_of_cut w pick))
+lost_step w said next pick (inr refused) = absurd (may_not refused.asked (sym refused.is))
+  where
+    may_not : (c : Command) → c ≡ c → ⊥
+    may_not c e = ?
+
+-- the head and the tail of a list
+head_or : (d : List ℕ) → List (List ℕ) → List ℕ
+head_or d [] = d
+head_or d (line ∷ lines) = line
+
+tail_of : List (List ℕ) → List (List ℕ)
+tail_of [] = []
+tail_of (line ∷ lines) = lines
+
+-- each line in turn leaves open what is open
+abbrev AllLeave : List (List ℕ) → Type 0
+AllLeave [] = ⊤
+AllLeave (line ∷ lines) = Leaves (command_of line) × AllLeave lines
+
+left_idle : (w : World) (turns : List Turn) (lines : List (List ℕ)) → IsRun w turns → map (λ t. t.line) turns ≡ lines → AllLeave lines → IsIdle w → IsIdle (last_world w turns)
+left_idle w [] lines run are leave idle = idle
+left_idle w (t ∷ turns) [] run are leave idle = absurd (cc)
+left_idle w (t ∷ turns) (line ∷ lines) run are leave idle =
+    left_idle t.next turns lines run.1 (ap tail_of are) leave.1 (leaves_turn w t (subst (λ (l : List ℕ). Leaves (command_of l)) (sym (ap (head_or []) are)) leave.0) run.0 idle)
+
+-- power was lost, as the line asks for, or while it was carried out
+lost_turn : (w : World) (t : Turn) (pick : ℕ) → command_of t.line ≡ Some (commands.Cut pick) → IsTurn w t → IsIdle t.next
+lost_turn w t pick is (inl turn) = ap (λ (v : World). v.transactions) turn.goes_on ∙ lost_step w t.answer t.under pick (subst (λ (c : Option Command). StepBy w c t.answer t.under) is turn.step)
+lost_turn w t pick is (inr turn) = elim turn.goes_on [ inl before ↦ ap (λ (v : World). v.transactions) before | inr behind ↦ ap (λ (v : World). v.transactions) behind ]
+
+-- behind lines of which one is a loss of power, and those behind it leave open what is open
+idle_behind : (w : World) (turns : List Turn) (front : List (List ℕ)) (line : List ℕ) (behind : List (List ℕ)) (pick : ℕ) → IsRun w turns → map (λ t. t.line) turns ≡ front ++ line ∷ behind
+    → command_of line ≡ Some (commands.Cut pick) → AllLeave behind → IsIdle (last_world w turns)
+idle_behind w [] [] line behind pick run are cut leave = absurd (cc)
+idle_behind w (t ∷ turns) [] line behind pick run are cut leave =
+    left_idle t.next turns behind run.1 (ap tail_of are) leave (lost_turn w t pick (ap command_of (ap (head_or []) are) ∙ cut) run.0)
+idle_behind w [] (first ∷ front) line behind pick run are cut leave = absurd (cc)
+idle_behind w (t ∷ turns) (first ∷ front) line behind pick run are cut leave = idle_behind t.next turns front line behind pick run.1 (ap tail_of are) cut leave
