@@ -1,2 +1,4 @@
 pub mod LayoutListed
 pub mod Checked
+pub mod Summary
+pub mod SummaryListed

@@ -1,6 +1,6 @@
 //! The laws of what is said. The functions here do nothing; their contracts are the laws.
 
-ghost use Rattle.std.specs.Prelude.{◌≡◌, ℕ};
+ghost use Rattle.std.specs.Prelude.{◌≡◌, ℕ, List};
 ghost use Rattle.pud_defs.specs.CheckText.{check_text};
 ghost use Rattle.pud_defs.specs.Image.{Image};
 ghost use Rattle.pud_defs.specs.LayoutText.{tables_text};
@@ -10,6 +10,8 @@ ghost use Rattle.pud_defs.specs.Tables.{Tables, tables_of};
 ghost use Rattle.pud_defs.specs.World.{stored_by};
 ghost use Rattle.pud_check.specs.Checked.{listed_check};
 ghost use Rattle.pud_check.specs.LayoutListed.{listed_layout};
+ghost use Rattle.pud_check.specs.Summary.{sum_line, summary_text};
+ghost use Rattle.pud_check.specs.SummaryListed.{listed_sum, listed_summary};
 
 /// What is said of sound tables is the text of what stands where.
 pub fn sound_tables_are_laid_out()
@@ -19,4 +21,13 @@ pub fn sound_tables_are_laid_out()
 /// What is said of the pools of sound tables is the check text of the world that their image stands for.
 pub fn sound_tables_are_checked()
     ensures { (frames next : ℕ) (image : Image) → HasSoundTables next (tables_of frames image) → frames ≡ frames_of image → listed_check frames image ≡ check_text (stored_by image) }
+{}
+
+/// What is said of the pool of a name, and the summary of a generated run, of sound tables is that of the world that their image
+/// stands for.
+pub fn sound_tables_are_summed_up()
+    ensures line { (frames next : ℕ) (image : Image) → HasSoundTables next (tables_of frames image) → frames ≡ frames_of image
+        → (name : List ℕ) → listed_sum frames image name ≡ sum_line name (stored_by image) }
+    ensures summary { (frames next : ℕ) (image : Image) → HasSoundTables next (tables_of frames image) → frames ≡ frames_of image
+        → (lines refused : ℕ) → listed_summary frames image lines refused ≡ summary_text lines refused (stored_by image) }
 {}

@@ -3,6 +3,7 @@
 
 mod check;
 mod laws;
+mod sums;
 mod text;
 
 ghost use Rattle.std.specs.Prelude.{◌≡◌, ◌≢◌, ◌≤◌, ◌<◌, ℕ, Option, All, flat_map};
@@ -22,12 +23,13 @@ ghost use Rattle.puddle_table.specs.Placed.{HoldsPlaces};
 ghost use Rattle.pud_check.specs.LayoutListed.{puddle_listed, puddles_listed, pool_listed, listed_layout};
 
 pub use check::check_pools;
-pub use laws::{sound_tables_are_checked, sound_tables_are_laid_out};
+pub use laws::{sound_tables_are_checked, sound_tables_are_laid_out, sound_tables_are_summed_up};
 use pm_model::{Host, HostFault};
 use pool_table::in_order;
 use pud_defs::layout::{MACHINE_WORD, NEXT_NUMBER_WORD};
 use pud_defs::records::{MAX_PUDDLES, PoolRec};
 use puddle_table::{Places, find_places};
+pub use sums::{say_sum, say_summary};
 use text::{frames_line, pool_line, puddle_line};
 
 /// Says the line of the puddle of this ordinal of the pool of this slot, where it has one.

@@ -8,7 +8,9 @@ ghost use Rattle.pud_defs.specs.LayoutText.{address_text, frames_line, pool_line
 ghost use Rattle.pud_defs.specs.Listing.{space};
 ghost use Rattle.pud_check.specs.Checked.{objects_text, objects_line};
 ghost use Rattle.pud_check.specs.LayoutListed.{field_text, line_end, record_line};
+ghost use Rattle.pud_check.specs.Summary.{summed_text, summed_line, refused_line};
 
+use crate::sums::Summed;
 use pool_list::text::{Text, add, add_identifier, add_long, add_mode, add_name, add_number};
 use pud_defs::records::{Name, PoolRec, PuddleRec};
 use uid_make::print_uuid;
@@ -125,6 +127,48 @@ pub fn count_line(pools: u32) -> Text
     let mut text = Text::new();
     add(&mut text, b"pools ");
     add_number(&mut text, pools);
+    text.push(b'\n');
+    text
+}
+
+/// Adds ` objects O sum V`, ` wild` or ` absent`.
+fn add_summed(text: &mut Text, summed: Summed)
+    requires { array_vec_len text.old + 44 ≤ TEXT_LIMIT }
+    ensures summed { text.new.items ≡ text.old.items ++ summed_text summed }
+    ensures within { array_vec_len text.new ≤ array_vec_len text.old + 44 }
+{
+    match summed {
+        Summed::Absent => add(text, b" absent"),
+        Summed::Wild => add(text, b" wild"),
+        Summed::Objects(count, sum) => {
+            add(text, b" objects ");
+            add_number(text, count);
+            add(text, b" sum ");
+            add_long(text, sum);
+        }
+    }
+}
+
+/// `NAME objects O sum V`, `NAME wild` or `NAME absent`, at most 61 bytes.
+pub fn summed_line(name: &Name, summed: Summed) -> Text
+    ensures { result.items ≡ summed_line name.now summed }
+{
+    let mut text = Text::new();
+    add_name(&mut text, name);
+    add_summed(&mut text, summed);
+    text.push(b'\n');
+    text
+}
+
+/// `lines L refused R`, at most 36 bytes.
+pub fn refused_line(lines: u32, refused: u32) -> Text
+    ensures { result.items ≡ refused_line lines refused }
+{
+    let mut text = Text::new();
+    add(&mut text, b"lines ");
+    add_number(&mut text, lines);
+    add(&mut text, b" refused ");
+    add_number(&mut text, refused);
     text.push(b'\n');
     text
 }

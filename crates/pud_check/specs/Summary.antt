@@ -1,0 +1,68 @@
+-- What is said when a generated run has ended: how many lines it had, and how many objects its two pools have, with the sum of the
+-- numbers that these hold.
+use Rattle.std.specs.Prelude.{ℕ, ◌%◌, ◌^◌, List, ◌++◌, length, replicate, sum_by, codes, decimal, Option, Some, None, option_map}
+use Rattle.pud_defs.specs.declared.objects.Val.{Val}
+use Rattle.pud_defs.specs.declared.objects.Val.TheVariants.{Num, Ref}
+use Rattle.pud_defs.specs.Graph.{Object, Graph}
+use Rattle.pud_defs.specs.Holdings.{Holding}
+use Rattle.pud_defs.specs.Holdings.Holding.{Sound, Wild}
+use Rattle.pud_defs.specs.World.{StoredWorld}
+use Rattle.pud_defs.specs.PoolChanges.{pool_named}
+use Rattle.pud_defs.specs.Texts.{line_of}
+use Rattle.pud_defs.specs.Listing.{name_text}
+use Rattle.pud_check.specs.declared.sums.Summed.{Summed}
+use Rattle.pud_check.specs.declared.sums.Summed.TheVariants as sums
+
+-- ---- the sum
+
+-- what a field counts: a number itself, and a pointer nothing
+abbrev pub number_in : Val → ℕ
+number_in (Num v) = v
+number_in (Ref s) = 0
+
+-- the sum of the number fields of an object
+abbrev pub numbers_of : Object → ℕ
+numbers_of o = sum_by number_in o.fields
+
+-- the sum of the number fields of all objects, modulo 2^64
+abbrev pub number_sum : Graph → ℕ
+number_sum g = sum_by (λ e. numbers_of e.1) g.objects % 2 ^ 64
+
+-- ---- the line of a pool
+
+-- what a pool holds, summed up, where there is one
+abbrev pub summed : Option Holding → Summed
+summed None = sums.Absent
+summed (Some (Wild st)) = sums.Wild
+summed (Some (Sound g)) = sums.Objects (length g.objects) (number_sum g)
+
+-- `objects O sum V`, `wild` or `absent`
+abbrev pub summed_text : Summed → List ℕ
+summed_text sums.Absent = codes " absent"
+summed_text sums.Wild = codes " wild"
+summed_text (sums.Objects count sum) = codes " objects " ++ decimal count ++ codes " sum " ++ decimal sum
+
+-- the same under the pool's name
+abbrev pub summed_line : (name : List ℕ) → Summed → List ℕ
+summed_line name what = line_of (name_text name ++ summed_text what)
+
+-- the line of the pool of a name
+unfoldable pub sum_line : (name : List ℕ) → StoredWorld → List ℕ
+sum_line name s = summed_line name (summed (option_map (λ p. p.holding) (pool_named name s)))
+
+-- ---- all of it
+
+-- the pool that a generated run makes, and the one that it imports
+abbrev pub gen_pool : List ℕ
+gen_pool = codes "gen" ++ replicate 13 0
+
+abbrev pub copy_pool : List ℕ
+copy_pool = codes "copy" ++ replicate 12 0
+
+-- `lines L refused R`
+abbrev pub refused_line : (lines refused : ℕ) → List ℕ
+refused_line lines refused = line_of (codes "lines " ++ decimal lines ++ codes " refused " ++ decimal refused)
+
+-- what is said behind so many lines, of which so many were refused
+unfoldable pub summary_text : (lines refused : ℕ) → StoredWorld → List ℕ
+summary_text lines refused s = refused_line lines refused ++ sum_line gen_pool s ++ sum_line copy_pool s
