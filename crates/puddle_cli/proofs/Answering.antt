@@ -56,7 +56,7 @@ said_of-one false t = refl
 
 -- ---- and which world an image stands for meanwhile
 
-among_first : (size : ℕ) (w : World) (turns : List Turn) (image : Image) → world_of size image ≡ Some (closed w) → StandsAmong size w turns image
+pub among_first : (size : ℕ) (w : World) (turns : List Turn) (image : Image) → world_of size image ≡ Some (closed w) → StandsAmong size w turns image
 among_first size w [] image is = is
 among_first size w (t ∷ turns) image is = inl is
 
@@ -66,7 +66,7 @@ among_more size w (t ∷ turns) more image (inl p) = inl p
 among_more size w (t ∷ turns) more image (inr (inl p)) = inr (inl p)
 among_more size w (t ∷ turns) more image (inr (inr p)) = inr (inr (among_more size t.next turns more image p))
 
-among_later : (size : ℕ) (w : World) (turns more : List Turn) (image : Image) → StandsAmong size (last_world w turns) more image → StandsAmong size w (turns ++ more) image
+pub among_later : (size : ℕ) (w : World) (turns more : List Turn) (image : Image) → StandsAmong size (last_world w turns) more image → StandsAmong size w (turns ++ more) image
 among_later size w [] more image p = p
 among_later size w (t ∷ turns) more image p = inr (inr (among_later size t.next turns more image p))
 

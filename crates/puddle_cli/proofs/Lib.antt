@@ -8,3 +8,5 @@ pub mod Running
 pub mod GeneratedLines
 pub mod PlainLines
 pub mod NoneOpen
+pub mod Stored
+pub mod Generating

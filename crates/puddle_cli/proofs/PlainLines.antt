@@ -1,9 +1,10 @@
 -- Generated lines are short and have no newline.
-use Rattle.std.proofs.Common.{◌≡◌, ℕ, zero, suc, ◌+◌, ◌/◌, ◌%◌, ◌<◌, ◌≤◌, Bool, true, false, cond, eqb, List, [], ◌∷◌, ◌++◌, length, codes, refl, sym, ap, ◌∙◌, arith, length-append}
+use Rattle.std.proofs.Common.{◌≡◌, ℕ, zero, suc, ◌+◌, ◌*◌, ◌/◌, ◌%◌, ◌<◌, ◌≤◌, Bool, true, false, cond, eqb, List, [], ◌∷◌, ◌++◌, length, codes, refl, sym, ap, ◌∙◌, arith, length-append}
 use Rattle.std.specs.Prelude.{All, get_or, decimal, flat_map, ⊤}
 use Rattle.std.specs.Fmt.{digits, digits_onto, digit_glyph}
 use Rattle.std.specs.List.{range_with_len}
 use Rattle.std.proofs.lemmas.List.Elements.{All-append}
+use Rattle.std.proofs.lemmas.List.FromFn.{length-range_with_len}
 use Rattle.pud_defs.specs.declared.machine.Reply.TheVariants as replies
 use Rattle.pud_defs.specs.Run.{newlines}
 use Rattle.pud_defs.specs.Texts.{line_of, reply_text}
@@ -124,3 +125,18 @@ plain_lines seed n =
     let objects = flat_map (λ i. object_lines i (number_at seed i)) (range_with_len 1 n) in
     All-append IsPlainLine (opening_lines ++ objects) closing_lines
     (All-append IsPlainLine opening_lines objects plain_opening (plain_objects seed (range_with_len 1 n))) plain_closing
+
+-- ---- how many there are
+
+length_objects : (seed : ℕ) (objects : List ℕ) → length (flat_map (λ i. object_lines i (number_at seed i)) objects) ≡ 5 * length objects
+length_objects seed [] = omega arith
+length_objects seed (i ∷ objects) =
+    let rest = length_objects seed objects in
+    omega (arith, rest, length-append (object_lines i (number_at seed i)) (flat_map (λ j. object_lines j (number_at seed j)) objects))
+
+pub length-gen_lines : (seed n : ℕ) → length (gen_lines seed n) ≡ 5 * n + 11
+unfolding gen_lines
+length-gen_lines seed n =
+    let objects = flat_map (λ i. object_lines i (number_at seed i)) (range_with_len 1 n) in
+    let count = length_objects seed (range_with_len 1 n) in
+    omega (arith, count, length-range_with_len 1 n, length-append (opening_lines ++ objects) closing_lines, length-append opening_lines objects)

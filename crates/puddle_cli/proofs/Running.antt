@@ -255,7 +255,7 @@ module _ (size : ℕ) (w : World) (start : State) (rested : IsRested start.now.w
       }
 
 -- a world without clients, in which nothing is open, is as a start leaves it
-is_started : (w : World) → w.clients ≡ no_clients → w.transactions ≡ nothing_open → restart w ≡ w
+pub is_started : (w : World) → w.clients ≡ no_clients → w.transactions ≡ nothing_open → restart w ≡ w
 is_started w none nothing = λ i. record w { clients = sym none i; transactions = sym nothing i }
 
 -- the status by how the script was answered

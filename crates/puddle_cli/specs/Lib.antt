@@ -5,5 +5,6 @@ pub mod Generated
 pub mod Serving
 pub mod Replying
 pub mod Headline
+pub mod Generating
 pub mod Views
 pub mod Modes

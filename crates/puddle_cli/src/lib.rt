@@ -2,6 +2,7 @@
 #![tactic(auto)]
 
 mod format;
+mod generate;
 mod generated;
 mod piece;
 mod run;
