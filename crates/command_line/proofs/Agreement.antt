@@ -14,12 +14,12 @@ use Rattle.clap.proofs.OnLiterals.{clap_on_literals}
 use Rattle.clap.proofs.FaultLemmas.{stopped_fault}
 use Rattle.clap.proofs.WalkLemmas.{walk_stopped}
 use Rattle.command_line.specs.declared.modes.Mode.{Mode}
-use Rattle.command_line.specs.CommandLine.{mode_alone, mode_by, mode_of, without_dashes}
+use Rattle.command_line.specs.CommandLine.{format_of, gen_of, mode_alone, mode_by, mode_of, without_dashes}
 use Rattle.command_line.specs.Parsing.{mode_found, mode_named, mode_of_words, the_command, where_faultless}
 use Rattle.command_line.proofs.WordKinds.{WordKind, dashes, positional, refused, word_kind}
 use Rattle.command_line.proofs.Turns.{GoesOn, dashes_lead, dashes_pass, refused_fails, standing, value_goes_on}
 use Rattle.command_line.proofs.Levels.{outcome}
-use Rattle.command_line.proofs.ModeLevels.{alone, built_level, format_level, frames_front, if_alone}
+use Rattle.command_line.proofs.ModeLevels.{alone, built_level, format_front, gen_front, if_alone, of_two, level_of_two}
 
 abbrev command : App
 command = built the_command
@@ -70,34 +70,53 @@ module _ (name word : Text) (words : List Text) (s : Shape)
       ∙ ap (λ ks. where_faultless ks (mode_named s.name (finished s.rules (fold (walked s.rules []) start words).held)))
       (no_more (level_fault s [] nothing_held words false []))
 
+-- the modes of two numbers
+format_words : (words : List Text) → of_two format_of words ≡ mode_by (codes "format") words
+format_words [] = refl
+format_words (first ∷ []) = refl
+format_words (first ∷ second ∷ []) = refl
+format_words (first ∷ second ∷ third ∷ words) = refl
+
 format_enters : (name : Text) (words : List Text) → mode_of_words (name ∷ codes "format" ∷ words) ≡ mode_of (name ∷ codes "format" ∷ words)
 unfolding clap_on_literals
-format_enters name words = enters name (codes "format") words format_level refl refl refl ∙ frames_front words
+format_enters name words =
+    enters name (codes "format") words (level_of_two (codes "format") (codes "frames") (codes "id")) refl refl refl ∙ format_front words ∙ format_words (without_dashes words)
 
--- a mode's word has no words behind it
-none_behind : (word : Text) (words : List Text) → bytes_eq word (codes "format") ≡ false → if_alone (mode_alone word) words ≡ mode_by word words
-none_behind word [] other = refl
-none_behind word (first ∷ []) other = refl
-none_behind word (first ∷ second ∷ []) other = rw other refl
-none_behind word (first ∷ second ∷ third ∷ words) other = refl
+gen_words : (words : List Text) → of_two gen_of words ≡ mode_by (codes "gen") words
+gen_words [] = refl
+gen_words (first ∷ []) = refl
+gen_words (first ∷ second ∷ []) = refl
+gen_words (first ∷ second ∷ third ∷ words) = refl
+
+gen_enters : (name : Text) (words : List Text) → mode_of_words (name ∷ codes "gen" ∷ words) ≡ mode_of (name ∷ codes "gen" ∷ words)
+unfolding clap_on_literals
+gen_enters name words =
+    enters name (codes "gen") words (level_of_two (codes "gen") (codes "seed") (codes "count")) refl refl refl ∙ gen_front words ∙ gen_words (without_dashes words)
+
+-- any other mode's word has no words behind it
+none_behind : (word : Text) (words : List Text) → bytes_eq word (codes "format") ≡ false → bytes_eq word (codes "gen") ≡ false → if_alone (mode_alone word) words ≡ mode_by word words
+none_behind word [] no_format no_gen = refl
+none_behind word (first ∷ []) no_format no_gen = refl
+none_behind word (first ∷ second ∷ []) no_format no_gen = rw (no_format, no_gen) refl
+none_behind word (first ∷ second ∷ third ∷ words) no_format no_gen = refl
 
 run_enters : (name : Text) (words : List Text) → mode_of_words (name ∷ codes "run" ∷ words) ≡ mode_of (name ∷ codes "run" ∷ words)
 unfolding clap_on_literals
 run_enters name words =
     enters name (codes "run") words (built_level (codes "run") []) refl refl refl ∙ alone (codes "run") (mode_named (codes "run")) words
-    ∙ none_behind (codes "run") (without_dashes words) refl
+    ∙ none_behind (codes "run") (without_dashes words) refl refl
 
 layout_enters : (name : Text) (words : List Text) → mode_of_words (name ∷ codes "layout" ∷ words) ≡ mode_of (name ∷ codes "layout" ∷ words)
 unfolding clap_on_literals
 layout_enters name words =
     enters name (codes "layout") words (built_level (codes "layout") []) refl refl refl ∙ alone (codes "layout") (mode_named (codes "layout")) words
-    ∙ none_behind (codes "layout") (without_dashes words) refl
+    ∙ none_behind (codes "layout") (without_dashes words) refl refl
 
 check_enters : (name : Text) (words : List Text) → mode_of_words (name ∷ codes "check" ∷ words) ≡ mode_of (name ∷ codes "check" ∷ words)
 unfolding clap_on_literals
 check_enters name words =
     enters name (codes "check") words (built_level (codes "check") []) refl refl refl ∙ alone (codes "check") (mode_named (codes "check")) words
-    ∙ none_behind (codes "check") (without_dashes words) refl
+    ∙ none_behind (codes "check") (without_dashes words) refl refl
 
 -- ---- any other word
 
@@ -106,18 +125,18 @@ same_both_ways xs ys differ = false_from_ne_true (bytes_eq ys xs) (λ same.
     true≢false (sym ((bytes_eq-Decides xs ys).1 (sym ((bytes_eq-Decides ys xs).0 same))) ∙ differ))
 
 module _ (name word : Text) (words : List Text) (no_format : bytes_eq word (codes "format") ≡ false) (no_run : bytes_eq word (codes "run") ≡ false)
-    (no_layout : bytes_eq word (codes "layout") ≡ false) (no_check : bytes_eq word (codes "check") ≡ false) where
+    (no_layout : bytes_eq word (codes "layout") ≡ false) (no_check : bytes_eq word (codes "check") ≡ false) (no_gen : bytes_eq word (codes "gen") ≡ false) where
   -- it is no mode
   is_no_mode : (args : List Text) → mode_by word args ≡ None
   is_no_mode [] = rw (no_run, no_layout, no_check) refl
   is_no_mode (first ∷ []) = refl
-  is_no_mode (first ∷ second ∷ []) = rw no_format refl
+  is_no_mode (first ∷ second ∷ []) = rw (no_format, no_gen) refl
   is_no_mode (first ∷ second ∷ third ∷ args) = refl
 
   -- it names no subcommand
   is_plain : subcommand_met names idle word ≡ None
   is_plain =
-      rw (same_both_ways word (codes "format") no_format, same_both_ways word (codes "run") no_run, same_both_ways word (codes "layout") no_layout, same_both_ways word (codes "check") no_check) refl
+      rw (same_both_ways word (codes "format") no_format, same_both_ways word (codes "run") no_run, same_both_ways word (codes "layout") no_layout, same_both_ways word (codes "check") no_check, same_both_ways word (codes "gen") no_gen) refl
 
   -- a parse fails where the first word does
   fails_at_once : (kind : ErrorKind) (kinds : Kinds) → turn_fault command.top names start word ≡ kind ∷ kinds → mode_of_words (name ∷ word ∷ words) ≡ None
@@ -155,11 +174,17 @@ module _ (name word : Text) (words : List Text) where
   by_word : (mode : Text) → bytes_eq word mode ≡ true → Agrees mode → Agrees word
   by_word mode same agrees = subst Agrees (sym ((bytes_eq-Decides word mode).0 same)) agrees
 
+  by_gen : (b : Bool) → bytes_eq word (codes "gen") ≡ b → bytes_eq word (codes "format") ≡ false → bytes_eq word (codes "run") ≡ false → bytes_eq word (codes "layout") ≡ false
+      → bytes_eq word (codes "check") ≡ false → Agrees word
+  by_gen true same no_format no_run no_layout no_check = by_word (codes "gen") same (gen_enters name words)
+  by_gen false differ no_format no_run no_layout no_check =
+      refuses name word words no_format no_run no_layout no_check differ
+      ∙ sym (is_no_mode name word words no_format no_run no_layout no_check differ (without_dashes words))
+
   by_check : (b : Bool) → bytes_eq word (codes "check") ≡ b → bytes_eq word (codes "format") ≡ false → bytes_eq word (codes "run") ≡ false → bytes_eq word (codes "layout") ≡ false
       → Agrees word
   by_check true same no_format no_run no_layout = by_word (codes "check") same (check_enters name words)
-  by_check false differ no_format no_run no_layout =
-      refuses name word words no_format no_run no_layout differ ∙ sym (is_no_mode name word words no_format no_run no_layout differ (without_dashes words))
+  by_check false differ no_format no_run no_layout = by_gen (bytes_eq word (codes "gen")) refl no_format no_run no_layout differ
 
   by_layout : (b : Bool) → bytes_eq word (codes "layout") ≡ b → bytes_eq word (codes "format") ≡ false → bytes_eq word (codes "run") ≡ false → Agrees word
   by_layout true same no_format no_run = by_word (codes "layout") same (layout_enters name words)

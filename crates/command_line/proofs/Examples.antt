@@ -1,7 +1,7 @@
 -- What words ask for, by computation.
 use Rattle.std.specs.Prelude.{◌≡◌, [], ◌∷◌, Some, None, codes, refl}
 use Rattle.pud_defs.specs.Grammar.{number_of}
-use Rattle.command_line.specs.declared.modes.Mode.TheVariants.{Format, Run, Layout, Check}
+use Rattle.command_line.specs.declared.modes.Mode.TheVariants.{Format, Run, Layout, Check, Gen}
 use Rattle.command_line.specs.CommandLine.{mode_of}
 
 -- each mode
@@ -26,6 +26,18 @@ layout = refl
 check : mode_of (codes "puddle" ∷ codes "check" ∷ []) ≡ Some Check
 check = refl
 
+gen : mode_of (codes "puddle" ∷ codes "gen" ∷ codes "1" ∷ codes "3" ∷ []) ≡ Some (Gen 1 3)
+unfolding number_of
+gen = refl
+
+least_of_gen : mode_of (codes "puddle" ∷ codes "gen" ∷ codes "0" ∷ codes "1" ∷ []) ≡ Some (Gen 0 1)
+unfolding number_of
+least_of_gen = refl
+
+most_of_gen : mode_of (codes "puddle" ∷ codes "gen" ∷ codes "65535" ∷ codes "992" ∷ []) ≡ Some (Gen 65535 992)
+unfolding number_of
+most_of_gen = refl
+
 -- too few words and too many
 nothing : mode_of [] ≡ None
 nothing = refl
@@ -48,6 +60,12 @@ layout_of_a_number = refl
 check_now : mode_of (codes "puddle" ∷ codes "check" ∷ codes "now" ∷ []) ≡ None
 check_now = refl
 
+seed_alone : mode_of (codes "puddle" ∷ codes "gen" ∷ codes "1" ∷ []) ≡ None
+seed_alone = refl
+
+third_number_of_gen : mode_of (codes "puddle" ∷ codes "gen" ∷ codes "1" ∷ codes "3" ∷ codes "3" ∷ []) ≡ None
+third_number_of_gen = refl
+
 -- numbers out of range and in another form
 too_few_frames : mode_of (codes "puddle" ∷ codes "format" ∷ codes "3" ∷ codes "7" ∷ []) ≡ None
 unfolding number_of
@@ -60,6 +78,18 @@ too_many_frames = refl
 too_large_an_id : mode_of (codes "puddle" ∷ codes "format" ∷ codes "4" ∷ codes "18446744073709551616" ∷ []) ≡ None
 unfolding number_of
 too_large_an_id = refl
+
+too_large_a_seed : mode_of (codes "puddle" ∷ codes "gen" ∷ codes "65536" ∷ codes "3" ∷ []) ≡ None
+unfolding number_of
+too_large_a_seed = refl
+
+no_objects : mode_of (codes "puddle" ∷ codes "gen" ∷ codes "1" ∷ codes "0" ∷ []) ≡ None
+unfolding number_of
+no_objects = refl
+
+too_many_objects : mode_of (codes "puddle" ∷ codes "gen" ∷ codes "1" ∷ codes "993" ∷ []) ≡ None
+unfolding number_of
+too_many_objects = refl
 
 sign : mode_of (codes "puddle" ∷ codes "format" ∷ codes "+4" ∷ codes "7" ∷ []) ≡ None
 unfolding number_of
@@ -120,6 +150,10 @@ dashes_before_frames = refl
 dashes_between : mode_of (codes "puddle" ∷ codes "format" ∷ codes "4" ∷ codes "--" ∷ codes "7" ∷ []) ≡ Some (Format 4 7)
 unfolding number_of
 dashes_between = refl
+
+dashes_within_gen : mode_of (codes "puddle" ∷ codes "gen" ∷ codes "1" ∷ codes "--" ∷ codes "3" ∷ []) ≡ Some (Gen 1 3)
+unfolding number_of
+dashes_within_gen = refl
 
 dashes_at_the_end : mode_of (codes "puddle" ∷ codes "format" ∷ codes "4" ∷ codes "7" ∷ codes "--" ∷ []) ≡ Some (Format 4 7)
 unfolding number_of

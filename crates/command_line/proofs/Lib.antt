@@ -5,3 +5,5 @@ pub mod Levels
 pub mod ModeLevels
 pub mod Agreement
 pub mod Reading
+pub mod LegalModes
+pub mod TextsFound

@@ -1,19 +1,20 @@
 -- What the words behind each mode's word come to.
-use Rattle.std.proofs.Common.{◌≡◌, ◌∙◌, ◌^◌, ◌+◌, ℕ, Bool, cond, codes, true, false, refl, sym, ap, List, [], ◌∷◌, Option, Some, None}
+use Rattle.std.proofs.Common.{◌≡◌, ◌∙◌, ◌^◌, ◌+◌, ℕ, Bool, cond, ◌||◌, codes, true, false, refl, sym, ap, List, [], ◌∷◌, Option, Some, None}
 use Rattle.std.specs.Prelude.{bytes_eq, option_and_then, option_map}
 use Rattle.pud_defs.specs.declared.layout.TheConstants.{MIN_FRAMES, MAX_FRAMES}
 use Rattle.pud_defs.specs.Grammar.{number_within}
-use Rattle.clap.specs.Walk.{Row, Rule, Text, Walk, used}
+use Rattle.clap.specs.Walk.{Row, Rule, Text, Walk, after_step, used, value}
 use Rattle.clap.specs.Simple.{Shape, filled, new_shape, with_index}
-use Rattle.clap.specs.Faults.{defaults_fault}
+use Rattle.clap.specs.Faults.{defaults_fault, step_fault}
 use Rattle.clap.specs.declared.error.kind.ErrorKind.TheVariants.{UnknownArgument}
 use Rattle.command_line.specs.declared.modes.Mode.{Mode}
-use Rattle.command_line.specs.declared.modes.Mode.TheVariants.{Format}
-use Rattle.command_line.specs.CommandLine.{mode_by, without_dashes}
-use Rattle.command_line.specs.Parsing.{format_found, number_rule}
-use Rattle.command_line.proofs.WordKinds.{HasNoOptions, WordKind, dashes, positional, refused, word_kind}
+use Rattle.command_line.specs.declared.modes.Mode.TheVariants.{Format, Gen}
+use Rattle.command_line.specs.declared.modes.TheConstants.{MAX_SEED, MAX_OBJECTS}
+use Rattle.command_line.specs.CommandLine.{format_of, gen_of, without_dashes}
+use Rattle.command_line.specs.Parsing.{number_rule, numbers_found}
+use Rattle.command_line.proofs.WordKinds.{HasNoOptions, WordKind, dashes, holding, positional, refused, word_kind}
 use Rattle.command_line.proofs.Turns.{GoesOn, behind_dashes, standing, value_goes_on}
-use Rattle.command_line.proofs.Levels.{at_refused, ends, outcome, past_dashes, stray, taken}
+use Rattle.command_line.proofs.Levels.{at_refused, ending, ends, outcome, past_dashes, stray, taken}
 
 -- the subcommand of a mode, as building leaves it
 abbrev pub built_level : Text → List Rule → Shape
@@ -60,132 +61,198 @@ module _ (name : Text) (mode : List Row → Option Mode) where
           stray (built_level name []) mode [] None 1 word words false (value_goes_on (built_level name []) [] [] None 1 word refl test is) UnknownArgument [] refl
           ∙ sym (front (if_alone (mode [])) word words false test)
 
--- ---- `format F ID`
+-- ---- a mode of two numbers
 
 abbrev ready : ℕ → Text → Rule
 ready place id = with_index place (filled (number_rule id))
-
-abbrev pub format_level : Shape
-format_level = built_level (codes "format") (ready 1 (codes "frames") ∷ ready 2 (codes "id") ∷ [])
-
-format_has_no_options : HasNoOptions format_level.rules
-format_has_no_options = record { long = λ _. refl; short = λ _. refl }
-
--- the row of a number of frames that is read
-abbrev frames_row : Text → List Row
-frames_row frames = used (ready 1 (codes "frames")) (frames ∷ []) []
 
 -- an argument and its word
 abbrev pending : Text → Text → Option (Text × List Text)
 pending id word = Some (id, word ∷ [])
 
--- the mode of a front of the arguments and the words behind them
-abbrev by_format : List Text → Option Mode
-by_format = mode_by (codes "format")
+-- the mode of the words behind its word
+abbrev pub of_two : (Text → Text → Option Mode) → List Text → Option Mode
+of_two mode (first ∷ second ∷ []) = mode first second
+of_two mode words = None
 
--- before the number of frames, before the machine id, and behind both
-abbrev at_frames : Bool → Walk
-at_frames = standing [] None 1
+-- what is no number is neither of the two
+pub record ReadsNumbers (mode : Text → Text → Option Mode) : Type 0 where
+  pub first : (word second : Text) → ((least end : ℕ) → number_within least end word ≡ None) → mode word second ≡ None
+  pub second : (first word : Text) → ((least end : ℕ) → number_within least end word ≡ None) → mode first word ≡ None
 
-abbrev at_id : Text → Bool → Walk
-at_id frames = standing [] (pending (codes "frames") frames) 2
+-- the subcommand of such a mode
+abbrev pub level_of_two : (word first second : Text) → Shape
+level_of_two word first second = built_level word (ready 1 first ∷ ready 2 second ∷ [])
 
-abbrev at_end : Text → Text → Bool → Walk
-at_end frames id = standing (frames_row frames) (pending (codes "id") id) 3
+-- before the first number, before the second, and behind both
+abbrev at_first : Bool → Walk
+at_first = standing [] None 1
 
-abbrev formats : Walk → List Text → Option Mode
-formats = outcome format_level format_found
+abbrev at_second : (first a : Text) → Bool → Walk
+at_second first a = standing [] (pending first a) 2
 
--- what is no number is neither
-no_frames : (word : Text) (words : List Text) → ((least end : ℕ) → number_within least end word ≡ None) → by_format (word ∷ words) ≡ None
-no_frames word [] none = refl
-no_frames word (id ∷ []) none =
-    ap (option_and_then (λ F. option_map (λ machine. Format F machine) (number_within 0 (2 ^ 64) id))) (none MIN_FRAMES (MAX_FRAMES + 1))
-no_frames word (id ∷ third ∷ words) none = refl
+-- the row of a first number that is read
+abbrev row_of_first : (first a : Text) → List Row
+row_of_first first a = used (ready 1 first) (a ∷ []) []
 
-never : (o : Option ℕ) → ◌≡◌ {A = Option Mode} (option_and_then (λ (F : ℕ). None) o) None
-never None = refl
-never (Some n) = refl
+abbrev at_end : (first second a b : Text) → Bool → Walk
+at_end first second a b = standing (row_of_first first a) (pending second b) 3
 
-no_id : (frames word : Text) (words : List Text) → ((least end : ℕ) → number_within least end word ≡ None) → by_format (frames ∷ word ∷ words) ≡ None
-no_id frames word [] none =
-    ap (λ o. option_and_then (λ F. option_map (λ machine. Format F machine) o) (number_within MIN_FRAMES (MAX_FRAMES + 1) frames)) (none 0 (2 ^ 64))
-    ∙ never (number_within MIN_FRAMES (MAX_FRAMES + 1) frames)
-no_id frames word (third ∷ words) none = refl
+module _ (word first second : Text) (mode : Text → Text → Option Mode) where
+  abbrev two_level : Shape
+  two_level = level_of_two word first second
 
--- behind both arguments
-module _ (frames id : Text) where
-  -- a third is too many
-  end_at : (word : Text) (words : List Text) (behind : Bool) → GoesOn format_level [] (frames_row frames) (pending (codes "id") id) 3 word behind
-      → formats (at_end frames id behind) (word ∷ words) ≡ None
-  end_at word words behind on = stray format_level format_found (frames_row frames) (pending (codes "id") id) 3 word words behind on UnknownArgument [] refl
+  abbrev found : List Row → Option Mode
+  found = numbers_found mode first second
 
-  end_behind : (words : List Text) → formats (at_end frames id true) words ≡ by_format (frames ∷ id ∷ words)
-  unfolding defaults_fault
-  end_behind [] = ends format_level format_found (at_end frames id true)
-  end_behind (word ∷ words) = end_at word words true (behind_dashes format_level [] (frames_row frames) (pending (codes "id") id) 3 word)
+  -- Each place takes a word, and there is no third. At the end both numbers have to be there.
+  pub record TakesTwo : Type 0 where
+    pub first_fault : step_fault two_level 1 (holding [] None) value ≡ []
+    pub first_taken : (a : Text) (behind : Bool) → after_step two_level.rules a (at_first behind) (holding [] None) value ≡ at_second first a behind
+    pub second_fault : (a : Text) → step_fault two_level 2 (holding [] (pending first a)) value ≡ []
+    pub second_taken : (a b : Text) (behind : Bool) → after_step two_level.rules b (at_second first a behind) (holding [] (pending first a)) value ≡ at_end first second a b behind
+    pub third_fault : (a b : Text) → step_fault two_level 3 (holding (row_of_first first a) (pending second b)) value ≡ UnknownArgument ∷ []
+    pub none_there : (behind : Bool) → ending two_level found [] (at_first behind).held ≡ None
+    pub one_there : (a : Text) (behind : Bool) → ending two_level found [] (at_second first a behind).held ≡ None
+    pub both_there : (a b : Text) (behind : Bool) → ending two_level found [] (at_end first second a b behind).held ≡ mode a b
 
-  end_front : (words : List Text) → formats (at_end frames id false) words ≡ by_format (frames ∷ id ∷ without_dashes words)
-  unfolding defaults_fault
-  end_front [] = ends format_level format_found (at_end frames id false)
-  end_front (word ∷ words) = by_kind (word_kind format_level.rules format_has_no_options word)
-    where
-      by_kind : WordKind format_level.rules word → formats (at_end frames id false) (word ∷ words) ≡ by_format (frames ∷ id ∷ without_dashes (word ∷ words))
-      by_kind (dashes test) =
-          past_dashes format_level format_found (frames_row frames) (pending (codes "id") id) 3 word words test ∙ end_behind words
-          ∙ sym (front (λ args. by_format (frames ∷ id ∷ args)) word words true test)
-      by_kind (refused test is) =
-          at_refused format_level format_found (frames_row frames) (pending (codes "id") id) 3 word words test is
-          ∙ sym (front (λ args. by_format (frames ∷ id ∷ args)) word words false test)
-      by_kind (positional test is) =
-          end_at word words false (value_goes_on format_level [] (frames_row frames) (pending (codes "id") id) 3 word refl test is)
-          ∙ sym (front (λ args. by_format (frames ∷ id ∷ args)) word words false test)
+  module _ (reads : ReadsNumbers mode) (takes : TakesTwo) where
+    abbrev comes : Walk → List Text → Option Mode
+    comes = outcome two_level found
 
--- before the machine id
-module _ (frames : Text) where
-  id_behind : (words : List Text) → formats (at_id frames true) words ≡ by_format (frames ∷ words)
-  unfolding defaults_fault
-  id_behind [] = ends format_level format_found (at_id frames true)
-  id_behind (word ∷ words) =
-      taken format_level format_found [] (pending (codes "frames") frames) 2 word words true
-      (behind_dashes format_level [] [] (pending (codes "frames") frames) 2 word) (at_end frames word true) refl refl
-      ∙ end_behind frames word words
+    no_options : HasNoOptions two_level.rules
+    no_options = record { long = λ _. refl; short = λ _. refl }
 
-  id_front : (words : List Text) → formats (at_id frames false) words ≡ by_format (frames ∷ without_dashes words)
-  unfolding defaults_fault
-  id_front [] = ends format_level format_found (at_id frames false)
-  id_front (word ∷ words) = by_kind (word_kind format_level.rules format_has_no_options word)
-    where
-      by_kind : WordKind format_level.rules word → formats (at_id frames false) (word ∷ words) ≡ by_format (frames ∷ without_dashes (word ∷ words))
-      by_kind (dashes test) =
-          past_dashes format_level format_found [] (pending (codes "frames") frames) 2 word words test ∙ id_behind words
-          ∙ sym (front (λ args. by_format (frames ∷ args)) word words true test)
-      by_kind (refused test is) =
-          at_refused format_level format_found [] (pending (codes "frames") frames) 2 word words test is
-          ∙ sym (front (λ args. by_format (frames ∷ args)) word words false test ∙ no_id frames word (without_dashes words) is.number)
-      by_kind (positional test is) =
-          taken format_level format_found [] (pending (codes "frames") frames) 2 word words false
-          (value_goes_on format_level [] [] (pending (codes "frames") frames) 2 word refl test is) (at_end frames word false) refl refl
-          ∙ end_front frames word words ∙ sym (front (λ args. by_format (frames ∷ args)) word words false test)
+    no_first : (w : Text) (words : List Text) → ((least end : ℕ) → number_within least end w ≡ None) → of_two mode (w ∷ words) ≡ None
+    no_first w [] none = refl
+    no_first w (b ∷ []) none = reads.first w b none
+    no_first w (b ∷ third ∷ words) none = refl
 
--- before the number of frames
-frames_behind : (words : List Text) → formats (at_frames true) words ≡ by_format words
+    no_second : (a w : Text) (words : List Text) → ((least end : ℕ) → number_within least end w ≡ None) → of_two mode (a ∷ w ∷ words) ≡ None
+    no_second a w [] none = reads.second a w none
+    no_second a w (third ∷ words) none = refl
+
+    -- behind both numbers
+    module _ (a b : Text) where
+      -- a third is too many
+      third_at : (w : Text) (words : List Text) (behind : Bool) → GoesOn two_level [] (row_of_first first a) (pending second b) 3 w behind
+          → comes (at_end first second a b behind) (w ∷ words) ≡ None
+      third_at w words behind on = stray two_level found (row_of_first first a) (pending second b) 3 w words behind on UnknownArgument [] (takes.third_fault a b)
+
+      end_behind : (words : List Text) → comes (at_end first second a b true) words ≡ of_two mode (a ∷ b ∷ words)
+      end_behind [] = ends two_level found (at_end first second a b true) ∙ takes.both_there a b true
+      end_behind (w ∷ words) = third_at w words true (behind_dashes two_level [] (row_of_first first a) (pending second b) 3 w)
+
+      end_front : (words : List Text) → comes (at_end first second a b false) words ≡ of_two mode (a ∷ b ∷ without_dashes words)
+      end_front [] = ends two_level found (at_end first second a b false) ∙ takes.both_there a b false
+      end_front (w ∷ words) = by_kind (word_kind two_level.rules no_options w)
+        where
+          by_kind : WordKind two_level.rules w → comes (at_end first second a b false) (w ∷ words) ≡ of_two mode (a ∷ b ∷ without_dashes (w ∷ words))
+          by_kind (dashes test) =
+              past_dashes two_level found (row_of_first first a) (pending second b) 3 w words test ∙ end_behind words
+              ∙ sym (front (λ args. of_two mode (a ∷ b ∷ args)) w words true test)
+          by_kind (refused test is) =
+              at_refused two_level found (row_of_first first a) (pending second b) 3 w words test is
+              ∙ sym (front (λ args. of_two mode (a ∷ b ∷ args)) w words false test)
+          by_kind (positional test is) =
+              third_at w words false (value_goes_on two_level [] (row_of_first first a) (pending second b) 3 w refl test is)
+              ∙ sym (front (λ args. of_two mode (a ∷ b ∷ args)) w words false test)
+
+    -- before the second number
+    module _ (a : Text) where
+      second_behind : (words : List Text) → comes (at_second first a true) words ≡ of_two mode (a ∷ words)
+      second_behind [] = ends two_level found (at_second first a true) ∙ takes.one_there a true
+      second_behind (w ∷ words) =
+          taken two_level found [] (pending first a) 2 w words true
+          (behind_dashes two_level [] [] (pending first a) 2 w) (at_end first second a w true) (takes.second_fault a) (takes.second_taken a w true)
+          ∙ end_behind a w words
+
+      second_front : (words : List Text) → comes (at_second first a false) words ≡ of_two mode (a ∷ without_dashes words)
+      second_front [] = ends two_level found (at_second first a false) ∙ takes.one_there a false
+      second_front (w ∷ words) = by_kind (word_kind two_level.rules no_options w)
+        where
+          by_kind : WordKind two_level.rules w → comes (at_second first a false) (w ∷ words) ≡ of_two mode (a ∷ without_dashes (w ∷ words))
+          by_kind (dashes test) =
+              past_dashes two_level found [] (pending first a) 2 w words test ∙ second_behind words
+              ∙ sym (front (λ args. of_two mode (a ∷ args)) w words true test)
+          by_kind (refused test is) =
+              at_refused two_level found [] (pending first a) 2 w words test is
+              ∙ sym (front (λ args. of_two mode (a ∷ args)) w words false test ∙ no_second a w (without_dashes words) is.number)
+          by_kind (positional test is) =
+              taken two_level found [] (pending first a) 2 w words false
+              (value_goes_on two_level [] [] (pending first a) 2 w refl test is) (at_end first second a w false) (takes.second_fault a) (takes.second_taken a w false)
+              ∙ end_front a w words ∙ sym (front (λ args. of_two mode (a ∷ args)) w words false test)
+
+    -- before the first number
+    first_behind : (words : List Text) → comes (at_first true) words ≡ of_two mode words
+    first_behind [] = ends two_level found (at_first true) ∙ takes.none_there true
+    first_behind (w ∷ words) =
+        taken two_level found [] None 1 w words true (behind_dashes two_level [] [] None 1 w) (at_second first w true) takes.first_fault (takes.first_taken w true)
+        ∙ second_behind w words
+
+    pub first_front : (words : List Text) → comes (at_first false) words ≡ of_two mode (without_dashes words)
+    first_front [] = ends two_level found (at_first false) ∙ takes.none_there false
+    first_front (w ∷ words) = by_kind (word_kind two_level.rules no_options w)
+      where
+        by_kind : WordKind two_level.rules w → comes (at_first false) (w ∷ words) ≡ of_two mode (without_dashes (w ∷ words))
+        by_kind (dashes test) = past_dashes two_level found [] None 1 w words test ∙ first_behind words ∙ sym (front (of_two mode) w words true test)
+        by_kind (refused test is) =
+            at_refused two_level found [] None 1 w words test is
+            ∙ sym (front (of_two mode) w words false test ∙ no_first w (without_dashes words) is.number)
+        by_kind (positional test is) =
+            taken two_level found [] None 1 w words false (value_goes_on two_level [] [] None 1 w refl test is) (at_second first w false) takes.first_fault (takes.first_taken w false)
+            ∙ second_front w words ∙ sym (front (of_two mode) w words false test)
+
+-- ---- `format F ID` and `gen S N`
+
+or_false : (b : Bool) → b || false ≡ b
+or_false true = refl
+or_false false = refl
+
+-- two numbers, each in its range
+module _ (made : ℕ → ℕ → Mode) (least end other_least other_end : ℕ) where
+  abbrev by_numbers : Text → Text → Option Mode
+  by_numbers a b = option_and_then (λ m. option_map (made m) (number_within other_least other_end b)) (number_within least end a)
+
+  never : (o : Option ℕ) → ◌≡◌ {A = Option Mode} (option_and_then (λ (m : ℕ). None) o) None
+  never None = refl
+  never (Some n) = refl
+
+  reads_numbers : ReadsNumbers by_numbers
+  reads_numbers = record {
+    first = λ word b none. ap (option_and_then (λ m. option_map (made m) (number_within other_least other_end b))) (none least end);
+    second = λ a word none. ap (λ o. option_and_then (λ m. option_map (made m) o) (number_within least end a)) (none other_least other_end)
+        ∙ never (number_within least end a);
+  }
+
+format_takes : TakesTwo (codes "format") (codes "frames") (codes "id") format_of
 unfolding defaults_fault
-frames_behind [] = ends format_level format_found (at_frames true)
-frames_behind (word ∷ words) =
-    taken format_level format_found [] None 1 word words true (behind_dashes format_level [] [] None 1 word) (at_id word true) refl refl
-    ∙ id_behind word words
+format_takes = record {
+  first_fault = refl;
+  first_taken = λ a behind. ap (at_second (codes "frames") a) (or_false behind);
+  second_fault = λ a. refl;
+  second_taken = λ a b behind. ap (at_end (codes "frames") (codes "id") a b) (or_false behind);
+  third_fault = λ a b. refl;
+  none_there = λ behind. refl;
+  one_there = λ a behind. refl;
+  both_there = λ a b behind. refl;
+}
 
-pub frames_front : (words : List Text) → formats (at_frames false) words ≡ by_format (without_dashes words)
+pub format_front : (words : List Text) → outcome (level_of_two (codes "format") (codes "frames") (codes "id")) (numbers_found format_of (codes "frames") (codes "id")) (standing [] None 1 false) words ≡ of_two format_of (without_dashes words)
+format_front = first_front (codes "format") (codes "frames") (codes "id") format_of (reads_numbers Format MIN_FRAMES (MAX_FRAMES + 1) 0 (2 ^ 64)) format_takes
+
+gen_takes : TakesTwo (codes "gen") (codes "seed") (codes "count") gen_of
 unfolding defaults_fault
-frames_front [] = ends format_level format_found (at_frames false)
-frames_front (word ∷ words) = by_kind (word_kind format_level.rules format_has_no_options word)
-  where
-    by_kind : WordKind format_level.rules word → formats (at_frames false) (word ∷ words) ≡ by_format (without_dashes (word ∷ words))
-    by_kind (dashes test) = past_dashes format_level format_found [] None 1 word words test ∙ frames_behind words ∙ sym (front by_format word words true test)
-    by_kind (refused test is) =
-        at_refused format_level format_found [] None 1 word words test is
-        ∙ sym (front by_format word words false test ∙ no_frames word (without_dashes words) is.number)
-    by_kind (positional test is) =
-        taken format_level format_found [] None 1 word words false (value_goes_on format_level [] [] None 1 word refl test is) (at_id word false) refl refl
-        ∙ id_front word words ∙ sym (front by_format word words false test)
+gen_takes = record {
+  first_fault = refl;
+  first_taken = λ a behind. ap (at_second (codes "seed") a) (or_false behind);
+  second_fault = λ a. refl;
+  second_taken = λ a b behind. ap (at_end (codes "seed") (codes "count") a b) (or_false behind);
+  third_fault = λ a b. refl;
+  none_there = λ behind. refl;
+  one_there = λ a behind. refl;
+  both_there = λ a b behind. refl;
+}
+
+pub gen_front : (words : List Text) → outcome (level_of_two (codes "gen") (codes "seed") (codes "count")) (numbers_found gen_of (codes "seed") (codes "count")) (standing [] None 1 false) words ≡ of_two gen_of (without_dashes words)
+gen_front = first_front (codes "gen") (codes "seed") (codes "count") gen_of (reads_numbers Gen 0 (MAX_SEED + 1) 1 (MAX_OBJECTS + 1)) gen_takes

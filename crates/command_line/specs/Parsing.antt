@@ -4,15 +4,23 @@ use Rattle.clap.specs.Words.{App, Row, Rule, Shape, Text, fault_of, first_of, ne
 use Rattle.clap.specs.Simple.{new_shape}
 use Rattle.clap.specs.Kinds.{Kinds}
 use Rattle.command_line.specs.declared.modes.Mode.{Mode}
-use Rattle.command_line.specs.CommandLine.{format_of, mode_alone}
+use Rattle.command_line.specs.CommandLine.{format_of, gen_of, mode_alone}
 
 -- an argument that has to be there
 abbrev pub number_rule : Text → Rule
 number_rule id = record (new_rule id) { required = true }
 
+-- a mode of two numbers, by its word and what these are called
+abbrev pub numbers_shape : (word first second : Text) → Shape
+numbers_shape word first second = record (new_shape word) { rules = number_rule first ∷ number_rule second ∷ [] }
+
 -- `format F ID`
 abbrev pub format_shape : Shape
-format_shape = record (new_shape (codes "format")) { rules = number_rule (codes "frames") ∷ number_rule (codes "id") ∷ [] }
+format_shape = numbers_shape (codes "format") (codes "frames") (codes "id")
+
+-- `gen S N`
+abbrev pub gen_shape : Shape
+gen_shape = numbers_shape (codes "gen") (codes "seed") (codes "count")
 
 -- the modes, and neither help nor a version
 abbrev pub the_command : App
@@ -24,16 +32,18 @@ the_command = record {
     disable_version_flag = true;
     subcommand_required = true;
   };
-  subs = format_shape ∷ new_shape (codes "run") ∷ new_shape (codes "layout") ∷ new_shape (codes "check") ∷ [];
+  subs = format_shape ∷ new_shape (codes "run") ∷ new_shape (codes "layout") ∷ new_shape (codes "check") ∷ gen_shape ∷ [];
 }
 
--- the mode `format` by what was found for its arguments
-abbrev pub format_found : List Row → Option Mode
-format_found rows = option_and_then (λ frames. option_and_then (format_of frames) (first_of (codes "id") rows)) (first_of (codes "frames") rows)
+-- a mode of two numbers, by what was found for its arguments
+abbrev pub numbers_found : (Text → Text → Option Mode) → (first second : Text) → List Row → Option Mode
+numbers_found mode first second rows = option_and_then (λ text. option_and_then (mode text) (first_of second rows)) (first_of first rows)
 
 -- the mode of a subcommand, by its name and what was found for its arguments
 abbrev pub mode_named : Text → List Row → Option Mode
-mode_named name rows = cond (bytes_eq name (codes "format")) (format_found rows) (mode_alone name)
+mode_named name rows =
+    cond (bytes_eq name (codes "format")) (numbers_found format_of (codes "frames") (codes "id") rows)
+    (cond (bytes_eq name (codes "gen")) (numbers_found gen_of (codes "seed") (codes "count") rows) (mode_alone name))
 
 abbrev pub mode_found : Option (Text × List Row) → Option Mode
 mode_found = option_and_then (λ found. mode_named found.0 found.1)

@@ -3,7 +3,7 @@
 ghost use Rattle.std.specs.Prelude.{◌≡◌, false, IfOk};
 ghost use Rattle.clap.specs.Words.{app_of, rule_of, shape_of};
 ghost use Rattle.clap.specs.declared.builder.command.Command.TheViews.{out-Command};
-ghost use Rattle.command_line.specs.Parsing.{number_rule, format_shape, the_command};
+ghost use Rattle.command_line.specs.Parsing.{number_rule, numbers_shape, the_command};
 
 use clap::{Arg, Command};
 use std::alloc::{AllocError, Global};
@@ -16,14 +16,19 @@ fn number<'a>(alloc: Global, id: &'a str) -> Arg<'a>
     Arg::new(alloc, id).required(true)
 }
 
-/// `format F ID`.
-fn format_command<'a>(alloc: Global) -> Result<Command<'a>, AllocError>
-    ensures shape { IfOk result (λ c. shape_of c ≡ format_shape) }
+/// A mode of two numbers, by its word and what the numbers are called.
+fn numbers_command<'a>(
+    alloc: Global,
+    word: &'a str,
+    first: &'a str,
+    second: &'a str,
+) -> Result<Command<'a>, AllocError>
+    ensures shape { IfOk result (λ c. shape_of c ≡ numbers_shape word.entry.now first.entry.now second.entry.now) }
     ensures local { IfOk result (λ c. (out-Command c).has_globals ≡ false) }
 {
-    Command::new(alloc, "format")
-        .arg(number(alloc, "frames"))?
-        .arg(number(alloc, "id"))
+    Command::new(alloc, word)
+        .arg(number(alloc, first))?
+        .arg(number(alloc, second))
 }
 
 /// The program's command: one of the modes has to be there, and there is neither help nor a version. The only error is that
@@ -36,8 +41,9 @@ pub fn puddle_command<'a>(alloc: Global) -> Result<Command<'a>, AllocError>
         .disable_help_subcommand(true)
         .disable_version_flag(true)
         .subcommand_required(true)
-        .subcommand(format_command(alloc)?)?
+        .subcommand(numbers_command(alloc, "format", "frames", "id")?)?
         .subcommand(Command::new(alloc, "run"))?
         .subcommand(Command::new(alloc, "layout"))?
-        .subcommand(Command::new(alloc, "check"))
+        .subcommand(Command::new(alloc, "check"))?
+        .subcommand(numbers_command(alloc, "gen", "seed", "count")?)
 }

@@ -9,15 +9,15 @@ ghost use Rattle.std.specs.Prelude.{◌≡◌, ◌≢◌, [], None, Some, IfErr,
 ghost use Rattle.clap.specs.Words.{fault_of, kind_of, subcommand_of, subcommand_rows_of};
 ghost use Rattle.clap.specs.declared.error.kind.ErrorKind.TheVariants.{OutOfMemory};
 ghost use Rattle.command_line.specs.declared.WordsFault.TheVariants.{Memory, Usage};
-ghost use Rattle.command_line.specs.CommandLine.{mode_of};
+ghost use Rattle.command_line.specs.CommandLine.{IsLegalMode, mode_of};
 ghost use Rattle.command_line.specs.Parsing.{the_command};
 
 use clap::error::ErrorKind;
 use clap::{ArgMatches, Error};
 use commands::puddle_command;
 pub use laws::a_parse_gives_the_mode;
-pub use modes::Mode;
 use modes::mode_found;
+pub use modes::{MAX_OBJECTS, MAX_SEED, Mode};
 use std::alloc::{AllocError, Global};
 
 /// Why no mode was read.
@@ -66,14 +66,16 @@ fn matches_of<'a>(alloc: Global, words: &'a [String]) -> Result<ArgMatches<'a>, 
 }
 
 /// What the words ask for, the program's name first: `format F ID` with F from 4 to 1,024 and ID from 0 to 2^64 - 1, `run`,
-/// `layout` or `check`, in just these letters. A number is digits alone, with no sign and no zero in front of others. One `--` may stand
-/// behind the mode's word, anywhere; there is no option, no help and no version.
+/// `layout`, `check`, or `gen S N` with S from 0 to 65,535 and N from 1 to 992, in just these letters. A number is digits alone, with
+/// no sign and no zero in front of others. One `--` may stand behind the mode's word, anywhere; there is no option, no help and no
+/// version.
 ///
 /// `Usage` comes exactly where the words are no mode, and memory is not refused first; an empty list is none. `Memory` comes
 /// only where memory was refused.
 pub fn read_words(alloc: Global, words: &[String]) -> Result<Mode, WordsFault>
     ensures ok { IfOk result (λ m. mode_of (map string_bytes words.now) ≡ Some m) }
     ensures usage { IfErr result (λ e. e ≡ Usage → mode_of (map string_bytes words.now) ≡ None) }
+    ensures legal { IfOk result IsLegalMode }
 {
     let matches = matches_of(alloc, words)?;
     mode_found(&matches).ok_or(WordsFault::Usage)

@@ -1,13 +1,19 @@
 //! The modes, and which of them a parse has found.
 
-ghost use Rattle.std.specs.Prelude.{◌≡◌};
+ghost use Rattle.std.specs.Prelude.{◌≡◌, codes};
 ghost use Rattle.clap.specs.Words.{found_of, rows_of, subcommand_rows_of};
-ghost use Rattle.command_line.specs.CommandLine.{format_of};
-ghost use Rattle.command_line.specs.Parsing.{format_found, mode_found};
+ghost use Rattle.command_line.specs.CommandLine.{format_of, gen_of};
+ghost use Rattle.command_line.specs.Parsing.{numbers_found, mode_found};
 
 use clap::ArgMatches;
 use pud_defs::layout::{MAX_FRAMES, MIN_FRAMES};
 use script::{read_number, read_within};
+
+/// The largest seed of a generated script.
+pub const MAX_SEED: u32 = 65_535;
+
+/// The most objects that a generated script makes.
+pub const MAX_OBJECTS: u32 = 992;
 
 /// What a command line asks for.
 #[derive(Clone, Copy, Debug, PartialEq, Eq)]
@@ -20,6 +26,9 @@ pub enum Mode {
     Layout,
     /// `check`: start, then say which pools are sound.
     Check,
+    /// `gen S N`: start, carry out the script that is generated for this seed, 0 to 65,535, and so many objects, 1 to 992, and then
+    /// sum up what it left.
+    Gen { seed: u32, count: u32 },
 }
 
 /// The mode `format` by the texts of its two numbers. None where one is no such number.
@@ -33,9 +42,25 @@ fn format_of(frames: &str, id: &str) -> Option<Mode>
 
 /// The mode `format` by what was found for its arguments. None where one was not found, and where one is no such number.
 fn format_found(arguments: &ArgMatches) -> Option<Mode>
-    ensures { result ≡ format_found (rows_of (found_of arguments.now)) }
+    ensures { result ≡ numbers_found format_of (codes "frames") (codes "id") (rows_of (found_of arguments.now)) }
 {
     format_of(arguments.get_str("frames")?, arguments.get_str("id")?)
+}
+
+/// The mode `gen` by the texts of its two numbers. None where one is no such number.
+fn gen_of(seed: &str, count: &str) -> Option<Mode>
+    ensures { result ≡ gen_of seed.now count.now }
+{
+    let seed = read_within(seed.as_bytes(), 0, MAX_SEED + 1)?;
+    let count = read_within(count.as_bytes(), 1, MAX_OBJECTS + 1)?;
+    Some(Mode::Gen { seed, count })
+}
+
+/// The mode `gen` by what was found for its arguments. None where one was not found, and where one is no such number.
+fn gen_found(arguments: &ArgMatches) -> Option<Mode>
+    ensures { result ≡ numbers_found gen_of (codes "seed") (codes "count") (rows_of (found_of arguments.now)) }
+{
+    gen_of(arguments.get_str("seed")?, arguments.get_str("count")?)
 }
 
 /// The mode that was found. None where no subcommand was, and where its arguments are not those of its mode.
@@ -48,6 +73,7 @@ pub fn mode_found(matches: &ArgMatches) -> Option<Mode>
         "run" => Some(Mode::Run),
         "layout" => Some(Mode::Layout),
         "check" => Some(Mode::Check),
+        "gen" => gen_found(arguments),
         _ => None,
     }
 }

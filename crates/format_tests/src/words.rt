@@ -3,9 +3,13 @@ use command_line::{Mode, WordsFault, read_words};
 use std::alloc::Global;
 use std::process::Abort;
 
-// One function for the mode with numbers, so that a row of a table is one line.
+// One function for each mode with numbers, so that a row of a table is one line.
 fn format(frames: u32, id: u64) -> Mode {
     Mode::Format { frames, id }
+}
+
+fn generate(seed: u32, count: u32) -> Mode {
+    Mode::Gen { seed, count }
 }
 
 const RUN: Mode = Mode::Run;
@@ -55,6 +59,7 @@ fn words_of_modes(rt: HostRuntime) {
             ("puddle|layout", LAYOUT),
             ("puddle|check", CHECK),
             ("puddle|format|4|7", format(4, 7)),
+            ("puddle|gen|1|3", generate(1, 3)),
             ("|run", RUN),
             ("--help|run", RUN),
             ("run|layout", LAYOUT),
@@ -76,6 +81,10 @@ fn words_of_modes(rt: HostRuntime) {
             "puddle|Run",
             "puddle|LAYOUT",
             "puddle|Format|4|7",
+            "puddle|gens|1|3",
+            "puddle|ge|1|3",
+            "puddle|Gen|1|3",
+            "puddle|generate|1|3",
             "puddle| run",
             "puddle|run ",
             "puddle|format 4 7",
@@ -88,7 +97,10 @@ fn words_too_few_or_too_many(rt: HostRuntime) {
     are_read(
         &rt,
         rt.alloc(),
-        &[("puddle|format|1024|0", format(1024, 0))],
+        &[
+            ("puddle|format|1024|0", format(1024, 0)),
+            ("puddle|gen|0|992", generate(0, 992)),
+        ],
         &[
             "puddle|format",
             "puddle|format|4",
@@ -107,6 +119,13 @@ fn words_too_few_or_too_many(rt: HostRuntime) {
             "puddle|check|now",
             "puddle|check|4|7",
             "puddle|check|check",
+            "puddle|gen",
+            "puddle|gen|1",
+            "puddle|gen|1|3|3",
+            "puddle|gen|1|3|",
+            "puddle|gen|1|3|run",
+            "puddle|1|3|gen",
+            "puddle|1|gen|3",
         ],
     );
 }
@@ -144,6 +163,10 @@ fn help_versions_and_options(rt: HostRuntime) {
             "puddle|format|--frames=4|--id=7",
             "puddle|format|--frames|4|--id|7",
             "puddle|format|frames=4|id=7",
+            "puddle|gen|--help",
+            "puddle|gen|1|3|-h",
+            "puddle|gen|--seed=1|--count=3",
+            "puddle|gen|--seed|1|--count|3",
             "puddle|run=now",
         ],
     );
@@ -222,6 +245,46 @@ fn numbers_of_machines(rt: HostRuntime) {
 }
 
 #[test]
+fn numbers_of_generated_scripts(rt: HostRuntime) {
+    are_read(
+        &rt,
+        rt.alloc(),
+        &[
+            ("puddle|gen|0|1", generate(0, 1)),
+            ("puddle|gen|7|991", generate(7, 991)),
+            ("puddle|gen|65534|992", generate(65534, 992)),
+            ("puddle|gen|65535|9", generate(65535, 9)),
+        ],
+        &[
+            "puddle|gen|65536|3",
+            "puddle|gen|65537|3",
+            "puddle|gen|4294967296|3",
+            "puddle|gen|18446744073709551617|3",
+            "puddle|gen|1|0",
+            "puddle|gen|1|993",
+            "puddle|gen|1|65535",
+            "puddle|gen|1|4294967297",
+            "puddle|gen|+1|3",
+            "puddle|gen|-1|3",
+            "puddle|gen|01|3",
+            "puddle|gen|00|3",
+            "puddle|gen||3",
+            "puddle|gen|1|",
+            "puddle|gen|1|+3",
+            "puddle|gen|1|-3",
+            "puddle|gen|1|03",
+            "puddle|gen|1|3 ",
+            "puddle|gen| 1|3",
+            "puddle|gen|65,535|3",
+            "puddle|gen|0x1|3",
+            "puddle|gen|1.0|3",
+            "puddle|gen|one|3",
+            "puddle|gen|1|é",
+        ],
+    );
+}
+
+#[test]
 fn two_dashes_alone(rt: HostRuntime) {
     are_read(
         &rt,
@@ -233,6 +296,9 @@ fn two_dashes_alone(rt: HostRuntime) {
             ("puddle|format|--|4|7", format(4, 7)),
             ("puddle|format|4|--|7", format(4, 7)),
             ("puddle|format|4|7|--", format(4, 7)),
+            ("puddle|gen|--|1|3", generate(1, 3)),
+            ("puddle|gen|1|--|3", generate(1, 3)),
+            ("puddle|gen|1|3|--", generate(1, 3)),
             ("--|run", RUN),
         ],
         &[
@@ -257,6 +323,11 @@ fn two_dashes_alone(rt: HostRuntime) {
             "puddle|format|--|-4|7",
             "puddle|format|4|--|+7",
             "puddle|format|--|4|7|7",
+            "puddle|gen|--|--|1|3",
+            "puddle|gen|1|--|--",
+            "puddle|gen|--|1",
+            "puddle|gen|--|-1|3",
+            "puddle|--|gen|1|3",
         ],
     );
 }

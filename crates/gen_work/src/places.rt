@@ -42,9 +42,13 @@ fn number_at(seed: u32, object: u32) -> u32
 /// A place in the script of so many objects: some lines of a part are done, and none behind them.
 #[derive(Clone, Copy)]
 pub(crate) struct Place {
+    /// How many objects the script has.
     count: u32,
+    /// The part: 0 before the objects, then each object, and one more behind them.
     part: u32,
+    /// The number of the object that the part is.
     number: u32,
+    /// How many lines of the part are done.
     step: u32,
     ghost few: { line_count count < 2 ^ 32 },
     ghost known: { part ≤ count + 1 },

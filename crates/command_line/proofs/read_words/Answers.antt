@@ -3,6 +3,7 @@ use Rattle.std.proofs.lemmas.Result.{err_from_is_err_and}
 use Rattle.clap.specs.Words.{subcommand_rows_of}
 use Rattle.command_line.specs.CommandLine.{mode_of}
 use Rattle.command_line.specs.Parsing.{mode_found}
+use Rattle.command_line.proofs.LegalModes.{legal_of}
 use Rattle.command_line.proofs.Reading.{answered, mode_of-refused, mode_of-taken}
 use Rattle.command_line.proofs.read_words.Goals as goal
 
@@ -20,3 +21,9 @@ pub returns-clause-usage : goal.returns-clause-usage
 returns-clause-usage c =
     let is = mode_of-taken (map string_bytes c.args.words.now) (subcommand_rows_of c.in_ok-matches.matches) c.in_ok-matches.ensures.taken c.in_ok-matches.ensures.found in
     (answered (mode_of (map string_bytes c.args.words.now)) (mode_found (subcommand_rows_of c.in_ok-matches.matches)) c.ok_or.result is (rw (← c.mode_found.ensures) c.ok_or.ensures.value)).1
+
+pub returns-clause-legal : goal.returns-clause-legal
+returns-clause-legal c =
+    let is = mode_of-taken (map string_bytes c.args.words.now) (subcommand_rows_of c.in_ok-matches.matches) c.in_ok-matches.ensures.taken c.in_ok-matches.ensures.found in
+    legal_of (map string_bytes c.args.words.now) c.ok_or.result
+    (answered (mode_of (map string_bytes c.args.words.now)) (mode_found (subcommand_rows_of c.in_ok-matches.matches)) c.ok_or.result is (rw (← c.mode_found.ensures) c.ok_or.ensures.value)).0
