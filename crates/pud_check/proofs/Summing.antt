@@ -13,7 +13,7 @@ use Rattle.pud_defs.specs.TypeMap.{is_pointer}
 use Rattle.pud_defs.specs.Stored.{Stored, places_of, place_word}
 use Rattle.pud_defs.specs.Graph.{Content, Number, Null, At, Nowhere, Object, Table, Graph, at_place, place_in, target, content, contents_or_none, table_of, value_of, object_at, live, graph_of}
 use Rattle.pud_defs.specs.Holdings.{held_as}
-use Rattle.pud_defs.proofs.Graphs.{under_serial-free, under_serial-used, graph_of-each, distinct_live}
+use Rattle.pud_defs.proofs.Graphs.{under_serial-used, graph_of-each, distinct_live}
 use Rattle.pud_defs.proofs.PoolsCounted.{sum_places, sum_places-same, worth, sum-keyed}
 use Rattle.pud_check.specs.declared.sums.Summed.TheVariants as sums
 use Rattle.pud_check.specs.Summary.{number_in, numbers_of, number_sum, summed}
@@ -74,12 +74,9 @@ numbers_there : (serial : ℕ → ℕ) (o : Option (List Content)) → sum_by nu
 numbers_there serial None = refl
 numbers_there serial (Some contents) = numbers_named serial contents
 
-module _ (t : Table) (p : ℕ) where
-  pub numbers_at-free : t.serial p ≡ 0 → numbers_at t p ≡ 0
-  numbers_at-free free = ap numbers_under (under_serial-free t.serial (object_at t) p free)
-
-  pub numbers_at-live : t.serial p ≢ 0 → numbers_at t p ≡ contents_sum (t.contents p)
-  numbers_at-live used = ap numbers_under (under_serial-used t.serial (object_at t) p used) ∙ numbers_there t.serial (t.contents p)
+-- what a live place adds
+pub numbers_at-live : (t : Table) (p : ℕ) → t.serial p ≢ 0 → numbers_at t p ≡ contents_sum (t.contents p)
+numbers_at-live t p used = ap numbers_under (under_serial-used t.serial (object_at t) p used) ∙ numbers_there t.serial (t.contents p)
 
 -- ---- all places
 
