@@ -19,9 +19,10 @@ lines_front : (taken left : List ℕ) → (more : List (List ℕ)) × (lines_tak
 lines_front taken [] = ([], ap (λ (l : List ℕ). lines_taken l false) (append-nil taken) ∙ sym (append-nil (lines_taken taken false)))
 lines_front taken (b ∷ left) =
     let step = lines_step taken b in
-    let rest = lines_front (taken ++ b ∷ []) left in
-    (step.0 ++ rest.0,
-    ap (λ (l : List ℕ). lines_taken l false) (sym (append_assoc taken (b ∷ []) left)) ∙ rest.1 ∙ ap (λ (l : List (List ℕ)). l ++ rest.0) step.1 ∙ append_assoc (lines_taken taken false) step.0 rest.0)
+    let rest = lines_front (taken ++ b ∷ []) left in (
+      step.0 ++ rest.0,
+      ap (λ (l : List ℕ). lines_taken l false) (sym (append_assoc taken (b ∷ []) left)) ∙ rest.1 ∙ ap (λ (l : List (List ℕ)). l ++ rest.0) step.1 ∙ append_assoc (lines_taken taken false) step.0 rest.0,
+    )
 
 -- ---- lines with their newlines
 
@@ -39,9 +40,10 @@ open_longer taken (b ∷ line) plain =
     let other : b ≡ 10 → ⊥ = λ is. let one = newlines_one b is in absurd (omega arith) in
     let none = newlines_other b other in
     let rest = open_longer (taken ++ b ∷ []) line (omega arith) in
-    let joined = append_assoc taken (b ∷ []) line in
-    (ap open_rest (sym joined) ∙ rest.0 ∙ ap (λ (l : List ℕ). l ++ line) (open_rest-other taken b other) ∙ append_assoc (open_rest taken) (b ∷ []) line,
-    ap (λ (l : List ℕ). lines_taken l false) (sym joined) ∙ rest.1 ∙ lines_taken-other taken b other)
+    let joined = append_assoc taken (b ∷ []) line in (
+      ap open_rest (sym joined) ∙ rest.0 ∙ ap (λ (l : List ℕ). l ++ line) (open_rest-other taken b other) ∙ append_assoc (open_rest taken) (b ∷ []) line,
+      ap (λ (l : List ℕ). lines_taken l false) (sym joined) ∙ rest.1 ∙ lines_taken-other taken b other,
+    )
 
 -- where no line is under way
 lines_behind : (lines : List (List ℕ)) → ((k : ℕ) (d : List ℕ) → k < length lines → IsPlainLine (get_or lines k d)) → (taken : List ℕ) → open_rest taken ≡ []
@@ -57,9 +59,10 @@ lines_behind (line ∷ lines) plain taken closed =
     let joined : taken ++ ((line ++ 10 ∷ []) ++ bytes_of lines) ≡ (before ++ 10 ∷ []) ++ bytes_of lines =
     sym (append_assoc taken (line ++ 10 ∷ []) (bytes_of lines)) ∙ ap (λ (l : List ℕ). l ++ bytes_of lines) (sym (append_assoc taken line (10 ∷ []))) in
     let one : lines_taken (before ++ 10 ∷ []) false ≡ lines_taken taken false ++ line ∷ [] =
-    lines_taken-newline before 10 refl ∙ (λ i. longer.1 i ++ lines_among (under i ∷ [])) ∙ ap (λ (l : List (List ℕ)). lines_taken taken false ++ l) (lines_among_line line first.some) in
-    (ap (λ (l : List ℕ). lines_taken l false) joined ∙ rest.0 ∙ ap (λ (l : List (List ℕ)). l ++ lines) one ∙ append_assoc (lines_taken taken false) (line ∷ []) lines,
-    ap open_rest joined ∙ rest.1)
+    lines_taken-newline before 10 refl ∙ (λ i. longer.1 i ++ lines_among (under i ∷ [])) ∙ ap (λ (l : List (List ℕ)). lines_taken taken false ++ l) (lines_among_line line first.some) in (
+      ap (λ (l : List ℕ). lines_taken l false) joined ∙ rest.0 ∙ ap (λ (l : List (List ℕ)). l ++ lines) one ∙ append_assoc (lines_taken taken false) (line ∷ []) lines,
+      ap open_rest joined ∙ rest.1,
+    )
 
 -- how many bytes there are at most
 length-bytes_of : (lines : List (List ℕ)) → ((k : ℕ) (d : List ℕ) → k < length lines → IsPlainLine (get_or lines k d)) → length (bytes_of lines) ≤ 192 * length lines

@@ -1,7 +1,7 @@
 -- Generated lines are answered without a word, and summed up.
-use Rattle.std.proofs.Common.{◌≡◌, ◌≤◌, ◌<◌, ◌*◌, ◌+◌, ℕ, Bool, true, false, List, [], ◌∷◌, ◌++◌, length, map, take, Option, Some, None, Result, Ok, Err, ◌⊎◌, inl, inr, ⊎_elim, refl, sym, ap, subst, ◌∙◌, arith, append_assoc, length-append}
+use Rattle.std.proofs.Common.{◌≡◌, ◌≤◌, ◌<◌, ◌*◌, ◌+◌, ℕ, Bool, true, false, List, [], ◌++◌, length, map, Option, Some, None, Result, Ok, Err, ◌⊎◌, inl, inr, ⊎_elim, refl, sym, ap, subst, ◌∙◌, arith, append_assoc, length-append}
 use Rattle.std.specs.Prelude.{All}
-use Rattle.std.proofs.lemmas.List.{append-nil, length-map, take-append-drop}
+use Rattle.std.proofs.lemmas.List.{append-nil, length-map}
 use Rattle.pm_model.specs.declared.host.HostFault.{HostFault}
 use Rattle.pm_model.specs.declared.host.HostFault.TheVariants as hosts
 use Rattle.pm_model.specs.Calls.{Says}
@@ -31,15 +31,14 @@ use Rattle.puddled.specs.declared.daemon.StartFault.{StartFault}
 use Rattle.puddled.specs.declared.daemon.StartFault.TheVariants as starts
 use Rattle.puddled.specs.Faults.{of_host}
 use Rattle.puddled.specs.Saying.{IsPart, SaysPart}
-use Rattle.puddled.specs.Starting.{StandsInStart, Starts}
-use Rattle.puddled.proofs.Counted.{none_is_sound, host_is_sound}
+use Rattle.puddled.specs.Starting.{Starts}
+use Rattle.puddled.proofs.Counted.{host_is_sound}
 use Rattle.puddled.proofs.Lines.{SaysPart-says, words_said, script_said, shelf_said}
 use Rattle.puddle_cli.specs.Generated.{bytes_of}
-use Rattle.puddle_cli.specs.Status.{status_fault, run_fault_at, status_at, IsStatusOfMode}
-use Rattle.puddle_cli.specs.Serving.{said_of, StandsAmong, KeepsScript, AllowsLogs, CountsPending, file_under_way, TakesTo, TakesBy, Answered, AnsweredBy}
+use Rattle.puddle_cli.specs.Status.{status_fault, run_fault_at, IsStatusOfMode}
+use Rattle.puddle_cli.specs.Serving.{StandsAmong, KeepsScript, CountsPending, file_under_way, TakesTo, TakesBy, Answered, AnsweredBy}
 use Rattle.puddle_cli.specs.declared.run.Served.{Served}
 use Rattle.puddle_cli.specs.Generating.{LineRun, IsWhole, summary_of, SaysOf, SumsUp, RunsLines, SaysSummary}
-use Rattle.puddle_cli.specs.declared.status.TheConstants.{DONE}
 use Rattle.puddle_cli.proofs.Answering.{among_first, among_later}
 use Rattle.puddle_cli.proofs.Replying.{front_of_nothing}
 use Rattle.puddle_cli.proofs.NoneOpen.{generated_idle}
@@ -48,7 +47,7 @@ use Rattle.puddle_cli.proofs.Stored.{frames_kept, ready_stored}
 use Rattle.ready_daemon.proofs.TablesBeside.{sound_read, header_read}
 use Rattle.puddle_cli.proofs.GeneratedLines.{IsPlainLine, lines_left, few_bytes}
 use Rattle.puddle_cli.proofs.Running.{counted_in_start, counted_behind_start, moments_in_start, moments_behind_start, text_said, is_started}
-use Rattle.puddle_cli.proofs.Statuses.{not_whole_of, fault_at_status, not_whole_at}
+use Rattle.puddle_cli.proofs.Statuses.{not_whole_of}
 
 -- ---- on a daemon that is ready
 
@@ -351,10 +350,13 @@ module _ (size : ℕ) (w : World) (start : State) (rested : IsRested start.now.w
     rest = [];
     is = sym (append-nil (start_text (reads start.now.words) ++ bytes) ∙ ap (λ (l : List ℕ). start_text (reads start.now.words) ++ l) none ∙ append-nil (start_text (reads start.now.words)));
   })
-  part_behind run bytes (inr more) = inr (more.0, record {
-    rest = more.1.rest;
-    is = ap (λ (l : List ℕ). start_text (reads start.now.words) ++ l) more.1.is ∙ sym (append_assoc (start_text (reads start.now.words)) bytes more.1.rest);
-  })
+  part_behind run bytes (inr more) = inr (
+    more.0,
+    record {
+      rest = more.1.rest;
+      is = ap (λ (l : List ℕ). start_text (reads start.now.words) ++ l) more.1.is ∙ sym (append_assoc (start_text (reads start.now.words)) bytes more.1.rest);
+    },
+  )
 
   begun_run : LineRun w lines → LineRun w lines
   begun_run run = record run { begun = true; nothing_yet = λ e. absurd (let it : true ≡ false = e in cc) }

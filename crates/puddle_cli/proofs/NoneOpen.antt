@@ -1,5 +1,5 @@
 -- Behind a generated script no transaction is open: power is lost in it, and no line behind that begins one.
-use Rattle.std.proofs.Common.{◌≡◌, ℕ, Bool, true, false, List, [], ◌∷◌, ◌++◌, map, Option, Some, None, inl, inr, refl, sym, ap, subst, ◌∙◌, append_assoc}
+use Rattle.std.proofs.Common.{◌≡◌, ℕ, true, List, [], ◌∷◌, ◌++◌, map, Option, Some, None, inl, inr, refl, sym, ap, subst, ◌∙◌, append_assoc}
 use Rattle.std.specs.Prelude.{⊤, codes, flat_map}
 use Rattle.std.specs.List.{range_with_len}
 use Rattle.std.proofs.lemmas.Option.{same_Some}
@@ -132,11 +132,16 @@ closes_idle w turns front run are =
     idle_behind w turns (front ++ codes "begin 0 gen" ∷ codes "root 0 gen 1" ∷ codes "commit 0 gen" ∷ []) (codes "cut 0")
     (codes "client 0 0 0" ∷ codes "export 0 gen gen" ∷ codes "import 0 copy gen 600" ∷ codes "rewrite copy 1008" ∷ []) 0 run
     (are ∙ sym (append_assoc front (codes "begin 0 gen" ∷ codes "root 0 gen 1" ∷ codes "commit 0 gen" ∷ []) (codes "cut 0" ∷ codes "client 0 0 0" ∷ codes "export 0 gen gen" ∷ codes "import 0 copy gen 600" ∷ codes "rewrite copy 1008" ∷ [])))
-    cut_line
-    (by_command _ _ client_line (leaves_client 0 0 0),
-    (by_command _ _ export_line (leaves_export 0 gen_pool gen_pool),
-    (by_command _ _ import_line (leaves_import 0 copy_pool gen_pool 384),
-    (by_command _ _ rewrite_line (leaves_rewrite copy_pool 1008), tt))))
+    cut_line (
+      by_command _ _ client_line (leaves_client 0 0 0),
+      (
+        by_command _ _ export_line (leaves_export 0 gen_pool gen_pool),
+        (
+          by_command _ _ import_line (leaves_import 0 copy_pool gen_pool 384),
+          (by_command _ _ rewrite_line (leaves_rewrite copy_pool 1008), tt),
+        ),
+      ),
+    )
 
 pub generated_idle : (seed n : ℕ) (w : World) (turns : List Turn) → IsRun w turns → map (λ t. t.line) turns ≡ gen_lines seed n → IsIdle (last_world w turns)
 unfolding gen_lines

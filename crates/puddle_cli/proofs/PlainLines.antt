@@ -1,10 +1,9 @@
 -- Generated lines are short and have no newline.
-use Rattle.std.proofs.Common.{◌≡◌, ℕ, zero, suc, ◌+◌, ◌*◌, ◌/◌, ◌%◌, ◌<◌, ◌≤◌, Bool, true, false, cond, eqb, List, [], ◌∷◌, ◌++◌, length, codes, refl, sym, ap, ◌∙◌, arith, length-append}
-use Rattle.std.specs.Prelude.{All, get_or, decimal, flat_map, ⊤}
+use Rattle.std.proofs.Common.{◌≡◌, ℕ, zero, suc, ◌+◌, ◌/◌, ◌%◌, ◌<◌, ◌≤◌, Bool, true, false, cond, eqb, List, [], ◌∷◌, ◌++◌, length, codes, refl, arith, length-append}
+use Rattle.std.specs.Prelude.{All, decimal, flat_map, ⊤}
 use Rattle.std.specs.Fmt.{digits, digits_onto, digit_glyph}
 use Rattle.std.specs.List.{range_with_len}
 use Rattle.std.proofs.lemmas.List.Elements.{All-append}
-use Rattle.std.proofs.lemmas.List.FromFn.{length-range_with_len}
 use Rattle.pud_defs.specs.declared.machine.Reply.TheVariants as replies
 use Rattle.pud_defs.specs.Run.{newlines}
 use Rattle.pud_defs.specs.Texts.{line_of, reply_text}
@@ -86,34 +85,63 @@ fixed_line line some short plain = record { some = λ none. absurd (omega (arith
 
 plain_opening : All IsPlainLine opening_lines
 plain_opening =
-    plain_in_turn opening_lines
-    (fixed_line (codes "client 0 0 0") (omega arith) (omega arith) refl,
-    (fixed_line (codes "type 1 2 0") (omega arith) (omega arith) refl,
-    (fixed_line (codes "pool 0 gen 600") (omega arith) (omega arith) refl,
-    tt)))
+    plain_in_turn opening_lines (
+      fixed_line (codes "client 0 0 0") (omega arith) (omega arith) refl,
+      (
+        fixed_line (codes "type 1 2 0") (omega arith) (omega arith) refl,
+        (
+          fixed_line (codes "pool 0 gen 600") (omega arith) (omega arith) refl,
+          tt,
+        ),
+      ),
+    )
 
 plain_object : (i x : ℕ) → All IsPlainLine (object_lines i x)
 plain_object i x =
-    plain_in_turn (object_lines i x)
-    (fixed_line (codes "begin 0 gen") (omega arith) (omega arith) refl,
-    (fixed_line (codes "new 0 gen 1") (omega arith) (omega arith) refl,
-    (pointer_line i (x % i + 1),
-    (number_line i x,
-    (fixed_line (codes "commit 0 gen") (omega arith) (omega arith) refl,
-    tt)))))
+    plain_in_turn (object_lines i x) (
+      fixed_line (codes "begin 0 gen") (omega arith) (omega arith) refl,
+      (
+        fixed_line (codes "new 0 gen 1") (omega arith) (omega arith) refl,
+        (
+          pointer_line i (x % i + 1),
+          (
+            number_line i x,
+            (
+              fixed_line (codes "commit 0 gen") (omega arith) (omega arith) refl,
+              tt,
+            ),
+          ),
+        ),
+      ),
+    )
 
 plain_closing : All IsPlainLine closing_lines
 plain_closing =
-    plain_in_turn closing_lines
-    (fixed_line (codes "begin 0 gen") (omega arith) (omega arith) refl,
-    (fixed_line (codes "root 0 gen 1") (omega arith) (omega arith) refl,
-    (fixed_line (codes "commit 0 gen") (omega arith) (omega arith) refl,
-    (fixed_line (codes "cut 0") (omega arith) (omega arith) refl,
-    (fixed_line (codes "client 0 0 0") (omega arith) (omega arith) refl,
-    (fixed_line (codes "export 0 gen gen") (omega arith) (omega arith) refl,
-    (fixed_line (codes "import 0 copy gen 600") (omega arith) (omega arith) refl,
-    (fixed_line (codes "rewrite copy 1008") (omega arith) (omega arith) refl,
-    tt))))))))
+    plain_in_turn closing_lines (
+      fixed_line (codes "begin 0 gen") (omega arith) (omega arith) refl,
+      (
+        fixed_line (codes "root 0 gen 1") (omega arith) (omega arith) refl,
+        (
+          fixed_line (codes "commit 0 gen") (omega arith) (omega arith) refl,
+          (
+            fixed_line (codes "cut 0") (omega arith) (omega arith) refl,
+            (
+              fixed_line (codes "client 0 0 0") (omega arith) (omega arith) refl,
+              (
+                fixed_line (codes "export 0 gen gen") (omega arith) (omega arith) refl,
+                (
+                  fixed_line (codes "import 0 copy gen 600") (omega arith) (omega arith) refl,
+                  (
+                    fixed_line (codes "rewrite copy 1008") (omega arith) (omega arith) refl,
+                    tt,
+                  ),
+                ),
+              ),
+            ),
+          ),
+        ),
+      ),
+    )
 
 plain_objects : (seed : ℕ) (objects : List ℕ) → All IsPlainLine (flat_map (λ i. object_lines i (number_at seed i)) objects)
 plain_objects seed [] = plain_none
@@ -125,18 +153,3 @@ plain_lines seed n =
     let objects = flat_map (λ i. object_lines i (number_at seed i)) (range_with_len 1 n) in
     All-append IsPlainLine (opening_lines ++ objects) closing_lines
     (All-append IsPlainLine opening_lines objects plain_opening (plain_objects seed (range_with_len 1 n))) plain_closing
-
--- ---- how many there are
-
-length_objects : (seed : ℕ) (objects : List ℕ) → length (flat_map (λ i. object_lines i (number_at seed i)) objects) ≡ 5 * length objects
-length_objects seed [] = omega arith
-length_objects seed (i ∷ objects) =
-    let rest = length_objects seed objects in
-    omega (arith, rest, length-append (object_lines i (number_at seed i)) (flat_map (λ j. object_lines j (number_at seed j)) objects))
-
-pub length-gen_lines : (seed n : ℕ) → length (gen_lines seed n) ≡ 5 * n + 11
-unfolding gen_lines
-length-gen_lines seed n =
-    let objects = flat_map (λ i. object_lines i (number_at seed i)) (range_with_len 1 n) in
-    let count = length_objects seed (range_with_len 1 n) in
-    omega (arith, count, length-range_with_len 1 n, length-append (opening_lines ++ objects) closing_lines, length-append opening_lines objects)

@@ -1,11 +1,10 @@
 -- What a device stores behind lines of which none left a transaction open.
 use Rattle.std.proofs.Common.{◌≡◌, ℕ, List, [], ◌∷◌, Option, Some, None, unwrap_or, inl, inr, refl, sym, ap, ap₂, ◌∙◌}
 use Rattle.std.proofs.lemmas.Option.{none-some}
-use Rattle.pm_model.specs.Words.{Image, reads}
-use Rattle.pm_model.specs.Masks.{masked, masked_image}
+use Rattle.pm_model.specs.Words.{reads}
+use Rattle.pm_model.specs.Masks.{masked}
 use Rattle.pm_model.proofs.Masks.{reads-masked}
 use Rattle.pm_model.specs.Moments.{State}
-use Rattle.pud_defs.specs.declared.layout.TheConstants.{FRAMES_WORD, MACHINE_WORD, NEXT_NUMBER_WORD}
 use Rattle.pud_defs.specs.declared.machine.Command.{Command}
 use Rattle.pud_defs.specs.declared.machine.Refusal.{Refusal}
 use Rattle.pud_defs.specs.Changing.{Part, part_of, with_part}
@@ -14,8 +13,7 @@ use Rattle.pud_defs.specs.Gives.{Gives, StepBy}
 use Rattle.pud_defs.specs.Grammar.{command_of}
 use Rattle.pud_defs.specs.Run.{Turn, IsTurn, IsRun, last_world}
 use Rattle.pud_defs.specs.Step.{Answer, after, refusal_of, unless_refused, world_by}
-use Rattle.pud_defs.specs.Types.{types_of}
-use Rattle.pud_defs.specs.World.{World, pools_in, stored_by, closed, restart, nothing_open}
+use Rattle.pud_defs.specs.World.{World, pools_in, stored_by, closed, nothing_open}
 use Rattle.pud_defs.proofs.Changing.{after-part}
 use Rattle.ready_daemon.specs.Memory.{Memory, Held, held_under}
 use Rattle.ready_daemon.specs.Ready.{IsReady}

@@ -1,11 +1,12 @@
 //! Generated lines are run, and summed up.
-ghost use Rattle.std.specs.Prelude.{◌≡◌, ◌≢◌, ◌⊎◌, ◌↔◌, ◌<◌, ◌≤◌, ℕ, [], length, Option, Result};
+ghost use Rattle.std.specs.Prelude.{◌≡◌, ◌≢◌, ◌⊎◌, ◌↔◌, ◌≤◌, ℕ, [], length, Option, Result};
 ghost use Rattle.pm_model.specs.Words.{IsRested, reads};
 ghost use Rattle.pm_model.specs.Counts.{Rose};
 ghost use Rattle.pud_defs.specs.Layout.{device_words};
 ghost use Rattle.pud_defs.specs.StartText.{start_text};
 ghost use Rattle.pud_defs.specs.World.{World, no_clients, nothing_open, world_of, closed};
 ghost use Rattle.gen_work.specs.GenLines.{gen_lines};
+ghost use Rattle.command_line.specs.declared.modes.TheConstants.{MAX_SEED, MAX_OBJECTS};
 ghost use Rattle.ready_daemon.specs.Ready.{IsReady};
 ghost use Rattle.puddled.specs.Faults.{run_fault, Ends};
 ghost use Rattle.puddle_cli.specs.Status.{status_fault, run_fault_at, IsStatusOfMode, Causes};
@@ -31,8 +32,8 @@ fn sum_up<H: Host>(
     count: u32,
 ) -> Result<(), RunFault>
     requires device { device_words daemon.frames ≤ (H.counts h.old).size }
-    requires seed { seed < 65536 }
-    requires few { count ≤ 992 }
+    requires seed { seed ≤ MAX_SEED }
+    requires few { count ≤ MAX_OBJECTS }
     ensures sums { H.tells → (size : ℕ) → size ≡ (H.counts h.old).size → (w : World) → IsReady size w daemon (H.state h.old)
         → SumsUp size w (gen_lines seed count) (run_fault result) (H.counts h.old) (H.counts h.new) (H.state h.old) (H.state h.new) }
     ensures says { H.tells → SaysSummary [] (length (gen_lines seed count)) (run_fault result ≡ Option.None) (H.state h.old) (H.state h.new) }
@@ -49,8 +50,8 @@ fn sum_up<H: Host>(
 
 /// The mode `gen` for this seed, at most 65,535, and so many objects, at most 992, with its status.
 pub fn generate<H: Host>(alloc: Global, h: &mut H, seed: u32, count: u32) -> u8
-    requires seed { seed < 65536 }
-    requires few { count ≤ 992 }
+    requires seed { seed ≤ MAX_SEED }
+    requires few { count ≤ MAX_OBJECTS }
     ensures status { IsStatusOfMode result }
     ensures never_too_long { result ≢ TOO_LONG }
     ensures not_usable { H.tells → IsRested (H.state h.old).now.words → status_fault result ≡ Option.None

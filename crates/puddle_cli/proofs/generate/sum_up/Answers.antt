@@ -1,11 +1,11 @@
-use Rattle.std.proofs.Common.{◌≡◌, ◌≤◌, ◌*◌, ◌+◌, Ok, Err, Some, None, refl, sym, ap, subst, ◌∙◌, arith}
+use Rattle.std.proofs.Common.{◌≡◌, ◌≤◌, ◌*◌, ◌+◌, Ok, Some, None, refl, arith}
 use Rattle.std.proofs.lemmas.Result.{err_from_is_err_and}
-use Rattle.pm_model.specs.Words.{reads}
 use Rattle.gen_work.specs.GenLines.{gen_lines}
+use Rattle.gen_work.proofs.WholeScript.{length-gen_lines}
 use Rattle.puddled.specs.Faults.{of_host}
 use Rattle.puddle_cli.specs.Source.{bytes_left}
-use Rattle.puddle_cli.proofs.PlainLines.{plain_lines, length-gen_lines}
-use Rattle.puddle_cli.proofs.Generating.{SumsUp-failed, SumsUp-generated, tables_there, frames_there, SaysSummary-silent, SaysSummary-said, files_kept, KeepsScript-summed}
+use Rattle.puddle_cli.proofs.PlainLines.{plain_lines}
+use Rattle.puddle_cli.proofs.Generating.{SumsUp-failed, SumsUp-generated, tables_there, frames_there, SaysSummary-said, KeepsScript-summed}
 use Rattle.puddle_cli.proofs.generate.sum_up.Goals as goal
 
 pub returns-in_err-served-clause-sums : goal.returns-in_err-served-clause-sums

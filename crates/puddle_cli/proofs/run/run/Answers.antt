@@ -1,14 +1,13 @@
-use Rattle.std.proofs.Common.{◌≡◌, ℕ, Bool, true, false, Ok, Err, Some, None, refl, sym, ap, subst, ◌∙◌}
+use Rattle.std.proofs.Common.{◌≡◌, ℕ, true, Ok, Err, Some, None, refl, sym, ap, subst, ◌∙◌}
 use Rattle.pm_model.specs.Counts.{Counts}
 use Rattle.pm_model.specs.Words.{reads}
 use Rattle.puddled.specs.declared.daemon.StartFault.TheVariants as starts
 use Rattle.puddled.specs.declared.daemon.RunFault.TheVariants as faults
 use Rattle.puddled.specs.Faults.{Ends}
-use Rattle.puddle_cli.specs.Serving.{TakesBy, AnsweredBy}
 use Rattle.puddle_cli.specs.Headline.{TakesScript}
 use Rattle.puddle_cli.proofs.Running.{TakesScript-unstarted, TakesScript-served, Headline-in_start, Headline-served, never_unsound, script_left, fault_at_end}
 use Rattle.puddle_cli.proofs.Statuses.{fault_at_status, goes_on, stays_sound, usable_by, not_whole_of}
-use Rattle.puddle_cli.specs.Replying.{HeardBy, RunSays}
+use Rattle.puddle_cli.specs.Replying.{RunSays}
 use Rattle.puddle_cli.proofs.Replying.{RunSays-start, RunSays-refused, RunSays-heard}
 use Rattle.puddle_cli.proofs.run.run.Goals as goal
 

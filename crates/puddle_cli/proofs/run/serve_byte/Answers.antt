@@ -2,13 +2,12 @@ use Rattle.std.proofs.Common.{◌+◌, ◌≡◌, ◌∙◌, Bool, Result, Some,
 use Rattle.std.specs.Prelude.{List, ℕ}
 use Rattle.std.proofs.lemmas.Result.{err_from_is_err_and}
 use Rattle.pm_model.specs.Counts.{Counts}
-use Rattle.pm_model.specs.Moments.{State}
 use Rattle.pud_defs.specs.Run.{last_world, open_rest}
 use Rattle.puddled.specs.declared.daemon.RunFault.{RunFault}
 use Rattle.puddled.specs.Faults.{of_host}
 use Rattle.puddled.proofs.Counted.{Ends-host, host_is_sound}
 use Rattle.puddle_cli.specs.Source.{bytes_left}
-use Rattle.puddle_cli.specs.Serving.{Serves, TakesOne}
+use Rattle.puddle_cli.specs.Serving.{TakesOne}
 use Rattle.puddle_cli.proofs.Answering.{counts_nothing_more, ready_read, AnswersLine-as, Answered-newline, Answered-so_far, Serves-line, Serves-byte, Takes-more, TakesAtMost-takes, KeepsScript-still, left_kept, took_aloud}
 use Rattle.puddle_cli.specs.Replying.{Hears}
 use Rattle.puddle_cli.proofs.Replying.{Hears-line, Hears-byte, Heard-newline, Heard-so_far}
