@@ -1,6 +1,8 @@
 -- A script is answered line by line.
-use Rattle.std.proofs.Common.{◌≡◌, ℕ, zero, suc, ◌+◌, ◌<◌, ◌≤◌, Bool, true, false, List, [], ◌∷◌, ◌++◌, length, map, take, Option, Some, None, Result, Err, inl, inr, ⊎_elim, refl, sym, ap, subst, ◌∙◌, arith, append_assoc, length-append}
+use Rattle.std.proofs.Common.{◌≡◌, ℕ, zero, suc, ◌+◌, ◌<◌, ◌≤◌, Bool, true, false, cond, not, List, [], ◌∷◌, ◌++◌, length, map, take, Option, Some, None, Result, Ok, Err, inl, inr, ⊎_elim, refl, sym, ap, subst, ◌∙◌, arith, append_assoc, length-append}
+use Rattle.std.specs.Prelude.{IfOk}
 use Rattle.std.proofs.lemmas.List.{append-nil, map-append, nil_from_length}
+use Rattle.std.proofs.lemmas.List.Sums.{sum_by-append}
 use Rattle.pm_model.specs.declared.host.HostFault.{HostFault}
 use Rattle.pm_model.specs.declared.host.HostFault.TheVariants as hosts
 use Rattle.pm_model.specs.Counts.{Counts, after_fault}
@@ -8,15 +10,15 @@ use Rattle.pm_model.specs.Words.{Image, reads}
 use Rattle.pm_model.specs.Moments.{State, with_script}
 use Rattle.pm_model.specs.Calls.{TakesByte}
 use Rattle.pm_model.specs.Changes.{Leaves}
-use Rattle.pm_model.proofs.Leaves.{Leaves-then, Leaves-still}
+use Rattle.pm_model.proofs.Leaves.{Leaves-then, Leaves-still, Leaves-weaker}
 use Rattle.pud_defs.specs.declared.layout.TheConstants.{SCRIPT_LIMIT}
 use Rattle.pud_defs.specs.declared.machine.Command.{Command}
-use Rattle.pud_defs.specs.World.{World, world_of}
+use Rattle.pud_defs.specs.World.{World, world_of, closed}
 use Rattle.pud_defs.specs.Grammar.{command_of}
 use Rattle.pud_defs.specs.Gives.{Gives, StepBy}
 use Rattle.pud_defs.specs.Run.{Turn, IsTurn, cuts_of, IsRun, last_world, newlines, open_rest, lines_taken, lines_among}
-use Rattle.pud_defs.specs.Texts.{answer_text, replies_text}
-use Rattle.pud_defs.specs.Stands.{StandsWith}
+use Rattle.pud_defs.specs.Texts.{answer_text, begins_with_ok}
+use Rattle.pud_defs.specs.Stands.{StandsAfter, StandsWith}
 use Rattle.pud_defs.specs.Changing.{file_in, KeepsFiles}
 use Rattle.pud_defs.proofs.Changing.{KeepsFiles-still, KeepsUnwritable-still, KeepsUnwritable-then, KeepsUnwritable-line}
 use Rattle.pud_defs.proofs.Commands.{command_of-front}
@@ -31,9 +33,70 @@ use Rattle.puddled.specs.Faults.{of_host, run_fault, CountsLine, CountsReply, Co
 use Rattle.puddled.proofs.Counted.{risen_grows, none_is_sound, counted_fault, lost_in_line, CountsTurns-one, CountsTurns-append}
 use Rattle.ready_daemon.specs.Memory.{Memory}
 use Rattle.puddled.specs.Saying.{SaysPart}
-use Rattle.puddled.specs.Daemon.{KeepsLine, Answers}
+use Rattle.puddled.specs.Daemon.{KeepsLine, spoken, Answers}
 use Rattle.ready_daemon.specs.Ready.{IsReady, RefusesNone}
-use Rattle.puddle_cli.specs.Serving.{KeepsScript, IsUnsoundBehindLoss, Takes, TakesAtMost, TakesAll, CountsPending, AllowsLogs, AnswersLine, Serves, Answered}
+use Rattle.puddle_cli.specs.declared.source.Source.{Source}
+use Rattle.puddle_cli.specs.declared.source.Source.TheVariants.{Script, Generated}
+use Rattle.puddle_cli.specs.Source.{is_aloud, bytes_left, TakesNext}
+use Rattle.puddle_cli.specs.Serving.{said_of, refused_of, StandsAmong, StandsBy, KeepsScript, IsUnsoundBehindLoss, Takes, TakesAtMost, TakesAll, CountsPending, AllowsLogs, AnswersLine, Serves, Answered}
+
+-- ---- what is said of lines, aloud or not
+
+pub said_of-append : (aloud : Bool) (turns more : List Turn) → said_of aloud (turns ++ more) ≡ said_of aloud turns ++ said_of aloud more
+said_of-append true turns more = replies_text-append turns more
+said_of-append false turns more = refl
+
+pub said_of-none : (aloud : Bool) → said_of aloud [] ≡ []
+said_of-none true = refl
+said_of-none false = refl
+
+said_of-one : (aloud : Bool) (t : Turn) → said_of aloud (t ∷ []) ≡ spoken aloud t.answer
+said_of-one true t = append-nil (answer_text t.answer)
+said_of-one false t = refl
+
+-- ---- and which world an image stands for meanwhile
+
+pub among_first : (size : ℕ) (w : World) (turns : List Turn) (image : Image) → world_of size image ≡ Some (closed w) → StandsAmong size w turns image
+among_first size w [] image is = is
+among_first size w (t ∷ turns) image is = inl is
+
+among_more : (size : ℕ) (w : World) (turns more : List Turn) (image : Image) → StandsAmong size w turns image → StandsAmong size w (turns ++ more) image
+among_more size w [] more image p = among_first size w more image p
+among_more size w (t ∷ turns) more image (inl p) = inl p
+among_more size w (t ∷ turns) more image (inr (inl p)) = inr (inl p)
+among_more size w (t ∷ turns) more image (inr (inr p)) = inr (inr (among_more size t.next turns more image p))
+
+pub among_later : (size : ℕ) (w : World) (turns more : List Turn) (image : Image) → StandsAmong size (last_world w turns) more image → StandsAmong size w (turns ++ more) image
+among_later size w [] more image p = p
+among_later size w (t ∷ turns) more image p = inr (inr (among_later size t.next turns more image p))
+
+among_after : (size : ℕ) (w : World) (turns : List Turn) (said : ℕ) (image : Image) → StandsAfter size w turns said image → StandsAmong size w turns image
+among_after size w [] zero image p = p
+among_after size w [] (suc said) image p = absurd p
+among_after size w (t ∷ turns) zero image (inl p) = inl p
+among_after size w (t ∷ turns) zero image (inr p) = inr (inl p)
+among_after size w (t ∷ turns) (suc said) image p = inr (inr (among_after size t.next turns said image p))
+
+pub StandsBy-line : (aloud : Bool) (size : ℕ) (w : World) (turns : List Turn) (bytes : List ℕ) (image : Image) → StandsWith size w turns bytes image → StandsBy aloud size w turns bytes image
+StandsBy-line true size w turns bytes image p = p
+StandsBy-line false size w turns bytes image p = among_after size w turns (newlines bytes) image p
+
+-- before anything is said
+pub StandsBy-none : (aloud : Bool) (size : ℕ) (w : World) (image : Image) → world_of size image ≡ Some (closed w) → StandsBy aloud size w [] [] image
+StandsBy-none true size w image p = p
+StandsBy-none false size w image p = p
+
+StandsBy-more : (aloud : Bool) (size : ℕ) (w : World) (turns more : List Turn) (bytes : List ℕ) (image : Image) → StandsBy aloud size w turns bytes image → StandsBy aloud size w (turns ++ more) bytes image
+StandsBy-more true size w turns more bytes image p = StandsAfter-more size w turns more (newlines bytes) image p
+StandsBy-more false size w turns more bytes image p = among_more size w turns more image p
+
+StandsBy-later : (aloud : Bool) (size : ℕ) (w : World) (turns more : List Turn) (bytes : List ℕ) (image : Image) → StandsBy aloud size (last_world w turns) more bytes image
+    → StandsBy aloud size w (turns ++ more) (said_of aloud turns ++ bytes) image
+StandsBy-later true size w turns more bytes image p = StandsWith-later size w turns more bytes image p
+StandsBy-later false size w turns more bytes image p = among_later size w turns more image p
+
+refused_of-append : (turns more : List Turn) → refused_of (turns ++ more) ≡ refused_of turns + refused_of more
+refused_of-append turns more = sum_by-append (λ (t : Turn). cond (not (begins_with_ok t.answer)) 1 0) turns more
 
 pub nothing_from_take : (line : List ℕ) → take 129 line ≡ [] → line ≡ []
 nothing_from_take [] e = refl
@@ -66,44 +129,64 @@ module _ (w : World) (t : Turn) (piece line : List ℕ) (of_line : t.line ≡ pi
         goes_on = turn.goes_on;
       })
 
+-- how many replies do not begin with `ok`, by what a line's call gave
+abbrev pub refused_by : Result Bool RunFault → Result ℕ RunFault
+refused_by (Ok ok) = Ok (cond (not ok) 1 0)
+refused_by (Err fault) = Err fault
+
+same_fault : (result : Result Bool RunFault) → run_fault (refused_by result) ≡ run_fault result
+same_fault (Ok ok) = refl
+same_fault (Err fault) = refl
+
+counted_refused : (ok : Bool) (t : Turn) → ok ≡ begins_with_ok t.answer → ◌≡◌ {A = ℕ} (cond (not ok) 1 0) (refused_of (t ∷ []))
+counted_refused ok t is = ap (λ (b : Bool). cond (not b) 1 0) is ∙ omega arith
+
+refused_turn : (result : Result Bool RunFault) (t : Turn) → IfOk result (λ ok. ok ≡ begins_with_ok t.answer) → IfOk (refused_by result) (λ count. count ≡ refused_of (t ∷ []))
+refused_turn (Ok ok) t is = counted_refused ok t is
+refused_turn (Err fault) t is = tt
+
 -- a line that is not empty
-pub AnswersLine-turn : (size : ℕ) (w : World) (memory : Memory) (piece line : List ℕ) (result : Result Bool RunFault) (before after : Counts) (old new : State) → (piece ≡ [] → ⊥) → piece ≡ take 129 line
-    → old.shelf ≡ w.shelf → KeepsLine (file_in (command_of piece)) old new → Answers size w piece true result memory before after old new → AnswersLine size w line (run_fault result) memory before after old new
+pub AnswersLine-turn : (size : ℕ) (w : World) (aloud : Bool) (memory : Memory) (piece line : List ℕ) (result : Result Bool RunFault) (before after : Counts) (old new : State) → (piece ≡ [] → ⊥) → piece ≡ take 129 line
+    → old.shelf ≡ w.shelf → KeepsLine (file_in (command_of piece)) old new → Answers size w piece aloud result memory before after old new → AnswersLine size w aloud line (refused_by result) memory before after old new
 unfolding relined
-AnswersLine-turn size w memory piece line result before after old new some kept shelf keeps a =
+AnswersLine-turn size w aloud memory piece line result before after old new some kept shelf keeps a =
     let t = relined a.turn line in
     let same : command_of piece ≡ command_of line = ap command_of kept ∙ command_of-front line in
     let counts : CountsLine (command_of line) (run_fault result) (cuts_of (t ∷ [])) before after =
     subst (λ (c : Option Command). CountsLine c (run_fault result) (cuts_of (t ∷ [])) before after) same a.counted in
     let longer : length line ≡ 0 → ⊥ = λ none. some (kept ∙ ap (λ (l : List ℕ). take 129 l) (nil_from_length line none)) in
+    let same_end = same_fault result in
     record {
       turns = t ∷ [];
       few = omega arith;
       lines = sym (lines_among_line line longer);
       is_run = (is_turn_relined w a.turn piece line a.of_line kept a.is_turn, tt);
-      moments = a.moments;
+      refused = refused_turn result t a.ok;
+      moments = Leaves-weaker (StandsWith size w (t ∷ [])) (λ bytes image. StandsBy aloud size w (t ∷ []) bytes image) old new (λ bytes image p. StandsBy-line aloud size w (t ∷ []) bytes image p) a.moments;
       allowed = a.allowed;
-      says = subst (λ (text : List ℕ). SaysPart text (run_fault result) old new) (sym (append-nil (answer_text a.turn.answer))) a.says;
-      ready = a.ready;
-      counted = counts;
-      turns_counted = λ none. CountsTurns-one t before after (run_fault result) none counts;
-      sound = a.sound;
+      says = subst (λ (f : Option RunFault). SaysPart (said_of aloud (t ∷ [])) f old new) (sym same_end)
+          (subst (λ (text : List ℕ). SaysPart text (run_fault result) old new) (sym (said_of-one aloud t)) a.says);
+      ready = λ none. a.ready (sym same_end ∙ none);
+      counted = subst (λ (f : Option RunFault). CountsLine (command_of line) f (cuts_of (t ∷ [])) before after) (sym same_end) counts;
+      turns_counted = λ none. CountsTurns-one t before after (run_fault result) (sym same_end ∙ none) counts;
+      sound = λ unsound. a.sound (sym same_end ∙ unsound);
       script = a.script;
       files = subst (λ (o : Option Command). KeepsFiles (file_in o) w.shelf new.shelf) same (subst (λ (shelf : List ℕ → Option (List ℕ)). KeepsFiles (file_in (command_of piece)) shelf new.shelf) shelf keeps.files);
     }
 
 -- an empty one
-pub AnswersLine-nothing : (size : ℕ) (w : World) (memory : Memory) (line : List ℕ) (before after : Counts) (old new : State) → IsReady size w memory old → take 129 line ≡ [] → after ≡ before → new ≡ old
-    → AnswersLine size w line None memory before after old new
-AnswersLine-nothing size w memory line before after old new ready none uncounted same =
-    subst (λ (n : State). AnswersLine size w line None memory before after old n) (sym same) (record {
+pub AnswersLine-nothing : (size : ℕ) (w : World) (aloud : Bool) (memory : Memory) (line : List ℕ) (before after : Counts) (old new : State) → IsReady size w memory old → take 129 line ≡ [] → after ≡ before → new ≡ old
+    → AnswersLine size w aloud line (Ok 0) memory before after old new
+AnswersLine-nothing size w aloud memory line before after old new ready none uncounted same =
+    subst (λ (n : State). AnswersLine size w aloud line (Ok 0) memory before after old n) (sym same) (record {
       turns = [];
       few = omega arith;
       lines = sym (lines_among_empty line (ap length (nothing_from_take line none)));
       is_run = tt;
-      moments = Leaves-still (StandsWith size w []) old old (λ image picked. (ready_stands size w _ _ ready image picked).0) refl;
+      refused = refl;
+      moments = Leaves-still (λ bytes image. StandsBy aloud size w [] bytes image) old old (λ image picked. StandsBy-none aloud size w image (ready_stands size w _ _ ready image picked).0) refl;
       allowed = Leaves-still (λ bytes image. RefusesNone image) old old (λ image picked. (ready_stands size w _ _ ready image picked).1) refl;
-      says = record { bytes = []; rest = []; part = refl; said = sym (append-nil old.now.said); whole = λ _. refl };
+      says = record { bytes = []; rest = []; part = said_of-none aloud; said = sym (append-nil old.now.said); whole = λ _. refl };
       ready = λ _. ready;
       counted = (λ lost. cc, uncounted);
       turns_counted = λ _. uncounted;
@@ -111,6 +194,11 @@ AnswersLine-nothing size w memory line before after old new ready none uncounted
       script = refl;
       files = KeepsFiles-still None w.shelf old.shelf ready.shelf;
     })
+
+-- whether it was said aloud is known in two ways
+pub AnswersLine-as : (size : ℕ) (w : World) (a b : Bool) (line : List ℕ) (result : Result ℕ RunFault) (memory : Memory) (before after : Counts) (old new : State) → a ≡ b
+    → AnswersLine size w a line result memory before after old new → AnswersLine size w b line result memory before after old new
+AnswersLine-as size w a b line result memory before after old new same it = subst (λ (x : Bool). AnswersLine size w x line result memory before after old new) same it
 
 -- the host failed as it was read
 pub counts_nothing_more : (fault : HostFault) (before after : Counts) → after ≡ after_fault (Some fault) before → (Some fault ≡ Some hosts.Cut → ⊥) → CountsPending [] (Some (of_host fault)) before after
@@ -125,63 +213,69 @@ IsReady-script : (size : ℕ) (w : World) (memory : Memory) (bytes : List ℕ) (
 IsReady-script size w memory bytes s r = record { mask = r.mask; settled = r.settled; tables = r.tables; clients = r.clients; frames = r.frames; shelf = r.shelf; held = r.held; sessions = r.sessions; rest = r.rest; logs = r.logs; knows = r.knows }
 
 -- ready where the bytes taken left the daemon, after a byte more was read
-pub ready_read : (size : ℕ) (w : World) (before : Counts) (start : State) (counts : Counts) (memory : Memory) (now after : State) (piece : List ℕ) (byte : Option ℕ)
-    → (s : Serves size w before start counts memory now piece) → TakesByte byte now after → IsReady size (last_world w s.turns) memory after
-ready_read size w before start counts memory now after piece None s took = subst (λ (n : State). IsReady size (last_world w s.turns) memory n) (sym took.1) s.ready
-ready_read size w before start counts memory now after piece (Some b) s took =
+pub ready_read : (size : ℕ) (w : World) (aloud : Bool) (all : List ℕ) (before : Counts) (start : State) (counts : Counts) (memory : Memory) (now after : State) (left behind piece : List ℕ) (refused : ℕ) (byte : ℕ)
+    → (s : Serves size w aloud all before start counts memory now left piece refused) → TakesNext (Some byte) left behind now after → IsReady size (last_world w s.turns) memory after
+ready_read size w aloud all before start counts memory now after left behind piece refused byte s took =
     subst (λ (n : State). IsReady size (last_world w s.turns) memory n) (sym took.1) (IsReady-script size (last_world w s.turns) memory after.script now s.ready)
 
 -- one line more, behind those that were answered: at the exit of a call that answered it
-module _ (size : ℕ) (w : World) (before : Counts) (start : State) (counts : Counts) (memory : Memory) (now : State) (read_counts : Counts) (read : State) (piece : List ℕ) (uncounted : read_counts ≡ counts)
-    (s : Serves size w before start counts memory now piece) where
+module _ (size : ℕ) (w : World) (aloud : Bool) (all : List ℕ) (before : Counts) (start : State) (counts : Counts) (memory : Memory) (now : State) (read_counts : Counts) (read : State) (left piece : List ℕ) (refused : ℕ)
+    (uncounted : read_counts ≡ counts) (s : Serves size w aloud all before start counts memory now left piece refused) where
+  abbrev Stands : List Turn → List ℕ → Image → Type 0
+  Stands turns bytes image = StandsBy aloud size w turns bytes image
+
   -- the counts stay as a byte is read
   so_far_counted : CountsTurns s.turns before read_counts
   so_far_counted = subst (λ (x : Counts). CountsTurns s.turns before x) (sym uncounted) s.counted
 
-  joined_moments : (turns : List Turn) (new : State) → Leaves (StandsWith size w s.turns) start read → read.now.said ≡ start.now.said ++ replies_text s.turns
-      → Leaves (StandsWith size (last_world w s.turns) turns) read new → Leaves (StandsWith size w (s.turns ++ turns)) start new
+  joined_moments : (turns : List Turn) (new : State) → Leaves (Stands s.turns) start read → read.now.said ≡ start.now.said ++ said_of aloud s.turns
+      → Leaves (λ bytes image. StandsBy aloud size (last_world w s.turns) turns bytes image) read new → Leaves (Stands (s.turns ++ turns)) start new
   joined_moments turns new so_far said line =
-      Leaves-then (StandsWith size w s.turns) (StandsWith size (last_world w s.turns) turns) (StandsWith size w (s.turns ++ turns)) (replies_text s.turns) start read new said
-      (λ front image p. StandsAfter-more size w s.turns turns (newlines front) image p)
-      (λ more image p. StandsWith-later size w s.turns turns more image p)
+      Leaves-then (Stands s.turns) (λ bytes image. StandsBy aloud size (last_world w s.turns) turns bytes image) (Stands (s.turns ++ turns)) (said_of aloud s.turns) start read new said
+      (λ front image p. StandsBy-more aloud size w s.turns turns front image p)
+      (λ more image p. StandsBy-later aloud size w s.turns turns more image p)
       so_far line
 
-  joined_allowed : (new : State) → AllowsLogs start read → read.now.said ≡ start.now.said ++ replies_text s.turns → AllowsLogs read new → AllowsLogs start new
+  joined_allowed : (new : State) → AllowsLogs start read → read.now.said ≡ start.now.said ++ said_of aloud s.turns → AllowsLogs read new → AllowsLogs start new
   joined_allowed new so_far said line =
       let P : List ℕ → Image → Type 0 = λ bytes image. RefusesNone image in
-      Leaves-then P P P (replies_text s.turns) start read new said (λ front image p. p) (λ more image p. p) so_far line
+      Leaves-then P P P (said_of aloud s.turns) start read new said (λ front image p. p) (λ more image p. p) so_far line
 
   joined_lines : (taken : List ℕ) (ended : Bool) (turns : List Turn) → lines_taken taken ended ≡ lines_taken s.taken false ++ lines_among (open_rest s.taken ∷ [])
       → map (λ t. t.line) turns ≡ lines_among (open_rest s.taken ∷ []) → map (λ t. t.line) (s.turns ++ turns) ≡ lines_taken taken ended
-  joined_lines taken ended turns all line =
-      map-append (λ (t : Turn). t.line) s.turns turns ∙ (λ i. s.lines i ++ line i) ∙ sym all
+  joined_lines taken ended turns lines line =
+      map-append (λ (t : Turn). t.line) s.turns turns ∙ (λ i. s.lines i ++ line i) ∙ sym lines
+
+  joined_refused : (turns : List Turn) (count : ℕ) → count ≡ refused_of turns → refused + count ≡ refused_of (s.turns ++ turns)
+  joined_refused turns count is = (λ i. s.refusals i + is i) ∙ sym (refused_of-append s.turns turns)
 
   -- with a fault, or at the end of the script
-  pub Answered-line : (next : Memory) (taken : List ℕ) (ended : Bool) (fault : Option RunFault) (after : Counts) (new : State)
+  pub Answered-line : (next : Memory) (taken : List ℕ) (ended : Bool) (fault : RunFault) (after : Counts) (new : State) (behind : List ℕ)
       → lines_taken taken ended ≡ lines_taken s.taken false ++ lines_among (open_rest s.taken ∷ [])
-      → start.script ≡ taken ++ read.script → (ended ≡ true → read.script ≡ [])
-      → Leaves (StandsWith size w s.turns) start read → AllowsLogs start read → read.now.said ≡ start.now.said ++ replies_text s.turns
-      → (a : AnswersLine size (last_world w s.turns) (open_rest s.taken) fault next read_counts after read new) → (fault ≡ None → ⊥)
-      → Answered size w ended fault before after start new
-  Answered-line next taken ended fault after new all script to_end so_far logs said a faulty =
+      → all ≡ taken ++ behind → (ended ≡ true → behind ≡ [])
+      → Leaves (Stands s.turns) start read → AllowsLogs start read → read.now.said ≡ start.now.said ++ said_of aloud s.turns
+      → (a : AnswersLine size (last_world w s.turns) aloud (open_rest s.taken) (Err fault) next read_counts after read new)
+      → Answered size w aloud all ended (Some fault) before after start new behind 0
+  Answered-line next taken ended fault after new behind lines is to_end so_far logs said a =
       record {
         taken = taken;
         answered = s.turns;
         pending = a.turns;
         few = a.few;
         is_run = IsRun-append w s.turns a.turns s.is_run a.is_run;
-        lines = joined_lines taken ended a.turns all a.lines;
-        script = script ∙ ap (λ (l : List ℕ). taken ++ l) (sym a.script);
-        to_end = λ e. a.script ∙ to_end e;
+        lines = joined_lines taken ended a.turns lines a.lines;
+        is = is;
+        to_end = to_end;
+        refusals = λ none. absurd (let no : Some fault ≡ None = none in cc);
         more = a.says.bytes;
         rest = a.says.rest;
         said = a.says.said ∙ ap (λ (l : List ℕ). l ++ a.says.bytes) said;
         part = a.says.part;
-        whole = λ none. absurd (faulty none);
+        whole = λ none. absurd (let no : Some fault ≡ None = none in cc);
         moments = joined_moments a.turns new so_far said a.moments;
         allowed = joined_allowed new logs said a.allowed;
         memory = next;
-        ready = λ none. absurd (faulty none);
+        ready = λ none. absurd (let no : Some fault ≡ None = none in cc);
         files = a.files;
         mid = read_counts;
         turns_counted = so_far_counted;
@@ -189,19 +283,19 @@ module _ (size : ℕ) (w : World) (before : Counts) (start : State) (counts : Co
         sound = a.sound;
       }
 
-  all_said_whole : (turns : List Turn) (bytes rest : List ℕ) (old new : State) → replies_text turns ≡ bytes ++ rest → rest ≡ [] → new.now.said ≡ old.now.said ++ bytes
-      → old.now.said ≡ start.now.said ++ replies_text s.turns → new.now.said ≡ start.now.said ++ replies_text (s.turns ++ turns)
+  all_said_whole : (turns : List Turn) (bytes rest : List ℕ) (old new : State) → said_of aloud turns ≡ bytes ++ rest → rest ≡ [] → new.now.said ≡ old.now.said ++ bytes
+      → old.now.said ≡ start.now.said ++ said_of aloud s.turns → new.now.said ≡ start.now.said ++ said_of aloud (s.turns ++ turns)
   all_said_whole turns bytes rest old new part none new_said said =
-      let whole : replies_text turns ≡ bytes = part ∙ ap (λ (l : List ℕ). bytes ++ l) none ∙ append-nil bytes in
-      new_said ∙ ap (λ (l : List ℕ). l ++ bytes) said ∙ append_assoc start.now.said (replies_text s.turns) bytes
-      ∙ ap (λ (l : List ℕ). start.now.said ++ (replies_text s.turns ++ l)) (sym whole) ∙ ap (λ (l : List ℕ). start.now.said ++ l) (sym (replies_text-append s.turns turns))
+      let whole : said_of aloud turns ≡ bytes = part ∙ ap (λ (l : List ℕ). bytes ++ l) none ∙ append-nil bytes in
+      new_said ∙ ap (λ (l : List ℕ). l ++ bytes) said ∙ append_assoc start.now.said (said_of aloud s.turns) bytes
+      ∙ ap (λ (l : List ℕ). start.now.said ++ (said_of aloud s.turns ++ l)) (sym whole) ∙ ap (λ (l : List ℕ). start.now.said ++ l) (sym (said_of-append aloud s.turns turns))
 
-  -- the script is answered to its end
-  pub Answered-end : (next : Memory) (after : Counts) (new : State) → read ≡ now → now.script ≡ [] → (a : AnswersLine size (last_world w s.turns) (open_rest s.taken) None next read_counts after read new)
-      → Answered size w true None before after start new
-  Answered-end next after new same none_left a =
+  -- all are answered to their end
+  pub Answered-end : (next : Memory) (after : Counts) (new : State) (count : ℕ) (behind : List ℕ) → read ≡ now → left ≡ [] → behind ≡ left
+      → (a : AnswersLine size (last_world w s.turns) aloud (open_rest s.taken) (Ok count) next read_counts after read new) → Answered size w aloud all true None before after start new behind (refused + count)
+  Answered-end next after new count behind same none_left same_left a =
       let said = ap (λ (x : State). x.now.said) same ∙ s.said in
-      let so_far = subst (λ (n : State). Leaves (StandsWith size w s.turns) start n) (sym same) s.moments in
+      let so_far = subst (λ (n : State). Leaves (Stands s.turns) start n) (sym same) s.moments in
       let logs = subst (λ (n : State). AllowsLogs start n) (sym same) s.allowed in
       let ready_end : IsReady size (last_world w (s.turns ++ a.turns)) next new = subst (λ (v : World). IsReady size v next new) (sym (last_world-append w s.turns a.turns)) (a.ready refl) in
       record {
@@ -211,14 +305,15 @@ module _ (size : ℕ) (w : World) (before : Counts) (start : State) (counts : Co
         few = omega arith;
         is_run = subst (λ (ts : List Turn). IsRun w ts) (sym (append-nil (s.turns ++ a.turns))) (IsRun-append w s.turns a.turns s.is_run a.is_run);
         lines = ap (λ (ts : List Turn). map (λ t. t.line) ts) (append-nil (s.turns ++ a.turns)) ∙ joined_lines s.taken true a.turns (lines_taken-end s.taken) a.lines;
-        script = s.script ∙ ap (λ (x : State). s.taken ++ x.script) (sym same) ∙ ap (λ (l : List ℕ). s.taken ++ l) (sym a.script);
-        to_end = λ _. a.script ∙ ap (λ (x : State). x.script) same ∙ none_left;
+        is = s.is ∙ ap (λ (l : List ℕ). s.taken ++ l) (sym same_left);
+        to_end = λ _. same_left ∙ none_left;
+        refusals = λ _. joined_refused a.turns count a.refused;
         more = [];
         rest = [];
-        said = all_said_whole a.turns a.says.bytes a.says.rest read new a.says.part (a.says.whole refl) a.says.said said ∙ sym (append-nil (start.now.said ++ replies_text (s.turns ++ a.turns)));
-        part = refl;
+        said = all_said_whole a.turns a.says.bytes a.says.rest read new a.says.part (a.says.whole refl) a.says.said said ∙ sym (append-nil (start.now.said ++ said_of aloud (s.turns ++ a.turns)));
+        part = said_of-none aloud;
         whole = λ _. refl;
-        moments = subst (λ (ts : List Turn). Leaves (StandsWith size w ts) start new) (sym (append-nil (s.turns ++ a.turns))) (joined_moments a.turns new so_far said a.moments);
+        moments = subst (λ (ts : List Turn). Leaves (Stands ts) start new) (sym (append-nil (s.turns ++ a.turns))) (joined_moments a.turns new so_far said a.moments);
         allowed = joined_allowed new logs said a.allowed;
         memory = next;
         ready = λ _. ready_end;
@@ -229,69 +324,96 @@ module _ (size : ℕ) (w : World) (before : Counts) (start : State) (counts : Co
         sound = none_is_sound;
       }
 
-  -- a newline was taken, and the line that it ends was answered
-  pub Serves-line : (next : Memory) (byte : ℕ) (after : Counts) (new : State) → byte ≡ 10 → TakesByte (Some byte) now read
-      → (a : AnswersLine size (last_world w s.turns) (open_rest s.taken) None next read_counts after read new) → Serves size w before start after next new []
-  Serves-line next byte after new newline took a =
-      let said : read.now.said ≡ start.now.said ++ replies_text s.turns = ap (λ (x : State). x.now.said) took.1 ∙ s.said in
-      let so_far : Leaves (StandsWith size w s.turns) start read = subst (λ (n : State). Leaves (StandsWith size w s.turns) start n) (sym took.1) (Leaves-script (StandsWith size w s.turns) read.script start now s.moments) in
-      let logs : AllowsLogs start read = subst (λ (n : State). AllowsLogs start n) (sym took.1) (Leaves-script (λ bytes image. RefusesNone image) read.script start now s.allowed) in
-      record {
-        taken = s.taken ++ byte ∷ [];
-        turns = s.turns ++ a.turns;
-        is_run = IsRun-append w s.turns a.turns s.is_run a.is_run;
-        lines = joined_lines (s.taken ++ byte ∷ []) false a.turns (lines_taken-newline s.taken byte newline) a.lines;
-        under_way = sym (ap (λ (l : List ℕ). take 129 l) (open_rest-newline s.taken byte newline));
-        script = s.script ∙ ap (λ (l : List ℕ). s.taken ++ l) (took.0 ∙ ap (λ (l : List ℕ). byte ∷ l) (sym a.script)) ∙ sym (append_assoc s.taken (byte ∷ []) new.script);
-        said = all_said_whole a.turns a.says.bytes a.says.rest read new a.says.part (a.says.whole refl) a.says.said said;
-        moments = joined_moments a.turns new so_far said a.moments;
-        allowed = joined_allowed new logs said a.allowed;
-        ready = subst (λ (v : World). IsReady size v next new) (sym (last_world-append w s.turns a.turns)) (a.ready refl);
-        counted = CountsTurns-append s.turns a.turns before read_counts after so_far_counted (a.turns_counted refl);
-      }
+  -- a byte was taken, and those behind it are left
+  module _ (byte : ℕ) (behind : List ℕ) (took : TakesNext (Some byte) left behind now read) where
+    said_read : read.now.said ≡ start.now.said ++ said_of aloud s.turns
+    said_read = ap (λ (x : State). x.now.said) took.1 ∙ s.said
 
-  -- it was taken, and the line was not answered whole
-  pub Answered-newline : (next : Memory) (byte : ℕ) (fault : RunFault) (after : Counts) (new : State) → byte ≡ 10 → TakesByte (Some byte) now read
-      → AnswersLine size (last_world w s.turns) (open_rest s.taken) (Some fault) next read_counts after read new → Answered size w false (Some fault) before after start new
-  Answered-newline next byte fault after new newline took a =
-      Answered-line next (s.taken ++ byte ∷ []) false (Some fault) after new (lines_taken-newline s.taken byte newline)
-      (s.script ∙ ap (λ (l : List ℕ). s.taken ++ l) took.0 ∙ sym (append_assoc s.taken (byte ∷ []) read.script))
-      (λ e. absurd (let no : false ≡ true = e in cc))
-      (subst (λ (n : State). Leaves (StandsWith size w s.turns) start n) (sym took.1) (Leaves-script (StandsWith size w s.turns) read.script start now s.moments))
-      (subst (λ (n : State). AllowsLogs start n) (sym took.1) (Leaves-script (λ bytes image. RefusesNone image) read.script start now s.allowed))
-      (ap (λ (x : State). x.now.said) took.1 ∙ s.said)
-      a (λ none. let no : Some fault ≡ None = none in cc)
+    moments_read : Leaves (Stands s.turns) start read
+    moments_read = subst (λ (n : State). Leaves (Stands s.turns) start n) (sym took.1) (Leaves-script (Stands s.turns) read.script start now s.moments)
 
-  -- the end was read, and the last line was not answered whole
-  pub Answered-last : (next : Memory) (fault : RunFault) (after : Counts) (new : State) → read ≡ now → now.script ≡ []
-      → AnswersLine size (last_world w s.turns) (open_rest s.taken) (Some fault) next read_counts after read new → Answered size w true (Some fault) before after start new
-  Answered-last next fault after new same none_left a =
-      Answered-line next s.taken true (Some fault) after new (lines_taken-end s.taken)
-      (s.script ∙ ap (λ (x : State). s.taken ++ x.script) (sym same))
-      (λ _. ap (λ (x : State). x.script) same ∙ none_left)
-      (subst (λ (n : State). Leaves (StandsWith size w s.turns) start n) (sym same) s.moments)
+    allowed_read : AllowsLogs start read
+    allowed_read = subst (λ (n : State). AllowsLogs start n) (sym took.1) (Leaves-script (λ bytes image. RefusesNone image) read.script start now s.allowed)
+
+    taken_more : (after : List ℕ) → after ≡ behind → all ≡ (s.taken ++ byte ∷ []) ++ after
+    taken_more after same = s.is ∙ ap (λ (l : List ℕ). s.taken ++ l) (took.0 ∙ ap (λ (l : List ℕ). byte ∷ l) (sym same)) ∙ sym (append_assoc s.taken (byte ∷ []) after)
+
+    -- it is a newline, and the line that it ends was answered
+    pub Serves-line : (next : Memory) (after : Counts) (new : State) (count : ℕ) (later : List ℕ) → later ≡ behind → byte ≡ 10
+        → (a : AnswersLine size (last_world w s.turns) aloud (open_rest s.taken) (Ok count) next read_counts after read new) → Serves size w aloud all before start after next new later [] (refused + count)
+    Serves-line next after new count later same newline a =
+        record {
+          taken = s.taken ++ byte ∷ [];
+          turns = s.turns ++ a.turns;
+          is_run = IsRun-append w s.turns a.turns s.is_run a.is_run;
+          lines = joined_lines (s.taken ++ byte ∷ []) false a.turns (lines_taken-newline s.taken byte newline) a.lines;
+          under_way = sym (ap (λ (l : List ℕ). take 129 l) (open_rest-newline s.taken byte newline));
+          is = taken_more later same;
+          refusals = joined_refused a.turns count a.refused;
+          said = all_said_whole a.turns a.says.bytes a.says.rest read new a.says.part (a.says.whole refl) a.says.said said_read;
+          moments = joined_moments a.turns new moments_read said_read a.moments;
+          allowed = joined_allowed new allowed_read said_read a.allowed;
+          ready = subst (λ (v : World). IsReady size v next new) (sym (last_world-append w s.turns a.turns)) (a.ready refl);
+          counted = CountsTurns-append s.turns a.turns before read_counts after so_far_counted (a.turns_counted refl);
+        }
+
+    -- it is, and the line was not answered whole
+    pub Answered-newline : (next : Memory) (fault : RunFault) (after : Counts) (new : State) (later : List ℕ) → later ≡ behind → byte ≡ 10
+        → AnswersLine size (last_world w s.turns) aloud (open_rest s.taken) (Err fault) next read_counts after read new → Answered size w aloud all false (Some fault) before after start new later 0
+    Answered-newline next fault after new later same newline a =
+        Answered-line next (s.taken ++ byte ∷ []) false fault after new later (lines_taken-newline s.taken byte newline) (taken_more later same)
+        (λ e. absurd (let no : false ≡ true = e in cc)) moments_read allowed_read said_read a
+
+    -- it is another one
+    pub Serves-byte : (byte ≡ 10 → ⊥) → Serves size w aloud all before start read_counts memory read behind (take 129 (piece ++ byte ∷ [])) refused
+    Serves-byte other =
+        record {
+          taken = s.taken ++ byte ∷ [];
+          turns = s.turns;
+          is_run = s.is_run;
+          lines = s.lines ∙ sym (lines_taken-other s.taken byte other);
+          under_way = ap (λ (l : List ℕ). take 129 (l ++ byte ∷ [])) s.under_way ∙ kept_more (open_rest s.taken) byte ∙ ap (λ (l : List ℕ). take 129 l) (sym (open_rest-other s.taken byte other));
+          is = taken_more behind refl;
+          refusals = s.refusals;
+          said = said_read;
+          moments = moments_read;
+          allowed = allowed_read;
+          ready = ready_read size w aloud all before start counts memory now read left behind piece refused byte s took;
+          counted = so_far_counted;
+        }
+
+  -- the end was reached, and the last line was not answered whole
+  pub Answered-last : (next : Memory) (fault : RunFault) (after : Counts) (new : State) (behind : List ℕ) → read ≡ now → left ≡ [] → behind ≡ left
+      → AnswersLine size (last_world w s.turns) aloud (open_rest s.taken) (Err fault) next read_counts after read new → Answered size w aloud all true (Some fault) before after start new behind 0
+  Answered-last next fault after new behind same none_left same_left a =
+      Answered-line next s.taken true fault after new behind (lines_taken-end s.taken)
+      (s.is ∙ ap (λ (l : List ℕ). s.taken ++ l) (sym same_left))
+      (λ _. same_left ∙ none_left)
+      (subst (λ (n : State). Leaves (Stands s.turns) start n) (sym same) s.moments)
       (subst (λ (n : State). AllowsLogs start n) (sym same) s.allowed)
       (ap (λ (x : State). x.now.said) same ∙ s.said)
-      a (λ none. let no : Some fault ≡ None = none in cc)
+      a
 
   -- nothing more was taken or said
-  pub Answered-so_far : (fault : Option RunFault) (after : Counts) → read ≡ now → CountsPending [] fault read_counts after → (fault ≡ Some NotSound → ⊥) → Answered size w false fault before after start read
-  Answered-so_far fault after same last is_sound =
-      subst (λ (n : State). Answered size w false fault before after start n) (sym same) (record {
+  pub Answered-so_far : (fault : Option RunFault) (after : Counts) (behind : List ℕ) (count : ℕ) → read ≡ now → behind ≡ left → (fault ≡ None → count ≡ refused) → CountsPending [] fault read_counts after → (fault ≡ Some NotSound → ⊥)
+      → Answered size w aloud all false fault before after start read behind count
+  Answered-so_far fault after behind count same same_left counts_refused last is_sound =
+      subst (λ (n : State). Answered size w aloud all false fault before after start n behind count) (sym same) (record {
         taken = s.taken;
         answered = s.turns;
         pending = [];
         few = omega arith;
         is_run = subst (λ (ts : List Turn). IsRun w ts) (sym (append-nil s.turns)) s.is_run;
         lines = ap (λ (ts : List Turn). map (λ t. t.line) ts) (append-nil s.turns) ∙ s.lines;
-        script = s.script;
+        is = s.is ∙ ap (λ (l : List ℕ). s.taken ++ l) (sym same_left);
         to_end = λ e. absurd (let no : false ≡ true = e in cc);
+        refusals = λ none. counts_refused none ∙ s.refusals;
         more = [];
         rest = [];
-        said = s.said ∙ sym (append-nil (start.now.said ++ replies_text s.turns));
-        part = refl;
+        said = s.said ∙ sym (append-nil (start.now.said ++ said_of aloud s.turns));
+        part = said_of-none aloud;
         whole = λ _. refl;
-        moments = subst (λ (ts : List Turn). Leaves (StandsWith size w ts) start now) (sym (append-nil s.turns)) s.moments;
+        moments = subst (λ (ts : List Turn). Leaves (Stands ts) start now) (sym (append-nil s.turns)) s.moments;
         allowed = s.allowed;
         memory = memory;
         ready = λ _. s.ready;
@@ -302,39 +424,37 @@ module _ (size : ℕ) (w : World) (before : Counts) (start : State) (counts : Co
         sound = is_sound;
       })
 
-  -- another byte was taken
-  pub Serves-byte : (byte : ℕ) → (byte ≡ 10 → ⊥) → TakesByte (Some byte) now read → Serves size w before start read_counts memory read (take 129 (piece ++ byte ∷ []))
-  Serves-byte byte other took =
-      record {
-        taken = s.taken ++ byte ∷ [];
-        turns = s.turns;
-        is_run = s.is_run;
-        lines = s.lines ∙ sym (lines_taken-other s.taken byte other);
-        under_way = ap (λ (l : List ℕ). take 129 (l ++ byte ∷ [])) s.under_way ∙ kept_more (open_rest s.taken) byte ∙ ap (λ (l : List ℕ). take 129 l) (sym (open_rest-other s.taken byte other));
-        script = s.script ∙ ap (λ (l : List ℕ). s.taken ++ l) took.0 ∙ sym (append_assoc s.taken (byte ∷ []) read.script);
-        said = ap (λ (x : State). x.now.said) took.1 ∙ s.said;
-        moments = subst (λ (n : State). Leaves (StandsWith size w s.turns) start n) (sym took.1) (Leaves-script (StandsWith size w s.turns) read.script start now s.moments);
-        allowed = subst (λ (n : State). AllowsLogs start n) (sym took.1) (Leaves-script (λ bytes image. RefusesNone image) read.script start now s.allowed);
-        ready = subst (λ (n : State). IsReady size (last_world w s.turns) memory n) (sym took.1) (IsReady-script size (last_world w s.turns) memory read.script now s.ready);
-        counted = so_far_counted;
-      }
-
 -- before any byte is taken
-pub Serves-start : (size : ℕ) (w : World) (memory : Memory) (before : Counts) (start now : State) → now ≡ start → IsReady size w memory start → Serves size w before start before memory now []
-Serves-start size w memory before start now same ready =
-    subst (λ (n : State). Serves size w before start before memory n []) (sym same) (record {
+pub Serves-start : (size : ℕ) (w : World) (aloud : Bool) (memory : Memory) (before : Counts) (start now : State) (all : List ℕ) → now ≡ start → IsReady size w memory start → Serves size w aloud all before start before memory now all [] 0
+Serves-start size w aloud memory before start now all same ready =
+    subst (λ (n : State). Serves size w aloud all before start before memory n all [] 0) (sym same) (record {
       taken = [];
       turns = [];
       is_run = tt;
       lines = sym (lines_taken-nothing false);
       under_way = sym (ap (λ (l : List ℕ). take 129 l) open_rest-nothing);
-      script = refl;
-      said = sym (append-nil start.now.said);
-      moments = Leaves-still (StandsWith size w []) start start (λ image picked. (ready_stands size w _ _ ready image picked).0) refl;
+      is = refl;
+      refusals = refl;
+      said = sym (ap (λ (l : List ℕ). start.now.said ++ l) (said_of-none aloud) ∙ append-nil start.now.said);
+      moments = Leaves-still (λ bytes image. StandsBy aloud size w [] bytes image) start start (λ image picked. StandsBy-none aloud size w image (ready_stands size w _ _ ready image picked).0) refl;
       allowed = Leaves-still (λ bytes image. RefusesNone image) start start (λ image picked. (ready_stands size w _ _ ready image picked).1) refl;
       ready = ready;
       counted = refl;
     })
+
+-- ---- which bytes are left
+
+-- they stay while the script does
+pub left_kept : (source : Source) (old new : State) → new.script ≡ old.script → bytes_left source new ≡ bytes_left source old
+left_kept Script old new same = same
+left_kept (Generated bytes) old new same = refl
+
+-- a byte of a script that is read
+pub took_aloud : (source next : Source) (byte : Option ℕ) (old new : State) → is_aloud source ≡ true → is_aloud next ≡ true → TakesNext byte (bytes_left source old) (bytes_left next new) old new → TakesByte byte old new
+took_aloud Script Script None old new said same took = (took.0, took.2)
+took_aloud Script Script (Some byte) old new said same took = took
+took_aloud Script (Generated bytes) byte old new said same took = absurd (let no : false ≡ true = same in cc)
+took_aloud (Generated bytes) next byte old new said same took = absurd (let no : false ≡ true = said in cc)
 
 -- ---- the bytes taken, whatever the device holds
 
@@ -344,37 +464,33 @@ KeepsScript-still old new same = record { script = ap (λ (x : State). x.script)
 pub KeepsScript-line : (line : List ℕ) (old new : State) → KeepsLine (file_in (command_of line)) old new → KeepsScript old new
 KeepsScript-line line old new k = record { script = k.script; files = KeepsUnwritable-line line old.shelf new.shelf k.files }
 
-pub Takes-start : (start now : State) → now ≡ start → Takes 0 start now
-Takes-start start now same = subst (λ (n : State). Takes 0 start n) (sym same) (record { taken = []; counted = refl; script = refl; files = KeepsUnwritable-still start.shelf start.shelf refl })
+pub Takes-start : (all : List ℕ) (start now : State) → now ≡ start → Takes all 0 start now all
+Takes-start all start now same = subst (λ (n : State). Takes all 0 start n all) (sym same) (record { taken = []; counted = refl; is = refl; files = KeepsUnwritable-still start.shelf start.shelf refl })
 
-pub Takes-more : (count byte : ℕ) (start now read new : State) → Takes count start now → TakesByte (Some byte) now read → KeepsScript read new → Takes (count + 1) start new
-Takes-more count byte start now read new t took kept =
+pub Takes-more : (all : List ℕ) (count byte : ℕ) (left behind later : List ℕ) (start now read new : State) → Takes all count start now left → TakesNext (Some byte) left behind now read → later ≡ behind → KeepsScript read new
+    → Takes all (count + 1) start new later
+Takes-more all count byte left behind later start now read new t took same kept =
     record {
       taken = t.taken ++ byte ∷ [];
       counted = let n = t.counted in omega (arith, length-append t.taken (byte ∷ []));
-      script = t.script ∙ ap (λ (l : List ℕ). t.taken ++ l) (took.0 ∙ ap (λ (l : List ℕ). byte ∷ l) (sym kept.script)) ∙ sym (append_assoc t.taken (byte ∷ []) new.script);
+      is = t.is ∙ ap (λ (l : List ℕ). t.taken ++ l) (took.0 ∙ ap (λ (l : List ℕ). byte ∷ l) (sym same)) ∙ sym (append_assoc t.taken (byte ∷ []) later);
       files = KeepsUnwritable-then start.shelf now.shelf new.shelf t.files
           (KeepsUnwritable-then now.shelf read.shelf new.shelf (KeepsUnwritable-still now.shelf read.shelf (ap (λ (x : State). x.shelf) took.1)) kept.files);
     }
 
-pub TakesAtMost-takes : (count most : ℕ) (start now : State) → count ≤ most → Takes count start now → TakesAtMost most start now
-TakesAtMost-takes count most start now below t = record { taken = t.taken; counted = let n = t.counted in omega arith; script = t.script; files = t.files }
+pub TakesAtMost-takes : (all : List ℕ) (count most : ℕ) (start now : State) (left : List ℕ) → count ≤ most → Takes all count start now left → TakesAtMost all most start now left
+TakesAtMost-takes all count most start now left below t = record { taken = t.taken; counted = let n = t.counted in omega arith; is = t.is; files = t.files }
 
-pub Takes-same : (count : ℕ) (start now new : State) → new ≡ now → Takes count start now → Takes count start new
-Takes-same count start now new same t = subst (λ (n : State). Takes count start n) (sym same) t
+pub Takes-same : (all : List ℕ) (count : ℕ) (start now new : State) (left later : List ℕ) → new ≡ now → later ≡ left → Takes all count start now left → Takes all count start new later
+Takes-same all count start now new left later same same_left t = subst (λ (n : State). Takes all count start n later) (sym same) (subst (λ (l : List ℕ). Takes all count start now l) (sym same_left) t)
 
-pub Takes-kept : (count : ℕ) (start now new : State) → Takes count start now → KeepsScript now new → Takes count start new
-Takes-kept count start now new t kept =
-    record { taken = t.taken; counted = t.counted; script = t.script ∙ ap (λ (l : List ℕ). t.taken ++ l) (sym kept.script); files = KeepsUnwritable-then start.shelf now.shelf new.shelf t.files kept.files }
+pub Takes-kept : (all : List ℕ) (count : ℕ) (start now new : State) (left later : List ℕ) → later ≡ left → Takes all count start now left → KeepsScript now new → Takes all count start new later
+Takes-kept all count start now new left later same t kept =
+    record { taken = t.taken; counted = t.counted; is = t.is ∙ ap (λ (l : List ℕ). t.taken ++ l) (sym same); files = KeepsUnwritable-then start.shelf now.shelf new.shelf t.files kept.files }
 
-pub TakesAll-end : (count : ℕ) (start now : State) → count < SCRIPT_LIMIT → now.script ≡ [] → Takes count start now → TakesAll start now
-TakesAll-end count start now below none_left t =
-    record { taken = t.taken; below = let n = t.counted in omega arith; script = t.script; none_left = none_left; files = t.files }
-
--- what was taken, behind a start
-pub TakesAtMost-behind : (most : ℕ) (start mid now : State) → mid.script ≡ start.script → mid.shelf ≡ start.shelf → TakesAtMost most mid now → TakesAtMost most start now
-TakesAtMost-behind most start mid now script shelf t =
-    record { taken = t.taken; counted = t.counted; script = sym script ∙ t.script; files = KeepsUnwritable-then start.shelf mid.shelf now.shelf (KeepsUnwritable-still start.shelf mid.shelf shelf) t.files }
+pub TakesAll-end : (all : List ℕ) (count : ℕ) (start now : State) (left : List ℕ) → count < SCRIPT_LIMIT → left ≡ [] → Takes all count start now left → TakesAll all start now left
+TakesAll-end all count start now left below none_left t =
+    record { taken = t.taken; below = let n = t.counted in omega arith; is = t.is; none_left = none_left; files = t.files }
 
 -- ---- a device that is not sound, whatever it held
 

@@ -5,3 +5,8 @@ pub mod Answering
 pub mod Replying
 pub mod Statuses
 pub mod Running
+pub mod GeneratedLines
+pub mod PlainLines
+pub mod NoneOpen
+pub mod Stored
+pub mod Generating

@@ -30,9 +30,10 @@ one_answer text is (suc k) d below = absurd (omega arith)
 
 -- ---- one line
 
-pub HearsLine-turn : (frames : ℕ) (piece line : List ℕ) (result : Result Bool RunFault) (old new : State) → (piece ≡ [] → ⊥) → piece ≡ take 129 line → SaysAnswer frames true result old new → new.script ≡ old.script
+pub HearsLine-turn : (frames : ℕ) (aloud : Bool) (piece line : List ℕ) (result : Result Bool RunFault) (old new : State) → aloud ≡ true → (piece ≡ [] → ⊥) → piece ≡ take 129 line → SaysAnswer frames aloud result old new → new.script ≡ old.script
     → HearsLine line (run_fault result) old new
-HearsLine-turn frames piece line result old new some kept says script =
+HearsLine-turn frames aloud piece line result old new heard some kept as_said script =
+    let says = subst (λ (b : Bool). SaysAnswer frames b result old new) heard as_said in
     let text = says.text in
     let longer : length line ≡ 0 → ⊥ = λ none. some (kept ∙ ap (λ (l : List ℕ). take 129 l) (nil_from_length line none)) in
     record {
@@ -53,6 +54,17 @@ HearsLine-nothing line old new none same = record {
   says = record { bytes = []; rest = []; part = refl; said = ap (λ (s : State). s.now.said) same ∙ sym (append-nil old.now.said); whole = λ _. refl };
   script = ap (λ (s : State). s.script) same;
 }
+
+-- a front of nothing is nothing
+pub front_of_nothing : (front rest : List ℕ) → [] ≡ front ++ rest → front ≡ []
+front_of_nothing [] rest e = refl
+front_of_nothing (b ∷ front) rest e = absurd (let no : [] ≡ b ∷ (front ++ rest) = e in cc)
+
+-- a line whose reply is not said aloud
+pub says_nothing : (frames : ℕ) (aloud : Bool) (result : Result Bool RunFault) (old new : State) → aloud ≡ false → SaysAnswer frames aloud result old new → new.now.said ≡ old.now.said
+says_nothing frames aloud result old new silent says =
+    let s = subst (λ (b : Bool). SaysAnswer frames b result old new) silent says in
+    s.says.said ∙ ap (λ (l : List ℕ). old.now.said ++ l) (front_of_nothing s.says.bytes s.says.rest s.says.part) ∙ append-nil old.now.said
 
 -- ---- before any byte is taken
 

@@ -29,10 +29,15 @@ use Rattle.puddled.specs.declared.daemon.StartFault.TheVariants as starts
 use Rattle.ready_daemon.specs.Memory.{Memory}
 use Rattle.ready_daemon.specs.Ready.{KeepsInput, IsReady, RefusesNone}
 use Rattle.puddled.specs.Starting.{DiffersByStart, refused_text, StandsInStart, Starts}
-use Rattle.puddle_cli.specs.declared.status.TheConstants.{DONE, POWER_LOST, TOO_LONG}
-use Rattle.puddle_cli.specs.Status.{status_fault, run_fault_at, status_at, IsStatusOfMode}
-use Rattle.puddle_cli.specs.Serving.{TakesBy, CountsPending, Answered, AnsweredBy}
-use Rattle.puddle_cli.specs.Headline.{TakesScript, cuts_lost, Headline}
+use Rattle.puddle_cli.specs.declared.status.TheConstants.{DONE, TOO_LONG}
+use Rattle.puddle_cli.specs.Status.{status_fault, run_fault_at, status_at, status_to, IsStatusOfMode}
+use Rattle.puddle_cli.specs.declared.run.Served.{Served}
+use Rattle.puddle_cli.specs.declared.source.Source.{Source}
+use Rattle.puddle_cli.specs.declared.source.Source.TheVariants.{Script, Generated}
+use Rattle.puddle_cli.specs.Source.{is_aloud, bytes_left}
+use Rattle.puddle_cli.specs.Serving.{TakesTo, TakesBy, CountsPending, AllowsLogs, Answered, AnsweredBy}
+use Rattle.puddle_cli.specs.Headline.{TakesScript, cuts_lost, StartMoments, RunCounts, Headline}
+use Rattle.puddle_cli.proofs.Replying.{front_of_nothing}
 use Rattle.puddle_cli.proofs.Statuses.{not_whole_of, fault_at_status, not_whole_at}
 
 -- ---- the counts of all lines, and of what ended the run
@@ -66,6 +71,35 @@ module _ (answered pending : List Turn) (fault : Option RunFault) (before mid af
       lost_pending pending mid after (subst (λ (f : Option RunFault). CountsPending pending f mid after) lost last)
       ∙ ap (λ (x : ℕ). risen_by (cuts_lost pending) x) (CountsTurns-cuts answered before mid turns)
       ∙ sym (risen_by-more (cuts_of answered) (cuts_lost pending) before.cuts)
+
+-- within the start nothing but its fault is counted
+pub counted_in_start : (fault : HostFault) (status : ℕ) (before after : Counts) → IsStatusOfMode status → status_fault status ≡ Some fault → after ≡ after_fault (Some fault) before → RunCounts false [] [] status before after
+counted_in_start fault status before after of_mode is last =
+    let not_whole = not_whole_of status fault of_mode is in
+    record {
+      mid = before;
+      in_start = λ _. last ∙ ap (λ (f : Option HostFault). after_fault f before) (sym is);
+      turns_counted = refl;
+      pending_counted = λ e. absurd (let it : false ≡ true = e in cc);
+      cuts = subst (λ (x : Counts). before.cuts ≤ x.cuts) (sym last) (cuts_after_fault (Some fault) before);
+      exact = λ none. absurd (not_whole none);
+      exact_at_loss = λ lost.
+          let cut : Some fault ≡ Some hosts.Cut = sym is ∙ ap status_fault lost in
+          ap (λ (x : Counts). x.cuts) (last ∙ ap (λ (f : Option HostFault). after_fault f before) cut);
+    }
+
+-- behind it each line is, and the end of the one under way
+pub counted_behind_start : (status : ℕ) (fault : Option RunFault) (before mid after : Counts) (answered pending : List Turn) → run_fault_at status ≡ fault → (fault ≡ None → pending ≡ [])
+    → CountsTurns answered before mid → CountsPending pending fault mid after → RunCounts true answered pending status before after
+counted_behind_start status fault before mid after answered pending is whole turns last = record {
+  mid = mid;
+  in_start = λ e. absurd (let it : true ≡ false = e in cc);
+  turns_counted = turns;
+  pending_counted = λ _. subst (λ (f : Option RunFault). CountsPending pending f mid after) (sym is) last;
+  cuts = rose_in_all answered pending fault before mid after turns last;
+  exact = λ none. exact_in_all answered pending fault before mid after turns last (sym is ∙ none) (whole (sym is ∙ none));
+  exact_at_loss = λ lost. exact_at_end answered pending fault before mid after turns last (sym is ∙ ap run_fault_at lost);
+}
 
 -- a rested device whose words stand for the world is one to start on
 module _ (size : ℕ) (w : World) (start : State) (rested : IsRested start.now.words) (stands : world_of size (reads start.now.words) ≡ Some (closed w)) where
@@ -107,12 +141,33 @@ module _ (size : ℕ) (w : World) (start : State) (rested : IsRested start.now.w
   fewer_lines : newlines (refused_text (reads start.now.words)) ≤ newlines text
   fewer_lines = lines_of_start (reads start.now.words)
 
+  pub moments_in_start : (result : Result Memory StartFault) (now : State) → Starts size w result start now → StartMoments w start now
+  moments_in_start result now s = record {
+    rights = Leaves-each Rights start now (start_rights result now s);
+    untold = Leaves-each Untold start now (start_untold result now s);
+    allowed = Leaves-each Allowed start now (start_allowed result now s);
+  }
+
+  -- a start that came to its end has said its text
+  pub text_said : (memory : Memory) (mid : State) → Starts size w (Ok memory) start mid → mid.now.said ≡ start.now.said ++ text
+  text_said memory mid s = s.says.said ∙ ap (λ (l : List ℕ). start.now.said ++ l) (sym (s.says.part ∙ ap (λ (l : List ℕ). s.says.bytes ++ l) (s.says.whole refl) ∙ append-nil s.says.bytes))
+
+  -- whatever comes behind it, while no registered log is refused
+  pub moments_behind_start : (P : List ℕ → Image → Type 0) (memory : Memory) (mid now : State) → Starts size w (Ok memory) start mid → mid.now.said ≡ start.now.said ++ text → Leaves P mid now → AllowsLogs mid now → StartMoments w start now
+  moments_behind_start P memory mid now s first moments allowed = record {
+    rights = Leaves-each Rights start now (Leaves-then Rights P Rights text start mid now first (λ front image p. p)
+        (λ more image p. λ few. let count = newlines-append text more in absurd (omega arith)) (start_rights (Ok memory) mid s) moments);
+    untold = Leaves-each Untold start now (Leaves-then Untold P Untold text start mid now first (λ front image p. p)
+        (λ more image p. λ few. let count = newlines-append text more in let fewer = fewer_lines in absurd (omega arith)) (start_untold (Ok memory) mid s) moments);
+    allowed = Leaves-each Allowed start now (Leaves-then Allowed (λ bytes image. RefusesNone image) Allowed text start mid now first (λ front image p. p)
+        (λ more image p. λ whole. p) (start_allowed (Ok memory) mid s) allowed);
+  }
+
   -- the host failed within the start, or power was lost in it
   pub Headline-in_start : (fault : HostFault) (status : ℕ) (before after : Counts) (now : State) → IsStatusOfMode status → status_fault status ≡ Some fault
       → after ≡ after_fault (Some fault) before → start.shelf ≡ w.shelf → Starts size w (Err (starts.Host fault)) start now → Headline size w status before after start now
   Headline-in_start fault status before after now of_mode is last shelf s =
       let not_whole = not_whole_of status fault of_mode is in
-      let as_told : after ≡ after_fault (status_fault status) before = last ∙ ap (λ (f : Option HostFault). after_fault f before) (sym is) in
       record {
         run = record {
           begun = false;
@@ -141,21 +196,9 @@ module _ (size : ℕ) (w : World) (start : State) (rested : IsRested start.now.w
         };
         moments = record {
           stands = Leaves-each (λ said image. StandsBehind (newlines text) size w [] (newlines said) image) start now (start_moments [] (Err (starts.Host fault)) now s);
-          rights = Leaves-each Rights start now (start_rights (Err (starts.Host fault)) now s);
-          untold = Leaves-each Untold start now (start_untold (Err (starts.Host fault)) now s);
-          allowed = Leaves-each Allowed start now (start_allowed (Err (starts.Host fault)) now s);
+          in_start = moments_in_start (Err (starts.Host fault)) now s;
         };
-        counted = record {
-          mid = before;
-          in_start = λ _. as_told;
-          turns_counted = refl;
-          pending_counted = λ e. absurd (let it : false ≡ true = e in cc);
-          cuts = subst (λ (x : Counts). before.cuts ≤ x.cuts) (sym last) (cuts_after_fault (Some fault) before);
-          exact = λ none. absurd (not_whole none);
-          exact_at_loss = λ lost.
-              let cut : Some fault ≡ Some hosts.Cut = sym is ∙ ap status_fault lost in
-              ap (λ (x : Counts). x.cuts) (last ∙ ap (λ (f : Option HostFault). after_fault f before) cut);
-        };
+        counted = counted_in_start fault status before after of_mode is last;
       }
 
   said_behind : (mid now : State) (replies more : List ℕ) → mid.now.said ≡ start.now.said ++ text → now.now.said ≡ mid.now.said ++ replies ++ more
@@ -165,24 +208,18 @@ module _ (size : ℕ) (w : World) (start : State) (rested : IsRested start.now.w
       ∙ ap (λ (l : List ℕ). l ++ more) (append_assoc start.now.said text replies)
       ∙ append_assoc start.now.said (text ++ replies) more
 
-  nothing_more : (more rest : List ℕ) → [] ≡ more ++ rest → more ≡ []
-  nothing_more [] rest e = refl
-  nothing_more (b ∷ more) rest e = absurd (let no : [] ≡ b ∷ (more ++ rest) = e in cc)
-
   -- the start was said whole, and the script was answered so far
   pub Headline-behind_start : (status : ℕ) (ended : Bool) (fault : Option RunFault) (before after : Counts) (memory : Memory) (mid now : State) → Starts size w (Ok memory) start mid
       → run_fault_at status ≡ fault → (status ≡ DONE → ended ≡ true) → (status ≡ TOO_LONG → ended ≡ false)
-      → Answered size w ended fault before after mid now → Headline size w status before after start now
-  Headline-behind_start status ended fault before after memory mid now s is done too_long a =
-      let cut : status ≡ POWER_LOST → fault ≡ Some faults.CutInStart = λ lost. sym is ∙ ap run_fault_at lost in
-      let first : mid.now.said ≡ start.now.said ++ text =
-      s.says.said ∙ ap (λ (l : List ℕ). start.now.said ++ l) (sym (s.says.part ∙ ap (λ (l : List ℕ). s.says.bytes ++ l) (s.says.whole refl) ∙ append-nil s.says.bytes)) in
+      → (refused : ℕ) → Answered size w true mid.script ended fault before after mid now now.script refused → Headline size w status before after start now
+  Headline-behind_start status ended fault before after memory mid now s is done too_long refused a =
+      let first = text_said memory mid s in
       record {
         run = record {
           begun = true;
           taken = a.taken;
           ended = ended;
-          script = sym s.script ∙ a.script;
+          script = sym s.script ∙ a.is;
           to_end = a.to_end;
           answered = a.answered;
           pending = a.pending;
@@ -198,7 +235,7 @@ module _ (size : ℕ) (w : World) (start : State) (rested : IsRested start.now.w
           behind_start = λ _. record { more = a.more; rest = a.rest; said = refl; part = a.part };
           whole = λ none.
               let nothing = a.whole (sym is ∙ none) in
-              let no_more = nothing_more a.more a.rest (ap replies_text (sym nothing) ∙ a.part) in
+              let no_more = front_of_nothing a.more a.rest (ap replies_text (sym nothing) ∙ a.part) in
               (nothing, ap (λ (l : List ℕ). text ++ replies_text a.answered ++ l) no_more ∙ append-nil (text ++ replies_text a.answered));
           all_lines = done;
           not_ended = too_long;
@@ -212,55 +249,56 @@ module _ (size : ℕ) (w : World) (start : State) (rested : IsRested start.now.w
               (λ more image p. subst (λ (n : ℕ). StandsBehind (newlines text) size w (a.answered ++ a.pending) n image)
               (sym (newlines-append text more)) (StandsBehind-after (newlines text) size w (a.answered ++ a.pending) (newlines more) image p))
               (start_moments (a.answered ++ a.pending) (Ok memory) mid s) a.moments);
-          rights = Leaves-each Rights start now (Leaves-then Rights (StandsWith size w (a.answered ++ a.pending)) Rights text start mid now first (λ front image p. p)
-              (λ more image p. λ few. let count = newlines-append text more in absurd (omega arith)) (start_rights (Ok memory) mid s) a.moments);
-          untold = Leaves-each Untold start now (Leaves-then Untold (StandsWith size w (a.answered ++ a.pending)) Untold text start mid now first (λ front image p. p)
-              (λ more image p. λ few. let count = newlines-append text more in let fewer = fewer_lines in absurd (omega arith)) (start_untold (Ok memory) mid s) a.moments);
-          allowed = Leaves-each Allowed start now (Leaves-then Allowed (λ bytes image. RefusesNone image) Allowed text start mid now first (λ front image p. p)
-              (λ more image p. λ whole. p) (start_allowed (Ok memory) mid s) a.allowed);
+          in_start = moments_behind_start (StandsWith size w (a.answered ++ a.pending)) memory mid now s first a.moments a.allowed;
         };
-        counted = record {
-          mid = a.mid;
-          in_start = λ e. absurd (let it : true ≡ false = e in cc);
-          turns_counted = a.turns_counted;
-          pending_counted = λ _. subst (λ (f : Option RunFault). CountsPending a.pending f a.mid after) (sym is) a.counted;
-          cuts = rose_in_all a.answered a.pending fault before a.mid after a.turns_counted a.counted;
-          exact = λ none. exact_in_all a.answered a.pending fault before a.mid after a.turns_counted a.counted (sym is ∙ none) (a.whole (sym is ∙ none));
-          exact_at_loss = λ lost. exact_at_end a.answered a.pending fault before a.mid after a.turns_counted a.counted (cut lost);
-        };
+        counted = counted_behind_start status fault before a.mid after a.answered a.pending is a.whole a.turns_counted a.counted;
       }
 
 -- a world without clients, in which nothing is open, is as a start leaves it
-is_started : (w : World) → w.clients ≡ no_clients → w.transactions ≡ nothing_open → restart w ≡ w
+pub is_started : (w : World) → w.clients ≡ no_clients → w.transactions ≡ nothing_open → restart w ≡ w
 is_started w none nothing = λ i. record w { clients = sym none i; transactions = sym nothing i }
 
 -- the status by how the script was answered
-abbrev pub status_by : Result Bool RunFault → ℕ
-status_by (Ok true) = DONE
-status_by (Ok false) = TOO_LONG
+pub fault_at_end : (ended : Bool) (status : ℕ) → status ≡ status_to ended → run_fault_at status ≡ None
+fault_at_end true status is = ap run_fault_at is
+fault_at_end false status is = ap run_fault_at is
+
+abbrev pub status_by : Result Served RunFault → ℕ
+status_by (Ok served) = status_to served.ended
 status_by (Err fault) = status_at fault
+
+-- the bytes left of a source that is said aloud are those of the script
+pub script_left : (source : Source) (s : State) → is_aloud source ≡ true → bytes_left source s ≡ s.script
+script_left Script s aloud = refl
+script_left (Generated bytes) s aloud = absurd (let no : false ≡ true = aloud in cc)
 
 -- A start that came to its end, and the script answered from there on.
 module _ (size : ℕ) (begun after : Counts) (memory : Memory) (start mid now : State) where
+  served_to : (before : Counts) (w : World) → IsRested start.now.words → world_of size (reads start.now.words) ≡ Some (closed w) → Starts size w (Ok memory) start mid
+      → (ended : Bool) (refused : ℕ) → Answered size w true mid.script ended None before after mid now now.script refused → Headline size w (status_to ended) before after start now
+  served_to before w rested stands s true refused a =
+      Headline-behind_start size w start rested stands DONE true None before after memory mid now s refl (λ _. refl) (λ e. absurd (let no : DONE ≡ TOO_LONG = e in cc)) refused a
+  served_to before w rested stands s false refused a =
+      Headline-behind_start size w start rested stands TOO_LONG false None before after memory mid now s refl (λ e. absurd (let no : TOO_LONG ≡ DONE = e in cc)) (λ _. refl) refused a
+
   served_by : (before : Counts) (w : World) → IsRested start.now.words → world_of size (reads start.now.words) ≡ Some (closed w) → Starts size w (Ok memory) start mid
-      → (served : Result Bool RunFault) → AnsweredBy size w served before after mid now → Headline size w (status_by served) before after start now
-  served_by before w rested stands s (Ok true) a = Headline-behind_start size w start rested stands DONE true None before after memory mid now s refl (λ _. refl) (λ e. absurd (let no : DONE ≡ TOO_LONG = e in cc)) a
-  served_by before w rested stands s (Ok false) a = Headline-behind_start size w start rested stands TOO_LONG false None before after memory mid now s refl (λ e. absurd (let no : TOO_LONG ≡ DONE = e in cc)) (λ _. refl) a
+      → (served : Result Served RunFault) → AnsweredBy size w true mid.script served before after mid now now.script → Headline size w (status_by served) before after start now
+  served_by before w rested stands s (Ok served) a = served_to before w rested stands s served.ended served.refused a
   served_by before w rested stands s (Err fault) a =
       Headline-behind_start size w start rested stands (status_at fault) a.0 (Some fault) before after memory mid now s (fault_at_status fault)
-      (λ e. absurd (not_whole_at fault DONE refl e)) (λ e. absurd (not_whole_at fault TOO_LONG refl e)) a.1
+      (λ e. absurd (not_whole_at fault DONE refl e)) (λ e. absurd (not_whole_at fault TOO_LONG refl e)) 0 a.1
 
   pub Headline-served : (before : Counts) (w : World) → IsRested start.now.words → world_of size (reads start.now.words) ≡ Some (closed w) → w.clients ≡ no_clients → w.transactions ≡ nothing_open → Starts size w (Ok memory) start mid → begun ≡ before
-      → (served : Result Bool RunFault) → (IsReady size w memory mid → AnsweredBy size w served begun after mid now) → Headline size w (status_by served) before after start now
+      → (served : Result Served RunFault) → (IsReady size w memory mid → AnsweredBy size w true mid.script served begun after mid now now.script) → Headline size w (status_by served) before after start now
   Headline-served before w rested stands none nothing s counts served answers =
       served_by before w rested stands s served
-      (subst (λ (x : Counts). AnsweredBy size w served x after mid now) counts (answers (subst (λ (v : World). IsReady size v memory mid) (is_started w none nothing) s.ready)))
+      (subst (λ (x : Counts). AnsweredBy size w true mid.script served x after mid now now.script) counts (answers (subst (λ (v : World). IsReady size v memory mid) (is_started w none nothing) s.ready)))
 
   -- a run from a device that stands for a world is never told that it is not sound
   pub never_unsound : (fault : RunFault) → ((w : World) → world_of size (reads start.now.words) ≡ Some (closed w) → start.shelf ≡ w.shelf → Starts size w (Ok memory) start mid)
-      → ((w : World) → IsReady size w memory mid → AnsweredBy size w (Err fault) begun after mid now)
+      → (aloud : Bool) (all left : List ℕ) → ((w : World) → IsReady size w memory mid → AnsweredBy size w aloud all (Err fault) begun after mid now left)
       → (s : StoredWorld) → world_of size (reads start.now.words) ≡ Some s → Some fault ≡ Some faults.NotSound → ⊥
-  never_unsound fault begins answers s stands unsound =
+  never_unsound fault begins aloud all left answers s stands unsound =
       let w : World = record { stored = s; clients = no_clients; shelf = start.shelf; transactions = nothing_open } in
       (answers w (begins w stands refl).ready).1.sound unsound
 
@@ -279,36 +317,39 @@ TakesScript-unstarted status start end kept faulty = record {
 }
 
 -- behind it what the loop over the script took
-pub TakesScript-served : (served : Result Bool RunFault) (start mid end : State) → KeepsInput start mid → TakesBy served mid end → TakesScript (status_by served) start end
-TakesScript-served (Ok true) start mid end kept t =
+taken_to : (ended : Bool) (start mid end : State) → KeepsInput start mid → TakesTo ended mid.script mid end end.script → TakesScript (status_to ended) start end
+taken_to true start mid end kept t =
     let files = KeepsUnwritable-then start.shelf mid.shelf end.shelf (KeepsUnwritable-still start.shelf mid.shelf kept.shelf) t.files in
     let below = t.below in
     record {
       taken = t.taken;
-      script = sym kept.script ∙ t.script;
+      script = sym kept.script ∙ t.is;
       within = omega arith;
       done = λ _. (t.none_left, t.below);
       too_long = λ is. absurd (let no : DONE ≡ TOO_LONG = is in cc);
       exact = λ _. (λ is. absurd (let no : DONE ≡ TOO_LONG = is in cc), λ all. absurd (omega arith));
       files = files;
     }
-TakesScript-served (Ok false) start mid end kept t =
+taken_to false start mid end kept t =
     let files = KeepsUnwritable-then start.shelf mid.shelf end.shelf (KeepsUnwritable-still start.shelf mid.shelf kept.shelf) t.files in
     let counted = t.counted in
     record {
       taken = t.taken;
-      script = sym kept.script ∙ t.script;
+      script = sym kept.script ∙ t.is;
       within = omega arith;
       done = λ is. absurd (let no : TOO_LONG ≡ DONE = is in cc);
       too_long = λ _. t.counted;
       exact = λ _. (λ _. t.counted, λ _. refl);
       files = files;
     }
+
+pub TakesScript-served : (served : Result Served RunFault) (start mid end : State) → KeepsInput start mid → TakesBy mid.script served mid end end.script → TakesScript (status_by served) start end
+TakesScript-served (Ok served) start mid end kept t = taken_to served.ended start mid end kept t
 TakesScript-served (Err fault) start mid end kept t =
     let files = KeepsUnwritable-then start.shelf mid.shelf end.shelf (KeepsUnwritable-still start.shelf mid.shelf kept.shelf) t.files in
     record {
       taken = t.taken;
-      script = sym kept.script ∙ t.script;
+      script = sym kept.script ∙ t.is;
       within = t.counted;
       done = λ is. absurd (not_whole_at fault DONE refl is);
       too_long = λ is. absurd (not_whole_at fault TOO_LONG refl is);

@@ -69,40 +69,44 @@ pub record RunExit (size : ℕ) (w : World) (status : ℕ) (start end : State) (
   pub files : KeepsFiles (file_under_way run.pending) (last_world w run.answered).shelf end.shelf
   pub shelf_of_run : run_fault_at status ≡ None → end.shelf ≡ (last_world w run.answered).shelf
 
--- Every moment of a run: what an image stands for that may have been left since the start of the call, by the bytes said since then. The lines
--- of the start's text come first. Until they are whole an image differs from what the device read only where a start may write: what the
--- daemon log names, what logs give whose owners may write all that they name, their gates, the daemon log and the log-space table. Until each
--- log that is refused is told of it is refused still; and once they are whole no registered log is refused.
-pub record RunMoments (size : ℕ) (w : World) (start end : State) (run : ScriptRun w start end) : Type 0 where
-  pub stands : (said : List ℕ) (image : Image) → MayLeave start end said image → StandsBehind (newlines (start_text (reads start.now.words))) size w (run.answered ++ run.pending) (newlines said) image
+-- Every moment of what begins with a start and says its text first. Until that is whole an image differs from what the device read only where a start
+-- may write: what the daemon log names, what logs give whose owners may write all that they name, their gates, the daemon log and the log-space table.
+-- Until each log that is refused is told of it is refused still; and once the text is whole no registered log is refused.
+pub record StartMoments (w : World) (start end : State) : Type 0 where
   pub rights : (said : List ℕ) (image : Image) → MayLeave start end said image → newlines said < newlines (start_text (reads start.now.words))
       → DiffersByStart w.stored.frames (reads start.now.words) image
   pub untold : (said : List ℕ) (image : Image) → MayLeave start end said image → newlines said < newlines (refused_text (reads start.now.words))
       → RefusesSame w.stored.frames (reads start.now.words) image
   pub allowed : (said : List ℕ) (image : Image) → MayLeave start end said image → newlines (start_text (reads start.now.words)) ≤ newlines said → RefusesNone image
 
+-- Every moment of a run: what an image stands for that may have been left since the start of the call, by the bytes said since then. The lines
+-- of the start's text come first.
+pub record RunMoments (size : ℕ) (w : World) (start end : State) (run : ScriptRun w start end) : Type 0 where
+  pub stands : (said : List ℕ) (image : Image) → MayLeave start end said image → StandsBehind (newlines (start_text (reads start.now.words))) size w (run.answered ++ run.pending) (newlines said) image
+  pub in_start : StartMoments w start end
+
 -- how many cuts are counted where the restart behind the line under way was cut off: that one, and one in the line, unless it asks for the loss
 abbrev pub cuts_lost : List Turn → ℕ
 cuts_lost [] = 1
 cuts_lost (t ∷ turns) = cond (is_loss (command_of t.line)) 1 2
 
--- What was counted in a run. Within the start it is the host's one fault. Behind it each line answered is counted by its command and its reply:
--- only there a cut is armed, or power lost at once, no such line is answered `cut`, and where another is not, nothing is counted in it; and the
+-- What was counted in a run of these lines. Within the start it is the host's one fault. Behind it each line answered is counted by its command and its
+-- reply: only there a cut is armed, or power lost at once, no such line is answered `cut`, and where another is not, nothing is counted in it; and the
 -- line under way is counted by its command and by how it ended. So the cuts of a run that ended without a fault are exactly those of its
 -- replies `cut`, and at status 6 those, one more, and another one where a line that asks for no power loss was left without a reply. With any
 -- status it is as many at least as there are such replies.
-pub record RunCounts (w : World) (status : ℕ) (before after : Counts) (start end : State) (run : ScriptRun w start end) : Type 0 where
+pub record RunCounts (begun : Bool) (answered pending : List Turn) (status : ℕ) (before after : Counts) : Type 0 where
   pub mid : Counts
-  pub in_start : run.begun ≡ false → after ≡ after_fault (status_fault status) before
-  pub turns_counted : CountsTurns run.answered before mid
-  pub pending_counted : run.begun ≡ true → CountsPending run.pending (run_fault_at status) mid after
-  pub cuts : RoseBy (cuts_of run.answered) before.cuts after.cuts
-  pub exact : run_fault_at status ≡ None → after.cuts ≡ risen_by (cuts_of run.answered) before.cuts
-  pub exact_at_loss : status ≡ POWER_LOST → after.cuts ≡ risen_by (cuts_lost run.pending + cuts_of run.answered) before.cuts
+  pub in_start : begun ≡ false → after ≡ after_fault (status_fault status) before
+  pub turns_counted : CountsTurns answered before mid
+  pub pending_counted : begun ≡ true → CountsPending pending (run_fault_at status) mid after
+  pub cuts : RoseBy (cuts_of answered) before.cuts after.cuts
+  pub exact : run_fault_at status ≡ None → after.cuts ≡ risen_by (cuts_of answered) before.cuts
+  pub exact_at_loss : status ≡ POWER_LOST → after.cuts ≡ risen_by (cuts_lost pending + cuts_of answered) before.cuts
 
 -- The exit, the moments and the counts of one and the same run over a script, from a device whose images all stand for the stored world of w.
 pub record Headline (size : ℕ) (w : World) (status : ℕ) (before after : Counts) (start end : State) : Type 0 where
   pub run : ScriptRun w start end
   pub exit : RunExit size w status start end run
   pub moments : RunMoments size w start end run
-  pub counted : RunCounts w status before after start end run
+  pub counted : RunCounts run.begun run.answered run.pending status before after

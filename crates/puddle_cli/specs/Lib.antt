@@ -1,7 +1,10 @@
 pub mod Status
 pub mod Formatting
+pub mod Source
+pub mod Generated
 pub mod Serving
 pub mod Replying
 pub mod Headline
+pub mod Generating
 pub mod Views
 pub mod Modes

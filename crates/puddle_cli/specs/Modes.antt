@@ -1,5 +1,5 @@
 -- What the program does, by the mode that its words ask for.
-use Rattle.std.specs.Prelude.{◌≡◌, ◌≢◌, ◌≤◌, ◌⊎◌, ◌↔◌, ℕ, IsTrue, false, List, ◌++◌, Option, Some, None}
+use Rattle.std.specs.Prelude.{◌≡◌, ◌≢◌, ◌≤◌, ◌⊎◌, ◌↔◌, ℕ, IsTrue, false, List, ◌++◌, length, Option, Some, None}
 use Rattle.pm_model.specs.Words.{IsRested, reads}
 use Rattle.pm_model.specs.Moments.{State}
 use Rattle.pm_model.specs.Counts.{Counts, Rose, after_fault}
@@ -12,16 +12,18 @@ use Rattle.pud_defs.specs.StartText.{start_text}
 use Rattle.pud_defs.specs.World.{StoredWorld, World, no_clients, nothing_open, world_of, closed}
 use Rattle.ready_daemon.specs.Ready.{KeepsInput, RefusesNone}
 use Rattle.puddled.specs.Saying.{SaysPart}
+use Rattle.gen_work.specs.GenLines.{gen_lines}
 use Rattle.command_line.specs.declared.modes.Mode.{Mode}
-use Rattle.command_line.specs.declared.modes.Mode.TheVariants.{Format, Run, Layout, Check}
+use Rattle.command_line.specs.declared.modes.Mode.TheVariants.{Format, Run, Layout, Check, Gen}
 use Rattle.puddle_cli.specs.declared.status.TheConstants.{DONE, USAGE, NOT_USABLE, TOO_LONG}
 use Rattle.puddle_cli.specs.declared.show.View.TheVariants as views
-use Rattle.puddle_cli.specs.Status.{status_fault, IsStatusOfMode}
+use Rattle.puddle_cli.specs.Status.{status_fault, run_fault_at, IsStatusOfMode}
 use Rattle.puddle_cli.specs.Views.{text_of}
 use Rattle.puddle_cli.specs.Formatting.{is_refused, Formats}
-use Rattle.puddle_cli.specs.Serving.{IsUnsoundBehindLoss}
+use Rattle.puddle_cli.specs.Serving.{KeepsScript, IsUnsoundBehindLoss}
 use Rattle.puddle_cli.specs.Replying.{RunSays}
 use Rattle.puddle_cli.specs.Headline.{TakesScript, Headline}
+use Rattle.puddle_cli.specs.Generating.{RunsLines, SaysSummary}
 
 -- neither count of the host rose: no call failed, and power was not lost
 pub record NoneRose (before after : Counts) : Type 0 where
@@ -51,6 +53,19 @@ pub record RunsScript (status : ℕ) (before after : Counts) (old new : State) :
   pub headline : (w : World) → w.clients ≡ no_clients → w.transactions ≡ nothing_open → IsRested old.now.words → old.shelf ≡ w.shelf
       → world_of before.size (reads old.now.words) ≡ Some (closed w) → Headline before.size w status before after old new
 
+-- The mode `gen S N`, over the lines generated for them. Whatever the device holds, the start's text is said and then the summary as its tables have the
+-- pools, and nothing of the replies; no byte of the script is read, and each file that no line may write stays. It is refused as a run is. From a rested
+-- device that stands for a world without clients there is one run of the machine over the lines, which ends with the summary of its last world.
+pub record RunsGenerated (lines : List (List ℕ)) (status : ℕ) (before after : Counts) (old new : State) : Type 0 where
+  pub keeps : KeepsScript old new
+  pub says : SaysSummary (start_text (reads old.now.words)) (length lines) (run_fault_at status ≡ None) old new
+  pub not_usable : IsRested old.now.words → status_fault status ≡ None → (status ≡ NOT_USABLE) ↔ (world_of before.size (reads old.now.words) ≡ None)
+  pub not_sound : status ≡ NOT_USABLE → (world_of before.size (reads old.now.words) ≡ None) ⊎ IsUnsoundBehindLoss before after new
+  pub stays : IsRested old.now.words → status ≡ NOT_USABLE → new ≡ old
+  pub completes : IsRested old.now.words → world_of before.size (reads old.now.words) ≢ None → NoneRose before after → status ≡ DONE
+  pub runs : (w : World) → w.clients ≡ no_clients → w.transactions ≡ nothing_open → IsRested old.now.words → old.shelf ≡ w.shelf
+      → world_of before.size (reads old.now.words) ≡ Some (closed w) → RunsLines before.size w lines status before after old new
+
 -- A mode that starts and then says what the device holds, as a text of an image. Whatever the device holds, it is refused exactly where that is
 -- not sound, and the device then stays; where it is sound and neither count rose, the mode is done. On a device that is rested, but where it is
 -- refused, the start text is said and then the text of the settled image of what the device read, with a fault a part of both; that is the text of
@@ -73,6 +88,7 @@ EndsBy (Some (Format F id)) status before after = IsStatusOfMode status × (stat
 EndsBy (Some Run) status before after = IsStatusOfMode status
 EndsBy (Some Layout) status before after = IsStatusOfMode status × (status ≢ TOO_LONG) × (after ≡ after_fault (status_fault status) before)
 EndsBy (Some Check) status before after = IsStatusOfMode status × (status ≢ TOO_LONG) × (after ≡ after_fault (status_fault status) before)
+EndsBy (Some (Gen seed count)) status before after = IsStatusOfMode status × (status ≢ TOO_LONG)
 
 -- what each mode does; words that are no mode leave all as it was
 abbrev pub DoesBy : Option Mode → ℕ → Counts → Counts → State → State → Type 0
@@ -81,3 +97,4 @@ DoesBy (Some (Format F id)) status before after old new = FormatsDevice F id sta
 DoesBy (Some Run) status before after old new = RunsScript status before after old new
 DoesBy (Some Layout) status before after old new = Shows (text_of views.Layout) status before after old new
 DoesBy (Some Check) status before after old new = Shows (text_of views.Check) status before after old new
+DoesBy (Some (Gen seed count)) status before after old new = RunsGenerated (gen_lines seed count) status before after old new

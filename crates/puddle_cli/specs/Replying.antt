@@ -9,6 +9,7 @@ use Rattle.puddled.specs.declared.daemon.RunFault.{RunFault}
 use Rattle.puddled.specs.Saying.{IsPart, SaysPart}
 use Rattle.puddled.specs.Daemon.{IsAnswerText}
 use Rattle.puddle_cli.specs.declared.piece.TheConstants.{KEPT}
+use Rattle.puddle_cli.specs.declared.run.Served.{Served}
 use Rattle.puddle_cli.specs.Status.{run_fault_at}
 
 -- One answer was said to a line that is not empty, none to an empty one, and nothing else; with a fault a front of it.
@@ -54,8 +55,8 @@ pub record Heard (ended : Bool) (fault : Option RunFault) (start end : State) : 
   pub replied : IsReplied [] ended fault start end bytes
 
 -- by what the call answered: whether the end of the script was read, or why the run cannot go on
-abbrev pub HeardBy : Result Bool RunFault → State → State → Type 0
-HeardBy (Ok ended) start end = Heard ended None start end
+abbrev pub HeardBy : Result Served RunFault → State → State → Type 0
+HeardBy (Ok served) start end = Heard served.ended None start end
 HeardBy (Err fault) start end = (ended : Bool) × Heard ended (Some fault) start end
 
 -- What a run said: a front of the start's text, or the start's text and one answer for each line taken, in turn, of which the last one may be said

@@ -1,67 +1,102 @@
 -- How far a script was answered.
-use Rattle.std.specs.Prelude.{◌≡◌, ◌≢◌, ◌⊎◌, ℕ, ◌+◌, ◌<◌, ◌≤◌, Bool, true, false, List, [], ◌∷◌, ◌++◌, length, map, take, Option, Some, None, Result, Ok, Err}
+use Rattle.std.specs.Prelude.{◌≡◌, ◌≢◌, ◌⊎◌, ℕ, ◌+◌, ◌<◌, ◌≤◌, Bool, true, false, cond, not, List, [], ◌∷◌, ◌++◌, length, map, take, count_by, Option, Some, None, Result, Ok, Err, IfOk}
 use Rattle.pm_model.specs.Words.{reads}
 use Rattle.pm_model.specs.Counts.{Counts, Rose, after_fault}
 use Rattle.pm_model.specs.Moments.{State}
 use Rattle.pm_model.specs.Changes.{Leaves}
 use Rattle.pud_defs.specs.declared.layout.TheConstants.{SCRIPT_LIMIT}
-use Rattle.pud_defs.specs.World.{World, world_of}
+use Rattle.pud_defs.specs.Image.{Image}
+use Rattle.pud_defs.specs.World.{World, world_of, closed}
 use Rattle.pud_defs.specs.Grammar.{command_of}
 use Rattle.pud_defs.specs.Changing.{file_in, KeepsFiles, KeepsUnwritable}
 use Rattle.pud_defs.specs.Run.{Turn, cuts_of, IsRun, last_world, open_rest, lines_taken, lines_among}
-use Rattle.pud_defs.specs.Texts.{replies_text}
+use Rattle.pud_defs.specs.Texts.{replies_text, begins_with_ok}
 use Rattle.pud_defs.specs.Stands.{StandsWith}
 use Rattle.puddled.specs.declared.daemon.RunFault.{RunFault}
 use Rattle.puddled.specs.declared.daemon.RunFault.TheVariants.{CutInStart, NotSound}
-use Rattle.puddled.specs.Faults.{last_fault, CountsLine, CountsTurns}
+use Rattle.puddled.specs.Faults.{run_fault, last_fault, CountsLine, CountsTurns}
 use Rattle.ready_daemon.specs.Memory.{Memory}
 use Rattle.ready_daemon.specs.Ready.{IsReady, RefusesNone}
 use Rattle.puddled.specs.Saying.{SaysPart}
 use Rattle.puddle_cli.specs.declared.piece.TheConstants.{KEPT}
+use Rattle.puddle_cli.specs.declared.run.Served.{Served}
+
+-- ---- what is said of the lines of a run, and which world an image stands for meanwhile
+
+-- their replies where these are said aloud, else nothing
+abbrev pub said_of : (aloud : Bool) → List Turn → List ℕ
+said_of aloud turns = cond aloud (replies_text turns) []
+
+-- how many replies do not begin with `ok`
+abbrev pub refused_of : List Turn → ℕ
+refused_of turns = count_by (λ t. not (begins_with_ok t.answer)) turns
+
+-- the image stands for the closed world before some line of the run, for one that a line gives, or for the last one
+abbrev pub StandsAmong : ℕ → World → List Turn → Image → Type 0
+StandsAmong size w [] image = world_of size image ≡ Some (closed w)
+StandsAmong size w (t ∷ turns) image = (world_of size image ≡ Some (closed w)) ⊎ (world_of size image ≡ Some (closed t.under)) ⊎ StandsAmong size t.next turns image
+
+-- where the replies are said aloud they tell behind which line
+abbrev pub StandsBy : (aloud : Bool) → ℕ → World → List Turn → List ℕ → Image → Type 0
+StandsBy true size w turns bytes image = StandsWith size w turns bytes image
+StandsBy false size w turns bytes image = StandsAmong size w turns image
+
+-- ---- what stays of a host
 
 -- the bytes left to read stay, and each file that no line may write
 pub record KeepsScript (old new : State) : Type 0 where
   pub script : new.script ≡ old.script
   pub files : KeepsUnwritable old.shelf new.shelf
 
+-- nothing was said, and no byte of the script read
+pub record IsQuiet (old new : State) : Type 0 where
+  pub said : new.now.said ≡ old.now.said
+  pub script : new.script ≡ old.script
+
 -- power was lost meanwhile, as counted or at once, and what the device then reads is not sound
 pub record IsUnsoundBehindLoss (before after : Counts) (now : State) : Type 0 where
   pub lost : Rose before.cuts after.cuts ⊎ Rose before.losses after.losses
   pub unsound : world_of before.size (reads now.now.words) ≡ None
 
--- so many bytes of the script were taken
-pub record Takes (count : ℕ) (start now : State) : Type 0 where
+-- ---- how many bytes of all that there are were taken
+
+-- so many of them, with these left
+pub record Takes (all : List ℕ) (count : ℕ) (start now : State) (left : List ℕ) : Type 0 where
   pub taken : List ℕ
   pub counted : length taken ≡ count
-  pub script : start.script ≡ taken ++ now.script
+  pub is : all ≡ taken ++ left
   pub files : KeepsUnwritable start.shelf now.shelf
 
--- no more than so many bytes of the script were taken
-pub record TakesAtMost (count : ℕ) (start now : State) : Type 0 where
+-- no more than so many
+pub record TakesAtMost (all : List ℕ) (count : ℕ) (start now : State) (left : List ℕ) : Type 0 where
   pub taken : List ℕ
   pub counted : length taken ≤ count
-  pub script : start.script ≡ taken ++ now.script
+  pub is : all ≡ taken ++ left
   pub files : KeepsUnwritable start.shelf now.shelf
 
--- fewer than 2^20 bytes of the script were taken, and none is left
-pub record TakesAll (start now : State) : Type 0 where
+-- fewer than 2^20, and none is left
+pub record TakesAll (all : List ℕ) (start now : State) (left : List ℕ) : Type 0 where
   pub taken : List ℕ
   pub below : length taken < SCRIPT_LIMIT
-  pub script : start.script ≡ taken ++ now.script
-  pub none_left : now.script ≡ []
+  pub is : all ≡ taken ++ left
+  pub none_left : left ≡ []
   pub files : KeepsUnwritable start.shelf now.shelf
 
--- what a call that reads a script took of it, by whether it came to its end
-abbrev pub TakesBy : Result Bool RunFault → State → State → Type 0
-TakesBy (Ok true) start now = TakesAll start now
-TakesBy (Ok false) start now = Takes SCRIPT_LIMIT start now
-TakesBy (Err fault) start now = TakesAtMost SCRIPT_LIMIT start now
+-- all of them, or 2^20
+abbrev pub TakesTo : (ended : Bool) → (all : List ℕ) → State → State → (left : List ℕ) → Type 0
+TakesTo true all start now left = TakesAll all start now left
+TakesTo false all start now left = Takes all SCRIPT_LIMIT start now left
+
+-- what a call that takes them took, by whether it came to their end
+abbrev pub TakesBy : (all : List ℕ) → Result Served RunFault → State → State → (left : List ℕ) → Type 0
+TakesBy all (Ok served) start now left = TakesTo served.ended all start now left
+TakesBy all (Err fault) start now left = TakesAtMost all SCRIPT_LIMIT start now left
 
 -- a turn of the loop took a byte, or none was left, or one may have been taken
-abbrev pub TakesOne : Result Bool RunFault → ℕ → State → State → Type 0
-TakesOne (Ok true) count start now = Takes (count + 1) start now
-TakesOne (Ok false) count start now = Takes count start now
-TakesOne (Err fault) count start now = TakesAtMost (count + 1) start now
+abbrev pub TakesOne : (all : List ℕ) → Result Bool RunFault → ℕ → State → State → (left : List ℕ) → Type 0
+TakesOne all (Ok true) count start now left = Takes all (count + 1) start now left
+TakesOne all (Ok false) count start now left = Takes all count start now left
+TakesOne all (Err fault) count start now left = TakesAtMost all (count + 1) start now left
 
 -- what a host counts of the line under way, where there is one, up to its end
 abbrev pub CountsPending : List Turn → Option RunFault → Counts → Counts → Type 0
@@ -77,55 +112,59 @@ file_under_way (t ∷ turns) = file_in (command_of t.line)
 abbrev pub AllowsLogs : State → State → Type 0
 AllowsLogs old new = Leaves (λ bytes image. RefusesNone image) old new
 
--- A line was answered: by no turn where it is empty, else by one turn of the machine, whose reply is said whole without a fault.
-pub record AnswersLine (size : ℕ) (w : World) (line : List ℕ) (fault : Option RunFault) (memory : Memory) (before after : Counts) (old new : State) : Type 0 where
+-- A line was answered: by no turn where it is empty, else by one turn of the machine, whose reply is said whole without a fault where it is said aloud. The
+-- result is how many replies do not begin with `ok`.
+pub record AnswersLine (size : ℕ) (w : World) (aloud : Bool) (line : List ℕ) (result : Result ℕ RunFault) (memory : Memory) (before after : Counts) (old new : State) : Type 0 where
   pub turns : List Turn
   pub few : length turns ≤ 1
   pub lines : map (λ t. t.line) turns ≡ lines_among (line ∷ [])
   pub is_run : IsRun w turns
-  pub moments : Leaves (StandsWith size w turns) old new
+  pub refused : IfOk result (λ count. count ≡ refused_of turns)
+  pub moments : Leaves (StandsBy aloud size w turns) old new
   pub allowed : AllowsLogs old new
-  pub says : SaysPart (replies_text turns) fault old new
-  pub ready : fault ≡ None → IsReady size (last_world w turns) memory new
-  pub counted : CountsPending turns fault before after
-  pub turns_counted : fault ≡ None → CountsTurns turns before after
-  pub sound : fault ≢ Some NotSound
+  pub says : SaysPart (said_of aloud turns) (run_fault result) old new
+  pub ready : run_fault result ≡ None → IsReady size (last_world w turns) memory new
+  pub counted : CountsPending turns (run_fault result) before after
+  pub turns_counted : run_fault result ≡ None → CountsTurns turns before after
+  pub sound : run_fault result ≢ Some NotSound
   pub script : new.script ≡ old.script
   pub files : KeepsFiles (file_under_way turns) w.shelf new.shelf
 
--- The lines that the bytes taken close were answered, each by a turn of the machine, and the bytes behind them are the piece under way, of
--- which the first are kept: one more than a line may have.
-pub record Serves (size : ℕ) (w : World) (before : Counts) (start : State) (counts : Counts) (memory : Memory) (now : State) (piece : List ℕ) : Type 0 where
+-- Of all bytes these are left. The lines that those taken close were answered, each by a turn of the machine, and the bytes behind them are the piece
+-- under way, of which the first are kept: one more than a line may have. So many replies do not begin with `ok`.
+pub record Serves (size : ℕ) (w : World) (aloud : Bool) (all : List ℕ) (before : Counts) (start : State) (counts : Counts) (memory : Memory) (now : State) (left piece : List ℕ) (refused : ℕ) : Type 0 where
   pub taken : List ℕ
   pub turns : List Turn
   pub is_run : IsRun w turns
   pub lines : map (λ t. t.line) turns ≡ lines_taken taken false
   pub under_way : piece ≡ take KEPT (open_rest taken)
-  pub script : start.script ≡ taken ++ now.script
-  pub said : now.now.said ≡ start.now.said ++ replies_text turns
-  pub moments : Leaves (StandsWith size w turns) start now
+  pub is : all ≡ taken ++ left
+  pub refusals : refused ≡ refused_of turns
+  pub said : now.now.said ≡ start.now.said ++ said_of aloud turns
+  pub moments : Leaves (StandsBy aloud size w turns) start now
   pub allowed : AllowsLogs start now
   pub ready : IsReady size (last_world w turns) memory now
   pub counted : CountsTurns turns before counts
 
--- The script was answered so far: some lines whole, and at most one more whose reply is not whole. Without a fault there is none such. Each
--- file but the one that this line may write is as the lines answered left it. Up to
+-- All lines were answered so far, with these bytes left: some of them whole, and at most one more whose reply is not whole. Without a fault there is none
+-- such. Each file but the one that this line may write is as the lines answered left it. Up to
 -- some counts each line is counted by its command and its reply, and then the line under way ended so.
-pub record Answered (size : ℕ) (w : World) (ended : Bool) (fault : Option RunFault) (before after : Counts) (start now : State) : Type 0 where
+pub record Answered (size : ℕ) (w : World) (aloud : Bool) (all : List ℕ) (ended : Bool) (fault : Option RunFault) (before after : Counts) (start now : State) (left : List ℕ) (refused : ℕ) : Type 0 where
   pub taken : List ℕ
   pub answered : List Turn
   pub pending : List Turn
   pub few : length pending ≤ 1
   pub is_run : IsRun w (answered ++ pending)
   pub lines : map (λ t. t.line) (answered ++ pending) ≡ lines_taken taken ended
-  pub script : start.script ≡ taken ++ now.script
-  pub to_end : ended ≡ true → now.script ≡ []
+  pub is : all ≡ taken ++ left
+  pub to_end : ended ≡ true → left ≡ []
+  pub refusals : fault ≡ None → refused ≡ refused_of answered
   pub more : List ℕ
   pub rest : List ℕ
-  pub said : now.now.said ≡ start.now.said ++ replies_text answered ++ more
-  pub part : replies_text pending ≡ more ++ rest
+  pub said : now.now.said ≡ start.now.said ++ said_of aloud answered ++ more
+  pub part : said_of aloud pending ≡ more ++ rest
   pub whole : fault ≡ None → pending ≡ []
-  pub moments : Leaves (StandsWith size w (answered ++ pending)) start now
+  pub moments : Leaves (StandsBy aloud size w (answered ++ pending)) start now
   pub allowed : AllowsLogs start now
   pub memory : Memory
   pub ready : fault ≡ None → IsReady size (last_world w answered) memory now
@@ -135,7 +174,7 @@ pub record Answered (size : ℕ) (w : World) (ended : Bool) (fault : Option RunF
   pub counted : CountsPending pending fault mid after
   pub sound : fault ≢ Some NotSound
 
--- the same by what the call answered: whether the end of the script was read, or why the run cannot go on
-abbrev pub AnsweredBy : ℕ → World → Result Bool RunFault → Counts → Counts → State → State → Type 0
-AnsweredBy size w (Ok ended) before after start now = Answered size w ended None before after start now
-AnsweredBy size w (Err fault) before after start now = (ended : Bool) × Answered size w ended (Some fault) before after start now
+-- the same by what the call answered: whether the end was reached and how many were refused, or why the run cannot go on
+abbrev pub AnsweredBy : (size : ℕ) → World → (aloud : Bool) → (all : List ℕ) → Result Served RunFault → Counts → Counts → State → State → (left : List ℕ) → Type 0
+AnsweredBy size w aloud all (Ok served) before after start now left = Answered size w aloud all served.ended None before after start now left served.refused
+AnsweredBy size w aloud all (Err fault) before after start now left = (ended : Bool) × Answered size w aloud all ended (Some fault) before after start now left 0

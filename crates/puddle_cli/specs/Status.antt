@@ -1,5 +1,5 @@
 -- The status that the program ends with.
-use Rattle.std.specs.Prelude.{ℕ, ◌≡◌, ◌≢◌, ◌⊎◌, ◌≤◌, ◌==◌, cond, Option, Some, None}
+use Rattle.std.specs.Prelude.{ℕ, ◌≡◌, ◌≢◌, ◌⊎◌, ◌≤◌, ◌==◌, Bool, cond, Option, Some, None}
 use Rattle.pm_model.specs.declared.host.HostFault.{HostFault}
 use Rattle.pm_model.specs.declared.host.HostFault.TheVariants.{Failed, Cut}
 use Rattle.pm_model.specs.Counts.{Counts, Rose}
@@ -21,6 +21,10 @@ abbrev pub status_at : RunFault → ℕ
 status_at faults.Failed = DEVICE_FAULT
 status_at faults.CutInStart = POWER_LOST
 status_at faults.NotSound = NOT_USABLE
+
+-- the status of a run that could go on, by whether its script was read to its end
+abbrev pub status_to : (ended : Bool) → ℕ
+status_to ended = cond ended DONE TOO_LONG
 
 -- the statuses that a mode ends with
 abbrev pub IsStatusOfMode : ℕ → Type 0

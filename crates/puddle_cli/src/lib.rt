@@ -2,9 +2,12 @@
 #![tactic(auto)]
 
 mod format;
+mod generate;
+mod generated;
 mod piece;
 mod run;
 mod show;
+mod source;
 mod status;
 mod top;
 

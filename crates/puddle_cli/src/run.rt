@@ -1,79 +1,102 @@
-//! A script is run: the daemon starts, and each line is answered as it is read.
-ghost use Rattle.std.specs.Prelude.{◌≡◌, ◌≢◌, ◌⊎◌, ◌↔◌, ◌≤◌, ℕ, List, [], take, true, false, IfOk, IfErr, OnOk, Option, Result};
+//! Lines are answered as they come: those of the script of a run, and those that are generated.
+ghost use Rattle.std.specs.Prelude.{◌≡◌, ◌≢◌, ◌⊎◌, ◌↔◌, ◌+◌, ◌≤◌, ℕ, Bool, List, [], take, true, false, IfOk, IfErr, OnOk, Option, Result};
 ghost use Rattle.pm_model.specs.Words.{IsRested, reads};
 ghost use Rattle.pm_model.specs.Moments.{State};
 ghost use Rattle.pm_model.specs.Counts.{Counts, Rose};
+ghost use Rattle.pud_defs.specs.declared.layout.TheConstants.{SCRIPT_LIMIT};
 ghost use Rattle.pud_defs.specs.Layout.{device_words};
 ghost use Rattle.pud_defs.specs.World.{World, no_clients, nothing_open, world_of, closed};
 ghost use Rattle.puddled.specs.Faults.{run_fault, Ends};
 ghost use Rattle.ready_daemon.specs.Ready.{IsReady};
 ghost use Rattle.puddle_cli.specs.declared.piece.TheConstants.{KEPT};
-ghost use Rattle.puddle_cli.specs.Status.{status_fault, IsStatusOfMode, Causes};
-ghost use Rattle.puddle_cli.specs.Serving.{KeepsScript, IsUnsoundBehindLoss, Takes, TakesOne, TakesBy, AnswersLine, Serves, Answered, AnsweredBy};
+ghost use Rattle.puddle_cli.specs.Status.{status_fault, status_to, IsStatusOfMode, Causes};
+ghost use Rattle.puddle_cli.specs.Source.{is_aloud, bytes_left};
+ghost use Rattle.puddle_cli.specs.Serving.{KeepsScript, IsQuiet, IsUnsoundBehindLoss, Takes, TakesOne, TakesBy, AnswersLine, Serves, Answered, AnsweredBy};
 ghost use Rattle.puddle_cli.specs.Replying.{HearsLine, Hears, Heard, HeardBy, RunSays};
 ghost use Rattle.puddle_cli.specs.Headline.{TakesScript, Headline};
 
 use crate::piece::Piece;
+use crate::source::Source;
 use crate::status::{DONE, NOT_USABLE, TOO_LONG, status_of, status_of_run};
 use pm_model::Host;
 use pud_defs::layout::SCRIPT_LIMIT;
 use puddled::{Daemon, RunFault, StartFault};
 use std::alloc::Global;
 
-/// Answers the line that was read, where it is not empty.
+/// How lines were answered.
+#[derive(Clone, Copy)]
+pub struct Served {
+    /// Whether they came to their end; else 2^20 of their bytes were taken.
+    pub ended: bool,
+    /// How many replies do not begin with `ok`.
+    pub refused: u32,
+}
+
+/// Answers the line that was read, where it is not empty, and says the reply where `aloud`. The result is how many replies do not begin with
+/// `ok`: none or one.
 fn answer<H: Host>(
     alloc: Global,
     daemon: &mut Daemon,
     h: &mut H,
     piece: &mut Piece,
-) -> Result<(), RunFault>
+    aloud: bool,
+) -> Result<u32, RunFault>
     requires { device_words daemon.old.frames ≤ (H.counts h.old).size }
     ensures answers { H.tells → (size : ℕ) → size ≡ (H.counts h.old).size → (w : World) → IsReady size w daemon.old (H.state h.old)
         → (line : List ℕ) → piece.old ≡ take KEPT line
-        → AnswersLine size w line (run_fault result) daemon.new (H.counts h.old) (H.counts h.new) (H.state h.old) (H.state h.new) }
-    // Whatever the device holds: one answer is said to a line that is not empty.
-    ensures hears { H.tells → (line : List ℕ) → piece.old ≡ take KEPT line → HearsLine line (run_fault result) (H.state h.old) (H.state h.new) }
+        → AnswersLine size w aloud line result daemon.new (H.counts h.old) (H.counts h.new) (H.state h.old) (H.state h.new) }
+    // Whatever the device holds: one answer is said to a line that is not empty, where it is said aloud.
+    ensures hears { H.tells → aloud ≡ true → (line : List ℕ) → piece.old ≡ take KEPT line → HearsLine line (run_fault result) (H.state h.old) (H.state h.new) }
+    ensures quiet { H.tells → aloud ≡ false → (H.state h.new).now.said ≡ (H.state h.old).now.said }
     ensures piece { OnOk result (piece.new ≡ []) }
+    ensures one { IfOk result (λ count. count ≤ 1) }
     ensures not_sound { H.tells → result ≡ Result.Err RunFault.NotSound → IsUnsoundBehindLoss (H.counts h.old) (H.counts h.new) (H.state h.new) }
     ensures room { device_words daemon.new.frames ≤ (H.counts h.old).size }
     ensures rest { H.tells → KeepsScript (H.state h.old) (H.state h.new) }
     ensures cause { Ends (run_fault result) (H.counts h.old) (H.counts h.new) }
 {
     if piece.is_empty() {
-        return Ok(());
+        return Ok(0);
     }
-    daemon.exec(alloc, h, piece.bytes(), true)?;
+    let ok = daemon.exec(alloc, h, piece.bytes(), aloud)?;
     piece.clear();
-    Ok(())
+    Ok(u32::from(!ok))
 }
 
-/// Takes one byte of the script, and answers the line that it ends. The answer is whether there was a byte.
+/// Takes one byte, and answers the line that it ends. The result is whether there was a byte; of `refused` how many replies so far do not begin
+/// with `ok`.
 fn serve_byte<H: Host>(
     alloc: Global,
     daemon: &mut Daemon,
     h: &mut H,
+    source: &mut Source,
     piece: &mut Piece,
+    refused: &mut u32,
 ) -> Result<bool, RunFault>
-    requires { device_words daemon.old.frames ≤ (H.counts h.old).size }
-    ensures serves { H.tells → (size : ℕ) → size ≡ (H.counts h.old).size → (w : World) → (before : Counts) → (start : State)
-        → Serves size w before start (H.counts h.old) daemon.old (H.state h.old) piece.old
-        → IfOk result (λ more. Serves size w before start (H.counts h.new) daemon.new (H.state h.new) piece.new) }
-    ensures ended { H.tells → IfOk result (λ more. more ≡ false → (H.state h.new).script ≡ []) }
-    ensures answered { H.tells → (size : ℕ) → size ≡ (H.counts h.old).size → (w : World) → (before : Counts) → (start : State)
-        → Serves size w before start (H.counts h.old) daemon.old (H.state h.old) piece.old
-        → IfErr result (λ fault. Answered size w false (Option.Some fault) before (H.counts h.new) start (H.state h.new)) }
-    ensures hears { H.tells → (start : State) → Hears start (H.state h.old) piece.old → IfOk result (λ more. Hears start (H.state h.new) piece.new) }
-    ensures heard { H.tells → (start : State) → Hears start (H.state h.old) piece.old → IfErr result (λ fault. Heard false (Option.Some fault) start (H.state h.new)) }
-    ensures takes { H.tells → (count : ℕ) → (start : State) → Takes count start (H.state h.old)
-        → TakesOne result count start (H.state h.new) }
+    requires device { device_words daemon.old.frames ≤ (H.counts h.old).size }
+    requires few { refused.old ≤ SCRIPT_LIMIT }
+    ensures serves { H.tells → (size : ℕ) → size ≡ (H.counts h.old).size → (w : World) → (aloud : Bool) → is_aloud source.old ≡ aloud → (all : List ℕ) → (before : Counts) → (start : State)
+        → Serves size w aloud all before start (H.counts h.old) daemon.old (H.state h.old) (bytes_left source.old (H.state h.old)) piece.old refused.old
+        → IfOk result (λ more. Serves size w aloud all before start (H.counts h.new) daemon.new (H.state h.new) (bytes_left source.new (H.state h.new)) piece.new refused.new) }
+    ensures ended { H.tells → IfOk result (λ more. more ≡ false → bytes_left source.new (H.state h.new) ≡ []) }
+    ensures answered { H.tells → (size : ℕ) → size ≡ (H.counts h.old).size → (w : World) → (aloud : Bool) → is_aloud source.old ≡ aloud → (all : List ℕ) → (before : Counts) → (start : State)
+        → Serves size w aloud all before start (H.counts h.old) daemon.old (H.state h.old) (bytes_left source.old (H.state h.old)) piece.old refused.old
+        → IfErr result (λ fault. Answered size w aloud all false (Option.Some fault) before (H.counts h.new) start (H.state h.new) (bytes_left source.new (H.state h.new)) 0) }
+    ensures aloud { is_aloud source.new ≡ is_aloud source.old }
+    ensures hears { H.tells → is_aloud source.old ≡ true → (start : State) → Hears start (H.state h.old) piece.old → IfOk result (λ more. Hears start (H.state h.new) piece.new) }
+    ensures heard { H.tells → is_aloud source.old ≡ true → (start : State) → Hears start (H.state h.old) piece.old → IfErr result (λ fault. Heard false (Option.Some fault) start (H.state h.new)) }
+    ensures quiet { H.tells → is_aloud source.old ≡ false → IsQuiet (H.state h.old) (H.state h.new) }
+    ensures takes { H.tells → (all : List ℕ) → (count : ℕ) → (start : State) → Takes all count start (H.state h.old) (bytes_left source.old (H.state h.old))
+        → TakesOne all result count start (H.state h.new) (bytes_left source.new (H.state h.new)) }
+    ensures one_more { refused.new ≤ refused.old + 1 }
     ensures not_sound { H.tells → result ≡ Result.Err RunFault.NotSound → IsUnsoundBehindLoss (H.counts h.old) (H.counts h.new) (H.state h.new) }
     ensures room { device_words daemon.new.frames ≤ (H.counts h.old).size }
     ensures cause { Ends (run_fault result) (H.counts h.old) (H.counts h.new) }
 {
-    match h.read()? {
+    match source.next(h)? {
         None => Ok(false),
         Some(b'\n') => {
-            answer(alloc, daemon, h, piece)?;
+            *refused += answer(alloc, daemon, h, piece, source.is_aloud())?;
             Ok(true)
         }
         Some(byte) => {
@@ -83,40 +106,68 @@ fn serve_byte<H: Host>(
     }
 }
 
-/// Answers the script's lines. The answer is whether the script was read to its end; else 2^20 bytes were taken.
-fn serve_script<H: Host>(alloc: Global, daemon: &mut Daemon, h: &mut H) -> Result<bool, RunFault>
+/// Answers the lines that the source gives, to its end or until 2^20 bytes were taken.
+fn serve_lines<H: Host>(
+    alloc: Global,
+    daemon: &mut Daemon,
+    h: &mut H,
+    source: &mut Source,
+) -> Result<Served, RunFault>
     requires { device_words daemon.old.frames ≤ (H.counts h.old).size }
     ensures answered { H.tells → (size : ℕ) → size ≡ (H.counts h.old).size → (w : World) → IsReady size w daemon.old (H.state h.old)
-        → AnsweredBy size w result (H.counts h.old) (H.counts h.new) (H.state h.old) (H.state h.new) }
-    ensures heard { H.tells → HeardBy result (H.state h.old) (H.state h.new) }
-    ensures takes { H.tells → TakesBy result (H.state h.old) (H.state h.new) }
+        → AnsweredBy size w (is_aloud source.old) (bytes_left source.old (H.state h.old)) result (H.counts h.old) (H.counts h.new) (H.state h.old) (H.state h.new) (bytes_left source.new (H.state h.new)) }
+    ensures aloud { is_aloud source.new ≡ is_aloud source.old }
+    ensures heard { H.tells → is_aloud source.old ≡ true → HeardBy result (H.state h.old) (H.state h.new) }
+    ensures quiet { H.tells → is_aloud source.old ≡ false → IsQuiet (H.state h.old) (H.state h.new) }
+    ensures takes { H.tells → TakesBy (bytes_left source.old (H.state h.old)) result (H.state h.old) (H.state h.new) (bytes_left source.new (H.state h.new)) }
     ensures not_sound { H.tells → result ≡ Result.Err RunFault.NotSound → IsUnsoundBehindLoss (H.counts h.old) (H.counts h.new) (H.state h.new) }
     ensures cause { Ends (run_fault result) (H.counts h.old) (H.counts h.new) }
 {
     let mut piece = Piece::new();
+    let mut refused = 0;
     for _taken in 0..SCRIPT_LIMIT {
-        if !serve_byte(alloc, daemon, h, &mut piece)? {
-            answer(alloc, daemon, h, &mut piece)?;
-            return Ok(true);
+        if !serve_byte(alloc, daemon, h, source, &mut piece, &mut refused)? {
+            refused += answer(alloc, daemon, h, &mut piece, source.is_aloud())?;
+            return Ok(Served {
+                ended: true,
+                refused,
+            });
         }
     }
-    Ok(false)
+    Ok(Served {
+        ended: false,
+        refused,
+    })
 }
 
-/// Answers the script's lines, as `serve_script`, and then stops the daemon, also where it cannot go on.
-fn serve<H: Host>(alloc: Global, daemon: Daemon, h: &mut H) -> Result<bool, RunFault>
+/// Answers the lines that the source gives, as `serve_lines`, and then stops the daemon, also where it cannot go on.
+pub fn serve<H: Host>(
+    alloc: Global,
+    daemon: Daemon,
+    h: &mut H,
+    source: &mut Source,
+) -> Result<Served, RunFault>
     requires { device_words daemon.frames ≤ (H.counts h.old).size }
     ensures answered { H.tells → (size : ℕ) → size ≡ (H.counts h.old).size → (w : World) → IsReady size w daemon (H.state h.old)
-        → AnsweredBy size w result (H.counts h.old) (H.counts h.new) (H.state h.old) (H.state h.new) }
-    ensures heard { H.tells → HeardBy result (H.state h.old) (H.state h.new) }
-    ensures takes { H.tells → TakesBy result (H.state h.old) (H.state h.new) }
+        → AnsweredBy size w (is_aloud source.old) (bytes_left source.old (H.state h.old)) result (H.counts h.old) (H.counts h.new) (H.state h.old) (H.state h.new) (bytes_left source.new (H.state h.new)) }
+    ensures aloud { is_aloud source.new ≡ is_aloud source.old }
+    ensures heard { H.tells → is_aloud source.old ≡ true → HeardBy result (H.state h.old) (H.state h.new) }
+    ensures quiet { H.tells → is_aloud source.old ≡ false → IsQuiet (H.state h.old) (H.state h.new) }
+    ensures takes { H.tells → TakesBy (bytes_left source.old (H.state h.old)) result (H.state h.old) (H.state h.new) (bytes_left source.new (H.state h.new)) }
     ensures not_sound { H.tells → result ≡ Result.Err RunFault.NotSound → IsUnsoundBehindLoss (H.counts h.old) (H.counts h.new) (H.state h.new) }
     ensures cause { Ends (run_fault result) (H.counts h.old) (H.counts h.new) }
 {
     let mut daemon = daemon;
-    let served = serve_script(alloc, &mut daemon, h);
+    let served = serve_lines(alloc, &mut daemon, h, source);
     daemon.stop();
     served
+}
+
+/// The status of a run that could go on, by whether its script was read to its end.
+fn status_of_end(ended: bool) -> u8
+    ensures { result ≡ status_to ended }
+{
+    if ended { DONE } else { TOO_LONG }
 }
 
 /// The mode `run`, with its status.
@@ -141,9 +192,8 @@ pub fn run<H: Host>(alloc: Global, h: &mut H) -> u8
     match Daemon::start(h) {
         Err(StartFault::NotSound) => NOT_USABLE,
         Err(StartFault::Host(fault)) => status_of(fault),
-        Ok(daemon) => match serve(alloc, daemon, h) {
-            Ok(true) => DONE,
-            Ok(false) => TOO_LONG,
+        Ok(daemon) => match serve(alloc, daemon, h, &mut Source::Script) {
+            Ok(served) => status_of_end(served.ended),
             Err(fault) => status_of_run(fault),
         },
     }

@@ -5,6 +5,7 @@ ghost use Rattle.puddle_cli.specs.Status.{Causes};
 ghost use Rattle.puddle_cli.specs.Modes.{EndsBy, DoesBy};
 
 use crate::format::format;
+use crate::generate::generate;
 use crate::run::run;
 use crate::show::{View, show};
 use crate::status::{NO_MEMORY, USAGE};
@@ -19,10 +20,10 @@ use std::alloc::Global;
 /// the words are no mode, and 3 only where memory was refused while they were read, whatever they are; 5 only where the host failed;
 /// 6 only where power was lost; and 7 only where 2^20 bytes of script were taken before its end was read: exactly there, where the
 /// run was not ended by 4, 5 or 6.
-/// It is 4 where the device is not usable, and no call failed first: for `format`, `layout` and `check` exactly there, and for `run` exactly there
-/// on a device that was rested at entry, where each word has one value. On any device `run` gives 4 only where it reads as
+/// It is 4 where the device is not usable, and no call failed first: for `format`, `layout` and `check` exactly there, and for `run` and `gen`
+/// exactly there on a device that was rested at entry, where each word has one value. On any device these two give 4 only where it reads as
 /// not sound at entry, or where power was lost and it reads so at the end. At 2 and 3 nothing was said and no word changed; so at
-/// 4 for `format`, `layout` and `check`, and for `run` on a device that was rested at entry.
+/// 4 for `format`, `layout` and `check`, and for `run` and `gen` on a device that was rested at entry.
 pub fn puddle_main<H: Host>(alloc: Global, words: &[String], host: &mut H) -> u8
     // The words, and nothing else, decide status 2, unless memory was refused while they were read: nothing happened then.
     ensures usage { result ≢ NO_MEMORY → (result ≡ USAGE) ↔ (mode_of (map string_bytes words.now) ≡ None) }
@@ -43,5 +44,6 @@ pub fn puddle_main<H: Host>(alloc: Global, words: &[String], host: &mut H) -> u8
         Ok(Mode::Run) => run(alloc, host),
         Ok(Mode::Layout) => show(host, View::Layout),
         Ok(Mode::Check) => show(host, View::Check),
+        Ok(Mode::Gen { seed, count }) => generate(alloc, host, seed, count),
     }
 }

@@ -1,9 +1,10 @@
 use Rattle.std.proofs.Common.{Option, refl, sym, ap, subst}
+use Rattle.gen_work.specs.GenLines.{gen_lines}
 use Rattle.command_line.specs.declared.modes.Mode.{Mode}
 use Rattle.puddle_cli.specs.declared.show.View.TheVariants as views
 use Rattle.puddle_cli.specs.Status.{status_fault}
 use Rattle.puddle_cli.specs.Views.{text_of}
-use Rattle.puddle_cli.specs.Modes.{RunsScript, Shows, DoesBy}
+use Rattle.puddle_cli.specs.Modes.{RunsScript, RunsGenerated, Shows, DoesBy}
 use Rattle.puddle_cli.proofs.Statuses.{done_by}
 use Rattle.puddle_cli.proofs.top.puddle_main.Goals as goal
 
@@ -53,3 +54,18 @@ returns-in-Ok-Check-clause-does g c = λ t told.
     } in
     subst (λ (m : Option Mode). DoesBy m c.show-in-Ok-Check.result (g.H.Host.counts c.args.host.now) (g.H.Host.counts c.show-in-Ok-Check.new.h) (g.H.Host.state c.args.host.now) (g.H.Host.state c.show-in-Ok-Check.new.h))
     (sym (rw c.in-Ok-Check.field-0-is at c.in-Ok-Check.ensures.ok)) does
+
+pub returns-in-Ok-Gen-clause-does : goal.returns-in-Ok-Gen-clause-does
+returns-in-Ok-Gen-clause-does g c = λ t told.
+    let runs = c.generate.ensures in
+    let does : RunsGenerated (gen_lines c.in-Ok-Gen.seed c.in-Ok-Gen.count) c.generate.result (g.H.Host.counts c.args.host.now) (g.H.Host.counts c.generate.new.h) (g.H.Host.state c.args.host.now) (g.H.Host.state c.generate.new.h) = record {
+      keeps = runs.rest t;
+      says = runs.speaks t;
+      not_usable = runs.not_usable t;
+      not_sound = runs.not_sound t;
+      stays = runs.unchanged t;
+      completes = λ rested sound none. runs.completes t rested sound none.faults none.cuts;
+      runs = runs.runs t;
+    } in
+    subst (λ (m : Option Mode). DoesBy m c.generate.result (g.H.Host.counts c.args.host.now) (g.H.Host.counts c.generate.new.h) (g.H.Host.state c.args.host.now) (g.H.Host.state c.generate.new.h))
+    (sym (rw c.in-Ok-Gen.field-0-is at c.in-Ok-Gen.ensures.ok)) does

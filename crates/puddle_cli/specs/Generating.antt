@@ -1,0 +1,103 @@
+-- What the program says and leaves over generated lines, for one and the same run of the machine.
+use Rattle.std.specs.Prelude.{◌≡◌, ◌≢◌, ◌⊎◌, ℕ, ◌≤◌, Bool, false, List, [], ◌++◌, length, map, Option, Some, None}
+use Rattle.pm_model.specs.Words.{Picks, reads}
+use Rattle.pm_model.specs.Counts.{Counts}
+use Rattle.pm_model.specs.Moments.{State, MayLeave}
+use Rattle.pm_model.specs.Changes.{Leaves}
+use Rattle.pud_defs.specs.Image.{Image}
+use Rattle.pud_defs.specs.World.{World, world_of, closed}
+use Rattle.pud_defs.specs.Changing.{KeepsFiles}
+use Rattle.pud_defs.specs.Run.{Turn, IsRun, last_world}
+use Rattle.pud_defs.specs.StartText.{start_text}
+use Rattle.pud_check.specs.Summary.{summary_text}
+use Rattle.pud_check.specs.SummaryListed.{listed_summary}
+use Rattle.puddled.specs.declared.daemon.RunFault.{RunFault}
+use Rattle.puddled.specs.declared.daemon.RunFault.TheVariants.{NotSound}
+use Rattle.puddled.specs.Faults.{CountsTurns}
+use Rattle.puddled.specs.Saying.{IsPart}
+use Rattle.puddle_cli.specs.Status.{run_fault_at}
+use Rattle.puddle_cli.specs.Serving.{refused_of, StandsAmong, AllowsLogs, CountsPending, file_under_way}
+use Rattle.puddle_cli.specs.Headline.{StartMoments, RunCounts}
+
+-- One run of the machine over lines: whether the start was said whole, before which none is answered; those that were answered, at most one more that
+-- was not answered whole, and those that were not come to.
+pub record LineRun (w : World) (lines : List (List ℕ)) : Type 0 where
+  pub begun : Bool
+  pub answered : List Turn
+  pub pending : List Turn
+  pub few : length pending ≤ 1
+  pub is_run : IsRun w (answered ++ pending)
+  pub behind : List (List ℕ)
+  pub are : lines ≡ map (λ t. t.line) (answered ++ pending) ++ behind
+  pub nothing_yet : begun ≡ false → answered ++ pending ≡ []
+
+-- Each line was answered.
+pub record IsWhole (w : World) (lines : List (List ℕ)) (run : LineRun w lines) : Type 0 where
+  pub none_pending : run.pending ≡ []
+  pub none_behind : run.behind ≡ []
+
+-- the summary of what was answered: how many lines, how many of them refused, and what the world then has stored
+abbrev pub summary_of : World → List Turn → List ℕ
+summary_of w answered = summary_text (length answered) (refused_of answered) (closed (last_world w answered))
+
+-- What a call says over lines whose replies are not said: nothing, or, once each was answered, a part of the summary.
+abbrev pub SaysOf : (w : World) (lines : List (List ℕ)) (run : LineRun w lines) → (bytes : List ℕ) → Type 0
+SaysOf w lines run bytes = (bytes ≡ []) ⊎ (IsWhole w lines run × IsPart bytes (summary_of w run.answered))
+
+-- Lines were answered on a ready daemon without a word, and then the summary was said, as far as this fault let it come.
+pub record SumsUp (size : ℕ) (w : World) (lines : List (List ℕ)) (fault : Option RunFault) (before after : Counts) (start end : State) : Type 0 where
+  pub run : LineRun w lines
+  pub bytes : List ℕ
+  pub said : end.now.said ≡ start.now.said ++ bytes
+  pub part : SaysOf w lines run bytes
+  pub whole : fault ≡ None → IsWhole w lines run × (bytes ≡ summary_of w run.answered)
+  pub moments : Leaves (λ bytes image. StandsAmong size w (run.answered ++ run.pending) image) start end
+  pub allowed : AllowsLogs start end
+  pub ends : fault ≡ None → (image : Image) → Picks end.now.words image → world_of size image ≡ Some (closed (last_world w run.answered))
+  pub files : KeepsFiles (file_under_way run.pending) (last_world w run.answered).shelf end.shelf
+  pub mid : Counts
+  pub turns_counted : CountsTurns run.answered before mid
+  pub counted : CountsPending run.pending fault mid after
+  pub sound : fault ≢ Some NotSound
+  pub script : end.script ≡ start.script
+
+-- The exit of a run over lines whose replies are not said: a part of the start's text was said, or, once each line was answered, a part of it and of the
+-- summary behind it. With status 0 both are whole, and each image left stands for the run's closed last world. Each file is as the lines answered left it,
+-- but one that the line without a reply may write.
+pub record LinesExit (size : ℕ) (w : World) (lines : List (List ℕ)) (status : ℕ) (start end : State) (run : LineRun w lines) : Type 0 where
+  pub bytes : List ℕ
+  pub said : end.now.said ≡ start.now.said ++ bytes
+  pub part : IsPart bytes (start_text (reads start.now.words)) ⊎ (IsWhole w lines run × IsPart bytes (start_text (reads start.now.words) ++ summary_of w run.answered))
+  pub whole : run_fault_at status ≡ None → IsWhole w lines run × (bytes ≡ start_text (reads start.now.words) ++ summary_of w run.answered)
+  pub ends : run_fault_at status ≡ None → (image : Image) → Picks end.now.words image → world_of size image ≡ Some (closed (last_world w run.answered))
+  pub files : KeepsFiles (file_under_way run.pending) (last_world w run.answered).shelf end.shelf
+  pub script : end.script ≡ start.script
+
+-- Every moment of it: each image that may have been left stands for the stored world at the start, for the closed one behind some line, or for one that a
+-- line gives.
+pub record LinesMoments (size : ℕ) (w : World) (lines : List (List ℕ)) (start end : State) (run : LineRun w lines) : Type 0 where
+  pub stands : (said : List ℕ) (image : Image) → MayLeave start end said image → StandsAmong size w (run.answered ++ run.pending) image
+  pub in_start : StartMoments w start end
+
+-- The exit, the moments and the counts of one and the same run over lines, from a device whose images all stand for the stored world of w.
+pub record RunsLines (size : ℕ) (w : World) (lines : List (List ℕ)) (status : ℕ) (before after : Counts) (start end : State) : Type 0 where
+  pub run : LineRun w lines
+  pub exit : LinesExit size w lines status start end run
+  pub moments : LinesMoments size w lines start end run
+  pub counted : RunCounts run.begun run.answered run.pending status before after
+
+-- ---- whatever the device holds
+
+-- These bytes are a front of a text and, behind it, of the summary of so many lines as the tables of a device list its pools, with some number of refused
+-- lines; where they are whole, all of it.
+pub record IsSummary (text : List ℕ) (lines : ℕ) (whole : Type 0) (image : Image) (bytes : List ℕ) : Type 0 where
+  pub frames : ℕ
+  pub refused : ℕ
+  pub part : IsPart bytes (text ++ listed_summary frames image lines refused)
+  pub all : whole → bytes ≡ text ++ listed_summary frames image lines refused
+
+-- What was said since the call began is that, by what the device reads in the end.
+pub record SaysSummary (text : List ℕ) (lines : ℕ) (whole : Type 0) (start end : State) : Type 0 where
+  pub bytes : List ℕ
+  pub said : end.now.said ≡ start.now.said ++ bytes
+  pub is : IsSummary text lines whole (reads end.now.words) bytes
