@@ -6,36 +6,17 @@ use Rattle.pm_model.specs.Masks.{masked}
 use Rattle.pm_model.proofs.Masks.{reads-masked}
 use Rattle.pm_model.specs.Moments.{State}
 use Rattle.pud_defs.specs.declared.machine.Command.{Command}
-use Rattle.pud_defs.specs.declared.machine.Refusal.{Refusal}
-use Rattle.pud_defs.specs.Changing.{Part, part_of, with_part}
-use Rattle.pud_defs.specs.Changing.Part.{types, pools, tables, clients, transactions, nothing}
 use Rattle.pud_defs.specs.Gives.{Gives, StepBy}
 use Rattle.pud_defs.specs.Grammar.{command_of}
 use Rattle.pud_defs.specs.Run.{Turn, IsTurn, IsRun, last_world}
-use Rattle.pud_defs.specs.Step.{Answer, after, refusal_of, unless_refused, world_by}
+use Rattle.pud_defs.specs.Step.{Answer}
 use Rattle.pud_defs.specs.World.{World, pools_in, stored_by, closed, nothing_open}
-use Rattle.pud_defs.proofs.Changing.{after-part}
 use Rattle.ready_daemon.specs.Memory.{Memory, Held, held_under}
 use Rattle.ready_daemon.specs.Ready.{IsReady}
+use Rattle.puddled.proofs.Settling.{frames_by}
 use Rattle.ready_daemon.proofs.TablesBeside.{header_read, types_read, world_under}
 
 -- ---- a run keeps the number of frames
-
-frames_of_part : (p : Part) (v w : World) → (with_part p v w).stored.frames ≡ w.stored.frames
-frames_of_part types v w = refl
-frames_of_part pools v w = refl
-frames_of_part tables v w = refl
-frames_of_part clients v w = refl
-frames_of_part transactions v w = refl
-frames_of_part nothing v w = refl
-
-frames_unless : (r : Option Refusal) (before later : World) → later.stored.frames ≡ before.stored.frames → (unless_refused r before later).stored.frames ≡ before.stored.frames
-frames_unless None before later same = same
-frames_unless (Some r) before later same = refl
-
-frames_by : (w : World) (c : Option Command) → (world_by w c).stored.frames ≡ w.stored.frames
-frames_by w None = refl
-frames_by w (Some c) = frames_unless (refusal_of w c) w (after w c) (ap (λ (x : World). x.stored.frames) (after-part w c) ∙ frames_of_part (part_of c) (after w c) w)
 
 frames_given : (w : World) (c : Option Command) (next : World) → Gives w c next → next.stored.frames ≡ w.stored.frames
 frames_given w c next given = ap (λ (v : World). v.stored.frames) given.rest ∙ frames_by w c

@@ -1,6 +1,6 @@
 -- The line that rewrites pointers of a pool: why it is refused, and what its steps leave.
 use Rattle.std.proofs.Common.{◌≡◌, inl, inr, ℕ, ◌<◌, Bool, true, false, is_some, refl, List, length, Option, Some, None, Result, Ok, Err, sym, ap, ap₂, subst, ◌∙◌, arith}
-use Rattle.std.specs.Prelude.{cond, is_none, set, IfOk}
+use Rattle.std.specs.Prelude.{min, cond, is_none, set, IfOk}
 use Rattle.std.proofs.lemmas.Bool.{cases_lt}
 use Rattle.std.proofs.lemmas.List.{get_or-set_same, get_or_past}
 use Rattle.std.proofs.lemmas.Option.{none-some, same_Some}
@@ -20,7 +20,7 @@ use Rattle.pud_defs.proofs.Steps.{done_world}
 use Rattle.batch.specs.Batches.{HasIdleGate}
 use Rattle.lazy_rewrite.specs.Entries.{HasLowBases}
 use Rattle.lazy_rewrite.specs.Batches.{Rewrites}
-use Rattle.lazy_rewrite.specs.Frontiers.{steps_from}
+use Rattle.lazy_rewrite.specs.Frontiers.{steps_from, left_among}
 use Rattle.nesting.specs.declared.Session.{Session}
 use Rattle.ready_daemon.specs.Judged.{known_in}
 use Rattle.ready_daemon.specs.Memory.{Held, Memory}
@@ -66,7 +66,14 @@ pub is_there : (o : Option (List (ℕ × Puddle))) → true ≡ is_some o → (a
 is_there None there = absurd (let no : true ≡ false = there in cc)
 is_there (Some at) there = (at, refl)
 
--- the steps that were done are those of the pool that is known
+-- as many steps were done as the pool that is known has, at most
+pub steps_known : (result : Result ℕ HostFault) (judged now : List (Option (List (ℕ × Puddle)))) (slot n : ℕ) (at : List (ℕ × Puddle)) → judged ≡ now → known_in judged slot ≡ Some at → IfOk result (λ done. done ≡ min n (left_among at))
+    → IfOk result (λ done. (here : List (ℕ × Puddle)) → known_in now slot ≡ Some here → done ≡ min n (left_among here))
+steps_known (Err fault) judged now slot n at same known counted = tt
+steps_known (Ok done) judged now slot n at same known counted = λ here is.
+    counted ∙ ap (λ (ps : List (ℕ × Puddle)). min n (left_among ps)) (same_Some at here (sym known ∙ ap (λ (js : List (Option (List (ℕ × Puddle)))). known_in js slot) same ∙ is))
+
+-- they are those of the pool that is known
 pub moves_known : (result : Result ℕ HostFault) (judged now : List (Option (List (ℕ × Puddle)))) (slot n : ℕ) (at pool : List (ℕ × Puddle)) → judged ≡ now → known_in judged slot ≡ Some at
     → IfOk result (λ done. pool ≡ steps_from n at)
     → IfOk result (λ done. (here : List (ℕ × Puddle)) → known_in now slot ≡ Some here → set judged slot (Some pool) ≡ set now slot (Some (steps_from n here)))
@@ -79,6 +86,9 @@ moves_known (Ok done) judged now slot n at pool same known moved = λ here is.
 pub moves_none : (judged now next : List (Option (List (ℕ × Puddle)))) (slot n : ℕ) → judged ≡ now → known_in judged slot ≡ None
     → (here : List (ℕ × Puddle)) → known_in now slot ≡ Some here → next ≡ set now slot (Some (steps_from n here))
 moves_none judged now next slot n same none here is = absurd (none-some here (sym none ∙ ap (λ (js : List (Option (List (ℕ × Puddle)))). known_in js slot) same ∙ is))
+
+pub steps_none : (judged now : List (Option (List (ℕ × Puddle)))) (slot n done : ℕ) → judged ≡ now → known_in judged slot ≡ None → (here : List (ℕ × Puddle)) → known_in now slot ≡ Some here → done ≡ min n (left_among here)
+steps_none judged now slot n done same none here is = absurd (none-some here (sym none ∙ ap (λ (js : List (Option (List (ℕ × Puddle)))). known_in js slot) same ∙ is))
 
 -- what is known in a slot is within the list
 known_within : (judged : List (Option (List (ℕ × Puddle)))) (slot : ℕ) (at : List (ℕ × Puddle)) → known_in judged slot ≡ Some at → slot < length judged

@@ -117,7 +117,7 @@ frames_unless None before later same = same
 frames_unless (Some r) before later same = refl
 
 -- no command changes the number of frames
-frames_by : (w : World) (c : Option Command) → (world_by w c).stored.frames ≡ w.stored.frames
+pub frames_by : (w : World) (c : Option Command) → (world_by w c).stored.frames ≡ w.stored.frames
 frames_by w None = refl
 frames_by w (Some c) = frames_unless (refusal_of w c) w (after w c) (ap (λ (x : World). x.stored.frames) (after-part w c) ∙ frames_of_part (part_of c) (after w c) w)
 

@@ -1,5 +1,5 @@
 //! The line that rewrites pointers of a pool.
-ghost use Rattle.std.specs.Prelude.{◌≡◌, ◌<◌, ◌≤◌, ℕ, List, Option, IfOk, set};
+ghost use Rattle.std.specs.Prelude.{◌≡◌, ◌<◌, ◌≤◌, ℕ, List, Option, IfOk, min, set};
 ghost use Rattle.pm_model.specs.Words.{IsRested, reads};
 ghost use Rattle.pm_model.specs.Counts.{after_fault, fault_of};
 ghost use Rattle.pud_defs.specs.declared.layout.TheConstants.{MAX_FRAMES};
@@ -10,7 +10,7 @@ ghost use Rattle.pud_defs.specs.Layout.{device_words};
 ghost use Rattle.pud_defs.specs.Step.{answer_by, refusal_of, world_by};
 ghost use Rattle.pud_defs.specs.Step.Answer.{of_reply};
 ghost use Rattle.pud_defs.specs.World.{World};
-ghost use Rattle.lazy_rewrite.specs.Frontiers.{steps_from, frontiers_of};
+ghost use Rattle.lazy_rewrite.specs.Frontiers.{steps_from, left_among, frontiers_of};
 ghost use Rattle.nesting.specs.declared.Session.{Session};
 ghost use Rattle.ready_daemon.specs.Memory.{Held};
 ghost use Rattle.ready_daemon.specs.Judged.{AreOnDevice, known_in};
@@ -46,6 +46,7 @@ fn step_in<H: Host>(
     ensures applies { H.tells → (size : ℕ) → size ≡ (H.counts h.old).size → (at : List (ℕ × Puddle)) → known_in judged.old slot ≡ Option.Some at → (w : World) → (held : List (Option Held)) → (sessions : List (Option Session))
         → IsReady size w (record { frames = frames; held = held; sessions = sessions; judged = judged.old }) (H.state h.old)
         → AppliesBy (MovesTo (led_in slot (frontiers_of (steps_from n at)))) size w w (record { frames = frames; held = held; sessions = sessions; judged = judged.new }) (fault_of result) (H.state h.old) (H.state h.new) }
+    ensures steps { IfOk result (λ done. (at : List (ℕ × Puddle)) → known_in judged.old slot ≡ Option.Some at → done ≡ min n (left_among at)) }
     ensures moves { IfOk result (λ _. (at : List (ℕ × Puddle)) → known_in judged.old slot ≡ Option.Some at → judged.new ≡ set judged.old slot (Option.Some (steps_from n at))) }
     ensures known { AreOnDevice frames judged.new }
     ensures rest { H.tells → KeepsRest (H.state h.old) (H.state h.new) }

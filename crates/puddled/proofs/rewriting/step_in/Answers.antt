@@ -10,7 +10,7 @@ use Rattle.ready_daemon.specs.Moves.{MovesTo, led_in}
 use Rattle.ready_daemon.specs.Ready.{IsReady, AppliesBy}
 use Rattle.ready_daemon.proofs.Keeping.{KeepsRest-changes, KeepsRest-still}
 use Rattle.puddled.proofs.Changing.{known_there}
-use Rattle.puddled.proofs.Rewritten.{Applies-stepped, moves_known, moves_none}
+use Rattle.puddled.proofs.Rewritten.{Applies-stepped, steps_known, steps_none, moves_known, moves_none}
 use Rattle.puddled.proofs.rewriting.step_in.Goals as goal
 use Rattle.puddled.proofs.rewriting.step_in.Goals.{in-Some, in-None}
 
@@ -47,4 +47,13 @@ returns-clause-moves g c =
           rw (b.result-is, b.judged-inside-is)
           (moves_known b.step.result pools c.args.judged.now c.args.slot c.args.n b.in-Some.pool b.step.new.pool c.judged.view_is (read ∙ b.in-Some.is) b.step.ensures.pool)
       | in-None b ↦ rw (b.result-is, b.judged-inside-is) (moves_none pools c.args.judged.now _ c.args.slot c.args.n c.judged.view_is (read ∙ b.in-None.is))
+    ]
+
+pub returns-clause-steps : goal.returns-clause-steps
+returns-clause-steps g c =
+    let pools = c.judged.inside.pools in
+    let read = known_there pools c.args.slot _ c.index-judged-slot.result (search rules) refl in
+    elim c.match-judged-slot.branch [
+      | in-Some b ↦ rw b.result-is (steps_known b.step.result pools c.args.judged.now c.args.slot c.args.n b.in-Some.pool c.judged.view_is (read ∙ b.in-Some.is) b.step.ensures.steps)
+      | in-None b ↦ rw b.result-is (steps_none pools c.args.judged.now c.args.slot c.args.n 0 c.judged.view_is (read ∙ b.in-None.is))
     ]
