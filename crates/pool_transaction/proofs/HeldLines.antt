@@ -28,7 +28,7 @@ use Rattle.ready_daemon.proofs.JudgedOpen.{known_within}
 use Rattle.ready_daemon.proofs.HeldUnder.{held_within, held_here, held_same}
 use Rattle.pool_transaction.specs.Finishing.{FinishesUnless, AppliesTo, AppliesFinishing}
 use Rattle.pool_transaction.proofs.HeldGrows.{grown_frames}
-use Rattle.pool_transaction.proofs.Leading.{AppliesTo-then, finishing_failed, finishing_refused, finishing_unless, finishing_stopped}
+use Rattle.pool_transaction.proofs.Leading.{known_so, AppliesTo-then, finishing_failed, finishing_refused, finishing_unless, finishing_stopped}
 use Rattle.pool_transaction.proofs.HeldNew.{refused_less, refused_more, answer_new, world_less, world_more, serial_is_some, grown_less, grown_refusal, grown_next}
 
 -- what is known already of a pool may be kept once more
@@ -180,7 +180,7 @@ module _ (size : ℕ) (w : World) (memory : Memory) (held : Held) (old : State) 
               finishing_unless held.slot finishes (refusal_of w line) free size w given (memory_with behind later) fault old new
               (record {
                 goal = made.goal;
-                finishing = λ never. so made.goal (made.finishing never);
+                finishing = known_so (so made.goal) made.finishing;
                 applies = subst (λ (v : World). AppliesTo (led_in held.slot made.goal) size w v (memory_with behind later) fault old new) (sym (world_more size w memory held old number there ready id free more))
                     (AppliesTo-then held.slot made.goal size w grown (with_made held.name id grown) (memory_with held pool) (memory_with behind later) fault old mid new
                     refl (sym (grown_frames held.name w.stored)) after_growth

@@ -39,7 +39,7 @@ use Rattle.pool_transaction.specs.declared.changing.Update.{Update}
 use Rattle.pool_transaction.specs.declared.changing.Found.{Found}
 use Rattle.pool_transaction.specs.declared.changing.Found.TheVariants.{Field, Root, Object}
 use Rattle.pool_transaction.specs.Changing.{both_finished, field_change, IsFoundBy, IsFoundWithin, ordinal_written}
-use Rattle.pool_transaction.specs.Finishing.{end_of, end_of_both, no_end, FinishesObject, FinishesFor, FinishesLowest, FinishesTaken, IsLonger, FinishesUnless, AppliesTo, AppliesFinishing}
+use Rattle.pool_transaction.specs.Finishing.{end_of, end_of_both, no_end, FinishesObject, FinishesFor, FinishesLowest, FinishesTaken, IsLonger, FinishesUnless, UnlessFailed, AppliesTo, AppliesFinishing}
 use Rattle.pool_transaction.proofs.Arriving.{HaveReached, AreEnds, became}
 use Rattle.pool_transaction.proofs.FinishedPools.{HasLegalFrontiers, HaveMoved-finished, finished-other, legal-finished, IsRewrittenAt-finished, first_finished, other_finished, one_no_lower}
 use Rattle.pool_transaction.proofs.StepsMoved.{upto}
@@ -153,9 +153,14 @@ pub led_none : (slot : ℕ) → led_in slot no_end ≡ still
 led_none slot = λ i m. Some (unled (eqb m.pool (slot + 1)) m.puddle.frontier i)
 
 -- a fault that is no power loss is the host's failure
-pub failed_alone : {A : Type 0} (fault : HostFault) → (Some fault ≡ Some Cut → ⊥) → (Some fault ≡ Some Failed → ⊥) → A
-failed_alone Cut never_cut never = absurd (never_cut refl)
-failed_alone Failed never_cut never = absurd (never refl)
+pub failed_alone : (fault : HostFault) → (Some fault ≡ Some Cut → ⊥) → Some fault ≡ Some Failed
+failed_alone Cut never_cut = absurd (never_cut refl)
+failed_alone Failed never_cut = refl
+
+-- what is known tells another
+pub known_so : {failed known more unled : Type 0} → (known → more) → UnlessFailed failed known unled → UnlessFailed failed more unled
+known_so so (inl known) = inl (so known)
+known_so so (inr not_known) = inr not_known
 
 module _ (slot : ℕ) where
   -- a call that moves no frontier leads none anywhere
@@ -208,7 +213,7 @@ module _ (slot : ℕ) where
   -- an object was made where a slot is free
   pub finishing_taken : (F : ℕ) (at : List (ℕ × Puddle)) (image : Image) (size : ℕ) (w next : World) (memory : Memory) (fault : Option HostFault) (old new : State) → AppliesFinishing slot (FinishesLowest F at image) size w next memory fault old new
       → AppliesFinishing slot (FinishesTaken F at image) size w next memory fault old new
-  finishing_taken F at image size w next memory fault old new a = record { goal = a.goal; finishing = λ never. inl (a.finishing never); applies = a.applies }
+  finishing_taken F at image size w next memory fault old new a = record { goal = a.goal; finishing = known_so (λ known. inl known) a.finishing; applies = a.applies }
 
   module _ (finishes : (ℕ → ℕ) → Type 0) where
     -- a reading failed before the goals were known
@@ -216,7 +221,7 @@ module _ (slot : ℕ) where
         → AppliesFinishing slot finishes size w next memory (Some fault) old new
     finishing_failed size w next memory fault old new never_cut a = record {
       goal = no_end;
-      finishing = failed_alone fault never_cut;
+      finishing = inr (failed_alone fault never_cut, refl);
       applies = AppliesTo-still size w next memory (Some fault) old new a;
     }
 
@@ -225,7 +230,7 @@ module _ (slot : ℕ) where
         → AppliesFinishing slot (FinishesUnless why finishes) size w next memory fault old new
     finishing_refused why r refused size w next memory fault old new a = record {
       goal = no_end;
-      finishing = λ never. subst (λ (o : Option Refusal). FinishesUnless o finishes no_end) (sym refused) refl;
+      finishing = inl (subst (λ (o : Option Refusal). FinishesUnless o finishes no_end) (sym refused) refl);
       applies = AppliesTo-still size w next memory fault old new a;
     }
 
@@ -234,26 +239,26 @@ module _ (slot : ℕ) where
         → AppliesTo (led_in slot goal) size w next memory fault old new → AppliesFinishing slot (FinishesUnless why finishes) size w next memory fault old new
     finishing_free why free goal so size w next memory fault old new a = record {
       goal = goal;
-      finishing = λ never. subst (λ (o : Option Refusal). FinishesUnless o finishes goal) (sym free) so;
+      finishing = inl (subst (λ (o : Option Refusal). FinishesUnless o finishes goal) (sym free) so);
       applies = a;
     }
 
     -- the goals are known
     pub finishing_led : (goal : ℕ → ℕ) → finishes goal → (size : ℕ) (w next : World) (memory : Memory) (fault : Option HostFault) (old new : State) → AppliesTo (led_in slot goal) size w next memory fault old new
         → AppliesFinishing slot finishes size w next memory fault old new
-    finishing_led goal so size w next memory fault old new a = record { goal = goal; finishing = λ never. so; applies = a }
+    finishing_led goal so size w next memory fault old new a = record { goal = goal; finishing = inl so; applies = a }
 
     -- the goals are those of a line that is not refused
     pub finishing_unless : (why : Option Refusal) → why ≡ None → (size : ℕ) (w next : World) (memory : Memory) (fault : Option HostFault) (old new : State) → AppliesFinishing slot finishes size w next memory fault old new
         → AppliesFinishing slot (FinishesUnless why finishes) size w next memory fault old new
     finishing_unless why free size w next memory fault old new a = record {
       goal = a.goal;
-      finishing = λ never. subst (λ (o : Option Refusal). FinishesUnless o finishes a.goal) (sym free) (a.finishing never);
+      finishing = known_so (λ known. subst (λ (o : Option Refusal). FinishesUnless o finishes a.goal) (sym free) known) a.finishing;
       applies = a.applies;
     }
 
     -- the goals are known, if it is not refused, and it stopped before any frontier moved
     pub finishing_stopped : (why : Option Refusal) (goal : ℕ → ℕ) → finishes goal → (size : ℕ) (w next : World) (memory : Memory) (fault : HostFault) (old new : State) → Applies size w next memory (Some fault) old new
         → AppliesFinishing slot (FinishesUnless why finishes) size w next memory (Some fault) old new
-    finishing_stopped None goal so size w next memory fault old new a = record { goal = goal; finishing = λ never. so; applies = AppliesTo-unmoved goal size w next memory fault old new a }
-    finishing_stopped (Some r) goal so size w next memory fault old new a = record { goal = no_end; finishing = λ never. refl; applies = AppliesTo-still size w next memory (Some fault) old new a }
+    finishing_stopped None goal so size w next memory fault old new a = record { goal = goal; finishing = inl so; applies = AppliesTo-unmoved goal size w next memory fault old new a }
+    finishing_stopped (Some r) goal so size w next memory fault old new a = record { goal = no_end; finishing = inl refl; applies = AppliesTo-still size w next memory (Some fault) old new a }

@@ -95,8 +95,12 @@ pub record AppliesTo (goal : Member → Option ℕ) (size : ℕ) (w next : World
   pub applies : AppliesBy (MovesTo goal) size w next memory fault old new
   pub arrives : fault ≡ None → Arrives w.stored.frames goal (reads old.now.words) (reads new.now.words)
 
--- The same to the goals of a line on the pool in the slot; where the host itself failed the line may not have come to know them.
+-- This is so; or the host itself failed before it was known, and nothing is led anywhere.
+abbrev pub UnlessFailed : (failed known unled : Type 0) → Type 0
+UnlessFailed failed known unled = known ⊎ (failed × unled)
+
+-- The same to the goals of a line on the pool in the slot; where the host itself failed before they were known no frontier moves.
 pub record AppliesFinishing (slot : ℕ) (finishes : (ℕ → ℕ) → Type 0) (size : ℕ) (w next : World) (memory : Memory) (fault : Option HostFault) (old new : State) : Type 0 where
   pub goal : ℕ → ℕ
-  pub finishing : (fault ≡ Some hosts.Failed → ⊥) → finishes goal
+  pub finishing : UnlessFailed (fault ≡ Some hosts.Failed) (finishes goal) (goal ≡ no_end)
   pub applies : AppliesTo (led_in slot goal) size w next memory fault old new

@@ -175,7 +175,7 @@ module _ (size : ℕ) (w : World) (memory : Memory) (before after : Counts) (old
     one_line = tt;
     replied = ap (λ (v : World). of_text (pools_text v.stored)) (world_of_pools w) ∙ sym (answer_of_pools w);
     goal = still;
-    leads = λ never. leads_none w Pools (record { none = λ F before. refl }) (reads old.now.words);
+    leads = inl (leads_none w Pools (record { none = λ F before. refl }) (reads old.now.words));
     applies = unmoved None applies;
     arrives = arrives_still size w (world_by w (Some Pools)) memory None old new applies;
     files = KeepsFiles-still None old.shelf new.shelf (ap (λ (s : State). s.shelf) same);
@@ -195,7 +195,7 @@ module _ (size : ℕ) (w : World) (memory : Memory) (before after : Counts) (old
     replied = tt;
     one_line = tt;
     goal = still;
-    leads = λ never. leads_none w (Cut pick) (record { none = λ F before. refl }) (reads old.now.words);
+    leads = inl (leads_none w (Cut pick) (record { none = λ F before. refl }) (reads old.now.words));
     arrives = λ no. absurd (none-some hosts.Cut (sym no));
     applies = unmoved (Some hosts.Cut) (subst (λ (v : World). Applies size w v memory (Some hosts.Cut) old new) (sym (world_of_cut w pick)) applies);
     files = KeepsFiles-still None old.shelf new.shelf rest.shelf;
@@ -215,7 +215,7 @@ module _ (size : ℕ) (w : World) (memory : Memory) (before after : Counts) (old
     one_line = tt;
     replied = sym (answer_is_ok w (Arm step pick) refl refl (arm_is_free w step pick));
     goal = still;
-    leads = λ never. leads_none w (Arm step pick) (record { none = λ F before. refl }) (reads old.now.words);
+    leads = inl (leads_none w (Arm step pick) (record { none = λ F before. refl }) (reads old.now.words));
     applies = unmoved None (subst (λ (v : World). Applies size w v memory None old new) (sym (world_of_arm w step pick)) (Applies-idle size w memory old new ready same));
     arrives = arrives_still size w (world_by w (Some (Arm step pick))) memory None old new (subst (λ (v : World). Applies size w v memory None old new) (sym (world_of_arm w step pick)) (Applies-idle size w memory old new ready same));
     files = KeepsFiles-still None old.shelf new.shelf (ap (λ (s : State). s.shelf) same);
@@ -234,7 +234,7 @@ module _ (size : ℕ) (w : World) (memory : Memory) (before after : Counts) (old
     replied = refl;
     one_line = tt;
     goal = still;
-    leads = λ never. refl;
+    leads = inl refl;
     applies = unmoved None (Applies-idle size w memory old new ready same);
     arrives = arrives_still size w w memory None old new (Applies-idle size w memory old new ready same);
     files = KeepsFiles-still None old.shelf new.shelf (ap (λ (s : State). s.shelf) same);

@@ -10,7 +10,7 @@ use Rattle.pm_model.specs.Changes.{Silently}
 use Rattle.pm_model.proofs.Words.{Picks-reads, reads_only, HasOnly-newest, HasOnly-own}
 use Rattle.pm_model.proofs.Changes.{Changes-said, HasOnly-kept}
 use Rattle.pm_model.proofs.Leaves.{Leaves-now}
-use Rattle.pud_defs.specs.declared.layout.TheConstants.{DAEMON_LOG, FRAMES_WORD, SPACE_TABLE, PUDDLE_TABLE, CLIENTS, CLIENT_LOGS}
+use Rattle.pud_defs.specs.declared.layout.TheConstants.{DAEMON_LOG, FRAMES_WORD, TYPE_TABLE, SPACE_TABLE, PUDDLE_TABLE, CLIENTS, CLIENT_LOGS}
 use Rattle.pud_defs.specs.declared.log_words.TheConstants.{CLOSED_GATE}
 use Rattle.pud_defs.specs.Image.{Image}
 use Rattle.pud_defs.specs.Layout.{IsWithin, tables_end, log_at, frames_at}
@@ -29,6 +29,7 @@ use Rattle.pud_defs.proofs.LogsBeside.{IsReadBeside, world_again}
 use Rattle.pud_defs.proofs.Logged.{has_legal_log-of}
 use Rattle.pud_defs.proofs.ClosedLogs.{closed_by_gate}
 use Rattle.pud_defs.proofs.Parts.{HoldsWorld}
+use Rattle.pud_defs.proofs.TablesOf.{tables_of-same}
 use Rattle.pud_defs.proofs.Worlds.{settled-below, holding_of_world, frames_of_world}
 use Rattle.pud_defs.proofs.IdleWorlds.{legal_log_idle}
 use Rattle.pud_defs.proofs.Idle.{given_by_log-unowned, idle_world_of-unowned}
@@ -79,6 +80,13 @@ in_table k v is = elim (cases_lt k SPACE_TABLE) [
   ]
 ]
 
+-- images that settle to the same beside the log-space table have the same pools and puddles
+pub settled_tables : (F : ℕ) (i j : Image) → ((k : ℕ) → IsReadBeside F k → settled F j k ≡ settled F i k) → tables_of F (settled_by DAEMON_LOG j) ≡ tables_of F (settled_by DAEMON_LOG i)
+settled_tables F i j same = tables_of-same F (settled_by DAEMON_LOG j) (settled_by DAEMON_LOG i) (λ k low high. word k (inl high) (omega arith) (omega arith)) (λ k low high. word k (inr low) (omega arith) high)
+  where
+    word : (k : ℕ) → (k < SPACE_TABLE) ⊎ (PUDDLE_TABLE ≤ k) → TYPE_TABLE ≤ k → k < tables_end F → settled_by DAEMON_LOG j k ≡ settled_by DAEMON_LOG i k
+    word k spaces low below = sym (settled-below F j k below) ∙ same k (record { beside = inr low; spaces = spaces; logs = inl below }) ∙ settled-below F i k below
+
 -- words that a recovery left of a rested device that read as this image and stood for this world
 pub record IsBehindRecovery (size : ℕ) (s : StoredWorld) (i : Image) (words : Words) : Type 0 where
   pub rested : IsRested words
@@ -98,10 +106,11 @@ behind_recovery size s a b p r =
       closed = p.closed refl;
     }
 
--- An image while the log-space table is emptied: it stands for the world, a log is refused only where it was, and each client's logs are closed
--- that were when it began.
+-- An image while the log-space table is emptied: it stands for the world, has the same pools and puddles, a log is refused only where it was, and
+-- each client's logs are closed that were when it began.
 pub record IsEmptying (size : ℕ) (s : StoredWorld) (i n image : Image) : Type 0 where
   pub stands : world_of size image ≡ Some s
+  pub tables : tables_of s.frames (settled_by DAEMON_LOG image) ≡ tables_of s.frames (settled_by DAEMON_LOG i)
   pub refused : (number : ℕ) → number < ALL_LOGS → is_refused_log s.frames (settled_by DAEMON_LOG i) number ≡ false → is_refused_log s.frames (settled_by DAEMON_LOG image) number ≡ false
   pub closed : (client : ℕ) → client < CLIENTS → has_closed_logs image s.frames client ≡ has_closed_logs n s.frames client
 
@@ -166,6 +175,7 @@ module _ (size : ℕ) (s : StoredWorld) (i : Image) (world : world_of size i ≡
         record {
           stands = world_again size s i image world legal_j (λ k read. settles_so k)
               (are_legal_spaces-same (settled F image) (settled F i) (λ k low high. settles_so k) ∙ held_i.spaces);
+          tables = settled_tables F i image (λ k read. settles_so k);
           refused = λ number few not_refused. ap (λ (x : Image). is_refused_log F x number) is ∙ behind.still.refused.each number few ∙ not_refused;
           closed = logs_j;
         }
@@ -203,6 +213,7 @@ module _ (size : ℕ) (s : StoredWorld) (i : Image) (world : world_of size i ≡
       emptied_still = record {
         stands = world_again size s i image world legal_j settles_beside
             (are_legal_spaces-none (settled F image) (λ client few. settled-below F image (space_record_at client) (omega arith) ∙ record_free client few));
+        tables = settled_tables F i image settles_beside;
         refused = λ number few not_refused. unowned_not_refused F (settled_by DAEMON_LOG image) number (nobody (client_of_log number) (omega arith));
         closed = logs_j;
       }

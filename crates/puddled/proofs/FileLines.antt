@@ -134,7 +134,7 @@ module _ (size : ℕ) (w : World) (memory : Memory) (c : Command) (plain : kind_
     replied = replied;
     one_line = one;
     goal = still;
-    leads = λ never. leads_none w c moves (reads old.now.words);
+    leads = inl (leads_none w c moves (reads old.now.words));
     applies = AppliesBy-weaker Stays (MovesTo still) stays_still size w w memory (fault_of done) old new applies;
     arrives = arrives_still size w w memory (fault_of done) old new applies;
     files = KeepsFiles-still (file_of c) old.shelf new.shelf (ap (λ (s : State). s.shelf) same);
@@ -155,7 +155,7 @@ module _ (size : ℕ) (w : World) (memory : Memory) (c : Command) (plain : kind_
     replied = replied;
     one_line = one;
     goal = still;
-    leads = λ never. leads_none w c moves (reads old.now.words);
+    leads = inl (leads_none w c moves (reads old.now.words));
     applies = AppliesBy-weaker Stays (MovesTo still) stays_still size w under memory (fault_of done) old new applies;
     arrives = arrives_still size w under memory (fault_of done) old new applies;
     files = files;

@@ -1,5 +1,5 @@
 -- Where lines lead frontiers.
-use Rattle.std.proofs.Common.{◌≡◌, ℕ, zero, suc, ◌+◌, ◌<◌, ◌≤◌, Bool, true, false, eqb, cond, List, [], ◌∷◌, Option, Some, None, refl, sym, ap, subst, ◌∙◌, arith}
+use Rattle.std.proofs.Common.{◌≡◌, inl, inr, ℕ, zero, suc, ◌+◌, ◌<◌, ◌≤◌, Bool, true, false, eqb, cond, List, [], ◌∷◌, Option, Some, None, refl, sym, ap, subst, ◌∙◌, arith}
 use Rattle.std.specs.Prelude.{◌-◌, min, slice_get}
 use Rattle.std.proofs.lemmas.Option.{none-some, same_Some}
 use Rattle.pm_model.specs.declared.host.HostFault.{HostFault}
@@ -21,7 +21,7 @@ use Rattle.pool_transaction.specs.declared.changing.Change.{Change}
 use Rattle.pool_transaction.specs.declared.changing.Change.TheVariants as changes
 use Rattle.pool_transaction.specs.declared.changing.Update.TheVariants as updates
 use Rattle.pool_transaction.specs.Changing.{line_of}
-use Rattle.pool_transaction.specs.Finishing.{Finishes, FinishesUnless, IsAt, Arrives, AppliesFinishing}
+use Rattle.pool_transaction.specs.Finishing.{Finishes, FinishesUnless, IsAt, Arrives, UnlessFailed, AppliesFinishing}
 use Rattle.pool_transaction.proofs.Arriving.{HaveReached, became, AppliesTo-known}
 use Rattle.pool_transaction.proofs.Leading.{led_none, failed_alone}
 use Rattle.ready_daemon.specs.Judged.{known_in}
@@ -59,7 +59,7 @@ module _ (size : ℕ) (w next : World) (memory : Memory) (fault : Option HostFau
     come = λ frame m used. refl;
   }
 
-  pub AppliesAs-still : (command : Option Command) → ((fault ≡ Some Failed → ⊥) → Leads w command (reads old.now.words) still) → Applies size w next memory fault old new
+  pub AppliesAs-still : (command : Option Command) → UnlessFailed (fault ≡ Some Failed) (Leads w command (reads old.now.words) still) (still ≡ still) → Applies size w next memory fault old new
       → AppliesAs size w next command memory fault old new
   AppliesAs-still command leads a = record {
     goal = still;
@@ -68,15 +68,15 @@ module _ (size : ℕ) (w next : World) (memory : Memory) (fault : Option HostFau
   }
 
   pub AppliesAs-none : (c : Command) → MovesNone c → Applies size w next memory fault old new → AppliesAs size w next (Some c) memory fault old new
-  AppliesAs-none c moves a = AppliesAs-still (Some c) (λ never. leads_none w c moves (reads old.now.words)) a
+  AppliesAs-none c moves a = AppliesAs-still (Some c) (inl (leads_none w c moves (reads old.now.words))) a
 
   pub AppliesAs-refused : (c : Command) (r : Refusal) → refusal_of w c ≡ Some r → Applies size w next memory fault old new → AppliesAs size w next (Some c) memory fault old new
-  AppliesAs-refused c r refused a = AppliesAs-still (Some c) (λ never. leads_refused w c r refused (reads old.now.words)) a
+  AppliesAs-refused c r refused a = AppliesAs-still (Some c) (inl (leads_refused w c r refused (reads old.now.words))) a
 
 -- a reading failed
 pub AppliesAs-failed : (size : ℕ) (w next : World) (memory : Memory) (fault : HostFault) (old new : State) (command : Option Command) → (Some fault ≡ Some Cut → ⊥) → Applies size w next memory (Some fault) old new
     → AppliesAs size w next command memory (Some fault) old new
-AppliesAs-failed size w next memory fault old new command never_cut a = AppliesAs-still size w next memory (Some fault) old new command (failed_alone fault never_cut) a
+AppliesAs-failed size w next memory fault old new command never_cut a = AppliesAs-still size w next memory (Some fault) old new command (inr (failed_alone fault never_cut, refl)) a
 
 -- ---- a change of a transaction
 
@@ -99,10 +99,18 @@ module _ (size : ℕ) (w next : World) (client : ℕ) (name : List ℕ) (change 
   change_goals None goal so = change_leads w.stored.frames client name (reads old.now.words) (led_in slot goal) change (record { slot = slot; is = at; by = goal; goals_are = so; goal_is = refl })
   change_goals (Some why) goal so = ap (led_in slot) so ∙ led_none slot
 
+  -- so they are known, or none moved
+  leads_change : (a : AppliesFinishing slot (FinishesUnless (refusal_of w line) (Finishes w.stored.frames (puddles_in_turn (tables_of w.stored.frames (reads old.now.words)) slot) (reads old.now.words) change)) size w next memory fault old new)
+      → UnlessFailed (fault ≡ Some Failed) (Leads w (Some line) (reads old.now.words) (led_in slot a.goal)) (led_in slot a.goal ≡ still)
+  leads_change a = elim a.finishing [
+    | inl so ↦ inl (change_goals (refusal_of w line) a.goal so)
+    | inr not_known ↦ inr (not_known.0, ap (led_in slot) not_known.1 ∙ led_none slot)
+  ]
+
   -- it leads them as its refusal says
   pub AppliesAs-change : AppliesFinishing slot (FinishesUnless (refusal_of w line) (Finishes w.stored.frames (puddles_in_turn (tables_of w.stored.frames (reads old.now.words)) slot) (reads old.now.words) change)) size w next memory fault old new
       → AppliesAs size w next (Some line) memory fault old new
-  AppliesAs-change a = record { goal = led_in slot a.goal; leads = λ never. change_goals (refusal_of w line) a.goal (a.finishing never); applies = a.applies }
+  AppliesAs-change a = record { goal = led_in slot a.goal; leads = leads_change a; applies = a.applies }
 
 -- ---- a pool is dropped
 
@@ -121,7 +129,7 @@ AppliesAs-drop size w client name behind fault old new slot free at a =
     let next = world_by w (Some (Drop client name)) in
     record {
       goal = freed_in slot;
-      leads = λ never. subst (λ (o : Option Refusal). LeadsUnless o w.stored.frames (Drop client name) (reads old.now.words) (freed_in slot)) (sym free) (record { slot = slot; is = at; goal_is = refl });
+      leads = inl (subst (λ (o : Option Refusal). LeadsUnless o w.stored.frames (Drop client name) (reads old.now.words) (freed_in slot)) (sym free) (record { slot = slot; is = at; goal_is = refl }));
       applies = record {
         applies = a;
         arrives = λ done. record {
@@ -159,7 +167,7 @@ AppliesAs-rewrite size w memory behind name n slot at fault old new ready low kn
     let next = world_by w (Some (Rewrite name n)) in
     record {
       goal = led_in slot by;
-      leads = λ never. subst (λ (o : Option Refusal). LeadsUnless o w.stored.frames (Rewrite name n) (reads old.now.words) (led_in slot by)) (sym free)
-          (record { slot = slot; is = is; by = by; goals_are = ap (λ (ps : List (ℕ × Puddle)). frontiers_of (steps_from n ps)) (sym turn); goal_is = refl });
+      leads = inl (subst (λ (o : Option Refusal). LeadsUnless o w.stored.frames (Rewrite name n) (reads old.now.words) (led_in slot by)) (sym free)
+          (record { slot = slot; is = is; by = by; goals_are = ap (λ (ps : List (ℕ × Puddle)). frontiers_of (steps_from n ps)) (sym turn); goal_is = refl }));
       applies = AppliesTo-known size w memory old ready slot low at known by (steps_from n at) (reached_steps n at) next behind fault new (ap (λ (v : World). v.stored.frames) same) behind_known a;
     }

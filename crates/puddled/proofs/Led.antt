@@ -3,12 +3,13 @@ use Rattle.std.proofs.Common.{◌≡◌, ◌⊎◌, inl, inr, ℕ, ◌<◌, ◌�
 use Rattle.std.proofs.lemmas.List.{append-nil}
 use Rattle.pm_model.specs.declared.host.HostFault.{HostFault}
 use Rattle.pm_model.specs.declared.host.HostFault.TheVariants as hosts
-use Rattle.pm_model.specs.Counts.{Counts}
+use Rattle.pm_model.specs.Counts.{Counts, fault_of}
 use Rattle.pm_model.specs.Words.{reads}
 use Rattle.pm_model.specs.Moments.{State}
-use Rattle.pm_model.specs.Changes.{Silently}
+use Rattle.pm_model.specs.Changes.{Leaves, Silently}
+use Rattle.pm_model.specs.Calls.{Says}
 use Rattle.pm_model.proofs.Words.{Picks-reads}
-use Rattle.pm_model.proofs.Leaves.{Leaves-now}
+use Rattle.pm_model.proofs.Leaves.{Leaves-now, Leaves-then, Leaves-weaker, Leaves-says}
 use Rattle.pud_defs.specs.declared.layout.TheConstants.{DAEMON_LOG, POOL_TABLE, SPACE_TABLE, PUDDLE_TABLE}
 use Rattle.pud_defs.specs.declared.machine.Command.{Command}
 use Rattle.pud_defs.specs.Image.{Image}
@@ -27,7 +28,7 @@ use Rattle.ready_daemon.specs.Moves.{MovesTo, still}
 use Rattle.ready_daemon.proofs.Goals.{stays_still, still_stays}
 use Rattle.puddled.specs.declared.answers.Answered.{Answered}
 use Rattle.puddled.specs.Daemon.{CarriesOut}
-use Rattle.puddled.specs.Frontiers.{LeadsUnless, Leads, LeadFrontiers}
+use Rattle.puddled.specs.Frontiers.{LeadsUnless, Leads, LeadFrontiers, MoveOnTheWay}
 use Rattle.puddled.specs.Faults.{Kind, ordinary, loses, arms, kind_of, behind_loss, CountsCommand}
 use Rattle.puddled.specs.declared.answers.Answered.TheVariants as answers
 use Rattle.pud_defs.specs.declared.machine.Command.TheVariants.{Cut, Arm}
@@ -36,11 +37,12 @@ use Rattle.pud_defs.specs.declared.machine.Reply.{Reply}
 use Rattle.pud_defs.specs.declared.machine.Reply.TheVariants as replies
 use Rattle.pud_defs.specs.Step.{refusal_of}
 use Rattle.std.proofs.lemmas.Option.{none-some}
-use Rattle.pool_transaction.specs.Finishing.{Arrives}
+use Rattle.pool_transaction.specs.Finishing.{Arrives, UnlessFailed}
 use Rattle.pool_transaction.proofs.Arriving.{settled_gate}
-use Rattle.puddled.specs.Starting.{IsReplayed}
+use Rattle.puddled.specs.declared.daemon.StartFault.{StartFault}
+use Rattle.puddled.specs.Starting.{IsReplayed, Recovers}
 use Rattle.puddled.proofs.Restarts.{below_logs}
-use Rattle.puddled.proofs.Settling.{found_stands, found_frames}
+use Rattle.puddled.proofs.Settling.{found_world, found_stands, found_frames}
 
 -- nothing changed, at a line that is no command
 pub LeadFrontiers-bad : (w : World) (answered : Type 0) (image : Image) → LeadFrontiers w None answered image image
@@ -54,6 +56,16 @@ LeadFrontiers-bad w answered image = record {
 -- where less is asked of the answer
 pub LeadFrontiers-when : (w : World) (command : Option Command) (answered more : Type 0) (before after : Image) → (more → answered) → LeadFrontiers w command answered before after → LeadFrontiers w command more before after
 LeadFrontiers-when w command answered more before after so l = record { goal = l.goal; leads = l.leads; each = l.each; arrives = λ m. l.arrives (so m) }
+
+-- where the host itself did not fail it is known
+known_alone : {failed known unled : Type 0} → UnlessFailed failed known unled → (failed → ⊥) → known
+known_alone (inl known) never = known
+known_alone (inr not_known) never = absurd (never not_known.0)
+
+-- where the host failed as it is said
+pub failed_as : {failed known unled told : Type 0} → (failed → told) → UnlessFailed failed known unled → UnlessFailed told known unled
+failed_as so (inl known) = inl known
+failed_as so (inr not_known) = inr (so not_known.0, not_known.1)
 
 goal_unless : (why : Option Refusal) (F pick : ℕ) (before : Image) (goal : Member → Option ℕ) → LeadsUnless why F (Cut pick) before goal → goal ≡ still
 goal_unless None F pick before goal so = so
@@ -78,10 +90,64 @@ module _ (size : ℕ) (w : World) (memory : Memory) (command : Option Command) (
   pub LeadFrontiers-done : (so : Type 0) (answered : Answered) → CarriesOut size w memory command (Ok answered) counted between old mid → LeadFrontiers w command so (reads old.now.words) (reads mid.now.words)
   LeadFrontiers-done so answered k = record {
     goal = k.goal;
-    leads = k.leads (λ no. none-some hosts.Failed no);
+    leads = known_alone k.leads (λ no. none-some hosts.Failed no);
     arrives = λ it. k.arrives refl;
     each = at_end (Ok answered) k (tables_of w.stored.frames (reads mid.now.words)) (settled_gate size k.under memory mid w.stored.frames (k.applies.ready refl));
   }
+
+-- ---- at every moment
+
+-- of the command alone
+module _ (size : ℕ) (w : World) (memory : Memory) (command : Option Command) (done : Result Answered HostFault) (counted between : Counts) (old mid : State) (k : CarriesOut size w memory command done counted between old mid) where
+  each_moment : (frame : ℕ) (m : Member) → (tables_of w.stored.frames (reads old.now.words)).puddles frame ≡ Some m
+      → Leaves (λ bytes image. MovesTo k.goal m ((tables_of w.stored.frames (settled_by DAEMON_LOG image)).puddles frame)) old mid
+  each_moment frame m used =
+      let F = w.stored.frames in
+      Leaves-weaker (Silently (λ image. MovesTo k.goal m ((tables_of F (settled_by DAEMON_LOG image)).puddles frame))) (λ bytes image. MovesTo k.goal m ((tables_of F (settled_by DAEMON_LOG image)).puddles frame)) old mid
+      (λ bytes image so. so.1) (k.applies.puddles.each frame m used)
+
+  pub MoveOnTheWay-done : (failed : Type 0) → (fault_of done ≡ Some hosts.Failed → failed) → MoveOnTheWay w command failed old mid
+  MoveOnTheWay-done failed so = record { goal = k.goal; leads = failed_as so k.leads; each = each_moment }
+
+-- and of a restart behind it
+module _ (size : ℕ) (w : World) (memory : Memory) (line : List ℕ) (counted between : Counts) (old mid : State) (k : CarriesOut size w memory (command_of line) (Err hosts.Cut) counted between old mid)
+    (was : old.shelf ≡ w.shelf) (result : Result Memory StartFault) (new : State) (r : Recovers size (found_world size w memory line counted between old mid k was) result mid new) where
+  tables_behind : Leaves (λ bytes image. tables_of w.stored.frames (settled_by DAEMON_LOG image) ≡ tables_of w.stored.frames (settled_by DAEMON_LOG (reads mid.now.words))) mid new
+  tables_behind = subst (λ (F : ℕ). Leaves (λ bytes image. tables_of F (settled_by DAEMON_LOG image) ≡ tables_of F (settled_by DAEMON_LOG (reads mid.now.words))) mid new)
+      (found_frames size w memory line counted between old mid k was) r.tables
+
+  pub MoveOnTheWay-lost : (failed : Type 0) → MoveOnTheWay w (command_of line) failed old new
+  MoveOnTheWay-lost failed = record {
+    goal = k.goal;
+    leads = failed_as (λ no. absurd (let it : Some hosts.Cut ≡ Some hosts.Failed = no in cc)) k.leads;
+    each = λ frame m used.
+        let P : Image → Type 0 = λ image. MovesTo k.goal m ((tables_of w.stored.frames (settled_by DAEMON_LOG image)).puddles frame) in
+        let here = at_end size w memory (command_of line) counted between old mid (Err hosts.Cut) k (tables_of w.stored.frames (settled_by DAEMON_LOG (reads mid.now.words))) refl frame m used in
+        Leaves-then (λ bytes image. P image) (λ bytes image. P image) (λ bytes image. P image) [] old mid new (k.applies.quiet ∙ sym (append-nil old.now.said)) (λ front image so. so) (λ more image so. so)
+        (each_moment size w memory (command_of line) (Err hosts.Cut) counted between old mid k frame m used)
+        (Leaves-weaker (λ bytes image. tables_of w.stored.frames (settled_by DAEMON_LOG image) ≡ tables_of w.stored.frames (settled_by DAEMON_LOG (reads mid.now.words))) (λ bytes image. P image) mid new
+        (λ bytes image same. subst (λ (t : Tables). MovesTo k.goal m (t.puddles frame)) (sym same) here) tables_behind);
+  }
+
+-- and as an answer is said behind it
+pub MoveOnTheWay-said : (w : World) (command : Option Command) (failed told : Type 0) (old mid new : State) → (failed → told) → mid.now.said ≡ old.now.said → (text : List ℕ) (fault : Option HostFault) → Says text fault mid new
+    → MoveOnTheWay w command failed old mid → MoveOnTheWay w command told old new
+MoveOnTheWay-said w command failed told old mid new so quiet text fault says moves = record {
+  goal = moves.goal;
+  leads = failed_as so moves.leads;
+  each = λ frame m used.
+      let P : List ℕ → Image → Type 0 = λ bytes image. MovesTo moves.goal m ((tables_of w.stored.frames (settled_by DAEMON_LOG image)).puddles frame) in
+      let said = quiet ∙ sym (append-nil old.now.said) in
+      let before = moves.each frame m used in
+      Leaves-then P P P [] old mid new said (λ front image it. it) (λ more image it. it) before
+      (Leaves-says text fault P mid new (λ front image prefix picked. Leaves-now P [] old mid said before image picked) says);
+}
+
+-- nothing more was done
+pub MoveOnTheWay-as : (w : World) (command : Option Command) (failed told : Type 0) (old new : State) → (failed → told) → MoveOnTheWay w command failed old new → MoveOnTheWay w command told old new
+MoveOnTheWay-as w command failed told old new so moves = record { goal = moves.goal; leads = failed_as so moves.leads; each = moves.each }
+
+-- ---- behind a restart
 
 -- power was lost, and the device reads behind the restart as it was settled
 module _ (size : ℕ) (w : World) (memory : Memory) (line : List ℕ) (counted between : Counts) (old mid : State) (k : CarriesOut size w memory (command_of line) (Err hosts.Cut) counted between old mid)
@@ -106,7 +172,7 @@ module _ (size : ℕ) (w : World) (memory : Memory) (line : List ℕ) (counted b
   each_lost = at_end size w memory (command_of line) counted between old mid (Err hosts.Cut) k (tables_of w.stored.frames now) settled_tables
 
   leads_lost : Leads w (command_of line) (reads old.now.words) k.goal
-  leads_lost = k.leads (λ no. let it : Some hosts.Cut ≡ Some hosts.Failed = no in cc)
+  leads_lost = known_alone k.leads (λ no. let it : Some hosts.Cut ≡ Some hosts.Failed = no in cc)
 
   -- a line that is answered `cut` says no more; one that asks for the loss moves none
   arrives_lost : (kind : Kind) → kind_of (command_of line) ≡ kind → (answers.Reply (behind_loss kind) ≡ answers.Reply replies.Cut → ⊥) → Arrives w.stored.frames k.goal (reads old.now.words) now

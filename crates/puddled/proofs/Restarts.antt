@@ -19,6 +19,7 @@ use Rattle.pud_defs.specs.Spaces.{owner_by, space_record_at}
 use Rattle.pud_defs.specs.Replay.{device_word, new_value, is_in_log, settled_by}
 use Rattle.pud_defs.specs.Registry.{frames_of}
 use Rattle.pud_defs.specs.Settled.{ALL_LOGS, is_refused_log, is_in_logs, settled}
+use Rattle.pud_defs.specs.Tables.{tables_of}
 use Rattle.pud_defs.specs.World.{World, StoredWorld, world_of, closed, restart}
 use Rattle.pud_defs.proofs.Replay.{overwritten-stays, settled_by-outside, outside_log}
 use Rattle.pud_defs.proofs.Logged.{settled_by-unlogged}
@@ -38,7 +39,7 @@ use Rattle.ready_daemon.specs.Ready.{IsReady, IsUsedAlone, IsClosedIfFree, IsClo
 use Rattle.ready_daemon.proofs.JudgedOpen.{KnowsPools-none}
 use Rattle.ready_daemon.proofs.NoneHeld.{Holds-none, HasSessions-none}
 use Rattle.puddled.specs.Starting.{first_memory, ByStart, DiffersByStart, IsReplayed, Recovers}
-use Rattle.puddled.proofs.Emptied.{IsBehindRecovery, IsEmptying, behind_recovery, idle_gate, used_closed, batched_still, third_may, single_d, cleared_d, reads_d, settled_d}
+use Rattle.puddled.proofs.Emptied.{settled_tables, IsBehindRecovery, IsEmptying, behind_recovery, idle_gate, used_closed, batched_still, third_may, single_d, cleared_d, reads_d, settled_d}
 
 -- a recovery's fault is the host's or none, at a start too
 pub fault_of_recover : (fault : RecoverFault) → start_fault {T = Memory} (Err (of_recover fault)) ≡ recover_fault {T = Report} (Err fault)
@@ -80,6 +81,13 @@ module _ (size : ℕ) (w : World) (a : State) (world : world_of size (reads a.no
   abbrev Still : List ℕ → Image → Type 0
   Still = Silently (StandsStill size (closed w) i)
 
+  -- the pools and puddles that were read, once the daemon log is replayed
+  abbrev pub HasTables : Image → Type 0
+  HasTables image = tables_of F (settled_by DAEMON_LOG image) ≡ tables_of F (settled_by DAEMON_LOG i)
+
+  tables_still : (image : Image) → StandsStill size (closed w) i image → HasTables image
+  tables_still image still = settled_tables F i image (λ k read. still.settles k)
+
   none_refused : RefusesNone i → (number : ℕ) → number < ALL_LOGS → is_refused_log F (settled_by DAEMON_LOG i) number ≡ false
   none_refused none number few = ap (λ (n : ℕ). is_refused_log n (settled_by DAEMON_LOG i) number) (sym (frames_of_world size i (closed w) world)) ∙ none.each number few
 
@@ -106,6 +114,7 @@ module _ (size : ℕ) (w : World) (a : State) (world : world_of size (reads a.no
   Recovers-failed b recoveries.NotSound sound any r = absurd (sound refl)
   Recovers-failed b (recoveries.Host fault) sound any r = record {
     moments = Leaves-weaker Still (Silently (λ image. world_of size image ≡ Some (closed w))) a b (λ bytes image m. (m.0, m.1.stands)) r.moments;
+    tables = Leaves-weaker Still (λ bytes image. HasTables image) a b (λ bytes image m. tables_still image m.1) r.moments;
     rights = Leaves-weaker (Silently (DiffersByRecovery F i)) (λ bytes image. DiffersByStart F i image) a b (λ bytes image m. wider_rights image m.1) r.rights;
     allowed = λ none. Leaves-weaker Still (λ bytes image. RefusesNone image) a b (λ bytes image m.
         refuses_none image m.1.stands (λ number few. m.1.refused.each number few ∙ none_refused none number few)) r.moments;
@@ -173,6 +182,7 @@ module _ (size : ℕ) (w : World) (a : State) (world : world_of size (reads a.no
       pub Recovers-by : (result : Result Memory StartFault) → c.script ≡ a.script → c.shelf ≡ a.shelf → IfOk result (λ memory. IsReady size (restart w) memory c) → Recovers size w result a c
       Recovers-by result script shelf ready = record {
         moments = moments_c;
+        tables = both {P = λ bytes image. HasTables image} tables_still (λ image still. still.tables);
         rights = rights_c;
         allowed = allowed_c;
         logs = logs_c;

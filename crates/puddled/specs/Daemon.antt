@@ -17,8 +17,8 @@ use Rattle.pud_defs.specs.Run.{Turn, IsTurn, cuts_of}
 use Rattle.pud_defs.specs.Texts.{answer_text, begins_with_ok}
 use Rattle.pud_defs.specs.Stands.{StandsWith}
 use Rattle.ready_daemon.specs.Memory.{Memory}
-use Rattle.pool_transaction.specs.Finishing.{Arrives}
-use Rattle.ready_daemon.specs.Moves.{MovesTo}
+use Rattle.pool_transaction.specs.Finishing.{Arrives, UnlessFailed}
+use Rattle.ready_daemon.specs.Moves.{MovesTo, still}
 use Rattle.ready_daemon.specs.Ready.{IsReady, RefusesNone, AppliesBy, ClosesFirst, ClosesBefore, ClosesLogs}
 use Rattle.puddled.specs.declared.answers.Answered.{Answered}
 use Rattle.puddled.specs.Answered.{answer_of, IsOneLine, said_text}
@@ -51,7 +51,7 @@ pub record CarriesOut (size : ℕ) (w : World) (memory : Memory) (command : Opti
   pub replied : IfOk done (λ answered. answer_of under answered ≡ said)
   pub one_line : IfOk done IsOneLine
   pub goal : Member → Option ℕ
-  pub leads : (fault_of done ≡ Some hosts.Failed → ⊥) → Leads w command (reads old.now.words) goal
+  pub leads : UnlessFailed (fault_of done ≡ Some hosts.Failed) (Leads w command (reads old.now.words) goal) (goal ≡ still)
   pub applies : AppliesBy (MovesTo goal) size w under memory (fault_of done) old new
   pub arrives : fault_of done ≡ None → Arrives w.stored.frames goal (reads old.now.words) (reads new.now.words)
   pub files : KeepsFiles (file_in command) old.shelf new.shelf

@@ -4,17 +4,20 @@ use Rattle.pm_model.specs.declared.host.HostFault.{HostFault}
 use Rattle.pm_model.specs.declared.host.HostFault.TheVariants as hosts
 use Rattle.pm_model.specs.Words.{reads}
 use Rattle.pm_model.specs.Moments.{State}
+use Rattle.pm_model.specs.Changes.{Leaves}
+use Rattle.pud_defs.specs.declared.layout.TheConstants.{DAEMON_LOG}
 use Rattle.pud_defs.specs.declared.machine.Command.{Command}
 use Rattle.pud_defs.specs.declared.machine.Command.TheVariants as commands
 use Rattle.pud_defs.specs.declared.machine.Refusal.{Refusal}
 use Rattle.pud_defs.specs.declared.records.Puddle.{Puddle}
 use Rattle.pud_defs.specs.Image.{Image}
 use Rattle.pud_defs.specs.Puddles.{Member}
+use Rattle.pud_defs.specs.Replay.{settled_by}
 use Rattle.pud_defs.specs.Step.{refusal_of}
 use Rattle.pud_defs.specs.Tables.{tables_of, puddles_in_turn}
 use Rattle.pud_defs.specs.World.{World}
 use Rattle.lazy_rewrite.specs.Frontiers.{steps_from, frontiers_of}
-use Rattle.pool_transaction.specs.Finishing.{end_of, FinishesObject, FinishesTaken, Arrives, AppliesTo}
+use Rattle.pool_transaction.specs.Finishing.{end_of, FinishesObject, FinishesTaken, Arrives, UnlessFailed, AppliesTo}
 use Rattle.ready_daemon.specs.Memory.{Memory}
 use Rattle.ready_daemon.specs.Moves.{MovesTo, still, freed_in, led_in}
 use Rattle.ready_daemon.specs.Owning.{IsSlotOf}
@@ -55,10 +58,10 @@ Leads w None before goal = goal ≡ still
 Leads w (Some command) before goal = LeadsUnless (refusal_of w command) w.stored.frames command before goal
 
 -- A command was carried out, or refused, at every moment each frontier is on the way to where it leads them, and without a fault each is there; where
--- the host itself failed the command may not have come to know where.
+-- the host itself failed before that was known none has moved.
 pub record AppliesAs (size : ℕ) (w next : World) (command : Option Command) (memory : Memory) (fault : Option HostFault) (old new : State) : Type 0 where
   pub goal : Member → Option ℕ
-  pub leads : (fault ≡ Some hosts.Failed → ⊥) → Leads w command (reads old.now.words) goal
+  pub leads : UnlessFailed (fault ≡ Some hosts.Failed) (Leads w command (reads old.now.words) goal) (goal ≡ still)
   pub applies : AppliesTo goal size w next memory fault old new
 
 -- Behind a line each frontier is on the way to where the line leads it, and where it is answered so each is there, that of a puddle that came among them: by
@@ -68,3 +71,11 @@ pub record LeadFrontiers (w : World) (command : Option Command) (answered : Type
   pub leads : Leads w command before goal
   pub each : (frame : ℕ) (m : Member) → (tables_of w.stored.frames before).puddles frame ≡ Some m → MovesTo goal m ((tables_of w.stored.frames after).puddles frame)
   pub arrives : answered → Arrives w.stored.frames goal before after
+
+-- At every moment of a line, whether it is answered or not, each frontier is on the way to where the line leads it, in each image that may be left, once the
+-- daemon log is replayed; where the host itself failed before that was known none has moved.
+pub record MoveOnTheWay (w : World) (command : Option Command) (failed : Type 0) (old new : State) : Type 0 where
+  pub goal : Member → Option ℕ
+  pub leads : UnlessFailed failed (Leads w command (reads old.now.words) goal) (goal ≡ still)
+  pub each : (frame : ℕ) (m : Member) → (tables_of w.stored.frames (reads old.now.words)).puddles frame ≡ Some m
+      → Leaves (λ bytes image. MovesTo goal m ((tables_of w.stored.frames (settled_by DAEMON_LOG image)).puddles frame)) old new

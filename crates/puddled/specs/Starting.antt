@@ -11,6 +11,7 @@ use Rattle.pud_defs.specs.Replay.{is_in_log, settled_by}
 use Rattle.pud_defs.specs.Registry.{frames_of}
 use Rattle.pud_defs.specs.Settled.{ALL_LOGS, is_refused_log, is_in_logs, settled}
 use Rattle.pud_defs.specs.Run.{newlines}
+use Rattle.pud_defs.specs.Tables.{tables_of}
 use Rattle.pud_defs.specs.StartText.{refused_lines, start_text}
 use Rattle.pud_defs.specs.World.{World, world_of, closed, restart}
 use Rattle.recover.specs.declared.judge.Mark.{Mark}
@@ -48,11 +49,12 @@ pub record IsReplayed (before now : Image) : Type 0 where
   pub each : (k : ℕ) → is_in_log DAEMON_LOG k ≡ false → is_in_logs (frames_of before) k ≡ false → (k < SPACE_TABLE) ⊎ (PUDDLE_TABLE ≤ k) → now k ≡ settled (frames_of before) before k
 
 -- The device was brought up to date behind a power loss, from one that is rested and stands for a world, without a word: at each moment each
--- image stands for the world, differs from what was read only where a start may write, refuses no log where none was refused, and then has a
--- client's logs closed unless its record is used still, where they were unless it was used and no batch named it; without a fault the daemon is
--- ready in it.
+-- image stands for the world, has the pools and puddles that were read, once the daemon log is replayed, differs from what was read only where a start
+-- may write, refuses no log where none was refused, and then has a client's logs closed unless its record is used still, where they were unless it was
+-- used and no batch named it; without a fault the daemon is ready in it.
 pub record Recovers (size : ℕ) (w : World) (result : Result Memory StartFault) (old new : State) : Type 0 where
   pub moments : Leaves (Silently (λ image. world_of size image ≡ Some (closed w))) old new
+  pub tables : Leaves (λ bytes image. tables_of w.stored.frames (settled_by DAEMON_LOG image) ≡ tables_of w.stored.frames (settled_by DAEMON_LOG (reads old.now.words))) old new
   pub rights : Leaves (λ bytes image. DiffersByStart w.stored.frames (reads old.now.words) image) old new
   pub allowed : RefusesNone (reads old.now.words) → Leaves (λ bytes image. RefusesNone image) old new
   pub logs : RefusesNone (reads old.now.words) → (client : ℕ) → client < CLIENTS → IsClosedIfNamed w.stored.frames client (reads old.now.words)

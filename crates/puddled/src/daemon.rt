@@ -14,7 +14,7 @@ ghost use Rattle.ready_daemon.specs.Memory.{Memory};
 ghost use Rattle.ready_daemon.specs.Ready.{KeepsRest, KeepsInput, IsReady, Applies};
 ghost use Rattle.pud_defs.specs.declared.machine.Command.TheVariants as commands;
 ghost use Rattle.pud_defs.specs.Step.{refusal_of};
-ghost use Rattle.puddled.specs.Frontiers.{LeadFrontiers};
+ghost use Rattle.puddled.specs.Frontiers.{LeadFrontiers, MoveOnTheWay};
 ghost use Rattle.puddled.specs.Rewriting.{DoesSteps};
 ghost use Rattle.puddled.specs.Starting.{IsReplayed, Recovers};
 ghost use Rattle.puddled.specs.Daemon.{KeepsAllBut, KeepsLine, CarriesOut, Settles};
@@ -294,6 +294,11 @@ fn go_on<H: Host>(
         → command_of line ≡ Option.Some command → before.shelf ≡ w.shelf
         → CarriesOut size w daemon.old (command_of line) done counted (H.counts h.old) before (H.state h.old)
         → IfOk result (λ answered. LeadFrontiers w (command_of line) (answered ≡ Answered.Reply Reply.Cut → ⊥) (reads before.now.words) (reads (H.state h.new).now.words)) }
+    // At every moment it is, also where no answer comes.
+    ensures moves { H.tells → (size : ℕ) → size ≡ (H.counts h.old).size → (w : World) → (line : List ℕ) → (counted : Counts) → (before : State)
+        → command_of line ≡ Option.Some command → before.shelf ≡ w.shelf
+        → CarriesOut size w daemon.old (command_of line) done counted (H.counts h.old) before (H.state h.old)
+        → MoveOnTheWay w (command_of line) (result ≡ Result.Err RunFault.Failed) before (H.state h.new) }
     // A line that rewrites has done its steps, where it was not cut.
     ensures steps { H.tells → (F : ℕ) (name : List ℕ) (n : ℕ) (before : State) → IfOk done (λ _. DoesSteps F name n (reads before.now.words) (reads (H.state h.old).now.words))
         → command ≡ commands.Rewrite name n → IfOk result (λ answered. (answered ≡ Answered.Reply Reply.Cut → ⊥) → DoesSteps F name n (reads before.now.words) (reads (H.state h.new).now.words)) }
@@ -332,6 +337,8 @@ fn settle<H: Host>(
         → Settles size w line.now result daemon.new (H.counts h.old) (H.counts h.new) (H.state h.old) (H.state h.new) }
     ensures frontiers { H.tells → (size : ℕ) → size ≡ (H.counts h.old).size → (w : World) → IsReady size w daemon.old (H.state h.old)
         → IfOk result (λ answered. LeadFrontiers w (command_of line.now) (answered ≡ Answered.Reply Reply.Cut → ⊥) (reads (H.state h.old).now.words) (reads (H.state h.new).now.words)) }
+    ensures moves { H.tells → (size : ℕ) → size ≡ (H.counts h.old).size → (w : World) → IsReady size w daemon.old (H.state h.old)
+        → MoveOnTheWay w (command_of line.now) (result ≡ Result.Err RunFault.Failed) (H.state h.old) (H.state h.new) }
     ensures steps { H.tells → (size : ℕ) → size ≡ (H.counts h.old).size → (w : World) → IsReady size w daemon.old (H.state h.old) → (name : List ℕ) (n : ℕ)
         → command_of line.now ≡ Option.Some (commands.Rewrite name n) → refusal_of w (commands.Rewrite name n) ≡ Option.None
         → IfOk result (λ answered. (answered ≡ Answered.Reply Reply.Cut → ⊥) → DoesSteps w.stored.frames name n (reads (H.state h.old).now.words) (reads (H.state h.new).now.words)) }
@@ -437,6 +444,10 @@ impl Daemon {
         // pool.
         ensures frontiers { H.tells → (size : ℕ) → size ≡ (H.counts h.old).size → (w : World) → IsReady size w self.old (H.state h.old)
             → IfOk result (λ ok. LeadFrontiers w (command_of line.now) (ok ≡ true) (reads (H.state h.old).now.words) (reads (H.state h.new).now.words)) }
+        // At every moment it is on that way, in each image that may be left, once the daemon log is replayed: a line that gets no reply has moved a
+        // part of what its `ok` would have, or, where the host itself failed before it was known what that is, nothing.
+        ensures moves { H.tells → (size : ℕ) → size ≡ (H.counts h.old).size → (w : World) → IsReady size w self.old (H.state h.old)
+            → MoveOnTheWay w (command_of line.now) (result ≡ Result.Err RunFault.Failed) (H.state h.old) (H.state h.new) }
         // With its `ok` a line that rewrites has done its next n steps, or all that were left.
         ensures steps { H.tells → (size : ℕ) → size ≡ (H.counts h.old).size → (w : World) → IsReady size w self.old (H.state h.old) → (name : List ℕ) (n : ℕ)
             → command_of line.now ≡ Option.Some (commands.Rewrite name n) → refusal_of w (commands.Rewrite name n) ≡ Option.None

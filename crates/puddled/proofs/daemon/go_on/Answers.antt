@@ -1,4 +1,5 @@
 use Rattle.std.proofs.Common.{sym, ◌≡◌, ℕ, inl, inr, ⊎_elim, Some, Result, Ok, Err, refl, ap, subst, ◌∙◌, Option}
+use Rattle.std.proofs.lemmas.Option.{none-some}
 use Rattle.std.proofs.lemmas.Result.{err_from_is_err_and}
 use Rattle.pm_model.specs.declared.host.HostFault.{HostFault}
 use Rattle.pm_model.specs.declared.host.HostFault.TheVariants as hosts
@@ -15,7 +16,7 @@ use Rattle.puddled.specs.declared.daemon.StartFault.{StartFault}
 use Rattle.puddled.specs.Faults.{start_fault, kind_of, CountsCommand, behind_loss}
 use Rattle.puddled.proofs.Counted.{kind_done, kind_faulty, kind_restarted, kind_unstarted, no_power_lost}
 use Rattle.puddled.proofs.Settling.{Settles-done, Settles-failed, Settles-again, Settles-unstarted, restart_sound, found_world, found_stands, found_shelf}
-use Rattle.puddled.proofs.Led.{LeadFrontiers-done, LeadFrontiers-lost}
+use Rattle.puddled.proofs.Led.{LeadFrontiers-done, LeadFrontiers-lost, MoveOnTheWay-done, MoveOnTheWay-lost}
 use Rattle.std.specs.Prelude.{IfOk}
 use Rattle.pud_defs.specs.declared.machine.Command.{Command}
 use Rattle.puddled.specs.Rewriting.{DoesSteps}
@@ -112,3 +113,32 @@ returns-in-Ok-clause-steps g c = λ t F name n before does is cut.
 pub returns-in_ok-started-in-Err-Cut-clause-steps : goal.returns-in_ok-started-in-Err-Cut-clause-steps
 returns-in_ok-started-in-Err-Cut-clause-steps g c = λ t F name n before does is cut.
     absurd (cut (ap (λ (r : Reply). answers.Reply r) (c.reply_behind_loss.ensures ∙ ap (λ (x : Command). behind_loss (kind_of (Some x))) is)))
+
+pub returns-in-Ok-clause-moves : goal.returns-in-Ok-clause-moves
+returns-in-Ok-clause-moves g c = λ t size e w line counted before of_line shelf carries.
+    MoveOnTheWay-done size w _ (command_of line) _ _ _ before _
+    (subst (λ (r : Result Answered HostFault). CarriesOut size w c.args.daemon.now (command_of line) r counted (g.H.Host.counts c.args.h.now) before (g.H.Host.state c.args.h.now)) c.in-Ok.is carries)
+    _ (λ no. absurd (none-some hosts.Failed no))
+
+pub returns-in-Err-Failed-clause-moves : goal.returns-in-Err-Failed-clause-moves
+returns-in-Err-Failed-clause-moves g c = λ t size e w line counted before of_line shelf carries.
+    let is : c.args.done ≡ Err hosts.Failed = c.in-Err-Failed.is ∙ ap Err (rw c.in-Err-Failed.is at c.in-Err-Failed.field-0-is) in
+    MoveOnTheWay-done size w _ (command_of line) _ _ _ before _
+    (subst (λ (r : Result Answered HostFault). CarriesOut size w c.args.daemon.now (command_of line) r counted (g.H.Host.counts c.args.h.now) before (g.H.Host.state c.args.h.now)) is carries)
+    _ (λ failed. refl)
+
+pub returns-in_err-started-in-Err-Cut-clause-moves : goal.returns-in_err-started-in-Err-Cut-clause-moves
+returns-in_err-started-in-Err-Cut-clause-moves g c = λ t size e w line counted before of_line shelf carries.
+    let is : c.args.done ≡ Err hosts.Cut = c.in-Err-Cut.is ∙ ap Err (rw c.in-Err-Cut.is at c.in-Err-Cut.field-0-is) in
+    let mid = g.H.Host.state c.args.h.now in
+    let k = subst (λ (r : Result Answered HostFault). CarriesOut size w c.args.daemon.now (command_of line) r counted (g.H.Host.counts c.args.h.now) before mid) is carries in
+    MoveOnTheWay-lost size w _ line _ _ before mid k shelf _ _
+    (c.in_err-started-in-Err-Cut.ensures.recovers t size e (found_world size w _ line _ _ before mid k shelf) (k.applies.rests refl) (found_stands size w _ line _ _ before mid k shelf) (found_shelf size w _ line _ _ before mid k shelf)) _
+
+pub returns-in_ok-started-in-Err-Cut-clause-moves : goal.returns-in_ok-started-in-Err-Cut-clause-moves
+returns-in_ok-started-in-Err-Cut-clause-moves g c = λ t size e w line counted before of_line shelf carries.
+    let is : c.args.done ≡ Err hosts.Cut = c.in-Err-Cut.is ∙ ap Err (rw c.in-Err-Cut.is at c.in-Err-Cut.field-0-is) in
+    let mid = g.H.Host.state c.args.h.now in
+    let k = subst (λ (r : Result Answered HostFault). CarriesOut size w c.args.daemon.now (command_of line) r counted (g.H.Host.counts c.args.h.now) before mid) is carries in
+    MoveOnTheWay-lost size w _ line _ _ before mid k shelf _ _
+    (c.in_ok-started-in-Err-Cut.ensures.recovers t size e (found_world size w _ line _ _ before mid k shelf) (k.applies.rests refl) (found_stands size w _ line _ _ before mid k shelf) (found_shelf size w _ line _ _ before mid k shelf)) _

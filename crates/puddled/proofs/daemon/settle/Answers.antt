@@ -1,5 +1,6 @@
-use Rattle.std.proofs.Common.{◌≡◌, ◌≤◌, ℕ, inl, Option, Some, None, Ok, refl, sym, ap, subst, ◌∙◌}
+use Rattle.std.proofs.Common.{◌≡◌, ◌≤◌, ℕ, inl, Option, Some, None, Result, Ok, Err, refl, sym, ap, subst, ◌∙◌}
 use Rattle.std.specs.Result.{result_ok}
+use Rattle.pm_model.specs.declared.host.HostFault.TheVariants.{Failed}
 use Rattle.pm_model.specs.Counts.{fault_of}
 use Rattle.pm_model.specs.Words.{reads}
 use Rattle.pud_defs.specs.declared.machine.Command.{Command}
@@ -10,13 +11,16 @@ use Rattle.pud_defs.specs.World.{world_of}
 use Rattle.pud_defs.specs.Grammar.{command_of}
 use Rattle.pud_defs.specs.Changing.{file_in}
 use Rattle.puddled.specs.Faults.{kind_of, CountsLine, CountsReply, HasLostPower}
+use Rattle.puddled.specs.declared.answers.Answered.{Answered}
 use Rattle.puddled.specs.declared.answers.Answered.TheVariants as answers
+use Rattle.puddled.specs.declared.daemon.RunFault.{RunFault}
+use Rattle.puddled.specs.declared.daemon.RunFault.TheVariants as faults
 use Rattle.puddled.specs.Daemon.{KeepsAllBut, CarriesOut}
 use Rattle.puddled.proofs.Counted.{counted_nothing, bad_loses_nothing, size_of_command}
 use Rattle.puddled.proofs.Carrying.{CarriesOut-bad, KeepsAllBut-then}
 use Rattle.puddled.proofs.Settling.{Settles-done}
-use Rattle.puddled.specs.Frontiers.{LeadFrontiers}
-use Rattle.puddled.proofs.Led.{LeadFrontiers-bad}
+use Rattle.puddled.specs.Frontiers.{LeadFrontiers, MoveOnTheWay}
+use Rattle.puddled.proofs.Led.{LeadFrontiers-bad, MoveOnTheWay-done}
 use Rattle.std.proofs.lemmas.Option.{none-some, same_Some}
 use Rattle.pud_defs.specs.Step.{refusal_of}
 use Rattle.pud_defs.specs.declared.machine.Command.TheVariants.{Rewrite}
@@ -88,3 +92,17 @@ pub returns-clause-steps : goal.returns-clause-steps
 returns-clause-steps g c = λ t size e w ready name n is free.
     let asked : c.in-Ok.command ≡ Rewrite name n = same_Some c.in-Ok.command (Rewrite name n) (c.in-Ok.ensures.command ∙ is) in
     c.go_on.ensures.steps t w.stored.frames name n (g.H.Host.state c.args.h.now) (c.apply-done.ensures.steps t size e w ready name n asked (ap (refusal_of w) asked ∙ free)) asked
+
+pub returns-in_default-clause-moves : goal.returns-in_default-clause-moves
+returns-in_default-clause-moves g c = λ t size e w ready.
+    let s = g.H.Host.state c.args.h.now in
+    let failed : Type 0 = ◌≡◌ {A = Result Answered RunFault} (Ok (answers.Reply (replies.No refusals.Bad))) (Err faults.Failed) in
+    subst (λ (o : Option Command). MoveOnTheWay w o failed s s) (ap result_ok (sym c.in_default.is) ∙ c.parse_line.ensures.command)
+    (MoveOnTheWay-done size w c.args.daemon.now None _ _ _ s s (CarriesOut-bad size w c.args.daemon.now (g.H.Host.counts c.args.h.now) (g.H.Host.counts c.args.h.now) s s ready refl refl) failed (λ no. absurd (none-some Failed no)))
+
+pub returns-clause-moves : goal.returns-clause-moves
+returns-clause-moves g c = λ t size e w ready.
+    let is : command_of c.args.line.now ≡ Some c.in-Ok.command = sym c.in-Ok.ensures.command in
+    let after = e ∙ sym (size_of_command (kind_of (Some c.in-Ok.command)) (fault_of c.apply-done.result) _ _ c.apply-done.ensures.cause) in
+    c.go_on.ensures.moves t size after w c.args.line.now _ _ is ready.shelf
+    (subst (λ (o : Option Command). CarriesOut size w c.apply-done.new.daemon o c.apply-done.result (g.H.Host.counts c.args.h.now) (g.H.Host.counts c.apply-done.new.h) (g.H.Host.state c.args.h.now) (g.H.Host.state c.apply-done.new.h)) (sym is) (c.apply-done.ensures.carries t size e w ready))

@@ -1,7 +1,9 @@
-use Rattle.std.proofs.Common.{◌≡◌, inl, false, [], None, Some, Ok, Err, refl, ap, subst, ◌∙◌, sym, true}
+use Rattle.std.proofs.Common.{◌≡◌, inl, Bool, false, [], None, Some, Result, Ok, Err, refl, ap, subst, ◌∙◌, sym, true}
 use Rattle.std.proofs.lemmas.Result.{err_from_is_err_and}
 use Rattle.pm_model.specs.Words.{Words, reads}
 use Rattle.pm_model.specs.Counts.{Counts}
+use Rattle.puddled.specs.declared.daemon.RunFault.{RunFault}
+use Rattle.puddled.specs.declared.daemon.RunFault.TheVariants as faults
 use Rattle.puddled.specs.Faults.{of_host, HasLostPower}
 use Rattle.puddled.proofs.Counted.{not_none, none_is_sound, counted_say, counted_same, counted_fault, one_reply, reply_said, reply_unsaid, cut_is_answered, host_is_sound}
 use Rattle.ready_daemon.specs.Memory.{Memory}
@@ -15,7 +17,7 @@ use Rattle.puddled.specs.declared.answers.Answered.TheVariants as answers
 use Rattle.puddled.specs.Answered.{answer_of}
 use Rattle.puddled.proofs.Listed.{said_by}
 use Rattle.puddled.proofs.Lines.{answer_last, nothing_last, Answers-fault, Answers-unsaid, Answers-said, KeepsLine-says, KeepsLine-unsaid, SaysAnswer-aloud, SaysAnswer-unsaid, SaysAnswer-failed, sound_said, words_said}
-use Rattle.puddled.proofs.Led.{LeadFrontiers-when}
+use Rattle.puddled.proofs.Led.{LeadFrontiers-when, MoveOnTheWay-said, MoveOnTheWay-as}
 use Rattle.puddled.specs.Frontiers.{LeadFrontiers}
 use Rattle.puddled.specs.Rewriting.{DoesSteps}
 use Rattle.puddled.proofs.daemon.Daemon.exec.Goals as goal
@@ -29,6 +31,14 @@ cut_is_not_ok = refl
 -- whether an answer begins with `ok` is the same in each world
 abbrev no_world : World
 no_world = record { stored = record { frames = 0; machine = 0; next_number = 0; types = []; pools = [] }; clients = no_clients; shelf = λ name. None; transactions = nothing_open }
+
+-- an answer is no failure
+answered_none : {A : Type 0} {answered : A} → ◌≡◌ {A = Result A RunFault} (Ok answered) (Err faults.Failed) → ⊥
+answered_none same = cc
+
+-- one fault is the same whatever would have been answered
+same_fault : {fault other : RunFault} → ◌≡◌ {A = Result Answered RunFault} (Err fault) (Err other) → ◌≡◌ {A = Result Bool RunFault} (Err fault) (Err other)
+same_fault {fault} {other} same = let it : fault ≡ other = cc in ap (λ (f : RunFault). Err f) it
 
 pub returns-clause-cause : goal.returns-clause-cause
 returns-clause-cause g c =
@@ -147,3 +157,20 @@ returns-clause-steps g c = λ t size e w ready name n is free.
           (c.in_ok-answered.ensures.steps t size e w ready name n is free (uncut ok)))
       | else-aloud b ↦ rw b.h-is (λ ok. c.in_ok-answered.ensures.steps t size e w ready name n is free (uncut ok))
     ]
+
+pub returns-in_err-answered-clause-moves : goal.returns-in_err-answered-clause-moves
+returns-in_err-answered-clause-moves g c =
+    let p = err_from_is_err_and c.from_residual.result c.from_residual.ensures.1 in
+    rw (p.1, p.2) (λ t size e w ready. MoveOnTheWay-as w (command_of c.args.line.now) _ _ _ _ same_fault (c.in_err-answered.ensures.moves t size e w ready))
+
+pub returns-in_err-say_answer-clause-moves : goal.returns-in_err-say_answer-clause-moves
+returns-in_err-say_answer-clause-moves g c = λ t size e w ready.
+    MoveOnTheWay-said w (command_of c.args.line.now) _ _ _ _ _ (λ same. absurd (answered_none same)) (c.in_ok-answered.ensures.rest t).quiet _ _ (c.in_err-say_answer.ensures.says t _ refl) (c.in_ok-answered.ensures.moves t size e w ready)
+
+pub returns-clause-moves : goal.returns-clause-moves
+returns-clause-moves g c = λ t size e w ready. elim c.if-aloud.branch [
+  | then-aloud+in_ok-say_answer b ↦
+      rw b.h-is (MoveOnTheWay-said w (command_of c.args.line.now) _ _ _ _ _ (λ same. absurd (answered_none same)) (c.in_ok-answered.ensures.rest t).quiet _ _ (b.in_ok-say_answer.ensures.says t _ refl)
+      (c.in_ok-answered.ensures.moves t size e w ready))
+  | else-aloud b ↦ rw b.h-is (MoveOnTheWay-as w (command_of c.args.line.now) _ _ _ _ (λ same. absurd (answered_none same)) (c.in_ok-answered.ensures.moves t size e w ready))
+]
