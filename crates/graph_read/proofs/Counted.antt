@@ -1,5 +1,5 @@
--- How many places are live, place by place, and how many objects a graph has.
-use Rattle.std.proofs.Common.{◌≡◌, ◌≢◌, ℕ, ◌+◌, ◌-◌, ◌<◌, ◌≤◌, Bool, List, length, Option, Some, None, is_some, is_none, option_map, refl, sym, ap, ◌∙◌, arith}
+-- How many places are live, place by place, and what the objects of a graph come to.
+use Rattle.std.proofs.Common.{◌≡◌, ◌≢◌, ℕ, ◌+◌, ◌-◌, ◌%◌, ◌^◌, ◌<◌, ◌≤◌, Bool, List, length, Option, Some, None, is_some, is_none, option_map, refl, sym, ap, ap₂, ◌∙◌, arith}
 use Rattle.std.specs.Bool.{then_some}
 use Rattle.std.proofs.lemmas.Bool.{cond-true, cond-false}
 use Rattle.pud_defs.specs.Graph.{Graph, under_serial, table_of, graph_of}
@@ -7,7 +7,10 @@ use Rattle.pud_defs.specs.Keyed.{count_used}
 use Rattle.pud_defs.specs.Stored.{Stored, places_of}
 use Rattle.pud_defs.proofs.Keyed.{count_used_step}
 use Rattle.pud_defs.proofs.Graphs.{under_serial-free, under_serial-used, graph_of-each, length-live}
-use Rattle.graph_read.specs.Asking.{serials_in}
+use Rattle.graph_read.specs.declared.judge.Totals.{Totals}
+use Rattle.graph_read.specs.Asking.{serials_in, with_serials}
+use Rattle.graph_read.specs.Numbers.{numbers_below, totals_of}
+use Rattle.graph_read.proofs.Numbers.{number_sum-places}
 
 -- how many places are live from a place on
 abbrev pub live_from : (ℕ → ℕ) → (from end : ℕ) → ℕ
@@ -29,15 +32,20 @@ module _ (f : ℕ → ℕ) (from end : ℕ) where
   unfolding count_used
   live_from-end past = let none : end - from ≡ 0 = omega arith in ap (count_used (under_serial f (λ p. p)) from) none
 
--- what was read of a pool tells how many objects its graph has
-pub objects_counted : (types : List (ℕ × ℕ)) (st : Stored) (serial : ℕ → ℕ) (sound : Bool) (count : ℕ) → serial ≡ serials_in st → sound ≡ is_some (graph_of types st)
-    → count ≡ count_used (under_serial serial (λ p. p)) 0 (places_of st) → then_some sound count ≡ option_map (λ (g : Graph). length g.objects) (graph_of types st)
-objects_counted types st serial sound count is_serial is_sound is_count = by_graph (graph_of types st) refl
+abbrev totals : (objects sum : ℕ) → Totals
+totals objects sum = record { objects = objects; sum = sum }
+
+-- what was read of a pool tells what the objects of its graph come to
+pub totals_counted : (types : List (ℕ × ℕ)) (st : Stored) (serial : ℕ → ℕ) (sound : Bool) (count sum : ℕ) → serial ≡ serials_in st → sound ≡ is_some (graph_of types st) → count ≡ count_used (under_serial serial (λ p. p)) 0 (places_of st)
+    → sum ≡ numbers_below (with_serials serial (table_of types st)) (places_of st) % 2 ^ 64 → then_some sound (totals count sum) ≡ option_map totals_of (graph_of types st)
+totals_counted types st serial sound count sum is_serial is_sound is_count is_sum = by_graph (graph_of types st) refl
   where
-    by_graph : (o : Option Graph) → graph_of types st ≡ o → then_some sound count ≡ option_map (λ (g : Graph). length g.objects) o
-    by_graph None none = ap (λ b. then_some b count) (is_sound ∙ ap is_some none)
+    by_graph : (o : Option Graph) → graph_of types st ≡ o → then_some sound (totals count sum) ≡ option_map totals_of o
+    by_graph None none = ap (λ b. then_some b (totals count sum)) (is_sound ∙ ap is_some none)
     by_graph (Some g) some =
         let h = graph_of-each types st g some in
-        ap (λ b. then_some b count) (is_sound ∙ ap is_some some)
-        ∙ ap (λ (n : ℕ). Some n) (is_count ∙ ap (λ (s : ℕ → ℕ). count_used (under_serial s (λ p. p)) 0 (places_of st)) is_serial
+        ap (λ b. then_some b (totals count sum)) (is_sound ∙ ap is_some some)
+        ∙ ap₂ (λ (n m : ℕ). Some (totals n m))
+        (is_count ∙ ap (λ (s : ℕ → ℕ). count_used (under_serial s (λ p. p)) 0 (places_of st)) is_serial
         ∙ sym (length-live (table_of types st) (places_of st) h.graph.distinct) ∙ ap (λ (g : Graph). length g.objects) h.is)
+        (is_sum ∙ ap (λ (s : ℕ → ℕ). numbers_below (with_serials s (table_of types st)) (places_of st) % 2 ^ 64) is_serial ∙ number_sum-places types st g some)

@@ -1,7 +1,8 @@
 -- What a pool stores is judged: its headers, its serials, and all of it together.
-use Rattle.std.proofs.Common.{◌≡◌, ◌≢◌, ℕ, zero, suc, ◌+◌, ◌-◌, ◌<◌, ◌≤◌, Bool, true, false, not, ◌&&◌, ◌||◌, cond, eqb, ltb, nat_cmp, List, [], ◌∷◌, map, length, get_or, take, drop, slice_get, slice_index, Option, Some, None, is_some, option_map, eq-eqb, eqb-true, ne_eqb, inl, inr, refl, sym, ap, ap₂, ◌∙◌, arith, add-one, drop-cons}
+use Rattle.std.proofs.Common.{◌≡◌, ◌≢◌, ℕ, zero, suc, ◌+◌, ◌<◌, ◌≤◌, Bool, true, false, not, ◌&&◌, ◌||◌, cond, eqb, ltb, nat_cmp, List, [], ◌∷◌, map, length, get_or, take, drop, slice_get, slice_index, Option, Some, None, is_some, option_map, eq-eqb, eqb-true, ne_eqb, inl, inr, refl, sym, ap, ap₂, ◌∙◌, arith, add-one, drop-cons}
 use Rattle.std.specs.List.{list_any}
-use Rattle.std.proofs.lemmas.Bool.{cases_eq}
+use Rattle.std.proofs.Math.Bool.{and-false}
+use Rattle.std.proofs.lemmas.Bool.{cases_eq, cond-false}
 use Rattle.std.proofs.lemmas.Option.{slice_get-map, slice_get-get_or}
 use Rattle.std.proofs.lemmas.List.{length-map}
 use Rattle.pud_defs.proofs.DistinctKeys.{some_or, none_by_some, some_under, eqb_turned}
@@ -118,6 +119,15 @@ judged types st serial next headers root distinct slots is_serial is_next is_hea
     ∙ ap₂ (λ (n : ℕ) (f : ℕ → ℕ). all_below (places_of st) (place_passes (IsSound n) (with_serials f (table_of types st)))) is_next is_serial
     ∙ all_below-same (places_of st) (place_passes (IsSound (next_serial_of st)) (table_of types st)) (is_sound_place (next_serial_of st) (table_of types st)) (λ k below. sound_place (next_serial_of st) (table_of types st) k))
     ∙ is_some-chosen (has_graph types st) (graph_stored types st)
+
+-- a pool with a slot that is not sound stores no graph
+pub unsound_slots : (types : List (ℕ × ℕ)) (st : Stored) (serial : ℕ → ℕ) (next : ℕ) → serial ≡ serials_in st → next ≡ next_serial_of st
+    → all_below (places_of st) (place_passes (IsSound next) (with_serials serial (table_of types st))) ≡ false → graph_of types st ≡ None
+unfolding graph_of
+unsound_slots types st serial next is_serial is_next is_slots =
+    cond-false _ _ _ (is_some-chosen (has_graph types st) (graph_stored types st)
+    ∙ sym (judged types st serial next (headers_fit st) (stands serial (root_of st)) (are_distinct nat_cmp (under_serial serial (λ p. p)) 0 (places_of st)) false is_serial is_next refl refl refl (sym is_slots))
+    ∙ ap (λ b. headers_fit st && b) (and-false _) ∙ and-false (headers_fit st))
 
 -- what was read of the root pointer
 pub root_read : (F : ℕ) (at : List (ℕ × Puddle)) (image : Image) (v : ℕ) → 0 < length at → v ≡ frame_word F (entry at 0).0 ROOT_WORD image

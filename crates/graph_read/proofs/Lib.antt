@@ -1,8 +1,10 @@
 pub mod Counted
+pub mod ExamplesNumbers
 pub mod Fielded
 pub mod Found
 pub mod Held
 pub mod Judging
+pub mod Numbers
 pub mod Passing
 pub mod Pointed
 pub mod SerialsRead

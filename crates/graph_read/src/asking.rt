@@ -1,4 +1,4 @@
-//! What is asked of each slot of a pool, slot by slot and field by field.
+//! What is asked of each slot of a pool, slot by slot and field by field, and the sum of the numbers that the slots hold.
 
 ghost use Rattle.std.specs.Prelude.{◌≡◌, ◌+◌, ◌<◌, ◌≤◌, length, map, slice_index, Option, IfOk};
 ghost use Rattle.pm_model.specs.Words.{reads};
@@ -7,9 +7,9 @@ ghost use Rattle.pm_model.specs.Reads.{OnlyReads};
 ghost use Rattle.pud_defs.specs.Graph.{content, contents_by};
 ghost use Rattle.pud_defs.specs.Image.{Image};
 ghost use Rattle.pud_defs.specs.Layout.{device_words};
-ghost use Rattle.pud_defs.specs.Spaces.{all_below};
 ghost use Rattle.pud_defs.specs.Stored.{IsOnDevice, stored_in, place_word};
-ghost use Rattle.graph_read.specs.Asking.{content_of, passes, serial_passes, unknown_passes, contents_pass, place_passes, with_serials};
+ghost use Rattle.graph_read.specs.Asking.{content_of, passes, serial_passes, unknown_passes, with_serials};
+ghost use Rattle.graph_read.specs.Numbers.{value_number, fields_sum, place_sum, places_sum};
 ghost use Rattle.puddle_header.specs.Places.{places_in};
 ghost use Rattle.graph_read.specs.Reading.{table_in};
 
@@ -63,8 +63,9 @@ impl Asked {
     }
 }
 
-/// Whether field `f` of the slot at a place passes, by its word and the map of the slot's type.
-fn value_passes(
+/// What field `f` of the slot at a place adds to the sum, by its word and the map of the slot's type: a number itself, and a
+/// pointer nothing. None where it does not pass.
+fn value_number(
     pool: &[(u32, Puddle)],
     serials: &Serials,
     asked: Asked,
@@ -72,16 +73,16 @@ fn value_passes(
     type_map: u64,
     f: u32,
     v: u64,
-) -> bool
+) -> Option<u64>
     requires few { length pool.now ≤ MAX_PUDDLES }
     requires within { place < places_in pool.now }
-    ensures { result ≡ passes asked (slice_index serials.now) (content (map (λ e. e.1) pool.now) type_map place f v) }
+    ensures { result ≡ value_number asked (slice_index serials.now) (content (map (λ e. e.1) pool.now) type_map place f v) }
 {
-    !map_is_pointer(type_map, f)
-        || asked.passes(
-            serials,
-            read_pointer(pool, ordinal_of(place), slot_of(place) + 1, v),
-        )
+    if !map_is_pointer(type_map, f) {
+        return Some(v);
+    }
+    let pointee = read_pointer(pool, ordinal_of(place), slot_of(place) + 1, v);
+    asked.passes(serials, pointee).then_some(0)
 }
 
 /// The type id in the slot at a place, whatever the slot holds. One word is read.
@@ -123,8 +124,9 @@ pub fn field_word<H: Loads>(
     slot_field(h, frames, at.frame, at.slot, f)
 }
 
-/// Whether each field of the slot at a place passes, by the map of its type. At most 30 fields are read.
-fn fields_pass<H: Loads>(
+/// The sum of the number fields of the slot at a place, modulo 2^64, by the map of its type, or None where a field does not
+/// pass. At most 30 fields are read.
+fn fields_sum<H: Loads>(
     h: &mut H,
     frames: u32,
     pool: &[(u32, Puddle)],
@@ -132,74 +134,80 @@ fn fields_pass<H: Loads>(
     asked: Asked,
     place: u32,
     type_map: u64,
-) -> Result<bool, HostFault>
+) -> Result<Option<u64>, HostFault>
     requires few { frames ≤ MAX_FRAMES }
     requires room { device_words frames ≤ (H.counts h.old).size }
     requires known { IsOnDevice frames pool.now }
     requires within { place < places_in pool.now }
-    ensures pass { H.tells → (image : Image) → reads (H.state h.old).now.words ≡ image
-        → IfOk result (λ pass. pass ≡ contents_pass asked (slice_index serials.now) (contents_by (stored_in frames pool.now image) place (Option.Some type_map))) }
+    ensures sum { H.tells → (image : Image) → reads (H.state h.old).now.words ≡ image
+        → IfOk result (λ sum. sum ≡ fields_sum asked (slice_index serials.now) (contents_by (stored_in frames pool.now image) place (Option.Some type_map))) }
     ensures only_reads { OnlyReads H.tells H.state H.counts (fault_of result) h.old h.new }
 {
+    let mut sum: u64 = 0;
     for f in 0..map_fields(type_map).min(MAX_FIELDS) {
         let v = field_word(h, frames, pool, place, f)?;
-        if !value_passes(pool, serials, asked, place, type_map, f, v) {
-            return Ok(false);
-        }
+        let Some(number) = value_number(pool, serials, asked, place, type_map, f, v) else {
+            return Ok(None);
+        };
+        sum = sum.wrapping_add(number);
     }
-    Ok(true)
+    Ok(Some(sum))
 }
 
-/// Whether the slot at a place is free or passes.
-fn place_passes<H: Loads>(
+/// The sum of the number fields of the slot at a place, modulo 2^64: 0 where it is free, and None where it is not free and does
+/// not pass.
+fn place_sum<H: Loads>(
     h: &mut H,
     frames: u32,
     pool: &[(u32, Puddle)],
     serials: &Serials,
     asked: Asked,
     place: u32,
-) -> Result<bool, HostFault>
+) -> Result<Option<u64>, HostFault>
     requires few { frames ≤ MAX_FRAMES }
     requires room { device_words frames ≤ (H.counts h.old).size }
     requires known { IsOnDevice frames pool.now }
     requires within { place < places_in pool.now }
-    ensures pass { H.tells → (image : Image) → reads (H.state h.old).now.words ≡ image
-        → IfOk result (λ pass. pass ≡ place_passes asked (with_serials (slice_index serials.now) (table_in frames pool.now image)) place) }
+    ensures sum { H.tells → (image : Image) → reads (H.state h.old).now.words ≡ image
+        → IfOk result (λ sum. sum ≡ place_sum asked (with_serials (slice_index serials.now) (table_in frames pool.now image)) place) }
     ensures only_reads { OnlyReads H.tells H.state H.counts (fault_of result) h.old h.new }
 {
     let serial = serials[place as usize];
     if is_free(serial) {
-        return Ok(true);
+        return Ok(Some(0));
     }
     if !asked.serial_passes(serial) {
-        return Ok(false);
+        return Ok(None);
     }
     let id = type_at(h, frames, pool, place)?;
     match find(h, id)? {
-        Some(type_map) => fields_pass(h, frames, pool, serials, asked, place, type_map),
-        None => Ok(asked.unknown_passes()),
+        Some(type_map) => fields_sum(h, frames, pool, serials, asked, place, type_map),
+        None => Ok(asked.unknown_passes().then_some(0)),
     }
 }
 
-/// Whether each slot of a pool is free or passes.
-pub(crate) fn places_pass<H: Loads>(
+/// The sum of the number fields of all slots of a pool that are not free, modulo 2^64, or None where one of them does not pass.
+/// Each field is read once.
+pub(crate) fn places_sum<H: Loads>(
     h: &mut H,
     frames: u32,
     pool: &[(u32, Puddle)],
     serials: &Serials,
     asked: Asked,
-) -> Result<bool, HostFault>
+) -> Result<Option<u64>, HostFault>
     requires few { frames ≤ MAX_FRAMES }
     requires room { device_words frames ≤ (H.counts h.old).size }
     requires known { IsOnDevice frames pool.now }
-    ensures pass { H.tells → (image : Image) → reads (H.state h.old).now.words ≡ image
-        → IfOk result (λ pass. pass ≡ all_below (places_in pool.now) (place_passes asked (with_serials (slice_index serials.now) (table_in frames pool.now image)))) }
+    ensures sum { H.tells → (image : Image) → reads (H.state h.old).now.words ≡ image
+        → IfOk result (λ sum. sum ≡ places_sum asked (with_serials (slice_index serials.now) (table_in frames pool.now image)) (places_in pool.now)) }
     ensures only_reads { OnlyReads H.tells H.state H.counts (fault_of result) h.old h.new }
 {
+    let mut sum: u64 = 0;
     for place in 0..places_among(pool.len() as u32) {
-        if !place_passes(h, frames, pool, serials, asked, place)? {
-            return Ok(false);
-        }
+        let Some(numbers) = place_sum(h, frames, pool, serials, asked, place)? else {
+            return Ok(None);
+        };
+        sum = sum.wrapping_add(numbers);
     }
-    Ok(true)
+    Ok(Some(sum))
 }

@@ -1,4 +1,4 @@
-//! Whether what a pool stores is a graph, and how many objects it has.
+//! Whether what a pool stores is a graph, how many objects it has, and what their numbers come to.
 
 ghost use Rattle.std.specs.Prelude.{◌≡◌, ◌+◌, ◌-◌, ◌*◌, ◌<◌, ◌≤◌, ◌==◌, ◌&&◌, length, slice_index, Option, is_some, option_map, IfOk, IfSome};
 ghost use Rattle.std.specs.List.{list_any};
@@ -13,8 +13,9 @@ ghost use Rattle.pud_defs.specs.Layout.{device_words};
 ghost use Rattle.pud_defs.specs.Stored.{IsOnDevice, stored_in};
 ghost use Rattle.pud_defs.specs.Types.{types_of};
 ghost use Rattle.puddle_header.specs.Places.{places_in};
+ghost use Rattle.graph_read.specs.Numbers.{totals_of};
 
-use crate::asking::{Asked, places_pass};
+use crate::asking::{Asked, places_sum};
 use crate::pointers::read_pointer;
 use crate::serials::{PLACES, Serials, read_serials};
 use pm_model::{HostFault, Loads};
@@ -82,12 +83,11 @@ fn is_next_serial(v: u64) -> bool
     v >= 1 && v <= NUMBER_LIMIT
 }
 
-/// Whether these hold together: the headers fit, the next serial is one, the root stands, no serial stands twice, and each
-/// slot is sound.
-fn are_all(headers: bool, next: bool, root: bool, distinct: bool, slots: bool) -> bool
-    ensures { result ≡ (headers && (next && root && distinct && slots)) }
+/// Whether these hold together: the headers fit, the next serial is one, the root stands, and no serial stands twice.
+fn are_all(headers: bool, next: bool, root: bool, distinct: bool) -> bool
+    ensures { result ≡ (headers && (next && root && distinct)) }
 {
-    headers && next && root && distinct && slots
+    headers && next && root && distinct
 }
 
 /// How many of so many places are live.
@@ -105,23 +105,33 @@ fn count_live(serials: &Serials, count: usize) -> u32
     live
 }
 
-/// How many objects the graph of a pool has, or None exactly where what the pool stores is no graph.
+/// What the objects of a graph come to.
+#[derive(Clone, Copy)]
+pub struct Totals {
+    /// How many objects there are, at most 62 a puddle.
+    pub objects: u32,
+    /// The sum of all their number fields, modulo 2^64.
+    pub sum: u64,
+}
+
+/// How many objects the graph of a pool has, and the sum of their number fields, or None exactly where what the pool stores is
+/// no graph.
 ///
 /// It is a graph where each frame has the header of its puddle, the next serial is from 1 to 2^63, the root is null or leads
 /// to a live slot, no two live slots have one serial, and each live slot has a serial below the next one, a type that is
 /// defined, and no pointer but to live slots and null. A pool without puddles stores none. Each serial and each field is read
 /// once.
-pub fn objects_held<H: Loads>(
+pub fn pool_totals<H: Loads>(
     h: &mut H,
     frames: u32,
     pool: &[(u32, Puddle)],
-) -> Result<Option<u32>, HostFault>
+) -> Result<Option<Totals>, HostFault>
     requires few { frames ≤ MAX_FRAMES }
     requires room { device_words frames ≤ (H.counts h.old).size }
     requires known { IsOnDevice frames pool.now }
     ensures held { H.tells → (image : Image) → reads (H.state h.old).now.words ≡ image
-        → IfOk result (λ held. held ≡ option_map (λ g. length g.objects) (graph_of (types_of image) (stored_in frames pool.now image))) }
-    ensures within { IfOk result (λ held. IfSome held (λ n. n ≤ places_in pool.now)) }
+        → IfOk result (λ held. held ≡ option_map totals_of (graph_of (types_of image) (stored_in frames pool.now image))) }
+    ensures within { IfOk result (λ held. IfSome held (λ totals. totals.objects ≤ places_in pool.now)) }
     ensures only_reads { OnlyReads H.tells H.state H.counts (fault_of result) h.old h.new }
 {
     if pool.is_empty() {
@@ -133,19 +143,21 @@ pub fn objects_held<H: Loads>(
     let root = root_value(h, frames, first)?;
     let serials = read_serials(h, frames, pool)?;
     let asked = Asked::IsSound(next);
-    let slots = places_pass(h, frames, pool, &serials, asked)?;
+    let Some(sum) = places_sum(h, frames, pool, &serials, asked)? else {
+        return Ok(None);
+    };
     let places = places_among(pool.len() as u32) as usize;
     let sound = are_all(
         headers,
         is_next_serial(next),
         asked.passes(&serials, read_pointer(pool, 0, 0, root)),
         are_distinct(&serials, places),
-        slots,
     );
-    Ok(sound.then_some(count_live(&serials, places)))
+    let objects = count_live(&serials, places);
+    Ok(sound.then_some(Totals { objects, sum }))
 }
 
-/// Whether what a pool stores is a graph, as `objects_held` says.
+/// Whether what a pool stores is a graph, as `pool_totals` says.
 pub fn pool_is_sound<H: Loads>(
     h: &mut H,
     frames: u32,
@@ -158,5 +170,5 @@ pub fn pool_is_sound<H: Loads>(
         → IfOk result (λ sound. sound ≡ is_some (graph_of (types_of image) (stored_in frames pool.now image))) }
     ensures only_reads { OnlyReads H.tells H.state H.counts (fault_of result) h.old h.new }
 {
-    Ok(objects_held(h, frames, pool)?.is_some())
+    Ok(pool_totals(h, frames, pool)?.is_some())
 }

@@ -1,5 +1,5 @@
 //! The graph of a pool, read from the words of its frames: where an object stands, where a pointer leads, what a field
-//! holds. No memory is taken.
+//! holds, and what its objects come to. No memory is taken.
 //!
 //! Each call takes the number of the device's frames, at most 1,024, on a device that has the words which so many frames
 //! need, and the pool: the frames and the records of its puddles by their ordinals, at most 16. It answers on every content
@@ -17,6 +17,6 @@ mod serials;
 pub use asking::{field_word, type_at};
 pub use fields::{FieldRead, field_at, read_field, serial_behind, value_at};
 pub use holders::is_held;
-pub use judge::{objects_held, pool_is_sound};
+pub use judge::{Totals, pool_is_sound, pool_totals};
 pub use places::{find_place, find_serial};
 pub use pointers::read_pointer;

@@ -1,29 +1,14 @@
 -- What is said of small pools by their sums, and whole summaries.
-use Rattle.std.proofs.Common.{◌≡◌, ◌-◌, ◌^◌, [], ◌∷◌, ◌++◌, replicate, codes, refl}
-use Rattle.pud_defs.specs.declared.objects.Val.TheVariants.{Num, Ref}
-use Rattle.pud_defs.specs.Graph.{Graph, empty_graph}
+use Rattle.std.proofs.Common.{◌≡◌, [], ◌∷◌, ◌++◌, replicate, codes, refl}
+use Rattle.pud_defs.specs.Graph.{empty_graph}
 use Rattle.pud_defs.specs.Holdings.{Holding}
 use Rattle.pud_defs.specs.Holdings.Holding.{Sound, Wild}
 use Rattle.pud_defs.specs.World.{StoredWorld, blank_world}
 use Rattle.pud_defs.proofs.Opened.{opened}
 use Rattle.pud_defs.proofs.ExamplesPools.{blank_of, behind, lines_said}
 use Rattle.pud_defs.proofs.ExamplesChecks.{one_object, pool_holding}
-use Rattle.pud_check.specs.Summary.{number_sum, sum_line, gen_pool, copy_pool, summary_text}
-
--- two objects that name each other, with numbers that come to 2^64 + 2
-abbrev ring : Graph
-ring = record {
-  next_serial = 3;
-  root = 1;
-  objects = (1, record { type_id = 1; fields = Ref 2 ∷ Num (2 ^ 64 - 1) ∷ [] }) ∷ (2, record { type_id = 1; fields = Ref 1 ∷ Num 3 ∷ [] }) ∷ [];
-}
-
-numbers_wrap_around : number_sum ring ≡ 2
-numbers_wrap_around = refl
-
--- a number in each field, and the highest that a sum may be
-all_numbers : number_sum (record ring { objects = (7, record { type_id = 2; fields = Num (2 ^ 63) ∷ Num (2 ^ 63 - 1) ∷ Ref 7 ∷ [] }) ∷ [] }) ≡ 2 ^ 64 - 1
-all_numbers = refl
+use Rattle.graph_read.proofs.ExamplesNumbers.{ring}
+use Rattle.pud_check.specs.Summary.{sum_line, gen_pool, copy_pool, summary_text}
 
 -- a device whose pool `gen` holds this
 abbrev with_gen : Holding → StoredWorld

@@ -1,32 +1,15 @@
 -- What is said when a generated run has ended: how many lines it had, and how many objects its two pools have, with the sum of the
 -- numbers that these hold.
-use Rattle.std.specs.Prelude.{ℕ, ◌%◌, ◌^◌, List, ◌++◌, length, replicate, sum_by, codes, decimal, Option, Some, None, option_map}
-use Rattle.pud_defs.specs.declared.objects.Val.{Val}
-use Rattle.pud_defs.specs.declared.objects.Val.TheVariants.{Num, Ref}
-use Rattle.pud_defs.specs.Graph.{Object, Graph}
+use Rattle.std.specs.Prelude.{ℕ, List, ◌++◌, length, replicate, codes, decimal, Option, Some, None, option_map}
 use Rattle.pud_defs.specs.Holdings.{Holding}
 use Rattle.pud_defs.specs.Holdings.Holding.{Sound, Wild}
 use Rattle.pud_defs.specs.World.{StoredWorld}
 use Rattle.pud_defs.specs.PoolChanges.{pool_named}
 use Rattle.pud_defs.specs.Texts.{line_of}
 use Rattle.pud_defs.specs.Listing.{name_text}
+use Rattle.graph_read.specs.Numbers.{number_sum}
 use Rattle.pud_check.specs.declared.sums.Summed.{Summed}
 use Rattle.pud_check.specs.declared.sums.Summed.TheVariants as sums
-
--- ---- the sum
-
--- what a field counts: a number itself, and a pointer nothing
-abbrev pub number_in : Val → ℕ
-number_in (Num v) = v
-number_in (Ref s) = 0
-
--- the sum of the number fields of an object
-abbrev pub numbers_of : Object → ℕ
-numbers_of o = sum_by number_in o.fields
-
--- the sum of the number fields of all objects, modulo 2^64
-abbrev pub number_sum : Graph → ℕ
-number_sum g = sum_by (λ e. numbers_of e.1) g.objects % 2 ^ 64
 
 -- ---- the line of a pool
 

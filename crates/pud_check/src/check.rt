@@ -18,7 +18,7 @@ ghost use Rattle.puddle_table.specs.Placed.{HoldsPlaces};
 ghost use Rattle.pud_check.specs.Checked.{pool_checked, listed_check};
 
 use crate::text::{count_line, objects_line};
-use graph_read::objects_held;
+use graph_read::pool_totals;
 use pm_model::{Host, HostFault};
 use pool_table::in_order;
 use pud_defs::records::PoolRec;
@@ -43,7 +43,7 @@ fn say_pool<H: Host>(
 {
     let puddles = places.of_pool(h, slot)?;
     let puddles = puddles.as_slice();
-    let objects = objects_held(h, frames, puddles)?;
+    let objects = pool_totals(h, frames, puddles)?.map(|totals| totals.objects);
     h.say(objects_line(&rec.name, objects, puddles.len() as u32).as_slice())
 }
 

@@ -1,4 +1,4 @@
-use Rattle.std.proofs.Common.{◌<◌, length, slice_index, sym, ap, ◌∙◌}
+use Rattle.std.proofs.Common.{◌<◌, is_some, length, slice_index, sym, ap, ◌∙◌}
 use Rattle.pud_defs.specs.Graph.{named_by, table_of}
 use Rattle.pud_defs.specs.Spaces.{all_below}
 use Rattle.pud_defs.specs.Stored.{stored_in}
@@ -7,6 +7,7 @@ use Rattle.graph_read.specs.declared.asking.Asked.TheVariants.{Spares}
 use Rattle.graph_read.specs.Asking.{content_of, place_passes, with_serials}
 use Rattle.graph_read.proofs.Held.{held, none_held}
 use Rattle.graph_read.proofs.Judging.{root_read, same_places, positive_length}
+use Rattle.graph_read.proofs.Numbers.{is_some-then_some}
 use Rattle.pm_model.proofs.Reading.{still_reads}
 use Rattle.graph_read.proofs.holders.is_held.Goals as goal
 
@@ -22,6 +23,6 @@ returns-clause-held g c = λ t image same graph stored.
     let second = still_reads c.root_value.ensures.only_reads t same in
     let third = still_reads c.read_serials.ensures.only_reads t second in
     c.holds.ensures
-    ∙ held (types_of image) st graph c.args.s serial c.named-root.result c.in_ok-slots.slots stored (c.in_ok-serials.ensures.serials t image second)
+    ∙ held (types_of image) st graph c.args.s serial c.named-root.result c.is_some-spared.result stored (c.in_ok-serials.ensures.serials t image second)
     (c.named-root.ensures ∙ ap (λ p. named_by serial (content_of p)) c.read_pointer.ensures.pointee ∙ ap (named_by serial) (root_read c.args.frames at image c.in_ok-root.root some (c.in_ok-root.ensures.word t image same)))
-    (c.in_ok-slots.ensures.pass t image third ∙ ap (λ n. all_below n (place_passes (Spares c.args.s) (with_serials serial (table_of (types_of image) st)))) (same_places c.args.frames at image))
+    (c.is_some-spared.ensures ∙ ap is_some (c.in_ok-places_sum.ensures.sum t image third) ∙ is_some-then_some _ _ ∙ ap (λ n. all_below n (place_passes (Spares c.args.s) (with_serials serial (table_of (types_of image) st)))) (same_places c.args.frames at image))

@@ -1,0 +1,27 @@
+-- The totals of small graphs.
+use Rattle.std.proofs.Common.{◌≡◌, ◌-◌, ◌^◌, [], ◌∷◌, refl}
+use Rattle.pud_defs.specs.declared.objects.Val.TheVariants.{Num, Ref}
+use Rattle.pud_defs.specs.Graph.{Graph, empty_graph}
+use Rattle.graph_read.specs.Numbers.{number_sum, totals_of}
+
+-- two objects that name each other, with numbers that come to 2^64 + 2
+abbrev pub ring : Graph
+ring = record {
+  next_serial = 3;
+  root = 1;
+  objects = (1, record { type_id = 1; fields = Ref 2 ∷ Num (2 ^ 64 - 1) ∷ [] }) ∷ (2, record { type_id = 1; fields = Ref 1 ∷ Num 3 ∷ [] }) ∷ [];
+}
+
+numbers_wrap_around : number_sum ring ≡ 2
+numbers_wrap_around = refl
+
+-- a number in each field, and the highest that a sum may be
+all_numbers : number_sum (record ring { objects = (7, record { type_id = 2; fields = Num (2 ^ 63) ∷ Num (2 ^ 63 - 1) ∷ Ref 7 ∷ [] }) ∷ [] }) ≡ 2 ^ 64 - 1
+all_numbers = refl
+
+-- how many objects there are, beside it
+ring_totals : totals_of ring ≡ record { objects = 2; sum = 2 }
+ring_totals = refl
+
+no_totals : totals_of empty_graph ≡ record { objects = 0; sum = 0 }
+no_totals = refl

@@ -1,0 +1,76 @@
+-- The sum of the numbers that a pool holds, field by field and slot by slot, and what is summed where all that is asked passes.
+use Rattle.std.specs.Prelude.{ℕ, ◌%◌, ◌^◌, List, length, sum_by, Option, Some, None}
+use Rattle.std.specs.Bool.{then_some}
+use Rattle.std.specs.List.{range_with_len}
+use Rattle.pud_defs.specs.declared.objects.Val.{Val}
+use Rattle.pud_defs.specs.declared.objects.Val.TheVariants.{Num, Ref}
+use Rattle.pud_defs.specs.Graph.{Content, Object, Table, Graph, live}
+use Rattle.pud_defs.specs.Graph.Content.{Number, Null, At, Nowhere}
+use Rattle.pud_defs.specs.Spaces.{all_below}
+use Rattle.graph_read.specs.declared.asking.Asked.{Asked}
+use Rattle.graph_read.specs.declared.judge.Totals.{Totals}
+use Rattle.graph_read.specs.Asking.{passes, contents_pass, place_passes}
+
+-- ---- of a graph
+
+-- what a field counts: a number itself, and a pointer nothing
+abbrev pub number_in : Val → ℕ
+number_in (Num v) = v
+number_in (Ref s) = 0
+
+-- the sum of the number fields of an object
+abbrev pub numbers_of : Object → ℕ
+numbers_of o = sum_by number_in o.fields
+
+-- the sum of the number fields of all objects, modulo 2^64
+abbrev pub number_sum : Graph → ℕ
+number_sum g = sum_by (λ e. numbers_of e.1) g.objects % 2 ^ 64
+
+-- how many objects a graph has, and the sum of their numbers
+abbrev pub totals_of : Graph → Totals
+totals_of g = record { objects = length g.objects; sum = number_sum g }
+
+-- ---- of what is stored
+
+-- what a field counts by what its word stands for: a number itself, and a pointer nothing
+abbrev pub number_by : Content → ℕ
+number_by (Number v) = v
+number_by Null = 0
+number_by (At p) = 0
+number_by Nowhere = 0
+
+-- the sum of the number fields at a place, where its type is defined
+abbrev pub contents_sum : Option (List Content) → ℕ
+contents_sum None = 0
+contents_sum (Some contents) = sum_by number_by contents
+
+-- the sum of the number fields of an object under its serial, where there is one
+abbrev pub numbers_under : Option (ℕ × Object) → ℕ
+numbers_under None = 0
+numbers_under (Some e) = numbers_of e.1
+
+-- the sum of the number fields of the object at a place, where the place is live
+abbrev pub numbers_at : Table → ℕ → ℕ
+numbers_at t p = numbers_under (live t p)
+
+-- the sum of the number fields of the objects at the first n places
+abbrev pub numbers_below : Table → ℕ → ℕ
+numbers_below t n = sum_by (numbers_at t) (range_with_len 0 n)
+
+-- ---- where all passes
+
+-- what a field counts, where it passes
+abbrev pub value_number : Asked → (ℕ → ℕ) → Content → Option ℕ
+value_number asked serial c = then_some (passes asked serial c) (number_by c)
+
+-- the sum of the number fields of a slot, modulo 2^64, where all of its fields pass
+abbrev pub fields_sum : Asked → (ℕ → ℕ) → Option (List Content) → Option ℕ
+fields_sum asked serial contents = then_some (contents_pass asked serial contents) (contents_sum contents % 2 ^ 64)
+
+-- the sum of the number fields at a place, modulo 2^64, where it is free or its slot passes
+abbrev pub place_sum : Asked → Table → ℕ → Option ℕ
+place_sum asked t p = then_some (place_passes asked t p) (numbers_at t p % 2 ^ 64)
+
+-- the sum of the number fields at the first n places, modulo 2^64, where each is free or its slot passes
+abbrev pub places_sum : Asked → Table → ℕ → Option ℕ
+places_sum asked t n = then_some (all_below n (place_passes asked t)) (numbers_below t n % 2 ^ 64)
