@@ -106,7 +106,7 @@ fn count_live(serials: &Serials, count: usize) -> u32
 }
 
 /// What the objects of a graph come to.
-#[derive(Clone, Copy)]
+#[derive(Clone, Copy, Debug, PartialEq, Eq)]
 pub struct Totals {
     /// How many objects there are, at most 62 a puddle.
     pub objects: u32,
