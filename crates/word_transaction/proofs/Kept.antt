@@ -6,7 +6,8 @@ use Rattle.pm_model.specs.declared.host.HostFault.TheVariants.{Cut}
 use Rattle.pm_model.specs.Words.{reads}
 use Rattle.pm_model.specs.Moments.{State}
 use Rattle.pm_model.specs.Counts.{fault_of}
-use Rattle.pm_model.specs.Changes.{Write}
+use Rattle.pm_model.specs.Changes.{Write, placed}
+use Rattle.pm_persist.proofs.Ranges.{placed_within}
 use Rattle.pud_defs.specs.Image.{Image}
 use Rattle.pud_defs.specs.Entries.{Entry}
 use Rattle.pud_defs.specs.Replay.{Place, over}
@@ -86,6 +87,22 @@ Keeps-beside g now es before which also all fault old new either was keeps =
 pub record WritesKept (g : Ground) (which : ℕ → Type 0) (write : Write) : Type 0 where
   pub mine : (k v : ℕ) → write k ≡ Some v → g.mine k ≡ true
   pub kept : (k v : ℕ) → write k ≡ Some v → which k
+
+-- values placed from the word of an address on, where its words are kept
+pub WritesKept-placed : (size at : ℕ) (g : Ground) (address first : ℕ) (vals : List ℕ) → IsGround size at g → g.may address (length vals) ≡ true → g.place address ≡ Some first
+    → WritesKept g (IsOneOf first (length vals)) (placed first vals)
+WritesKept-placed size at g address first vals ground may place =
+    let spans = ground.named address (length vals) may in
+    let here : Some spans.first ≡ Some first = sym spans.placed ∙ place in
+    let same : spans.first ≡ first = cc in
+    record {
+      mine = λ k v is. let within = placed_within first k v vals is in spans.own k (omega arith) (omega arith);
+      kept = λ k v is. let within = placed_within first k v vals is in (within.0, within.1);
+    }
+
+-- where others are kept too
+pub WritesKept-among : (g : Ground) (which all : ℕ → Type 0) (write : Write) → ((k : ℕ) → which k → all k) → WritesKept g which write → WritesKept g all write
+WritesKept-among g which all write more writes = record { mine = writes.mine; kept = λ k v is. more k (writes.kept k v is) }
 
 covered_by : (g : Ground) (log : OpenLog) (es : List Entry) (before : Image) (which : ℕ → Type 0) (write : Write) (old new : State) → (keeps : Keeps g log es before which None old new) → WritesKept g which write
     → IsCovered g keeps.entries write
