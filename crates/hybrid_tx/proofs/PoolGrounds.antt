@@ -144,6 +144,12 @@ pool_mine-from F at k m = element_passes (is_in_frame F k) at m.ordinal m.puddle
 
 -- ---- the ground
 
+-- a base lies in the space
+pub base_below : (base : ℕ) → is_legal_base base ≡ true → base < SPACE_START + SPACE_BYTES
+base_below base legal =
+    let parts = and_parts _ _ legal in
+    ltb-true base (SPACE_START + SPACE_BYTES) (and_parts _ _ parts.0).1
+
 module _ (F size log : ℕ) (at : List (ℕ × Puddle)) (placed : IsPlaced F at) (room : device_words F ≤ size) (before : log + LOG_WORDS ≤ frames_at F) where
   spans : (address count : ℕ) → IsNamed at address count → Spans size (pool_ground F at) address count
   spans address count named =
@@ -154,8 +160,7 @@ module _ (F size log : ℕ) (at : List (ℕ × Puddle)) (placed : IsPlaced F at)
       let some = named.some in
       let frame : e.0 < F = all_there (λ d. d.0 < F) at named.ordinal e placed.on_device.frames named.there in
       let few : (address - e.1.base) / WORD_BYTES + count ≤ FRAME_WORDS = omega arith in
-      let legal = and_parts _ _ (all_there (λ d. is_legal_base d.1.base ≡ true) at named.ordinal e placed.legal named.there) in
-      let below = ltb-true e.1.base (SPACE_START + SPACE_BYTES) (and_parts _ _ legal.0).1 in
+      let below : e.1.base < SPACE_START + SPACE_BYTES = base_below e.1.base (all_there (λ d. is_legal_base d.1.base ≡ true) at named.ordinal e placed.legal named.there) in
       let there = λ (i : ℕ) (inside : i < count). pool_place-there F at named.ordinal e (address + WORD_BYTES * i) placed.bases named.there (omega arith) (omega arith) in
       let one_further = λ (i : ℕ). (let it : (address + WORD_BYTES * i - e.1.base) / WORD_BYTES ≡ (address - e.1.base) / WORD_BYTES + i = omega arith in it) in
       record {

@@ -1,7 +1,6 @@
 -- Words of frames are kept and written, or asked for, by the puddles' ordinals.
 use Rattle.std.proofs.Common.{◌≡◌, inl, inr, ℕ, ◌+◌, ◌*◌, ◌%◌, ◌^◌, ◌<◌, ◌≤◌, true, List, [], ◌∷◌, ◌++◌, length, Option, Some, None, Result, Ok, Err, IfOk, sym, ap, ap₂, subst, ◌∙◌, arith}
 use Rattle.std.specs.Prelude.{slice_get}
-use Rattle.std.proofs.lemmas.Bool.{and_parts, ltb-true}
 use Rattle.pm_model.specs.declared.host.HostFault.{HostFault}
 use Rattle.pm_model.specs.Counts.{fault_of}
 use Rattle.pm_model.specs.Moments.{State}
@@ -26,7 +25,7 @@ use Rattle.word_transaction.proofs.Pending.{asked-redo}
 use Rattle.hybrid_tx.specs.Grounds.{pool_place, pool_may, pool_mine, pool_ground, finished_of, IsPlaced}
 use Rattle.hybrid_tx.specs.Objects.Stores.{ByPut, ByPutBoth}
 use Rattle.hybrid_tx.specs.Objects.Transactions.{IsSaving, Saves}
-use Rattle.hybrid_tx.proofs.PoolGrounds.{all_there, pool_mine-from, is_ground, place_of_word, may_name_words}
+use Rattle.hybrid_tx.proofs.PoolGrounds.{all_there, base_below, pool_mine-from, is_ground, place_of_word, may_name_words}
 
 -- ---- on any content
 
@@ -58,15 +57,11 @@ ByPutBoth-in_frames F at log o word e vals p other d value fault old new there f
 
 -- ---- addresses
 
-below_end : (base word : ℕ) → base < SPACE_START + SPACE_BYTES → word < FRAME_WORDS → (base + WORD_BYTES * word) % 2 ^ 64 ≡ base + WORD_BYTES * word
-below_end base word low below = omega arith
-
 -- the range of a puddle of the space does not reach the end of the numbers of 64 bits
 pub no_wrap : (base word : ℕ) → is_legal_base base ≡ true → word < FRAME_WORDS → (base + WORD_BYTES * word) % 2 ^ 64 ≡ base + WORD_BYTES * word
 no_wrap base word legal below =
-    let parts = and_parts _ _ legal in
-    let ends = and_parts _ _ parts.0 in
-    below_end base word (ltb-true base (SPACE_START + SPACE_BYTES) ends.1) below
+    let low : base < SPACE_START + SPACE_BYTES = base_below base legal in
+    omega arith
 
 -- ---- calls in turn
 

@@ -21,12 +21,12 @@ returns-clause-saves g c = λ t placed first head root rewritten before redo s.
     let e : ℕ × Puddle = (at.frame, c.requires.within.puddle) in
     let one = finished_there F pool at.ordinal e c.requires.within.there (rewritten.each e c.requires.within.there) in
     let other = finished_there F pool 0 first head (root.each first head) in
-    let same = get_or_from_slice_get pool 0 first _ head in
     let slots = c.requires.within.below in
     let whole = c.told-words in
     let some : 1 ≤ length c.args.words.now = omega arith in
     let few : slot_begins at + length c.args.words.now ≤ FRAME_WORDS = omega arith in
     let next : NEXT_SERIAL_WORD < FRAME_WORDS = omega arith in
+    let same = get_or_from_slice_get pool 0 first _ head in
     Saves-put_both F _ own c.args.self.now.log _ before redo (fault_of c.put_both.result) _ _ (finished_placed F pool placed) c.requires.device c.requires.place s
     one.0 (slot_begins at) e _ _ c.args.words.now other.0 NEXT_SERIAL_WORD first _ _ c.args.next
     one.1 some few (c.slot_address.ensures.address placed.legal ∙ sym (slot_address-read pool at c.requires.within e refl placed.legal)) (omega (arith, c.frame_at.ensures, c.slot_begins.ensures))
