@@ -7,9 +7,10 @@ use Rattle.std.proofs.lemmas.Bool.{cases_Bool, cond-true, cond-false, and_parts,
 use Rattle.std.proofs.lemmas.Option.{none-some, same_Some, slice_get-map, slice_get_within, get_or_from_slice_get}
 use Rattle.std.proofs.lemmas.List.Elements.{All-get_or}
 use Rattle.pud_defs.specs.declared.layout.TheConstants.{LOG_WORDS, FRAME_WORDS}
-use Rattle.pud_defs.specs.declared.space.TheConstants.{RANGE_BYTES, WORD_BYTES}
+use Rattle.pud_defs.specs.declared.space.TheConstants.{RANGE_BYTES, WORD_BYTES, SPACE_START, SPACE_BYTES}
 use Rattle.pud_defs.specs.declared.records.Puddle.{Puddle}
 use Rattle.pud_defs.specs.Layout.{frames_at, device_words}
+use Rattle.pud_defs.specs.Bases.{is_legal_base}
 use Rattle.pud_defs.specs.Frames.{frame_at}
 use Rattle.pud_defs.specs.Places.{word_in}
 use Rattle.pud_defs.specs.Replay.{is_in_log}
@@ -143,6 +144,12 @@ pool_mine-from F at k m = element_passes (is_in_frame F k) at m.ordinal m.puddle
 
 -- ---- the ground
 
+-- a base lies in the space
+pub base_below : (base : ℕ) → is_legal_base base ≡ true → base < SPACE_START + SPACE_BYTES
+base_below base legal =
+    let parts = and_parts _ _ legal in
+    ltb-true base (SPACE_START + SPACE_BYTES) (and_parts _ _ parts.0).1
+
 module _ (F size log : ℕ) (at : List (ℕ × Puddle)) (placed : IsPlaced F at) (room : device_words F ≤ size) (before : log + LOG_WORDS ≤ frames_at F) where
   spans : (address count : ℕ) → IsNamed at address count → Spans size (pool_ground F at) address count
   spans address count named =
@@ -153,11 +160,16 @@ module _ (F size log : ℕ) (at : List (ℕ × Puddle)) (placed : IsPlaced F at)
       let some = named.some in
       let frame : e.0 < F = all_there (λ d. d.0 < F) at named.ordinal e placed.on_device.frames named.there in
       let few : (address - e.1.base) / WORD_BYTES + count ≤ FRAME_WORDS = omega arith in
+      let below : e.1.base < SPACE_START + SPACE_BYTES = base_below e.1.base (all_there (λ d. is_legal_base d.1.base ≡ true) at named.ordinal e placed.legal named.there) in
+      let there = λ (i : ℕ) (inside : i < count). pool_place-there F at named.ordinal e (address + WORD_BYTES * i) placed.bases named.there (omega arith) (omega arith) in
+      let one_further = λ (i : ℕ). (let it : (address + WORD_BYTES * i - e.1.base) / WORD_BYTES ≡ (address - e.1.base) / WORD_BYTES + i = omega arith in it) in
       record {
         first = frame_at F e.0 + (address - e.1.base) / WORD_BYTES;
         some = some;
         placed = pool_place-there F at named.ordinal e address placed.bases named.there low (omega arith);
         within = omega arith;
+        fits = omega arith;
+        each = λ i inside. there i inside ∙ ap (λ (n : ℕ). Some n) (let further = one_further i in let it : frame_at F e.0 + (address + WORD_BYTES * i - e.1.base) / WORD_BYTES ≡ frame_at F e.0 + (address - e.1.base) / WORD_BYTES + i = omega arith in it);
         own = λ k from end. pool_mine-from F at k (record { ordinal = named.ordinal; puddle = e; there = named.there; low = omega arith; high = omega arith });
       }
 

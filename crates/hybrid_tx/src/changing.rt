@@ -1,7 +1,7 @@
 //! What a transaction changes of objects: a field or the root is set, and an object is made or freed.
 #![tactic(auto)]
 
-ghost use Rattle.std.specs.Prelude.{◌≡◌, ◌⊎◌, ◌+◌, ◌<◌, ◌≤◌, ℕ, List, [], ◌∷◌, true, false, All, Option, IfOk, IfSome, length};
+ghost use Rattle.std.specs.Prelude.{◌≡◌, ◌⊎◌, ◌+◌, ◌<◌, ◌≤◌, ℕ, List, [], ◌∷◌, true, false, All, slice_get, Option, IfOk, IfSome, length};
 ghost use Rattle.pm_model.specs.Words.{reads};
 ghost use Rattle.pm_model.specs.Counts.{after_fault, fault_of};
 ghost use Rattle.pm_model.specs.Reads.{OnlyReads};
@@ -11,7 +11,11 @@ ghost use Rattle.pud_defs.specs.Image.{Image};
 ghost use Rattle.pud_defs.specs.Layout.{device_words, frames_at};
 ghost use Rattle.pud_defs.specs.Bases.{is_legal_base};
 ghost use Rattle.pud_defs.specs.Types.{map_of};
+ghost use Rattle.pud_defs.specs.declared.space.TheConstants.{NEXT_SERIAL_WORD};
+ghost use Rattle.pud_defs.specs.Frames.{frame_at};
+ghost use Rattle.pud_defs.specs.Geometry.{slot_begins};
 ghost use Rattle.pud_defs.specs.Entries.{Entry};
+ghost use Rattle.pud_defs.specs.Replay.{over};
 ghost use Rattle.pud_defs.specs.Stored.{IsOnDevice, stored_in, IsFreePlace};
 ghost use Rattle.pud_defs.specs.Graph.{Graph, graph_of};
 ghost use Rattle.pud_defs.specs.GraphChanges.{with_field, with_new, blank_object, without_object, with_root};
@@ -22,7 +26,7 @@ ghost use Rattle.object_alloc.specs.Alloc.{serial_word_at};
 ghost use Rattle.word_transaction.specs.Running.{ByTransaction};
 ghost use Rattle.hybrid_tx.specs.Grounds.{pool_ground, finished_of, IsPlaced, IsRewrittenAt};
 ghost use Rattle.pud_defs.specs.Laters.{Later, laters_name};
-ghost use Rattle.hybrid_tx.specs.Objects.Stores.{address_at, word_for, IsPlaceAndWord, LacksPlaceOrWord, new_words};
+ghost use Rattle.hybrid_tx.specs.Objects.Stores.{address_at, word_for, IsPlaceAndWord, LacksPlaceOrWord, new_words, ByPutBoth};
 ghost use Rattle.hybrid_tx.specs.Objects.Transactions.{MayName, MaySet, IsRewrittenFor, IsRewrittenAtLowest, MayFree, IsSaving, IsOpenOn, Saves, RunsOn, MakesIn};
 
 use crate::Tx;
@@ -122,7 +126,7 @@ impl Tx {
     /// puddle is rewritten, its type has the field and the field may hold the value, the pool's graph has it so at `Ok`, and what
     /// is asked for later stays; each image left until the transaction is committed is, with the log replayed, as at the
     /// beginning. Where no object has the serial, or none has the one that is to be named, nothing is done. The only errors are
-    /// the host's own. Two fences.
+    /// the host's own. At most two fences.
     pub fn set<H: Host>(
         &mut self,
         h: &mut H,
@@ -160,7 +164,7 @@ impl Tx {
     /// Gives field `f` of the object in a slot the value for which the word stands, as `set` does, but for the search.
     ///
     /// The field is below 30, the log lies before the frames, and three units are left. What it does to the pool's graph is said for each serial
-    /// that the slot has, and each value for which the word stands. Two fences.
+    /// that the slot has, and each value for which the word stands. At most two fences.
     pub fn set_at<H: Host>(
         &mut self,
         h: &mut H,
@@ -190,11 +194,53 @@ impl Tx {
         self.put_in_frame(h, frames, pool, at.ordinal, field, &[word])
     }
 
+    /// Keeps in the log what a slot holds, and the next serial, where they are not kept already, and then gives the slot the words
+    /// of an object, and the next serial this value.
+    fn put_object<H: Host>(
+        &mut self,
+        h: &mut H,
+        frames: u32,
+        pool: &[(u32, Puddle)],
+        at: &Slot,
+        words: &[u64; MAX_SLOT_WORDS as usize],
+        next: u64,
+    ) -> Result<(), HostFault>
+        requires few { frames ≤ MAX_FRAMES }
+        requires device { device_words frames ≤ (H.counts h.old).size }
+        requires known { IsOnDevice frames pool.now }
+        requires place { (self.old).log.at + LOG_WORDS ≤ frames_at frames }
+        requires within { IsSlotOf pool.now at.now }
+        requires room { (self.old).units + NEW_UNITS ≤ LOG_ENTRY_WORDS }
+        ensures at { (self.new).log.at ≡ (self.old).log.at }
+        ensures counts { IfOk result (λ _. (self.new).units ≡ (self.old).units + NEW_UNITS) }
+        ensures changes { H.tells → (first : ℕ × Puddle) → slice_get pool.now 0 ≡ Option.Some first
+            → Changes (ByPutBoth (self.old).log.at (frame_at frames at.now.frame + slot_begins at.now) words.now (frame_at frames first.0 + NEXT_SERIAL_WORD) next) (fault_of result) (H.state h.old) (H.state h.new) }
+        ensures saves { H.tells → IsPlaced frames pool.now → (first : ℕ × Puddle) → slice_get pool.now 0 ≡ Option.Some first → IsRewrittenAt pool.now 0 → IsRewrittenAt pool.now at.now.ordinal
+            → (before : Image) (redo : List Entry) → IsSaving frames (finished_of pool.now) (self.old).log before redo (H.state h.old).now.words
+            → Saves frames (finished_of pool.now) (self.new).log before redo (over (placed (frame_at frames at.now.frame + slot_begins at.now) words.now) (placed (frame_at frames first.0 + NEXT_SERIAL_WORD) (next ∷ [])))
+            (fault_of result) (H.state h.old) (H.state h.new) }
+        ensures cause { H.counts h.new ≡ after_fault (fault_of result) (H.counts h.old) }
+    {
+        let (frame, head) = pool[0];
+        let slot = frame_at(frames, at.frame) + slot_begins(at);
+        let serial = frame_at(frames, frame) + NEXT_SERIAL_WORD;
+        let serial_address = word_address(head.base, NEXT_SERIAL_WORD);
+        self.put_both(
+            h,
+            slot_address(pool, at),
+            slot,
+            words,
+            serial_address,
+            serial,
+            next,
+        )
+    }
+
     /// Makes an object of type `t` in a free slot, as `new` does, but for the search: under the next serial, which is counted up. The answer is the
     /// serial.
     ///
     /// The log lies before the frames, and 37 units are left. What it does to the pool's graph is said where the slot is free, and where its puddle
-    /// and the first one, which has the next serial, are rewritten. Four fences.
+    /// and the first one, which has the next serial, are rewritten. At most two fences.
     pub fn new_at<H: Host>(
         &mut self,
         h: &mut H,
@@ -227,15 +273,7 @@ impl Tx {
         let (first, _) = pool[0];
         let serial = next_serial(h, frames, first)?;
         let words = new_words(serial, t);
-        self.put_in_frame(h, frames, pool, at.ordinal, slot_begins(&at), &words)?;
-        self.put_in_frame(
-            h,
-            frames,
-            pool,
-            0,
-            NEXT_SERIAL_WORD,
-            &[serial.wrapping_add(1)],
-        )?;
+        self.put_object(h, frames, pool, at, &words, serial.wrapping_add(1))?;
         Ok(serial)
     }
 
@@ -245,7 +283,7 @@ impl Tx {
     /// The log lies before the frames, and 37 units are left. Where the type is defined and the next serial is below 2^63,
     /// the pool's graph has the object at `Ok`, and what is asked for later stays; each image left until the transaction is
     /// committed is, with the log replayed, as at the beginning. Outside the log only the words of that slot and the next serial
-    /// are written. The only errors are the host's own. Four fences.
+    /// are written. The only errors are the host's own. At most two fences.
     pub fn new<H: Host>(
         &mut self,
         h: &mut H,
@@ -282,7 +320,7 @@ impl Tx {
         }
     }
 
-    /// Keeps in the log the serial of a slot, and then frees the slot.
+    /// Keeps in the log the serial of a slot, where it is not kept already, and then frees the slot.
     fn clear<H: Host>(
         &mut self,
         h: &mut H,
@@ -313,8 +351,8 @@ impl Tx {
 
     /// Frees the object in a slot, as `free` does, but for the search.
     ///
-    /// The log lies before the frames, and three units are left. What it does to the pool's graph is said for each serial that the slot has. Two
-    /// fences.
+    /// The log lies before the frames, and three units are left. What it does to the pool's graph is said for each serial that the slot has. At most
+    /// two fences.
     pub fn free_at<H: Host>(
         &mut self,
         h: &mut H,
@@ -345,7 +383,7 @@ impl Tx {
     /// The log lies before the frames, and three units are left. Where the object is live, nothing holds it, and nothing
     /// that is asked for later names it, the pool's graph is without it at `Ok`, and what is asked for stays; each image left
     /// until the transaction is committed is, with the log replayed, as at the beginning. Where no object has the serial nothing
-    /// is done. The only errors are the host's own. Two fences.
+    /// is done. The only errors are the host's own. At most two fences.
     pub fn free<H: Host>(
         &mut self,
         h: &mut H,
@@ -381,7 +419,7 @@ impl Tx {
     /// The log lies before the frames, and three units are left. Where `s` is 0 or its object is live, and the puddle of
     /// ordinal 0 is rewritten, it is the root of the pool's graph at `Ok`, and what is asked for later stays; each image left
     /// until the transaction is committed is, with the log replayed, as at the beginning. Where no object has the serial, or the
-    /// pool has no puddle, nothing is done. The only errors are the host's own. Two fences.
+    /// pool has no puddle, nothing is done. The only errors are the host's own. At most two fences.
     pub fn root<H: Host>(
         &mut self,
         h: &mut H,
@@ -416,7 +454,7 @@ impl Tx {
     /// Makes the object for which the word stands the pool's root, or takes the root away with 0, as `root` does, but for the search.
     ///
     /// The log lies before the frames, and three units are left. What it does to the pool's graph is said for each serial for which the word
-    /// stands. Where the pool has no puddle, nothing is done. Two fences.
+    /// stands. Where the pool has no puddle, nothing is done. At most two fences.
     pub fn root_at<H: Host>(
         &mut self,
         h: &mut H,

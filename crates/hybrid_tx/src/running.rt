@@ -12,16 +12,17 @@ ghost use Rattle.pud_defs.specs.declared.records.Puddle.{Puddle};
 ghost use Rattle.pud_defs.specs.Image.{Image};
 ghost use Rattle.pud_defs.specs.Layout.{device_words, frames_at};
 ghost use Rattle.pud_defs.specs.Frames.{frame_at};
-ghost use Rattle.pud_defs.specs.Entries.{Entry, words_from};
+ghost use Rattle.pud_defs.specs.Entries.{Entry};
+ghost use Rattle.pud_defs.specs.Replay.{over};
 ghost use Rattle.pud_defs.specs.Settled.{ALL_LOGS, log_number_at};
 ghost use Rattle.pud_defs.specs.Stored.{IsOnDevice, stored_in};
 ghost use Rattle.pud_defs.specs.Graph.{Graph, graph_of};
-ghost use Rattle.log_store.specs.Store.{InLog, longer, asking};
-ghost use Rattle.word_transaction.specs.Ground.{Ground, IsGround, undo_entry, redo_entry};
-ghost use Rattle.word_transaction.specs.Running.{IsRunning, IsIdle, nothing, begun, ByTransaction, Runs};
+ghost use Rattle.log_store.specs.Store.{InLog, asking};
+ghost use Rattle.word_transaction.specs.Ground.{Ground, IsGround, redo_entry};
+ghost use Rattle.word_transaction.specs.Running.{IsRunning, IsIdle, nothing, begun, ByTransaction, Runs, Puts};
 ghost use Rattle.hybrid_tx.specs.Grounds.{pool_ground, finished_of, IsPlaced};
 ghost use Rattle.pud_defs.specs.Geometry.{steps_of};
-ghost use Rattle.hybrid_tx.specs.Objects.Stores.{ByPut};
+ghost use Rattle.hybrid_tx.specs.Objects.Stores.{ByPut, ByPutBoth};
 ghost use Rattle.hybrid_tx.specs.Objects.Transactions.{begun_tx, IsSaving, IsOpenOn, Saves};
 
 use crate::Tx;
@@ -56,7 +57,8 @@ impl Tx {
         Ok(Tx { words, units: 0 })
     }
 
-    /// Keeps in the log what the words from device word `first` on hold, and then gives them these values in turn, 1 to 32.
+    /// Keeps in the log what the words from device word `first` on hold, where it is not kept already, and then gives them these
+    /// values in turn, 1 to 32.
     pub(crate) fn put<H: Host>(
         &mut self,
         h: &mut H,
@@ -70,13 +72,11 @@ impl Tx {
         requires within { first + length vals.now ≤ (H.counts h.old).size }
         requires room { (self.old).units + (length vals.now + ENTRY_HEADER_WORDS) ≤ LOG_ENTRY_WORDS }
         ensures at { (self.new).log.at ≡ (self.old).log.at }
-        ensures done { IfOk result (λ _. (self.new).log ≡ longer (length vals.now + ENTRY_HEADER_WORDS) (self.old).log) }
         ensures counts { IfOk result (λ _. (self.new).units ≡ (self.old).units + (length vals.now + ENTRY_HEADER_WORDS)) }
         ensures changes { H.tells → Changes (ByPut (self.old).log.at first vals.now) (fault_of result) (H.state h.old) (H.state h.new) }
-        ensures runs { H.tells → (size : ℕ) → size ≡ (H.counts h.old).size → (g : Ground) → (es : List Entry) → (before : Image) → IsGround size (self.old).log.at g
+        ensures puts { H.tells → (size : ℕ) → size ≡ (H.counts h.old).size → (g : Ground) → (es : List Entry) → (before : Image) → IsGround size (self.old).log.at g
             → g.may address (length vals.now) ≡ true → g.place address ≡ Option.Some first → IsRunning g (self.old).log es before (H.state h.old).now.words
-            → Runs g (longer (length vals.now + ENTRY_HEADER_WORDS) (self.old).log) (es ++ undo_entry address (words_from (reads (H.state h.old).now.words) first (length vals.now)) ∷ []) before
-            (placed first vals.now) (fault_of result) (H.state h.old) (H.state h.new) }
+            → Puts g (self.new).log es before (placed first vals.now) (fault_of result) (H.state h.old) (H.state h.new) }
         ensures cause { H.counts h.new ≡ after_fault (fault_of result) (H.counts h.old) }
     {
         // With this call the proof has that a device's words are counted by 32 bits, so that places of them are, too.
@@ -86,8 +86,44 @@ impl Tx {
         self.words.write(h, first, vals)
     }
 
-    /// Keeps in the log what the words from word `word` of a puddle's frame on hold, and then gives them these values in turn,
-    /// 1 to 32.
+    /// Keeps in the log what the words from device word `first` on hold, 1 to 32, and what word `second` holds, where it is not kept
+    /// already, and under one gate where neither is; and then gives the words these values in turn, and that one this value.
+    pub(crate) fn put_both<H: Host>(
+        &mut self,
+        h: &mut H,
+        address: u64,
+        first: u32,
+        vals: &[u64],
+        address2: u64,
+        second: u32,
+        value: u64,
+    ) -> Result<(), HostFault>
+        requires place { (self.old).log.at + LOG_WORDS ≤ (H.counts h.old).size }
+        requires some { 1 ≤ length vals.now }
+        requires no_more { length vals.now ≤ MAX_ENTRY_VALUES }
+        requires within { first + length vals.now ≤ (H.counts h.old).size }
+        requires second_within { second < (H.counts h.old).size }
+        requires room { (self.old).units + (length vals.now + 5) ≤ LOG_ENTRY_WORDS }
+        ensures at { (self.new).log.at ≡ (self.old).log.at }
+        ensures counts { IfOk result (λ _. (self.new).units ≡ (self.old).units + (length vals.now + 5)) }
+        ensures changes { H.tells → Changes (ByPutBoth (self.old).log.at first vals.now second value) (fault_of result) (H.state h.old) (H.state h.new) }
+        ensures puts { H.tells → (size : ℕ) → size ≡ (H.counts h.old).size → (g : Ground) → (es : List Entry) → (before : Image) → IsGround size (self.old).log.at g
+            → g.may address (length vals.now) ≡ true → g.place address ≡ Option.Some first → g.may address2 1 ≡ true → g.place address2 ≡ Option.Some second
+            → IsRunning g (self.old).log es before (H.state h.old).now.words
+            → Puts g (self.new).log es before (over (placed first vals.now) (placed second (value ∷ []))) (fault_of result) (H.state h.old) (H.state h.new) }
+        ensures cause { H.counts h.new ≡ after_fault (fault_of result) (H.counts h.old) }
+    {
+        // With this call the proof has that a device's words are counted by 32 bits, so that places of them are, too.
+        let _words = h.words();
+        self.words
+            .save_both(h, address, first, vals.len() as u32, address2, second)?;
+        self.units += vals.len() as u32 + (ENTRY_HEADER_WORDS + SET_UNITS);
+        self.words.write(h, first, vals)?;
+        self.words.write(h, second, &[value])
+    }
+
+    /// Keeps in the log what the words from word `word` of a puddle's frame on hold, where it is not kept already, and then gives
+    /// them these values in turn, 1 to 32.
     pub(crate) fn put_in_frame<H: Host>(
         &mut self,
         h: &mut H,
@@ -107,11 +143,8 @@ impl Tx {
         requires within { word + length vals.now ≤ FRAME_WORDS }
         requires room { (self.old).units + (length vals.now + ENTRY_HEADER_WORDS) ≤ LOG_ENTRY_WORDS }
         ensures at { (self.new).log.at ≡ (self.old).log.at }
-        ensures done { IfOk result (λ _. (self.new).log ≡ longer (length vals.now + ENTRY_HEADER_WORDS) (self.old).log) }
         ensures counts { IfOk result (λ _. (self.new).units ≡ (self.old).units + (length vals.now + ENTRY_HEADER_WORDS)) }
         ensures changes { H.tells → Changes (ByTransaction (pool_ground frames pool.now) (self.old).log.at) (fault_of result) (H.state h.old) (H.state h.new) }
-        ensures puts { H.tells → (e : ℕ × Puddle) → slice_get pool.now ordinal ≡ Option.Some e
-            → Changes (ByPut (self.old).log.at (frame_at frames e.0 + word) vals.now) (fault_of result) (H.state h.old) (H.state h.new) }
         ensures saves { H.tells → IsPlaced frames pool.now → (e : ℕ × Puddle) → slice_get pool.now ordinal ≡ Option.Some e → e.1.frontier ≡ steps_of e.1 → (before : Image) (redo : List Entry)
             → IsSaving frames (finished_of pool.now) (self.old).log before redo (H.state h.old).now.words
             → Saves frames (finished_of pool.now) (self.new).log before redo (placed (frame_at frames e.0 + word) vals.now) (fault_of result) (H.state h.old) (H.state h.new) }

@@ -1,21 +1,21 @@
--- An entry appended: what is written, and what the images left meanwhile and the words at the end say.
-use Rattle.std.proofs.Common.{◌≡◌, ◌⊎◌, inl, inr, ℕ, ◌+◌, ◌-◌, ◌<◌, ◌≤◌, Bool, true, false, ◌||◌, List, [], ◌∷◌, ◌++◌, length, get_or, Option, Some, None, Ok, Err, refl, sym, ap, subst, ◌∙◌, arith}
+-- Entries appended under one gate: what is written, and what the images left meanwhile and the words at the end say.
+use Rattle.std.proofs.Common.{◌≡◌, ◌⊎◌, inl, inr, ℕ, ◌+◌, ◌-◌, ◌<◌, ◌≤◌, Bool, true, false, ◌||◌, List, [], ◌∷◌, ◌++◌, length, get_or, Option, Some, None, option_map, Ok, Err, refl, sym, ap, subst, ◌∙◌, arith, length-append}
 use Rattle.std.proofs.lemmas.Bool.{cases_eq, eq-eqb, ne_eqb}
 use Rattle.std.proofs.lemmas.Bool.Decides.{leb_tells}
 use Rattle.std.proofs.lemmas.List.{append-nil}
 use Rattle.pm_model.specs.declared.host.HostFault.{HostFault}
-use Rattle.pm_model.specs.Words.{Words, reads, HasOnly}
+use Rattle.pm_model.specs.Words.{reads, HasOnly}
 use Rattle.pm_model.specs.Moments.{State}
 use Rattle.pm_model.specs.Changes.{Changes, Leaves, Silently, Persists, only, placed, written}
 use Rattle.pm_model.proofs.Words.{HasOnly-newest, HasOnly-own, only_at}
 use Rattle.pm_model.proofs.Changes.{Changes-wider, Changes-then, Changes-said, Changes-now, HasOnly-kept, Persists-failed}
 use Rattle.pm_model.proofs.Leaves.{Leaves-changes, Leaves-then, origin}
 use Rattle.pm_persist.proofs.Ranges.{placed_at, placed_within}
-use Rattle.pud_defs.specs.declared.layout.TheConstants.{LOG_HEADER_WORDS, LOG_ENTRY_WORDS, ENTRY_HEADER_WORDS}
+use Rattle.pud_defs.specs.declared.layout.TheConstants.{LOG_HEADER_WORDS, LOG_ENTRY_WORDS}
 use Rattle.pud_defs.specs.Image.{Image}
-use Rattle.pud_defs.specs.Entries.{Entry, IsLegalEntry, log_of, gate_word, spelled, words_from}
-use Rattle.pud_defs.proofs.Entries.{words_from-add, words_from-same, words_from-holds, entries_in-one_more}
-use Rattle.log_store.specs.Store.{OpenLog, is_redo, asks, with_entry, saying, InLog, IsOpen, entry_write, with_last, HasGrown, Appends}
+use Rattle.pud_defs.specs.Entries.{Entry, IsLegalEntry, log_of, gate_word, spelled, words_from, entries_in}
+use Rattle.pud_defs.proofs.Entries.{words_from-add, words_from-same, words_from-holds, entries_in-spelled, entries_in-append}
+use Rattle.log_store.specs.Store.{OpenLog, undo_entry, is_redo, asks, asks_with, with_entries, saying, InLog, IsOpen, spelled_all, words_write, with_last, HasGrown, Appends}
 use Rattle.log_store.specs.declared.AppendFault.TheVariants.{Host}
 use Rattle.log_store.proofs.Open.{IsCounted, log_of-is, IsOpen-fits, IsOpen-words, IsOpen-log, IsOpen-log_by, IsOpen-kept_by, only_here}
 use Rattle.std.proofs.lemmas.Option.{same_Some}
@@ -25,213 +25,243 @@ use Rattle.pm_model.proofs.OneWord.{value_of_only}
 abbrev pub behind : OpenLog → ℕ
 behind log = log.at + LOG_HEADER_WORDS + log.used
 
--- the words that an entry takes
-abbrev pub entry_size : Entry → ℕ
-entry_size e = length e.vals + ENTRY_HEADER_WORDS
+-- the gate that counts so many words more
+abbrev pub next_gate : OpenLog → (count : ℕ) → ℕ
+next_gate log count = gate_word log.lo log.hi (log.used + count)
 
--- the gate that counts the entry too
-abbrev pub next_gate : OpenLog → Entry → ℕ
-next_gate log e = gate_word log.lo log.hi (log.used + entry_size e)
+-- so many words, for which the log has room
+pub record IsBlock (log : OpenLog) (count : ℕ) (ws : List ℕ) : Type 0 where
+  pub counted : count ≡ length ws
+  pub room : log.used + count ≤ LOG_ENTRY_WORDS
 
 -- ---- which words are written
 
-write_gate : (log : OpenLog) (e : Entry) (k : ℕ) → k ≡ log.at → entry_write log e k ≡ Some (next_gate log e)
-write_gate log e k is = rw (eq-eqb k log.at is) refl
+module _ (log : OpenLog) (count : ℕ) (ws : List ℕ) where
+  write_gate : (k : ℕ) → k ≡ log.at → words_write log count ws k ≡ Some (next_gate log count)
+  write_gate k is = rw (eq-eqb k log.at is) refl
 
-write_entry : (log : OpenLog) (e : Entry) (k : ℕ) → (k ≡ log.at → ⊥) → entry_write log e k ≡ placed (behind log) (spelled e) k
-write_entry log e k apart = rw (ne_eqb k log.at apart) refl
+  write_behind : (k : ℕ) → (k ≡ log.at → ⊥) → words_write log count ws k ≡ placed (behind log) ws k
+  write_behind k apart = rw (ne_eqb k log.at apart) refl
 
-pub entry_is_written : (log : OpenLog) (e : Entry) (k v : ℕ) → written (placed (behind log) (spelled e)) k v → written (entry_write log e) k v
-entry_is_written log e k v is =
-    let place = placed_within (behind log) k v (spelled e) is in
-    write_entry log e k (λ same. absurd (omega arith)) ∙ is
+  words_are_written : (k v : ℕ) → written (placed (behind log) ws) k v → written (words_write log count ws) k v
+  words_are_written k v is =
+      let place = placed_within (behind log) k v ws is in
+      write_behind k (λ same. absurd (omega arith)) ∙ is
 
-pub gate_is_written : (log : OpenLog) (e : Entry) (k v : ℕ) → written (only log.at (next_gate log e)) k v → written (entry_write log e) k v
-gate_is_written log e k v is =
-    let here = only_at log.at (next_gate log e) k v is in
-    let value = value_of_only log.at (next_gate log e) v (subst (λ (n : ℕ). only log.at (next_gate log e) n ≡ Some v) here is) in
-    write_gate log e k here ∙ ap Some (sym value)
+  gate_is_written : (k v : ℕ) → written (only log.at (next_gate log count)) k v → written (words_write log count ws) k v
+  gate_is_written k v is =
+      let here = only_at log.at (next_gate log count) k v is in
+      let value = value_of_only log.at (next_gate log count) v (subst (λ (n : ℕ). only log.at (next_gate log count) n ≡ Some v) here is) in
+      write_gate k here ∙ ap Some (sym value)
 
--- only words of the log, and none that counts but the gate
-pub written_within : (log : OpenLog) (e : Entry) (k v : ℕ) → written (entry_write log e) k v → (k ≡ log.at) ⊎ ((behind log ≤ k) × (k < behind log + entry_size e))
-written_within log e k v is = elim (cases_eq k log.at) [
-  | inl here ↦ inl here
-  | inr apart ↦
-      let place = placed_within (behind log) k v (spelled e) (sym (write_entry log e k apart) ∙ is) in
-      inr (omega arith, omega arith)
-]
+  -- only words of the log, and none that counts but the gate
+  written_within : (k v : ℕ) → count ≡ length ws → written (words_write log count ws) k v → (k ≡ log.at) ⊎ ((behind log ≤ k) × (k < behind log + count))
+  written_within k v counted is = elim (cases_eq k log.at) [
+    | inl here ↦ inl here
+    | inr apart ↦
+        let place = placed_within (behind log) k v ws (sym (write_behind k apart) ∙ is) in
+        inr (omega arith, omega arith)
+  ]
 
--- what an append that fits changes lies within its log
-pub written_in_log : (log : OpenLog) (e : Entry) → log.used + entry_size e ≤ LOG_ENTRY_WORDS → (k v : ℕ) → written (entry_write log e) k v → InLog log.at k v
-written_in_log log e fits k v is = elim (written_within log e k v is) [ inl here ↦ record { low = omega arith; high = omega arith } | inr inside ↦ record { low = omega arith; high = omega arith } ]
+  -- ---- the calls together
 
--- ---- the calls together
+  -- the words alone were to be durable, and are not
+  pub Persists-half : (fault : HostFault) (s t : State) → Persists (placed (behind log) ws) (Some fault) s t → Persists (words_write log count ws) (Some fault) s t
+  Persists-half fault s t p =
+      Persists-failed (words_write log count ws) fault s t (Changes-wider (written (placed (behind log) ws)) (written (words_write log count ws)) (Some fault) s t words_are_written p.changes)
 
--- the entry alone was to be durable, and is not
-pub Persists-half : (log : OpenLog) (e : Entry) (fault : HostFault) (s t : State) → Persists (placed (behind log) (spelled e)) (Some fault) s t
-    → Persists (entry_write log e) (Some fault) s t
-Persists-half log e fault s t p =
-    Persists-failed (entry_write log e) fault s t (Changes-wider (written (placed (behind log) (spelled e))) (written (entry_write log e)) (Some fault) s t (entry_is_written log e) p.changes)
+  -- they are durable, and then the gate is set
+  pub Persists-both : (fault : Option HostFault) (s t u : State) → Persists (placed (behind log) ws) None s t
+      → Persists (only log.at (next_gate log count)) fault t u → Persists (words_write log count ws) fault s u
+  Persists-both fault s t u first second =
+      record {
+        changes = Changes-then (written (words_write log count ws)) fault s t u
+            (Changes-wider (written (placed (behind log) ws)) (written (words_write log count ws)) None s t words_are_written first.changes)
+            (Changes-wider (written (only log.at (next_gate log count))) (written (words_write log count ws)) fault t u gate_is_written second.changes);
+        durable = λ none k v is. elim (cases_eq k log.at) [
+          | inl here ↦
+              let value = same_Some v (next_gate log count) (sym is ∙ write_gate k here) in
+              second.durable none k v (ap (only log.at (next_gate log count)) here ∙ only_here log.at (next_gate log count) ∙ ap Some (sym value))
+          | inr apart ↦
+              HasOnly-kept (written (only log.at (next_gate log count))) fault t u k v second.changes (λ x may. apart (only_at log.at (next_gate log count) k x may))
+              (first.durable refl k v (sym (write_behind k apart) ∙ is))
+        ];
+      }
 
--- the entry is durable, and then its gate is set
-pub Persists-both : (log : OpenLog) (e : Entry) (fault : Option HostFault) (s t u : State) → Persists (placed (behind log) (spelled e)) None s t
-    → Persists (only log.at (next_gate log e)) fault t u → Persists (entry_write log e) fault s u
-Persists-both log e fault s t u first second =
-    record {
-      changes = Changes-then (written (entry_write log e)) fault s t u
-          (Changes-wider (written (placed (behind log) (spelled e))) (written (entry_write log e)) None s t (entry_is_written log e) first.changes)
-          (Changes-wider (written (only log.at (next_gate log e))) (written (entry_write log e)) fault t u (gate_is_written log e) second.changes);
-      durable = λ none k v is. elim (cases_eq k log.at) [
-        | inl here ↦
-            let value = same_Some v (next_gate log e) (sym is ∙ write_gate log e k here) in
-            second.durable none k v (ap (only log.at (next_gate log e)) here ∙ only_here log.at (next_gate log e) ∙ ap Some (sym value))
-        | inr apart ↦
-            HasOnly-kept (written (only log.at (next_gate log e))) fault t u k v second.changes (λ x may. apart (only_at log.at (next_gate log e) k x may))
-            (first.durable refl k v (sym (write_entry log e k apart) ∙ is))
-      ];
-    }
+-- what is written for a block that fits lies within its log
+pub written_in_log : (log : OpenLog) (count : ℕ) (ws : List ℕ) → IsBlock log count ws → (k v : ℕ) → written (words_write log count ws) k v → InLog log.at k v
+written_in_log log count ws block k v is =
+    let room = block.room in
+    elim (written_within log count ws k v block.counted is) [ inl here ↦ record { low = omega arith; high = omega arith } | inr inside ↦ record { low = omega arith; high = omega arith } ]
 
--- ---- what a log with the entry says
+pub changes_in_log : (log : OpenLog) (count : ℕ) (ws : List ℕ) (fault : Option HostFault) (s t : State) → IsBlock log count ws → Persists (words_write log count ws) fault s t → Changes (InLog log.at) fault s t
+changes_in_log log count ws fault s t block p = Changes-wider (written (words_write log count ws)) (InLog log.at) fault s t (written_in_log log count ws block) p.changes
 
--- the words that count as they were, the entry behind them, and a gate that counts it
-pub log_of-grown : (log : OpenLog) (es : List Entry) (e : Entry) (words : Words) (image : Image) → IsOpen log es words → IsLegalEntry e → log.used + entry_size e ≤ LOG_ENTRY_WORDS
-    → image log.at ≡ next_gate log e
-    → ((k : ℕ) → log.at + LOG_HEADER_WORDS ≤ k → k < behind log → image k ≡ (words k).newest)
-    → ((i : ℕ) → i < length (spelled e) → image (behind log + i) ≡ get_or (spelled e) i 0)
-    → log_of image log.at ≡ saying log (es ++ e ∷ [])
-log_of-grown log es e words image open_log legal within gate same holds =
-    let fits = IsOpen-fits log es words open_log in
-    let start = log.at + LOG_HEADER_WORDS in
-    let old = words_from (reads words) start log.used in
-    let count : entry_size e ≡ length (spelled e) = omega arith in
-    let ws : words_from image start (log.used + entry_size e) ≡ old ++ spelled e =
-    words_from-add image start log.used (entry_size e)
-    ∙ ap (λ l. l ++ words_from image (behind log) (entry_size e)) (words_from-same image (reads words) start log.used same)
-    ∙ ap (λ n. old ++ words_from image (behind log) n) count
-    ∙ ap (λ l. old ++ l) (words_from-holds image (behind log) (spelled e) holds) in
-    log_of-is image (with_entry e log) (old ++ spelled e) (es ++ e ∷ []) (record { lo_fits = fits.lo_fits; hi_fits = fits.hi_fits; used_within = within }) gate ws
-    (entries_in-one_more old es e (IsOpen-words log es words open_log) legal)
+-- ---- which entries there are then
 
 or_swap : (a b c : Bool) → a || (b || c) ≡ b || (a || c)
 or_swap false b c = refl
 or_swap true false c = refl
 or_swap true true c = refl
 
--- one of some entries and one more asks for values where that one or one of the others does
-asks-more : (es : List Entry) (e : Entry) → asks (es ++ e ∷ []) ≡ is_redo e || asks es
-asks-more [] e = refl
-asks-more (d ∷ es) e = ap (λ (b : Bool). is_redo d || b) (asks-more es e) ∙ or_swap (is_redo d) (is_redo e) (asks es)
+-- one of more entries asks for values, or one of those before them
+asks_with-none : (more : List Entry) → asks more ≡ asks_with more false
+asks_with-none [] = refl
+asks_with-none (e ∷ more) = ap (λ (b : Bool). is_redo e || b) (asks_with-none more)
 
--- at Ok the log is open with the entry
-pub IsOpen-grown : (log : OpenLog) (es : List Entry) (e : Entry) (s u : State) → IsLegalEntry e → log.used + entry_size e ≤ LOG_ENTRY_WORDS → IsOpen log es s.now.words
-    → Persists (entry_write log e) None s u → IsOpen (with_entry e log) (es ++ e ∷ []) u.now.words
-IsOpen-grown log es e s u legal within open_log p =
-    let gate : HasOnly (u.now.words log.at) (next_gate log e) = p.durable refl log.at (next_gate log e) (write_gate log e log.at refl) in
-    let kept = λ (k : ℕ) (low : log.at + LOG_HEADER_WORDS ≤ k) (high : k < behind log).
-    HasOnly-kept (written (entry_write log e)) None s u k (s.now.words k).newest p.changes
-    (λ x may. elim (written_within log e k x may) [ inl here ↦ absurd (omega arith) | inr inside ↦ absurd (omega arith) ]) (open_log.counted k low high) in
-    let new = λ (i : ℕ) (h : i < length (spelled e)).
-    p.durable refl (behind log + i) (get_or (spelled e) i 0)
-    (write_entry log e (behind log + i) (λ same. absurd (omega arith)) ∙ placed_at (behind log) i (behind log + i) (spelled e) refl h) in
-    record {
-      gate = gate;
-      counted = λ k low high. elim (leb_tells (behind log) k) [
-        | inl late ↦
-            let i = k - behind log in
-            let place : behind log + i ≡ k = let h = late.1 in omega arith in
-            HasOnly-own (u.now.words k) (get_or (spelled e) i 0) (subst (λ (n : ℕ). HasOnly (u.now.words n) (get_or (spelled e) i 0)) place (new i (omega arith)))
-        | inr early ↦ HasOnly-own (u.now.words k) (s.now.words k).newest (kept k low early.1)
-      ];
-      says = log_of-grown log es e s.now.words (reads u.now.words) open_log legal within (HasOnly-newest (u.now.words log.at) _ gate)
-          (λ k low high. HasOnly-newest (u.now.words k) (s.now.words k).newest (kept k low high))
-          (λ i h. HasOnly-newest (u.now.words (behind log + i)) _ (new i h));
-      asked = ap (λ (b : Bool). is_redo e || b) open_log.asked ∙ sym (asks-more es e);
-    }
+asks_with-first : (d : Entry) (more : List Entry) (was : Bool) → is_redo d || asks_with more was ≡ asks_with more (is_redo d || was)
+asks_with-first d [] was = refl
+asks_with-first d (e ∷ more) was = or_swap (is_redo d) (is_redo e) (asks_with more was) ∙ ap (λ (b : Bool). is_redo e || b) (asks_with-first d more was)
 
--- ---- what is left meanwhile
+asks-append : (es more : List Entry) → asks (es ++ more) ≡ asks_with more (asks es)
+asks-append [] more = asks_with-none more
+asks-append (d ∷ es) more = ap (λ (b : Bool). is_redo d || b) (asks-append es more) ∙ asks_with-first d more (asks es)
 
--- the words that count get no value while the entry is written
-entry_apart : (log : OpenLog) (e : Entry) (k v : ℕ) → IsCounted log k → written (placed (behind log) (spelled e)) k v → ⊥
-entry_apart log e k v counts is =
-    let place = placed_within (behind log) k v (spelled e) is in
-    elim counts.is [ inl gate ↦ absurd (omega arith) | inr entry ↦ absurd (omega arith) ]
+-- the words that spell one entry
+pub spells_one : (ws : List ℕ) (e : Entry) → ws ≡ spelled_all (e ∷ []) → IsLegalEntry e → entries_in 0 ws ≡ Some (e ∷ [])
+spells_one ws e are legal = ap (entries_in 0) are ∙ entries_in-spelled e legal
 
--- nor does a word outside the log
-entry_inside : (log : OpenLog) (e : Entry) (k v : ℕ) → log.used + entry_size e ≤ LOG_ENTRY_WORDS → written (placed (behind log) (spelled e)) k v → InLog log.at k v
-entry_inside log e k v within is = written_in_log log e within k v (entry_is_written log e k v is)
+-- how many words spell two undo entries, of which the second has one value
+pub both_counted : (addr addr2 word : ℕ) (vals : List ℕ) → length vals + 5 ≡ length (spelled_all (undo_entry addr vals ∷ undo_entry addr2 (word ∷ []) ∷ []))
+both_counted addr addr2 word vals = simp length-append (omega arith)
 
--- images left while the entry is written
-pub first_images : (log : OpenLog) (es : List Entry) (e : Entry) (fault : Option HostFault) (s t : State) → log.used + entry_size e ≤ LOG_ENTRY_WORDS → IsOpen log es s.now.words
-    → Changes (written (placed (behind log) (spelled e))) fault s t → Leaves (Silently (HasGrown s.now.words log.at e)) s t
-first_images log es e fault s t within open_log changes =
-    let may = written (placed (behind log) (spelled e)) in
-    Leaves-changes (HasGrown s.now.words log.at e) may fault s t
-    (λ before image picked from.
-    let same = λ (k : ℕ) (counts : IsCounted log k). (let it : image k ≡ before k = elim (from.each k) [ inl was ↦ was | inr new ↦ absurd (entry_apart log e k (image k) counts new) ] in it) in
-    record {
-      before = before;
-      picked = picked;
-      outside = λ k apart. elim (from.each k) [ inl was ↦ was | inr new ↦ absurd (apart (entry_inside log e k (image k) within new)) ];
-      log = inl (
-          IsOpen-log_by log es s.now.words image open_log (same log.at (record { is = inl refl }) ∙ open_log.gate.each (before log.at) (picked.each log.at))
-          (λ k low high. same k (record { is = inr (low, high) }) ∙ (open_log.counted k low high).each (before k) (picked.each k))
-          ∙ sym (IsOpen-log log es s.now.words before open_log picked));
-    }) changes
+-- the words that spell two entries
+pub spells_two : (ws : List ℕ) (e f : Entry) → ws ≡ spelled_all (e ∷ f ∷ []) → IsLegalEntry e → IsLegalEntry f → entries_in 0 ws ≡ Some (e ∷ f ∷ [])
+spells_two ws e f are first second =
+    ap (entries_in 0) are ∙ entries_in-append (spelled e) (spelled f) (e ∷ []) (entries_in-spelled e first) ∙ ap (option_map (λ fs. e ∷ fs)) (entries_in-spelled f second)
 
--- images left while the gate is set, the entry being durable
-second_images : (log : OpenLog) (es : List Entry) (e : Entry) (fault : Option HostFault) (s t u : State) → IsLegalEntry e → log.used + entry_size e ≤ LOG_ENTRY_WORDS
-    → IsOpen log es s.now.words → Persists (placed (behind log) (spelled e)) None s t → Persists (only log.at (next_gate log e)) fault t u
-    → Leaves (Silently (HasGrown s.now.words log.at e)) t u
-second_images log es e fault s t u legal within open_log first second =
-    let may = written (placed (behind log) (spelled e)) in
-    let g = next_gate log e in
-    let still : IsOpen log es t.now.words = IsOpen-kept_by may None s t log es first.changes (entry_apart log e) open_log in
-    Leaves-changes (HasGrown s.now.words log.at e) (written (only log.at g)) fault t u
-    (λ half image picked from.
-    let o = origin may s.now.words t.now.words half (Changes-now may None s t first.changes) picked in
-    let was : log_of o.before log.at ≡ saying log es = IsOpen-log log es s.now.words o.before open_log o.picked in
-    let other = λ (k : ℕ) (apart : k ≡ log.at → ⊥). (let it : image k ≡ half k = elim (from.each k) [ inl same ↦ same | inr new ↦ absurd (apart (only_at log.at g k (image k) new)) ] in it) in
-    let counted = λ (k : ℕ) (low : log.at + LOG_HEADER_WORDS ≤ k) (high : k < behind log).
-    other k (λ here. absurd (omega arith)) ∙ (still.counted k low high).each (half k) (picked.each k) in
-    record {
-      before = o.before;
-      picked = o.picked;
-      outside = λ k apart.
-          other k (λ here. apart (record { low = omega arith; high = omega arith }))
-          ∙ (let it : half k ≡ o.before k = elim (o.from.each k) [ inl same ↦ same | inr new ↦ absurd (apart (entry_inside log e k (half k) within new)) ] in it);
-      log = elim (from.each log.at) [
-        | inl same ↦
-            inl (IsOpen-log_by log es t.now.words image still (same ∙ still.gate.each (half log.at) (picked.each log.at)) counted ∙ sym was)
-        | inr new ↦
-            inr (log_of-grown log es e t.now.words image still legal within (value_of_only log.at g (image log.at) new) counted
-            (λ i h. other (behind log + i) (λ here. absurd (omega arith))
-            ∙ (first.durable refl (behind log + i) (get_or (spelled e) i 0) (placed_at (behind log) i (behind log + i) (spelled e) refl h)).each (half (behind log + i)) (picked.each (behind log + i)))
-            ∙ sym (ap (with_last e) was))
-      ];
-    }) second.changes
+-- ---- what is left meanwhile, and at the end
 
-pub both_images : (log : OpenLog) (es : List Entry) (e : Entry) (fault : Option HostFault) (s t u : State) → IsLegalEntry e → log.used + entry_size e ≤ LOG_ENTRY_WORDS
-    → IsOpen log es s.now.words → Persists (placed (behind log) (spelled e)) None s t → Persists (only log.at (next_gate log e)) fault t u
-    → Leaves (Silently (HasGrown s.now.words log.at e)) s u
-both_images log es e fault s t u legal within open_log first second =
-    let P = Silently (HasGrown s.now.words log.at e) in
-    let said = Changes-said (written (placed (behind log) (spelled e))) None s t first.changes in
-    Leaves-then P P P [] s t u (said ∙ sym (append-nil s.now.said)) (λ front image p. p) (λ more image p. p)
-    (first_images log es e None s t within open_log first.changes)
-    (second_images log es e fault s t u legal within open_log first second)
+module _ (log : OpenLog) (es : List Entry) (count : ℕ) (ws : List ℕ) (more : List Entry) (s : State)
+    (block : IsBlock log count ws) (spells : entries_in 0 ws ≡ Some more) (open_log : IsOpen log es s.now.words) where
+  abbrev words_may : ℕ → ℕ → Type 0
+  words_may = written (placed (behind log) ws)
+
+  abbrev Grown : Image → Type 0
+  Grown = HasGrown s.now.words log.at more
+
+  -- the words that count as they were, the block behind them, and a gate that counts it
+  log_of-grown : (image : Image) → image log.at ≡ next_gate log count
+      → ((k : ℕ) → log.at + LOG_HEADER_WORDS ≤ k → k < behind log → image k ≡ (s.now.words k).newest)
+      → ((i : ℕ) → i < length ws → image (behind log + i) ≡ get_or ws i 0)
+      → log_of image log.at ≡ saying log (es ++ more)
+  log_of-grown image gate same holds =
+      let fits = IsOpen-fits log es s.now.words open_log in
+      let start = log.at + LOG_HEADER_WORDS in
+      let old = words_from (reads s.now.words) start log.used in
+      let are : words_from image start (log.used + count) ≡ old ++ ws =
+      words_from-add image start log.used count
+      ∙ ap (λ l. l ++ words_from image (behind log) count) (words_from-same image (reads s.now.words) start log.used same)
+      ∙ ap (λ n. old ++ words_from image (behind log) n) block.counted
+      ∙ ap (λ l. old ++ l) (words_from-holds image (behind log) ws holds) in
+      log_of-is image (with_entries count more log) (old ++ ws) (es ++ more) (record { lo_fits = fits.lo_fits; hi_fits = fits.hi_fits; used_within = block.room }) gate are
+      (entries_in-append old ws es (IsOpen-words log es s.now.words open_log) ∙ ap (option_map (λ fs. es ++ fs)) spells)
+
+  -- at Ok the log is open with the entries
+  IsOpen-grown : (u : State) → Persists (words_write log count ws) None s u → IsOpen (with_entries count more log) (es ++ more) u.now.words
+  IsOpen-grown u p =
+      let room = block.room in
+      let counted = block.counted in
+      let gate : HasOnly (u.now.words log.at) (next_gate log count) = p.durable refl log.at (next_gate log count) (write_gate log count ws log.at refl) in
+      let kept = λ (k : ℕ) (low : log.at + LOG_HEADER_WORDS ≤ k) (high : k < behind log).
+      HasOnly-kept (written (words_write log count ws)) None s u k (s.now.words k).newest p.changes
+      (λ x may. elim (written_within log count ws k x counted may) [ inl here ↦ absurd (omega arith) | inr inside ↦ absurd (omega arith) ]) (open_log.counted k low high) in
+      let new = λ (i : ℕ) (h : i < length ws).
+      p.durable refl (behind log + i) (get_or ws i 0)
+      (write_behind log count ws (behind log + i) (λ same. absurd (omega arith)) ∙ placed_at (behind log) i (behind log + i) ws refl h) in
+      record {
+        gate = gate;
+        counted = λ k low high. elim (leb_tells (behind log) k) [
+          | inl late ↦
+              let i = k - behind log in
+              let place : behind log + i ≡ k = let h = late.1 in omega arith in
+              HasOnly-own (u.now.words k) (get_or ws i 0) (subst (λ (n : ℕ). HasOnly (u.now.words n) (get_or ws i 0)) place (new i (omega arith)))
+          | inr early ↦ HasOnly-own (u.now.words k) (s.now.words k).newest (kept k low early.1)
+        ];
+        says = log_of-grown (reads u.now.words) (HasOnly-newest (u.now.words log.at) _ gate)
+            (λ k low high. HasOnly-newest (u.now.words k) (s.now.words k).newest (kept k low high))
+            (λ i h. HasOnly-newest (u.now.words (behind log + i)) _ (new i h));
+        asked = ap (asks_with more) open_log.asked ∙ sym (asks-append es more);
+      }
+
+  -- the words that count get no value while the block is written
+  block_apart : (k v : ℕ) → IsCounted log k → words_may k v → ⊥
+  block_apart k v counts is =
+      let place = placed_within (behind log) k v ws is in
+      elim counts.is [ inl gate ↦ absurd (omega arith) | inr entry ↦ absurd (omega arith) ]
+
+  -- nor does a word outside the log
+  block_inside : (k v : ℕ) → words_may k v → InLog log.at k v
+  block_inside k v is = written_in_log log count ws block k v (words_are_written log count ws k v is)
+
+  -- images left while the block is written
+  pub first_images : (fault : Option HostFault) (t : State) → Changes words_may fault s t → Leaves (Silently Grown) s t
+  first_images fault t changes =
+      Leaves-changes Grown words_may fault s t
+      (λ before image picked from.
+      let same = λ (k : ℕ) (counts : IsCounted log k). (let it : image k ≡ before k = elim (from.each k) [ inl was ↦ was | inr new ↦ absurd (block_apart k (image k) counts new) ] in it) in
+      record {
+        before = before;
+        picked = picked;
+        outside = λ k apart. elim (from.each k) [ inl was ↦ was | inr new ↦ absurd (apart (block_inside k (image k) new)) ];
+        log = inl (
+            IsOpen-log_by log es s.now.words image open_log (same log.at (record { is = inl refl }) ∙ open_log.gate.each (before log.at) (picked.each log.at))
+            (λ k low high. same k (record { is = inr (low, high) }) ∙ (open_log.counted k low high).each (before k) (picked.each k))
+            ∙ sym (IsOpen-log log es s.now.words before open_log picked));
+      }) changes
+
+  -- images left while the gate is set, the block being durable
+  second_images : (fault : Option HostFault) (t u : State) → Persists (placed (behind log) ws) None s t → Persists (only log.at (next_gate log count)) fault t u → Leaves (Silently Grown) t u
+  second_images fault t u first second =
+      let g = next_gate log count in
+      let still : IsOpen log es t.now.words = IsOpen-kept_by words_may None s t log es first.changes block_apart open_log in
+      Leaves-changes Grown (written (only log.at g)) fault t u
+      (λ half image picked from.
+      let o = origin words_may s.now.words t.now.words half (Changes-now words_may None s t first.changes) picked in
+      let was : log_of o.before log.at ≡ saying log es = IsOpen-log log es s.now.words o.before open_log o.picked in
+      let other = λ (k : ℕ) (apart : k ≡ log.at → ⊥). (let it : image k ≡ half k = elim (from.each k) [ inl same ↦ same | inr new ↦ absurd (apart (only_at log.at g k (image k) new)) ] in it) in
+      let counted = λ (k : ℕ) (low : log.at + LOG_HEADER_WORDS ≤ k) (high : k < behind log).
+      other k (λ here. absurd (omega arith)) ∙ (still.counted k low high).each (half k) (picked.each k) in
+      record {
+        before = o.before;
+        picked = o.picked;
+        outside = λ k apart.
+            other k (λ here. apart (record { low = omega arith; high = omega arith }))
+            ∙ (let it : half k ≡ o.before k = elim (o.from.each k) [ inl same ↦ same | inr new ↦ absurd (apart (block_inside k (half k) new)) ] in it);
+        log = elim (from.each log.at) [
+          | inl same ↦
+              inl (IsOpen-log_by log es t.now.words image still (same ∙ still.gate.each (half log.at) (picked.each log.at)) counted ∙ sym was)
+          | inr new ↦
+              inr (log_of-grown image (value_of_only log.at g (image log.at) new)
+              (λ k low high. counted k low high ∙ HasOnly-newest (t.now.words k) (s.now.words k).newest
+              (HasOnly-kept words_may None s t k (s.now.words k).newest first.changes (λ x. block_apart k x (record { is = inr (low, high) })) (open_log.counted k low high)))
+              (λ i h. other (behind log + i) (λ here. absurd (omega arith))
+              ∙ (first.durable refl (behind log + i) (get_or ws i 0) (placed_at (behind log) i (behind log + i) ws refl h)).each (half (behind log + i)) (picked.each (behind log + i)))
+              ∙ sym (ap (with_last more) was))
+        ];
+      }) second.changes
+
+  pub both_images : (fault : Option HostFault) (t u : State) → Persists (placed (behind log) ws) None s t → Persists (only log.at (next_gate log count)) fault t u → Leaves (Silently Grown) s u
+  both_images fault t u first second =
+      let P = Silently Grown in
+      let said = Changes-said words_may None s t first.changes in
+      Leaves-then P P P [] s t u (said ∙ sym (append-nil s.now.said)) (λ front image p. p) (λ more image p. p)
+      (first_images None t first.changes)
+      (second_images fault t u first second)
 
 -- ---- an append
 
--- it changes the words of its log alone
-pub changes_in_log : (log : OpenLog) (e : Entry) (fault : Option HostFault) (s t : State) → log.used + entry_size e ≤ LOG_ENTRY_WORDS
-    → Persists (entry_write log e) fault s t → Changes (InLog log.at) fault s t
-changes_in_log log e fault s t within p = Changes-wider (written (entry_write log e)) (InLog log.at) fault s t (written_in_log log e within) p.changes
+-- what was written, told by the entries that the words spell
+pub Persists-spelled : (log : OpenLog) (ws of : List ℕ) (count : ℕ) (fault : Option HostFault) (s t : State) → ws ≡ of → count ≡ length of
+    → Persists (words_write log (length ws) ws) fault s t → Persists (words_write log count of) fault s t
+Persists-spelled log ws of count fault s t are counted p =
+    subst (λ (n : ℕ). Persists (words_write log n of) fault s t) (sym counted) (subst (λ (l : List ℕ). Persists (words_write log (length l) l) fault s t) are p)
 
-pub Appends-failed : (log : OpenLog) (es : List Entry) (e : Entry) (fault : HostFault) (s t : State) → Persists (entry_write log e) (Some fault) s t
-    → Leaves (Silently (HasGrown s.now.words log.at e)) s t → Appends log es e (Err (Host fault)) s t
-Appends-failed log es e fault s t p moments = record { writes = p.changes; moments = moments; done = tt }
+pub Appends-failed : (log : OpenLog) (es : List Entry) (count : ℕ) (more : List Entry) (fault : HostFault) (s t : State) → Persists (words_write log count (spelled_all more)) (Some fault) s t
+    → Leaves (Silently (HasGrown s.now.words log.at more)) s t → Appends log es count more (Err (Host fault)) s t
+Appends-failed log es count more fault s t p moments = record { writes = p.changes; moments = moments; done = tt }
 
-pub Appends-done : (log : OpenLog) (es : List Entry) (e : Entry) (s t : State) → IsLegalEntry e → log.used + entry_size e ≤ LOG_ENTRY_WORDS → IsOpen log es s.now.words
-    → Persists (entry_write log e) None s t → Leaves (Silently (HasGrown s.now.words log.at e)) s t → Appends log es e (Ok tt) s t
-Appends-done log es e s t legal within open_log p moments =
-    record { writes = p.changes; moments = moments; done = IsOpen-grown log es e s t legal within open_log p }
+pub Appends-done : (log : OpenLog) (es : List Entry) (count : ℕ) (more : List Entry) (s t : State) → IsBlock log count (spelled_all more) → entries_in 0 (spelled_all more) ≡ Some more → IsOpen log es s.now.words
+    → Persists (words_write log count (spelled_all more)) None s t → Leaves (Silently (HasGrown s.now.words log.at more)) s t → Appends log es count more (Ok tt) s t
+Appends-done log es count more s t block spells open_log p moments =
+    record { writes = p.changes; moments = moments; done = IsOpen-grown log es count (spelled_all more) more s block spells open_log t p }

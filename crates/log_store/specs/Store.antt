@@ -1,4 +1,4 @@
--- What the words of a device hold of an open log, and how an entry is appended.
+-- What the words of a device hold of an open log, and how entries are appended.
 use Rattle.std.specs.Prelude.{◌≡◌, ◌⊎◌, ℕ, ◌+◌, ◌≤◌, ◌<◌, Bool, true, ◌||◌, ◌==◌, cond, List, [], ◌∷◌, ◌++◌, length, Option, Some, None, option_map, Result, Ok, Err, IfOk}
 use Rattle.std.specs.List.{list_any}
 use Rattle.pm_model.specs.declared.host.HostFault.{HostFault}
@@ -6,7 +6,7 @@ use Rattle.pm_model.specs.Words.{Words, reads, Picks, HasOnly}
 use Rattle.pm_model.specs.Moments.{State}
 use Rattle.pm_model.specs.Changes.{Footprint, Changes, Leaves, Silently, Write, placed, written}
 use Rattle.pud_defs.specs.declared.layout.TheConstants.{LOG_HEADER_WORDS, ENTRY_HEADER_WORDS}
-use Rattle.pud_defs.specs.declared.log_words.TheConstants.{COMMITTING_LO, COMMITTING_HI, REDO_ORDER}
+use Rattle.pud_defs.specs.declared.log_words.TheConstants.{UNDO_SEQ, UNDO_ORDER, COMMITTING_LO, COMMITTING_HI, REDO_ORDER}
 use Rattle.pud_defs.specs.Image.{Image}
 use Rattle.pud_defs.specs.Entries.{Entry, Log, log_of, gate_word, spelled}
 use Rattle.pud_defs.specs.Replay.{IsInLog}
@@ -29,7 +29,16 @@ is_redo e = e.order == REDO_ORDER
 abbrev pub asks : List Entry → Bool
 asks es = list_any is_redo es
 
--- with so many words more that count, of an entry that asks for nothing
+-- whether one of some entries does, or it was so before
+abbrev pub asks_with : List Entry → Bool → Bool
+asks_with [] was = was
+asks_with (e ∷ es) was = is_redo e || asks_with es was
+
+-- what words held, from that of an address on
+abbrev pub undo_entry : (address : ℕ) → List ℕ → Entry
+undo_entry address vals = record { address = address; seq = UNDO_SEQ; order = UNDO_ORDER; vals = vals }
+
+-- with so many words more that count, of entries that ask for nothing
 abbrev pub longer : ℕ → OpenLog → OpenLog
 longer words log = record log { used = log.used + words }
 
@@ -37,9 +46,13 @@ longer words log = record log { used = log.used + words }
 abbrev pub asking : ℕ → OpenLog → OpenLog
 asking words log = record log { used = log.used + words; asks = true }
 
+-- of these entries
+abbrev pub with_entries : (words : ℕ) → List Entry → OpenLog → OpenLog
+with_entries words es log = record log { used = log.used + words; asks = asks_with es log.asks }
+
 -- of this entry
 abbrev pub with_entry : Entry → OpenLog → OpenLog
-with_entry e log = record log { used = log.used + (length e.vals + ENTRY_HEADER_WORDS); asks = is_redo e || log.asks }
+with_entry e log = with_entries (length e.vals + ENTRY_HEADER_WORDS) (e ∷ []) log
 
 abbrev pub committing : OpenLog → OpenLog
 committing log = record log { lo = COMMITTING_LO; hi = COMMITTING_HI }
@@ -66,26 +79,31 @@ pub record IsOpen (log : OpenLog) (es : List Entry) (words : Words) : Type 0 whe
   pub says : log_of (reads words) log.at ≡ saying log es
   pub asked : log.asks ≡ asks es
 
--- the words of an entry behind those that count, and the gate that counts them too
-abbrev pub entry_write : OpenLog → Entry → Write
-entry_write log e k =
-    cond (k == log.at) (Some (gate_word log.lo log.hi (log.used + (length e.vals + ENTRY_HEADER_WORDS))))
-    (placed (log.at + LOG_HEADER_WORDS + log.used) (spelled e) k)
+-- the words that spell entries, one behind the other
+abbrev pub spelled_all : List Entry → List ℕ
+spelled_all [] = []
+spelled_all (e ∷ []) = spelled e
+spelled_all (e ∷ f ∷ es) = spelled e ++ spelled_all (f ∷ es)
 
--- the log with an entry last
-abbrev pub with_last : Entry → Log → Log
-with_last e log = record log { entries = option_map (λ es. es ++ e ∷ []) log.entries }
+-- words behind those that count, and the gate that counts so many more
+abbrev pub words_write : OpenLog → (count : ℕ) → List ℕ → Write
+words_write log count words k =
+    cond (k == log.at) (Some (gate_word log.lo log.hi (log.used + count))) (placed (log.at + LOG_HEADER_WORDS + log.used) words k)
 
--- An image of these words that differs at most within the log at this word, which is as it was or has this entry last.
-pub record HasGrown (words : Words) (at : ℕ) (e : Entry) (image : Image) : Type 0 where
+-- the log with more entries last
+abbrev pub with_last : List Entry → Log → Log
+with_last more log = record log { entries = option_map (λ es. es ++ more) log.entries }
+
+-- An image of these words that differs at most within the log at this word, which is as it was or has all of these entries last.
+pub record HasGrown (words : Words) (at : ℕ) (more : List Entry) (image : Image) : Type 0 where
   pub before : Image
   pub picked : Picks words before
   pub outside : (k : ℕ) → (IsInLog at k → ⊥) → image k ≡ before k
-  pub log : (log_of image at ≡ log_of before at) ⊎ (log_of image at ≡ with_last e (log_of before at))
+  pub log : (log_of image at ≡ log_of before at) ⊎ (log_of image at ≡ with_last more (log_of before at))
 
--- The entry is appended: only its words and the gate that counts it are written; at each moment each image has the log as it was or with the
--- whole entry; at Ok each has it.
-pub record Appends (log : OpenLog) (es : List Entry) (e : Entry) (result : Result (Unit {0}) AppendFault) (old new : State) : Type 0 where
-  pub writes : Changes (written (entry_write log e)) (append_fault result) old new
-  pub moments : Leaves (Silently (HasGrown old.now.words log.at e)) old new
-  pub done : IfOk result (λ _. IsOpen (with_entry e log) (es ++ e ∷ []) new.now.words)
+-- Entries of so many words are appended: only their words and the gate that counts them are written; at each moment each image has the log as it
+-- was or with all of them; at Ok each has them.
+pub record Appends (log : OpenLog) (es : List Entry) (count : ℕ) (more : List Entry) (result : Result (Unit {0}) AppendFault) (old new : State) : Type 0 where
+  pub writes : Changes (written (words_write log count (spelled_all more))) (append_fault result) old new
+  pub moments : Leaves (Silently (HasGrown old.now.words log.at more)) old new
+  pub done : IfOk result (λ _. IsOpen (with_entries count more log) (es ++ more) new.now.words)

@@ -1,16 +1,16 @@
-//! A log that grows by whole entries.
+//! A log that grows by whole entries, one or two at once.
 //!
-//! An entry becomes part of its log by one word: the entry is durable before the gate that counts it is stored. So at
-//! each moment a power loss leaves the log as it was or with the whole entry. The range moves by one word too.
+//! Entries become part of their log by one word: they are durable before the gate that counts them is stored. So at each
+//! moment a power loss leaves the log as it was or with all of them whole. The range moves by one word too.
 #![tactic(auto)]
 
-ghost use Rattle.std.specs.Prelude.{◌≡◌, ◌↔◌, ◌+◌, ◌<◌, ◌≤◌, ◌^◌, false, List, [], Result, IfOk, OnErr, length};
+ghost use Rattle.std.specs.Prelude.{◌≡◌, ◌↔◌, ◌+◌, ◌<◌, ◌≤◌, ◌^◌, false, List, [], ◌∷◌, Option, Result, IfOk, OnErr, length, take};
 ghost use Rattle.pm_model.specs.Counts.{after_fault, fault_of};
 ghost use Rattle.pm_model.specs.Changes.{only, placed, Changes, Leaves, Silently, Persists};
 ghost use Rattle.pud_defs.specs.declared.layout.TheConstants.{LOG_WORDS, LOG_ENTRY_WORDS, ENTRY_HEADER_WORDS, MAX_ENTRY_VALUES};
 ghost use Rattle.pud_defs.specs.declared.log_words.TheConstants.{RUNNING_LO, RUNNING_HI, RUNNING_GATE, COMMITTING_LO, COMMITTING_HI, CLOSED_GATE, REDO_ORDER};
-ghost use Rattle.pud_defs.specs.Entries.{Entry, gate_word, spelled};
-ghost use Rattle.log_store.specs.Store.{OpenLog, append_fault, InLog, IsOpen, entry_write, HasGrown, Appends, committing, with_entry};
+ghost use Rattle.pud_defs.specs.Entries.{Entry, gate_word, entries_in};
+ghost use Rattle.log_store.specs.Store.{OpenLog, append_fault, InLog, IsOpen, spelled_all, words_write, HasGrown, Appends, committing, undo_entry, longer, with_entry};
 
 use log_entry::encode;
 use pm_model::{Host, HostFault};
@@ -18,7 +18,7 @@ use pm_persist::{persist_range, persist_word};
 use pud_defs::layout::{ENTRY_HEADER_WORDS, LOG_ENTRY_WORDS, LOG_HEADER_WORDS, MAX_ENTRY_WORDS};
 use pud_defs::log_words::{
     CLOSED_GATE, COMMITTING_HI, COMMITTING_LO, REDO_ORDER, RUNNING_GATE, RUNNING_HI, RUNNING_LO,
-    gate_word,
+    UNDO_ORDER, UNDO_SEQ, gate_word,
 };
 use std::marker::Model;
 
@@ -61,25 +61,32 @@ impl Model for Log {
     ghost invariant = { λ log. (log.lo < 2 ^ 8) × (log.hi < 2 ^ 8) × (log.used ≤ LOG_ENTRY_WORDS) };
 }
 
-/// Makes an entry durable in the words from `at` on. No gate counts it yet.
-fn persist_entry<H: Host>(
-    h: &mut H,
-    at: u32,
+/// How many words an entry of one value takes.
+const ONE_VALUE_WORDS: u32 = ENTRY_HEADER_WORDS + 1;
+
+/// How many words two entries take at most, of which the second has one value.
+const MAX_TWO_ENTRIES_WORDS: u32 = MAX_ENTRY_WORDS + ONE_VALUE_WORDS;
+
+/// Writes two undo entries as words into the front of `out`, one behind the other, and gives their number, `vals.len() + 5`:
+/// what the words from that of `addr` on held, 1 to 32 of them, and what the one of `addr2` held.
+fn encode_two(
     addr: u64,
-    seq: u32,
-    order: u32,
     vals: &[u64],
-) -> Result<(), HostFault>
-    requires place { at + (length vals.now + ENTRY_HEADER_WORDS) ≤ (H.counts h.old).size }
+    addr2: u64,
+    word: u64,
+    out: &mut [u64; MAX_TWO_ENTRIES_WORDS as usize],
+) -> usize
     requires some { 1 ≤ length vals.now }
     requires no_more { length vals.now ≤ MAX_ENTRY_VALUES }
-    requires seq_fits { seq < 2 ^ 16 }
-    ensures persists { H.tells → Persists (placed at (spelled (record { address = addr; seq = seq; order = order; vals = vals.now }))) (fault_of result) (H.state h.old) (H.state h.new) }
-    ensures cause { H.counts h.new ≡ after_fault (fault_of result) (H.counts h.old) }
+    ensures count { result ≡ length vals.now + 5 }
+    ensures spells { take result out.new ≡ spelled_all (undo_entry addr vals.now ∷ undo_entry addr2 (word ∷ []) ∷ []) }
 {
     let mut words = [0u64; MAX_ENTRY_WORDS as usize];
-    let n = encode(addr, seq, order, vals, &mut words);
-    persist_range(h, at, &words[..n])
+    let first = encode(addr, UNDO_SEQ, UNDO_ORDER, vals, &mut words);
+    out[..first].copy_from_slice(&words[..first]);
+    let second = encode(addr2, UNDO_SEQ, UNDO_ORDER, &[word], &mut words);
+    out[first..first + second].copy_from_slice(&words[..second]);
+    first + second
 }
 
 /// Makes this gate durable in word `at`.
@@ -137,38 +144,28 @@ impl Log {
         self.asks
     }
 
-    /// Appends an entry that the log has room for: it is durable before the gate that counts it is stored.
-    fn append_fitting<H: Host>(
-        &self,
-        h: &mut H,
-        addr: u64,
-        seq: u32,
-        order: u32,
-        vals: &[u64],
-    ) -> Result<(), HostFault>
+    /// Appends words that spell entries, for which the log has room: they are durable before the gate that counts them is
+    /// stored.
+    fn append_fitting<H: Host>(&self, h: &mut H, words: &[u64]) -> Result<(), HostFault>
         requires place { self.now.at + LOG_WORDS ≤ (H.counts h.old).size }
-        requires some { 1 ≤ length vals.now }
-        requires no_more { length vals.now ≤ MAX_ENTRY_VALUES }
-        requires seq_fits { seq < 2 ^ 16 }
-        requires order_known { order ≤ REDO_ORDER }
-        requires fits { self.now.used + (length vals.now + ENTRY_HEADER_WORDS) ≤ LOG_ENTRY_WORDS }
-        ensures persists { H.tells → Persists (entry_write self.now (record { address = addr; seq = seq; order = order; vals = vals.now })) (fault_of result) (H.state h.old) (H.state h.new) }
-        ensures moments { H.tells → (es : List Entry) → IsOpen self.now es (H.state h.old).now.words
-            → Leaves (Silently (HasGrown (H.state h.old).now.words self.now.at (record { address = addr; seq = seq; order = order; vals = vals.now }))) (H.state h.old) (H.state h.new) }
+        requires fits { self.now.used + length words.now ≤ LOG_ENTRY_WORDS }
+        ensures persists { H.tells → Persists (words_write self.now (length words.now) words.now) (fault_of result) (H.state h.old) (H.state h.new) }
+        ensures moments { H.tells → (es : List Entry) → (more : List Entry) → entries_in 0 words.now ≡ Option.Some more → IsOpen self.now es (H.state h.old).now.words
+            → Leaves (Silently (HasGrown (H.state h.old).now.words self.now.at more)) (H.state h.old) (H.state h.new) }
         ensures cause { H.counts h.new ≡ after_fault (fault_of result) (H.counts h.old) }
     {
         // With this call the proof has that a device's words are counted by 32 bits, so that places of them are, too.
         let _words = h.words();
-        let behind = self.used + (vals.len() as u32 + ENTRY_HEADER_WORDS);
+        let behind = self.used + words.len() as u32;
         let at = self.at + LOG_HEADER_WORDS + self.used;
-        persist_entry(h, at, addr, seq, order, vals)?;
+        persist_range(h, at, words)?;
         persist_gate(h, self.at, self.lo, self.hi, behind)
     }
 
     /// Appends an entry. At `Ok` each image has it; before, each has the log as it was or with the whole entry.
     ///
     /// There are 1 to 32 values, the sequence number has 16 bits, and the order is 0 or 1. `TooBig` comes exactly where
-    /// the entry's words and those used are more than 1,016 together. After an error `self` is as it was.
+    /// the entry's words and those used are more than 1,016 together. After an error `self` is as it was. Two fences.
     pub fn append<H: Host>(
         &mut self,
         h: &mut H,
@@ -188,16 +185,54 @@ impl Log {
         ensures failed { OnErr result (self.new ≡ self.old) }
         ensures changes { H.tells → Changes (InLog self.old.at) (append_fault result) (H.state h.old) (H.state h.new) }
         ensures appends { H.tells → (es : List Entry) → IsOpen self.old es (H.state h.old).now.words
-            → Appends self.old es (record { address = addr; seq = seq; order = order; vals = vals.now }) result (H.state h.old) (H.state h.new) }
+            → Appends self.old es (length vals.now + ENTRY_HEADER_WORDS) (record { address = addr; seq = seq; order = order; vals = vals.now } ∷ []) result (H.state h.old) (H.state h.new) }
         ensures cause { H.counts h.new ≡ after_fault (append_fault result) (H.counts h.old) }
     {
         let words = vals.len() as u32 + ENTRY_HEADER_WORDS;
         if self.used + words > LOG_ENTRY_WORDS {
             return Err(AppendFault::TooBig);
         }
-        self.append_fitting(h, addr, seq, order, vals)?;
+        let mut buffer = [0u64; MAX_ENTRY_WORDS as usize];
+        let n = encode(addr, seq, order, vals, &mut buffer);
+        self.append_fitting(h, &buffer[..n])?;
         self.used += words;
         self.asks = (order == REDO_ORDER) | self.asks;
+        Ok(())
+    }
+
+    /// Appends two undo entries under one gate: what the words from that of `addr` on held, and what the one of `addr2` held.
+    /// At `Ok` each image has both; before, each has the log as it was or with both.
+    ///
+    /// There are 1 to 32 values. `TooBig` comes exactly where the words of both, `vals.len() + 5`, and those used are more
+    /// than 1,016 together. After an error `self` is as it was. Two fences.
+    pub fn append_two<H: Host>(
+        &mut self,
+        h: &mut H,
+        addr: u64,
+        vals: &[u64],
+        addr2: u64,
+        word: u64,
+    ) -> Result<(), AppendFault>
+        requires place { self.old.at + LOG_WORDS ≤ (H.counts h.old).size }
+        requires some { 1 ≤ length vals.now }
+        requires no_more { length vals.now ≤ MAX_ENTRY_VALUES }
+        ensures too_big { (result ≡ Result.Err AppendFault.TooBig) ↔ (LOG_ENTRY_WORDS < self.old.used + (length vals.now + 5)) }
+        ensures too_big_stays { H.tells → result ≡ Result.Err AppendFault.TooBig → H.state h.new ≡ H.state h.old }
+        ensures appended { IfOk result (λ _. self.new ≡ longer (length vals.now + 5) self.old) }
+        ensures failed { OnErr result (self.new ≡ self.old) }
+        ensures changes { H.tells → Changes (InLog self.old.at) (append_fault result) (H.state h.old) (H.state h.new) }
+        ensures appends { H.tells → (es : List Entry) → IsOpen self.old es (H.state h.old).now.words
+            → Appends self.old es (length vals.now + 5) (undo_entry addr vals.now ∷ undo_entry addr2 (word ∷ []) ∷ []) result (H.state h.old) (H.state h.new) }
+        ensures cause { H.counts h.new ≡ after_fault (append_fault result) (H.counts h.old) }
+    {
+        let both = vals.len() as u32 + (ENTRY_HEADER_WORDS + ONE_VALUE_WORDS);
+        if self.used + both > LOG_ENTRY_WORDS {
+            return Err(AppendFault::TooBig);
+        }
+        let mut buffer = [0u64; MAX_TWO_ENTRIES_WORDS as usize];
+        let n = encode_two(addr, vals, addr2, word, &mut buffer);
+        self.append_fitting(h, &buffer[..n])?;
+        self.used += both;
         Ok(())
     }
 

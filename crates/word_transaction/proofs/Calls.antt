@@ -53,16 +53,15 @@ IsRunning-kept g log es before may fault old new c in_log own r =
 
 -- ---- calls that do nothing, and calls in turn
 
--- a call failed before it did anything
-pub Runs-stopped : (g : Ground) (log behind : OpenLog) (es es_behind : List Entry) (before : Image) (write : Write) (fault : HostFault) (old new : State) → behind.at ≡ log.at
-    → (Some fault ≡ Some Cut → ⊥) → new ≡ old → IsRunning g log es before old.now.words → Runs g behind es_behind before write (Some fault) old new
-Runs-stopped g log behind es es_behind before write fault old new at kept same r =
+-- a call did nothing
+pub Runs-still : (g : Ground) (log : OpenLog) (es : List Entry) (before : Image) (fault : Option HostFault) (old new : State) → (fault ≡ Some Cut → ⊥) → new ≡ old
+    → IsRunning g log es before old.now.words → Runs g log es before nothing fault old new
+Runs-still g log es before fault old new uncut same r =
     record {
-      changes = Changes-still (ByTransaction g behind.at) (Some fault) old new kept same;
-      moments = Leaves-still (Silently (SettlesTo g behind.at before)) old new
-          (λ image picked. (refl, subst (λ (k : ℕ). SettlesTo g k before image) (sym at) (IsRunning-settles g log es before image old.now.words r picked))) same;
-      running = λ none. absurd (some_fault fault none);
-      now = λ none. absurd (some_fault fault none);
+      changes = Changes-still (ByTransaction g log.at) fault old new uncut same;
+      moments = Leaves-still (Silently (SettlesTo g log.at before)) old new (λ image picked. (refl, IsRunning-settles g log es before image old.now.words r picked)) same;
+      running = λ _. subst (λ (x : State). IsRunning g log es before x.now.words) (sym same) r;
+      now = λ _ k out. ap (λ (x : State). reads x.now.words k) same;
     }
 
 -- what failed did not do what was to come behind it
@@ -75,6 +74,12 @@ Runs-failed g log behind es es_behind before write write_behind fault old new at
       running = λ none. absurd (some_fault fault none);
       now = λ none. absurd (some_fault fault none);
     }
+
+-- a call failed before it did anything
+pub Runs-stopped : (g : Ground) (log behind : OpenLog) (es es_behind : List Entry) (before : Image) (write : Write) (fault : HostFault) (old new : State) → behind.at ≡ log.at
+    → (Some fault ≡ Some Cut → ⊥) → new ≡ old → IsRunning g log es before old.now.words → Runs g behind es_behind before write (Some fault) old new
+Runs-stopped g log behind es es_behind before write fault old new at uncut same r =
+    Runs-failed g log behind es es_behind before nothing write fault old new at (Runs-still g log es before (Some fault) old new uncut same r)
 
 -- one call and then another: what they write is written in turn
 pub Runs-then : (g : Ground) (log behind : OpenLog) (es es_behind : List Entry) (before : Image) (first later : Write) (fault : Option HostFault) (a b c : State) → behind.at ≡ log.at

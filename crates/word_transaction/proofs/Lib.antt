@@ -3,9 +3,11 @@ pub mod Images
 pub mod Calls
 pub mod Beginning
 pub mod Saving
+pub mod Covered
 pub mod Writing
 pub mod Growing
 pub mod Pending
+pub mod Kept
 pub mod Ended
 pub mod Committed
 pub mod Settled

@@ -11,7 +11,7 @@ use Rattle.pud_defs.specs.Entries.{Entry, Log, log_of}
 use Rattle.pud_defs.specs.Replay.{Place, is_in_range, value_in, given_by, undone, redone, new_value, over, overwritten, replayed}
 use Rattle.pud_defs.proofs.Replay.{undone-first, redone-first, undone-none, redone-none, given_by-out, given_by-other, or_none, new_value-of, overwritten-nothing, overwritten-then}
 use Rattle.log_store.specs.Store.{OpenLog, is_redo, asks, saying, committing}
-use Rattle.word_transaction.specs.Ground.{Ground, undo_entry, redo_entry, IsUndo, IsRedo, IsOwn, asked, written_in_turn, committing_range, pending}
+use Rattle.word_transaction.specs.Ground.{Ground, redo_entry, IsUndo, IsRedo, IsOwn, asked, written_in_turn, committing_range, pending}
 use Rattle.word_transaction.specs.Running.{SettlesTo}
 use Rattle.word_transaction.proofs.Saved.{given_by-range, undone-range}
 
@@ -69,9 +69,9 @@ asks-none (e ∷ es) none = elim (cases_Bool (is_redo e)) [
   | inr other ↦ ap (λ (b : Bool). b || asks es) other ∙ asks-none es (sym (cond-false _ _ _ other) ∙ none)
 ]
 
--- behind an undo entry nothing more is asked for
-pub asked-undo : (es : List Entry) (address : ℕ) (vals : List ℕ) → asked (es ++ undo_entry address vals ∷ []) ≡ asked es
-asked-undo es address vals = filter-append is_redo es (undo_entry address vals ∷ []) ∙ append-nil (asked es)
+-- behind entries that ask for nothing no more is asked for
+pub asked-undo : (es more : List Entry) → asked more ≡ [] → asked (es ++ more) ≡ asked es
+asked-undo es more none = filter-append is_redo es more ∙ ap (λ (l : List Entry). asked es ++ l) none ∙ append-nil (asked es)
 
 -- behind a redo entry that one, last
 pub asked-redo : (es : List Entry) (address : ℕ) (vals : List ℕ) → asked (es ++ redo_entry address vals ∷ []) ≡ asked es ++ redo_entry address vals ∷ []

@@ -1,5 +1,5 @@
 -- What the entries of a transaction give to each word, while its log is running.
-use Rattle.std.proofs.Common.{◌≡◌, ◌⊎◌, inl, inr, ℕ, zero, suc, ◌+◌, ◌-◌, ◌<◌, ◌≤◌, true, false, ◌&&◌, cond, ltb, leb, eqb, List, [], ◌∷◌, ◌++◌, length, get_or, Option, Some, None, refl, sym, ap, ap₂, ◌∙◌, arith}
+use Rattle.std.proofs.Common.{◌≡◌, ◌⊎◌, inl, inr, ℕ, zero, suc, ◌+◌, ◌-◌, ◌≤◌, true, false, ◌&&◌, cond, ltb, leb, eqb, List, [], ◌∷◌, ◌++◌, length, get_or, Option, Some, None, refl, sym, ap, ap₂, ◌∙◌, arith}
 use Rattle.std.specs.Prelude.{All, slice_get}
 use Rattle.std.specs.Option.{option_or}
 use Rattle.std.proofs.lemmas.Bool.{cond-true, cond-false, cases_Bool, le-leb}
@@ -12,7 +12,9 @@ use Rattle.pud_defs.specs.Image.{Image}
 use Rattle.pud_defs.specs.Entries.{Entry, Log, words_from}
 use Rattle.pud_defs.specs.Replay.{Place, is_in_range, value_from, value_in, given_by, undone, redone, new_value}
 use Rattle.pud_defs.proofs.Replay.{undone-first, undone-none, undone-append, redone-first, redone-none, given_by-out, given_by-other, new_value-of, or_none}
-use Rattle.word_transaction.specs.Ground.{Ground, IsGround, IsOwn, undo_entry, redo_entry, running_range, committing_range, saved, pending}
+use Rattle.log_store.specs.Store.{undo_entry}
+use Rattle.word_transaction.specs.Ground.{Ground, IsGround, IsOwn, redo_entry, running_range, committing_range, saved, pending}
+use Rattle.word_transaction.specs.Running.{IsOneOf}
 
 pub some_not_none : (o : Option ℕ) (v : ℕ) → o ≡ Some v → o ≡ None → ⊥
 some_not_none o v is none = absurd (let it : Some v ≡ None = sym is ∙ none in cc)
@@ -53,7 +55,7 @@ new_value-running g place log es k lo hi entries own =
 -- ---- which words are saved
 
 -- what an entry gives it gives to words that it names
-value_of_given : (place : Place) (log : Log) (order : ℕ) (e : Entry) (k v : ℕ) → given_by place log order e k ≡ Some v → value_in place e k ≡ Some v
+pub value_of_given : (place : Place) (log : Log) (order : ℕ) (e : Entry) (k v : ℕ) → given_by place log order e k ≡ Some v → value_in place e k ≡ Some v
 value_of_given place log order e k v is = elim (cases_Bool (is_in_range log e && eqb e.order order)) [
   | inl counts ↦ sym (cond-true _ _ _ counts) ∙ is
   | inr other ↦ absurd (some_not_none _ v is (cond-false _ _ _ other))
@@ -101,11 +103,11 @@ pub saved-append : (place : Place) (es more : List Entry) (k : ℕ) → saved pl
 saved-append place es more k = undone-append place running_range es more k
 
 -- what is not saved by all of them is saved by none
-or_first_none : (a b : Option ℕ) → option_or a b ≡ None → a ≡ None
+pub or_first_none : (a b : Option ℕ) → option_or a b ≡ None → a ≡ None
 or_first_none None b none = refl
 or_first_none (Some x) b none = none
 
-or_second_none : (a b : Option ℕ) → option_or a b ≡ None → b ≡ None
+pub or_second_none : (a b : Option ℕ) → option_or a b ≡ None → b ≡ None
 or_second_none None b none = none
 or_second_none (Some x) b none = absurd (cc)
 
@@ -129,12 +131,13 @@ saved-one place address first k vals is =
 pub saved-redo : (place : Place) (address k : ℕ) (vals : List ℕ) → saved place (redo_entry address vals ∷ []) k ≡ None
 saved-redo place address k vals = undone-first place running_range (redo_entry address vals) [] k ∙ undone-none place running_range k
 
--- so each word of an undo entry is saved
-pub saved_there : (place : Place) (es : List Entry) (address first k : ℕ) (vals : List ℕ) → place address ≡ Some first → first ≤ k → k < first + length vals
-    → saved place (es ++ undo_entry address vals ∷ []) k ≡ None → ⊥
-saved_there place es address first k vals is low high none =
+-- so each of its words is saved
+pub saved_by_one : (place : Place) (address first k : ℕ) (vals : List ℕ) → place address ≡ Some first → IsOneOf first (length vals) k → saved place (undo_entry address vals ∷ []) k ≡ None → ⊥
+saved_by_one place address first k vals is one none =
+    let low = one.0 in
+    let high = one.1 in
     let here : placed first vals k ≡ Some (get_or vals (k - first) 0) = placed_at first (k - first) k vals (omega arith) (omega arith) in
-    some_not_none (placed first vals k) _ here (sym (saved-one place address first k vals is) ∙ saved-none_more place es (undo_entry address vals ∷ []) k none)
+    some_not_none (placed first vals k) _ here (sym (saved-one place address first k vals is) ∙ none)
 
 -- ---- words of an image
 

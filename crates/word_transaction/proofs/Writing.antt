@@ -1,41 +1,22 @@
--- Words of a transaction that are saved, and their values stored.
-use Rattle.std.proofs.Common.{◌≡◌, ◌⊎◌, inl, inr, ℕ, ◌+◌, ◌≤◌, true, List, [], ◌∷◌, ◌++◌, length, Option, Some, None, refl, sym, ◌∙◌, arith}
+-- Values stored in words of a transaction that are saved.
+use Rattle.std.proofs.Common.{◌≡◌, ◌⊎◌, inl, inr, ℕ, true, List, [], Option, Some, None, refl, sym, ◌∙◌, arith}
 use Rattle.pm_model.specs.declared.host.HostFault.{HostFault}
 use Rattle.pm_model.specs.Words.{reads, Picks, HasOnly}
 use Rattle.pm_model.specs.Moments.{State}
-use Rattle.pm_model.specs.Changes.{Write, IsFrom, Writes, placed, written}
+use Rattle.pm_model.specs.Changes.{Write, IsFrom, Writes, written}
 use Rattle.pm_model.proofs.Changes.{Changes-wider, HasOnly-kept}
 use Rattle.pm_model.proofs.Leaves.{Leaves-changes}
-use Rattle.pm_persist.proofs.Ranges.{placed_within}
 use Rattle.pud_defs.specs.Image.{Image}
 use Rattle.pud_defs.specs.Entries.{Entry}
 use Rattle.pud_defs.specs.Replay.{overwritten, IsInLog}
 use Rattle.pud_defs.proofs.Replay.{overwritten-stays, overwritten-there, not_inside}
 use Rattle.log_store.specs.Store.{OpenLog}
 use Rattle.log_store.proofs.Open.{IsOpen-fits, IsOpen-kept, IsOpen-log_by}
-use Rattle.word_transaction.specs.Ground.{Ground, IsGround, undo_entry}
+use Rattle.word_transaction.specs.Ground.{Ground, IsGround}
 use Rattle.word_transaction.specs.Running.{IsRunning, IsCovered, SettlesTo, ByTransaction, Runs}
-use Rattle.word_transaction.proofs.Saved.{some_not_none, saved-none_first, saved_there}
+use Rattle.word_transaction.proofs.Saved.{some_not_none}
 use Rattle.word_transaction.proofs.Images.{SettlesTo-running}
 use Rattle.word_transaction.proofs.Calls.{not_cut, marked_still}
-
--- ---- which words are covered
-
--- words that the last entry saved, or some of them
-pub IsCovered-saved : (size at : ℕ) (g : Ground) (es : List Entry) (address first from : ℕ) (vals stored : List ℕ) → IsGround size at g → g.may address (length vals) ≡ true → g.place address ≡ Some first
-    → first ≤ from → from + length stored ≤ first + length vals → IsCovered g (es ++ undo_entry address vals ∷ []) (placed from stored)
-IsCovered-saved size at g es address first from vals stored ground may place low high =
-    let spans = ground.named address (length vals) may in
-    let here : Some spans.first ≡ Some first = sym spans.placed ∙ place in
-    let same : spans.first ≡ first = cc in
-    record {
-      mine = λ k v is. let within = placed_within from k v stored is in spans.own k (omega arith) (omega arith);
-      kept = λ k v is none. let within = placed_within from k v stored is in saved_there g.place es address first k vals place (omega arith) (omega arith) none;
-    }
-
--- words that were covered, with more entries
-pub IsCovered-more : (g : Ground) (es more : List Entry) (write : Write) → IsCovered g es write → IsCovered g (es ++ more) write
-IsCovered-more g es more write c = record { mine = c.mine; kept = λ k v is none. c.kept k v is (saved-none_first g.place es more k none) }
 
 -- ---- words that are covered are written
 

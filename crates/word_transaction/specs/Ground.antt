@@ -1,7 +1,8 @@
 -- What a transaction on words may name, and which words are its own.
-use Rattle.std.specs.Prelude.{◌≡◌, ◌⊎◌, ℕ, ◌+◌, ◌<◌, ◌≤◌, Bool, true, false, List, [], ◌∷◌, length, Option, Some, None}
+use Rattle.std.specs.Prelude.{◌≡◌, ◌⊎◌, ℕ, ◌+◌, ◌*◌, ◌^◌, ◌<◌, ◌≤◌, Bool, true, false, List, [], ◌∷◌, length, Option, Some, None}
 use Rattle.std.specs.List.{filter}
 use Rattle.pud_defs.specs.declared.log_words.TheConstants.{UNDO_SEQ, UNDO_ORDER, REDO_SEQ, REDO_ORDER, RUNNING_LO, RUNNING_HI, COMMITTING_LO, COMMITTING_HI}
+use Rattle.pud_defs.specs.declared.space.TheConstants.{WORD_BYTES}
 use Rattle.pud_defs.specs.Image.{Image}
 use Rattle.pud_defs.specs.Entries.{Entry, Log}
 use Rattle.pud_defs.specs.Replay.{Place, value_in, undone, redone, overwritten, is_in_log}
@@ -14,11 +15,14 @@ pub record Ground : Type 0 where
   pub may : (address count : ℕ) → Bool
   pub mine : ℕ → Bool
 
--- so many words from that of an address on, one at least, lie in the device, and are the transaction's own
+-- so many words from that of an address on, one at least, lie in the device, each under the address behind the one before it, and are the
+-- transaction's own
 pub record Spans (size : ℕ) (g : Ground) (address count : ℕ) : Type 0 where
   pub some : 1 ≤ count
   pub first : ℕ
   pub placed : g.place address ≡ Some first
+  pub fits : address + WORD_BYTES * count ≤ 2 ^ 64
+  pub each : (i : ℕ) → i < count → g.place (address + WORD_BYTES * i) ≡ Some (first + i)
   pub within : first + count ≤ size
   pub own : (k : ℕ) → first ≤ k → k < first + count → g.mine k ≡ true
 
@@ -28,10 +32,6 @@ pub record IsGround (size at : ℕ) (g : Ground) : Type 0 where
   pub apart : (k : ℕ) → g.mine k ≡ true → is_in_log at k ≡ false
 
 -- ---- entries
-
--- what words held, from that of an address on
-abbrev pub undo_entry : (address : ℕ) → List ℕ → Entry
-undo_entry address vals = record { address = address; seq = UNDO_SEQ; order = UNDO_ORDER; vals = vals }
 
 -- what words are to hold, from that of an address on
 abbrev pub redo_entry : (address : ℕ) → List ℕ → Entry

@@ -1,5 +1,5 @@
 -- When a transaction on words is open, what each call of it does at every moment, and how it ends.
-use Rattle.std.specs.Prelude.{◌≡◌, ◌⊎◌, ℕ, ◌≤◌, true, false, List, [], ◌∷◌, ◌++◌, All, Option, Some, None}
+use Rattle.std.specs.Prelude.{◌≡◌, ◌⊎◌, ℕ, ◌+◌, ◌<◌, ◌≤◌, true, false, List, [], ◌∷◌, ◌++◌, All, Option, Some, None}
 use Rattle.pm_model.specs.declared.host.HostFault.{HostFault}
 use Rattle.pm_model.specs.Words.{Has, Words, reads, Picks, HasOnly}
 use Rattle.pm_model.specs.Moments.{Moment, State}
@@ -14,7 +14,7 @@ use Rattle.pud_defs.specs.Spaces.{is_closed_log}
 use Rattle.pud_defs.specs.Tables.{tables_of}
 use Rattle.pud_defs.specs.Allowed.{puddle_word}
 use Rattle.log_store.specs.Store.{OpenLog, IsOpen}
-use Rattle.word_transaction.specs.Ground.{Ground, IsOwn, saved}
+use Rattle.word_transaction.specs.Ground.{Ground, IsOwn, saved, asked}
 
 -- ---- what is known between calls
 
@@ -34,16 +34,20 @@ pub record IsIdle (g : Ground) (at : ℕ) (before : Image) (words : Words) : Typ
   pub closed : (image : Image) → Picks words image → is_closed_log image at ≡ true
   pub single : (k : ℕ) → g.mine k ≡ true → HasOnly (words k) (before k)
 
--- The entry may be appended: it is one that the transaction may write, and with it a word that is saved is so still with its value from the
+-- The entries may be appended: they are such as the transaction may write, and with them a word that is saved is so still with its value from the
 -- beginning.
-pub record MayAppend (g : Ground) (es : List Entry) (before : Image) (e : Entry) : Type 0 where
-  pub own : IsOwn g e
-  pub saves : (k v : ℕ) → saved g.place (es ++ e ∷ []) k ≡ Some v → v ≡ before k
+pub record MayAppend (g : Ground) (es : List Entry) (before : Image) (more : List Entry) : Type 0 where
+  pub own : All (IsOwn g) more
+  pub saves : (k v : ℕ) → saved g.place (es ++ more) k ≡ Some v → v ≡ before k
 
 -- each word that is written is one of the transaction's own that is saved
 pub record IsCovered (g : Ground) (es : List Entry) (write : Write) : Type 0 where
   pub mine : (k v : ℕ) → write k ≡ Some v → g.mine k ≡ true
   pub kept : (k v : ℕ) → write k ≡ Some v → saved g.place es k ≡ None → ⊥
+
+-- the word is one of so many from a word on
+abbrev pub IsOneOf : (first count k : ℕ) → Type 0
+IsOneOf first count k = (first ≤ k) × (k < first + count)
 
 -- nothing is written
 abbrev pub nothing : Write
@@ -100,6 +104,21 @@ pub record Runs (g : Ground) (log : OpenLog) (es : List Entry) (before : Image) 
   pub moments : Leaves (Silently (SettlesTo g log.at before)) old new
   pub running : fault ≡ None → IsRunning g log es before new.now.words
   pub now : fault ≡ None → (k : ℕ) → is_in_log log.at k ≡ false → reads new.now.words k ≡ overwritten write (reads old.now.words) k
+
+-- A call that keeps words, and writes none: whatever entries there are behind it, they ask for what was asked for, what was saved is so still, and
+-- without a fault these words are saved.
+pub record Keeps (g : Ground) (log : OpenLog) (es : List Entry) (before : Image) (which : ℕ → Type 0) (fault : Option HostFault) (old new : State) : Type 0 where
+  pub entries : List Entry
+  pub runs : Runs g log entries before nothing fault old new
+  pub asks : asked entries ≡ asked es
+  pub still : (k : ℕ) → saved g.place entries k ≡ None → saved g.place es k ≡ None
+  pub kept : fault ≡ None → (k : ℕ) → which k → saved g.place entries k ≡ None → ⊥
+
+-- A call that keeps words, and then writes these: whatever entries there are behind it, they ask for what was asked for.
+pub record Puts (g : Ground) (log : OpenLog) (es : List Entry) (before : Image) (write : Write) (fault : Option HostFault) (old new : State) : Type 0 where
+  pub entries : List Entry
+  pub runs : Runs g log entries before write fault old new
+  pub asks : asked entries ≡ asked es
 
 -- The transaction is undone and its log closed: each image left meanwhile settles to these values. Without a fault each own word has its value
 -- and no other, and the log is closed.

@@ -1,7 +1,9 @@
 //! Transactions on words: what they held is kept in a log before they are written, and undone from it unless it is committed.
 #![tactic(auto)]
 
+mod covering;
 mod ending;
+mod keeping;
 pub mod laws;
 mod running;
 

@@ -1,4 +1,4 @@
-//! How a transaction begins, and what is saved, written and asked for within it.
+//! How a transaction begins, what is written and asked for within it, and entries appended to its log.
 #![tactic(auto)]
 
 ghost use Rattle.std.specs.Prelude.{◌≡◌, ◌+◌, ◌<◌, ◌≤◌, ◌^◌, ◌++◌, ◌∷◌, [], ℕ, List, true, Option, IfOk, OnErr, length};
@@ -8,17 +8,16 @@ ghost use Rattle.pm_model.specs.Changes.{only, placed, Changes, Persists, Writes
 ghost use Rattle.pud_defs.specs.declared.layout.TheConstants.{LOG_WORDS, LOG_ENTRY_WORDS, ENTRY_HEADER_WORDS, MAX_ENTRY_VALUES};
 ghost use Rattle.pud_defs.specs.declared.log_words.TheConstants.{RUNNING_GATE, REDO_ORDER};
 ghost use Rattle.pud_defs.specs.Image.{Image};
-ghost use Rattle.pud_defs.specs.Entries.{Entry, words_from};
-ghost use Rattle.log_store.specs.Store.{InLog, longer, asking, with_entry};
-ghost use Rattle.word_transaction.specs.Ground.{Ground, IsGround, undo_entry, redo_entry};
+ghost use Rattle.pud_defs.specs.Entries.{Entry};
+ghost use Rattle.log_store.specs.Store.{InLog, undo_entry, longer, asking, with_entry};
+ghost use Rattle.word_transaction.specs.Ground.{Ground, IsGround, redo_entry};
 ghost use Rattle.word_transaction.specs.Running.{IsRunning, IsIdle, MayAppend, IsCovered, nothing, begun, Runs};
 
 use crate::WordTransaction;
-use log_entry::read_values;
 use log_store::{AppendFault, Log};
 use pm_model::{Host, HostFault};
 use pm_persist::write_range;
-use pud_defs::log_words::{REDO_ORDER, REDO_SEQ, UNDO_ORDER, UNDO_SEQ};
+use pud_defs::log_words::{REDO_ORDER, REDO_SEQ};
 
 impl WordTransaction {
     /// Begins a transaction whose log's gate is word `at`: at `Ok` that log is running, durably, with no entry.
@@ -39,7 +38,7 @@ impl WordTransaction {
     }
 
     /// Appends an entry to the log, which has room for it.
-    fn append<H: Host>(
+    pub(crate) fn append<H: Host>(
         &mut self,
         h: &mut H,
         address: u64,
@@ -57,7 +56,7 @@ impl WordTransaction {
         ensures failed { OnErr result (self.new ≡ self.old) }
         ensures changes { H.tells → Changes (InLog self.old.at) (fault_of result) (H.state h.old) (H.state h.new) }
         ensures runs { H.tells → (size : ℕ) → size ≡ (H.counts h.old).size → (g : Ground) → (es : List Entry) → (before : Image) → IsGround size self.old.at g
-            → IsRunning g self.old es before (H.state h.old).now.words → MayAppend g es before (record { address = address; seq = seq; order = order; vals = vals.now })
+            → IsRunning g self.old es before (H.state h.old).now.words → MayAppend g es before (record { address = address; seq = seq; order = order; vals = vals.now } ∷ [])
             → Runs g (with_entry (record { address = address; seq = seq; order = order; vals = vals.now }) self.old) (es ++ record { address = address; seq = seq; order = order; vals = vals.now } ∷ []) before nothing
             (fault_of result) (H.state h.old) (H.state h.new) }
         ensures cause { H.counts h.new ≡ after_fault (fault_of result) (H.counts h.old) }
@@ -69,34 +68,33 @@ impl WordTransaction {
         }
     }
 
-    /// Keeps in the log what `count` words from device word `first` on hold, from 1 to 32, as those of `address`.
-    ///
-    /// The log and the words lie in the device, and the log has room for the words and two more. At `Ok` each image left has
-    /// the words with the log replayed as they were when the transaction began, whatever is then written to them; before it,
-    /// each image has them so too. After an error `self` is as it was; the only errors are the host's own. Two fences.
-    pub fn save<H: Host>(
+    /// Appends two undo entries under one gate, for which the log has room: what the words from that of `address` on held, and
+    /// what the one of `address2` held.
+    pub(crate) fn append_two<H: Host>(
         &mut self,
         h: &mut H,
         address: u64,
-        first: u32,
-        count: u32,
+        vals: &[u64],
+        address2: u64,
+        word: u64,
     ) -> Result<(), HostFault>
         requires place { self.old.at + LOG_WORDS ≤ (H.counts h.old).size }
-        requires some { 1 ≤ count }
-        requires no_more { count ≤ MAX_ENTRY_VALUES }
-        requires within { first + count ≤ (H.counts h.old).size }
-        requires room { self.old.used + (count + ENTRY_HEADER_WORDS) ≤ LOG_ENTRY_WORDS }
-        ensures saved { IfOk result (λ _. self.new ≡ longer (count + ENTRY_HEADER_WORDS) self.old) }
+        requires some { 1 ≤ length vals.now }
+        requires no_more { length vals.now ≤ MAX_ENTRY_VALUES }
+        requires room { self.old.used + (length vals.now + 5) ≤ LOG_ENTRY_WORDS }
+        ensures appended { IfOk result (λ _. self.new ≡ longer (length vals.now + 5) self.old) }
         ensures failed { OnErr result (self.new ≡ self.old) }
         ensures changes { H.tells → Changes (InLog self.old.at) (fault_of result) (H.state h.old) (H.state h.new) }
         ensures runs { H.tells → (size : ℕ) → size ≡ (H.counts h.old).size → (g : Ground) → (es : List Entry) → (before : Image) → IsGround size self.old.at g
-            → g.may address count ≡ true → g.place address ≡ Option.Some first → IsRunning g self.old es before (H.state h.old).now.words
-            → Runs g (longer (count + ENTRY_HEADER_WORDS) self.old) (es ++ undo_entry address (words_from (reads (H.state h.old).now.words) first count) ∷ []) before nothing
-            (fault_of result) (H.state h.old) (H.state h.new) }
+            → IsRunning g self.old es before (H.state h.old).now.words → MayAppend g es before (undo_entry address vals.now ∷ undo_entry address2 (word ∷ []) ∷ [])
+            → Runs g (longer (length vals.now + 5) self.old) (es ++ undo_entry address vals.now ∷ undo_entry address2 (word ∷ []) ∷ []) before nothing (fault_of result) (H.state h.old) (H.state h.new) }
         ensures cause { H.counts h.new ≡ after_fault (fault_of result) (H.counts h.old) }
     {
-        let values = read_values(h, first, count)?;
-        self.append(h, address, UNDO_SEQ, UNDO_ORDER, &values[..count as usize])
+        match self.log.append_two(h, address, vals, address2, word) {
+            Ok(()) => Ok(()),
+            Err(AppendFault::Host(fault)) => Err(fault),
+            Err(AppendFault::TooBig) => unreachable!(),
+        }
     }
 
     /// Asks for these values, 1 to 32, in the words from that of `address` on: they come when the transaction is committed.
@@ -141,13 +139,5 @@ impl WordTransaction {
         ensures { result ≡ self.now.at }
     {
         self.log.at()
-    }
-
-    /// How many entry words of its log count, from 0 to 1,016.
-    pub fn units(&self) -> u32
-        ensures used { result ≡ self.now.used }
-        ensures within { result ≤ LOG_ENTRY_WORDS }
-    {
-        self.log.used()
     }
 }

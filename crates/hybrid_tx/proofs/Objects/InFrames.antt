@@ -1,7 +1,6 @@
--- Words of a frame are saved and written, or asked for, by the puddle's ordinal.
-use Rattle.std.proofs.Common.{◌≡◌, inl, inr, ℕ, ◌+◌, ◌*◌, ◌%◌, ◌^◌, ◌<◌, ◌≤◌, true, List, [], ◌∷◌, ◌++◌, length, Option, Some, None, Result, Ok, Err, IfOk, refl, sym, ap, ap₂, subst, ◌∙◌, arith}
+-- Words of frames are kept and written, or asked for, by the puddles' ordinals.
+use Rattle.std.proofs.Common.{◌≡◌, inl, inr, ℕ, ◌+◌, ◌*◌, ◌%◌, ◌^◌, ◌<◌, ◌≤◌, true, List, [], ◌∷◌, ◌++◌, length, Option, Some, None, Result, Ok, Err, IfOk, sym, ap, ap₂, subst, ◌∙◌, arith}
 use Rattle.std.specs.Prelude.{slice_get}
-use Rattle.std.proofs.lemmas.Bool.{and_parts, ltb-true}
 use Rattle.pm_model.specs.declared.host.HostFault.{HostFault}
 use Rattle.pm_model.specs.Counts.{fault_of}
 use Rattle.pm_model.specs.Moments.{State}
@@ -14,58 +13,63 @@ use Rattle.pud_defs.specs.declared.records.Puddle.{Puddle}
 use Rattle.pud_defs.specs.Layout.{device_words, frames_at}
 use Rattle.pud_defs.specs.Image.{Image}
 use Rattle.pud_defs.specs.Bases.{is_legal_base}
+use Rattle.pud_defs.specs.Geometry.{steps_of}
 use Rattle.pud_defs.specs.Frames.{frame_at}
 use Rattle.pud_defs.specs.Entries.{Entry}
 use Rattle.pud_defs.specs.Replay.{over}
 use Rattle.log_store.specs.Store.{OpenLog, asking}
-use Rattle.word_transaction.specs.Ground.{IsGround, undo_entry, redo_entry}
-use Rattle.word_transaction.specs.Running.{IsRunning, ByTransaction, nothing, Runs}
-use Rattle.word_transaction.proofs.Calls.{Runs-failed, Runs-then}
-use Rattle.word_transaction.proofs.Pending.{asked-undo, asked-redo}
-use Rattle.hybrid_tx.specs.Grounds.{pool_place, pool_may, pool_ground, IsPlaced}
-use Rattle.hybrid_tx.specs.Objects.Stores.{ByPut}
+use Rattle.word_transaction.specs.Ground.{Ground, IsGround, redo_entry}
+use Rattle.word_transaction.specs.Running.{IsRunning, ByTransaction, nothing, Runs, Puts}
+use Rattle.word_transaction.proofs.Calls.{Runs-failed}
+use Rattle.word_transaction.proofs.Pending.{asked-redo}
+use Rattle.hybrid_tx.specs.Grounds.{pool_place, pool_may, pool_mine, pool_ground, finished_of, IsPlaced}
+use Rattle.hybrid_tx.specs.Objects.Stores.{ByPut, ByPutBoth}
 use Rattle.hybrid_tx.specs.Objects.Transactions.{IsSaving, Saves}
-use Rattle.hybrid_tx.proofs.PoolGrounds.{all_there, pool_mine-from, is_ground, place_of_word, may_name_words}
+use Rattle.hybrid_tx.proofs.PoolGrounds.{all_there, base_below, pool_mine-from, is_ground, place_of_word, may_name_words}
 
 -- ---- on any content
 
--- what is written in a frame of the pool are words of its own
+-- what is placed in a frame of the pool are words of its own
+placed_in_frame : (F : ℕ) (at : List (ℕ × Puddle)) (o word : ℕ) (e : ℕ × Puddle) (vals : List ℕ) (k v : ℕ) → slice_get at o ≡ Some e → word + length vals ≤ FRAME_WORDS → placed (frame_at F e.0 + word) vals k ≡ Some v
+    → pool_mine F at k ≡ true
+placed_in_frame F at o word e vals k v there few is =
+    let within = placed_within (frame_at F e.0 + word) k v vals is in
+    pool_mine-from F at k (record { ordinal = o; puddle = e; there = there; low = omega arith; high = omega arith })
+
 pub ByPut-in_frame : (F : ℕ) (at : List (ℕ × Puddle)) (o word log : ℕ) (e : ℕ × Puddle) (vals : List ℕ) (fault : Option HostFault) (old new : State) → slice_get at o ≡ Some e → word + length vals ≤ FRAME_WORDS
     → Changes (ByPut log (frame_at F e.0 + word) vals) fault old new → Changes (ByTransaction (pool_ground F at) log) fault old new
 ByPut-in_frame F at o word log e vals fault old new there few c =
     Changes-wider (ByPut log (frame_at F e.0 + word) vals) (ByTransaction (pool_ground F at) log) fault old new
+    (λ k v may. elim may [ inl inside ↦ inl inside | inr is ↦ inr (placed_in_frame F at o word e vals k v there few is) ]) c
+
+pub ByPutBoth-in_frames : (F : ℕ) (at : List (ℕ × Puddle)) (log : ℕ) (o word : ℕ) (e : ℕ × Puddle) (vals : List ℕ) (p other : ℕ) (d : ℕ × Puddle) (value : ℕ) (fault : Option HostFault) (old new : State)
+    → slice_get at o ≡ Some e → word + length vals ≤ FRAME_WORDS → slice_get at p ≡ Some d → other < FRAME_WORDS
+    → Changes (ByPutBoth log (frame_at F e.0 + word) vals (frame_at F d.0 + other) value) fault old new → Changes (ByTransaction (pool_ground F at) log) fault old new
+ByPutBoth-in_frames F at log o word e vals p other d value fault old new there few also below c =
+    Changes-wider (ByPutBoth log (frame_at F e.0 + word) vals (frame_at F d.0 + other) value) (ByTransaction (pool_ground F at) log) fault old new
     (λ k v may. elim may [
       | inl inside ↦ inl inside
-      | inr is ↦
-          let within = placed_within (frame_at F e.0 + word) k v vals is in
-          inr (pool_mine-from F at k (record { ordinal = o; puddle = e; there = there; low = omega arith; high = omega arith }))
+      | inr is ↦ inr (elim is [
+        | inl one ↦ placed_in_frame F at o word e vals k v there few one
+        | inr two ↦ placed_in_frame F at p other d (value ∷ []) k v also (omega arith) two
+      ])
     ]) c
 
 -- ---- addresses
 
-below_end : (base word : ℕ) → base < SPACE_START + SPACE_BYTES → word < FRAME_WORDS → (base + WORD_BYTES * word) % 2 ^ 64 ≡ base + WORD_BYTES * word
-below_end base word low below = omega arith
-
 -- the range of a puddle of the space does not reach the end of the numbers of 64 bits
 pub no_wrap : (base word : ℕ) → is_legal_base base ≡ true → word < FRAME_WORDS → (base + WORD_BYTES * word) % 2 ^ 64 ≡ base + WORD_BYTES * word
 no_wrap base word legal below =
-    let parts = and_parts _ _ legal in
-    let ends = and_parts _ _ parts.0 in
-    below_end base word (ltb-true base (SPACE_START + SPACE_BYTES) ends.1) below
+    let low : base < SPACE_START + SPACE_BYTES = base_below base legal in
+    omega arith
 
 -- ---- calls in turn
 
-module _ (F : ℕ) (at : List (ℕ × Puddle)) (log behind : OpenLog) (before : Image) (redo : List Entry) (same : behind.at ≡ log.at) where
-  -- what failed did not do what was to come behind it
-  pub Saves-failed : (write later : Write) (fault : HostFault) (old new : State) → Saves F at log before redo write (Some fault) old new → Saves F at behind before redo later (Some fault) old new
-  Saves-failed write later fault old new s =
-      record { es = s.es; runs = Runs-failed (pool_ground F at) log behind s.es s.es before write later fault old new same s.runs; asks = s.asks }
-
-  -- one call and then another
-  pub Saves-then : (more : List Entry) (first later : Write) (fault : Option HostFault) (a b c : State) → Saves F at log before redo first None a b → Saves F at behind before more later fault b c
-      → Saves F at behind before more (over first later) fault a c
-  Saves-then more first later fault a b c p q =
-      record { es = q.es; runs = Runs-then (pool_ground F at) log behind p.es q.es before first later fault a b c same p.runs q.runs; asks = q.asks }
+-- what failed did not do what was to come behind it
+pub Saves-failed : (F : ℕ) (at : List (ℕ × Puddle)) (log behind : OpenLog) (before : Image) (redo : List Entry) (same : behind.at ≡ log.at) (write later : Write) (fault : HostFault) (old new : State)
+    → Saves F at log before redo write (Some fault) old new → Saves F at behind before redo later (Some fault) old new
+Saves-failed F at log behind before redo same write later fault old new s =
+    record { es = s.es; runs = Runs-failed (pool_ground F at) log behind s.es s.es before write later fault old new same s.runs; asks = s.asks }
 
 -- the log behind a call, which at Ok is this
 pub Saves-behind : (F : ℕ) (at : List (ℕ × Puddle)) (long now : OpenLog) (before : Image) (redo : List Entry) (write : Write) (result : Result (Unit {0}) HostFault) (old new : State) → now.at ≡ long.at
@@ -73,29 +77,64 @@ pub Saves-behind : (F : ℕ) (at : List (ℕ × Puddle)) (long now : OpenLog) (b
 Saves-behind F at long now before redo write (Ok done) old new same is s = subst (λ (l : OpenLog). Saves F at l before redo write None old new) (sym is) s
 Saves-behind F at long now before redo write (Err fault) old new same is s = Saves-failed F at long now before redo same write write fault old new s
 
-pub Saves-saving : (F : ℕ) (at : List (ℕ × Puddle)) (log : OpenLog) (before : Image) (redo : List Entry) (write : Write) (old new : State) → Saves F at log before redo write None old new
-    → IsSaving F at log before redo new.now.words
-Saves-saving F at log before redo write old new s = record { es = s.es; running = s.runs.running refl; asks = s.asks }
+-- ---- the words of frames
 
--- ---- the words of a frame
+-- so many words of a frame are named by the address of the first
+module _ (F : ℕ) (at : List (ℕ × Puddle)) (is_placed : IsPlaced F at) (o word : ℕ) (e : ℕ × Puddle) (count address : ℕ) (there : slice_get at o ≡ Some e) (some : 1 ≤ count) (few : word + count ≤ FRAME_WORDS)
+    (is_address : address ≡ (e.1.base + WORD_BYTES * word) % 2 ^ 64) where
+  named : address ≡ e.1.base + WORD_BYTES * word
+  named = is_address ∙ no_wrap e.1.base word (all_there (λ d. is_legal_base d.1.base ≡ true) at o e is_placed.legal there) (omega arith)
 
-module _ (F size : ℕ) (at : List (ℕ × Puddle)) (o word : ℕ) (e : ℕ × Puddle) (log long : OpenLog) (before : Image) (redo : List Entry) (address first : ℕ) (vals held : List ℕ) (fault : Option HostFault) (old new : State) where
-  pub Saves-put : IsPlaced F at → device_words F ≤ size → log.at + LOG_WORDS ≤ frames_at F → slice_get at o ≡ Some e → 1 ≤ length vals → word + length vals ≤ FRAME_WORDS
-      → address ≡ (e.1.base + WORD_BYTES * word) % 2 ^ 64 → first ≡ frame_at F e.0 + word → IsSaving F at log before redo old.now.words
-      → ((es : List Entry) → IsGround size log.at (pool_ground F at) → pool_may at address (length vals) ≡ true → pool_place F at address ≡ Some first
-      → IsRunning (pool_ground F at) log es before old.now.words → Runs (pool_ground F at) long (es ++ undo_entry address held ∷ []) before (placed first vals) fault old new)
-      → Saves F at long before redo (placed (frame_at F e.0 + word) vals) fault old new
-  Saves-put is_placed device apart there some few is_address is_first s runs =
-      let legal = all_there (λ d. is_legal_base d.1.base ≡ true) at o e is_placed.legal there in
-      let named : address ≡ e.1.base + WORD_BYTES * word = is_address ∙ no_wrap e.1.base word legal (omega arith) in
-      let may = ap (λ a. pool_may at a (length vals)) named ∙ may_name_words F at is_placed o word e there (length vals) some few in
-      let place = ap (pool_place F at) named ∙ place_of_word F at is_placed o word e there (omega arith) ∙ ap (λ k. Some k) (sym is_first) in
-      record {
-        es = s.es ++ undo_entry address held ∷ [];
-        runs = subst (λ k. Runs (pool_ground F at) long (s.es ++ undo_entry address held ∷ []) before (placed k vals) fault old new) is_first
-            (runs s.es (is_ground F size log.at at is_placed device apart) may place s.running);
-        asks = asked-undo s.es address held ∙ s.asks;
-      }
+  may_name : pool_may at address count ≡ true
+  may_name = ap (λ a. pool_may at a count) named ∙ may_name_words F at is_placed o word e there count some few
+
+  place_named : pool_place F at address ≡ Some (frame_at F e.0 + word)
+  place_named = ap (pool_place F at) named ∙ place_of_word F at is_placed o word e there (omega arith)
+
+module _ (F size : ℕ) (at : List (ℕ × Puddle)) (log now : OpenLog) (before : Image) (redo : List Entry) (fault : Option HostFault) (old new : State)
+    (is_placed : IsPlaced F at) (device : device_words F ≤ size) (apart : log.at + LOG_WORDS ≤ frames_at F) (s : IsSaving F at log before redo old.now.words) where
+  abbrev g : Ground
+  g = pool_ground F at
+
+  Saves-puts : (write : Write) → Puts g now s.es before write fault old new → Saves F at now before redo write fault old new
+  Saves-puts write puts = record { es = puts.entries; runs = puts.runs; asks = puts.asks ∙ s.asks }
+
+  -- of one frame
+  pub Saves-put : (o word : ℕ) (e : ℕ × Puddle) (address first : ℕ) (vals : List ℕ) → slice_get at o ≡ Some e → 1 ≤ length vals → word + length vals ≤ FRAME_WORDS
+      → address ≡ (e.1.base + WORD_BYTES * word) % 2 ^ 64 → first ≡ frame_at F e.0 + word
+      → ((es : List Entry) → IsGround size log.at g → g.may address (length vals) ≡ true → g.place address ≡ Some first → IsRunning g log es before old.now.words
+      → Puts g now es before (placed first vals) fault old new)
+      → Saves F at now before redo (placed (frame_at F e.0 + word) vals) fault old new
+  Saves-put o word e address first vals there some few is_address is_first puts =
+      Saves-puts (placed (frame_at F e.0 + word) vals)
+      (subst (λ (k : ℕ). Puts g now s.es before (placed k vals) fault old new) is_first
+      (puts s.es (is_ground F size log.at at is_placed device apart) (may_name F at is_placed o word e (length vals) address there some few is_address)
+      (place_named F at is_placed o word e (length vals) address there some few is_address ∙ ap (λ k. Some k) (sym is_first)) s.running))
+
+  -- and one word of another
+  pub Saves-put_both : (o word : ℕ) (e : ℕ × Puddle) (address first : ℕ) (vals : List ℕ) (p other : ℕ) (d : ℕ × Puddle) (address2 second value : ℕ)
+      → slice_get at o ≡ Some e → 1 ≤ length vals → word + length vals ≤ FRAME_WORDS → address ≡ (e.1.base + WORD_BYTES * word) % 2 ^ 64 → first ≡ frame_at F e.0 + word
+      → slice_get at p ≡ Some d → other < FRAME_WORDS → address2 ≡ (d.1.base + WORD_BYTES * other) % 2 ^ 64 → second ≡ frame_at F d.0 + other
+      → ((es : List Entry) → IsGround size log.at g → g.may address (length vals) ≡ true → g.place address ≡ Some first → g.may address2 1 ≡ true → g.place address2 ≡ Some second
+      → IsRunning g log es before old.now.words → Puts g now es before (over (placed first vals) (placed second (value ∷ []))) fault old new)
+      → Saves F at now before redo (over (placed (frame_at F e.0 + word) vals) (placed (frame_at F d.0 + other) (value ∷ []))) fault old new
+  Saves-put_both o word e address first vals p other d address2 second value there some few is_address is_first also below is_other is_second puts =
+      let one : 1 ≤ 1 = omega arith in
+      let single : other + 1 ≤ FRAME_WORDS = omega arith in
+      Saves-puts (over (placed (frame_at F e.0 + word) vals) (placed (frame_at F d.0 + other) (value ∷ [])))
+      (subst (λ (k : ℕ). Puts g now s.es before (over (placed k vals) (placed (frame_at F d.0 + other) (value ∷ []))) fault old new) is_first
+      (subst (λ (k : ℕ). Puts g now s.es before (over (placed first vals) (placed k (value ∷ []))) fault old new) is_second
+      (puts s.es (is_ground F size log.at at is_placed device apart)
+      (may_name F at is_placed o word e (length vals) address there some few is_address)
+      (place_named F at is_placed o word e (length vals) address there some few is_address ∙ ap (λ k. Some k) (sym is_first))
+      (may_name F at is_placed p other d 1 address2 also one single is_other)
+      (place_named F at is_placed p other d 1 address2 also one single is_other ∙ ap (λ k. Some k) (sym is_second)) s.running)))
+
+-- words that are saved and written from a word of the frame of an ordinal on
+abbrev pub PutsAt : (F : ℕ) (at : List (ℕ × Puddle)) (o word : ℕ) (vals : List ℕ) (log behind : OpenLog) (fault : Option HostFault) (old new : State) → Type 0
+PutsAt F at o word vals log behind fault old new =
+    (e : ℕ × Puddle) → slice_get at o ≡ Some e → e.1.frontier ≡ steps_of e.1 → (b : Image) (redo : List Entry) → IsSaving F (finished_of at) log b redo old.now.words
+    → Saves F (finished_of at) behind b redo (placed (frame_at F e.0 + word) vals) fault old new
 
 -- ---- a value asked for in a frame
 
@@ -107,11 +146,11 @@ pub Saves-asked : (F size : ℕ) (at : List (ℕ × Puddle)) (word : ℕ) (e : �
     → Runs (pool_ground F at) (asking SET_UNITS log) (es ++ redo_entry address (value ∷ []) ∷ []) before nothing (fault_of result) old new)
     → Saves F at now before (redo ++ redo_entry (e.1.base + WORD_BYTES * word) (value ∷ []) ∷ []) nothing (fault_of result) old new
 Saves-asked F size at word e o log now before redo address value result old new is_placed device apart there below is_address s same is runs =
-    let legal = all_there (λ d. is_legal_base d.1.base ≡ true) at o e is_placed.legal there in
-    let named : address ≡ e.1.base + WORD_BYTES * word = is_address ∙ no_wrap e.1.base word legal below in
-    let may = ap (λ a. pool_may at a 1) named ∙ may_name_words F at is_placed o word e there 1 (omega arith) (omega arith) in
+    let one : 1 ≤ 1 = omega arith in
+    let single : word + 1 ≤ FRAME_WORDS = omega arith in
     Saves-behind F at (asking SET_UNITS log) now before (redo ++ redo_entry (e.1.base + WORD_BYTES * word) (value ∷ []) ∷ []) nothing result old new same is (record {
       es = s.es ++ redo_entry address (value ∷ []) ∷ [];
-      runs = runs s.es (is_ground F size log.at at is_placed device apart) may s.running;
-      asks = asked-redo s.es address (value ∷ []) ∙ ap₂ (λ (es : List Entry) (a : ℕ). es ++ redo_entry a (value ∷ []) ∷ []) s.asks named;
+      runs = runs s.es (is_ground F size log.at at is_placed device apart) (may_name F at is_placed o word e 1 address there one single is_address) s.running;
+      asks = asked-redo s.es address (value ∷ [])
+          ∙ ap₂ (λ (es : List Entry) (a : ℕ). es ++ redo_entry a (value ∷ []) ∷ []) s.asks (named F at is_placed o word e 1 address there one single is_address);
     })

@@ -21,7 +21,7 @@ use Rattle.hybrid_tx.specs.Grounds.{IsPlaced, IsRewrittenAt}
 use Rattle.hybrid_tx.specs.Objects.Stores.{word_for}
 use Rattle.hybrid_tx.specs.Objects.Transactions.{IsOpenOn, RunsOn}
 use Rattle.hybrid_tx.proofs.Objects.RootsSet.{root_set}
-use Rattle.hybrid_tx.proofs.Objects.ObjectPut.{PutsAt}
+use Rattle.hybrid_tx.proofs.Objects.InFrames.{PutsAt}
 use Rattle.hybrid_tx.proofs.Objects.LatersKept.{AreLaters-kept}
 use Rattle.hybrid_tx.proofs.Objects.LatersBehind.{KeepsObjects-root, KeepsPlaces-root}
 use Rattle.hybrid_tx.proofs.Objects.Opening.{RunsOn-write}

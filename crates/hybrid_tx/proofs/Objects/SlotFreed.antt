@@ -1,34 +1,35 @@
--- A slot is freed within a transaction: its serial is saved, and then cleared.
-use Rattle.std.proofs.Common.{◌≡◌, ℕ, ◌+◌, ◌*◌, ◌%◌, ◌^◌, ◌≤◌, true, false, List, [], ◌∷◌, ◌++◌, Option, Some, None, refl, sym, ap, subst, ◌∙◌, arith}
+-- A slot is freed within a transaction: its serial is kept, and then cleared.
+use Rattle.std.proofs.Common.{◌≡◌, ℕ, ◌+◌, ◌*◌, ◌%◌, ◌^◌, ◌≤◌, true, false, List, [], ◌∷◌, Option, Some, None, refl, sym, ap, subst, ◌∙◌, arith}
 use Rattle.pm_model.specs.declared.host.HostFault.{HostFault}
 use Rattle.pm_model.specs.Words.{reads}
 use Rattle.pm_model.specs.Moments.{State}
 use Rattle.pm_model.specs.Changes.{Write, Changes, Writes, only, placed}
-use Rattle.pud_defs.specs.declared.layout.TheConstants.{LOG_WORDS, FRAME_WORDS, SET_UNITS}
+use Rattle.pud_defs.specs.declared.layout.TheConstants.{LOG_WORDS, FRAME_WORDS}
 use Rattle.pud_defs.specs.declared.space.TheConstants.{SLOT_SERIAL_WORD, WORD_BYTES}
 use Rattle.pud_defs.specs.declared.records.Puddle.{Puddle}
 use Rattle.pud_defs.specs.declared.records.Slot.{Slot}
 use Rattle.pud_defs.specs.Layout.{device_words, frames_at}
 use Rattle.pud_defs.specs.Geometry.{slot_begins}
 use Rattle.pud_defs.specs.Image.{Image}
-use Rattle.pud_defs.specs.Entries.{Entry, words_from}
+use Rattle.pud_defs.specs.Entries.{Entry}
 use Rattle.pud_defs.specs.Graph.{Graph}
 use Rattle.pud_defs.specs.GraphChanges.{without_object}
 use Rattle.pud_defs.specs.Laters.{Later, laters_name}
 use Rattle.puddle_header.specs.Places.{place_of_slot, IsSlotOf}
 use Rattle.graph_read.specs.Reading.{place_in_pool}
-use Rattle.log_store.specs.Store.{OpenLog, InLog, longer}
+use Rattle.log_store.specs.Store.{OpenLog, InLog}
 use Rattle.object_alloc.specs.Alloc.{serial_word_at}
 use Rattle.object_alloc.proofs.Freed.{placed-single}
-use Rattle.word_transaction.specs.Ground.{IsGround, undo_entry}
-use Rattle.word_transaction.specs.Running.{IsRunning, ByTransaction, nothing, Runs}
+use Rattle.word_transaction.specs.Ground.{Ground, IsGround}
+use Rattle.word_transaction.specs.Running.{IsRunning, IsOneOf, ByTransaction, Keeps, Puts}
 use Rattle.word_transaction.proofs.Writing.{Runs-written}
-use Rattle.hybrid_tx.specs.Grounds.{pool_place, pool_may, pool_ground, finished_of, IsPlaced, IsRewrittenAt}
+use Rattle.word_transaction.proofs.Kept.{WritesKept-placed, Puts-unkept, Puts-written}
+use Rattle.hybrid_tx.specs.Grounds.{pool_ground, finished_of, IsPlaced, IsRewrittenAt}
 use Rattle.hybrid_tx.proofs.FinishedPuddles.{finished_placed, finished_there}
 use Rattle.hybrid_tx.specs.Objects.Stores.{address_at}
 use Rattle.hybrid_tx.specs.Objects.Transactions.{MayFree, IsSaving, IsOpenOn, Saves, RunsOn}
-use Rattle.hybrid_tx.proofs.Objects.Putting.{Runs-unput, Runs-put, ByPut-written}
-use Rattle.hybrid_tx.proofs.Objects.InFrames.{ByPut-in_frame, Saves-put, Saves-failed}
+use Rattle.hybrid_tx.proofs.Objects.Putting.{ByPut-written}
+use Rattle.hybrid_tx.proofs.Objects.InFrames.{ByPut-in_frame, Saves-put}
 use Rattle.hybrid_tx.proofs.Objects.FieldPut.{slot_address-read}
 use Rattle.hybrid_tx.proofs.Objects.ObjectsFreed.{free_stored}
 use Rattle.hybrid_tx.proofs.Objects.LatersSpared.{AreLaters-freed}
@@ -51,44 +52,41 @@ module _ (F : ℕ) (at : List (ℕ × Puddle)) (slot : Slot) (of : IsSlotOf at s
       ByPut-in_frame F at slot.ordinal (slot_begins slot + SLOT_SERIAL_WORD) log (slot.frame, of.puddle) (0 ∷ []) fault a c of.there (in_frame at slot of)
       (ByPut-written log (serial_word_at F slot) (0 ∷ []) fault a b c p (cleared F slot (serial_word_at F slot) fault b c refl q))
 
--- ---- saved and cleared
+-- ---- kept and cleared
 
-module _ (F size : ℕ) (at : List (ℕ × Puddle)) (slot : Slot) (of : IsSlotOf at slot) (log : OpenLog) (before : Image) (redo : List Entry) (address first : ℕ) (a : State)
+module _ (F size : ℕ) (at : List (ℕ × Puddle)) (slot : Slot) (of : IsSlotOf at slot) (log now : OpenLog) (before : Image) (redo : List Entry) (address first : ℕ) (a : State)
     (is_placed : IsPlaced F at) (device : device_words F ≤ size) (apart : log.at + LOG_WORDS ≤ frames_at F) (is_address : address ≡ address_at at (place_of_slot slot)) (is_first : first ≡ serial_word_at F slot)
-    (rewritten : IsRewrittenAt at slot.ordinal) (saving : IsSaving F (finished_of at) log before redo a.now.words) where
-  abbrev long : OpenLog
-  long = longer SET_UNITS log
+    (rewritten : IsRewrittenAt at slot.ordinal) (saving : IsSaving F (finished_of at) log before redo a.now.words) (same : now.at ≡ log.at) where
+  abbrev g : Ground
+  g = pool_ground F (finished_of at)
 
-  abbrev held : List ℕ
-  held = words_from (reads a.now.words) first 1
+  -- the word of the serial is kept
+  abbrev IsKept : (fault : Option HostFault) (b : State) → Type 0
+  IsKept fault b =
+      (es : List Entry) → IsGround size log.at g → g.may address 1 ≡ true → g.place address ≡ Some first → IsRunning g log es before a.now.words → Keeps g now es before (IsOneOf first 1) fault a b
 
-  -- what comes of the word of the serial
-  abbrev IsRun : (write : Write) (fault : Option HostFault) (c : State) → Type 0
-  IsRun write fault c =
-      (es : List Entry) → IsGround size log.at (pool_ground F (finished_of at)) → pool_may (finished_of at) address 1 ≡ true → pool_place F (finished_of at) address ≡ Some first
-      → IsRunning (pool_ground F (finished_of at)) log es before a.now.words → Runs (pool_ground F (finished_of at)) long (es ++ undo_entry address held ∷ []) before write fault a c
-
-  saves : (fault : Option HostFault) (c : State) → IsRun (placed first (0 ∷ [])) fault c → Saves F (finished_of at) long before redo (placed (serial_word_at F slot) (0 ∷ [])) fault a c
-  saves fault c runs =
+  saves : (fault : Option HostFault) (c : State)
+      → ((es : List Entry) → IsGround size log.at g → g.may address 1 ≡ true → g.place address ≡ Some first → IsRunning g log es before a.now.words → Puts g now es before (placed first (0 ∷ [])) fault a c)
+      → Saves F (finished_of at) now before redo (placed (serial_word_at F slot) (0 ∷ [])) fault a c
+  saves fault c puts =
       let some : 1 ≤ 1 = omega arith in
       let word : slot_begins slot ≡ slot_begins slot + SLOT_SERIAL_WORD = omega arith in
       let there = finished_there F at slot.ordinal (slot.frame, of.puddle) of.there (rewritten.each (slot.frame, of.puddle) of.there) in
-      Saves-put F size (finished_of at) there.0 (slot_begins slot + SLOT_SERIAL_WORD) (slot.frame, of.puddle) log long before redo address first (0 ∷ []) held fault a c (finished_placed F at is_placed) device apart there.1 some (in_frame at slot of)
-      (is_address ∙ sym (slot_address-read at slot of (slot.frame, of.puddle) refl is_placed.legal) ∙ ap (λ (k : ℕ). (of.puddle.base + WORD_BYTES * k) % 2 ^ 64) word) is_first saving runs
+      Saves-put F size (finished_of at) log now before redo fault a c (finished_placed F at is_placed) device apart saving
+      there.0 (slot_begins slot + SLOT_SERIAL_WORD) (slot.frame, of.puddle) address first (0 ∷ []) there.1 some (in_frame at slot of)
+      (is_address ∙ sym (slot_address-read at slot of (slot.frame, of.puddle) refl is_placed.legal) ∙ ap (λ (k : ℕ). (of.puddle.base + WORD_BYTES * k) % 2 ^ 64) word) is_first puts
 
-  -- it could not be saved
-  pub Saves-unfreed : (behind : OpenLog) (fault : HostFault) (b : State) → behind.at ≡ log.at → IsRun nothing (Some fault) b → Saves F (finished_of at) behind before redo (placed (serial_word_at F slot) (0 ∷ [])) (Some fault) a b
-  Saves-unfreed behind fault b same runs =
-      let write = placed (serial_word_at F slot) (0 ∷ []) in
-      Saves-failed F (finished_of at) long behind before redo same write write fault a b
-      (saves (Some fault) b (λ es ground may place r. Runs-unput size (pool_ground F (finished_of at)) long es before (reads a.now.words) address first (0 ∷ []) fault a b (runs es ground may place r)))
+  -- it could not be
+  pub Saves-unfreed : (fault : HostFault) (b : State) → IsKept (Some fault) b → Saves F (finished_of at) now before redo (placed (serial_word_at F slot) (0 ∷ [])) (Some fault) a b
+  Saves-unfreed fault b keeps =
+      saves (Some fault) b (λ es ground may place r. Puts-unkept g now now es before (IsOneOf first 1) (placed first (0 ∷ [])) fault a b refl (keeps es ground may place r))
 
-  pub Saves-freed : (fault : Option HostFault) (b c : State) → IsRun nothing None b → Writes (only (serial_word_at F slot) 0) fault b c → Saves F (finished_of at) long before redo (placed (serial_word_at F slot) (0 ∷ [])) fault a c
-  Saves-freed fault b c runs writes =
-      let g = pool_ground F (finished_of at) in
+  pub Saves-freed : (fault : Option HostFault) (b c : State) → IsKept None b → Writes (only (serial_word_at F slot) 0) fault b c → Saves F (finished_of at) now before redo (placed (serial_word_at F slot) (0 ∷ [])) fault a c
+  Saves-freed fault b c keeps writes =
       saves fault c (λ es ground may place r.
-      Runs-put size g long es before (reads a.now.words) address first (0 ∷ []) fault a b c ground may place (runs es ground may place r)
-      (λ its running covered. Runs-written size g long (es ++ undo_entry address held ∷ []) before (placed first (0 ∷ [])) fault b c its running covered (cleared F slot first fault b c is_first writes)))
+      Puts-written g now es before (IsOneOf first 1) (placed first (0 ∷ [])) fault a b c (keeps es ground may place r) (WritesKept-placed size log.at g address first (0 ∷ []) ground may place)
+      (λ entries running covered.
+      Runs-written size g now entries before (placed first (0 ∷ [])) fault b c (subst (λ (k : ℕ). IsGround size k g) (sym same) ground) running covered (cleared F slot first fault b c is_first writes)))
 
 -- ---- the graph
 

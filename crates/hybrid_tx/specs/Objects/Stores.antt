@@ -49,8 +49,11 @@ making F first slot serial type_id =
 abbrev pub ByPut : (at first : ℕ) → List ℕ → Footprint
 ByPut at first vals k v = IsInLog at k ⊎ (placed first vals k ≡ Some v)
 
+-- and this value to one more
+abbrev pub ByPutBoth : (at first : ℕ) → List ℕ → (second value : ℕ) → Footprint
+ByPutBoth at first vals second value k v = IsInLog at k ⊎ (placed first vals k ≡ Some v) ⊎ (placed second (value ∷ []) k ≡ Some v)
+
 -- any value may come to the words of the log whose gate is this word, those of a new object to the words of the slot, and the serial behind its own to
 -- the word of the next serial
 abbrev pub ByMaking : (F at first : ℕ) → Slot → (serial type_id : ℕ) → Footprint
-ByMaking F at first slot serial type_id k v =
-    IsInLog at k ⊎ (placed (frame_at F slot.frame + slot_begins slot) (new_words serial type_id) k ≡ Some v) ⊎ (placed (frame_at F first + NEXT_SERIAL_WORD) ((serial + 1) ∷ []) k ≡ Some v)
+ByMaking F at first slot serial type_id = ByPutBoth at (frame_at F slot.frame + slot_begins slot) (new_words serial type_id) (frame_at F first + NEXT_SERIAL_WORD) (serial + 1)

@@ -1,16 +1,15 @@
-use Rattle.std.proofs.Common.{◌≡◌, inl, ℕ, ◌+◌, ◌<◌, ◌≤◌, [], ◌∷◌, refl, sym, ap, subst, arith}
+use Rattle.std.proofs.Common.{◌≡◌, inl, ℕ, ◌+◌, ◌<◌, ◌≤◌, refl, sym, subst, arith}
 use Rattle.std.proofs.lemmas.Result.{err_from_is_err_and}
 use Rattle.pm_model.specs.Counts.{fault_of}
-use Rattle.pm_model.specs.Changes.{placed}
 use Rattle.pm_model.proofs.Changes.{Changes-wider}
 use Rattle.pud_defs.specs.declared.layout.TheConstants.{LOG_WORDS}
 use Rattle.pud_defs.specs.declared.records.Puddle.{Puddle}
 use Rattle.pud_defs.specs.Layout.{frames_at}
-use Rattle.log_store.specs.Store.{OpenLog, InLog}
+use Rattle.log_store.specs.Store.{InLog}
 use Rattle.object_alloc.specs.Alloc.{serial_word_at}
 use Rattle.word_transaction.specs.Running.{ByTransaction}
 use Rattle.hybrid_tx.specs.Grounds.{pool_ground, finished_of}
-use Rattle.hybrid_tx.specs.Objects.Transactions.{OpenTx, Saves}
+use Rattle.hybrid_tx.specs.Objects.Transactions.{OpenTx}
 use Rattle.hybrid_tx.proofs.PoolGrounds.{all_there}
 use Rattle.hybrid_tx.proofs.Objects.SlotFreed.{Changes-freed, Saves-unfreed, Saves-freed}
 use Rattle.hybrid_tx.proofs.Tx.clear.Goals as goal
@@ -27,8 +26,8 @@ returns-in_err-save-clause-saves g c =
     let is_first : c.frame_at.result + (c.slot_begins-serial.result + 0) ≡ serial_word_at c.args.frames at = omega (arith, c.frame_at.ensures, c.slot_begins-serial.ensures) in
     let apart = subst (λ (x : OpenTx). x.log.at + LOG_WORDS ≤ frames_at c.args.frames) (sym c.self.view_is) c.requires.place in
     rw (p.1, p.2, ← c.self.view_is) (λ t is_placed rewritten before redo s.
-    Saves-unfreed c.args.frames _ c.args.pool.now at c.requires.within _ before redo _ _ _ is_placed c.requires.device apart (c.slot_address.ensures.address is_placed.legal) is_first rewritten s _ _ _ (ap (λ (l : OpenLog). l.at) c.in_err-save.ensures.failed)
-    (λ es ground may place r. c.in_err-save.ensures.runs t _ refl (pool_ground c.args.frames (finished_of c.args.pool.now)) es before ground may place r))
+    Saves-unfreed c.args.frames _ c.args.pool.now at c.requires.within _ _ before redo _ _ _ is_placed c.requires.device apart (c.slot_address.ensures.address is_placed.legal) is_first rewritten s c.in_err-save.ensures.at _ _
+    (λ es ground may place r. c.in_err-save.ensures.keeps t _ refl (pool_ground c.args.frames (finished_of c.args.pool.now)) es before ground may place r))
 
 pub free_slot-requires-clause-known : goal.free_slot-requires-clause-known
 free_slot-requires-clause-known g c =
@@ -47,7 +46,6 @@ returns-clause-saves g c =
     let is_first : c.frame_at.result + (c.slot_begins-serial.result + 0) ≡ serial_word_at F at = omega (arith, c.frame_at.ensures, c.slot_begins-serial.ensures) in
     let apart = subst (λ (x : OpenTx). x.log.at + LOG_WORDS ≤ frames_at F) (sym c.self.view_is) c.requires.place in
     rw (← c.self.view_is) (λ t is_placed rewritten before redo s.
-    subst (λ (l : OpenLog). Saves F (finished_of pool) l before redo (placed (serial_word_at F at) (0 ∷ [])) (fault_of c.free_slot.result) (g.H.Host.state c.args.h.now) (g.H.Host.state c.free_slot.new.h)) (sym c.in_ok-save.ensures.saved)
-    (Saves-freed F _ pool at c.requires.within _ before redo _ _ _ is_placed c.requires.device apart (c.slot_address.ensures.address is_placed.legal) is_first rewritten s (fault_of c.free_slot.result) _ _
-    (λ es ground may place r. c.in_ok-save.ensures.runs t _ refl (pool_ground F (finished_of pool)) es before ground may place r)
-    (c.free_slot.ensures.writes t)))
+    Saves-freed F _ pool at c.requires.within _ _ before redo _ _ _ is_placed c.requires.device apart (c.slot_address.ensures.address is_placed.legal) is_first rewritten s c.in_ok-save.ensures.at (fault_of c.free_slot.result) _ _
+    (λ es ground may place r. c.in_ok-save.ensures.keeps t _ refl (pool_ground F (finished_of pool)) es before ground may place r)
+    (c.free_slot.ensures.writes t))

@@ -1,11 +1,11 @@
-use Rattle.std.proofs.Common.{None, refl, arith}
+use Rattle.std.proofs.Common.{length, refl, ap, ◌∙◌, arith}
 use Rattle.std.proofs.lemmas.Option.{slice_get_within, slice_get-get_or}
 use Rattle.std.proofs.lemmas.Result.{err_from_is_err_and}
 use Rattle.pm_model.specs.Words.{reads}
 use Rattle.pm_model.proofs.Reading.{Changes-read}
-use Rattle.hybrid_tx.specs.Grounds.{pool_ground}
 use Rattle.hybrid_tx.proofs.Objects.FieldPut.{RunsOn-stopped}
-use Rattle.hybrid_tx.proofs.Objects.ObjectPut.{serial_is_next, Changes-made, MakesIn-stopped, MakesIn-unput, MakesIn-new, RunsOn-unput, RunsOn-new}
+use Rattle.hybrid_tx.proofs.Objects.ObjectsMade.{new_words-length}
+use Rattle.hybrid_tx.proofs.Objects.ObjectPut.{serial_is_next, Changes-put, MakesIn-stopped, MakesIn-new, RunsOn-new}
 use Rattle.hybrid_tx.proofs.Tx.new_at.Goals as goal
 
 pub returns-in_err-serial-clause-changes : goal.returns-in_err-serial-clause-changes
@@ -19,42 +19,40 @@ returns-in_err-serial-clause-runs g c =
     rw (p.1, p.2) (λ t types m before undone now laters placed is_open defined room root rewritten free.
     RunsOn-stopped _ _ types c.args.self.now.log _ before undone now laters _ _ _ refl c.in_err-serial.ensures.only_reads t is_open)
 
-pub put_in_frame-requires-clause-there : goal.put_in_frame-requires-clause-there
-put_in_frame-requires-clause-there g c = slice_get_within c.args.pool.now c.args.at.now.ordinal (c.args.at.now.frame, c.requires.within.puddle) c.requires.within.there
-
-pub returns-in_err-put_in_frame-clause-runs : goal.returns-in_err-put_in_frame-clause-runs
-returns-in_err-put_in_frame-clause-runs g c =
-    let p = err_from_is_err_and c.from_residual-in_err-put_in_frame.result c.from_residual-in_err-put_in_frame.ensures.1 in
-    rw (p.1, p.2) (λ t types m before undone now laters placed is_open defined room root rewritten free.
-    RunsOn-unput c.args.frames c.args.pool.now types c.args.self.now.log before undone now laters _ is_open _ _ _ _ (c.args.at.now.frame, c.requires.within.puddle) _ _ _ _
-    (c.in_ok-serial.ensures.only_reads.stays t) c.requires.within.there (rewritten.each (c.args.at.now.frame, c.requires.within.puddle) c.requires.within.there) (c.in_err-put_in_frame.ensures.saves t placed))
-
-pub returns-in_err-put_in_frame-2-clause-changes : goal.returns-in_err-put_in_frame-2-clause-changes
-returns-in_err-put_in_frame-2-clause-changes g c =
-    let p = err_from_is_err_and c.from_residual-in_err-put_in_frame-2.result c.from_residual-in_err-put_in_frame-2.ensures.1 in
-    rw (p.1, p.2) (λ t. Changes-made (pool_ground c.args.frames c.args.pool.now) _ _ _ _ _ _ _ (c.in_ok-serial.ensures.only_reads.stays t) c.in_ok-put_in_frame.ensures.at (c.in_ok-put_in_frame.ensures.changes t) (c.in_err-put_in_frame-2.ensures.changes t))
-
-pub returns-in_err-put_in_frame-2-clause-runs : goal.returns-in_err-put_in_frame-2-clause-runs
-returns-in_err-put_in_frame-2-clause-runs g c =
-    let p = err_from_is_err_and c.from_residual-in_err-put_in_frame-2.result c.from_residual-in_err-put_in_frame-2.ensures.1 in
+pub returns-in_err-put_object-clause-changes : goal.returns-in_err-put_object-clause-changes
+returns-in_err-put_object-clause-changes g c =
+    let p = err_from_is_err_and c.from_residual-in_err-put_object.result c.from_residual-in_err-put_object.ensures.1 in
     let some = slice_get_within c.args.pool.now c.args.at.now.ordinal (c.args.at.now.frame, c.requires.within.puddle) c.requires.within.there in
+    let head = slice_get-get_or c.args.pool.now 0 (c.args.at.now.frame, c.requires.within.puddle) (omega (arith, some)) in
+    let whole = ap length c.new_words-words.ensures ∙ new_words-length c.in_ok-serial.serial c.args.t in
+    rw (p.1, p.2) (λ t. Changes-put c.args.frames c.args.pool.now _ c.args.at.now c.requires.within _ _ _ _ _ _ _ whole head (c.in_ok-serial.ensures.only_reads.stays t) (c.in_err-put_object.ensures.changes t _ head))
+
+pub returns-in_err-put_object-clause-runs : goal.returns-in_err-put_object-clause-runs
+returns-in_err-put_object-clause-runs g c =
+    let p = err_from_is_err_and c.from_residual-in_err-put_object.result c.from_residual-in_err-put_object.ensures.1 in
+    let some = slice_get_within c.args.pool.now c.args.at.now.ordinal (c.args.at.now.frame, c.requires.within.puddle) c.requires.within.there in
+    let head = slice_get-get_or c.args.pool.now 0 _ (omega (arith, some)) in
     rw (p.1, p.2) (λ t types m before undone now laters placed is_open defined room root rewritten free.
-    RunsOn-new c.args.frames c.args.pool.now types c.args.self.now.log before undone now laters (g.H.Host.state c.args.h.now) is_open _ _ _ _ c.args.at.now c.in_ok-serial.serial _ c.args.t m _ _ _ _ _ _
-    placed c.requires.device c.requires.place c.in_ok-put_in_frame.ensures.at c.in_err-put_in_frame-2.ensures.at (c.in_ok-serial.ensures.only_reads.stays t)
-    (slice_get-get_or c.args.pool.now 0 _ (omega (arith, some))) c.requires.within root rewritten free (c.in_ok-serial.ensures.word t (reads (g.H.Host.state c.args.h.now).now.words) refl) defined room
-    c.slot_begins.ensures c.new_words-words.ensures (c.in_ok-put_in_frame.ensures.saves t placed) refl (c.in_err-put_in_frame-2.ensures.saves t placed))
+    RunsOn-new c.args.frames c.args.pool.now types c.args.self.now.log before undone now laters (g.H.Host.state c.args.h.now) is_open
+    _ _ c.args.at.now c.in_ok-serial.serial _ c.args.t _ _ _ _ c.in_err-put_object.ensures.at (c.in_ok-serial.ensures.only_reads.stays t) head c.requires.within
+    (c.in_ok-serial.ensures.word t (reads (g.H.Host.state c.args.h.now).now.words) refl) room c.new_words-words.ensures refl (c.in_err-put_object.ensures.saves t placed _ head root rewritten)
+    _ m placed c.requires.device c.requires.place free defined)
 
 pub returns-clause-changes : goal.returns-clause-changes
 returns-clause-changes g c = λ t.
-    Changes-made (pool_ground c.args.frames c.args.pool.now) _ _ None _ _ _ _ (c.in_ok-serial.ensures.only_reads.stays t) c.in_ok-put_in_frame.ensures.at (c.in_ok-put_in_frame.ensures.changes t) (c.in_ok-put_in_frame-2.ensures.changes t)
+    let some = slice_get_within c.args.pool.now c.args.at.now.ordinal (c.args.at.now.frame, c.requires.within.puddle) c.requires.within.there in
+    let head = slice_get-get_or c.args.pool.now 0 (c.args.at.now.frame, c.requires.within.puddle) (omega (arith, some)) in
+    let whole = ap length c.new_words-words.ensures ∙ new_words-length c.in_ok-serial.serial c.args.t in
+    Changes-put c.args.frames c.args.pool.now _ c.args.at.now c.requires.within _ _ _ _ _ _ _ whole head (c.in_ok-serial.ensures.only_reads.stays t) (c.in_ok-put_object.ensures.changes t _ head)
 
 pub returns-clause-runs : goal.returns-clause-runs
 returns-clause-runs g c = λ t types m before undone now laters placed is_open defined room root rewritten free.
     let some = slice_get_within c.args.pool.now c.args.at.now.ordinal (c.args.at.now.frame, c.requires.within.puddle) c.requires.within.there in
-    RunsOn-new c.args.frames c.args.pool.now types c.args.self.now.log before undone now laters (g.H.Host.state c.args.h.now) is_open _ _ _ _ c.args.at.now c.in_ok-serial.serial _ c.args.t m _ _ None _ _ _
-    placed c.requires.device c.requires.place c.in_ok-put_in_frame.ensures.at c.in_ok-put_in_frame-2.ensures.at (c.in_ok-serial.ensures.only_reads.stays t)
-    (slice_get-get_or c.args.pool.now 0 _ (omega (arith, some))) c.requires.within root rewritten free (c.in_ok-serial.ensures.word t (reads (g.H.Host.state c.args.h.now).now.words) refl) defined room
-    c.slot_begins.ensures c.new_words-words.ensures (c.in_ok-put_in_frame.ensures.saves t placed) refl (c.in_ok-put_in_frame-2.ensures.saves t placed)
+    let head = slice_get-get_or c.args.pool.now 0 _ (omega (arith, some)) in
+    RunsOn-new c.args.frames c.args.pool.now types c.args.self.now.log before undone now laters (g.H.Host.state c.args.h.now) is_open
+    _ _ c.args.at.now c.in_ok-serial.serial _ c.args.t _ _ _ _ c.in_ok-put_object.ensures.at (c.in_ok-serial.ensures.only_reads.stays t) head c.requires.within
+    (c.in_ok-serial.ensures.word t (reads (g.H.Host.state c.args.h.now).now.words) refl) room c.new_words-words.ensures refl (c.in_ok-put_object.ensures.saves t placed _ head root rewritten)
+    _ m placed c.requires.device c.requires.place free defined
 
 pub returns-clause-serial : goal.returns-clause-serial
 returns-clause-serial g c = λ t types now is.
@@ -73,30 +71,22 @@ returns-in_err-serial-clause-makes g c =
     (slice_get-get_or c.args.pool.now 0 (c.args.at.now.frame, c.requires.within.puddle) (omega (arith, some)))
     c.in_err-serial.ensures.only_reads.never_cut (c.in_err-serial.ensures.only_reads.stays t))
 
-pub returns-in_err-put_in_frame-clause-makes : goal.returns-in_err-put_in_frame-clause-makes
-returns-in_err-put_in_frame-clause-makes g c =
-    let p = err_from_is_err_and c.from_residual-in_err-put_in_frame.result c.from_residual-in_err-put_in_frame.ensures.1 in
+pub returns-in_err-put_object-clause-makes : goal.returns-in_err-put_object-clause-makes
+returns-in_err-put_object-clause-makes g c =
+    let p = err_from_is_err_and c.from_residual-in_err-put_object.result c.from_residual-in_err-put_object.ensures.1 in
     let some = slice_get_within c.args.pool.now c.args.at.now.ordinal (c.args.at.now.frame, c.requires.within.puddle) c.requires.within.there in
+    let head = slice_get-get_or c.args.pool.now 0 _ (omega (arith, some)) in
     rw (p.1, p.2) (λ t types before undone now laters placed is_open room root rewritten.
-    MakesIn-unput c.args.frames c.args.pool.now _ c.args.at.now c.requires.within _ c.args.t (g.H.Host.state c.args.h.now) c.in_ok-serial.serial _ _ _ _ _ (slice_get-get_or c.args.pool.now 0 _ (omega (arith, some)))
-    (c.in_ok-serial.ensures.only_reads.stays t) (c.in_ok-serial.ensures.word t (reads (g.H.Host.state c.args.h.now).now.words) refl) c.slot_begins.ensures c.new_words-words.ensures (c.in_err-put_in_frame.ensures.puts t))
-
-pub returns-in_err-put_in_frame-2-clause-makes : goal.returns-in_err-put_in_frame-2-clause-makes
-returns-in_err-put_in_frame-2-clause-makes g c =
-    let p = err_from_is_err_and c.from_residual-in_err-put_in_frame-2.result c.from_residual-in_err-put_in_frame-2.ensures.1 in
-    let some = slice_get_within c.args.pool.now c.args.at.now.ordinal (c.args.at.now.frame, c.requires.within.puddle) c.requires.within.there in
-    rw (p.1, p.2) (λ t types before undone now laters placed is_open room root rewritten.
-    MakesIn-new c.args.frames c.args.pool.now types c.args.self.now.log before undone now laters (g.H.Host.state c.args.h.now) is_open _ _ _ c.args.at.now c.in_ok-serial.serial _ c.args.t _ _ _ _ _ _
-    c.in_ok-put_in_frame.ensures.at c.in_err-put_in_frame-2.ensures.at (c.in_ok-serial.ensures.only_reads.stays t)
-    (slice_get-get_or c.args.pool.now 0 _ (omega (arith, some))) c.requires.within root rewritten (c.in_ok-serial.ensures.word t (reads (g.H.Host.state c.args.h.now).now.words) refl) room
-    c.slot_begins.ensures c.new_words-words.ensures (c.in_ok-put_in_frame.ensures.saves t placed) (c.in_ok-put_in_frame.ensures.puts t) refl
-    (c.in_err-put_in_frame-2.ensures.saves t placed) (c.in_err-put_in_frame-2.ensures.puts t))
+    MakesIn-new c.args.frames c.args.pool.now types c.args.self.now.log before undone now laters (g.H.Host.state c.args.h.now) is_open
+    _ _ c.args.at.now c.in_ok-serial.serial _ c.args.t _ _ _ _ c.in_err-put_object.ensures.at (c.in_ok-serial.ensures.only_reads.stays t) head c.requires.within
+    (c.in_ok-serial.ensures.word t (reads (g.H.Host.state c.args.h.now).now.words) refl) room c.new_words-words.ensures refl (c.in_err-put_object.ensures.saves t placed _ head root rewritten)
+    (c.in_err-put_object.ensures.changes t _ head))
 
 pub returns-clause-makes : goal.returns-clause-makes
 returns-clause-makes g c = λ t types before undone now laters placed is_open room root rewritten.
     let some = slice_get_within c.args.pool.now c.args.at.now.ordinal (c.args.at.now.frame, c.requires.within.puddle) c.requires.within.there in
-    MakesIn-new c.args.frames c.args.pool.now types c.args.self.now.log before undone now laters (g.H.Host.state c.args.h.now) is_open _ _ _ c.args.at.now c.in_ok-serial.serial _ c.args.t _ _ None _ _ _
-    c.in_ok-put_in_frame.ensures.at c.in_ok-put_in_frame-2.ensures.at (c.in_ok-serial.ensures.only_reads.stays t)
-    (slice_get-get_or c.args.pool.now 0 _ (omega (arith, some))) c.requires.within root rewritten (c.in_ok-serial.ensures.word t (reads (g.H.Host.state c.args.h.now).now.words) refl) room
-    c.slot_begins.ensures c.new_words-words.ensures (c.in_ok-put_in_frame.ensures.saves t placed) (c.in_ok-put_in_frame.ensures.puts t) refl
-    (c.in_ok-put_in_frame-2.ensures.saves t placed) (c.in_ok-put_in_frame-2.ensures.puts t)
+    let head = slice_get-get_or c.args.pool.now 0 _ (omega (arith, some)) in
+    MakesIn-new c.args.frames c.args.pool.now types c.args.self.now.log before undone now laters (g.H.Host.state c.args.h.now) is_open
+    _ _ c.args.at.now c.in_ok-serial.serial _ c.args.t _ _ _ _ c.in_ok-put_object.ensures.at (c.in_ok-serial.ensures.only_reads.stays t) head c.requires.within
+    (c.in_ok-serial.ensures.word t (reads (g.H.Host.state c.args.h.now).now.words) refl) room c.new_words-words.ensures refl (c.in_ok-put_object.ensures.saves t placed _ head root rewritten)
+    (c.in_ok-put_object.ensures.changes t _ head)

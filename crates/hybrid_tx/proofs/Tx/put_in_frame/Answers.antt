@@ -1,14 +1,13 @@
-use Rattle.std.proofs.Common.{ℕ, ◌+◌, ◌*◌, ◌%◌, ◌^◌, length, ap, refl, subst, ◌∙◌}
+use Rattle.std.proofs.Common.{ℕ, ◌+◌, ◌*◌, ◌%◌, ◌^◌, ap, refl, subst, ◌∙◌}
 use Rattle.std.proofs.lemmas.Option.{slice_get-get_or, get_or_from_slice_get}
 use Rattle.pm_model.specs.Counts.{fault_of}
 use Rattle.pm_model.specs.Changes.{Changes}
 use Rattle.pud_defs.specs.declared.records.Puddle.{Puddle}
 use Rattle.pud_defs.specs.Frames.{frame_at}
-use Rattle.log_store.specs.Store.{longer}
 use Rattle.hybrid_tx.specs.Grounds.{pool_ground, finished_of}
 use Rattle.hybrid_tx.specs.Objects.Stores.{ByPut}
 use Rattle.hybrid_tx.proofs.FinishedPuddles.{finished_placed, finished_there}
-use Rattle.hybrid_tx.proofs.Objects.InFrames.{ByPut-in_frame, Saves-put, Saves-behind}
+use Rattle.hybrid_tx.proofs.Objects.InFrames.{ByPut-in_frame, Saves-put}
 use Rattle.hybrid_tx.proofs.Tx.put_in_frame.Goals as goal
 
 pub returns-clause-changes : goal.returns-clause-changes
@@ -26,16 +25,8 @@ returns-clause-saves g c = λ t placed e there finished before redo s.
     let own = finished_of c.args.pool.now in
     let within = finished_there c.args.frames c.args.pool.now c.args.ordinal e there finished in
     let same = get_or_from_slice_get c.args.pool.now c.args.ordinal e _ there in
-    let long = longer (length c.args.vals.now + 2) c.args.self.now.log in
-    Saves-behind c.args.frames own long _ before redo _ c.put.result _ _ c.put.ensures.at c.put.ensures.done
-    (Saves-put c.args.frames _ own within.0 c.args.word e c.args.self.now.log long before redo _ _ c.args.vals.now _ (fault_of c.put.result) _ _
-    (finished_placed c.args.frames c.args.pool.now placed) c.requires.device c.requires.place within.1 c.requires.some c.requires.within
+    Saves-put c.args.frames _ own c.args.self.now.log _ before redo (fault_of c.put.result) _ _ (finished_placed c.args.frames c.args.pool.now placed) c.requires.device c.requires.place s
+    within.0 c.args.word e _ _ c.args.vals.now within.1 c.requires.some c.requires.within
     (c.word_address-address.ensures ∙ ap (λ (d : ℕ × Puddle). (d.1.base + 8 * c.args.word) % 2 ^ 64) same)
-    (ap (λ (k : ℕ). k + c.args.word) (c.frame_at.ensures ∙ ap (λ (d : ℕ × Puddle). frame_at c.args.frames d.0) same)) s
-    (λ es ground may place running. c.put.ensures.runs t _ refl (pool_ground c.args.frames own) es before ground may place running))
-
-pub returns-clause-puts : goal.returns-clause-puts
-returns-clause-puts g c = λ t e there.
-    let same = get_or_from_slice_get c.args.pool.now c.args.ordinal e _ there in
-    subst (λ (k : ℕ). Changes (ByPut c.args.self.now.log.at (k + c.args.word) c.args.vals.now) (fault_of c.put.result) (g.H.Host.state c.args.h.now) (g.H.Host.state c.put.new.h))
-    (c.frame_at.ensures ∙ ap (λ (d : ℕ × Puddle). frame_at c.args.frames d.0) same) (c.put.ensures.changes t)
+    (ap (λ (k : ℕ). k + c.args.word) (c.frame_at.ensures ∙ ap (λ (d : ℕ × Puddle). frame_at c.args.frames d.0) same))
+    (λ es ground may place running. c.put.ensures.puts t _ refl (pool_ground c.args.frames own) es before ground may place running)

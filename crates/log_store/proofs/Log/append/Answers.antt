@@ -1,31 +1,43 @@
-use Rattle.std.proofs.Common.{refl, ap, arith}
+use Rattle.std.proofs.Common.{◌+◌, [], ◌∷◌, length, refl, ap, arith}
 use Rattle.std.proofs.lemmas.Result.{err_from_is_err_and}
-use Rattle.log_store.specs.Store.{OpenLog, with_entry}
-use Rattle.log_store.proofs.Appending.{changes_in_log, Appends-failed, Appends-done}
+use Rattle.pud_defs.specs.declared.layout.TheConstants.{ENTRY_HEADER_WORDS}
+use Rattle.pud_defs.specs.Entries.{Entry, IsLegalEntry}
+use Rattle.log_store.specs.Store.{OpenLog, spelled_all, with_entry}
+use Rattle.log_store.proofs.Appending.{Persists-spelled, spells_one, changes_in_log, Appends-failed, Appends-done}
 use Rattle.log_store.proofs.Log.append.Goals as goal
 
 pub returns-in_err-append_fitting-clause-changes : goal.returns-in_err-append_fitting-clause-changes
 returns-in_err-append_fitting-clause-changes g c =
     let p = err_from_is_err_and c.from_residual.result c.from_residual.ensures.1 in
     let used = ap (λ (l : OpenLog). l.used) c.self.view_is in
-    rw (p.1, p.2) (λ t. changes_in_log c.args.self.now _ _ _ _ (omega arith) (c.in_err-append_fitting.ensures.persists t))
+    let e : Entry = record { address = c.args.addr; seq = c.args.seq; order = c.args.order; vals = c.args.vals.now } in
+    rw (p.1, p.2) (λ t. changes_in_log c.args.self.now (length c.args.vals.now + ENTRY_HEADER_WORDS) (spelled_all (e ∷ [])) _ _ _ (record { counted = omega arith; room = omega arith })
+    (Persists-spelled c.args.self.now _ (spelled_all (e ∷ [])) _ _ _ _ c.encode-n.ensures.spells (omega arith) (c.in_err-append_fitting.ensures.persists t)))
 
 pub returns-in_err-append_fitting-clause-appends : goal.returns-in_err-append_fitting-clause-appends
 returns-in_err-append_fitting-clause-appends g c =
     let p = err_from_is_err_and c.from_residual.result c.from_residual.ensures.1 in
-    rw (p.1, p.2) (λ t es open_log. Appends-failed _ es _ _ _ _ (c.in_err-append_fitting.ensures.persists t) (c.in_err-append_fitting.ensures.moments t es open_log))
+    let e : Entry = record { address = c.args.addr; seq = c.args.seq; order = c.args.order; vals = c.args.vals.now } in
+    let legal : IsLegalEntry e = record { some = c.requires.some; no_more = c.requires.no_more; seq_fits = c.requires.seq_fits; order_known = c.requires.order_known } in
+    rw (p.1, p.2) (λ t es open_log. Appends-failed _ es _ (e ∷ []) _ _ _
+    (Persists-spelled c.args.self.now _ (spelled_all (e ∷ [])) _ _ _ _ c.encode-n.ensures.spells (omega arith) (c.in_err-append_fitting.ensures.persists t))
+    (c.in_err-append_fitting.ensures.moments t es (e ∷ []) (spells_one _ e c.encode-n.ensures.spells legal) open_log))
 
 pub returns-clause-changes : goal.returns-clause-changes
 returns-clause-changes g c =
     let used = ap (λ (l : OpenLog). l.used) c.self.view_is in
-    (λ t. changes_in_log c.args.self.now _ _ _ _ (omega arith) (c.in_ok-append_fitting.ensures.persists t))
+    let e : Entry = record { address = c.args.addr; seq = c.args.seq; order = c.args.order; vals = c.args.vals.now } in
+    λ t. changes_in_log c.args.self.now (length c.args.vals.now + ENTRY_HEADER_WORDS) (spelled_all (e ∷ [])) _ _ _ (record { counted = omega arith; room = omega arith })
+    (Persists-spelled c.args.self.now _ (spelled_all (e ∷ [])) _ _ _ _ c.encode-n.ensures.spells (omega arith) (c.in_ok-append_fitting.ensures.persists t))
 
 pub returns-clause-appends : goal.returns-clause-appends
 returns-clause-appends g c =
     let used = ap (λ (l : OpenLog). l.used) c.self.view_is in
-    (λ t es open_log. Appends-done _ es _ _ _
-    (record { some = c.requires.some; no_more = c.requires.no_more; seq_fits = c.requires.seq_fits; order_known = c.requires.order_known })
-    (omega arith) open_log (c.in_ok-append_fitting.ensures.persists t) (c.in_ok-append_fitting.ensures.moments t es open_log))
+    let e : Entry = record { address = c.args.addr; seq = c.args.seq; order = c.args.order; vals = c.args.vals.now } in
+    let legal : IsLegalEntry e = record { some = c.requires.some; no_more = c.requires.no_more; seq_fits = c.requires.seq_fits; order_known = c.requires.order_known } in
+    λ t es open_log. Appends-done c.args.self.now es _ (e ∷ []) _ _ (record { counted = omega arith; room = omega arith }) (spells_one _ e refl legal) open_log
+    (Persists-spelled c.args.self.now _ (spelled_all (e ∷ [])) _ _ _ _ c.encode-n.ensures.spells (omega arith) (c.in_ok-append_fitting.ensures.persists t))
+    (c.in_ok-append_fitting.ensures.moments t es (e ∷ []) (spells_one _ e c.encode-n.ensures.spells legal) open_log)
 
 pub returns-then-self-words-gt-LOG_ENTRY_WORDS-clause-too_big : goal.returns-then-self-words-gt-LOG_ENTRY_WORDS-clause-too_big
 returns-then-self-words-gt-LOG_ENTRY_WORDS-clause-too_big g c =

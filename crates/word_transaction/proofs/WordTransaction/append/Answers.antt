@@ -17,4 +17,4 @@ returns-clause-runs g c =
       | in-Err-Host w ↦ λ big. absurd (let it = ap Err (sym w.in-Err-Host.field-0-is) ∙ sym w.in-Err-Host.is ∙ big in cc)
     ] in
     rw (← fault, ← c.self.view_is) (λ t size is ground es before stands running may.
-    Runs-append size ground _ es before _ _ _ _ stands running may room (c.append.ensures.changes t) (c.append.ensures.appends t es running.opened))
+    Runs-append size ground _ es before _ _ _ _ _ stands running may room (c.append.ensures.changes t) (c.append.ensures.appends t es running.opened))

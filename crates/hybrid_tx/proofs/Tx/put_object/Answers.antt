@@ -1,0 +1,35 @@
+use Rattle.std.proofs.Common.{ℕ, ◌+◌, ◌*◌, ◌%◌, ◌^◌, ◌<◌, ◌≤◌, length, ap, sym, refl, ◌∙◌, arith}
+use Rattle.std.proofs.lemmas.Option.{get_or_from_slice_get}
+use Rattle.pm_model.specs.Counts.{fault_of}
+use Rattle.pud_defs.specs.declared.layout.TheConstants.{FRAME_WORDS}
+use Rattle.pud_defs.specs.declared.space.TheConstants.{NEXT_SERIAL_WORD}
+use Rattle.pud_defs.specs.declared.records.Puddle.{Puddle}
+use Rattle.pud_defs.specs.Frames.{frame_at}
+use Rattle.pud_defs.specs.Geometry.{slot_begins}
+use Rattle.hybrid_tx.specs.Grounds.{pool_ground, finished_of}
+use Rattle.hybrid_tx.proofs.FinishedPuddles.{finished_placed, finished_there}
+use Rattle.hybrid_tx.proofs.Objects.FieldPut.{slot_address-read}
+use Rattle.hybrid_tx.proofs.Objects.InFrames.{Saves-put_both}
+use Rattle.hybrid_tx.proofs.Tx.put_object.Goals as goal
+
+pub returns-clause-saves : goal.returns-clause-saves
+returns-clause-saves g c = λ t placed first head root rewritten before redo s.
+    let F = c.args.frames in
+    let pool = c.args.pool.now in
+    let at = c.args.at.now in
+    let own = finished_of pool in
+    let e : ℕ × Puddle = (at.frame, c.requires.within.puddle) in
+    let one = finished_there F pool at.ordinal e c.requires.within.there (rewritten.each e c.requires.within.there) in
+    let other = finished_there F pool 0 first head (root.each first head) in
+    let slots = c.requires.within.below in
+    let whole = c.told-words in
+    let some : 1 ≤ length c.args.words.now = omega arith in
+    let few : slot_begins at + length c.args.words.now ≤ FRAME_WORDS = omega arith in
+    let next : NEXT_SERIAL_WORD < FRAME_WORDS = omega arith in
+    let same = get_or_from_slice_get pool 0 first _ head in
+    Saves-put_both F _ own c.args.self.now.log _ before redo (fault_of c.put_both.result) _ _ (finished_placed F pool placed) c.requires.device c.requires.place s
+    one.0 (slot_begins at) e _ _ c.args.words.now other.0 NEXT_SERIAL_WORD first _ _ c.args.next
+    one.1 some few (c.slot_address.ensures.address placed.legal ∙ sym (slot_address-read pool at c.requires.within e refl placed.legal)) (omega (arith, c.frame_at.ensures, c.slot_begins.ensures))
+    other.1 next (c.word_address-serial_address.ensures ∙ ap (λ (d : ℕ × Puddle). (d.1.base + 8 * NEXT_SERIAL_WORD) % 2 ^ 64) same)
+    (ap (λ (k : ℕ). k + NEXT_SERIAL_WORD) (c.frame_at-serial.ensures ∙ ap (λ (d : ℕ × Puddle). frame_at F d.0) same))
+    (λ es ground may place may2 place2 running. c.put_both.ensures.puts t _ refl (pool_ground F own) es before ground may place may2 place2 running)

@@ -1,0 +1,148 @@
+-- What a call within a transaction keeps, of words that are kept already or not, and what is written behind it.
+use Rattle.std.proofs.Common.{◌≡◌, ◌⊎◌, inl, inr, ℕ, true, List, [], ◌∷◌, ◌++◌, length, Option, Some, None, Result, Ok, Err, refl, sym, ap, subst, ◌∙◌, arith}
+use Rattle.std.specs.Prelude.{All, IfOk, OnErr}
+use Rattle.pm_model.specs.declared.host.HostFault.{HostFault}
+use Rattle.pm_model.specs.declared.host.HostFault.TheVariants.{Cut}
+use Rattle.pm_model.specs.Words.{reads}
+use Rattle.pm_model.specs.Moments.{State}
+use Rattle.pm_model.specs.Counts.{fault_of}
+use Rattle.pm_model.specs.Changes.{Write, placed}
+use Rattle.pm_persist.proofs.Ranges.{placed_within}
+use Rattle.pud_defs.specs.Image.{Image}
+use Rattle.pud_defs.specs.Entries.{Entry}
+use Rattle.pud_defs.specs.Replay.{Place, over}
+use Rattle.log_store.specs.Store.{OpenLog, undo_entry, with_entries}
+use Rattle.word_transaction.specs.Ground.{Ground, IsGround, saved, asked}
+use Rattle.word_transaction.specs.Running.{IsRunning, IsCovered, IsOneOf, MayAppend, nothing, Runs, Keeps, Puts}
+use Rattle.word_transaction.proofs.Saved.{saved-none_first, saved-none_more, saved_by_one}
+use Rattle.word_transaction.proofs.Calls.{Runs-still, Runs-failed, Runs-behind, Runs-then}
+use Rattle.word_transaction.proofs.Pending.{asked-undo}
+use Rattle.word_transaction.proofs.Saving.{IsRead, MayAppend-read}
+
+-- ---- what entries save
+
+-- each word of two undo entries, of which the second has one value
+pub saved_by_two : (place : Place) (address first address2 second k word : ℕ) (vals : List ℕ) → place address ≡ Some first → place address2 ≡ Some second
+    → IsOneOf first (length vals) k ⊎ (k ≡ second) → saved place (undo_entry address vals ∷ undo_entry address2 (word ∷ []) ∷ []) k ≡ None → ⊥
+saved_by_two place address first address2 second k word vals is also one none =
+    let e = undo_entry address vals in
+    let f = undo_entry address2 (word ∷ []) in
+    elim one [
+      | inl here ↦ saved_by_one place address first k vals is here (saved-none_first place (e ∷ []) (f ∷ []) k none)
+      | inr there ↦ saved_by_one place address2 second k (word ∷ []) also (omega arith, omega arith) (saved-none_more place (e ∷ []) (f ∷ []) k none)
+    ]
+
+-- ---- calls that keep
+
+-- nothing was done: all that was to be kept is so already, or the call failed
+pub Keeps-still : (g : Ground) (log : OpenLog) (es : List Entry) (before : Image) (which : ℕ → Type 0) (fault : Option HostFault) (old new : State) → (fault ≡ Some Cut → ⊥) → new ≡ old
+    → IsRunning g log es before old.now.words → (fault ≡ None → (k : ℕ) → which k → saved g.place es k ≡ None → ⊥) → Keeps g log es before which fault old new
+Keeps-still g log es before which fault old new uncut same r kept =
+    record { entries = es; runs = Runs-still g log es before fault old new uncut same r; asks = refl; still = λ k none. none; kept = kept }
+
+-- the log behind a call, whatever it answered
+pub Runs-now : (g : Ground) (log longer now : OpenLog) (es : List Entry) (before : Image) (result : Result (Unit {0}) HostFault) (old new : State) → longer.at ≡ log.at
+    → IfOk result (λ _. now ≡ longer) → OnErr result (now ≡ log) → Runs g longer es before nothing (fault_of result) old new → Runs g now es before nothing (fault_of result) old new
+Runs-now g log longer now es before (Ok x) old new at ok err r = subst (λ (l : OpenLog). Runs g l es before nothing None old new) (sym ok) r
+Runs-now g log longer now es before (Err fault) old new at ok err r =
+    Runs-failed g longer now es es before nothing nothing fault old new (ap (λ (l : OpenLog). l.at) err ∙ sym at) r
+
+-- entries of what own words hold were read, and then appended
+pub Keeps-appended : (size : ℕ) (g : Ground) (log now : OpenLog) (es : List Entry) (before : Image) (which : ℕ → Type 0) (count : ℕ) (more : List Entry) (result : Result (Unit {0}) HostFault) (s b t : State)
+    → IsGround size log.at g → IsRunning g log es before s.now.words → b ≡ s → All (IsRead g (reads s.now.words)) more → asked more ≡ [] → ((k : ℕ) → which k → saved g.place more k ≡ None → ⊥)
+    → IfOk result (λ _. now ≡ with_entries count more log) → OnErr result (now ≡ log)
+    → (IsRunning g log es before b.now.words → MayAppend g es before more → Runs g (with_entries count more log) (es ++ more) before nothing (fault_of result) b t)
+    → Keeps g now es before which (fault_of result) s t
+Keeps-appended size g log now es before which count more result s b t ground r same read none saves ok err appends =
+    let runs = appends (subst (λ (x : State). IsRunning g log es before x.now.words) (sym same) r) (MayAppend-read size g log es more before s.now.words ground r read) in
+    record {
+      entries = es ++ more;
+      runs = subst (λ (x : State). Runs g now (es ++ more) before nothing (fault_of result) x t) same (Runs-now g log (with_entries count more log) now (es ++ more) before result b t refl ok err runs);
+      asks = asked-undo es more none;
+      still = λ k gone. saved-none_first g.place es more k gone;
+      kept = λ _ k is gone. saves k is (saved-none_more g.place es more k gone);
+    }
+
+-- a call behind one that did nothing
+pub Keeps-from : (g : Ground) (log now : OpenLog) (es : List Entry) (before : Image) (which : ℕ → Type 0) (fault : Option HostFault) (s b t : State) → b ≡ s → IsRunning g log es before s.now.words
+    → (IsRunning g log es before b.now.words → Keeps g now es before which fault b t) → Keeps g now es before which fault s t
+Keeps-from g log now es before which fault s b t same r keeps =
+    subst (λ (x : State). Keeps g now es before which fault x t) same (keeps (subst (λ (x : State). IsRunning g log es before x.now.words) (sym same) r))
+
+-- some of the words were kept before
+pub Keeps-beside : (g : Ground) (now : OpenLog) (es : List Entry) (before : Image) (which also all : ℕ → Type 0) (fault : Option HostFault) (old new : State)
+    → ((k : ℕ) → all k → which k ⊎ also k) → ((k : ℕ) → also k → saved g.place es k ≡ None → ⊥) → Keeps g now es before which fault old new → Keeps g now es before all fault old new
+Keeps-beside g now es before which also all fault old new either was keeps =
+    record {
+      entries = keeps.entries;
+      runs = keeps.runs;
+      asks = keeps.asks;
+      still = keeps.still;
+      kept = λ none k is gone. elim (either k is) [ inl here ↦ keeps.kept none k here gone | inr there ↦ was k there (keeps.still k gone) ];
+    }
+
+-- ---- words written behind them
+
+-- own words that are kept are written
+pub record WritesKept (g : Ground) (which : ℕ → Type 0) (write : Write) : Type 0 where
+  pub mine : (k v : ℕ) → write k ≡ Some v → g.mine k ≡ true
+  pub kept : (k v : ℕ) → write k ≡ Some v → which k
+
+-- values placed from the word of an address on, where its words are kept
+pub WritesKept-placed : (size at : ℕ) (g : Ground) (address first : ℕ) (vals : List ℕ) → IsGround size at g → g.may address (length vals) ≡ true → g.place address ≡ Some first
+    → WritesKept g (IsOneOf first (length vals)) (placed first vals)
+WritesKept-placed size at g address first vals ground may place =
+    let spans = ground.named address (length vals) may in
+    let here : Some spans.first ≡ Some first = sym spans.placed ∙ place in
+    let same : spans.first ≡ first = cc in
+    record {
+      mine = λ k v is. let within = placed_within first k v vals is in spans.own k (omega arith) (omega arith);
+      kept = λ k v is. let within = placed_within first k v vals is in (within.0, within.1);
+    }
+
+-- where others are kept too
+pub WritesKept-among : (g : Ground) (which all : ℕ → Type 0) (write : Write) → ((k : ℕ) → which k → all k) → WritesKept g which write → WritesKept g all write
+WritesKept-among g which all write more writes = record { mine = writes.mine; kept = λ k v is. more k (writes.kept k v is) }
+
+covered_by : (g : Ground) (log : OpenLog) (es : List Entry) (before : Image) (which : ℕ → Type 0) (write : Write) (old new : State) → (keeps : Keeps g log es before which None old new) → WritesKept g which write
+    → IsCovered g keeps.entries write
+covered_by g log es before which write old new keeps writes = record { mine = writes.mine; kept = λ k v is none. keeps.kept refl k (writes.kept k v is) none }
+
+-- the words were not kept, and so not written
+pub Puts-unkept : (g : Ground) (log now : OpenLog) (es : List Entry) (before : Image) (which : ℕ → Type 0) (write : Write) (fault : HostFault) (old new : State) → now.at ≡ log.at
+    → Keeps g log es before which (Some fault) old new → Puts g now es before write (Some fault) old new
+Puts-unkept g log now es before which write fault old new at keeps =
+    record { entries = keeps.entries; runs = Runs-failed g log now keeps.entries keeps.entries before nothing write fault old new at keeps.runs; asks = keeps.asks }
+
+-- they were, and then written
+pub Puts-written : (g : Ground) (log : OpenLog) (es : List Entry) (before : Image) (which : ℕ → Type 0) (write : Write) (fault : Option HostFault) (a b c : State)
+    → Keeps g log es before which None a b → WritesKept g which write
+    → ((entries : List Entry) → IsRunning g log entries before b.now.words → IsCovered g entries write → Runs g log entries before write fault b c) → Puts g log es before write fault a c
+Puts-written g log es before which write fault a b c keeps writes runs =
+    record {
+      entries = keeps.entries;
+      runs = Runs-behind g log log keeps.entries keeps.entries before write fault a b c refl keeps.runs
+          (runs keeps.entries (keeps.runs.running refl) (covered_by g log es before which write a b keeps writes));
+      asks = keeps.asks;
+    }
+
+-- they were, and then some of them were written, and others behind them
+pub Puts-both : (g : Ground) (log : OpenLog) (es : List Entry) (before : Image) (which : ℕ → Type 0) (first later : Write) (fault : Option HostFault) (a b c d : State)
+    → Keeps g log es before which None a b → WritesKept g which first → WritesKept g which later
+    → ((entries : List Entry) → IsRunning g log entries before b.now.words → IsCovered g entries first → Runs g log entries before first None b c)
+    → ((entries : List Entry) → IsRunning g log entries before c.now.words → IsCovered g entries later → Runs g log entries before later fault c d) → Puts g log es before (over first later) fault a d
+Puts-both g log es before which first later fault a b c d keeps writes_first writes_later runs_first runs_later =
+    let es_kept = keeps.entries in
+    let one = runs_first es_kept (keeps.runs.running refl) (covered_by g log es before which first a b keeps writes_first) in
+    let two = runs_later es_kept (one.running refl) (covered_by g log es before which later a b keeps writes_later) in
+    record {
+      entries = es_kept;
+      runs = Runs-behind g log log es_kept es_kept before (over first later) fault a b d refl keeps.runs (Runs-then g log log es_kept es_kept before first later fault b c d refl one two);
+      asks = keeps.asks;
+    }
+
+-- the first of them were not written whole
+pub Puts-half : (g : Ground) (log : OpenLog) (es : List Entry) (before : Image) (first later : Write) (fault : HostFault) (old new : State) → Puts g log es before first (Some fault) old new
+    → Puts g log es before (over first later) (Some fault) old new
+Puts-half g log es before first later fault old new puts =
+    record { entries = puts.entries; runs = Runs-failed g log log puts.entries puts.entries before first (over first later) fault old new refl puts.runs; asks = puts.asks }

@@ -1,0 +1,25 @@
+-- Which words the undo entries of a log keep already, told by addresses alone.
+use Rattle.std.specs.Prelude.{ℕ, ◌+◌, ◌-◌, ◌*◌, ◌/◌, ◌%◌, Bool, ◌&&◌, nat_le, nat_lt, ◌==◌, cond, List, length}
+use Rattle.std.specs.List.{list_any}
+use Rattle.pud_defs.specs.declared.layout.TheConstants.{ENTRY_HEADER_WORDS}
+use Rattle.pud_defs.specs.declared.log_words.TheConstants.{UNDO_ORDER}
+use Rattle.pud_defs.specs.declared.space.TheConstants.{WORD_BYTES}
+use Rattle.pud_defs.specs.Entries.{Entry}
+use Rattle.pud_defs.specs.Spaces.{all_below}
+
+-- it is an undo entry, and one of its values is that of the word of this address
+abbrev pub covers : (address : ℕ) → Entry → Bool
+covers address e =
+    e.order == UNDO_ORDER && nat_le e.address address && ((address - e.address) % WORD_BYTES) == 0 && nat_lt ((address - e.address) / WORD_BYTES) (length e.vals)
+
+-- one of some entries is
+abbrev pub is_covered : List Entry → (address : ℕ) → Bool
+is_covered es address = list_any (covers address) es
+
+-- each of so many words from that of an address on is covered
+abbrev pub are_covered : List Entry → (address count : ℕ) → Bool
+are_covered es address count = all_below count (λ i. is_covered es (address + WORD_BYTES * i))
+
+-- how many entry words it takes to keep so many words from that of an address on: those of one entry, or none where each word is covered
+abbrev pub words_to_keep : List Entry → (address count : ℕ) → ℕ
+words_to_keep es address count = cond (are_covered es address count) 0 (count + ENTRY_HEADER_WORDS)

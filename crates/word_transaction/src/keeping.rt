@@ -1,0 +1,167 @@
+//! What words hold is kept in the log, where it is not kept already, before they are given other values.
+
+ghost use Rattle.std.specs.Prelude.{◌≡◌, ◌⊎◌, ◌+◌, ◌*◌, ◌<◌, ◌≤◌, ◌^◌, ℕ, List, true, Option, IfOk, OnErr};
+ghost use Rattle.pm_model.specs.Words.{reads};
+ghost use Rattle.pm_model.specs.Counts.{after_fault, fault_of};
+ghost use Rattle.pm_model.specs.Changes.{Changes};
+ghost use Rattle.pud_defs.specs.declared.layout.TheConstants.{LOG_WORDS, LOG_ENTRY_WORDS, ENTRY_HEADER_WORDS, MAX_ENTRY_VALUES};
+ghost use Rattle.pud_defs.specs.declared.space.TheConstants.{WORD_BYTES};
+ghost use Rattle.pud_defs.specs.Image.{Image};
+ghost use Rattle.pud_defs.specs.Entries.{Entry, entries_of};
+ghost use Rattle.log_store.specs.Store.{InLog, longer};
+ghost use Rattle.word_transaction.specs.Ground.{Ground, IsGround};
+ghost use Rattle.word_transaction.specs.Coverage.{words_to_keep};
+ghost use Rattle.word_transaction.specs.Running.{IsRunning, IsOneOf, Keeps};
+
+use crate::WordTransaction;
+use crate::covering::are_covered;
+use log_entry::read_values;
+use pm_model::{Host, HostFault};
+use pud_defs::log_words::{UNDO_ORDER, UNDO_SEQ};
+
+impl WordTransaction {
+    /// Appends an undo entry of what `count` words from device word `first` on hold, as those of `address`.
+    fn append_held<H: Host>(
+        &mut self,
+        h: &mut H,
+        address: u64,
+        first: u32,
+        count: u32,
+    ) -> Result<(), HostFault>
+        requires place { self.old.at + LOG_WORDS ≤ (H.counts h.old).size }
+        requires some { 1 ≤ count }
+        requires no_more { count ≤ MAX_ENTRY_VALUES }
+        requires within { first + count ≤ (H.counts h.old).size }
+        requires room { self.old.used + (count + ENTRY_HEADER_WORDS) ≤ LOG_ENTRY_WORDS }
+        ensures appended { IfOk result (λ _. self.new ≡ longer (count + ENTRY_HEADER_WORDS) self.old) }
+        ensures failed { OnErr result (self.new ≡ self.old) }
+        ensures changes { H.tells → Changes (InLog self.old.at) (fault_of result) (H.state h.old) (H.state h.new) }
+        ensures keeps { H.tells → (size : ℕ) → size ≡ (H.counts h.old).size → (g : Ground) → (es : List Entry) → (before : Image) → IsGround size self.old.at g
+            → g.may address count ≡ true → g.place address ≡ Option.Some first → IsRunning g self.old es before (H.state h.old).now.words
+            → Keeps g self.new es before (IsOneOf first count) (fault_of result) (H.state h.old) (H.state h.new) }
+        ensures cause { H.counts h.new ≡ after_fault (fault_of result) (H.counts h.old) }
+    {
+        let values = read_values(h, first, count)?;
+        self.append(h, address, UNDO_SEQ, UNDO_ORDER, &values[..count as usize])
+    }
+
+    /// Appends two undo entries under one gate: of what `count` words from device word `first` on hold, as those of `address`,
+    /// and of what word `second` holds, as that of `address2`.
+    fn append_both_held<H: Host>(
+        &mut self,
+        h: &mut H,
+        address: u64,
+        first: u32,
+        count: u32,
+        address2: u64,
+        second: u32,
+    ) -> Result<(), HostFault>
+        requires place { self.old.at + LOG_WORDS ≤ (H.counts h.old).size }
+        requires some { 1 ≤ count }
+        requires no_more { count ≤ MAX_ENTRY_VALUES }
+        requires within { first + count ≤ (H.counts h.old).size }
+        requires second_within { second < (H.counts h.old).size }
+        requires room { self.old.used + (count + 5) ≤ LOG_ENTRY_WORDS }
+        ensures appended { IfOk result (λ _. self.new ≡ longer (count + 5) self.old) }
+        ensures failed { OnErr result (self.new ≡ self.old) }
+        ensures changes { H.tells → Changes (InLog self.old.at) (fault_of result) (H.state h.old) (H.state h.new) }
+        ensures keeps { H.tells → (size : ℕ) → size ≡ (H.counts h.old).size → (g : Ground) → (es : List Entry) → (before : Image) → IsGround size self.old.at g
+            → g.may address count ≡ true → g.place address ≡ Option.Some first → g.may address2 1 ≡ true → g.place address2 ≡ Option.Some second
+            → IsRunning g self.old es before (H.state h.old).now.words
+            → Keeps g self.new es before (λ k. IsOneOf first count k ⊎ (k ≡ second)) (fault_of result) (H.state h.old) (H.state h.new) }
+        ensures cause { H.counts h.new ≡ after_fault (fault_of result) (H.counts h.old) }
+    {
+        let values = read_values(h, first, count)?;
+        let word = h.load(second)?;
+        self.append_two(h, address, &values[..count as usize], address2, word)
+    }
+
+    /// Keeps in the log what `count` words from device word `first` on hold, from 1 to 32, as those of `address`: nothing is done
+    /// where undo entries of the log cover each of these words already, and else an entry of all of them is appended.
+    ///
+    /// The log and the words lie in the device, and the log has room for the words and two more. At `Ok` each image left has
+    /// the words with the log replayed as they were when the transaction began, whatever is then written to them; before it,
+    /// each image has them so too. After an error `self` is as it was; the only errors are the host's own. No fence where the
+    /// words are covered, else two.
+    pub fn save<H: Host>(
+        &mut self,
+        h: &mut H,
+        address: u64,
+        first: u32,
+        count: u32,
+    ) -> Result<(), HostFault>
+        requires place { self.old.at + LOG_WORDS ≤ (H.counts h.old).size }
+        requires some { 1 ≤ count }
+        requires no_more { count ≤ MAX_ENTRY_VALUES }
+        requires within { first + count ≤ (H.counts h.old).size }
+        requires room { self.old.used + (count + ENTRY_HEADER_WORDS) ≤ LOG_ENTRY_WORDS }
+        ensures at { self.new.at ≡ self.old.at }
+        ensures room { self.new.used ≤ self.old.used + (count + ENTRY_HEADER_WORDS) }
+        ensures failed { OnErr result (self.new ≡ self.old) }
+        ensures appended { H.tells → (es : List Entry) → entries_of (reads (H.state h.old).now.words) self.old.at ≡ Option.Some es → address + WORD_BYTES * count ≤ 2 ^ 64
+            → IfOk result (λ _. self.new ≡ longer (words_to_keep es address count) self.old) }
+        ensures covered { H.tells → (es : List Entry) → entries_of (reads (H.state h.old).now.words) self.old.at ≡ Option.Some es → address + WORD_BYTES * count ≤ 2 ^ 64
+            → words_to_keep es address count ≡ 0 → H.state h.new ≡ H.state h.old }
+        ensures changes { H.tells → Changes (InLog self.old.at) (fault_of result) (H.state h.old) (H.state h.new) }
+        ensures keeps { H.tells → (size : ℕ) → size ≡ (H.counts h.old).size → (g : Ground) → (es : List Entry) → (before : Image) → IsGround size self.old.at g
+            → g.may address count ≡ true → g.place address ≡ Option.Some first → IsRunning g self.old es before (H.state h.old).now.words
+            → Keeps g self.new es before (IsOneOf first count) (fault_of result) (H.state h.old) (H.state h.new) }
+        ensures cause { H.counts h.new ≡ after_fault (fault_of result) (H.counts h.old) }
+    {
+        if are_covered(h, self.at(), address, count)? {
+            return Ok(());
+        }
+        self.append_held(h, address, first, count)
+    }
+
+    /// Keeps in the log what `count` words from device word `first` on hold, from 1 to 32, as those of `address`, and what word
+    /// `second` holds, as that of `address2`: of each of the two an entry is appended where undo entries of the log do not cover
+    /// it already, and where both are, they are so under one gate.
+    ///
+    /// The log and the words lie in the device, and the log has room for the words and five more. At `Ok` each image left has
+    /// the words with the log replayed as they were when the transaction began, whatever is then written to them; before it,
+    /// each image has them so too. After an error `self` is as it was; the only errors are the host's own. No fence where all
+    /// words are covered, else two.
+    pub fn save_both<H: Host>(
+        &mut self,
+        h: &mut H,
+        address: u64,
+        first: u32,
+        count: u32,
+        address2: u64,
+        second: u32,
+    ) -> Result<(), HostFault>
+        requires place { self.old.at + LOG_WORDS ≤ (H.counts h.old).size }
+        requires some { 1 ≤ count }
+        requires no_more { count ≤ MAX_ENTRY_VALUES }
+        requires within { first + count ≤ (H.counts h.old).size }
+        requires second_within { second < (H.counts h.old).size }
+        requires room { self.old.used + (count + 5) ≤ LOG_ENTRY_WORDS }
+        ensures at { self.new.at ≡ self.old.at }
+        ensures room { self.new.used ≤ self.old.used + (count + 5) }
+        ensures failed { OnErr result (self.new ≡ self.old) }
+        ensures appended { H.tells → (es : List Entry) → entries_of (reads (H.state h.old).now.words) self.old.at ≡ Option.Some es → address + WORD_BYTES * count ≤ 2 ^ 64
+            → address2 + WORD_BYTES ≤ 2 ^ 64 → IfOk result (λ _. self.new ≡ longer (words_to_keep es address count + words_to_keep es address2 1) self.old) }
+        ensures covered { H.tells → (es : List Entry) → entries_of (reads (H.state h.old).now.words) self.old.at ≡ Option.Some es → address + WORD_BYTES * count ≤ 2 ^ 64
+            → address2 + WORD_BYTES ≤ 2 ^ 64 → words_to_keep es address count + words_to_keep es address2 1 ≡ 0 → H.state h.new ≡ H.state h.old }
+        ensures changes { H.tells → Changes (InLog self.old.at) (fault_of result) (H.state h.old) (H.state h.new) }
+        ensures keeps { H.tells → (size : ℕ) → size ≡ (H.counts h.old).size → (g : Ground) → (es : List Entry) → (before : Image) → IsGround size self.old.at g
+            → g.may address count ≡ true → g.place address ≡ Option.Some first → g.may address2 1 ≡ true → g.place address2 ≡ Option.Some second
+            → IsRunning g self.old es before (H.state h.old).now.words
+            → Keeps g self.new es before (λ k. IsOneOf first count k ⊎ (k ≡ second)) (fault_of result) (H.state h.old) (H.state h.new) }
+        ensures cause { H.counts h.new ≡ after_fault (fault_of result) (H.counts h.old) }
+    {
+        let one = are_covered(h, self.at(), address, count)?;
+        let other = are_covered(h, self.at(), address2, 1)?;
+        if one {
+            if other {
+                return Ok(());
+            }
+            return self.append_held(h, address2, second, 1);
+        }
+        if other {
+            return self.append_held(h, address, first, count);
+        }
+        self.append_both_held(h, address, first, count, address2, second)
+    }
+}
