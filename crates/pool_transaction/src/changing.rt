@@ -196,7 +196,7 @@ fn finish_both<H: Host>(
 impl Opened {
     /// Makes the update that was found, where the line that asks for it is not refused. The puddle that it writes is rewritten to its end first.
     ///
-    /// The device has so many frames, and three units are left. Two fences, and four for each batch of steps that are left of the puddle.
+    /// The device has so many frames, and three units are left. At most two fences, and four for each batch of steps that are left of the puddle.
     fn update<H: Host>(
         &mut self,
         h: &mut H,
@@ -231,7 +231,7 @@ impl Opened {
 
     /// Makes the update, or refuses to, as its line of the transaction's client does.
     ///
-    /// The device has so many frames. The puddle that is written is rewritten to its end first. Two fences, and four for each batch of steps that are left
+    /// The device has so many frames. The puddle that is written is rewritten to its end first. At most two fences, and four for each batch of steps that are left
     /// of the puddle; a refused one changes nothing.
     fn update_or_refuse<H: Host>(
         &mut self,
@@ -317,7 +317,7 @@ impl Opened {
     /// each slot is live, and then nothing is done. The puddles that it writes are rewritten to their ends first: that of the slot, and the first one,
     /// which has the next serial.
     ///
-    /// The device has so many frames, and 37 units are left. Four fences, and those of the batches of steps that are left of these puddles.
+    /// The device has so many frames, and 37 units are left. At most two fences, and those of the batches of steps that are left of these puddles.
     fn make<H: Host>(
         &mut self,
         h: &mut H,
@@ -421,7 +421,7 @@ impl Opened {
 
     /// Makes an object of type `t`, or refuses to, as the line `new` of the transaction's client does. A refused one changes nothing.
     ///
-    /// The device has so many frames. Where each slot is live the pool grows by a puddle first. Four fences, and those of a batch and of a fresh
+    /// The device has so many frames. Where each slot is live the pool grows by a puddle first. At most two fences, and those of a batch and of a fresh
     /// frame where it grows.
     fn new_object<H: Host>(
         &mut self,
@@ -459,8 +459,8 @@ impl Opened {
     /// A refused one changes nothing.
     ///
     /// The device has so many frames. A puddle that is written is rewritten to its end first, by four fences for each batch of its steps that are left. An
-    /// update takes two fences. An object takes four, and where each slot is live the pool grows by a puddle first, which takes those of a batch and of a
-    /// fresh frame; the puddle is then known.
+    /// update takes at most two fences, and so does an object; where each slot is live the pool grows by a puddle first, which takes those of a batch and
+    /// of a fresh frame; the puddle is then known.
     pub fn change<H: Host>(
         &mut self,
         h: &mut H,
