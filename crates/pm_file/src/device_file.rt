@@ -17,7 +17,22 @@ use std::rt::Files;
 pub(crate) struct DeviceFile<F> {
     pub(crate) file: F,
     /// Whether it is shorter than the device. The first write makes it as long.
-    pub(crate) is_short: bool,
+    is_short: bool,
+    /// Room for lines that are written together: made once, since its bytes are many and a fence has few lines.
+    run: LineRun,
+}
+
+impl<F> DeviceFile<F> {
+    /// An open file, which is shorter than the device or not.
+    pub(crate) fn new(file: F, is_short: bool) -> DeviceFile<F>
+        ensures { result.file ≡ file }
+    {
+        DeviceFile {
+            file,
+            is_short,
+            run: LineRun::new(),
+        }
+    }
 }
 
 /// Opens the file of a device of so many lines, locks it, and reads its words into an empty row, up to the last that is
@@ -56,10 +71,7 @@ fn make<R: Files<File = File>>(
     let file = File::create_new(runtime, path)?;
     file.try_lock()?;
     file.set_len(device_bytes(lines))?;
-    Ok(DeviceFile {
-        file,
-        is_short: false,
-    })
+    Ok(DeviceFile::new(file, false))
 }
 
 // The bytes of a device of so many lines.
@@ -83,7 +95,7 @@ fn read_durable<F: Read + OpenFile + Drop>(
     read_words(&mut file, lines as usize * LINE_WORDS, words)?;
     let is_short = file.metadata()?.len() < device_bytes(lines);
     file.sync_data()?;
-    Ok(DeviceFile { file, is_short })
+    Ok(DeviceFile::new(file, is_short))
 }
 
 impl<F: Write + Seek + OpenFile> DeviceFile<F> {
@@ -95,7 +107,8 @@ impl<F: Write + Seek + OpenFile> DeviceFile<F> {
     /// A write or the sync failed: each of the lines may hold its marked words or not.
     pub(crate) fn write_due(&mut self, words: &DeviceWords, is_behind: bool) -> io::Result<()> {
         let rows = &words.rows;
-        let mut run = LineRun::new();
+        let run = &mut self.run;
+        run.clear();
         let mut is_written = false;
         for line in rows.unsettled.as_slice() {
             if is_behind || rows.is_due(*line) {

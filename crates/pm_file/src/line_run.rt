@@ -35,6 +35,13 @@ impl LineRun {
         }
     }
 
+    /// No line waits any more.
+    pub(crate) fn clear(&mut self)
+        ensures { self.new.lines ≡ 0 }
+    {
+        self.lines = 0;
+    }
+
     /// Whether a line goes on with the run, and there is room for it.
     fn continues_at(&self, line: u32) -> bool
         ensures room { result ≡ true → self.now.lines < 64 }

@@ -10,13 +10,7 @@ use std::process::Abort;
 
 fn fake_device(rt: &impl Abort, alloc: Global) -> Device<FakeFile> {
     let words = DeviceWords::new(alloc, 16, Vec::new(alloc)).expect(rt, "memory");
-    Device::new(
-        DeviceFile {
-            file: FakeFile::new([0; BYTES]),
-            is_short: false,
-        },
-        words,
-    )
+    Device::new(DeviceFile::new(FakeFile::new([0; BYTES]), false), words)
 }
 
 /// What is done to the device or to its file.
