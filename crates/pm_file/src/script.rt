@@ -1,7 +1,7 @@
 //! The script that the host reads, a byte at a time.
 use std::alloc::{AllocError, Global};
 use std::io;
-use std::io::{BufReader, ErrorKind, Read};
+use std::io::{BufRead, BufReader, ErrorKind, Read};
 
 /// A stream with a buffer. Once it has ended, it stays at its end.
 #[derive(Drop)]
@@ -31,11 +31,15 @@ impl<I: Read + Drop> Script<I> {
         if self.is_ended {
             return Ok(None);
         }
-        let mut byte = [0u8; 1];
         for _ in 0..u64::MAX {
-            match self.reader.read(&mut byte) {
-                Ok(0) => break,
-                Ok(_) => return Ok(Some(byte[0])),
+            match self.reader.fill_buf() {
+                Ok(bytes) => {
+                    let Some(byte) = bytes.first().copied() else {
+                        break;
+                    };
+                    self.reader.consume(1);
+                    return Ok(Some(byte));
+                }
                 Err(error) if error.kind() == ErrorKind::Interrupted => {}
                 Err(error) => return Err(error),
             }
