@@ -38,6 +38,20 @@ fn append<H: Host>(rt: &impl Abort, host: &mut H, log: &mut Log, vals: &[u64]) -
     }
 }
 
+/// Appends two undo entries, of these values and of one value more.
+fn append_two<H: Host>(rt: &impl Abort, host: &mut H, log: &mut Log, vals: &[u64]) -> u32
+    requires { log.old.at ≡ 64 }
+    ensures { log.new.at ≡ 64 }
+{
+    assert!(rt; DAEMON_LOG + LOG_WORDS <= host.words() && 1 <= vals.len() && vals.len() <= 32);
+    match log.append_two(host, ADDRESS, vals, ADDRESS + 8, 98) {
+        Ok(()) => DONE,
+        Err(AppendFault::TooBig) => TOO_BIG,
+        Err(AppendFault::Host(HostFault::Cut)) => LOST,
+        Err(AppendFault::Host(HostFault::Failed)) => 3,
+    }
+}
+
 /// Opens a log, appends so many entries of 32 values and then one of each of these lists of values, whose answer has to be
 /// this and the gate behind it that; then it is committed, with this gate, and closed.
 fn grow<H: Host>(
@@ -131,4 +145,55 @@ fn a_cut_leaves_the_log_as_it_was_or_with_the_entry(rt: HostRuntime) {
         append_cut_at(&rt, rt.alloc(), step, NEWEST, 13);
         append_cut_at(&rt, rt.alloc(), step, EVERY_OTHER, 13);
     }
+}
+
+/// Two entries of one value each in a log without entries, with a cut at this step of their append: six stores, a flush and a
+/// fence; then a store of the gate, a flush and a fence, 11 steps in all. From this step on the gate counts both.
+fn two_cut<H: Host>(rt: &impl Abort, host: &mut H, step: u32, pick: u64, counted_from: u32) {
+    assert!(rt; DAEMON_LOG + LOG_WORDS <= host.words() && step >= 1);
+    let mut log = Log::open_running(host, DAEMON_LOG).expect(rt, "no fault");
+    host.arm(step, pick);
+    let answer = if step <= 11 { LOST } else { DONE };
+    assert!(rt; append_two(rt, host, &mut log, &[99]) == answer, "step {step}");
+    if step >= counted_from {
+        has(rt, host, DAEMON_LOG, &[393_728]);
+        has(rt, host, 72, &[ADDRESS, 65_537, 99, ADDRESS + 8, 65_537, 98]);
+    } else {
+        has(rt, host, DAEMON_LOG, &[512]);
+    }
+}
+
+/// It on a device of its own.
+fn two_cut_at(rt: &impl Abort, alloc: Global, step: u32, pick: u64, counted_from: u32) {
+    let mut host = device_with(rt, alloc, WORDS, &[]);
+    two_cut(rt, &mut host, step, pick, counted_from);
+}
+
+// A power loss at the tenth step may leave the new gate, and the twelfth step is behind the append.
+#[test]
+fn a_cut_leaves_the_log_as_it_was_or_with_both_entries(rt: HostRuntime) {
+    for step in 1..13 {
+        two_cut_at(&rt, rt.alloc(), step, OLDEST, 12);
+        two_cut_at(&rt, rt.alloc(), step, NEWEST, 10);
+        two_cut_at(&rt, rt.alloc(), step, EVERY_OTHER, 10);
+    }
+}
+
+/// In a log with so many entries of 32 values two of so many values and of one are appended, or are too big.
+fn two_behind(rt: &impl Abort, alloc: Global, full: u32, vals: &[u64], want: u32, gate: u64) {
+    let mut host = device_with(rt, alloc, WORDS, &[]);
+    assert!(rt; DAEMON_LOG + LOG_WORDS <= host.words());
+    let mut log = Log::open_running(&mut host, DAEMON_LOG).expect(rt, "no fault");
+    for _ in 0..full {
+        assert!(rt; append(rt, &mut host, &mut log, &[7; 32]) == DONE);
+    }
+    assert!(rt; append_two(rt, &mut host, &mut log, vals) == want, "gate {gate}");
+    leaves(rt, &mut host, DAEMON_LOG, &[gate]);
+}
+
+// 29 entries of 34 words leave room for 30 words.
+#[test]
+fn two_entries_are_too_big_from_1_017_words_on(rt: HostRuntime) {
+    two_behind(&rt, rt.alloc(), 29, &[7; 26], TOO_BIG, 64_619_008);
+    two_behind(&rt, rt.alloc(), 29, &[7; 25], DONE, 66_585_088);
 }

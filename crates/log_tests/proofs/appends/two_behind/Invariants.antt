@@ -1,0 +1,6 @@
+-- The log stands where it was opened.
+use Rattle.std.proofs.Common.{◌≡◌}
+use Rattle.log_tests.proofs.appends.two_behind.Given as goal
+
+abbrev pub invariant-loop : goal.invariant-loop
+invariant-loop g l = l.log.at ≡ 64
