@@ -154,10 +154,18 @@ fn two_cut<H: Host>(rt: &impl Abort, host: &mut H, step: u32, pick: u64, counted
     let mut log = Log::open_running(host, DAEMON_LOG).expect(rt, "no fault");
     host.arm(step, pick);
     let answer = if step <= 11 { LOST } else { DONE };
-    assert!(rt; append_two(rt, host, &mut log, &[99]) == answer, "step {step}");
+    assert!(rt;
+        append_two(rt, host, &mut log, &[99]) == answer,
+        "step {step}"
+    );
     if step >= counted_from {
         has(rt, host, DAEMON_LOG, &[393_728]);
-        has(rt, host, 72, &[ADDRESS, 65_537, 99, ADDRESS + 8, 65_537, 98]);
+        has(
+            rt,
+            host,
+            72,
+            &[ADDRESS, 65_537, 99, ADDRESS + 8, 65_537, 98],
+        );
     } else {
         has(rt, host, DAEMON_LOG, &[512]);
     }
@@ -187,7 +195,10 @@ fn two_behind(rt: &impl Abort, alloc: Global, full: u32, vals: &[u64], want: u32
     for _ in 0..full {
         assert!(rt; append(rt, &mut host, &mut log, &[7; 32]) == DONE);
     }
-    assert!(rt; append_two(rt, &mut host, &mut log, vals) == want, "gate {gate}");
+    assert!(rt;
+        append_two(rt, &mut host, &mut log, vals) == want,
+        "gate {gate}"
+    );
     leaves(rt, &mut host, DAEMON_LOG, &[gate]);
 }
 
