@@ -27,3 +27,5 @@ pub mod Moved
 pub mod Plain
 pub mod Law
 pub mod Placed
+pub mod KeyedSums
+pub mod Holders

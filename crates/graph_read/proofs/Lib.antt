@@ -3,8 +3,11 @@ pub mod ExamplesNumbers
 pub mod Fielded
 pub mod Found
 pub mod Held
+pub mod IndexBuilt
+pub mod IndexKept
 pub mod Judging
 pub mod Numbers
 pub mod Passing
 pub mod Pointed
+pub mod Retargets
 pub mod SerialsRead

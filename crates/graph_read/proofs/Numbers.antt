@@ -155,7 +155,7 @@ worth_under : (o : Option (ℕ × Object)) → worth nat_cmp (λ (e : ℕ × Obj
 worth_under None = refl
 worth_under (Some e) = refl
 
-sum_places-listed : (h : ℕ → ℕ) (from count : ℕ) → sum_places h from count ≡ sum_by h (range_with_len from count)
+pub sum_places-listed : (h : ℕ → ℕ) (from count : ℕ) → sum_places h from count ≡ sum_by h (range_with_len from count)
 unfolding sum_places
 sum_places-listed h from zero = refl
 sum_places-listed h from (suc count) = ap (λ n. h from + n) (sum_places-listed h (from + 1) count) ∙ sym (sum_by-cons h from (range_with_len (from + 1) count))

@@ -9,6 +9,8 @@
 mod asking;
 mod fields;
 mod holders;
+mod index;
+mod index_build;
 mod judge;
 mod places;
 mod pointers;
@@ -17,6 +19,7 @@ mod serials;
 pub use asking::{field_word, type_at};
 pub use fields::{FieldRead, field_at, read_field, serial_behind, value_at};
 pub use holders::is_held;
+pub use index::{Index, Kept};
 pub use judge::{Totals, pool_is_sound, pool_totals};
 pub use places::{find_place, find_serial};
 pub use pointers::read_pointer;

@@ -3,6 +3,8 @@
 #![tactic(auto)]
 
 #[cfg(test)]
+mod indexed;
+#[cfg(test)]
 mod moved;
 #[cfg(test)]
 mod pools;

@@ -14,10 +14,10 @@ const OLD: u64 = START + SLOT_0;
 
 const BOTH: u64 = START + RANGE + SLOT_0;
 
-const NEW: u64 = START + 2 * RANGE + SLOT_0;
+pub const NEW: u64 = START + 2 * RANGE + SLOT_0;
 
 /// Two puddles that moved by one range up, with these frontiers.
-fn moved(first: u64, second: u64) -> [Placed; 2] {
+pub fn moved(first: u64, second: u64) -> [Placed; 2] {
     [
         (
             1,
@@ -42,7 +42,7 @@ fn moved(first: u64, second: u64) -> [Placed; 2] {
 
 /// Objects 1 and 2 in the first two slots of the first puddle and 3 in the first of the second, all of whose pointers are this one, and
 /// the root too.
-fn words(pointer: u64) -> [Row; 14] {
+pub fn words(pointer: u64) -> [Row; 14] {
     [
         (FRAME_1 + 3, 4),
         (FRAME_1 + 4, pointer),

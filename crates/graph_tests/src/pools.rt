@@ -2,8 +2,8 @@
 ghost use Rattle.std.specs.Prelude.{IsTrue};
 ghost use Rattle.pud_defs.specs.Stored.{IsOnDevice};
 
-use graph_read::{FieldRead, is_held, pool_is_sound, read_field};
-use pm_mem::Plan;
+use graph_read::{FieldRead, Index, is_held, pool_is_sound, read_field};
+use pm_mem::{MemHost, Plan};
 use pm_model::{Host, HostFault};
 use pud_defs::layout::{MAX_FIELDS, MAX_FRAMES, MIN_FRAMES, device_words};
 use pud_defs::objects::Val;
@@ -119,6 +119,13 @@ fn ask<H: Host>(
     }
 }
 
+/// The smallest device, which has those words and then these.
+fn poked(rt: &impl Abort, alloc: Global, words: &[Row]) -> MemHost {
+    let mut host = blank_device(alloc, b"", Plan::none(alloc)).expect(rt, "memory");
+    assert!(rt; poke(&mut host, &WORDS) && poke(&mut host, words));
+    host
+}
+
 /// What is answered of a pool on the smallest device, which has those words and then these.
 pub fn asked_of(
     rt: &impl Abort,
@@ -127,7 +134,15 @@ pub fn asked_of(
     words: &[Row],
     asked: Asked,
 ) -> Answer {
-    let mut host = blank_device(alloc, b"", Plan::none(alloc)).expect(rt, "memory");
-    assert!(rt; poke(&mut host, &WORDS) && poke(&mut host, words));
+    let mut host = poked(rt, alloc, words);
     ask(rt, &mut host, MIN_FRAMES, pool, asked)
+}
+
+/// The index of a pool on that device.
+pub fn index_of(rt: &impl Abort, alloc: Global, pool: &[Placed], words: &[Row]) -> Index {
+    let mut host = poked(rt, alloc, words);
+    assert!(rt; device_words(MIN_FRAMES) <= host.words());
+    assert!(rt; is_on_device(MIN_FRAMES, pool));
+    let built = Index::build(alloc, &mut host, MIN_FRAMES, pool).expect(rt, "no fault");
+    built.expect(rt, "memory")
 }

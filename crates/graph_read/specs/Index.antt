@@ -1,0 +1,71 @@
+-- An index of a pool: what it keeps of each serial, and how its calls change that.
+use Rattle.std.specs.Prelude.{◌≡◌, ℕ, ◌+◌, ◌-◌, ◌<◌, ◌≤◌, ◌^◌, not, ◌&&◌, ◌==◌, nat_eq, cond, Option, Some, None, option_map}
+use Rattle.indexmap.specs.IndexMap.{get}
+use Rattle.graph_read.specs.declared.index.Kept.{Kept}
+use Rattle.graph_read.specs.declared.index.Index.{Index}
+
+-- what is kept of a serial, where it is in the index
+abbrev pub kept_under : Index → ℕ → Option Kept
+kept_under x s = get nat_eq x.map s
+
+-- the index has this of one serial, and of each other one what it had
+abbrev pub KeepsBut : (old new : Index) → (s : ℕ) → Option Kept → Type 0
+KeepsBut old new s now = (q : ℕ) → kept_under new q ≡ cond (nat_eq s q) now (kept_under old q)
+
+-- ---- what is kept of one serial
+
+-- an object at this place that none holds yet
+abbrev pub fresh : ℕ × ℕ → Kept
+fresh place = record { ordinal = place.0; slot = place.1; holders = 0 }
+
+-- the ordinal and the slot
+abbrev pub place_kept : Kept → ℕ × ℕ
+place_kept k = (k.ordinal, k.slot)
+
+-- how many hold it, 0 where nothing is kept
+abbrev pub holders_kept : Option Kept → ℕ
+holders_kept None = 0
+holders_kept (Some k) = k.holders
+
+-- the same at its place, with so many holders
+abbrev pub with_holders : ℕ → Kept → Kept
+with_holders n k = record { ordinal = k.ordinal; slot = k.slot; holders = n }
+
+-- it has a holder
+abbrev pub HasHolder : Option Kept → Type 0
+HasHolder None = ⊥
+HasHolder (Some k) = 1 ≤ k.holders
+
+-- a holder more can be counted
+abbrev pub HasRoom : Kept → Type 0
+HasRoom k = k.holders + 1 < 2 ^ 32
+
+-- it is kept, and a holder more can be counted
+abbrev pub MayBeHeld : Option Kept → Type 0
+MayBeHeld None = ⊥
+MayBeHeld (Some k) = HasRoom k
+
+-- ---- retargets
+
+-- how often a pointer that names one serial names another, which is once where they are the same; 0 is null
+abbrev pub names_one : (named s : ℕ) → ℕ
+names_one named s = cond (named == s && not (s == 0)) 1 0
+
+-- the same with so many holders more, and with so many fewer
+abbrev pub with_more : ℕ → Kept → Kept
+with_more n k = with_holders (k.holders + n) k
+
+abbrev pub with_fewer : ℕ → Kept → Kept
+with_fewer n k = with_holders (k.holders - n) k
+
+-- what is kept of a serial when a pointer names `from` no more
+abbrev pub after_release : (from s : ℕ) → Option Kept → Option Kept
+after_release from s kept = option_map (with_fewer (names_one from s)) kept
+
+-- what is kept of it when a pointer more names `to`
+abbrev pub after_hold : (to s : ℕ) → Option Kept → Option Kept
+after_hold to s kept = option_map (with_more (names_one to s)) kept
+
+-- what is kept of it when a pointer names `to` and no more `from`
+abbrev pub after_retarget : (from to s : ℕ) → Option Kept → Option Kept
+after_retarget from to s kept = after_hold to s (after_release from s kept)

@@ -1,0 +1,72 @@
+-- When an index is that of a pool, and how it is built.
+use Rattle.std.specs.Prelude.{◌≡◌, ℕ, ◌+◌, ◌≤◌, not, ◌&&◌, ◌==◌, cond, count_by, sum_by, List, Option, Some, None, option_map, IfSome}
+use Rattle.std.specs.List.{range_with_len}
+use Rattle.pud_defs.specs.declared.records.Puddle.{Puddle}
+use Rattle.pud_defs.specs.declared.objects.Val.{Val}
+use Rattle.pud_defs.specs.declared.objects.Val.TheVariants.{Num, Ref}
+use Rattle.pud_defs.specs.Geometry.{ordinal_of, slot_of}
+use Rattle.pud_defs.specs.Image.{Image}
+use Rattle.pud_defs.specs.Stored.{stored_in}
+use Rattle.pud_defs.specs.Graph.{Content, Table, Graph, named_by, names_serial, graph_of}
+use Rattle.pud_defs.specs.GraphChanges.{without_object}
+use Rattle.graph_laws.specs.Holders.{holders}
+use Rattle.graph_read.specs.declared.index.Kept.{Kept}
+use Rattle.graph_read.specs.declared.index.Index.{Index}
+use Rattle.graph_read.specs.Index.{kept_under, with_more, names_one}
+use Rattle.graph_read.specs.Reading.{place_in_pool}
+
+-- the ordinal and the slot of a place
+abbrev pub slot_at_place : ℕ → ℕ × ℕ
+slot_at_place p = (ordinal_of p, slot_of p)
+
+-- what is kept of an object at a place with so many holders
+abbrev pub kept_of : (n p : ℕ) → Kept
+kept_of n p = record { ordinal = ordinal_of p; slot = slot_of p; holders = n }
+
+-- The index has each serial that has a place, with that place and with its count.
+pub record IsIndexBy (place : ℕ → Option ℕ) (count : ℕ → ℕ) (x : Index) : Type 0 where
+  pub each : (q : ℕ) → kept_under x q ≡ option_map (kept_of (count q)) (place q)
+
+-- The index is what a scan of the pool gives: the place of each object, and how many hold it.
+pub record IsIndexOf (F : ℕ) (at : List (ℕ × Puddle)) (types : List (ℕ × ℕ)) (image : Image) (x : Index) : Type 0 where
+  pub graph : Graph
+  pub is : graph_of types (stored_in F at image) ≡ Some graph
+  pub index : IsIndexBy (place_in_pool F at image) (λ q. holders q graph) x
+
+-- ---- an object that is freed
+
+-- the serial that a value names, 0 where it names none
+abbrev pub serial_named : Val → ℕ
+serial_named (Num v) = 0
+serial_named (Ref s) = s
+
+-- how many hold an object while one is freed, of whose fields these are still to be let go
+abbrev pub holders_left : Graph → (freed : ℕ) → List Val → ℕ → ℕ
+holders_left g freed left q = holders q (without_object freed g) + count_by (names_serial q) left
+
+-- ---- how it is built
+
+-- what is kept of a serial when the slot at a place is listed, whose serial this is
+abbrev pub after_list : (serial place s : ℕ) → Option Kept → Option Kept
+after_list serial place s kept = cond (serial == s && not (s == 0)) (Some (kept_of 0 place)) kept
+
+-- Each serial that is kept has so many holders more.
+pub record Gains (more : ℕ → ℕ) (old new : Index) : Type 0 where
+  pub each : (q : ℕ) → kept_under new q ≡ option_map (with_more (more q)) (kept_under old q)
+
+-- Each has at most so many holders.
+pub record HasAtMost (n : ℕ) (x : Index) : Type 0 where
+  pub each : (q : ℕ) → IfSome (kept_under x q) (λ k. k.holders ≤ n)
+
+-- how often these contents name a serial
+abbrev pub contents_name : (ℕ → ℕ) → Option (List Content) → (s : ℕ) → ℕ
+contents_name serial None s = 0
+contents_name serial (Some contents) s = sum_by (λ c. names_one (named_by serial c) s) contents
+
+-- how often the fields of the slot at a place name it, where the slot is live
+abbrev pub place_names : Table → (place s : ℕ) → ℕ
+place_names t p s = cond (t.serial p == 0) 0 (contents_name t.serial (t.contents p) s)
+
+-- how often the live slots of the first n places name it
+abbrev pub places_name : Table → (n s : ℕ) → ℕ
+places_name t n s = sum_by (λ p. place_names t p s) (range_with_len 0 n)

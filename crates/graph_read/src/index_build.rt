@@ -1,0 +1,189 @@
+//! How an index is built: one pass over the serials of a pool, and one over its fields.
+
+ghost use Rattle.std.specs.Prelude.{◌≡◌, ◌*◌, ◌+◌, ◌<◌, ◌≤◌, ℕ, true, length, map, slice_index, Option, option_map, IfOk, IfSome, OnOk};
+ghost use Rattle.std.specs.Ordering.{nat_cmp};
+ghost use Rattle.pm_model.specs.Words.{reads};
+ghost use Rattle.pm_model.specs.Counts.{fault_of};
+ghost use Rattle.pm_model.specs.Reads.{OnlyReads};
+ghost use Rattle.pud_defs.specs.Graph.{Graph, content, contents_by, graph_of, named_by, under_serial};
+ghost use Rattle.pud_defs.specs.Image.{Image};
+ghost use Rattle.pud_defs.specs.Keyed.{first_from};
+ghost use Rattle.pud_defs.specs.Layout.{device_words};
+ghost use Rattle.pud_defs.specs.Stored.{IsOnDevice, stored_in};
+ghost use Rattle.pud_defs.specs.Types.{types_of};
+ghost use Rattle.puddle_header.specs.Places.{places_in};
+ghost use Rattle.graph_read.specs.Asking.{with_serials};
+ghost use Rattle.graph_read.specs.Index.{kept_under};
+ghost use Rattle.graph_read.specs.Indexed.{kept_of, IsIndexOf, after_list, Gains, HasAtMost, contents_name, place_names, places_name};
+ghost use Rattle.graph_read.specs.Reading.{table_in};
+
+use crate::asking::{field_word, type_at};
+use crate::index::Index;
+use crate::pointers::read_pointer;
+use crate::serials::{PLACES, Serials, named, read_serials};
+use pm_model::{HostFault, Loads};
+use pud_defs::layout::{MAX_FIELDS, MAX_FRAMES};
+use pud_defs::objects::is_free;
+use pud_defs::records::{MAX_PUDDLES, Puddle};
+use pud_defs::space::{MAX_PLACES, ordinal_of, places_among, slot_of};
+use pud_defs::type_map::{map_fields, map_is_pointer};
+use puddle_header::root_value;
+use std::alloc::Global;
+use type_maps::find;
+
+/// The serial that field `f` of the slot at a place names, by its word and the map of the slot's type: 0 where it is a number,
+/// null, or a pointer to no slot.
+fn serial_in_field(
+    pool: &[(u32, Puddle)],
+    serials: &Serials,
+    place: u32,
+    type_map: u64,
+    f: u32,
+    v: u64,
+) -> u64
+    requires few { length pool.now ≤ MAX_PUDDLES }
+    requires within { place < places_in pool.now }
+    ensures { result ≡ named_by (slice_index serials.now) (content (map (λ e. e.1) pool.now) type_map place f v) }
+{
+    if !map_is_pointer(type_map, f) {
+        return 0;
+    }
+    let pointee = read_pointer(pool, ordinal_of(place), slot_of(place) + 1, v);
+    named(serials, pointee)
+}
+
+impl Index {
+    /// Keeps the object of this serial at its place, unless the serial is 0 and the place free. False is want of memory.
+    fn list(&mut self, serial: u64, place: u32) -> bool
+        ensures { result ≡ true → (q : ℕ) → kept_under self.new q ≡ after_list serial place q (kept_under self.old q) }
+    {
+        is_free(serial) || self.insert(serial, (ordinal_of(place), slot_of(place)))
+    }
+
+    /// An index of the live places among so many, none of which is held yet, or None for want of memory. The places are listed
+    /// from the last one on, so that of two with one serial the lower counts.
+    fn list_all(alloc: Global, serials: &Serials, count: u32) -> Option<Index>
+        requires within { count ≤ PLACES }
+        ensures { IfSome result (λ x. (q : ℕ) → kept_under x q ≡ option_map (kept_of 0) (first_from nat_cmp q (under_serial (slice_index serials.now) (λ p. p)) 0 count)) }
+    {
+        let mut index = Index::new(alloc);
+        for place in (0..count).rev() {
+            if !index.list(serials[place as usize], place) {
+                return None;
+            }
+        }
+        Some(index)
+    }
+
+    /// Counts what the fields of the slot at a place name, by the map of its type. At most 30 fields are read.
+    fn hold_fields<H: Loads>(
+        &mut self,
+        h: &mut H,
+        frames: u32,
+        pool: &[(u32, Puddle)],
+        serials: &Serials,
+        place: u32,
+        type_map: u64,
+    ) -> Result<(), HostFault>
+        requires few { frames ≤ MAX_FRAMES }
+        requires room { device_words frames ≤ (H.counts h.old).size }
+        requires known { IsOnDevice frames pool.now }
+        requires within { place < places_in pool.now }
+        requires most { HasAtMost (MAX_FIELDS * place) self.old }
+        ensures most { OnOk result (HasAtMost (MAX_FIELDS * (place + 1)) self.new) }
+        ensures holds { H.tells → (image : Image) → reads (H.state h.old).now.words ≡ image
+            → OnOk result (Gains (contents_name (slice_index serials.now) (contents_by (stored_in frames pool.now image) place (Option.Some type_map))) self.old self.new) }
+        ensures only_reads { OnlyReads H.tells H.state H.counts (fault_of result) h.old h.new }
+    {
+        for f in 0..map_fields(type_map).min(MAX_FIELDS) {
+            let v = field_word(h, frames, pool, place, f)?;
+            self.hold(serial_in_field(pool, serials, place, type_map, f, v));
+        }
+        Ok(())
+    }
+
+    /// Counts what the slot at a place names, where it is live.
+    fn hold_place<H: Loads>(
+        &mut self,
+        h: &mut H,
+        frames: u32,
+        pool: &[(u32, Puddle)],
+        serials: &Serials,
+        place: u32,
+    ) -> Result<(), HostFault>
+        requires few { frames ≤ MAX_FRAMES }
+        requires room { device_words frames ≤ (H.counts h.old).size }
+        requires known { IsOnDevice frames pool.now }
+        requires within { place < places_in pool.now }
+        requires most { HasAtMost (MAX_FIELDS * place) self.old }
+        ensures most { OnOk result (HasAtMost (MAX_FIELDS * (place + 1)) self.new) }
+        ensures holds { H.tells → (image : Image) → reads (H.state h.old).now.words ≡ image
+            → OnOk result (Gains (place_names (with_serials (slice_index serials.now) (table_in frames pool.now image)) place) self.old self.new) }
+        ensures only_reads { OnlyReads H.tells H.state H.counts (fault_of result) h.old h.new }
+    {
+        if is_free(serials[place as usize]) {
+            return Ok(());
+        }
+        let id = type_at(h, frames, pool, place)?;
+        match find(h, id)? {
+            Some(type_map) => self.hold_fields(h, frames, pool, serials, place, type_map),
+            None => Ok(()),
+        }
+    }
+
+    /// Counts what the slots of a pool name.
+    fn hold_all<H: Loads>(
+        &mut self,
+        h: &mut H,
+        frames: u32,
+        pool: &[(u32, Puddle)],
+        serials: &Serials,
+    ) -> Result<(), HostFault>
+        requires few { frames ≤ MAX_FRAMES }
+        requires room { device_words frames ≤ (H.counts h.old).size }
+        requires known { IsOnDevice frames pool.now }
+        requires most { HasAtMost 0 self.old }
+        ensures most { OnOk result (HasAtMost (MAX_FIELDS * MAX_PLACES) self.new) }
+        ensures holds { H.tells → (image : Image) → reads (H.state h.old).now.words ≡ image
+            → OnOk result (Gains (places_name (with_serials (slice_index serials.now) (table_in frames pool.now image)) (places_in pool.now)) self.old self.new) }
+        ensures only_reads { OnlyReads H.tells H.state H.counts (fault_of result) h.old h.new }
+    {
+        for place in 0..places_among(pool.len() as u32) {
+            self.hold_place(h, frames, pool, serials, place)?;
+        }
+        Ok(())
+    }
+
+    /// The index of a pool that stores a graph: each object with its ordinal and slot, and with how many hold it. None is want
+    /// of memory. Where the pool stores no graph, what the index has says nothing.
+    ///
+    /// Each serial and each field is read once. The memory is that of `alloc`, which the index keeps.
+    pub fn build<H: Loads>(
+        alloc: Global,
+        h: &mut H,
+        frames: u32,
+        pool: &[(u32, Puddle)],
+    ) -> Result<Option<Index>, HostFault>
+        requires few { frames ≤ MAX_FRAMES }
+        requires room { device_words frames ≤ (H.counts h.old).size }
+        requires known { IsOnDevice frames pool.now }
+        ensures built { H.tells → (image : Image) → reads (H.state h.old).now.words ≡ image
+            → (g : Graph) → graph_of (types_of image) (stored_in frames pool.now image) ≡ Option.Some g
+            → IfOk result (λ built. IfSome built (IsIndexOf frames pool.now (types_of image) image)) }
+        ensures only_reads { OnlyReads H.tells H.state H.counts (fault_of result) h.old h.new }
+    {
+        if pool.is_empty() {
+            return Ok(Some(Index::new(alloc)));
+        }
+        let (first, _) = pool[0];
+        let root = root_value(h, frames, first)?;
+        let serials = read_serials(h, frames, pool)?;
+        let count = places_among(pool.len() as u32);
+        let Some(mut index) = Index::list_all(alloc, &serials, count) else {
+            return Ok(None);
+        };
+        index.hold_all(h, frames, pool, &serials)?;
+        index.hold(named(&serials, read_pointer(pool, 0, 0, root)));
+        Ok(Some(index))
+    }
+}
