@@ -5,17 +5,16 @@ use Rattle.std.proofs.lemmas.Bool.Decides.{leb_tells}
 use Rattle.pud_defs.specs.declared.layout.TheConstants.{LOG_HEADER_WORDS, LOG_ENTRY_WORDS}
 use Rattle.pud_defs.specs.Image.{Image}
 use Rattle.pud_defs.specs.Entries.{Entry, gate_used, is_legal_gate, words_from, first_entry, entries_in, entries_of}
-use Rattle.pud_defs.specs.Replay.{IsInLog}
 use Rattle.pud_defs.proofs.Entries.{words_from-length, words_from-none, words_from-same, words_from-drop, first_entry-fits, entries_in-first, entries_in-none, entries_in-nothing}
 use Rattle.log_entry.specs.declared.Entry.{Entry as Found}
 use Rattle.log_entry.specs.Reading.{Reading, words_left, entry_next, entries_left, entry_from, PassesOne, Passes, left_before}
 use Rattle.log_entry.proofs.Readings.{next-by}
 
 -- no more words are counted than a log has
-legal_within : (v : ℕ) → is_legal_gate v ≡ true → gate_used v ≤ LOG_ENTRY_WORDS
+pub legal_within : (v : ℕ) → is_legal_gate v ≡ true → gate_used v ≤ LOG_ENTRY_WORDS
 legal_within v legal = leb-true (gate_used v) LOG_ENTRY_WORDS (and_parts (ltb v (2 ^ 32)) (leb (gate_used v) LOG_ENTRY_WORDS) legal).1
 
-left_legal : (image : Image) (r : Reading) → is_legal_gate (image r.log_at) ≡ true → entries_left image r ≡ entries_in 0 (words_left image r)
+pub left_legal : (image : Image) (r : Reading) → is_legal_gate (image r.log_at) ≡ true → entries_left image r ≡ entries_in 0 (words_left image r)
 unfolding entries_left
 left_legal image r legal = cond-true _ _ _ legal
 
@@ -31,19 +30,20 @@ entries_left-start image at r start =
     ap (entries_left image) start
     ∙ ap₂ (λ (k n : ℕ). cond (is_legal_gate (image at)) (entries_in 0 (words_from image k n)) None) (add-zero (at + LOG_HEADER_WORDS)) count
 
--- images that hold the same log have the same entries left
-pub entries_left-same : (i j : Image) (r : Reading) → ((k : ℕ) → IsInLog r.log_at k → i k ≡ j k) → entries_left i r ≡ entries_left j r
-entries_left-same i j r same =
-    let gate : i r.log_at ≡ j r.log_at = same r.log_at (record { low = omega arith; high = omega arith }) in
-    elim (cases_Bool (is_legal_gate (i r.log_at))) [
-      | inr illegal ↦ left_illegal i r illegal ∙ sym (left_illegal j r (sym (ap is_legal_gate gate) ∙ illegal))
-      | inl legal ↦
-          let within = legal_within (i r.log_at) legal in
-          left_legal i r legal
-          ∙ ap (entries_in 0) (words_from-same i j (r.log_at + LOG_HEADER_WORDS + r.passed) (gate_used (i r.log_at) - r.passed) (λ k low high. same k (record { low = omega arith; high = omega arith })))
-          ∙ ap (λ (v : ℕ). entries_in 0 (words_from j (r.log_at + LOG_HEADER_WORDS + r.passed) (gate_used v - r.passed))) gate
-          ∙ sym (left_legal j r (sym (ap is_legal_gate gate) ∙ legal))
-    ]
+-- where some are left the gate is legal
+pub left_is_legal : (image : Image) (r : Reading) (es : List Entry) → entries_left image r ≡ Some es → is_legal_gate (image r.log_at) ≡ true
+left_is_legal image r es left = elim (cases_Bool (is_legal_gate (image r.log_at))) [
+  | inl legal ↦ legal
+  | inr illegal ↦ absurd (let it : None ≡ Some es = sym (left_illegal image r illegal) ∙ left in cc)
+]
+
+-- images that agree on the gate and on the words that were not read have the same entries left
+pub entries_left-behind : (i j : Image) (r : Reading) → i r.log_at ≡ j r.log_at → ((k : ℕ) → r.log_at + LOG_HEADER_WORDS + r.passed ≤ k → i k ≡ j k) → entries_left i r ≡ entries_left j r
+unfolding entries_left
+entries_left-behind i j r gate same =
+    ap₂ (λ (v : ℕ) (ws : List ℕ). cond (is_legal_gate v) (entries_in 0 ws) None) gate
+    (words_from-same i j (r.log_at + LOG_HEADER_WORDS + r.passed) (gate_used (i r.log_at) - r.passed) (λ k low high. same k low)
+    ∙ ap (λ (v : ℕ). words_from j (r.log_at + LOG_HEADER_WORDS + r.passed) (gate_used v - r.passed)) gate)
 
 -- ---- one more entry is read
 

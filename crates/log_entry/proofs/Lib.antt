@@ -1,2 +1,4 @@
 pub mod Readings
 pub mod Left
+pub mod Copies
+pub mod Readdressed

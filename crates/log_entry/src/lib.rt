@@ -17,10 +17,12 @@ ghost use Rattle.log_entry.specs.Reading.{Reading, entry_next, entries_left, ent
 ghost use Rattle.log_entry.specs.Ranges.{HasRange};
 
 mod closed;
+mod copy;
 pub mod laws;
 mod values;
 
 pub use closed::is_closed_log;
+pub use copy::{CopyReader, LogCopy};
 use pm_model::{Host, HostFault};
 use pud_defs::layout::{
     ENTRY_HEADER_WORDS, LOG_ENTRY_WORDS, LOG_HEADER_WORDS, LOG_WORDS, MAX_ENTRY_VALUES,

@@ -1,5 +1,5 @@
 -- Words overwritten entry by entry.
-use Rattle.std.proofs.Common.{◌≡◌, ◌⊎◌, inl, inr, ℕ, ◌+◌, ◌≤◌, true, eqb, length, Option, Some, None, IsTrue, refl, sym, ap, subst, ◌∙◌}
+use Rattle.std.proofs.Common.{◌≡◌, ◌⊎◌, inl, inr, ℕ, true, eqb, Option, Some, None, refl, sym, ap, subst, ◌∙◌}
 use Rattle.std.specs.Option.{option_or}
 use Rattle.std.proofs.lemmas.Bool.{and_from, cond-true, eq-eqb}
 use Rattle.pm_model.specs.declared.host.HostFault.{HostFault}
@@ -10,7 +10,7 @@ use Rattle.pm_model.specs.Changes.{Footprint, Write, Writes, Changes, placed, wr
 use Rattle.pm_model.proofs.Changes.{Changes-still, Changes-wider, Changes-then}
 use Rattle.pud_defs.specs.Entries.{Entry, Log}
 use Rattle.pud_defs.specs.Replay.{Place, is_in_range, given_by, value_from, over}
-use Rattle.log_replay.specs.Replaying.{Anything, IsNamed, Named, Applies, NamesApart}
+use Rattle.log_replay.specs.Replaying.{Anything, IsNamed, Named, Applies}
 
 -- nothing is written
 pub Applies-nothing : (write : Write) (s t : State) → ((w : ℕ) → write w ≡ None) → t ≡ s → Applies write None s t
@@ -36,18 +36,6 @@ pub given_by-counts : (place : Place) (log : Log) (order : ℕ) (e : Entry) (fir
 given_by-counts place log order e first w counts same there =
     cond-true _ _ _ (and_from (is_in_range log e) (eqb e.order order) counts (eq-eqb e.order order same))
     ∙ ap (λ (o : Option ℕ). value_from o e.vals w) there
-
--- where an entry that counts goes, by a search that finds the place of each that lies in the device
-pub record GoesTo (place : Place) (e : Entry) (found : Option ℕ) : Type 0 where
-  pub first : ℕ
-  pub there : found ≡ Some first
-  pub placed : place e.address ≡ Some first
-
-pub goes_to : (place : Place) (size log_at : ℕ) (log : Log) (e : Entry) (found : Option ℕ) → is_in_range log e ≡ true → (IsTrue (is_in_range log e) → NamesApart place size log_at e)
-    → ((first : ℕ) → place e.address ≡ Some first → first + length e.vals ≤ size → found ≡ Some first) → GoesTo place e found
-goes_to place size log_at log e found counts apart finds =
-    let names = apart counts in
-    record { first = names.first; there = finds names.first names.placed names.within; placed = names.placed }
 
 -- ---- one after the other
 

@@ -1,5 +1,6 @@
 pub mod Applying
 pub mod Places
 pub mod Left
+pub mod Placed
 pub mod Whole
 pub mod Closing

@@ -1,13 +1,9 @@
 -- Where the addresses of a target are: in no word of which the places themselves are read.
-use Rattle.std.proofs.Common.{◌≡◌, inl, inr, ℕ, ◌+◌, ◌<◌, ◌≤◌, Option, Some, None, option_map, refl, sym, ap, ◌∙◌, arith}
+use Rattle.std.proofs.Common.{◌≡◌, inl, inr, ℕ, ◌<◌, ◌≤◌, Option, Some, None, option_map, refl, sym, ap, ◌∙◌, arith}
 use Rattle.std.proofs.lemmas.Bool.{cases_lt}
-use Rattle.pm_model.specs.Words.{reads}
-use Rattle.pm_model.specs.Moments.{State}
-use Rattle.pm_model.specs.Changes.{Write, Changes}
 use Rattle.pud_defs.specs.declared.layout.TheConstants.{PUDDLE_TABLE}
 use Rattle.pud_defs.specs.Image.{Image}
 use Rattle.pud_defs.specs.Layout.{tables_end, frames_at, IsWithin}
-use Rattle.pud_defs.specs.Frames.{frame_at}
 use Rattle.pud_defs.specs.Tables.{tables_of}
 use Rattle.pud_defs.specs.Places.{first_some, place_by, located}
 use Rattle.pud_defs.specs.Replay.{Place}
@@ -15,11 +11,8 @@ use Rattle.pud_defs.specs.Allowed.{puddle_word}
 use Rattle.pud_defs.proofs.TablesOf.{puddles_below, puddles_beyond, puddle_at-same}
 use Rattle.log_replay.specs.declared.Target.{Target}
 use Rattle.log_replay.specs.declared.Target.TheVariants as targets
-use Rattle.log_replay.specs.Replaying.{place_of, IsPlacing, Named}
-
--- the word of a frame that was located
-abbrev pub word_at : (F : ℕ) → ℕ × ℕ → ℕ
-word_at F at = frame_at F at.0 + at.1
+use Rattle.log_replay.specs.Placing.{word_at}
+use Rattle.log_replay.specs.Replaying.{place_of, IsPlacing}
 
 pub place_of-located : (F : ℕ) (image : Image) (address : ℕ) → puddle_word (tables_of F image) address ≡ option_map (word_at F) (located (tables_of F image) address)
 unfolding puddle_word tables_of
@@ -57,9 +50,3 @@ place_above (targets.Puddles F) image place same k placing address w there =
     let low = mapped_above F w (located (tables_of F image) address) (sym (place_of-located F image address) ∙ ap (λ (f : Place). f address) same ∙ there) in
     let high = placing.high in
     omega arith
-
--- so they stay where nothing is written there
-pub places_kept : (to : Target) (write : Write) (s t : State) → Changes (Named write) None s t → ((k : ℕ) → IsPlacing to k → write k ≡ None) → place_of to (reads t.now.words) ≡ place_of to (reads s.now.words)
-places_kept to write s t changes apart =
-    places_same to (reads s.now.words) (reads t.now.words)
-    (λ k placing. (changes.keeps (λ cut. cc) k (λ v named. absurd (let it : None ≡ Some named.value = sym (apart k placing) ∙ named.is in cc))).newest)

@@ -13,13 +13,11 @@ use Rattle.pm_model.proofs.Leaves.{Leaves-changes}
 use Rattle.pud_defs.specs.declared.layout.TheConstants.{LOG_HEADER_WORDS, LOG_ENTRY_WORDS}
 use Rattle.pud_defs.specs.Image.{Image}
 use Rattle.pud_defs.specs.Entries.{Entry, Log, log_of, gate_used, entries_of}
-use Rattle.pud_defs.specs.Replay.{Place, undone, redone, new_value, over, overwritten, IsInLog}
+use Rattle.pud_defs.specs.Replay.{Place, new_value, overwritten, IsInLog}
 use Rattle.pud_defs.proofs.Entries.{log_of-same, used_within}
 use Rattle.pud_defs.proofs.Replay.{overwritten-again, new_value-of}
-use Rattle.log_entry.specs.Reading.{Reading}
-use Rattle.log_entry.proofs.Left.{entries_left-start}
 use Rattle.log_replay.specs.declared.Target.{Target}
-use Rattle.log_replay.specs.Replaying.{place_of, IsPlacing, IsReplayable, HasDurableLog, AreApart, IsLeft, new_values, Named, Applies, ReplaysSame, Replays, ReplaysAgain}
+use Rattle.log_replay.specs.Replaying.{place_of, IsPlacing, IsReplayable, HasDurableLog, AreApart, new_values, Named, Applies, ReplaysSame, Replays, ReplaysAgain}
 use Rattle.log_replay.proofs.Places.{places_same}
 use Rattle.log_replay.proofs.Left.{undone-apart, redone-apart, undone-unplaced, redone-unplaced}
 
@@ -51,20 +49,6 @@ log_of_picked to at words image d picked =
 pub new_values_picked : (to : Target) (at : ℕ) (words : Words) (image : Image) → HasDurableLog to at words → Picks words image → new_values to at image ≡ new_values to at (reads words)
 new_values_picked to at words image d picked =
     ap₂ new_value (places_same to (reads words) image (λ k placing. (d.table k placing).each (image k) (picked.each k))) (log_of_picked to at words image d picked)
-
--- before the first entry all are left to read
-pub all_left : (place : Place) (size at : ℕ) (es : List Entry) (image : Image) (reading : Reading) → reading ≡ record { log_at = at; passed = 0 } → IsReplayable place size at es image
-    → IsLeft place size (log_of image at) reading es image
-all_left place size at es image reading start r =
-    record {
-      left = entries_left-start image at reading start ∙ r.spells;
-      apart = subst (λ (k : ℕ). AreApart place size k (log_of image at) es) (sym (ap (λ (x : Reading). x.log_at) start)) r.apart;
-    }
-
--- what all its entries give, undo entries first
-pub new_value-parts : (place : Place) (size at : ℕ) (es : List Entry) (image : Image) → IsReplayable place size at es image
-    → (w : ℕ) → new_value place (log_of image at) w ≡ over (undone place (log_of image at) es) (redone place (log_of image at) es) w
-new_value-parts place size at es image r w = new_value-of place (log_of image at) es w r.spells
 
 -- ---- while words that the log names change
 

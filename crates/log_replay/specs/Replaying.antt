@@ -12,7 +12,8 @@ use Rattle.pud_defs.specs.Entries.{Entry, Log, log_of, gate_used, is_idle_gate, 
 use Rattle.pud_defs.specs.Replay.{Place, device_word, is_in_range, new_value, overwritten, is_in_log, settled_by}
 use Rattle.pud_defs.specs.Tables.{tables_of}
 use Rattle.pud_defs.specs.Allowed.{puddle_word}
-use Rattle.log_entry.specs.Reading.{Reading, entries_left}
+use Rattle.log_entry.specs.Copying.{Copied, log_copied}
+use Rattle.log_replay.specs.Placing.{placed_log}
 use Rattle.log_replay.specs.declared.Target.{Target}
 use Rattle.log_replay.specs.declared.Target.TheVariants as targets
 
@@ -22,6 +23,11 @@ use Rattle.log_replay.specs.declared.Target.TheVariants as targets
 abbrev pub place_of : Target → Image → Place
 place_of targets.Words image = device_word
 place_of (targets.Puddles F) image = puddle_word (tables_of F image)
+
+-- the log with device words for the addresses of entries in range, where addresses of the target are others
+abbrev pub log_to : Target → Image → Log → Log
+log_to targets.Words image log = log
+log_to (targets.Puddles F) image log = placed_log (puddle_word (tables_of F image)) log
 
 -- the places of the target are read of this word
 abbrev pub IsPlacing : Target → ℕ → Type 0
@@ -62,10 +68,9 @@ pub record HasDurableLog (to : Target) (at : ℕ) (words : Words) : Type 0 where
   pub counted : (k : ℕ) → at + LOG_HEADER_WORDS ≤ k → k < at + LOG_HEADER_WORDS + gate_used (reads words at) → HasOnly (words k) (reads words k)
   pub table : (k : ℕ) → IsPlacing to k → HasOnly (words k) (reads words k)
 
--- these entries are left to read, and those in range name words apart
-pub record IsLeft (place : Place) (size : ℕ) (log : Log) (r : Reading) (es : List Entry) (image : Image) : Type 0 where
-  pub left : entries_left image r ≡ Some es
-  pub apart : AreApart place size r.log_at log es
+-- the copy has the log whose gate is this word, with device words for the addresses of entries in range
+pub record IsPlacedCopy (to : Target) (at : ℕ) (image : Image) (copy : Copied) : Type 0 where
+  pub log : log_copied copy ≡ log_to to image (log_of image at)
 
 -- ---- what a replay does
 

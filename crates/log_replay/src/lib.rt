@@ -8,27 +8,33 @@
 //! replay leaves the places of addresses as they are.
 #![tactic(auto)]
 
-ghost use Rattle.std.specs.Prelude.{◌≡◌, ◌+◌, ◌-◌, ◌<◌, ◌≤◌, ℕ, List, Option, IfOk, IfSome, IsTrue};
+ghost use Rattle.std.specs.Prelude.{◌≡◌, ◌+◌, ◌<◌, ◌≤◌, ℕ, List, Option, option_map, IfOk, IfSome};
 ghost use Rattle.pm_model.specs.Words.{reads};
 ghost use Rattle.pm_model.specs.Counts.{after_fault, fault_of};
 ghost use Rattle.pm_model.specs.Reads.{OnlyReads};
-ghost use Rattle.pm_model.specs.Changes.{placed, Changes, Writes, Leaves, Silently};
-ghost use Rattle.pud_defs.specs.declared.layout.TheConstants.{LOG_WORDS, MAX_ENTRY_VALUES};
-ghost use Rattle.pud_defs.specs.declared.log_words.TheConstants.{UNDO_ORDER, REDO_ORDER};
+ghost use Rattle.pm_model.specs.Changes.{Changes, Leaves, Silently};
+ghost use Rattle.pud_defs.specs.declared.layout.TheConstants.{LOG_WORDS, MAX_FRAMES};
 ghost use Rattle.pud_defs.specs.Image.{Image};
-ghost use Rattle.pud_defs.specs.Entries.{Entry as LoggedEntry, Log, log_of, words_from};
-ghost use Rattle.pud_defs.specs.Replay.{Place, device_word, is_in_range, given_by, undone, redone};
-ghost use Rattle.log_entry.specs.Reading.{entry_from};
-ghost use Rattle.log_entry.specs.Ranges.{HasRange};
-ghost use Rattle.log_replay.specs.Replaying.{place_of, HasTables, NamesApart, IsLeft, IsReplayable, HasDurableLog, new_values, Anything, Applies, Replays, ReplaysAgain, IsSettling, SettlesSame, SettlesLog};
+ghost use Rattle.pud_defs.specs.Layout.{tables_end};
+ghost use Rattle.pud_defs.specs.Entries.{Entry as LoggedEntry, log_of, entries_of};
+ghost use Rattle.pud_defs.specs.Replay.{device_word};
+ghost use Rattle.puddle_space.specs.Within.{IsPlaceIn};
+ghost use Rattle.log_entry.specs.Copying.{log_copied};
+ghost use Rattle.log_replay.specs.Placing.{word_at, word_or_none, placed_log};
+ghost use Rattle.log_replay.specs.Replaying.{place_of, log_to, HasTables, IsPlacedCopy, IsReplayable, HasDurableLog, Anything, Replays, ReplaysAgain, IsSettling, SettlesSame, SettlesLog};
 
-use log_entry::{Entry, EntryReader, LogRange, read_values};
+mod copies;
+
+use crate::copies::overwrite;
+use log_entry::{CopyReader, LogCopy};
 use pm_model::{Host, HostFault};
-use pm_persist::{persist_word, write_range};
-use pud_defs::layout::MAX_ENTRY_VALUES;
-use pud_defs::log_words::{CLOSED_GATE, REDO_ORDER, UNDO_ORDER};
+use pm_persist::persist_word;
+use pud_defs::log_words::CLOSED_GATE;
 use pud_defs::space::frame_at;
-use puddle_space::locate;
+use puddle_space::Nearby;
+
+/// The number of no device word, which an entry in range gets that names none.
+pub const NO_WORD: u64 = u64::MAX;
 
 /// Which places the addresses of a log's entries are.
 #[derive(Clone, Copy)]
@@ -41,139 +47,80 @@ pub enum Target {
 }
 
 impl Target {
-    /// The device word that an address is, where it is one. It may lie beyond the device.
-    fn word_of<H: Host>(self, h: &mut H, address: u64) -> Result<Option<u64>, HostFault>
+    /// Gives each entry of a copy that is in range the device word that it names first, in place of its address.
+    fn place<H: Host>(self, h: &mut H, copy: &mut LogCopy) -> Result<(), HostFault>
         requires { HasTables self (H.counts h.old).size }
-        ensures word { H.tells → (image : Image) → reads (H.state h.old).now.words ≡ image → IfOk result (λ word. word ≡ place_of self image address) }
+        ensures placed { H.tells → (image : Image) → reads (H.state h.old).now.words ≡ image → (es : List LoggedEntry) → (log_copied copy.old).entries ≡ Option.Some es
+            → IfOk result (λ _. log_copied copy.new ≡ log_to self image (log_copied copy.old)) }
         ensures only_reads { OnlyReads H.tells H.state H.counts (fault_of result) h.old h.new }
     {
         match self {
-            Target::Words => Ok(Some(address)),
-            Target::Puddles(frames) => match locate(h, frames, address)? {
-                Some((frame, word)) => Ok(Some(u64::from(frame_at(frames, frame) + word))),
-                None => Ok(None),
-            },
+            Target::Words => Ok(()),
+            Target::Puddles(frames) => place_addresses(h, frames, copy),
         }
     }
 }
 
-/// What is applied of a log: the entries within its range, to the places that its addresses are.
-#[derive(Clone, Copy)]
-struct Replay {
-    range: LogRange,
-    to: Target,
-}
-
-/// Copies `n` words, from 1 to 32, from word `from` on to the words from `to` on, and marks them.
-fn copy_words<H: Host>(h: &mut H, from: u32, n: u32, to: u32) -> Result<(), HostFault>
-    requires few { n ≤ MAX_ENTRY_VALUES }
-    requires source { from + n ≤ (H.counts h.old).size }
-    requires target { to + n ≤ (H.counts h.old).size }
-    ensures writes { H.tells → Writes (placed to (words_from (reads (H.state h.old).now.words) from n)) (fault_of result) (H.state h.old) (H.state h.new) }
-    ensures any { H.tells → Changes Anything (fault_of result) (H.state h.old) (H.state h.new) }
-    ensures cause { H.counts h.new ≡ after_fault (fault_of result) (H.counts h.old) }
+/// The device word that is this word of a frame, of so many frames. Without one it is [`NO_WORD`].
+pub fn device_word_at(frames: u32, place: Option<(u32, u32)>) -> u64
+    requires few { frames ≤ MAX_FRAMES }
+    requires within { IfSome place (IsPlaceIn frames) }
+    ensures { result ≡ word_or_none (option_map (word_at frames) place) }
 {
-    let values = read_values(h, from, n)?;
-    write_range(h, to, &values[..n as usize])
-}
-
-impl Replay {
-    /// The first device word that an entry names, where all its words lie in the device.
-    fn first_word<H: Host>(&self, h: &mut H, entry: &Entry) -> Result<Option<u32>, HostFault>
-        requires few { entry.now.n ≤ MAX_ENTRY_VALUES }
-        requires tables { HasTables self.now.to (H.counts h.old).size }
-        ensures is { H.tells → (image : Image) → reads (H.state h.old).now.words ≡ image
-            → IfOk result (λ found. IfSome found (λ first. place_of self.now.to image entry.now.addr ≡ Option.Some first)) }
-        ensures within { IfOk result (λ found. IfSome found (λ first. first + entry.now.n ≤ (H.counts h.old).size)) }
-        ensures found { H.tells → (image : Image) → reads (H.state h.old).now.words ≡ image → IfOk result (λ found. (first : ℕ) → place_of self.now.to image entry.now.addr ≡ Option.Some first
-            → first + entry.now.n ≤ (H.counts h.old).size → found ≡ Option.Some first) }
-        ensures only_reads { OnlyReads H.tells H.state H.counts (fault_of result) h.old h.new }
-    {
-        let words = u64::from(h.words());
-        let Some(first) = self.to.word_of(h, entry.addr)? else {
-            return Ok(None);
-        };
-        if first > words || u64::from(entry.n) > words - first {
-            return Ok(None);
-        }
-        Ok(Some(first as u32))
-    }
-
-    /// Applies an entry where it has this order and lies within the range.
-    fn apply<H: Host>(&self, h: &mut H, order: u32, entry: &Entry) -> Result<(), HostFault>
-        requires few { entry.now.n ≤ MAX_ENTRY_VALUES }
-        requires source { entry.now.at + entry.now.n ≤ (H.counts h.old).size }
-        requires tables { HasTables self.now.to (H.counts h.old).size }
-        ensures applies { H.tells → (size : ℕ) → size ≡ (H.counts h.old).size → (place : Place) → place_of self.now.to (reads (H.state h.old).now.words) ≡ place
-            → (log : Log) (e : LoggedEntry) (log_at : ℕ) → HasRange self.now.range log → entry_from (reads (H.state h.old).now.words) entry.now ≡ e
-            → (IsTrue (is_in_range log e) → NamesApart place size log_at e) → Applies (given_by place log order e) (fault_of result) (H.state h.old) (H.state h.new) }
-        ensures any { H.tells → Changes Anything (fault_of result) (H.state h.old) (H.state h.new) }
-        ensures cause { H.counts h.new ≡ after_fault (fault_of result) (H.counts h.old) }
-    {
-        if entry.order != order || !self.range.counts(entry) {
-            return Ok(());
-        }
-        match self.first_word(h, entry)? {
-            Some(first) => copy_words(h, entry.at, entry.n, first),
-            None => Ok(()),
-        }
-    }
-
-    /// Applies the undo entries that are left to read, the newest first.
-    fn undo<H: Host>(&self, h: &mut H, reader: &mut EntryReader) -> Result<(), HostFault>
-        requires log { reader.old.log_at + LOG_WORDS ≤ (H.counts h.old).size }
-        requires tables { HasTables self.now.to (H.counts h.old).size }
-        ensures undoes { H.tells → (size : ℕ) → size ≡ (H.counts h.old).size → (place : Place) → place_of self.now.to (reads (H.state h.old).now.words) ≡ place
-            → (log : Log) (es : List LoggedEntry) → HasRange self.now.range log → IsLeft place size log reader.old es (reads (H.state h.old).now.words)
-            → Applies (undone place log es) (fault_of result) (H.state h.old) (H.state h.new) }
-        ensures any { H.tells → Changes Anything (fault_of result) (H.state h.old) (H.state h.new) }
-        ensures cause { H.counts h.new ≡ after_fault (fault_of result) (H.counts h.old) }
-    {
-        match reader.next(h)? {
-            None => Ok(()),
-            Some(entry) => {
-                self.undo(h, reader)?;
-                self.apply(h, UNDO_ORDER, &entry)
-            }
-        }
-    }
-
-    /// Applies the redo entries that are left to read, the oldest first.
-    fn redo<H: Host>(&self, h: &mut H, reader: &mut EntryReader) -> Result<(), HostFault>
-        requires log { reader.old.log_at + LOG_WORDS ≤ (H.counts h.old).size }
-        requires tables { HasTables self.now.to (H.counts h.old).size }
-        ensures redoes { H.tells → (size : ℕ) → size ≡ (H.counts h.old).size → (place : Place) → place_of self.now.to (reads (H.state h.old).now.words) ≡ place
-            → (log : Log) (es : List LoggedEntry) → HasRange self.now.range log → IsLeft place size log reader.old es (reads (H.state h.old).now.words)
-            → Applies (redone place log es) (fault_of result) (H.state h.old) (H.state h.new) }
-        ensures any { H.tells → Changes Anything (fault_of result) (H.state h.old) (H.state h.new) }
-        ensures cause { H.counts h.new ≡ after_fault (fault_of result) (H.counts h.old) }
-    {
-        match reader.next(h)? {
-            None => Ok(()),
-            Some(entry) => {
-                self.apply(h, REDO_ORDER, &entry)?;
-                self.redo(h, reader)
-            }
-        }
+    match place {
+        Some((frame, word)) => u64::from(frame_at(frames, frame) + word),
+        None => NO_WORD,
     }
 }
 
-/// Overwrites the words that the log names, and marks them.
-fn overwrite<H: Host>(h: &mut H, log_at: u32, to: Target) -> Result<(), HostFault>
+/// Gives each entry of a copy that is in range the device word of its global address in place of it.
+fn place_addresses<H: Host>(h: &mut H, frames: u32, copy: &mut LogCopy) -> Result<(), HostFault>
+    requires few { frames ≤ MAX_FRAMES }
+    requires table { tables_end frames ≤ (H.counts h.old).size }
+    ensures placed { H.tells → (image : Image) → reads (H.state h.old).now.words ≡ image → (es : List LoggedEntry) → (log_copied copy.old).entries ≡ Option.Some es
+        → IfOk result (λ _. log_copied copy.new ≡ placed_log (place_of (Target.Puddles frames) image) (log_copied copy.old)) }
+    ensures only_reads { OnlyReads H.tells H.state H.counts (fault_of result) h.old h.new }
+{
+    let range = copy.range();
+    let mut nearby = Nearby::none();
+    let mut reader = CopyReader::new();
+    while let Some(entry) = reader.next(copy) {
+        if range.counts(&entry) {
+            let place = nearby.locate(h, frames, entry.addr)?;
+            copy.set_address(&entry, device_word_at(frames, place));
+        }
+    }
+    Ok(())
+}
+
+/// A copy of the log whose gate is word `log_at`, in which each entry in range has the device word that it names first in place
+/// of its address.
+fn copy_placed<H: Host>(h: &mut H, log_at: u32, to: Target) -> Result<LogCopy, HostFault>
     requires log { log_at + LOG_WORDS ≤ (H.counts h.old).size }
     requires tables { HasTables to (H.counts h.old).size }
-    ensures overwrites { H.tells → (size : ℕ) → size ≡ (H.counts h.old).size → (es : List LoggedEntry)
+    ensures placed { H.tells → (image : Image) → reads (H.state h.old).now.words ≡ image → (es : List LoggedEntry) → entries_of image log_at ≡ Option.Some es
+        → IfOk result (λ copy. IsPlacedCopy to log_at image copy) }
+    ensures only_reads { OnlyReads H.tells H.state H.counts (fault_of result) h.old h.new }
+{
+    let mut copy = LogCopy::load(h, log_at)?;
+    to.place(h, &mut copy)?;
+    Ok(copy)
+}
+
+/// Replays a log from its copy, in which the entries in range have device words for addresses.
+fn replay_copy<H: Host>(h: &mut H, copy: &LogCopy) -> Result<(), HostFault>
+    ensures replays { H.tells → (size : ℕ) → size ≡ (H.counts h.old).size → (to : Target) (log_at : ℕ) (es : List LoggedEntry)
         → IsReplayable (place_of to (reads (H.state h.old).now.words)) size log_at es (reads (H.state h.old).now.words)
-        → Applies (new_values to log_at (reads (H.state h.old).now.words)) (fault_of result) (H.state h.old) (H.state h.new) }
+        → IsPlacedCopy to log_at (reads (H.state h.old).now.words) copy.now → Replays to log_at (fault_of result) (H.state h.old) (H.state h.new) }
+    ensures again { H.tells → (size : ℕ) → size ≡ (H.counts h.old).size → (to : Target) (log_at : ℕ) (es : List LoggedEntry)
+        → IsReplayable (place_of to (reads (H.state h.old).now.words)) size log_at es (reads (H.state h.old).now.words)
+        → IsPlacedCopy to log_at (reads (H.state h.old).now.words) copy.now → HasDurableLog to log_at (H.state h.old).now.words
+        → ReplaysAgain to size log_at es (H.state h.old) (H.state h.new) }
     ensures any { H.tells → Changes Anything (fault_of result) (H.state h.old) (H.state h.new) }
     ensures cause { H.counts h.new ≡ after_fault (fault_of result) (H.counts h.old) }
 {
-    let range = LogRange::of(h, log_at)?;
-    let replay = Replay { range, to };
-    let mut newest_first = EntryReader::new(log_at);
-    replay.undo(h, &mut newest_first)?;
-    let mut oldest_first = EntryReader::new(log_at);
-    replay.redo(h, &mut oldest_first)
+    overwrite(h, copy)?;
+    h.fence()
 }
 
 /// Replays the log whose gate is word `log_at`: at `Ok` each word that an entry in range names has the value that the
@@ -184,9 +131,9 @@ fn overwrite<H: Host>(h: &mut H, log_at: u32, to: Target) -> Result<(), HostFaul
 /// table for puddles, each image left meanwhile replays to the same, also where the replay is cut off; it can be done again then.
 /// The only errors are the host's own.
 ///
-/// It loads the gate, and goes through the entries twice with three loads for each and one at the end; the values of an entry in
-/// range are loaded once. For puddles the place of an entry in range takes one load for each frame, and one more for each puddle,
-/// up to the one that has its address. At the end stands one fence.
+/// It loads the gate and each entry word that it counts once. For puddles the place of an entry in range is looked for once: it takes
+/// no load where the entry in range before it lies in the same puddle, else one for each frame, and one more for each puddle, up to the one that has its
+/// address. At the end stands one fence.
 pub fn replay_range<H: Host>(h: &mut H, log_at: u32, to: Target) -> Result<(), HostFault>
     requires log { log_at + LOG_WORDS ≤ (H.counts h.old).size }
     requires tables { HasTables to (H.counts h.old).size }
@@ -199,8 +146,31 @@ pub fn replay_range<H: Host>(h: &mut H, log_at: u32, to: Target) -> Result<(), H
     ensures any { H.tells → Changes Anything (fault_of result) (H.state h.old) (H.state h.new) }
     ensures cause { H.counts h.new ≡ after_fault (fault_of result) (H.counts h.old) }
 {
-    overwrite(h, log_at, to)?;
-    h.fence()
+    let copy = copy_placed(h, log_at, to)?;
+    replay_copy(h, &copy)
+}
+
+/// Replays a log from its copy, in which the entries in range have device words for addresses, as those of a log of device words
+/// have, and then closes it: its gate is word `log_at`. It does what [`settle_log`] does, but loads no word.
+///
+/// The gate lies in the device. The only errors are the host's own.
+pub fn settle_copy<H: Host>(h: &mut H, copy: &LogCopy, log_at: u32) -> Result<(), HostFault>
+    requires { log_at < (H.counts h.old).size }
+    ensures settles { H.tells → (size : ℕ) → size ≡ (H.counts h.old).size → (to : Target) (es : List LoggedEntry)
+        → IsReplayable (place_of to (reads (H.state h.old).now.words)) size log_at es (reads (H.state h.old).now.words)
+        → IsPlacedCopy to log_at (reads (H.state h.old).now.words) copy.now → SettlesLog to log_at (fault_of result) (H.state h.old) (H.state h.new) }
+    ensures moments { H.tells → (size : ℕ) → size ≡ (H.counts h.old).size → (to : Target) (es : List LoggedEntry)
+        → IsReplayable (place_of to (reads (H.state h.old).now.words)) size log_at es (reads (H.state h.old).now.words)
+        → IsPlacedCopy to log_at (reads (H.state h.old).now.words) copy.now → HasDurableLog to log_at (H.state h.old).now.words
+        → Leaves (Silently (IsSettling to log_at (H.state h.old).now.words)) (H.state h.old) (H.state h.new) }
+    ensures same { H.tells → (size : ℕ) → size ≡ (H.counts h.old).size → (es : List LoggedEntry) → IsReplayable device_word size log_at es (reads (H.state h.old).now.words)
+        → IsPlacedCopy Target.Words log_at (reads (H.state h.old).now.words) copy.now → HasDurableLog Target.Words log_at (H.state h.old).now.words
+        → Leaves (Silently (SettlesSame (H.state h.old).now.words log_at (log_of (reads (H.state h.old).now.words) log_at))) (H.state h.old) (H.state h.new) }
+    ensures any { H.tells → Changes Anything (fault_of result) (H.state h.old) (H.state h.new) }
+    ensures cause { H.counts h.new ≡ after_fault (fault_of result) (H.counts h.old) }
+{
+    replay_copy(h, copy)?;
+    persist_word(h, log_at, CLOSED_GATE)
 }
 
 /// Replays the log whose gate is word `log_at`, and then closes it. At `Ok` the words that an entry in range names have their
@@ -227,6 +197,6 @@ pub fn settle_log<H: Host>(h: &mut H, log_at: u32, to: Target) -> Result<(), Hos
     ensures any { H.tells → Changes Anything (fault_of result) (H.state h.old) (H.state h.new) }
     ensures cause { H.counts h.new ≡ after_fault (fault_of result) (H.counts h.old) }
 {
-    replay_range(h, log_at, to)?;
-    persist_word(h, log_at, CLOSED_GATE)
+    let copy = copy_placed(h, log_at, to)?;
+    settle_copy(h, &copy, log_at)
 }

@@ -1,10 +1,11 @@
 -- The place of an address, record by record.
-use Rattle.std.proofs.Common.{◌≡◌, ℕ, zero, suc, ◌+◌, ◌-◌, ◌<◌, ◌≤◌, Option, Some, None, refl, ap, ap₂, ◌∙◌, arith}
+use Rattle.std.proofs.Common.{◌≡◌, ℕ, zero, suc, ◌+◌, ◌-◌, ◌<◌, ◌≤◌, Option, Some, None, option_map, refl, sym, ap, ap₂, ◌∙◌, arith}
 use Rattle.std.specs.Option.{option_or}
 use Rattle.pud_defs.specs.Image.{Image}
-use Rattle.pud_defs.specs.Puddles.{puddle_at}
+use Rattle.pud_defs.specs.Puddles.{Member, puddle_at}
 use Rattle.pud_defs.specs.Tables.{tables_of}
-use Rattle.pud_defs.specs.Places.{first_some, place_by, located}
+use Rattle.pud_defs.specs.Places.{first_some, word_in, place_by, located}
+use Rattle.puddle_space.specs.Nearby.{base_of_member}
 use Rattle.pud_defs.proofs.TablesOf.{puddles_below, frames_of_tables}
 
 -- ---- steps of a search
@@ -37,3 +38,24 @@ located_by_records F image address =
     ap (first_some (λ frame. place_by address frame ((tables_of F image).puddles frame)) 0) (frames_of_tables F image)
     ∙ first_some-same (λ frame. place_by address frame ((tables_of F image).puddles frame)) (λ frame. place_by address frame (puddle_at image frame)) 0 F
     (λ k low high. ap (place_by address k) (puddles_below F image k (omega arith)))
+
+-- ---- the place of an address in one frame, by the base of its puddle
+
+-- where the frame has no puddle
+pub unplaced_by_base : (address frame : ℕ) (m : Option Member) → None ≡ option_map base_of_member m → place_by address frame m ≡ None
+unplaced_by_base address frame None none = refl
+unplaced_by_base address frame (Some m) none = absurd (cc)
+
+-- where its range does not have the address
+pub nowhere_by_base : (address frame base : ℕ) (m : Option Member) → Some base ≡ option_map base_of_member m → word_in base address ≡ None → place_by address frame m ≡ None
+nowhere_by_base address frame base None is none = absurd (cc)
+nowhere_by_base address frame base (Some m) is none =
+    let same : base ≡ m.puddle.base = cc in
+    ap (λ (b : ℕ). option_map (λ word. (frame, word)) (word_in b address)) (sym same) ∙ ap (option_map (λ word. (frame, word))) none
+
+-- where it has it
+pub placed_by_base : (address frame base word : ℕ) (m : Option Member) → Some base ≡ option_map base_of_member m → word_in base address ≡ Some word → place_by address frame m ≡ Some (frame, word)
+placed_by_base address frame base word None is there = absurd (cc)
+placed_by_base address frame base word (Some m) is there =
+    let same : base ≡ m.puddle.base = cc in
+    ap (λ (b : ℕ). option_map (λ w. (frame, w)) (word_in b address)) (sym same) ∙ ap (option_map (λ w. (frame, w))) there

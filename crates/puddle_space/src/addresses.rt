@@ -1,15 +1,17 @@
 //! From an address to a word of a frame.
 
-ghost use Rattle.std.specs.Prelude.{◌≡◌, ◌+◌, ◌<◌, ◌≤◌, IfOk, IfSome};
+ghost use Rattle.std.specs.Prelude.{◌≡◌, ◌+◌, ◌-◌, ◌/◌, ◌<◌, ◌≤◌, ℕ, Option, option_map, IfOk, IfSome};
 ghost use Rattle.pm_model.specs.Words.{Image, reads};
 ghost use Rattle.pm_model.specs.Counts.{fault_of};
 ghost use Rattle.pm_model.specs.Reads.{OnlyReads};
 ghost use Rattle.pud_defs.specs.declared.layout.TheConstants.{FRAME_WORDS};
+ghost use Rattle.pud_defs.specs.declared.space.TheConstants.{WORD_BYTES};
 ghost use Rattle.pud_defs.specs.Layout.{tables_end};
 ghost use Rattle.pud_defs.specs.Puddles.{puddle_at};
-ghost use Rattle.pud_defs.specs.Tables.{tables_of};
-ghost use Rattle.pud_defs.specs.Places.{word_in, place_by, located};
+ghost use Rattle.pud_defs.specs.Tables.{Tables, tables_of};
+ghost use Rattle.pud_defs.specs.Places.{word_in, located};
 ghost use Rattle.puddle_space.specs.Within.{IsPlaceIn};
+ghost use Rattle.puddle_space.specs.Nearby.{base_of_member, IsInGap, IsNearby};
 
 use pm_model::{Host, HostFault};
 use pud_defs::layout::{MAX_FRAMES, PUDDLE_RECORD_WORDS, PUDDLE_TABLE};
@@ -27,12 +29,11 @@ fn word_in(base: u64, address: u64) -> Option<u32>
     Some(((address - base) / u64::from(WORD_BYTES)) as u32)
 }
 
-/// The frame and the word of it that the address lies in, where the range of the frame's puddle has it.
-fn place_in<H: Host>(h: &mut H, frame: u32, address: u64) -> Result<Option<(u32, u32)>, HostFault>
+/// The base of the puddle of a frame, if it has one.
+fn base_of<H: Host>(h: &mut H, frame: u32) -> Result<Option<u64>, HostFault>
     requires known { frame < MAX_FRAMES }
     requires table { tables_end (frame + 1) ≤ (H.counts h.old).size }
-    ensures place { H.tells → (image : Image) → reads (H.state h.old).now.words ≡ image → IfOk result (λ place. place ≡ place_by address frame (puddle_at image frame)) }
-    ensures within { IfOk result (λ place. IfSome place (IsPlaceIn (frame + 1))) }
+    ensures base { H.tells → (image : Image) → reads (H.state h.old).now.words ≡ image → IfOk result (λ base. base ≡ option_map base_of_member (puddle_at image frame)) }
     ensures only_reads { OnlyReads H.tells H.state H.counts (fault_of result) h.old h.new }
 {
     let record = PUDDLE_TABLE + PUDDLE_RECORD_WORDS * frame;
@@ -40,32 +41,141 @@ fn place_in<H: Host>(h: &mut H, frame: u32, address: u64) -> Result<Option<(u32,
         return Ok(None);
     }
     let base = h.load(record + PUDDLE_BASE_WORD)?;
-    match word_in(base, address) {
-        Some(word) => Ok(Some((frame, word))),
-        None => Ok(None),
+    Ok(Some(base))
+}
+
+/// The addresses around one that lie in no range of the frames that were passed.
+#[derive(Clone, Copy)]
+struct Gap {
+    low: u64,
+    high: u64,
+}
+
+impl Gap {
+    /// What is left of the gap beside the range from this base on, which does not have the address.
+    fn beside(self, base: u64, address: u64) -> Gap
+        ensures { (x : ℕ) → IsInGap result x → IsInGap self x × (word_in base x ≡ Option.None) }
+    {
+        if address < base {
+            return Gap {
+                low: self.low,
+                high: self.high.min(base),
+            };
+        }
+        Gap {
+            low: self.low.max(base.saturating_add(RANGE_BYTES)),
+            high: self.high,
+        }
+    }
+
+    /// The part of the gap that the range from this base on has, which is that of a frame.
+    fn inside(self, base: u64, frame: u32) -> Nearby
+        ensures frame { result.frame ≡ frame }
+        ensures each { (x : ℕ) → result.from ≤ x → x < result.end → IsInGap self x × (word_in base x ≡ Option.Some ((x - result.base) / WORD_BYTES)) }
+    {
+        Nearby {
+            from: self.low.max(base),
+            end: self.high.min(base.saturating_add(RANGE_BYTES)),
+            base,
+            frame,
+        }
     }
 }
 
-/// The frame and the word of it that the address lies in, or None exactly where no puddle's range has the address. An
-/// address that is no multiple of 8 lies in the word that it falls into. Where the puddle table is not sound and several
-/// puddles' ranges have the address, the lowest frame counts.
-///
-/// It takes one load for each frame, and one more for each puddle, up to the one that has the address.
-pub fn locate<H: Host>(
+/// The addresses around one that was located, whose places are known: they lie in the same puddle. So the place of a neighbour costs
+/// no search.
+#[derive(Clone, Copy)]
+pub struct Nearby {
+    from: u64,
+    end: u64,
+    base: u64,
+    frame: u32,
+}
+
+impl Nearby {
+    /// None, as before the first search.
+    pub fn none() -> Nearby
+        ensures { (t : Tables) → IsNearby t result }
+    {
+        Nearby {
+            from: 0,
+            end: 0,
+            base: 0,
+            frame: 0,
+        }
+    }
+
+    /// The place of the address, where it is one of these, and the frame one of so many.
+    fn place(&self, frames: u32, address: u64) -> Option<(u32, u32)>
+        ensures place { (t : Tables) → IsNearby t self.now → IfSome result (λ place. located t address ≡ Option.Some place) }
+        ensures within { IfSome result (IsPlaceIn frames) }
+    {
+        if address < self.from || address >= self.end || self.frame >= frames {
+            return None;
+        }
+        match word_in(self.base, address) {
+            Some(word) => Some((self.frame, word)),
+            None => None,
+        }
+    }
+
+    /// The frame and the word of it that the address lies in, or None exactly where no puddle's range has the address. An
+    /// address that is no multiple of 8 lies in the word that it falls into. Where the puddle table is not sound and several
+    /// puddles' ranges have the address, the lowest frame counts.
+    ///
+    /// These are addresses around one that was located, or none, by the table that the device has now; so they are afterwards, around
+    /// this address if it has a place. For one that is among them no word is loaded. For any other it takes one load for each frame, and
+    /// one more for each puddle, up to the one that has the address.
+    pub fn locate<H: Host>(
+        &mut self,
+        h: &mut H,
+        frames: u32,
+        address: u64,
+    ) -> Result<Option<(u32, u32)>, HostFault>
+        requires few { frames ≤ MAX_FRAMES }
+        requires table { tables_end frames ≤ (H.counts h.old).size }
+        ensures located { H.tells → (image : Image) → reads (H.state h.old).now.words ≡ image → IsNearby (tables_of frames image) self.old
+            → IfOk result (λ found. found ≡ located (tables_of frames image) address) }
+        ensures nearby { H.tells → (image : Image) → reads (H.state h.old).now.words ≡ image → IsNearby (tables_of frames image) self.old
+            → IsNearby (tables_of frames image) self.new }
+        ensures within { IfOk result (λ found. IfSome found (IsPlaceIn frames)) }
+        ensures only_reads { OnlyReads H.tells H.state H.counts (fault_of result) h.old h.new }
+    {
+        if let Some(place) = self.place(frames, address) {
+            return Ok(Some(place));
+        }
+        search(h, frames, address, self)
+    }
+}
+
+/// Searches the puddle table for the place of an address, and if there is one gives the addresses around it.
+fn search<H: Host>(
     h: &mut H,
     frames: u32,
     address: u64,
+    nearby: &mut Nearby,
 ) -> Result<Option<(u32, u32)>, HostFault>
     requires few { frames ≤ MAX_FRAMES }
     requires table { tables_end frames ≤ (H.counts h.old).size }
     ensures located { H.tells → (image : Image) → reads (H.state h.old).now.words ≡ image → IfOk result (λ found. found ≡ located (tables_of frames image) address) }
+    ensures nearby { H.tells → (image : Image) → reads (H.state h.old).now.words ≡ image → IsNearby (tables_of frames image) nearby.old
+        → IsNearby (tables_of frames image) nearby.new }
     ensures within { IfOk result (λ found. IfSome found (IsPlaceIn frames)) }
     ensures only_reads { OnlyReads H.tells H.state H.counts (fault_of result) h.old h.new }
 {
+    let mut gap = Gap {
+        low: 0,
+        high: u64::MAX,
+    };
     for frame in 0..frames {
-        if let Some(place) = place_in(h, frame, address)? {
-            return Ok(Some(place));
+        let Some(base) = base_of(h, frame)? else {
+            continue;
+        };
+        if let Some(word) = word_in(base, address) {
+            *nearby = gap.inside(base, frame);
+            return Ok(Some((frame, word)));
         }
+        gap = gap.beside(base, address);
     }
     Ok(None)
 }

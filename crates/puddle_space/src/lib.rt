@@ -8,6 +8,6 @@ mod addresses;
 mod bases;
 mod taken;
 
-pub use addresses::locate;
+pub use addresses::Nearby;
 pub use bases::{MAX_TAKEN, free_base};
 pub use taken::has_base;

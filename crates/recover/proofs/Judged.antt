@@ -1,57 +1,33 @@
--- The marks of a client's logs, and their places among all.
-use Rattle.std.proofs.Common.{◌≡◌, ℕ, zero, suc, ◌+◌, ◌-◌, ◌*◌, ◌%◌, ◌<◌, ◌≤◌, List, [], ◌∷◌, ◌++◌, length, get_or, take, drop, length-drop, Option, Some, None, refl, sym, ap, ap₂, ◌∙◌, arith}
-use Rattle.std.proofs.lemmas.List.{get_or-take, get_or_append_left, get_or-append_right, length-take-le}
-use borrow.Rule.Slice.PartMut.{put_mid, post_of, same_len_mid}
-use Rattle.pud_defs.specs.declared.layout.TheConstants.{CLIENT_LOGS}
+-- The verdict of a log, by its owner and its copy.
+use Rattle.std.proofs.Common.{◌≡◌, ℕ, List, Option, Some, None, option_map, map, sym, ap, ◌∙◌}
 use Rattle.pud_defs.specs.Image.{Image}
-use Rattle.pud_defs.specs.Layout.{log_at}
-use Rattle.pud_defs.specs.Entries.{log_of}
+use Rattle.pud_defs.specs.Entries.{Entry, log_of, gate_lo, gate_hi}
 use Rattle.pud_defs.specs.Spaces.{Owner, owner_of}
-use Rattle.pud_defs.specs.Tables.{tables_of}
-use Rattle.pud_defs.specs.Settled.{client_of_log}
-use Rattle.recover.specs.declared.judge.Mark.{Mark}
+use Rattle.pud_defs.specs.Tables.{Tables, tables_of}
+use Rattle.pud_defs.specs.Replay.{Place}
+use Rattle.pud_defs.specs.Settled.{client_of_log, log_number_at}
+use Rattle.log_entry.specs.Copying.{Copied, image_of, log_copied}
+use Rattle.log_replay.specs.Placing.{placed_entry, placed_log}
+use Rattle.recover.specs.declared.judge.Mark.TheVariants.{Replayed, Refused}
 use Rattle.recover.specs.Verdicts.{mark_for, verdict_by, verdict_of}
+use Rattle.recover.proofs.Marked.{mark_for-spoilt}
 
--- ---- the verdict of one log of a client
-
-by_client : (F : ℕ) (image : Image) (client k : ℕ) → k < CLIENT_LOGS → verdict_of F image (CLIENT_LOGS * client + k) ≡ verdict_by (tables_of F image) (owner_of image client) (log_of image (log_at F client k))
+-- none where the log is not registered
+pub verdict_of-free : (F : ℕ) (image : Image) (number : ℕ) → owner_of image (client_of_log number) ≡ None → verdict_of F image number ≡ None
 unfolding verdict_of
-by_client F image client k known =
-    let its : client_of_log (CLIENT_LOGS * client + k) ≡ client = omega arith in
-    let number : (CLIENT_LOGS * client + k) % CLIENT_LOGS ≡ k = omega arith in
-    ap₂ (λ (c n : ℕ). verdict_by (tables_of F image) (owner_of image c) (log_of image (log_at F c n))) its number
-
--- none where the client's logs are not registered
-pub verdict_of-free : (F : ℕ) (image : Image) (client k : ℕ) → k < CLIENT_LOGS → owner_of image client ≡ None → verdict_of F image (CLIENT_LOGS * client + k) ≡ None
-verdict_of-free F image client k known free =
-    by_client F image client k known ∙ ap (λ (o : Option Owner). verdict_by (tables_of F image) o (log_of image (log_at F client k))) free
+verdict_of-free F image number free = ap (λ (o : Option Owner). verdict_by (tables_of F image) o (log_of image (log_number_at F number))) free
 
 -- else its mark
-pub verdict_of-registered : (F : ℕ) (image : Image) (client k : ℕ) (who : Owner) → k < CLIENT_LOGS → owner_of image client ≡ Some who
-    → verdict_of F image (CLIENT_LOGS * client + k) ≡ Some (mark_for (tables_of F image) who (log_of image (log_at F client k)))
-verdict_of-registered F image client k who known registered =
-    by_client F image client k known ∙ ap (λ (o : Option Owner). verdict_by (tables_of F image) o (log_of image (log_at F client k))) registered
+pub verdict_of-registered : (F : ℕ) (image : Image) (number : ℕ) (who : Owner) → owner_of image (client_of_log number) ≡ Some who
+    → verdict_of F image number ≡ Some (mark_for (tables_of F image) who (log_of image (log_number_at F number)))
+unfolding verdict_of
+verdict_of-registered F image number who registered = ap (λ (o : Option Owner). verdict_by (tables_of F image) o (log_of image (log_number_at F number))) registered
 
--- ---- lists of marks
+-- ---- a copy whose entries were given device words
 
-pub no_marks : (k : ℕ) → get_or {A = Option Mark} (None ∷ None ∷ None ∷ None ∷ []) k None ≡ None
-no_marks zero = refl
-no_marks (suc zero) = refl
-no_marks (suc (suc zero)) = refl
-no_marks (suc (suc (suc zero))) = refl
-no_marks (suc (suc (suc (suc k)))) = refl
-
--- values are copied over a part of a list
-pub length-placed : {X : Type 0} (a k : ℕ) (xs ys : List X) → length ys ≡ k → a + k ≤ length xs → length (put_mid a k xs ys) ≡ length xs
-length-placed a k xs ys many fits = same_len_mid a k xs ys (many ∙ sym (length-take-le k (drop a xs) (omega (arith, length-drop a xs))))
-
-pub before_placed : {X : Type 0} (a k i : ℕ) (xs ys : List X) (d : X) → i < a → a ≤ length xs → get_or (put_mid a k xs ys) i d ≡ get_or xs i d
-before_placed a k i xs ys d below fits =
-    get_or_append_left (take a xs) (ys ++ post_of a k xs) d i (omega (arith, length-take-le a xs fits)) ∙ get_or-take a xs i d below
-
-pub placed_there : {X : Type 0} (a k i : ℕ) (xs ys : List X) (d : X) → i < length ys → a ≤ length xs → get_or (put_mid a k xs ys) (a + i) d ≡ get_or ys i d
-placed_there a k i xs ys d within fits =
-    let place : a + i - a ≡ i = omega arith in
-    get_or-append_right (take a xs) (ys ++ post_of a k xs) a (a + i) d (length-take-le a xs fits) (omega arith)
-    ∙ ap (λ (n : ℕ). get_or (ys ++ post_of a k xs) n d) place
-    ∙ get_or_append_left ys (post_of a k xs) d i within
+-- a log that is replayed is well formed, so a copy of it has each entry with its device word
+pub placed_replayed : (t : Tables) (who : Owner) (place : Place) (old new : Copied) (o : Option (List Entry)) → (log_copied old).entries ≡ o → mark_for t who (log_copied old) ≡ Replayed → image_of new 0 ≡ image_of old 0
+    → ((es : List Entry) → (log_copied old).entries ≡ Some es → (log_copied new).entries ≡ Some (map (placed_entry place (log_copied old)) es)) → log_copied new ≡ placed_log place (log_copied old)
+placed_replayed t who place old new None are mark gate placed = absurd (let it : Refused ≡ Replayed = sym (mark_for-spoilt t who (log_copied old) are) ∙ mark in cc)
+placed_replayed t who place old new (Some es) are mark gate placed =
+    λ p. record { lo = gate_lo (gate p); hi = gate_hi (gate p); entries = (placed es are ∙ sym (ap (option_map (map (placed_entry place (log_copied old)))) are)) p }

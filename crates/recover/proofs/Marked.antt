@@ -1,17 +1,18 @@
 -- The mark of a log, entry by entry.
-use Rattle.std.proofs.Common.{◌≡◌, inl, inr, ℕ, ◌+◌, leb, subst, Bool, true, false, not, ◌&&◌, ◌||◌, cond, List, [], ◌∷◌, Option, Some, None, option_map, refl, sym, ap, ap₂, ◌∙◌}
+use Rattle.std.proofs.Common.{◌≡◌, inl, inr, ℕ, ◌-◌, arith, leb, subst, Bool, true, false, not, ◌&&◌, ◌||◌, cond, List, [], ◌∷◌, Option, Some, None, option_map, refl, sym, ap, ap₂, ◌∙◌}
 use Rattle.std.specs.List.{list_all, list_any}
 use Rattle.std.proofs.lemmas.Bool.{cond-true, cond-false, cases_Bool}
-use Rattle.pud_defs.specs.declared.layout.TheConstants.{LOG_HEADER_WORDS}
-use Rattle.pud_defs.specs.Image.{Image}
-use Rattle.pud_defs.specs.Entries.{Entry, Log, gate_used, is_legal_gate, words_from, entries_in, entries_of}
+use Rattle.pud_defs.specs.declared.layout.TheConstants.{ENTRY_HEADER_WORDS}
+use Rattle.pud_defs.specs.Image.{Image, written}
+use Rattle.pud_defs.proofs.Images.{written_other}
+use Rattle.pud_defs.specs.Entries.{Entry, Log, gate_used, is_legal_gate, entries_of}
 use Rattle.pud_defs.specs.Spaces.{Owner}
 use Rattle.pud_defs.specs.Replay.{is_in_range, entries_or_none}
 use Rattle.pud_defs.specs.Tables.{Tables}
 use Rattle.pud_defs.specs.Allowed.{is_allowed_entry, are_allowed_entries, is_allowed_log}
 use Rattle.log_entry.specs.declared.Entry.{Entry as Found}
-use Rattle.log_entry.specs.Reading.{Reading, entry_from, entries_left, left_before, Passes}
-use Rattle.log_entry.proofs.Left.{IsReading}
+use Rattle.log_entry.specs.Reading.{Reading, entry_from, entries_left, left_before, PassesOne, Passes}
+use Rattle.log_entry.proofs.Left.{IsReading, entries_left-behind}
 use Rattle.recover.specs.declared.judge.Mark.{Mark}
 use Rattle.recover.specs.declared.judge.Mark.TheVariants.{Closed, Replayed, Refused}
 use Rattle.recover.specs.Verdicts.{mark_for}
@@ -97,14 +98,14 @@ pub mark_left-whole : (t : Tables) (who : Owner) (log : Log) → mark_left t who
 unfolding by_tests is_allowed_log
 mark_left-whole t who log = of_entries t who log log.entries
 
--- a log that is not well formed is refused, and one without entries has nothing to replay
+-- a log that is not well formed is refused, as is one whose gate is not legal
 pub mark_for-spoilt : (t : Tables) (who : Owner) (log : Log) → log.entries ≡ None → mark_for t who log ≡ Refused
 unfolding mark_left
 mark_for-spoilt t who log none = sym (mark_left-whole t who log) ∙ ap (mark_left t who log Closed) none
 
-pub mark_for-empty : (t : Tables) (who : Owner) (log : Log) → log.entries ≡ Some [] → mark_for t who log ≡ Closed
-unfolding mark_left marked
-mark_for-empty t who log empty = sym (mark_left-whole t who log) ∙ ap (mark_left t who log Closed) empty
+pub entries_of-spoilt : (image : Image) (at : ℕ) → is_legal_gate (image at) ≡ false → entries_of image at ≡ None
+unfolding entries_of
+entries_of-spoilt image at illegal = cond-false _ _ _ illegal
 
 -- ---- a reader
 
@@ -129,12 +130,15 @@ mark_left-behind t who log mark image found old now at gate passed none passes b
     ∙ ap (λ (b : Bool). cond (b && leb (gate_used gate) passed) (Some []) None) legal)
     ∙ mark_left-end t who log mark (leb (gate_used gate) passed)
 
--- ---- by the gate alone
+-- ---- an entry of a copy gets another address
 
-pub entries_of-spoilt : (image : Image) (at : ℕ) → is_legal_gate (image at) ≡ false → entries_of image at ≡ None
-unfolding entries_of
-entries_of-spoilt image at illegal = cond-false _ _ _ illegal
-
-pub entries_of-unused : (image : Image) (at : ℕ) → is_legal_gate (image at) ≡ true → gate_used (image at) ≡ 0 → entries_of image at ≡ Some []
-unfolding entries_of entries_in words_from
-entries_of-unused image at legal unused = cond-true _ _ _ legal ∙ ap (λ (n : ℕ). entries_in 0 (words_from image (at + LOG_HEADER_WORDS) n)) unused
+-- those behind it are left as they were
+pub left_set : (i j : Image) (e : Found) (old now : Reading) (address : ℕ) → PassesOne e old now → j ≡ written (e.at - ENTRY_HEADER_WORDS) address i → entries_left j now ≡ entries_left i now
+left_set i j e old now address passes set =
+    let at = passes.at in
+    let same_log = passes.same_log in
+    let passed = passes.passed in
+    let some = passes.some in
+    entries_left-behind j i now
+    (ap (λ (x : Image). x now.log_at) set ∙ written_other (e.at - ENTRY_HEADER_WORDS) address i now.log_at (λ here. absurd (omega arith)))
+    (λ k low. ap (λ (x : Image). x k) set ∙ written_other (e.at - ENTRY_HEADER_WORDS) address i k (λ here. absurd (omega arith)))

@@ -151,12 +151,11 @@ TakesTurns-failed F count all image fault old new few t =
       left = λ none. none_of_fault fault none;
     }
 
--- nor where nothing was done
-pub TakesTurns-unread : (F : ℕ) (image : Image) (fault : HostFault) (old new : State) → Changes (ByLogs F ALL_LOGS image) (Some fault) old new → TakesTurns F ALL_LOGS image (Some fault) old new
-TakesTurns-unread F image fault old new changes = record {
+-- nor of one log, where it was only read
+pub TakesTurn-unread : (F number : ℕ) (image : Image) (fault : HostFault) (old new : State) → Changes (ByLog F number image) (Some fault) old new → TakesTurn F number image (Some fault) old new
+TakesTurn-unread F number image fault old new changes = record {
   changes = changes;
-  alike = λ none. none_of_fault fault none;
+  takes = λ none. none_of_fault fault none;
   gone = λ none. none_of_fault fault none;
   closed = λ none. none_of_fault fault none;
-  left = λ none. none_of_fault fault none;
 }

@@ -1,35 +1,40 @@
-//! What a start finds of each client's log, before any of them is replayed: whether it is registered, whether its owner
-//! may write all that it names, and whether there is anything to replay.
-ghost use Rattle.std.specs.Prelude.{true, ◌≡◌, ◌+◌, ◌-◌, ◌*◌, ◌<◌, ◌≤◌, ◌==◌, ◌&&◌, not, ℕ, slice_index_or, Option, option_map, IfOk, length};
+//! What a start finds of a client's log: whether it is registered, whether its owner may write all that it names, and whether there
+//! is anything to replay.
+ghost use Rattle.std.specs.Prelude.{◌≡◌, ◌+◌, ◌-◌, ◌<◌, ◌≤◌, ◌==◌, ◌&&◌, not, ℕ, Option, option_map, IfOk, IfSome};
 ghost use Rattle.pm_model.specs.Words.{reads};
 ghost use Rattle.pm_model.specs.Counts.{fault_of};
 ghost use Rattle.pm_model.specs.Reads.{OnlyReads};
 ghost use Rattle.pud_defs.specs.Image.{Image};
 ghost use Rattle.pud_defs.specs.Layout.{tables_end, frames_at};
-ghost use Rattle.pud_defs.specs.Entries.{log_of, is_legal_gate};
 ghost use Rattle.pud_defs.specs.Spaces.{owner as owner_and, owner_of};
 ghost use Rattle.pud_defs.specs.Pools.{owner_uid, owner_gid};
+ghost use Rattle.pud_defs.specs.Places.{located};
 ghost use Rattle.pud_defs.specs.Rights.{may_write};
 ghost use Rattle.pud_defs.specs.Tables.{tables_of};
-ghost use Rattle.pud_defs.specs.Allowed.{may_write_record, may_write_puddle, is_allowed_entry};
+ghost use Rattle.pud_defs.specs.Allowed.{puddle_word, may_write_record, may_write_puddle, is_allowed_entry};
 ghost use Rattle.pud_defs.specs.Settled.{ALL_LOGS};
+ghost use Rattle.puddle_space.specs.Within.{IsPlaceIn};
 ghost use Rattle.log_entry.specs.Reading.{entry_from};
-ghost use Rattle.recover.specs.Verdicts.{owner_by_record, mark_for, verdict_of, is_refused_mark};
+ghost use Rattle.log_entry.specs.Copying.{log_copied};
+ghost use Rattle.log_replay.specs.Placing.{placed_log};
+ghost use Rattle.recover.specs.Verdicts.{owner_by_record, mark_for, is_refused_mark};
+ghost use Rattle.recover.specs.Judging.{IsJudged};
 
-use log_entry::{Entry, EntryReader, LogRange};
+use log_entry::{CopyReader, Entry, LogCopy};
+use log_replay::device_word_at;
 use owner_modes::may_write;
 use pm_model::{Host, HostFault};
 use pud_defs::layout::{
-    CLIENT_LOGS, CLIENTS, ENTRY_HEADER_WORDS, FRAME_WORDS, LOG_WORDS, LOGS, MAX_FRAMES, POOL_TABLE,
-    PUDDLE_RECORD_WORDS, PUDDLE_TABLE, SPACE_RECORD_WORDS, SPACE_TABLE, log_at,
+    CLIENT_LOGS, CLIENTS, ENTRY_HEADER_WORDS, FRAME_WORDS, LogNo, MAX_FRAMES, POOL_TABLE,
+    PUDDLE_RECORD_WORDS, PUDDLE_TABLE, SPACE_RECORD_WORDS, SPACE_TABLE, log_number_at,
 };
-use pud_defs::log_words::{gate_hi, gate_lo, gate_used, is_legal_gate};
+use pud_defs::log_words::{gate_used, is_legal_gate};
 use pud_defs::records::{
     POOL_MODE_WORD, POOL_OWNER_WORD, POOL_RECORD_WORDS, POOL_RECORDS, member_pool, owner_gid,
     owner_uid,
 };
 use pud_defs::space::WORD_BYTES;
-use puddle_space::locate;
+use puddle_space::Nearby;
 
 /// What a start finds of a client's log.
 #[derive(Clone, Copy, Debug, PartialEq, Eq)]
@@ -135,24 +140,26 @@ fn may_write_puddle<H: Host>(h: &mut H, who: Registrant, frame: u32) -> Result<b
     may_write_pool(h, who, member_pool(member))
 }
 
-/// Whether an entry has the address of a word, and all words that it names lie in one puddle of a pool that may be
-/// written.
+/// Whether an entry, whose address lies at this place, has the address of a word, and all words that it names lie in one puddle of a pool
+/// that may be written.
 fn is_allowed_entry<H: Host>(
     h: &mut H,
     frames: u32,
     who: Registrant,
     entry: &Entry,
+    place: Option<(u32, u32)>,
 ) -> Result<bool, HostFault>
     requires few { frames ≤ MAX_FRAMES }
     requires table { tables_end frames ≤ (H.counts h.old).size }
-    ensures allowed { H.tells → (image : Image) → reads (H.state h.old).now.words ≡ image
-        → IfOk result (λ allowed. allowed ≡ is_allowed_entry (tables_of frames image) (owner_by_record who) (entry_from image entry.now)) }
+    requires within { IfSome place (IsPlaceIn frames) }
+    ensures allowed { H.tells → (image : Image) → reads (H.state h.old).now.words ≡ image → place ≡ located (tables_of frames image) entry.now.addr → (entries : Image)
+        → IfOk result (λ allowed. allowed ≡ is_allowed_entry (tables_of frames image) (owner_by_record who) (entry_from entries entry.now)) }
     ensures only_reads { OnlyReads H.tells H.state H.counts (fault_of result) h.old h.new }
 {
     if entry.addr % u64::from(WORD_BYTES) != 0 {
         return Ok(false);
     }
-    let Some((frame, word)) = locate(h, frames, entry.addr)? else {
+    let Some((frame, word)) = place else {
         return Ok(false);
     };
     if entry.n > FRAME_WORDS - word {
@@ -161,37 +168,41 @@ fn is_allowed_entry<H: Host>(
     may_write_puddle(h, who, frame)
 }
 
-/// The mark of a log whose gate is legal and counts words. The entries are read once, up to the first that counts and is not
-/// allowed.
-fn mark_by_entries<H: Host>(
+/// The mark of a log that is registered, whatever its copy holds. The entries are read once, up to the first that counts and is not
+/// allowed. Where the log is replayed, each entry that counts gets the device word that it names first in place of its address.
+fn mark_copy<H: Host>(
     h: &mut H,
     frames: u32,
     who: Registrant,
-    log_at: u32,
-    gate: u64,
+    copy: &mut LogCopy,
 ) -> Result<Mark, HostFault>
     requires few { frames ≤ MAX_FRAMES }
     requires table { tables_end frames ≤ (H.counts h.old).size }
-    requires log { log_at + LOG_WORDS ≤ (H.counts h.old).size }
-    ensures mark { H.tells → (image : Image) → reads (H.state h.old).now.words ≡ image → gate ≡ image log_at → is_legal_gate gate ≡ true
-        → IfOk result (λ mark. mark ≡ mark_for (tables_of frames image) (owner_by_record who) (log_of image log_at)) }
+    ensures mark { H.tells → (image : Image) → reads (H.state h.old).now.words ≡ image
+        → IfOk result (λ mark. mark ≡ mark_for (tables_of frames image) (owner_by_record who) (log_copied copy.old)) }
+    ensures placed { H.tells → (image : Image) → reads (H.state h.old).now.words ≡ image
+        → IfOk result (λ mark. mark ≡ Mark.Replayed → log_copied copy.new ≡ placed_log (puddle_word (tables_of frames image)) (log_copied copy.old)) }
     ensures only_reads { OnlyReads H.tells H.state H.counts (fault_of result) h.old h.new }
 {
-    let range = LogRange {
-        lo: gate_lo(gate),
-        hi: gate_hi(gate),
-    };
+    let gate = copy.gate();
+    if !is_legal_gate(gate) {
+        return Ok(Mark::Refused);
+    }
+    let range = copy.range();
     let mut mark = Mark::Closed;
     let mut passed = 0;
-    let mut reader = EntryReader::new(log_at);
-    while let Some(entry) = reader.next(h)? {
+    let mut nearby = Nearby::none();
+    let mut reader = CopyReader::new();
+    while let Some(entry) = reader.next(copy) {
         passed += ENTRY_HEADER_WORDS + entry.n;
         if !range.counts(&entry) {
             continue;
         }
-        if !is_allowed_entry(h, frames, who, &entry)? {
+        let place = nearby.locate(h, frames, entry.addr)?;
+        if !is_allowed_entry(h, frames, who, &entry, place)? {
             return Ok(Mark::Refused);
         }
+        copy.set_address(&entry, device_word_at(frames, place));
         mark = Mark::Replayed;
     }
     if passed < gate_used(gate) {
@@ -200,72 +211,35 @@ fn mark_by_entries<H: Host>(
     Ok(mark)
 }
 
-/// The mark of a log that is registered, whatever it holds. One that counts no word takes one load.
-fn mark_log<H: Host>(
-    h: &mut H,
-    frames: u32,
-    who: Registrant,
-    log_at: u32,
-) -> Result<Mark, HostFault>
-    requires few { frames ≤ MAX_FRAMES }
-    requires table { tables_end frames ≤ (H.counts h.old).size }
-    requires log { log_at + LOG_WORDS ≤ (H.counts h.old).size }
-    ensures mark { H.tells → (image : Image) → reads (H.state h.old).now.words ≡ image
-        → IfOk result (λ mark. mark ≡ mark_for (tables_of frames image) (owner_by_record who) (log_of image log_at)) }
-    ensures only_reads { OnlyReads H.tells H.state H.counts (fault_of result) h.old h.new }
-{
-    let gate = h.load(log_at)?;
-    if !is_legal_gate(gate) {
-        return Ok(Mark::Refused);
-    }
-    if gate_used(gate) == 0 {
-        return Ok(Mark::Closed);
-    }
-    mark_by_entries(h, frames, who, log_at, gate)
+/// A log that was judged.
+#[derive(Drop)]
+pub(crate) struct Judged {
+    /// A copy of the log. Where the log is replayed, entries that count have device words for addresses.
+    pub copy: LogCopy,
+    /// What was found of it.
+    pub mark: Mark,
 }
 
-/// The marks of the logs of a client, None where they are not registered.
-fn judge_client<H: Host>(
-    h: &mut H,
-    frames: u32,
-    client: u32,
-) -> Result<[Option<Mark>; CLIENT_LOGS as usize], HostFault>
-    requires few { frames ≤ MAX_FRAMES }
-    requires known { client < CLIENTS }
-    requires room { frames_at frames ≤ (H.counts h.old).size }
-    ensures all { IfOk result (λ marks. length marks ≡ CLIENT_LOGS) }
-    ensures marks { H.tells → (image : Image) → reads (H.state h.old).now.words ≡ image
-        → IfOk result (λ marks. (k : ℕ) → k < CLIENT_LOGS → slice_index_or marks k Option.None ≡ verdict_of frames image (CLIENT_LOGS * client + k)) }
-    ensures only_reads { OnlyReads H.tells H.state H.counts (fault_of result) h.old h.new }
-{
-    let mut marks = [None; CLIENT_LOGS as usize];
-    let Some(who) = owner_of(h, client)? else {
-        return Ok(marks);
-    };
-    for number in 0..CLIENT_LOGS {
-        let mark = mark_log(h, frames, who, log_at(frames, client, number))?;
-        marks[number as usize] = Some(mark);
-    }
-    Ok(marks)
-}
-
-/// What a start finds of each log by its number, None where it is not registered, on a device whose daemon log is
-/// replayed and closed. It answers on every content of the device. Nothing changes, and the only errors are the host's own.
+/// What a start finds of the log of a number, or None where it is not registered, on a device whose daemon log is replayed and closed.
+/// It answers on every content of the device. Nothing changes, and the only errors are the host's own.
 ///
-/// The device has the logs of so many frames. A client that is not registered takes one load, a log that counts no word
-/// another one. Of any other log each entry word is read at most once.
-pub(crate) fn judge<H: Host>(h: &mut H, frames: u32) -> Result<[Option<Mark>; LOGS], HostFault>
+/// The device has the logs of so many frames. A log that is not registered takes one load, and one that counts no word four. Of
+/// any other log each entry word is loaded once.
+pub(crate) fn judge_log<H: Host>(
+    h: &mut H,
+    frames: u32,
+    number: LogNo,
+) -> Result<Option<Judged>, HostFault>
     requires few { frames ≤ MAX_FRAMES }
+    requires known { number < ALL_LOGS }
     requires room { frames_at frames ≤ (H.counts h.old).size }
-    ensures marks { H.tells → (image : Image) → reads (H.state h.old).now.words ≡ image
-        → IfOk result (λ found. (number : ℕ) → number < ALL_LOGS → slice_index_or found number Option.None ≡ verdict_of frames image number) }
+    ensures judged { H.tells → (image : Image) → reads (H.state h.old).now.words ≡ image → IfOk result (IsJudged frames image number) }
     ensures only_reads { OnlyReads H.tells H.state H.counts (fault_of result) h.old h.new }
 {
-    let mut found = [None; LOGS];
-    for client in 0..CLIENTS {
-        let marks = judge_client(h, frames, client)?;
-        let from = (CLIENT_LOGS * client) as usize;
-        found[from..from + CLIENT_LOGS as usize].copy_from_slice(&marks);
-    }
-    Ok(found)
+    let Some(who) = owner_of(h, number / CLIENT_LOGS)? else {
+        return Ok(None);
+    };
+    let mut copy = LogCopy::load(h, log_number_at(frames, number))?;
+    let mark = mark_copy(h, frames, who, &mut copy)?;
+    Ok(Some(Judged { copy, mark }))
 }

@@ -17,7 +17,7 @@ ghost use Rattle.recover.specs.Verdicts.{verdict_of, mark_of, is_refused_mark};
 ghost use Rattle.recover.specs.Turns.{TakesTurns, LeavesTurns};
 ghost use Rattle.recover.specs.Recovery.{recover_fault, ReplaysLogs, RecoversDevice};
 
-use crate::judge::{Mark, judge};
+use crate::judge::Mark;
 use crate::turn::take_logs;
 use pm_model::{Host, HostFault};
 use pud_defs::layout::LOGS;
@@ -66,37 +66,6 @@ impl From<LoadFault> for RecoverFault {
     }
 }
 
-/// The mark of each log, by what was found of it.
-fn marks_of(found: &[Option<Mark>; LOGS]) -> [Mark; LOGS]
-    ensures { (number : ℕ) → number < ALL_LOGS → slice_index_or result number Mark.Closed ≡ mark_of (slice_index_or found.now number Option.None) }
-{
-    let mut marks = [Mark::Closed; LOGS];
-    for number in 0..LOGS {
-        if let Some(mark) = found[number] {
-            marks[number] = mark;
-        }
-    }
-    marks
-}
-
-/// Judges each client's log, and then replays and closes those that are allowed, on a device whose daemon log is closed.
-fn settle_logs<H: Host>(h: &mut H, frames: u32) -> Result<[Mark; LOGS], HostFault>
-    requires few { frames ≤ MAX_FRAMES }
-    requires room { device_words frames ≤ (H.counts h.old).size }
-    ensures marks { H.tells → (image : Image) → reads (H.state h.old).now.words ≡ image
-        → IfOk result (λ marks. (number : ℕ) → number < ALL_LOGS → slice_index_or marks number Mark.Closed ≡ mark_of (verdict_of frames image number)) }
-    ensures takes { H.tells → (image : Image) → reads (H.state h.old).now.words ≡ image
-        → TakesTurns frames ALL_LOGS image (fault_of result) (H.state h.old) (H.state h.new) }
-    ensures leaves { H.tells → (image : Image) → IsRested (H.state h.old).now.words → reads (H.state h.old).now.words ≡ image
-        → LeavesTurns frames image (fault_of result) (H.state h.old) (H.state h.new) }
-    ensures any { H.tells → Changes Anything (fault_of result) (H.state h.old) (H.state h.new) }
-    ensures cause { H.counts h.new ≡ after_fault (fault_of result) (H.counts h.old) }
-{
-    let found = judge(h, frames)?;
-    take_logs(h, frames, &found)?;
-    Ok(marks_of(&found))
-}
-
 /// Recovers the device: applies what its daemon log names, and replays and closes each registered log that its owner may, in
 /// the order of their numbers. It takes no memory, and may be cut off anywhere and done again. Which logs are registered stays:
 /// what a start is to tell of them is told before they are forgotten.
@@ -126,7 +95,7 @@ pub fn recover<H: Host>(h: &mut H) -> Result<Report, RecoverFault>
     ensures cause { H.counts h.new ≡ after_fault (recover_fault result) (H.counts h.old) }
 {
     let geo = load_sound(h)?;
-    let marks = settle_logs(h, geo.frames)?;
+    let marks = take_logs(h, geo.frames)?;
     Ok(Report {
         frames: geo.frames,
         marks,

@@ -1,6 +1,6 @@
-//! Clients' logs replayed and closed, one after the other.
+//! Clients' logs judged, replayed and closed, one after the other: each is read once, into a copy.
 
-ghost use Rattle.std.specs.Prelude.{◌≡◌, ◌<◌, ◌≤◌, ℕ, slice_index_or, Option};
+ghost use Rattle.std.specs.Prelude.{◌≡◌, ◌<◌, ◌≤◌, ℕ, slice_index_or, Option, IfOk};
 ghost use Rattle.pm_model.specs.Words.{IsRested, reads};
 ghost use Rattle.pm_model.specs.Counts.{after_fault, fault_of};
 ghost use Rattle.pm_model.specs.Changes.{Changes};
@@ -8,11 +8,12 @@ ghost use Rattle.pud_defs.specs.Image.{Image};
 ghost use Rattle.pud_defs.specs.Layout.{device_words};
 ghost use Rattle.pud_defs.specs.Settled.{ALL_LOGS};
 ghost use Rattle.log_replay.specs.Replaying.{Anything};
-ghost use Rattle.recover.specs.Verdicts.{verdict_of};
+ghost use Rattle.recover.specs.Verdicts.{verdict_of, mark_of};
+ghost use Rattle.recover.specs.Judging.{IsJudgedCopy};
 ghost use Rattle.recover.specs.Turns.{TakesTurn, LeavesTurn, TakesTurns, LeavesTurns};
 
-use crate::judge::Mark;
-use log_replay::{Target, settle_log};
+use crate::judge::{Judged, Mark, judge_log};
+use log_replay::settle_copy;
 use pm_model::{Host, HostFault};
 use pm_persist::persist_word;
 use pud_defs::layout::{LOGS, LogNo, MAX_FRAMES, log_number_at};
@@ -38,54 +39,77 @@ fn close_idle<H: Host>(h: &mut H, frames: u32, number: LogNo) -> Result<(), Host
     persist_word(h, at, CLOSED_GATE)
 }
 
-/// Replays a log that is allowed, and closes it. Nothing changes of one that is refused or not registered.
-fn take_log<H: Host>(
+/// Replays a log that is allowed from its copy, and closes it. Nothing changes of one that is refused.
+fn settle_judged<H: Host>(
     h: &mut H,
     frames: u32,
     number: LogNo,
-    found: Option<Mark>,
+    judged: &Judged,
 ) -> Result<(), HostFault>
     requires few { frames ≤ MAX_FRAMES }
     requires known { number < ALL_LOGS }
     requires room { device_words frames ≤ (H.counts h.old).size }
-    ensures takes { H.tells → (image : Image) → reads (H.state h.old).now.words ≡ image
-        → found ≡ verdict_of frames image number → TakesTurn frames number image (fault_of result) (H.state h.old) (H.state h.new) }
-    ensures leaves { H.tells → (image : Image) → IsRested (H.state h.old).now.words → reads (H.state h.old).now.words ≡ image
-        → found ≡ verdict_of frames image number → LeavesTurn frames number image (fault_of result) (H.state h.old) (H.state h.new) }
+    ensures takes { H.tells → (image : Image) → reads (H.state h.old).now.words ≡ image → Option.Some judged.now.mark ≡ verdict_of frames image number
+        → IsJudgedCopy frames image number judged.now → TakesTurn frames number image (fault_of result) (H.state h.old) (H.state h.new) }
+    ensures leaves { H.tells → (image : Image) → IsRested (H.state h.old).now.words → reads (H.state h.old).now.words ≡ image → Option.Some judged.now.mark ≡ verdict_of frames image number
+        → IsJudgedCopy frames image number judged.now → LeavesTurn frames number image (fault_of result) (H.state h.old) (H.state h.new) }
     ensures any { H.tells → Changes Anything (fault_of result) (H.state h.old) (H.state h.new) }
     ensures cause { H.counts h.new ≡ after_fault (fault_of result) (H.counts h.old) }
 {
-    let Some(mark) = found else {
-        return Ok(());
-    };
-    match mark {
+    match judged.mark {
         Mark::Refused => Ok(()),
         Mark::Closed => close_idle(h, frames, number),
-        Mark::Replayed => settle_log(h, log_number_at(frames, number), Target::Puddles(frames)),
+        Mark::Replayed => settle_copy(h, &judged.copy, log_number_at(frames, number)),
     }
 }
 
-/// Replays and closes the logs that are allowed, by what was found of each, in the order of their numbers. It takes no memory.
+/// Judges a log, and then replays and closes it if it is allowed. The answer is what was found of it, None where it is not registered:
+/// then nothing changes, nor where it is refused.
+fn take_log<H: Host>(h: &mut H, frames: u32, number: LogNo) -> Result<Option<Mark>, HostFault>
+    requires few { frames ≤ MAX_FRAMES }
+    requires known { number < ALL_LOGS }
+    requires room { device_words frames ≤ (H.counts h.old).size }
+    ensures mark { H.tells → (image : Image) → reads (H.state h.old).now.words ≡ image → IfOk result (λ mark. mark ≡ verdict_of frames image number) }
+    ensures takes { H.tells → (image : Image) → reads (H.state h.old).now.words ≡ image → TakesTurn frames number image (fault_of result) (H.state h.old) (H.state h.new) }
+    ensures leaves { H.tells → (image : Image) → IsRested (H.state h.old).now.words → reads (H.state h.old).now.words ≡ image
+        → LeavesTurn frames number image (fault_of result) (H.state h.old) (H.state h.new) }
+    ensures any { H.tells → Changes Anything (fault_of result) (H.state h.old) (H.state h.new) }
+    ensures cause { H.counts h.new ≡ after_fault (fault_of result) (H.counts h.old) }
+{
+    let Some(judged) = judge_log(h, frames, number)? else {
+        return Ok(None);
+    };
+    settle_judged(h, frames, number, &judged)?;
+    Ok(Some(judged.mark))
+}
+
+/// Takes the logs in the order of their numbers: each is judged, and replayed and closed if it is allowed. The answer is the mark of each by its
+/// number, as it is by what the device reads at the start. It takes no memory.
 ///
-/// A log that has nothing to replay and is closed takes one load, one that is replayed two fences.
-pub(crate) fn take_logs<H: Host>(
-    h: &mut H,
-    frames: u32,
-    found: &[Option<Mark>; LOGS],
-) -> Result<(), HostFault>
+/// A log that is not registered takes one load, and one that counts no word and is closed five. Of any other each entry word is loaded once, and one
+/// that is replayed takes two fences.
+pub(crate) fn take_logs<H: Host>(h: &mut H, frames: u32) -> Result<[Mark; LOGS], HostFault>
     requires few { frames ≤ MAX_FRAMES }
     requires room { device_words frames ≤ (H.counts h.old).size }
+    ensures marks { H.tells → (image : Image) → reads (H.state h.old).now.words ≡ image
+        → IfOk result (λ marks. (number : ℕ) → number < ALL_LOGS → slice_index_or marks number Mark.Closed ≡ mark_of (verdict_of frames image number)) }
     ensures takes { H.tells → (image : Image) → reads (H.state h.old).now.words ≡ image
-        → ((number : ℕ) → number < ALL_LOGS → slice_index_or found.now number Option.None ≡ verdict_of frames image number)
         → TakesTurns frames ALL_LOGS image (fault_of result) (H.state h.old) (H.state h.new) }
     ensures leaves { H.tells → (image : Image) → IsRested (H.state h.old).now.words → reads (H.state h.old).now.words ≡ image
-        → ((number : ℕ) → number < ALL_LOGS → slice_index_or found.now number Option.None ≡ verdict_of frames image number)
         → LeavesTurns frames image (fault_of result) (H.state h.old) (H.state h.new) }
     ensures any { H.tells → Changes Anything (fault_of result) (H.state h.old) (H.state h.new) }
     ensures cause { H.counts h.new ≡ after_fault (fault_of result) (H.counts h.old) }
 {
+    let mut marks = [Mark::Closed; LOGS];
     for number in 0..LOGS as u32 {
-        take_log(h, frames, number, found[number as usize])?;
+        marks[number as usize] = mark_of(take_log(h, frames, number)?);
     }
-    Ok(())
+    Ok(marks)
+}
+
+/// The mark of a log, by what was found of it.
+fn mark_of(found: Option<Mark>) -> Mark
+    ensures { result ≡ mark_of found }
+{
+    found.unwrap_or(Mark::Closed)
 }

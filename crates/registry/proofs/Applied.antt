@@ -1,6 +1,7 @@
 -- The daemon log of a device applied: what is read then stands for the same world, and on a rested device so does each image left.
 use Rattle.std.proofs.Common.{◌≡◌, inl, inr, ℕ, ◌≤◌, true, false, List, get_or, Option, Some, None, refl, sym, ap, subst, ◌∙◌, arith}
 use Rattle.std.specs.List.{list_all}
+use Rattle.std.specs.Prelude.{IfSome}
 use Rattle.std.proofs.lemmas.Bool.{cases_eq, cases_Bool}
 use Rattle.std.proofs.lemmas.List.Sums.{AllPass-from_list_all}
 use Rattle.pm_model.specs.declared.host.HostFault.{HostFault}
@@ -24,11 +25,13 @@ use Rattle.pud_defs.proofs.Replay.{outside_log, settled_by-inside, settled_by-ou
 use Rattle.pud_defs.proofs.Logged.{legal_entries, allowed_in_range, has_legal_log-of, new_value-unlogged}
 use Rattle.pud_defs.proofs.Worlds.{settled-below, legal_log_of_world, holding_of_world, frames_of_world, world_of-settled, world_of-sound}
 use Rattle.pud_defs.proofs.IdleWorlds.{legal_log_idle}
+use Rattle.log_entry.specs.Copying.{log_copied}
 use Rattle.log_replay.specs.declared.Target.TheVariants as targets
-use Rattle.log_replay.specs.Replaying.{IsReplayable, HasDurableLog, ByLog, SettlesSame, SettlesLog}
+use Rattle.log_replay.specs.Replaying.{IsReplayable, IsPlacedCopy, HasDurableLog, ByLog, SettlesSame, SettlesLog}
 use Rattle.log_replay.proofs.Closing.{gate_apart}
 use Rattle.batch.specs.Batches.{HasIdleGate}
 use Rattle.batch.proofs.Worlds.{names_apart}
+use Rattle.soundness.specs.declared.judge.Sound.{Sound}
 use Rattle.registry.specs.Registry.{StillStands, AppliesLog}
 
 -- ---- a sound device: its daemon log may be replayed
@@ -74,6 +77,15 @@ settles_sound size fault a b c same sound settles =
     let world = world_of-sound size image (ap (λ (x : State). is_sound size (reads x.now.words)) same ∙ sound) in
     let s = stored_by (settled (frames_of image) image) in
     subst (λ (x : State). SettlesLog targets.Words DAEMON_LOG fault x c) same (settles (entries size s image world) (replayable size s image world))
+
+-- the copy of the log was made by a call that changed nothing
+pub copied_before : (found : Option Sound) (sound : Sound) (a b : State) → found ≡ Some sound → IfSome found (λ (x : Sound). log_copied x.log ≡ log_of (reads a.now.words) DAEMON_LOG) → b ≡ a
+    → IsPlacedCopy targets.Words DAEMON_LOG (reads b.now.words) sound.log
+copied_before found sound a b is log same =
+    record {
+      log = subst (λ (o : Option Sound). IfSome o (λ (x : Sound). log_copied x.log ≡ log_of (reads a.now.words) DAEMON_LOG)) is log
+          ∙ ap (λ (x : State). log_of (reads x.now.words) DAEMON_LOG) (sym same);
+    }
 
 -- nothing was done, since a read failed
 pub SettlesLog-failed : (fault : HostFault) (a b : State) → (Some fault ≡ Some Cut → ⊥) → b ≡ a → SettlesLog targets.Words DAEMON_LOG (Some fault) a b

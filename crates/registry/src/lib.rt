@@ -5,6 +5,7 @@ ghost use Rattle.std.specs.Prelude.{◌≡◌, ◌≢◌, ◌↔◌, ℕ, Option
 ghost use Rattle.pm_model.specs.Words.{IsRested, reads};
 ghost use Rattle.pm_model.specs.Counts.{after_fault};
 ghost use Rattle.pm_model.specs.Changes.{Changes};
+ghost use Rattle.log_replay.specs.declared.Target.TheVariants as targets;
 ghost use Rattle.log_replay.specs.Replaying.{Anything, SettlesLog};
 ghost use Rattle.pud_defs.specs.declared.layout.TheConstants.{DAEMON_LOG};
 ghost use Rattle.pud_defs.specs.Registry.{frames_of};
@@ -23,12 +24,12 @@ mod puts;
 pub use adding::Added;
 pub use changing::{change_mode, drop_pool};
 pub use growing::{find_growth, grow_pool};
-use log_replay::{Target, settle_log};
+use log_replay::settle_copy;
 pub use making::{MakeFault, make_pool};
 pub use placing::{NewType, place_pool};
 use pm_model::{Host, HostFault};
 use pud_defs::layout::{DAEMON_LOG, MACHINE_WORD};
-pub use soundness::sound_frames;
+use soundness::judge_device;
 
 /// What a device is: how many frames it has, 4 to 1,024, and its machine id.
 #[derive(Clone, Copy, Debug, PartialEq, Eq)]
@@ -72,7 +73,7 @@ pub fn load_sound<H: Host>(h: &mut H) -> Result<Geo, LoadFault>
         → (result ≡ Result.Err LoadFault.NotSound) ↔ (world_of (H.counts h.old).size (reads (H.state h.old).now.words) ≡ Option.None) }
     ensures unchanged { H.tells → result ≡ Result.Err LoadFault.NotSound → H.state h.new ≡ H.state h.old }
     ensures room { IfOk result (λ geo. IsRoomFor (H.counts h.old).size geo.frames) }
-    ensures settles { H.tells → result ≢ Result.Err LoadFault.NotSound → SettlesLog Target.Words DAEMON_LOG (load_fault result) (H.state h.old) (H.state h.new) }
+    ensures settles { H.tells → result ≢ Result.Err LoadFault.NotSound → SettlesLog targets.Words DAEMON_LOG (load_fault result) (H.state h.old) (H.state h.new) }
     ensures stands { H.tells → (size : ℕ) → size ≡ (H.counts h.old).size
         → IfOk result (λ geo. world_of size (reads (H.state h.new).now.words) ≡ world_of size (reads (H.state h.old).now.words)) }
     ensures geo { H.tells → (size : ℕ) → size ≡ (H.counts h.old).size → (s : StoredWorld) → world_of size (reads (H.state h.old).now.words) ≡ Option.Some s
@@ -94,15 +95,15 @@ fn apply_sound<H: Host>(h: &mut H) -> Result<u32, LoadFault>
     ensures unchanged { H.tells → result ≡ Result.Err LoadFault.NotSound → H.state h.new ≡ H.state h.old }
     ensures room { IfOk result (IsRoomFor (H.counts h.old).size) }
     ensures frames { H.tells → IfOk result (λ frames. frames ≡ frames_of (reads (H.state h.old).now.words)) }
-    ensures settles { H.tells → result ≢ Result.Err LoadFault.NotSound → SettlesLog Target.Words DAEMON_LOG (load_fault result) (H.state h.old) (H.state h.new) }
+    ensures settles { H.tells → result ≢ Result.Err LoadFault.NotSound → SettlesLog targets.Words DAEMON_LOG (load_fault result) (H.state h.old) (H.state h.new) }
     ensures applies { H.tells → (size : ℕ) → size ≡ (H.counts h.old).size → (s : StoredWorld) → IsRested (H.state h.old).now.words
         → world_of size (reads (H.state h.old).now.words) ≡ Option.Some s → AppliesLog size s (load_fault result) (H.state h.old) (H.state h.new) }
     ensures any { H.tells → Changes Anything (load_fault result) (H.state h.old) (H.state h.new) }
     ensures cause { H.counts h.new ≡ after_fault (load_fault result) (H.counts h.old) }
 {
-    let Some(frames) = sound_frames(h)? else {
+    let Some(sound) = judge_device(h)? else {
         return Err(LoadFault::NotSound);
     };
-    settle_log(h, DAEMON_LOG, Target::Words)?;
-    Ok(frames)
+    settle_copy(h, &sound.log, DAEMON_LOG)?;
+    Ok(sound.frames)
 }

@@ -15,7 +15,7 @@ use Rattle.pud_defs.specs.Tables.{Tables}
 use Rattle.pud_defs.specs.SoundTables.{has_legal_pools, has_distinct_names, has_legal_puddles, has_distinct_bases, has_distinct_old_bases, has_distinct_ordinals, has_counted_puddles, are_sound_tables}
 use Rattle.pud_defs.proofs.Logged.{settled_by-unlogged}
 use Rattle.pud_defs.proofs.Worlds.{holding_by}
-use Rattle.log_entry.specs.Ranges.{HasRange}
+use Rattle.log_entry.specs.Copying.{log_copied}
 use Rattle.soundness.specs.declared.overlay.Overlay.{Overlay}
 use Rattle.soundness.specs.Overlaying.{IsOverlay}
 use Rattle.soundness.specs.Distinct.{are_distinct_puddles}
@@ -44,9 +44,9 @@ is_well_formed image some =
     let es = some_there (entries_of image DAEMON_LOG) some in
     record { entries = es.0; are = es.1; legal = sym (ap (are_allowed (frames_of image) (log_of image DAEMON_LOG)) es.1) }
 
-pub is_overlay : (o : Overlay) (image : Image) → HasRange o.range (log_of image DAEMON_LOG) → has_legal_log image ≡ true → IsOverlay o image
-is_overlay o image range legal = elim (cases_Bool (is_some (entries_of image DAEMON_LOG))) [
-  | inl formed ↦ let es = some_there (entries_of image DAEMON_LOG) formed in record { range = range; entries = es.0; are = es.1 }
+pub is_overlay : (o : Overlay) (image : Image) → log_copied o.log ≡ log_of image DAEMON_LOG → has_legal_log image ≡ true → IsOverlay o image
+is_overlay o image log legal = elim (cases_Bool (is_some (entries_of image DAEMON_LOG))) [
+  | inl formed ↦ let es = some_there (entries_of image DAEMON_LOG) formed in record { log = log; entries = es.0; are = es.1 }
   | inr spoilt ↦ absurd (let it : true ≡ false = sym legal ∙ not_legal image spoilt in cc)
 ]
 

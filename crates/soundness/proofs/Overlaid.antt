@@ -1,5 +1,5 @@
 -- A log read entry by entry: what the entries so far give to a word.
-use Rattle.std.proofs.Common.{◌≡◌, ◌⊎◌, inl, inr, ℕ, zero, suc, ◌+◌, ◌-◌, ◌<◌, ◌≤◌, true, false, ◌&&◌, cond, leb, ltb, eqb, List, [], ◌∷◌, Option, Some, None, sym, ap, ap₂, ◌∙◌, arith, add-zero}
+use Rattle.std.proofs.Common.{◌≡◌, ◌⊎◌, inl, inr, ℕ, zero, suc, ◌+◌, ◌-◌, ◌<◌, ◌≤◌, true, false, ◌&&◌, cond, leb, ltb, eqb, List, [], ◌∷◌, get_or, Option, Some, None, sym, ap, ap₂, ◌∙◌, arith, add-zero}
 use Rattle.std.specs.Prelude.{slice_get, unwrap_or}
 use Rattle.std.specs.Option.{option_or}
 use Rattle.std.proofs.lemmas.Bool.{and_right, and_from, cond-true, cond-false, cases_Bool, le-leb, lt-ltb}
@@ -13,6 +13,8 @@ use Rattle.pud_defs.specs.Replay.{device_word, is_in_range, value_in, given_by, 
 use Rattle.pud_defs.proofs.Entries.{words_from-length}
 use Rattle.pud_defs.proofs.Replay.{or_none, or_assoc, given_by-out, undone-first, undone-none, redone-first, redone-none, new_value-of, replayed-none, settled_by-outside}
 use Rattle.log_entry.specs.declared.Entry.{Entry as Found}
+use Rattle.log_entry.specs.declared.LogRange.{LogRange}
+use Rattle.log_entry.specs.Ranges.{HasRange}
 use Rattle.log_entry.specs.Reading.{entry_from}
 use Rattle.soundness.specs.declared.overlay.Overlay.{Overlay}
 use Rattle.soundness.specs.declared.overlay.Given.{Given}
@@ -25,6 +27,12 @@ unfolding words_from
 words_from-get image at zero k below = absurd (omega arith)
 words_from-get image at (suc n) zero below = ap (λ (j : ℕ). Some (image j)) (sym (add-zero at))
 words_from-get image at (suc n) (suc k) below = let place : (at + 1) + k ≡ at + suc k = omega arith in words_from-get image (at + 1) n k (omega arith) ∙ ap (λ (j : ℕ). Some (image j)) place
+
+pub words_from-at : (image : Image) (at n k : ℕ) → k < n → get_or (words_from image at n) k 0 ≡ image (at + k)
+unfolding words_from
+words_from-at image at zero k below = absurd (omega arith)
+words_from-at image at (suc n) zero below = ap image (sym (add-zero at))
+words_from-at image at (suc n) (suc k) below = let place : (at + 1) + k ≡ at + suc k = omega arith in words_from-at image (at + 1) n k (omega arith) ∙ ap image place
 
 named : (image : Image) (e : Found) (w v : ℕ) → e.addr ≤ w → w < e.addr + e.n → v ≡ image (e.at + (w - e.addr)) → value_in device_word (entry_from image e) w ≡ Some v
 named image e w v low high read = cond-true _ _ _ (le-leb e.addr w low) ∙ words_from-get image e.at e.n (w - e.addr) (omega arith) ∙ ap Some (sym read)
@@ -101,10 +109,10 @@ gives_all log w es given same = record {
 -- ---- the word
 
 -- nothing is in range
-pub word_uncounted : (o : Overlay) (image : Image) (w v : ℕ) → IsOverlay o image → is_in_log DAEMON_LOG w ≡ false → o.range.hi ≤ o.range.lo + 1 → v ≡ image w → v ≡ settled_by DAEMON_LOG image w
-word_uncounted o image w v over outside closed read =
-    let lo = over.range.lo in
-    let hi = over.range.hi in
+pub word_uncounted : (range : LogRange) (image : Image) (w v : ℕ) → HasRange range (log_of image DAEMON_LOG) → is_in_log DAEMON_LOG w ≡ false → range.hi ≤ range.lo + 1 → v ≡ image w → v ≡ settled_by DAEMON_LOG image w
+word_uncounted range image w v of_log outside closed read =
+    let lo = of_log.lo in
+    let hi = of_log.hi in
     sym (settled_by-outside DAEMON_LOG image w outside ∙ ap (λ (i : Image). i w) (replayed-none device_word (log_of image DAEMON_LOG) image (omega arith)) ∙ sym read)
 
 pub word_given : (o : Overlay) (image : Image) (w before v : ℕ) (given : Given) (over : IsOverlay o image) → is_in_log DAEMON_LOG w ≡ false → before ≡ image w

@@ -6,13 +6,13 @@ use Rattle.pud_defs.specs.declared.log_words.TheConstants.{UNDO_ORDER, REDO_ORDE
 use Rattle.pud_defs.specs.Image.{Image}
 use Rattle.pud_defs.specs.Entries.{Entry, Log, log_of, entries_of}
 use Rattle.pud_defs.specs.Replay.{device_word, given_by, undone, redone}
-use Rattle.log_entry.specs.Ranges.{HasRange}
+use Rattle.log_entry.specs.Copying.{log_copied}
 use Rattle.soundness.specs.declared.overlay.Overlay.{Overlay}
 use Rattle.soundness.specs.declared.overlay.Given.{Given}
 
--- it has the range of the image's daemon log, which is well formed
+-- it has a copy of the image's daemon log, which is well formed
 pub record IsOverlay (o : Overlay) (image : Image) : Type 0 where
-  pub range : HasRange o.range (log_of image DAEMON_LOG)
+  pub log : log_copied o.log ≡ log_of image DAEMON_LOG
   pub entries : List Entry
   pub are : entries_of image DAEMON_LOG ≡ Some entries
 

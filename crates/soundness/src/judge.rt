@@ -5,10 +5,10 @@ ghost use Rattle.std.specs.List.{list_all, list_any};
 ghost use Rattle.pm_model.specs.Words.{reads};
 ghost use Rattle.pm_model.specs.Counts.{fault_of};
 ghost use Rattle.pm_model.specs.Reads.{OnlyReads};
-ghost use Rattle.pud_defs.specs.declared.layout.TheConstants.{POOL_TABLE, PUDDLE_TABLE};
+ghost use Rattle.pud_defs.specs.declared.layout.TheConstants.{DAEMON_LOG, POOL_TABLE, PUDDLE_TABLE};
 ghost use Rattle.pud_defs.specs.Image.{Image};
 ghost use Rattle.pud_defs.specs.Layout.{device_words};
-ghost use Rattle.pud_defs.specs.Entries.{Entry as LoggedEntry, Log, log_of, entries_of};
+ghost use Rattle.pud_defs.specs.Entries.{Entry as LoggedEntry, log_of};
 ghost use Rattle.pud_defs.specs.Replay.{settled_by};
 ghost use Rattle.pud_defs.specs.Spaces.{is_space, is_legal_space, are_legal_spaces};
 ghost use Rattle.pud_defs.specs.Tables.{tables_of};
@@ -16,7 +16,7 @@ ghost use Rattle.pud_defs.specs.SoundTables.{are_sound_tables};
 ghost use Rattle.pud_defs.specs.Registry.{frames_of, has_legal_types, may_be_logged, is_allowed, has_legal_log, is_registry, is_sound};
 ghost use Rattle.pud_defs.specs.Identifiers.{is_number};
 ghost use Rattle.log_entry.specs.Reading.{entry_from};
-ghost use Rattle.log_entry.specs.Ranges.{HasRange};
+ghost use Rattle.log_entry.specs.Copying.{image_of, log_copied};
 ghost use Rattle.soundness.specs.Overlaying.{IsOverlay};
 ghost use Rattle.soundness.specs.Judging.{IsRoomFor, frames_by, frames_described, with_one_more, has_sound_records};
 
@@ -24,13 +24,12 @@ use crate::distinct::are_distinct_puddles;
 use crate::names::has_distinct_names;
 use crate::overlay::Overlay;
 use crate::tables::{has_legal_pools, has_legal_puddles};
-use log_entry::{Entry, EntryReader, well_formed};
+use log_entry::{CopyReader, Entry, LogCopy};
 use pm_model::{Host, HostFault};
 use pud_defs::layout::{
-    CLIENTS, DAEMON_LOG, DEVICE_MAGIC, FRAMES_WORD, LOG_WORDS, MAGIC_WORD, MAX_FRAMES,
-    MAX_OWNER_ID, MIN_FRAMES, NEXT_NUMBER_WORD, NUMBER_LIMIT, SPACE_RECORD_WORDS, SPACE_TABLE,
-    TYPE_RECORD_WORDS, TYPE_RECORDS, TYPE_TABLE, VERSION, VERSION_WORD, device_words, frames_at,
-    tables_end,
+    CLIENTS, DEVICE_MAGIC, FRAMES_WORD, MAGIC_WORD, MAX_FRAMES, MAX_OWNER_ID, MIN_FRAMES,
+    NEXT_NUMBER_WORD, NUMBER_LIMIT, SPACE_RECORD_WORDS, SPACE_TABLE, TYPE_RECORD_WORDS,
+    TYPE_RECORDS, TYPE_TABLE, VERSION, VERSION_WORD, device_words, frames_at, tables_end,
 };
 use pud_defs::type_map::{is_legal_map, is_legal_type_id};
 
@@ -86,43 +85,37 @@ fn may_be_logged(frames: u32, at: u64, n: u32) -> bool
         || lie_within(at, n, frames_at(frames), device_words(frames))
 }
 
-/// Whether an entry is out of range, or lies where the daemon log may write.
+/// Whether an entry of the daemon log is out of range, or lies where that log may write.
 fn is_allowed(overlay: &Overlay, frames: u32, entry: &Entry) -> bool
     requires { frames ≤ MAX_FRAMES }
-    ensures { (image : Image) (log : Log) → HasRange overlay.now.range log → result ≡ is_allowed frames log (entry_from image entry.now) }
+    ensures { result ≡ is_allowed frames (log_copied overlay.now.log) (entry_from (image_of overlay.now.log) entry.now) }
 {
-    !overlay.range.counts(entry) || may_be_logged(frames, entry.addr, entry.n)
+    !overlay.log.range().counts(entry) || may_be_logged(frames, entry.addr, entry.n)
 }
 
 /// Whether each entry of the daemon log is.
-fn are_allowed<H: Host>(h: &mut H, overlay: &Overlay, frames: u32) -> Result<bool, HostFault>
-    requires few { frames ≤ MAX_FRAMES }
-    requires log { DAEMON_LOG + LOG_WORDS ≤ (H.counts h.old).size }
-    ensures allowed { H.tells → (image : Image) → reads (H.state h.old).now.words ≡ image → (es : List LoggedEntry) → entries_of image DAEMON_LOG ≡ Option.Some es
-        → HasRange overlay.now.range (log_of image DAEMON_LOG) → IfOk result (λ allowed. allowed ≡ list_all (is_allowed frames (log_of image DAEMON_LOG)) es) }
-    ensures only_reads { OnlyReads H.tells H.state H.counts (fault_of result) h.old h.new }
+fn are_allowed(overlay: &Overlay, frames: u32) -> bool
+    requires { frames ≤ MAX_FRAMES }
+    ensures { (es : List LoggedEntry) → (log_copied overlay.now.log).entries ≡ Option.Some es → result ≡ list_all (is_allowed frames (log_copied overlay.now.log)) es }
 {
-    let mut reader = EntryReader::new(DAEMON_LOG);
-    while let Some(entry) = reader.next(h)? {
+    let mut reader = CopyReader::new();
+    while let Some(entry) = reader.next(&overlay.log) {
         if !is_allowed(overlay, frames, &entry) {
-            return Ok(false);
+            return false;
         }
     }
-    Ok(true)
+    true
 }
 
-/// Whether the daemon log, whose range is the overlay's, is well formed and its entries in range lie where they may.
-fn has_legal_log<H: Host>(h: &mut H, overlay: &Overlay, frames: u32) -> Result<bool, HostFault>
-    requires few { frames ≤ MAX_FRAMES }
-    requires log { DAEMON_LOG + LOG_WORDS ≤ (H.counts h.old).size }
-    ensures legal { H.tells → (image : Image) → reads (H.state h.old).now.words ≡ image → HasRange overlay.now.range (log_of image DAEMON_LOG) → frames ≡ frames_of image
-        → IfOk result (λ legal. legal ≡ has_legal_log image) }
-    ensures only_reads { OnlyReads H.tells H.state H.counts (fault_of result) h.old h.new }
+/// Whether the daemon log is well formed and its entries in range lie where they may.
+fn has_legal_log(overlay: &Overlay, frames: u32) -> bool
+    requires { frames ≤ MAX_FRAMES }
+    ensures { (image : Image) → log_copied overlay.now.log ≡ log_of image DAEMON_LOG → frames ≡ frames_of image → result ≡ has_legal_log image }
 {
-    if !well_formed(h, DAEMON_LOG)? {
-        return Ok(false);
+    if !overlay.log.is_well_formed() {
+        return false;
     }
-    are_allowed(h, overlay, frames)
+    are_allowed(overlay, frames)
 }
 
 /// Whether these records are legal with one more in front: a free one, or a used one that is legal and whose id is none
@@ -263,27 +256,44 @@ fn is_registry<H: Host>(h: &mut H, overlay: &Overlay, frames: u32) -> Result<boo
     Ok(are_both(records, spaces))
 }
 
-/// Whether a device that is described to have so many frames is a sound registry once its daemon log is replayed.
-fn is_sound<H: Host>(h: &mut H, frames: u32) -> Result<bool, HostFault>
+/// A copy of the daemon log of a device that is described to have so many frames, where it is a sound registry once that log is
+/// replayed.
+fn log_of_sound<H: Host>(h: &mut H, frames: u32) -> Result<Option<LogCopy>, HostFault>
     requires few { frames ≤ MAX_FRAMES }
     requires room { device_words frames ≤ (H.counts h.old).size }
     ensures sound { H.tells → (image : Image) → reads (H.state h.old).now.words ≡ image → (size : ℕ) → frames_described size image ≡ Option.Some frames
-        → IfOk result (λ sound. sound ≡ is_sound size image) }
+        → IfOk result (λ log. is_some log ≡ is_sound size image) }
+    ensures log { H.tells → (image : Image) → reads (H.state h.old).now.words ≡ image → IfOk result (λ log. IfSome log (λ copy. log_copied copy ≡ log_of image DAEMON_LOG)) }
     ensures only_reads { OnlyReads H.tells H.state H.counts (fault_of result) h.old h.new }
 {
     let overlay = Overlay::of(h)?;
-    if !has_legal_log(h, &overlay, frames)? {
-        return Ok(false);
+    if !has_legal_log(&overlay, frames) {
+        return Ok(None);
     }
-    is_registry(h, &overlay, frames)
+    if !is_registry(h, &overlay, frames)? {
+        return Ok(None);
+    }
+    Ok(Some(overlay.log))
 }
 
-/// The number of frames of a device that is a sound registry once its daemon log is replayed, or None exactly where it is none.
-/// Nothing changes, and the only errors are the host's own.
-pub fn sound_frames<H: Host>(h: &mut H) -> Result<Option<u32>, HostFault>
+/// What is known of a device that is a sound registry once its daemon log is replayed.
+#[derive(Drop)]
+pub struct Sound {
+    /// The number of its frames, 4 to 1,024.
+    pub frames: u32,
+    /// A copy of its daemon log.
+    pub log: LogCopy,
+}
+
+/// What is known of a device that is a sound registry once its daemon log is replayed, or None exactly where it is none. Nothing
+/// changes, and the only errors are the host's own.
+///
+/// Of the daemon log the gate is loaded once, and so is each entry word that it counts.
+pub fn judge_device<H: Host>(h: &mut H) -> Result<Option<Sound>, HostFault>
     ensures sound { H.tells → IfOk result (λ found. is_some found ≡ is_sound (H.counts h.old).size (reads (H.state h.old).now.words)) }
-    ensures frames { H.tells → IfOk result (λ found. IfSome found (λ frames. frames ≡ frames_of (reads (H.state h.old).now.words))) }
-    ensures room { IfOk result (λ found. IfSome found (IsRoomFor (H.counts h.old).size)) }
+    ensures frames { H.tells → IfOk result (λ found. IfSome found (λ sound. sound.frames ≡ frames_of (reads (H.state h.old).now.words))) }
+    ensures log { H.tells → IfOk result (λ found. IfSome found (λ sound. log_copied sound.log ≡ log_of (reads (H.state h.old).now.words) DAEMON_LOG)) }
+    ensures room { IfOk result (λ found. IfSome found (λ sound. IsRoomFor (H.counts h.old).size sound.frames)) }
     ensures only_reads { OnlyReads H.tells H.state H.counts (fault_of result) h.old h.new }
 {
     if h.words() < device_words(MIN_FRAMES) {
@@ -292,8 +302,8 @@ pub fn sound_frames<H: Host>(h: &mut H) -> Result<Option<u32>, HostFault>
     let Some(frames) = described_frames(h)? else {
         return Ok(None);
     };
-    if !is_sound(h, frames)? {
-        return Ok(None);
+    match log_of_sound(h, frames)? {
+        Some(log) => Ok(Some(Sound { frames, log })),
+        None => Ok(None),
     }
-    Ok(Some(frames))
 }

@@ -10,4 +10,4 @@ mod names;
 mod overlay;
 mod tables;
 
-pub use judge::sound_frames;
+pub use judge::{Sound, judge_device};

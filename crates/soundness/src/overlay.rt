@@ -1,5 +1,5 @@
 //! The words of a device as its daemon log's replay makes them. Nothing is replayed: with each word that is asked for,
-//! the entries of the log are read.
+//! the entries of a copy of the log are read.
 ghost use Rattle.std.specs.Prelude.{◌≡◌, ◌+◌, ◌<◌, ◌≤◌, ◌==◌, false, cond, List, Option, IfOk, ◌&&◌, nat_lt, nat_le};
 ghost use Rattle.std.specs.Option.{option_or};
 ghost use Rattle.pm_model.specs.Words.{reads};
@@ -8,13 +8,13 @@ ghost use Rattle.pm_model.specs.Reads.{OnlyReads};
 ghost use Rattle.pud_defs.specs.declared.layout.TheConstants.{DAEMON_LOG, LOG_WORDS};
 ghost use Rattle.pud_defs.specs.declared.log_words.TheConstants.{UNDO_ORDER, REDO_ORDER};
 ghost use Rattle.pud_defs.specs.Image.{Image};
-ghost use Rattle.pud_defs.specs.Entries.{Entry as LoggedEntry, Log, log_of, entries_of};
+ghost use Rattle.pud_defs.specs.Entries.{Entry as LoggedEntry, log_of};
 ghost use Rattle.pud_defs.specs.Replay.{is_in_log, settled_by};
 ghost use Rattle.log_entry.specs.Reading.{entry_from};
-ghost use Rattle.log_entry.specs.Ranges.{HasRange};
+ghost use Rattle.log_entry.specs.Copying.{image_of, log_copied, IsOfCopy};
 ghost use Rattle.soundness.specs.Overlaying.{IsOverlay, GivesMore, Gives};
 
-use log_entry::{Entry, EntryReader, LogRange};
+use log_entry::{CopyReader, Entry, LogCopy};
 use pm_model::{Host, HostFault};
 use pud_defs::layout::DAEMON_LOG;
 use pud_defs::log_words::{REDO_ORDER, UNDO_ORDER};
@@ -49,76 +49,62 @@ impl Given {
 }
 
 /// The words of a device under its daemon log.
-#[derive(Clone, Copy)]
+#[derive(Drop)]
 pub struct Overlay {
-    /// The range of the daemon log.
-    pub range: LogRange,
+    /// A copy of the daemon log.
+    pub log: LogCopy,
 }
 
 impl Overlay {
-    /// The overlay by the range that the daemon log has now.
+    /// The overlay by the daemon log as it is now. The gate is loaded once, and so is each entry word that it counts.
     pub fn of<H: Host>(h: &mut H) -> Result<Overlay, HostFault>
         requires { DAEMON_LOG + LOG_WORDS ≤ (H.counts h.old).size }
-        ensures range { H.tells → (image : Image) → reads (H.state h.old).now.words ≡ image → IfOk result (λ overlay. HasRange overlay.range (log_of image DAEMON_LOG)) }
+        ensures log { H.tells → (image : Image) → reads (H.state h.old).now.words ≡ image → IfOk result (λ overlay. log_copied overlay.log ≡ log_of image DAEMON_LOG) }
         ensures only_reads { OnlyReads H.tells H.state H.counts (fault_of result) h.old h.new }
     {
-        let range = LogRange::of(h, DAEMON_LOG)?;
-        Ok(Overlay { range })
+        let log = LogCopy::load(h, DAEMON_LOG)?;
+        Ok(Overlay { log })
     }
 
     /// Takes in what an entry gives to word `w`.
-    fn add<H: Host>(
-        &self,
-        h: &mut H,
-        entry: &Entry,
-        w: u32,
-        given: Given,
-    ) -> Result<Given, HostFault>
-        requires { entry.now.at + entry.now.n ≤ (H.counts h.old).size }
-        ensures more { H.tells → (image : Image) → reads (H.state h.old).now.words ≡ image → (log : Log) → HasRange self.now.range log
-            → IfOk result (λ after. GivesMore log (entry_from image entry.now) w given after) }
-        ensures only_reads { OnlyReads H.tells H.state H.counts (fault_of result) h.old h.new }
+    fn add(&self, entry: &Entry, w: u32, given: Given) -> Given
+        requires { IsOfCopy entry.now }
+        ensures { GivesMore (log_copied self.now.log) (entry_from (image_of self.now.log) entry.now) w given result }
     {
-        // With this call the proof has that a device's words are counted by 32 bits, so that places of them are, too.
-        let _words = h.words();
-        if !self.range.counts(entry) || !names(entry, w) {
-            return Ok(given);
+        if !self.log.range().counts(entry) || !names(entry, w) {
+            return given;
         }
-        let value = h.load(entry.at + (w - entry.addr as u32))?;
-        Ok(given.with(entry.order, value))
+        let values = self.log.values(entry);
+        given.with(entry.order, values[(w - entry.addr as u32) as usize])
     }
 
     /// What the entries of the daemon log give to word `w`.
-    fn given<H: Host>(&self, h: &mut H, w: u32) -> Result<Given, HostFault>
-        requires { DAEMON_LOG + LOG_WORDS ≤ (H.counts h.old).size }
-        ensures given { H.tells → (image : Image) → reads (H.state h.old).now.words ≡ image → (es : List LoggedEntry) → entries_of image DAEMON_LOG ≡ Option.Some es
-            → HasRange self.now.range (log_of image DAEMON_LOG) → IfOk result (λ given. Gives (log_of image DAEMON_LOG) es w given) }
-        ensures only_reads { OnlyReads H.tells H.state H.counts (fault_of result) h.old h.new }
+    fn given(&self, w: u32) -> Given
+        ensures { (es : List LoggedEntry) → (log_copied self.now.log).entries ≡ Option.Some es → Gives (log_copied self.now.log) es w result }
     {
         let mut given = Given {
             undo: None,
             redo: None,
         };
-        let mut reader = EntryReader::new(DAEMON_LOG);
-        while let Some(entry) = reader.next(h)? {
-            given = self.add(h, &entry, w, given)?;
+        let mut reader = CopyReader::new();
+        while let Some(entry) = reader.next(&self.log) {
+            given = self.add(&entry, w, given);
         }
-        Ok(given)
+        given
     }
 
     /// The value of word `w`, which is none of the daemon log's, with that log replayed.
     pub fn word<H: Host>(&self, h: &mut H, w: u32) -> Result<u64, HostFault>
-        requires log { DAEMON_LOG + LOG_WORDS ≤ (H.counts h.old).size }
-        requires word { w < (H.counts h.old).size }
+        requires { w < (H.counts h.old).size }
         ensures value { H.tells → (image : Image) → reads (H.state h.old).now.words ≡ image → IsOverlay self.now image → is_in_log DAEMON_LOG w ≡ false
             → IfOk result (λ v. v ≡ settled_by DAEMON_LOG image w) }
         ensures only_reads { OnlyReads H.tells H.state H.counts (fault_of result) h.old h.new }
     {
         let before = h.load(w)?;
-        if self.range.counts_none() {
+        if self.log.range().counts_none() {
             return Ok(before);
         }
-        let given = self.given(h, w)?;
+        let given = self.given(w);
         Ok(given.redo.or(given.undo).unwrap_or(before))
     }
 }

@@ -1,28 +1,38 @@
+use Rattle.std.proofs.Common.{refl, subst}
 use Rattle.std.proofs.lemmas.Result.{err_from_is_err_and}
+use Rattle.pm_model.specs.Words.{reads}
+use Rattle.pm_model.specs.Moments.{State}
 use Rattle.pm_model.specs.Counts.{fault_of}
-use Rattle.log_replay.proofs.Whole.{Replays-failed, Replays-fence, replays_again}
-use Rattle.pm_model.proofs.Changes.{Changes-fence}
-use Rattle.log_replay.specs.Replaying.{Anything}
-use Rattle.log_replay.proofs.Applying.{any_then}
+use Rattle.pm_model.proofs.Reading.{Changes-read}
+use Rattle.log_replay.specs.Replaying.{place_of, new_values, IsPlacedCopy, IsReplayable, HasDurableLog, Replays, ReplaysAgain}
+use Rattle.log_replay.proofs.Applying.{Applies-failed_still, size_then}
+use Rattle.log_replay.proofs.Whole.{Replays-failed, replays_again}
 use Rattle.log_replay.proofs.replay_range.Goals as goal
 
-pub returns-in_err-overwrite-clause-replays : goal.returns-in_err-overwrite-clause-replays
-returns-in_err-overwrite-clause-replays g c =
+pub returns-in_err-copy-clause-replays : goal.returns-in_err-copy-clause-replays
+returns-in_err-copy-clause-replays g c =
     let p = err_from_is_err_and c.from_residual.result c.from_residual.ensures.1 in
-    rw (p.1, p.2) (λ t size same es r. Replays-failed c.args.to c.args.log_at _ _ _ (c.in_err-overwrite.ensures.overwrites t size same es r))
+    rw (p.1, p.2) (λ t size same es r.
+    Replays-failed c.args.to c.args.log_at _ _ _ (Applies-failed_still (new_values c.args.to c.args.log_at (reads (g.H.Host.state c.args.h.now).now.words)) _ _ _ (Changes-read c.in_err-copy.ensures.only_reads t)))
 
-pub returns-in_err-overwrite-clause-again : goal.returns-in_err-overwrite-clause-again
-returns-in_err-overwrite-clause-again g c = λ t size same es r d.
-    replays_again c.args.to size c.args.log_at es (fault_of c.overwrite.result) _ _ r d (c.overwrite.ensures.overwrites t size same es r).changes
+pub returns-in_err-copy-clause-again : goal.returns-in_err-copy-clause-again
+returns-in_err-copy-clause-again g c = λ t size same es r d.
+    replays_again c.args.to size c.args.log_at es (fault_of c.copy_placed.result) _ _ r d (Changes-read c.copy_placed.ensures.only_reads t)
 
 pub returns-clause-replays : goal.returns-clause-replays
 returns-clause-replays g c = λ t size same es r.
-    Replays-fence c.args.to c.args.log_at (fault_of c.fence.result) _ _ _ (c.in_ok-overwrite.ensures.overwrites t size same es r) (c.fence.ensures.state t)
+    let to = c.args.to in
+    let at = c.args.log_at in
+    let copied = c.in_ok-copy.ensures.placed t _ refl es r.spells in
+    subst (λ (x : State). IsReplayable (place_of to (reads x.now.words)) size at es (reads x.now.words) → IsPlacedCopy to at (reads x.now.words) c.in_ok-copy.copy
+    → Replays to at (fault_of c.replay_copy.result) x (g.H.Host.state c.replay_copy.new.h))
+    (c.in_ok-copy.ensures.only_reads.stays t) (c.replay_copy.ensures.replays t size (size_then size _ _ same c.in_ok-copy.ensures.only_reads.cause) to at es) r copied
 
 pub returns-clause-again : goal.returns-clause-again
 returns-clause-again g c = λ t size same es r d.
-    replays_again c.args.to size c.args.log_at es (fault_of c.fence.result) _ _ r d
-    (Replays-fence c.args.to c.args.log_at (fault_of c.fence.result) _ _ _ (c.in_ok-overwrite.ensures.overwrites t size same es r) (c.fence.ensures.state t)).changes
-
-pub returns-clause-any : goal.returns-clause-any
-returns-clause-any g c = λ t. any_then (fault_of c.fence.result) _ _ _ (c.in_ok-overwrite.ensures.any t) (Changes-fence Anything (fault_of c.fence.result) _ _ (c.fence.ensures.state t))
+    let to = c.args.to in
+    let at = c.args.log_at in
+    let copied = c.in_ok-copy.ensures.placed t _ refl es r.spells in
+    subst (λ (x : State). IsReplayable (place_of to (reads x.now.words)) size at es (reads x.now.words) → IsPlacedCopy to at (reads x.now.words) c.in_ok-copy.copy → HasDurableLog to at x.now.words
+    → ReplaysAgain to size at es x (g.H.Host.state c.replay_copy.new.h))
+    (c.in_ok-copy.ensures.only_reads.stays t) (c.replay_copy.ensures.again t size (size_then size _ _ same c.in_ok-copy.ensures.only_reads.cause) to at es) r copied d

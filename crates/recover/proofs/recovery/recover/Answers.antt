@@ -42,7 +42,7 @@ returns-in_err-marks-clause-replays g c =
     let p = err_from_is_err_and c.from_residual-in_err-marks.result c.from_residual-in_err-marks.ensures.1 in
     let a = g.H.Host.state c.args.h.now in
     let b = g.H.Host.state c.load_sound.new.h in
-    let d = g.H.Host.state c.settle_logs.new.h in
+    let d = g.H.Host.state c.take_logs.new.h in
     let fault = c.in_err-marks.field-0.0 in
     rw (p.1, p.2) (λ t size same s world.
     ReplaysLogs-failed size s a world b (c.in_ok-geo.ensures.settles t (λ is. cc)) (c.in_ok-geo.ensures.stands t size same ∙ world) fault d
@@ -54,7 +54,7 @@ returns-in_err-marks-clause-recovers g c =
     let p = err_from_is_err_and c.from_residual-in_err-marks.result c.from_residual-in_err-marks.ensures.1 in
     let a = g.H.Host.state c.args.h.now in
     let b = g.H.Host.state c.load_sound.new.h in
-    let d = g.H.Host.state c.settle_logs.new.h in
+    let d = g.H.Host.state c.take_logs.new.h in
     let fault = c.in_err-marks.field-0.0 in
     rw (p.1, p.2) (λ t size same s rested world.
     let applies = c.in_ok-geo.ensures.applies t size same s rested world in
@@ -66,14 +66,14 @@ returns-in_err-marks-clause-recovers g c =
 pub returns-in_err-marks-clause-any : goal.returns-in_err-marks-clause-any
 returns-in_err-marks-clause-any g c =
     let p = err_from_is_err_and c.from_residual-in_err-marks.result c.from_residual-in_err-marks.ensures.1 in
-    rw (p.1, p.2) (λ t. Changes-then Anything (Some c.in_err-marks.field-0.0) (g.H.Host.state c.args.h.now) (g.H.Host.state c.load_sound.new.h) (g.H.Host.state c.settle_logs.new.h)
+    rw (p.1, p.2) (λ t. Changes-then Anything (Some c.in_err-marks.field-0.0) (g.H.Host.state c.args.h.now) (g.H.Host.state c.load_sound.new.h) (g.H.Host.state c.take_logs.new.h)
     (c.in_ok-geo.ensures.any t) (c.in_err-marks.ensures.any t))
 
 pub returns-clause-replays : goal.returns-clause-replays
 returns-clause-replays g c = λ t size same s world.
     let a = g.H.Host.state c.args.h.now in
     let b = g.H.Host.state c.load_sound.new.h in
-    let d = g.H.Host.state c.settle_logs.new.h in
+    let d = g.H.Host.state c.take_logs.new.h in
     ReplaysLogs-done size s a world b (c.in_ok-geo.ensures.settles t (λ is. cc)) (c.in_ok-geo.ensures.stands t size same ∙ world) d
     (subst (λ (F : ℕ). TakesTurns F ALL_LOGS (reads b.now.words) None b d) (c.in_ok-geo.ensures.geo t size same s world).0 (c.in_ok-marks.ensures.takes t (reads b.now.words) refl))
 
@@ -81,7 +81,7 @@ pub returns-clause-recovers : goal.returns-clause-recovers
 returns-clause-recovers g c = λ t size same s rested world.
     let a = g.H.Host.state c.args.h.now in
     let b = g.H.Host.state c.load_sound.new.h in
-    let d = g.H.Host.state c.settle_logs.new.h in
+    let d = g.H.Host.state c.take_logs.new.h in
     let applies = c.in_ok-geo.ensures.applies t size same s rested world in
     let frames = (c.in_ok-geo.ensures.geo t size same s world).0 in
     RecoversDevice-taken size s a world rested b applies (c.in_ok-geo.ensures.settles t (λ is. cc)) (c.in_ok-geo.ensures.stands t size same ∙ world) None d
@@ -109,4 +109,4 @@ returns-clause-refused g c = λ t image is number few.
 
 pub returns-clause-any : goal.returns-clause-any
 returns-clause-any g c = λ t.
-    Changes-then Anything None (g.H.Host.state c.args.h.now) (g.H.Host.state c.load_sound.new.h) (g.H.Host.state c.settle_logs.new.h) (c.in_ok-geo.ensures.any t) (c.in_ok-marks.ensures.any t)
+    Changes-then Anything None (g.H.Host.state c.args.h.now) (g.H.Host.state c.load_sound.new.h) (g.H.Host.state c.take_logs.new.h) (c.in_ok-geo.ensures.any t) (c.in_ok-marks.ensures.any t)

@@ -1,0 +1,28 @@
+-- A log that was copied from a device, read as an image of its own.
+use Rattle.std.specs.Prelude.{ℕ, ◌+◌, ◌-◌, ◌≤◌, ◌==◌, nat_lt, cond, List, slice_index}
+use Rattle.pud_defs.specs.declared.layout.TheConstants.{LOG_WORDS, LOG_HEADER_WORDS, ENTRY_HEADER_WORDS}
+use Rattle.pud_defs.specs.Image.{Image}
+use Rattle.pud_defs.specs.Entries.{Entry, Log, log_of}
+use Rattle.log_entry.specs.declared.Entry.{Entry as Found}
+
+-- the gate of a log, and its entry words from the first on
+pub record Copied : Type 0 where
+  pub gate : ℕ
+  pub words : List ℕ
+
+-- The copy as an image: the log in it begins at word 0, which is its gate. So what is said of the log of an image is said of a copy.
+abbrev pub image_of : Copied → Image
+image_of c k = cond (k == 0) c.gate (cond (nat_lt k LOG_HEADER_WORDS) 0 (slice_index c.words (k - LOG_HEADER_WORDS)))
+
+-- what a copy says
+abbrev pub log_copied : Copied → Log
+log_copied c = log_of (image_of c) 0
+
+-- the entry stands among the words of a copy, with its values
+pub record IsOfCopy (e : Found) : Type 0 where
+  pub behind : LOG_HEADER_WORDS + ENTRY_HEADER_WORDS ≤ e.at
+  pub within : e.at + e.n ≤ LOG_WORDS
+
+-- the entry with another address
+abbrev pub with_address : ℕ → Entry → Entry
+with_address address e = record { address = address; seq = e.seq; order = e.order; vals = e.vals }

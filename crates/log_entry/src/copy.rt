@@ -1,0 +1,160 @@
+//! A log copied from a device, word by word: read, judged and replayed without another load.
+ghost use Rattle.std.specs.Prelude.{◌≡◌, ◌+◌, ◌-◌, ◌≤◌, Option, IfOk, IfSome, option_map, is_some, length};
+ghost use Rattle.pm_model.specs.Words.{reads};
+ghost use Rattle.pm_model.specs.Counts.{fault_of};
+ghost use Rattle.pm_model.specs.Reads.{OnlyReads};
+ghost use Rattle.pud_defs.specs.declared.layout.TheConstants.{LOG_WORDS, LOG_ENTRY_WORDS, ENTRY_HEADER_WORDS};
+ghost use Rattle.pud_defs.specs.Image.{Image, written};
+ghost use Rattle.pud_defs.specs.Entries.{log_of, words_from};
+ghost use Rattle.pud_defs.specs.Replay.{is_in_range};
+ghost use Rattle.log_entry.specs.Reading.{Reading, entry_next, entries_left, entry_from, Passes, left_before};
+ghost use Rattle.log_entry.specs.Ranges.{HasRange};
+ghost use Rattle.log_entry.specs.Copying.{Copied, image_of, log_copied, IsOfCopy};
+
+use crate::{Entry, LogRange, begins_entry};
+use pm_model::{Host, HostFault};
+use pud_defs::layout::{ENTRY_HEADER_WORDS, LOG_ENTRY_WORDS, LOG_HEADER_WORDS, LOG_WORDS};
+use pud_defs::log_words::{
+    entry_n, entry_order, entry_seq, gate_hi, gate_lo, gate_used, is_legal_gate,
+};
+use std::marker::Model;
+
+/// A log as it was on a device: its gate, and the entry words that the gate counts. It takes about 8 KB.
+///
+/// The entries that are read of it have places in the copy: word `k` of the log is word `k` of the copy.
+#[derive(Drop)]
+pub struct LogCopy {
+    gate: u64,
+    words: [u64; LOG_ENTRY_WORDS as usize],
+}
+
+impl Model for LogCopy {
+    ghost Value = { Copied };
+
+    ghost view = { λ c. record { gate = c.gate; words = c.words } };
+
+    ghost invariant = { λ c. length c.words ≡ LOG_ENTRY_WORDS };
+}
+
+impl LogCopy {
+    /// Copies the log whose gate is word `log_at`: the gate is loaded once, and so is each entry word that it counts, but no
+    /// more words than a log has.
+    ///
+    /// The log lies in the device. The only errors are the host's own.
+    pub fn load<H: Host>(h: &mut H, log_at: u32) -> Result<LogCopy, HostFault>
+        requires { log_at + LOG_WORDS ≤ (H.counts h.old).size }
+        ensures copied { H.tells → (image : Image) → reads (H.state h.old).now.words ≡ image → IfOk result (λ copy. log_copied copy ≡ log_of image log_at) }
+        ensures only_reads { OnlyReads H.tells H.state H.counts (fault_of result) h.old h.new }
+    {
+        // With this call the proof has that a device's words are counted by 32 bits, so that places of them are, too.
+        let _words = h.words();
+        let gate = h.load(log_at)?;
+        let used = gate_used(gate).min(LOG_ENTRY_WORDS);
+        let mut words = [0u64; LOG_ENTRY_WORDS as usize];
+        for i in 0..used {
+            words[i as usize] = h.load(log_at + LOG_HEADER_WORDS + i)?;
+        }
+        Ok(LogCopy { gate, words })
+    }
+
+    /// The gate of the log.
+    pub fn gate(&self) -> u64
+        ensures { result ≡ image_of self.now 0 }
+    {
+        self.gate
+    }
+
+    /// The range of the log.
+    pub fn range(&self) -> LogRange
+        ensures { HasRange result (log_copied self.now) }
+    {
+        LogRange {
+            lo: gate_lo(self.gate),
+            hi: gate_hi(self.gate),
+        }
+    }
+
+    /// Whether the log is well formed: its gate is legal, and the entry words that it counts are wholly a list of entries.
+    pub fn is_well_formed(&self) -> bool
+        ensures { result ≡ is_some (log_copied self.now).entries }
+    {
+        if !is_legal_gate(self.gate) {
+            return false;
+        }
+        let mut reader = CopyReader::new();
+        let mut passed = 0;
+        while let Some(entry) = reader.next(self) {
+            passed += ENTRY_HEADER_WORDS + entry.n;
+        }
+        gate_used(self.gate) <= passed
+    }
+
+    /// The values of an entry that was read of a copy.
+    pub fn values(&self, entry: &Entry) -> &[u64]
+        requires { IsOfCopy entry.now }
+        ensures { result.now ≡ words_from (image_of self.now) entry.now.at entry.now.n }
+    {
+        let from = (entry.at - LOG_HEADER_WORDS) as usize;
+        &self.words[from..from + entry.n as usize]
+    }
+
+    /// Gives an entry that was read of a copy another address.
+    pub fn set_address(&mut self, entry: &Entry, address: u64)
+        requires { IsOfCopy entry.now }
+        ensures { image_of self.new ≡ written (entry.now.at - ENTRY_HEADER_WORDS) address (image_of self.old) }
+    {
+        self.words[(entry.at - LOG_HEADER_WORDS - ENTRY_HEADER_WORDS) as usize] = address;
+    }
+}
+
+/// Reads the entries of a copy, the oldest first.
+#[derive(Drop)]
+pub struct CopyReader {
+    passed: u32,
+}
+
+impl Model for CopyReader {
+    ghost Value = { Reading };
+
+    ghost view = { λ r. record { log_at = 0; passed = r.passed } };
+
+    ghost invariant = { λ r. r.passed ≤ LOG_ENTRY_WORDS };
+}
+
+impl CopyReader {
+    /// A reader before the first entry of a copy.
+    pub fn new() -> CopyReader
+        ensures { result ≡ record { log_at = 0; passed = 0 } }
+    {
+        CopyReader { passed: 0 }
+    }
+
+    /// The next entry of the copy. None comes exactly where the gate counts more words than a log has, or all that it counts
+    /// are read, or they spell no entry from here on. Of a well formed log the entries that were left are the one that was
+    /// found and those left now; or none is found, and none was left.
+    pub fn next(&mut self, copy: &LogCopy) -> Option<Entry>
+        ensures next { option_map (entry_from (image_of copy.now)) result ≡ entry_next (image_of copy.now) self.old }
+        ensures left { entries_left (image_of copy.now) self.old ≡ left_before (image_of copy.now) result self.new }
+        ensures passes { Passes result self.old self.new }
+        ensures inside { IfSome result IsOfCopy }
+    {
+        let used = gate_used(copy.gate);
+        if used > LOG_ENTRY_WORDS || used < self.passed + ENTRY_HEADER_WORDS {
+            return None;
+        }
+        let at = self.passed as usize;
+        let word = copy.words[at + 1];
+        if !begins_entry(word, used - self.passed - ENTRY_HEADER_WORDS) {
+            return None;
+        }
+        let n = entry_n(word);
+        self.passed += ENTRY_HEADER_WORDS + n;
+        Some(Entry {
+            addr: copy.words[at],
+            n,
+            seq: entry_seq(word),
+            order: entry_order(word),
+            at: LOG_HEADER_WORDS + at as u32 + ENTRY_HEADER_WORDS,
+        })
+    }
+}
