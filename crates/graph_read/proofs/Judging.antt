@@ -52,37 +52,6 @@ pub headers_fit-each : (F : ℕ) (at : List (ℕ × Puddle)) (image : Image) →
 unfolding headers_fit
 headers_fit-each F at image = ap (λ n. all_below n (header_at (stored_in F at image))) (length-map at (λ (x : ℕ × Puddle). x.1))
 
--- ---- distinct serials, from the front
-
--- whether a place has this serial
-under_here : (f : ℕ → ℕ) (s p : ℕ) → s ≢ 0 → is_some (under nat_cmp s (under_serial f (λ q. q) p)) ≡ eqb (f p) s
-under_here f s p live = elim (cases_eq (f p) 0) [
-  | inl free ↦ ap (λ b. is_some (under nat_cmp s (cond (not b) (Some (f p, p)) None))) (eq-eqb _ _ free) ∙ sym (ne_eqb (f p) s (λ e. live (sym e ∙ free)))
-  | inr used ↦ ap (λ b. is_some (under nat_cmp s (cond (not b) (Some (f p, p)) None))) (ne_eqb _ _ used) ∙ some_under s (f p) p ∙ eqb_turned s (f p)
-]
-
--- the serial stands in a part of the list where it stands at a place of that part
-pub listed : (xs : List ℕ) (s from n : ℕ) → s ≢ 0 → from + n ≤ length xs
-    → list_any (λ y. eqb y s) (take n (drop from xs)) ≡ is_some (first_from nat_cmp s (under_serial (slice_index xs) (λ p. p)) from n)
-unfolding first_from
-listed xs s from zero live within = refl
-listed xs s from (suc n) live within =
-    let below : from < length xs = omega arith in
-    ap (λ ys. list_any (λ y. eqb y s) (take (suc n) ys)) (drop-cons xs from 0 below)
-    ∙ ap₂ (λ (a b : Bool). a || b)
-    (sym (under_here (slice_index xs) s from live))
-    (ap (λ k. list_any (λ y. eqb y s) (take n (drop k xs))) (sym (add-one from)) ∙ listed xs s (from + 1) n live (omega arith))
-    ∙ sym (some_or (under nat_cmp s (under_serial (slice_index xs) (λ p. p) from)) (first_from nat_cmp s (under_serial (slice_index xs) (λ p. p)) (from + 1) n))
-
--- a live place is apart from those behind it
-pub is_apart-live : (xs : List ℕ) (place n : ℕ) → slice_index xs place ≢ 0 → place + 1 + n ≤ length xs
-    → not (list_any (λ y. eqb y (slice_index xs place)) (take n (drop (place + 1) xs)))
-    ≡ is_apart nat_cmp (under_serial (slice_index xs) (λ p. p) place) (under_serial (slice_index xs) (λ p. p)) (place + 1) n
-is_apart-live xs place n live within =
-    ap not (listed xs (slice_index xs place) (place + 1) n live within)
-    ∙ sym (none_by_some (first_from nat_cmp (slice_index xs place) (under_serial (slice_index xs) (λ p. p)) (place + 1) n))
-    ∙ sym (ap (λ b. is_apart nat_cmp (cond (not b) (Some (slice_index xs place, place)) None) (under_serial (slice_index xs) (λ p. p)) (place + 1) n) (ne_eqb _ _ live))
-
 -- ---- all of it
 
 -- a word of the frame of ordinal 0

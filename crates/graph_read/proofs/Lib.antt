@@ -11,3 +11,4 @@ pub mod Passing
 pub mod Pointed
 pub mod Retargets
 pub mod SerialsRead
+pub mod SortedSerials

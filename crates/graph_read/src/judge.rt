@@ -1,14 +1,13 @@
 //! Whether what a pool stores is a graph, how many objects it has, and what their numbers come to.
 
 ghost use Rattle.std.specs.Prelude.{◌≡◌, ◌+◌, ◌-◌, ◌*◌, ◌<◌, ◌≤◌, ◌==◌, ◌&&◌, length, slice_index, Option, is_some, option_map, IfOk, IfSome};
-ghost use Rattle.std.specs.List.{list_any};
 ghost use Rattle.std.specs.Ordering.{nat_cmp};
 ghost use Rattle.pm_model.specs.Words.{reads};
 ghost use Rattle.pm_model.specs.Counts.{fault_of};
 ghost use Rattle.pm_model.specs.Reads.{OnlyReads};
 ghost use Rattle.pud_defs.specs.Graph.{graph_of, headers_fit, is_next_serial, under_serial};
 ghost use Rattle.pud_defs.specs.Image.{Image};
-ghost use Rattle.pud_defs.specs.Keyed.{are_distinct, count_used, is_apart};
+ghost use Rattle.pud_defs.specs.Keyed.{are_distinct, count_used};
 ghost use Rattle.pud_defs.specs.Layout.{device_words};
 ghost use Rattle.pud_defs.specs.Stored.{IsOnDevice, stored_in};
 ghost use Rattle.pud_defs.specs.Types.{types_of};
@@ -20,7 +19,7 @@ use crate::pointers::read_pointer;
 use crate::serials::{PLACES, Serials, read_serials};
 use pm_model::{HostFault, Loads};
 use pud_defs::layout::{MAX_FRAMES, NUMBER_LIMIT};
-use pud_defs::objects::{is_free, is_live};
+use pud_defs::objects::is_live;
 use pud_defs::records::Puddle;
 use pud_defs::space::places_among;
 use puddle_header::{has_header, next_serial, root_value};
@@ -42,25 +41,18 @@ fn headers_fit<H: Loads>(h: &mut H, frames: u32, pool: &[(u32, Puddle)]) -> Resu
     Ok(true)
 }
 
-/// Whether a serial is one of these. All are looked at, since a loop without an early end takes several at once.
-fn is_among(serial: u64, serials: &[u64]) -> bool
-    ensures { result ≡ list_any (λ other. other == serial) serials.now }
+/// Whether no serial of a live place stands twice among these. They are put in rising order, where two that are the same stand side by side.
+fn are_distinct_sorted(serials: &mut [u64]) -> bool
+    ensures { result ≡ are_distinct nat_cmp (under_serial (slice_index serials.old) (λ p. p)) 0 (length serials.old) }
 {
-    let mut found = false;
-    for other in serials {
-        found |= *other == serial;
+    serials.sort_unstable();
+    for place in 1..serials.len() {
+        let serial = serials[place];
+        if is_live(serial) && serial == serials[place - 1] {
+            return false;
+        }
     }
-    found
-}
-
-/// Whether a place is free, or none of the later places of so many has its serial.
-fn is_last(serials: &Serials, count: usize, place: usize) -> bool
-    requires within { count ≤ PLACES }
-    requires below { place < count }
-    ensures { result ≡ is_apart nat_cmp (under_serial (slice_index serials.now) (λ p. p) place) (under_serial (slice_index serials.now) (λ p. p)) (place + 1) (count - (place + 1)) }
-{
-    let serial = serials[place];
-    is_free(serial) || !is_among(serial, &serials[place + 1..count])
+    true
 }
 
 /// Whether no two live places of so many have one serial.
@@ -68,12 +60,8 @@ fn are_distinct(serials: &Serials, count: usize) -> bool
     requires within { count ≤ PLACES }
     ensures { result ≡ are_distinct nat_cmp (under_serial (slice_index serials.now) (λ p. p)) 0 count }
 {
-    for place in 0..count {
-        if !is_last(serials, count, place) {
-            return false;
-        }
-    }
-    true
+    let mut sorted = *serials;
+    are_distinct_sorted(&mut sorted[..count])
 }
 
 /// Whether the word may be a next serial, from 1 to 2^63.
