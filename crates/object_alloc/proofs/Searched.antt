@@ -9,11 +9,9 @@ use Rattle.pud_defs.specs.Image.{Image}
 use Rattle.pud_defs.specs.Stored.{Stored, stored_in, places_of, place_word, IsFreePlace, IsLivePlace}
 use Rattle.puddle_header.specs.Places.{places_in}
 use Rattle.graph_laws.specs.Slots.{AreAllLive, IsLowestFreeSlot}
+use Rattle.object_alloc.specs.Alloc.{AreLiveBefore}
 
--- each place before this one is live
-pub record AreLiveBefore (st : Stored) (end : ℕ) : Type 0 where
-  pub each : (q : ℕ) → q < end → IsLivePlace st q
-
+-- no place is before the first one
 pub AreLiveBefore-start : (st : Stored) → AreLiveBefore st 0
 AreLiveBefore-start st = record { each = λ q below. absurd (omega arith) }
 

@@ -1,12 +1,17 @@
--- What is answered where a free slot is looked for, and the word that frees one.
-use Rattle.std.specs.Prelude.{ℕ, ◌+◌, Option, Some, None, Result, Ok, Err}
+-- What is answered where a free slot is looked for, from where on it may be, and the word that frees one.
+use Rattle.std.specs.Prelude.{ℕ, ◌+◌, ◌<◌, Option, Some, None, Result, Ok, Err}
 use Rattle.pm_model.specs.declared.host.HostFault.{HostFault}
 use Rattle.pud_defs.specs.declared.space.TheConstants.{SLOT_SERIAL_WORD}
 use Rattle.pud_defs.specs.declared.records.Slot.{Slot}
 use Rattle.pud_defs.specs.Geometry.{slot_begins}
 use Rattle.pud_defs.specs.Frames.{frame_at}
+use Rattle.pud_defs.specs.Stored.{Stored, IsLivePlace}
 use Rattle.object_alloc.specs.declared.AllocFault.{AllocFault}
 use Rattle.object_alloc.specs.declared.AllocFault.TheVariants as faults
+
+-- Each place before this one is live.
+pub record AreLiveBefore (st : Stored) (end : ℕ) : Type 0 where
+  pub each : (q : ℕ) → q < end → IsLivePlace st q
 
 -- the host's fault that the search for a free slot answered
 abbrev pub alloc_fault : {T : Type 0} → Result T AllocFault → Option HostFault

@@ -14,7 +14,7 @@ ghost use Rattle.pud_defs.specs.Geometry.{puddle_slots};
 ghost use Rattle.pud_defs.specs.Stored.{IsOnDevice, stored_in};
 ghost use Rattle.graph_laws.specs.Slots.{AreAllLive, IsLowestFreeSlot};
 ghost use Rattle.puddle_header.specs.Places.{places_in, place_of_slot, IsSlotOf};
-ghost use Rattle.object_alloc.specs.Alloc.{alloc_fault, serial_word_at};
+ghost use Rattle.object_alloc.specs.Alloc.{AreLiveBefore, alloc_fault, serial_word_at};
 
 use pm_model::{Host, HostFault};
 use pm_persist::write_range;
@@ -45,23 +45,25 @@ impl From<HostFault> for AllocFault {
     }
 }
 
-/// The lowest free place of the pool, or None where every place is live.
+/// The lowest free place of the pool from one on, or None where every place from there on is live. Each place before that
+/// one is live.
 fn free_place<H: Host>(
     h: &mut H,
     frames: u32,
     pool: &[(u32, Puddle)],
+    from: u32,
 ) -> Result<Option<u32>, HostFault>
     requires few { frames ≤ MAX_FRAMES }
     requires room { device_words frames ≤ (H.counts h.old).size }
     requires known { IsOnDevice frames pool.now }
-    ensures free { H.tells → (image : Image) → reads (H.state h.old).now.words ≡ image
+    ensures free { H.tells → (image : Image) → reads (H.state h.old).now.words ≡ image → AreLiveBefore (stored_in frames pool.now image) from
         → IfOk result (λ found. IfSome found (IsLowestFreeSlot (stored_in frames pool.now image))) }
-    ensures full { H.tells → (image : Image) → reads (H.state h.old).now.words ≡ image
+    ensures full { H.tells → (image : Image) → reads (H.state h.old).now.words ≡ image → AreLiveBefore (stored_in frames pool.now image) from
         → IfOk result (λ found. IfNone found (AreAllLive (stored_in frames pool.now image))) }
     ensures within { IfOk result (λ found. IfSome found (λ place. place < places_in pool.now)) }
     ensures only_reads { OnlyReads H.tells H.state H.counts (fault_of result) h.old h.new }
 {
-    for place in 0..places_among(pool.len() as u32) {
+    for place in from..places_among(pool.len() as u32) {
         if is_free(serial_at(h, frames, pool, place)?) {
             return Ok(Some(place));
         }
@@ -70,10 +72,35 @@ fn free_place<H: Host>(
 }
 
 /// The lowest free slot of the lowest ordinal of a pool, which is given by the frames and the records of its puddles by
-/// their ordinals, at most 16.
+/// their ordinals, at most 16. It is looked for from one place on: each place before that is live.
 ///
 /// `Full` comes exactly where every slot of these puddles is live, where the host does not fail first. The slots are read in
-/// turn, one word each, up to the first that is free.
+/// turn, one word each, from that place up to the first that is free.
+pub fn alloc_slot_from<H: Host>(
+    h: &mut H,
+    frames: u32,
+    pool: &[(u32, Puddle)],
+    from: u32,
+) -> Result<Slot, AllocFault>
+    requires few { frames ≤ MAX_FRAMES }
+    requires room { device_words frames ≤ (H.counts h.old).size }
+    requires known { IsOnDevice frames pool.now }
+    ensures free { H.tells → (image : Image) → reads (H.state h.old).now.words ≡ image → AreLiveBefore (stored_in frames pool.now image) from
+        → IfOk result (λ slot. IsLowestFreeSlot (stored_in frames pool.now image) (place_of_slot slot)) }
+    ensures full { H.tells → (image : Image) → reads (H.state h.old).now.words ≡ image → AreLiveBefore (stored_in frames pool.now image) from
+        → alloc_fault result ≡ Option.None → (result ≡ Result.Err AllocFault.Full) ↔ AreAllLive (stored_in frames pool.now image) }
+    ensures within { IfOk result (IsSlotOf pool.now) }
+    ensures only_reads { OnlyReads H.tells H.state H.counts (alloc_fault result) h.old h.new }
+{
+    match free_place(h, frames, pool, from)? {
+        Some(place) => Ok(slot_at_place(pool, place)),
+        None => Err(AllocFault::Full),
+    }
+}
+
+/// The lowest free slot of the lowest ordinal of a pool, as `alloc_slot_from` finds it from the first place on.
+///
+/// `Full` comes exactly where every slot of these puddles is live, where the host does not fail first.
 pub fn alloc_slot<H: Host>(
     h: &mut H,
     frames: u32,
@@ -89,10 +116,7 @@ pub fn alloc_slot<H: Host>(
     ensures within { IfOk result (IsSlotOf pool.now) }
     ensures only_reads { OnlyReads H.tells H.state H.counts (alloc_fault result) h.old h.new }
 {
-    match free_place(h, frames, pool)? {
-        Some(place) => Ok(slot_at_place(pool, place)),
-        None => Err(AllocFault::Full),
-    }
+    alloc_slot_from(h, frames, pool, 0)
 }
 
 /// Frees a slot: its serial word becomes 0 and is marked, so that it is durable after the next fence. No other word is

@@ -1,16 +1,9 @@
-use Rattle.std.proofs.Common.{ℕ, Option, IfSome, sym, subst}
 use Rattle.pud_defs.specs.Stored.{stored_in}
-use Rattle.graph_laws.specs.Slots.{IsLowestFreeSlot}
-use Rattle.object_alloc.proofs.Searched.{not_all_live}
+use Rattle.object_alloc.proofs.Searched.{AreLiveBefore-start}
 use Rattle.object_alloc.proofs.alloc_slot.Goals as goal
 
-pub returns-in-Some-clause-free : goal.returns-in-Some-clause-free
-returns-in-Some-clause-free g c = λ t image same.
-    let lowest = IsLowestFreeSlot (stored_in c.args.frames c.args.pool.now image) in
-    subst lowest (sym c.slot_at_place.ensures.place) (subst (λ (o : Option ℕ). IfSome o lowest) c.in-Some.is (c.in_ok-place.ensures.free t image same))
+pub returns-clause-free : goal.returns-clause-free
+returns-clause-free g c = λ t image same. c.alloc_slot_from.ensures.free t image same (AreLiveBefore-start (stored_in c.args.frames c.args.pool.now image))
 
-pub returns-in-Some-clause-full : goal.returns-in-Some-clause-full
-returns-in-Some-clause-full g c = λ t image same none.
-    let st = stored_in c.args.frames c.args.pool.now image in
-    let lowest = subst (λ (o : Option ℕ). IfSome o (IsLowestFreeSlot st)) c.in-Some.is (c.in_ok-place.ensures.free t image same) in
-    (λ e. absurd (let no = e in cc), λ all. absurd (not_all_live st c.in-Some.place lowest all))
+pub returns-clause-full : goal.returns-clause-full
+returns-clause-full g c = λ t image same none. c.alloc_slot_from.ensures.full t image same (AreLiveBefore-start (stored_in c.args.frames c.args.pool.now image)) none
