@@ -1,0 +1,66 @@
+-- What an index answers of a pool of which it is known.
+use Rattle.std.proofs.Common.{◌≡◌, ℕ, ◌<◌, true, true≢false, ltb, Option, Some, None, option_map, is_none, is_some, IfSome, refl, sym, ap, subst, ◌∙◌}
+use Rattle.std.proofs.lemmas.Option.{none-some, same_Some}
+use Rattle.pud_defs.specs.declared.objects.Val.{Val}
+use Rattle.pud_defs.specs.Image.{Image}
+use Rattle.pud_defs.specs.Stored.{stored_in}
+use Rattle.pud_defs.specs.Types.{types_of}
+use Rattle.pud_defs.specs.Graph.{Graph, graph_of, is_held}
+use Rattle.graph_laws.specs.Holders.{holders}
+use Rattle.graph_laws.proofs.Words.{place_of-some}
+use Rattle.puddle_header.specs.Places.{places_in}
+use Rattle.graph_read.specs.declared.index.Index.{Index}
+use Rattle.graph_read.specs.Index.{kept_under, place_kept, holders_kept, HasHolder, MayBeHeld}
+use Rattle.graph_read.specs.Indexed.{slot_at_place, IsIndexOf, serial_named}
+use Rattle.graph_read.specs.Reading.{table_in, place_in_pool}
+use Rattle.graph_read.proofs.IndexKept.{found_by, held_by_index}
+use Rattle.known_pool.specs.Known.{Known, IsKnown, entries_of}
+use Rattle.known_pool.specs.Indexes.{MayMove}
+use Rattle.known_pool.proofs.KnownKept.{same_kept}
+
+-- there is none where none was mapped
+pub none_mapped : {A B : Type 0} (f : A → B) (o : Option A) → is_none o ≡ is_none (option_map f o)
+none_mapped f None = refl
+none_mapped f (Some x) = refl
+
+-- the index that is kept has these entries
+pub some_entries : (o : Option Index) (x : Index) → option_map entries_of o ≡ Some (entries_of x) → (y : Index) × ((o ≡ Some y) × (entries_of y ≡ entries_of x))
+some_entries None x none = absurd (none-some (entries_of x) none)
+some_entries (Some y) x same = (y, (refl, same_Some (entries_of y) (entries_of x) same))
+
+pub some_mapped : (o : Option Index) → is_some o ≡ true → is_some (option_map entries_of o) ≡ true
+some_mapped None some = absurd (true≢false (sym some))
+some_mapped (Some x) some = refl
+
+-- what may be counted in one that has the same entries may be counted in it
+pub MayMove-entries : (was now : Val) (x y : Index) → entries_of y ≡ entries_of x → MayMove was now x → MayMove was now y
+MayMove-entries was now x y same may = record {
+  held = λ some. subst HasHolder (sym (same_kept x y same (serial_named was))) (may.held some);
+  room = λ some. subst MayBeHeld (sym (same_kept x y same (serial_named now))) (may.room some);
+}
+
+module _ (F : ℕ) (image : Image) (known : Known) (k : IsKnown F image known) (s : ℕ) where
+  abbrev place : Option ℕ
+  place = place_in_pool F known.at image s
+
+  within_by : (o : Option ℕ) → place ≡ o → IfSome o (λ p. p < places_in known.at)
+  within_by None none = tt
+  within_by (Some p) there = (place_of-some (table_in F known.at image) (places_in known.at) s p there).within
+
+  pub place_within : IfSome place (λ p. p < places_in known.at)
+  place_within = within_by place refl
+
+  module _ (x : Index) (is : known.index ≡ Some (entries_of x)) where
+    index_is : IsIndexOf F known.at (types_of image) image x
+    index_is = k.indexed x is
+
+    pub found_place : option_map place_kept (kept_under x s) ≡ option_map slot_at_place place
+    found_place = found_by (place_in_pool F known.at image) (λ q. holders q index_is.graph) x index_is.index s
+
+    held_by : (g : Graph) → graph_of (types_of image) (stored_in F known.at image) ≡ Some g → (o : Option ℕ) → place ≡ o → is_some (option_map slot_at_place o) ≡ true → ltb 0 (holders_kept (kept_under x s)) ≡ is_held s g
+    held_by g stored None none some = absurd (true≢false (sym some))
+    held_by g stored (Some p) there some = sym (held_by_index F known.at (types_of image) image g stored x index_is s p there)
+
+    -- of an object that it has it knows whether it is held
+    pub held_there : (g : Graph) → graph_of (types_of image) (stored_in F known.at image) ≡ Some g → is_some (option_map place_kept (kept_under x s)) ≡ true → ltb 0 (holders_kept (kept_under x s)) ≡ is_held s g
+    held_there g stored some = held_by g stored place refl (sym (ap is_some found_place) ∙ some)

@@ -1,0 +1,90 @@
+-- What is known of a pool is so behind a change of it, where the index went the same way.
+use Rattle.std.proofs.Common.{◌≡◌, ℕ, ◌+◌, ◌<◌, ◌≤◌, List, Some, None, sym, subst, ◌∙◌, arith, inl, inr}
+use Rattle.std.specs.Prelude.{slice_get}
+use Rattle.std.proofs.lemmas.Bool.{cases_eq}
+use Rattle.pud_defs.specs.declared.records.Puddle.{Puddle}
+use Rattle.pud_defs.specs.declared.records.Slot.{Slot}
+use Rattle.pud_defs.specs.declared.objects.Val.{Val}
+use Rattle.pud_defs.specs.declared.objects.Val.TheVariants.{Ref}
+use Rattle.pud_defs.specs.Geometry.{puddle_slots}
+use Rattle.pud_defs.specs.Image.{Image}
+use Rattle.pud_defs.specs.Stored.{stored_in, IsLivePlace}
+use Rattle.pud_defs.specs.Types.{types_of}
+use Rattle.pud_defs.specs.Graph.{Object, Graph, graph_of, object_in}
+use Rattle.pud_defs.specs.GraphChanges.{blank_object, with_field, with_new, without_object, with_root}
+use Rattle.graph_laws.specs.Slots.{IsLowestFreeSlot}
+use Rattle.puddle_header.specs.Places.{place_of_slot}
+use Rattle.graph_read.specs.declared.index.Index.{Index}
+use Rattle.graph_read.specs.Indexed.{IsIndexOf}
+use Rattle.graph_read.specs.Reading.{place_in_pool}
+use Rattle.graph_read.proofs.IndexKept.{index_set, index_rooted, index_made, index_freed}
+use Rattle.object_alloc.specs.Alloc.{AreLiveBefore}
+use Rattle.known_pool.specs.Known.{Known, IsKnown, entries_of}
+use Rattle.known_pool.specs.Indexes.{Follows, after_move, after_made, LetsGo}
+use Rattle.known_pool.proofs.KnownKept.{serial_in, KeepsSerials, place_kept, live_within}
+use Rattle.known_pool.proofs.Bounded.{next_unnamed, slot_at_slot}
+
+-- what is kept then of the same pool
+module _ (F : ℕ) (known next : Known) (image later : Image) (g : Graph) (puddles : next.at ≡ known.at) (types : types_of later ≡ types_of image) (stored : graph_of (types_of image) (stored_in F known.at image) ≡ Some g)
+    (k : IsKnown F image known) where
+  abbrev at : List (ℕ × Puddle)
+  at = known.at
+
+  -- by an index of the same puddles and types
+  indexed_then : (x : Index) → IsIndexOf F at (types_of image) later x → IsIndexOf F next.at (types_of later) later x
+  indexed_then x is = subst (λ (ps : List (ℕ × Puddle)). IsIndexOf F ps (types_of later) later x) (sym puddles) (subst (λ (ts : List (ℕ × ℕ)). IsIndexOf F at ts later x) (sym types) is)
+
+  full_then : ((p : ℕ) → p < next.full_below → IsLivePlace (stored_in F at later) p) → AreLiveBefore (stored_in F next.at later) next.full_below
+  full_then live = subst (λ (ps : List (ℕ × Puddle)). AreLiveBefore (stored_in F ps later) next.full_below) (sym puddles) (record { each = live })
+
+  live_then : next.full_below ≡ known.full_below → KeepsSerials F at at image later → (p : ℕ) → p < next.full_below → IsLivePlace (stored_in F at later) p
+  live_then full keeps p below =
+      let live = k.full.each p (omega (arith, below, full)) in
+      λ free. live (sym (keeps.each p (live_within F at image p live)) ∙ free)
+
+  -- a field was set
+  pub IsKnown-set : (s f : ℕ) (now was : Val) (o : Object) → object_in s g ≡ Some o → slice_get o.fields f ≡ Some was → graph_of (types_of image) (stored_in F at later) ≡ Some (with_field s f now g)
+      → KeepsSerials F at at image later → Follows (after_move was now) known.index next.index → next.full_below ≡ known.full_below → IsKnown F later next
+  IsKnown-set s f now was o there field after keeps follows full = record {
+    indexed = λ y kept.
+        let from = follows.each y kept in
+        indexed_then y (index_set F at (types_of image) image g stored from.before (k.indexed from.before from.was) later s f now was o y there field after (place_kept F at at image later keeps) from.each);
+    full = full_then (live_then full keeps);
+  }
+
+  -- the root was set
+  pub IsKnown-rooted : (r : ℕ) → graph_of (types_of image) (stored_in F at later) ≡ Some (with_root r g) → KeepsSerials F at at image later → Follows (after_move (Ref g.root) (Ref r)) known.index next.index
+      → next.full_below ≡ known.full_below → IsKnown F later next
+  IsKnown-rooted r after keeps follows full = record {
+    indexed = λ y kept.
+        let from = follows.each y kept in
+        indexed_then y (index_rooted F at (types_of image) image g stored from.before (k.indexed from.before from.was) later r y after (place_kept F at at image later keeps) from.each);
+    full = full_then (live_then full keeps);
+  }
+
+  -- an object was made in the lowest free slot
+  pub IsKnown-made : (type_id m : ℕ) (slot : Slot) → graph_of (types_of image) (stored_in F at later) ≡ Some (with_new (blank_object type_id m) g) → IsLowestFreeSlot (stored_in F at image) (place_of_slot slot)
+      → place_in_pool F at later g.next_serial ≡ Some (place_of_slot slot) → ((q : ℕ) → (q ≡ g.next_serial → ⊥) → place_in_pool F at later q ≡ place_in_pool F at image q)
+      → ((p : ℕ) → (p ≡ place_of_slot slot → ⊥) → serial_in F at later p ≡ serial_in F at image p) → IsLivePlace (stored_in F at later) (place_of_slot slot)
+      → Follows (after_made g.next_serial slot) known.index next.index → next.full_below ≡ place_of_slot slot + 1 → slot.slot < puddle_slots → IsKnown F later next
+  IsKnown-made type_id m slot after lowest there others serials live follows full below = record {
+    indexed = λ y kept.
+        let from = follows.each y kept in
+        indexed_then y (index_made F at (types_of image) image g stored from.before (k.indexed from.before from.was) later type_id m (place_of_slot slot) y after (next_unnamed (types_of image) (stored_in F at image) g stored) there others
+        (slot_at_slot from.before y g.next_serial slot below from.each));
+    full = full_then (λ p low. elim (cases_eq p (place_of_slot slot)) [
+      | inl here ↦ subst (IsLivePlace (stored_in F at later)) (sym here) live
+      | inr other ↦ λ free. lowest.live_before p (omega (arith, low, full, other)) (sym (serials p other) ∙ free)
+    ]);
+  }
+
+  -- an object was freed
+  pub IsKnown-freed : (s : ℕ) (slot : Slot) → graph_of (types_of image) (stored_in F at later) ≡ Some (without_object s g) → place_in_pool F at later s ≡ None
+      → ((q : ℕ) → (q ≡ s → ⊥) → place_in_pool F at later q ≡ place_in_pool F at image q) → ((p : ℕ) → (p ≡ place_of_slot slot → ⊥) → serial_in F at later p ≡ serial_in F at image p)
+      → ((x : Index) → next.index ≡ Some (entries_of x) → LetsGo (place_in_pool F at image) g s x) → next.full_below ≤ known.full_below → next.full_below ≤ place_of_slot slot → IsKnown F later next
+  IsKnown-freed s slot after gone others serials lets fewer before = record {
+    indexed = λ y kept.
+        let let_go = lets y kept in
+        indexed_then y (index_freed F at (types_of image) image later g s let_go.before y after gone others let_go.gone let_go.left);
+    full = full_then (λ p low free. k.full.each p (omega (arith, low, fewer)) (sym (serials p (λ same. absurd (omega (arith, low, before, same)))) ∙ free));
+  }

@@ -1,0 +1,96 @@
+-- What is known of a pool stays so while its graph and its places do.
+use Rattle.std.proofs.Common.{◌≡◌, ℕ, zero, suc, ◌+◌, ◌<◌, cond, eqb, List, [], ◌∷◌, length, Some, None, nat_cmp, refl, sym, ap, ◌∙◌, arith}
+use Rattle.std.specs.Prelude.{slice_get}
+use Rattle.std.specs.Map.{lookup}
+use Rattle.std.proofs.lemmas.Option.{none-some}
+use Rattle.pud_defs.specs.declared.records.Puddle.{Puddle}
+use Rattle.pud_defs.specs.declared.space.TheConstants.{SLOT_SERIAL_WORD}
+use Rattle.pud_defs.specs.Geometry.{ordinal_of, places_among}
+use Rattle.pud_defs.specs.Image.{Image}
+use Rattle.pud_defs.specs.Keyed.{under, first_from}
+use Rattle.pud_defs.specs.Stored.{Stored, stored_in, place_word, place_begins, word_in_frame, slot_state, IsLivePlace}
+use Rattle.pud_defs.specs.Types.{types_of}
+use Rattle.pud_defs.specs.Graph.{Graph, under_serial, graph_of}
+use Rattle.pud_defs.proofs.Keyed.{first_from_same}
+use Rattle.graph_laws.specs.Holders.{holders}
+use Rattle.puddle_header.specs.Places.{places_in}
+use Rattle.graph_read.specs.Indexed.{IsIndexOf}
+use Rattle.graph_read.specs.Reading.{place_in_pool}
+use Rattle.graph_read.proofs.IndexKept.{IsIndexBy-same, by_graph}
+use Rattle.graph_read.specs.declared.index.Index.{Index}
+use Rattle.graph_read.specs.declared.index.Kept.{Kept}
+use Rattle.graph_read.specs.Index.{kept_under}
+use Rattle.known_pool.specs.Known.{Known, IsKnown, entries_of, by_puddles, with_puddles}
+
+-- of the puddles alone all is so
+pub IsKnown-puddles : (F : ℕ) (at : List (ℕ × Puddle)) (image : Image) → IsKnown F image (by_puddles at)
+IsKnown-puddles F at image = record { indexed = λ x none. absurd (none-some (entries_of x) none); full = record { each = λ p below. absurd (omega arith) } }
+
+-- ---- places
+
+-- the serial of the slot at a place
+abbrev pub serial_in : (F : ℕ) → List (ℕ × Puddle) → Image → ℕ → ℕ
+serial_in F at image p = place_word (stored_in F at image) p SLOT_SERIAL_WORD
+
+-- There are as many puddles, and each of their places has the serial that it had.
+pub record KeepsSerials (F : ℕ) (at later : List (ℕ × Puddle)) (before after : Image) : Type 0 where
+  pub count : length later ≡ length at
+  pub each : (p : ℕ) → p < places_in at → serial_in F later after p ≡ serial_in F at before p
+
+-- so it is where the same is stored
+pub KeepsSerials-stored : (F : ℕ) (at : List (ℕ × Puddle)) (before after : Image) → stored_in F at after ≡ stored_in F at before → KeepsSerials F at at before after
+KeepsSerials-stored F at before after same = record { count = refl; each = λ p below. ap (λ (st : Stored). place_word st p SLOT_SERIAL_WORD) same }
+
+-- one after the other
+pub KeepsSerials-then : (F : ℕ) (a b c : List (ℕ × Puddle)) (i j k : Image) → KeepsSerials F a b i j → KeepsSerials F b c j k → KeepsSerials F a c i k
+KeepsSerials-then F a b c i j k first later = record {
+  count = later.count ∙ first.count;
+  each = λ p below. let same = first.count in later.each p (omega (arith, below, same)) ∙ first.each p below;
+}
+
+-- then each object stands where it stood
+pub place_kept : (F : ℕ) (at later : List (ℕ × Puddle)) (before after : Image) → KeepsSerials F at later before after → (s : ℕ) → place_in_pool F later after s ≡ place_in_pool F at before s
+place_kept F at later before after keeps s =
+    ap (λ (n : ℕ). first_from nat_cmp s (under_serial (serial_in F later after) (λ (p : ℕ). p)) 0 (places_among n)) keeps.count
+    ∙ first_from_same nat_cmp s (under_serial (serial_in F later after) (λ (p : ℕ). p)) (under_serial (serial_in F at before) (λ (p : ℕ). p)) 0 (places_in at)
+    (λ p low high. ap (λ (k : ℕ). under nat_cmp s (cond (slot_state k).is_live (Some (k, p)) None)) (keeps.each p (omega (arith, high))))
+
+-- no object lives behind the last place
+live_by : (F : ℕ) (image : Image) (k : ℕ) (at : List (ℕ × Puddle)) (o : ℕ) → (word_in_frame F image k (slice_get at o) ≡ 0 → ⊥) → o < length at
+live_by F image k [] o live = absurd (live refl)
+live_by F image k (e ∷ at) zero live = omega arith
+live_by F image k (e ∷ at) (suc o) live = let rest = live_by F image k at o live in omega (arith, rest)
+
+pub live_within : (F : ℕ) (at : List (ℕ × Puddle)) (image : Image) (p : ℕ) → IsLivePlace (stored_in F at image) p → p < places_in at
+live_within F at image p live = let within = live_by F image (place_begins (stored_in F at image) p + SLOT_SERIAL_WORD) at (ordinal_of p) live in omega (arith, within)
+
+-- ---- what is known
+
+module _ (F : ℕ) (known : Known) (later : List (ℕ × Puddle)) (before after : Image) (g : Graph) (was : graph_of (types_of before) (stored_in F known.at before) ≡ Some g)
+    (is : graph_of (types_of after) (stored_in F later after) ≡ Some g) where
+  -- the graph stays, and so do the places, and what is live
+  pub IsKnown-placed : ((q : ℕ) → place_in_pool F later after q ≡ place_in_pool F known.at before q) → ((p : ℕ) → p < known.full_below → IsLivePlace (stored_in F known.at before) p → IsLivePlace (stored_in F later after) p)
+      → IsKnown F before known → IsKnown F after (with_puddles later known)
+  IsKnown-placed places live k = record {
+    indexed = λ x kept. record {
+      graph = g;
+      is = is;
+      index = IsIndexBy-same (place_in_pool F known.at before) (place_in_pool F later after) (λ q. holders q g) (λ q. holders q g) x places (λ q p there. refl)
+          (by_graph F known.at (types_of before) before g was x (k.indexed x kept));
+    };
+    full = record { each = λ p below. live p below (k.full.each p below) };
+  }
+
+  -- the graph stays, and the serials
+  pub IsKnown-kept : KeepsSerials F known.at later before after → IsKnown F before known → IsKnown F after (with_puddles later known)
+  IsKnown-kept keeps = IsKnown-placed (place_kept F known.at later before after keeps) (λ p below live free. live (sym (keeps.each p (live_within F known.at before p live)) ∙ free))
+
+-- ---- indexes
+
+-- what is kept of a serial goes by the entries alone
+pub same_kept : (x y : Index) → entries_of y ≡ entries_of x → (q : ℕ) → kept_under y q ≡ kept_under x q
+same_kept x y same q = ap (λ (es : List (ℕ × Kept)). lookup (eqb q) es) same
+
+-- and so does whether an index is that of a pool
+pub IsIndexOf-entries : (F : ℕ) (at : List (ℕ × Puddle)) (types : List (ℕ × ℕ)) (image : Image) (x y : Index) → entries_of y ≡ entries_of x → IsIndexOf F at types image x → IsIndexOf F at types image y
+IsIndexOf-entries F at types image x y same is = record { graph = is.graph; is = is.is; index = record { each = λ q. same_kept x y same q ∙ is.index.each q } }

@@ -1,0 +1,5 @@
+pub mod KnownKept
+pub mod KnownChanged
+pub mod Bounded
+mod Asking
+mod LettingGo

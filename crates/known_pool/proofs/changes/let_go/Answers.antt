@@ -1,0 +1,49 @@
+use Rattle.std.proofs.Common.{◌<◌, ◌≤◌, option_map, sym, ap, ◌∙◌, arith}
+use Rattle.pm_model.proofs.Reading.{OnlyReads-none, OnlyReads-then, still_reads}
+use Rattle.pud_defs.specs.declared.space.TheConstants.{SLOT_TYPE_WORD}
+use Rattle.pud_defs.specs.Graph.{field_count}
+use Rattle.pud_defs.specs.Types.{types_of, map_of}
+use Rattle.puddle_header.specs.Places.{place_of_slot}
+use Rattle.puddle_header.proofs.Placed.{slot_at_place}
+use Rattle.graph_read.proofs.Passing.{field_count-least}
+use Rattle.known_pool.specs.Known.{entries_of}
+use Rattle.known_pool.proofs.LettingGo.{LetsFirst-start, LetsFirst-more, LetsFirst-end, lets_none}
+use Rattle.known_pool.proofs.changes.let_go.Goals as goal
+
+pub returns-in_default-clause-lets_go : goal.returns-in_default-clause-lets_go
+returns-in_default-clause-lets_go g c = λ t image same graph stored s there is.
+    let at = c.args.at.now in
+    let pool = c.args.pool.now in
+    let first = still_reads c.slot_type.ensures.only_reads t same in
+    let id = c.in_ok-id.ensures.word t image same ∙ slot_at_place c.args.frames pool image SLOT_TYPE_WORD at c.requires.within (omega arith) in
+    let none = ap (λ i. map_of i (types_of image)) (sym id) ∙ sym (c.in_ok-map.ensures.map t image first) ∙ c.in_default.is in
+    lets_none c.args.frames pool image (place_of_slot at) c.args.index.now is none graph s stored there
+
+pub loop-f-init : goal.loop-f-init
+loop-f-init g c = record {
+  only_reads = OnlyReads-none;
+  lets = λ t image same type is. LetsFirst-start c.args.frames c.args.pool.now image (place_of_slot c.args.at.now) c.args.index.now is c.in-Some.map type;
+}
+
+pub loop-f-preserved : goal.loop-f-preserved
+loop-f-preserved g c = record {
+  only_reads = OnlyReads-then c.loop-f.invariant.only_reads c.in_ok-value.ensures.only_reads;
+  lets = λ t image same type is.
+      let before = still_reads c.loop-f.invariant.only_reads t same in
+      let count = field_count-least c.in-Some.map in
+      let below : c.loop-f.f < field_count c.in-Some.map = omega arith in
+      LetsFirst-more c.args.frames c.args.pool.now image (place_of_slot c.args.at.now) c.in-Some.map c.loop-f.f c.in_ok-value.value (option_map entries_of c.loop-f.index) (option_map entries_of c.retarget.new.index) below
+      (c.in_ok-value.ensures.value t image before) c.retarget.ensures.follows (c.loop-f.invariant.lets t image same type is);
+}
+
+pub returns-clause-lets_go : goal.returns-clause-lets_go
+returns-clause-lets_go g c = λ t image same graph stored s there is.
+    let at = c.args.at.now in
+    let pool = c.args.pool.now in
+    let first = still_reads c.slot_type.ensures.only_reads t same in
+    let second = still_reads c.find.ensures.only_reads t first in
+    let id = c.in_ok-id.ensures.word t image same ∙ slot_at_place c.args.frames pool image SLOT_TYPE_WORD at c.requires.within (omega arith) in
+    let type = ap (λ i. map_of i (types_of image)) (sym id) ∙ sym (c.in_ok-map.ensures.map t image first) ∙ c.in-Some.is in
+    let count = field_count-least c.in-Some.map in
+    let past : field_count c.in-Some.map ≤ c.loop-f.f = omega arith in
+    LetsFirst-end c.args.frames pool image (place_of_slot at) c.in-Some.map c.loop-f.f (option_map entries_of c.loop-f.index) past (c.loop-f.invariant.lets t image second type is) graph s stored there

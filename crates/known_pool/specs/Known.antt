@@ -1,0 +1,35 @@
+-- What is kept in memory of a pool that was found to have a graph, and when that is so of the device.
+use Rattle.std.specs.Prelude.{◌≡◌, ℕ, List, Option, Some, None}
+use Rattle.pud_defs.specs.declared.records.Puddle.{Puddle}
+use Rattle.pud_defs.specs.Image.{Image}
+use Rattle.pud_defs.specs.Stored.{stored_in}
+use Rattle.pud_defs.specs.Types.{types_of}
+use Rattle.object_alloc.specs.Alloc.{AreLiveBefore}
+use Rattle.graph_read.specs.declared.index.Index.{Index}
+use Rattle.graph_read.specs.declared.index.Kept.{Kept}
+use Rattle.graph_read.specs.Indexed.{IsIndexOf}
+
+-- what an index keeps of each serial, in the order of its map
+abbrev pub entries_of : Index → List (ℕ × Kept)
+entries_of x = x.map.entries
+
+pub record Known : Type 0 where
+  -- its puddles by their ordinals, each with its frame
+  pub at : List (ℕ × Puddle)
+  -- the entries of its index, where one is kept
+  pub index : Option (List (ℕ × Kept))
+  -- the place from which on a free slot is looked for
+  pub full_below : ℕ
+
+-- its puddles alone
+abbrev pub by_puddles : List (ℕ × Puddle) → Known
+by_puddles at = record { at = at; index = None; full_below = 0 }
+
+-- the same of other puddles
+abbrev pub with_puddles : List (ℕ × Puddle) → Known → Known
+with_puddles at known = record known { at = at }
+
+-- It is so: the index is what a scan of the pool gives, and no slot is free before the place from which on one is looked for.
+pub record IsKnown (F : ℕ) (image : Image) (known : Known) : Type 0 where
+  pub indexed : (x : Index) → known.index ≡ Some (entries_of x) → IsIndexOf F known.at (types_of image) image x
+  pub full : AreLiveBefore (stored_in F known.at image) known.full_below

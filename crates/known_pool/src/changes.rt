@@ -1,0 +1,182 @@
+//! What becomes of what is kept when the pool is changed.
+
+ghost use Rattle.std.specs.Prelude.{◌≡◌, ◌≢◌, ◌<◌, ◌≤◌, ◌+◌, ℕ, length, min, true, Option, option_map, is_some, IfOk};
+ghost use Rattle.pm_model.specs.Words.{reads};
+ghost use Rattle.pm_model.specs.Counts.{fault_of};
+ghost use Rattle.pm_model.specs.Reads.{OnlyReads};
+ghost use Rattle.pud_defs.specs.declared.layout.TheConstants.{MAX_FRAMES};
+ghost use Rattle.pud_defs.specs.declared.records.TheConstants.{MAX_PUDDLES};
+ghost use Rattle.pud_defs.specs.Graph.{Graph, graph_of};
+ghost use Rattle.pud_defs.specs.Image.{Image};
+ghost use Rattle.pud_defs.specs.Layout.{device_words};
+ghost use Rattle.pud_defs.specs.Stored.{IsOnDevice, stored_in};
+ghost use Rattle.pud_defs.specs.Types.{types_of};
+ghost use Rattle.puddle_header.specs.Places.{place_of_slot, IsSlotOf};
+ghost use Rattle.graph_read.specs.declared.index.Index.{Index};
+ghost use Rattle.graph_read.specs.Index.{HasHolder, MayBeHeld, kept_under};
+ghost use Rattle.graph_read.specs.Indexed.{IsIndexOf, serial_named};
+ghost use Rattle.graph_read.specs.Reading.{place_in_pool};
+ghost use Rattle.known_pool.specs.Known.{IsKnown, entries_of};
+ghost use Rattle.known_pool.specs.Indexes.{Follows, after_move, after_made, MayMove, HasLetGo, LetsGo};
+
+use crate::KnownPool;
+use graph_read::{Index, value_at};
+use pm_model::{HostFault, Loads};
+use pud_defs::layout::MAX_FIELDS;
+use pud_defs::objects::Val;
+use pud_defs::records::{Puddle, Slot};
+use pud_defs::space::place_at;
+use pud_defs::type_map::map_fields;
+use puddle_header::slot_type;
+use type_maps::find;
+
+/// The serial that a value names, 0 where it names none.
+fn serial_named(x: Val) -> u64
+    ensures { result ≡ serial_named x }
+{
+    match x {
+        Val::Num(_) => 0,
+        Val::Ref(s) => s,
+    }
+}
+
+/// The place of a slot of the pool.
+fn place_of(pool: &[(u32, Puddle)], at: &Slot) -> u32
+    requires few { length pool.now ≤ MAX_PUDDLES }
+    requires within { IsSlotOf pool.now at.now }
+    ensures { result ≡ place_of_slot at.now }
+{
+    place_at(at.ordinal, at.slot) as u32
+}
+
+/// Whether the index has the serial with a holder, unless it is 0.
+fn may_release(index: &Index, s: u64) -> bool
+    ensures only { result ≡ true → s ≢ 0 → HasHolder (kept_under index.now s) }
+    ensures may { (s ≢ 0 → HasHolder (kept_under index.now s)) → result ≡ true }
+{
+    s == 0 || index.holders(s) > 0
+}
+
+/// Whether the index has the serial and can count a holder more of it, unless it is 0.
+fn may_hold(index: &Index, s: u64) -> bool
+    ensures only { result ≡ true → s ≢ 0 → MayBeHeld (kept_under index.now s) }
+    ensures may { (s ≢ 0 → MayBeHeld (kept_under index.now s)) → result ≡ true }
+{
+    s == 0 || (index.find(s).is_some() && index.holders(s) < u32::MAX)
+}
+
+/// Counts that a pointer which had one value has the other, where an index is kept. It goes where that cannot be: where what the
+/// one value names has no holder there, or what the other names is not there.
+fn retarget(index: &mut Option<Index>, was: Val, now: Val)
+    ensures follows { Follows (after_move was now) (option_map entries_of index.old) (option_map entries_of index.new) }
+    ensures kept { (x : Index) → index.old ≡ Option.Some x → MayMove was now x → is_some index.new ≡ true }
+{
+    let from = serial_named(was);
+    let to = serial_named(now);
+    let fits = match index {
+        Some(index) => may_release(index, from) && may_hold(index, to),
+        None => true,
+    };
+    if !fits {
+        *index = None;
+    }
+    if let Some(index) = index {
+        index.retarget(from, to);
+    }
+}
+
+/// Lets go what the object in a slot names, where an index is kept: its fields are read.
+fn let_go<H: Loads>(
+    index: &mut Option<Index>,
+    h: &mut H,
+    frames: u32,
+    pool: &[(u32, Puddle)],
+    at: &Slot,
+) -> Result<(), HostFault>
+    requires few { frames ≤ MAX_FRAMES }
+    requires room { device_words frames ≤ (H.counts h.old).size }
+    requires known { IsOnDevice frames pool.now }
+    requires within { IsSlotOf pool.now at.now }
+    ensures lets_go { H.tells → (image : Image) → reads (H.state h.old).now.words ≡ image
+        → (g : Graph) → graph_of (types_of image) (stored_in frames pool.now image) ≡ Option.Some g
+        → (s : ℕ) → place_in_pool frames pool.now image s ≡ Option.Some (place_of_slot at.now)
+        → ((x : Index) → index.old ≡ Option.Some x → IsIndexOf frames pool.now (types_of image) image x)
+        → IfOk result (λ _. HasLetGo (place_in_pool frames pool.now image) g s (option_map entries_of index.new)) }
+    ensures only_reads { OnlyReads H.tells H.state H.counts (fault_of result) h.old h.new }
+{
+    if index.is_none() {
+        return Ok(());
+    }
+    let id = slot_type(h, frames, at.frame, at.slot)?;
+    let Some(map) = find(h, id)? else {
+        return Ok(());
+    };
+    for f in 0..map_fields(map).min(MAX_FIELDS) {
+        let value = value_at(h, frames, pool, at, map, f)?;
+        retarget(index, value, Val::Num(0));
+    }
+    Ok(())
+}
+
+impl KnownPool {
+    /// The root, or a field of an object, that had one value has the other. The index goes where that cannot be: where what the one
+    /// value names has no holder there, or what the other names is not there.
+    pub fn moved(&mut self, was: Val, now: Val)
+        ensures follows { Follows (after_move was now) self.old.index self.new.index }
+        ensures kept { (x : Index) → self.old.index ≡ Option.Some (entries_of x) → MayMove was now x → is_some self.new.index ≡ true }
+        ensures puddles { self.new.at ≡ self.old.at }
+        ensures full { self.new.full_below ≡ self.old.full_below }
+    {
+        retarget(&mut self.index, was, now);
+    }
+
+    /// An object of serial `s` was made in a slot, before which each is live. The index goes for want of memory.
+    pub fn made(&mut self, s: u64, at: &Slot)
+        requires few { length self.old.at ≤ MAX_PUDDLES }
+        requires within { IsSlotOf self.old.at at.now }
+        ensures follows { Follows (after_made s at.now) self.old.index self.new.index }
+        ensures puddles { self.new.at ≡ self.old.at }
+        ensures full { self.new.full_below ≡ place_of_slot at.now + 1 }
+    {
+        self.full_below = place_of(self.puddles.as_slice(), at) + 1;
+        let kept = match &mut self.index {
+            Some(index) => index.insert(s, (at.ordinal, at.slot)),
+            None => true,
+        };
+        if !kept {
+            self.index = None;
+        }
+    }
+
+    /// The object of serial `s` in a slot, which nothing holds, is about to be freed. Its fields are read, where an index is
+    /// kept.
+    ///
+    /// The only errors are the host's own.
+    pub fn freed<H: Loads>(
+        &mut self,
+        h: &mut H,
+        frames: u32,
+        s: u64,
+        at: &Slot,
+    ) -> Result<(), HostFault>
+        requires few { frames ≤ MAX_FRAMES }
+        requires room { device_words frames ≤ (H.counts h.old).size }
+        requires known { IsOnDevice frames self.old.at }
+        requires within { IsSlotOf self.old.at at.now }
+        ensures lets_go { H.tells → (image : Image) → reads (H.state h.old).now.words ≡ image
+            → (g : Graph) → graph_of (types_of image) (stored_in frames self.old.at image) ≡ Option.Some g
+            → place_in_pool frames self.old.at image s ≡ Option.Some (place_of_slot at.now) → IsKnown frames image self.old
+            → IfOk result (λ _. (x : Index) → self.new.index ≡ Option.Some (entries_of x) → LetsGo (place_in_pool frames self.old.at image) g s x) }
+        ensures puddles { self.new.at ≡ self.old.at }
+        ensures full { IfOk result (λ _. self.new.full_below ≡ min self.old.full_below (place_of_slot at.now)) }
+        ensures only_reads { OnlyReads H.tells H.state H.counts (fault_of result) h.old h.new }
+    {
+        let_go(&mut self.index, h, frames, self.puddles.as_slice(), at)?;
+        let place = place_of(self.puddles.as_slice(), at);
+        self.full_below = self.full_below.min(place);
+        if let Some(index) = &mut self.index {
+            index.remove(s);
+        }
+        Ok(())
+    }
+}

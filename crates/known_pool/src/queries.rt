@@ -1,0 +1,135 @@
+//! What is asked of a pool: by the index where one is kept, else by a scan.
+
+ghost use Rattle.std.specs.Prelude.{◌≡◌, ◌<◌, ◌≤◌, ℕ, length, Option, option_map, is_none, IfOk, IfSome};
+ghost use Rattle.pm_model.specs.Words.{reads};
+ghost use Rattle.pm_model.specs.Counts.{fault_of};
+ghost use Rattle.pm_model.specs.Reads.{OnlyReads};
+ghost use Rattle.pud_defs.specs.declared.layout.TheConstants.{MAX_FIELDS, MAX_FRAMES};
+ghost use Rattle.pud_defs.specs.declared.records.TheConstants.{MAX_PUDDLES};
+ghost use Rattle.pud_defs.specs.Graph.{Graph, graph_of, object_in, is_held};
+ghost use Rattle.pud_defs.specs.Image.{Image};
+ghost use Rattle.pud_defs.specs.Layout.{device_words};
+ghost use Rattle.pud_defs.specs.Stored.{IsOnDevice, stored_in};
+ghost use Rattle.pud_defs.specs.Types.{types_of};
+ghost use Rattle.puddle_header.specs.Places.{place_of_slot, places_in, IsSlotOf};
+ghost use Rattle.graph_read.specs.declared.index.Index.{Index};
+ghost use Rattle.graph_read.specs.Indexed.{slot_at_place};
+ghost use Rattle.graph_read.specs.Reading.{place_in_pool, field_in, read_by};
+ghost use Rattle.known_pool.specs.Known.{IsKnown, entries_of};
+
+use crate::KnownPool;
+use graph_read::{FieldRead, Index, field_at, find_serial, is_held};
+use pm_model::{HostFault, Loads};
+use pud_defs::records::{Puddle, Slot};
+use pud_defs::space::{FRAME_SLOTS, place_at, places_among};
+use puddle_header::slot_at_place;
+use std::alloc::Global;
+
+/// The slot of the pool that has this ordinal and this number, where it has one.
+fn slot_of(pool: &[(u32, Puddle)], kept: Option<(u32, u32)>) -> Option<Slot>
+    requires few { length pool.now ≤ MAX_PUDDLES }
+    ensures slot { (place : Option ℕ) → kept ≡ option_map slot_at_place place → IfSome place (λ p. p < places_in pool.now) → option_map place_of_slot result ≡ place }
+    ensures within { IfSome result (IsSlotOf pool.now) }
+{
+    let (ordinal, slot) = kept?;
+    let place = place_at(ordinal, slot);
+    if slot >= FRAME_SLOTS || place >= u64::from(places_among(pool.len() as u32)) {
+        return None;
+    }
+    Some(slot_at_place(pool, place as u32))
+}
+
+impl KnownPool {
+    /// Builds an index, where none is kept. None is kept behind it for want of memory.
+    ///
+    /// Each serial and each field is read once. The memory is that of `alloc`, which the index keeps. The only errors are the
+    /// host's own, and then nothing changes.
+    pub fn build<H: Loads>(
+        &mut self,
+        alloc: Global,
+        h: &mut H,
+        frames: u32,
+    ) -> Result<(), HostFault>
+        requires few { frames ≤ MAX_FRAMES }
+        requires room { device_words frames ≤ (H.counts h.old).size }
+        requires known { IsOnDevice frames self.old.at }
+        ensures known { H.tells → (image : Image) → reads (H.state h.old).now.words ≡ image
+            → (g : Graph) → graph_of (types_of image) (stored_in frames self.old.at image) ≡ Option.Some g
+            → IsKnown frames image self.old → IsKnown frames image self.new }
+        ensures puddles { self.new.at ≡ self.old.at }
+        ensures full { self.new.full_below ≡ self.old.full_below }
+        ensures kept { (x : Index) → self.old.index ≡ Option.Some (entries_of x) → self.new ≡ self.old }
+        ensures only_reads { OnlyReads H.tells H.state H.counts (fault_of result) h.old h.new }
+    {
+        if self.index.is_none() {
+            self.index = Index::build(alloc, h, frames, self.puddles.as_slice())?;
+        }
+        Ok(())
+    }
+
+    /// The slot of the live object of serial `s`, or None exactly where no live object has it, where what is kept is so of the
+    /// device. Nothing is read where an index is kept, and else each place once at most.
+    pub fn find<H: Loads>(&self, h: &mut H, frames: u32, s: u64) -> Result<Option<Slot>, HostFault>
+        requires few { frames ≤ MAX_FRAMES }
+        requires room { device_words frames ≤ (H.counts h.old).size }
+        requires known { IsOnDevice frames self.now.at }
+        ensures found { H.tells → (image : Image) → reads (H.state h.old).now.words ≡ image → IsKnown frames image self.now
+            → IfOk result (λ found. option_map place_of_slot found ≡ place_in_pool frames self.now.at image s) }
+        ensures object { H.tells → (image : Image) → reads (H.state h.old).now.words ≡ image → IsKnown frames image self.now
+            → (g : Graph) → graph_of (types_of image) (stored_in frames self.now.at image) ≡ Option.Some g
+            → IfOk result (λ found. is_none found ≡ is_none (object_in s g)) }
+        ensures within { IfOk result (λ found. IfSome found (IsSlotOf self.now.at)) }
+        ensures only_reads { OnlyReads H.tells H.state H.counts (fault_of result) h.old h.new }
+    {
+        match &self.index {
+            Some(index) => Ok(slot_of(self.puddles.as_slice(), index.find(s))),
+            None => find_serial(h, frames, self.puddles.as_slice(), s),
+        }
+    }
+
+    /// Whether the root or a pointer of a live object names the object of serial `s`, where the pool stores a graph and what is
+    /// kept is so of the device: with 0 for `s`, whether one of them is null. Nothing is read where an index is kept that has
+    /// the object, and else each serial and each field once.
+    pub fn is_held<H: Loads>(&self, h: &mut H, frames: u32, s: u64) -> Result<bool, HostFault>
+        requires few { frames ≤ MAX_FRAMES }
+        requires room { device_words frames ≤ (H.counts h.old).size }
+        requires known { IsOnDevice frames self.now.at }
+        ensures held { H.tells → (image : Image) → reads (H.state h.old).now.words ≡ image → IsKnown frames image self.now → (g : Graph)
+            → graph_of (types_of image) (stored_in frames self.now.at image) ≡ Option.Some g → IfOk result (λ held. held ≡ is_held s g) }
+        ensures only_reads { OnlyReads H.tells H.state H.counts (fault_of result) h.old h.new }
+    {
+        if let Some(index) = &self.index {
+            if index.find(s).is_some() {
+                return Ok(index.holders(s) > 0);
+            }
+        }
+        is_held(h, frames, self.puddles.as_slice(), s)
+    }
+
+    /// What is read of field `f`, 0 to 29, of the object of serial `s`: `NoObject` exactly where the pool's graph has no object of
+    /// that serial, `NoField` exactly where the object has no such field, and else the field's value, where what is kept is so of
+    /// the device. Where an index is kept, three words and the type are read at most.
+    pub fn read_field<H: Loads>(
+        &self,
+        h: &mut H,
+        frames: u32,
+        s: u64,
+        f: u32,
+    ) -> Result<FieldRead, HostFault>
+        requires few { frames ≤ MAX_FRAMES }
+        requires room { device_words frames ≤ (H.counts h.old).size }
+        requires known { IsOnDevice frames self.now.at }
+        requires field { f < MAX_FIELDS }
+        ensures read { H.tells → (image : Image) → reads (H.state h.old).now.words ≡ image → IsKnown frames image self.now
+            → IfOk result (λ read. read ≡ field_in frames self.now.at image s f) }
+        ensures object { H.tells → (image : Image) → reads (H.state h.old).now.words ≡ image → IsKnown frames image self.now
+            → (g : Graph) → graph_of (types_of image) (stored_in frames self.now.at image) ≡ Option.Some g
+            → IfOk result (λ read. read ≡ read_by (object_in s g) f) }
+        ensures only_reads { OnlyReads H.tells H.state H.counts (fault_of result) h.old h.new }
+    {
+        match self.find(h, frames, s)? {
+            Some(at) => field_at(h, frames, self.puddles.as_slice(), &at, f),
+            None => Ok(FieldRead::NoObject),
+        }
+    }
+}
