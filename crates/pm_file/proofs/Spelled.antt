@@ -58,12 +58,12 @@ word_of-same bytes other v w same =
     let e7 = each 7 (lit< tt) in
     cc
 
--- behind the last byte each word is zero
-pub word_of-past : (bytes : List ℕ) (w : ℕ) → length bytes ≤ 8 * w → word_of bytes w ≡ 0
+-- a word of zeroes is zero
+pub word_of-zeroes : (bytes : List ℕ) (w : ℕ) → ((i : ℕ) → i < 8 → get_or bytes (8 * w + i) 0 ≡ 0) → word_of bytes w ≡ 0
 unfolding word_of
-word_of-past bytes w past =
+word_of-zeroes bytes w zeroes =
     let each : (i : ℕ) → i < 8 → get_or (slice_range bytes (8 * w) (8 * w + 8)) i 0 ≡ 0
-    = λ i lt. byte_of bytes w i lt ∙ get_or_past bytes (8 * w + i) 0 (omega (arith, past)) in
+    = λ i lt. byte_of bytes w i lt ∙ zeroes i lt in
     let e0 = each 0 (lit< tt) in
     let e1 = each 1 (lit< tt) in
     let e2 = each 2 (lit< tt) in
@@ -73,6 +73,10 @@ word_of-past bytes w past =
     let e6 = each 6 (lit< tt) in
     let e7 = each 7 (lit< tt) in
     omega arith
+
+-- behind the last byte each word is zero
+word_of-past : (bytes : List ℕ) (w : ℕ) → length bytes ≤ 8 * w → word_of bytes w ≡ 0
+word_of-past bytes w past = word_of-zeroes bytes w (λ i lt. get_or_past bytes (8 * w + i) 0 (omega (arith, past)))
 
 -- So many words are read of a reader that goes on, in eight bytes each.
 pub record HasRead (first : ℕ) (old new : Option (List ℕ)) (row : List ℕ) : Type 0 where

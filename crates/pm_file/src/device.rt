@@ -10,7 +10,7 @@ use crate::device_file::DeviceFile;
 use crate::device_words::DeviceWords;
 use pm_model::{Armed, HostFault, Tally, counted_down};
 use std::fs::OpenFile;
-use std::io::{Seek, Write};
+use std::os::unix::fs::FileExt;
 
 /// A device over an open file.
 #[derive(Drop)]
@@ -25,7 +25,7 @@ pub(crate) struct Device<F> {
     pub(crate) tally: Tally,
 }
 
-impl<F: Write + Seek + OpenFile> Device<F> {
+impl<F: FileExt + OpenFile> Device<F> {
     /// A device at rest with these words, which the file has.
     pub(crate) fn new(file: DeviceFile<F>, words: DeviceWords) -> Device<F>
         ensures words { result.words ≡ words }

@@ -9,7 +9,8 @@ use crate::storage_fault::StorageFault;
 use pm_rows::LINE_WORDS;
 use std::fs::{File, OpenFile};
 use std::io;
-use std::io::{ErrorKind, Read, Seek, Write};
+use std::io::{ErrorKind, Read};
+use std::os::unix::fs::FileExt;
 use std::rt::Files;
 
 /// The open file of the device.
@@ -98,7 +99,7 @@ fn read_durable<F: Read + OpenFile + Drop>(
     Ok(DeviceFile::new(file, is_short))
 }
 
-impl<F: Write + Seek + OpenFile> DeviceFile<F> {
+impl<F: FileExt + OpenFile> DeviceFile<F> {
     /// Writes the marked words of each unsettled line that is due, or of each of them where the file is behind, neighbours
     /// together, and syncs the file's data. Where there is none it does nothing.
     ///
@@ -112,12 +113,12 @@ impl<F: Write + Seek + OpenFile> DeviceFile<F> {
         let mut is_written = false;
         for line in rows.unsettled.as_slice() {
             if is_behind || rows.is_due(*line) {
-                run.put(&mut self.file, *line, &rows.marked_line(*line))?;
+                run.put(&self.file, *line, &rows.marked_line(*line))?;
                 is_written = true;
             }
         }
         if is_written {
-            run.write(&mut self.file)?;
+            run.write(&self.file)?;
             self.finish(words.lines)?;
         }
         Ok(())

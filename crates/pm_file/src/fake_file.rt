@@ -1,7 +1,9 @@
 //! A file in memory, for tests.
+use std::cell::Cell;
 use std::fs::{Metadata, OpenFile};
 use std::io;
-use std::io::{ErrorKind, Read, Seek, SeekFrom, Write};
+use std::io::{ErrorKind, Read};
+use std::os::unix::fs::FileExt;
 
 pub(crate) const BYTES: usize = 1024;
 
@@ -9,7 +11,7 @@ pub(crate) const BYTES: usize = 1024;
 /// interrupted between them.
 #[derive(Drop)]
 pub(crate) struct FakeFile {
-    pub(crate) bytes: [u8; BYTES],
+    pub(crate) bytes: Cell<[u8; BYTES]>,
     at: usize,
     is_interrupted: bool,
     pub(crate) refuses_read: bool,
@@ -20,7 +22,7 @@ pub(crate) struct FakeFile {
 impl FakeFile {
     pub(crate) fn new(bytes: [u8; BYTES]) -> FakeFile {
         FakeFile {
-            bytes,
+            bytes: Cell::new(bytes),
             at: 0,
             is_interrupted: false,
             refuses_read: false,
@@ -41,38 +43,28 @@ impl Read for FakeFile {
             return Err(io::Error::from(ErrorKind::Interrupted));
         }
         let count = buf.len().min(BYTES - at).min(10);
-        buf[..count].copy_from_slice(&self.bytes[at..at + count]);
+        let bytes = self.bytes.get();
+        buf[..count].copy_from_slice(&bytes[at..at + count]);
         self.at = at + count;
         Ok(count)
     }
 }
 
-impl Write for FakeFile {
-    fn write(&mut self, buf: &[u8]) -> io::Result<usize> {
-        let at = self.at;
-        if self.refuses_write || at > BYTES {
+impl FileExt for FakeFile {
+    fn read_at(&self, _buf: &mut [u8], _offset: u64) -> io::Result<usize> {
+        Err(io::Error::from(ErrorKind::Unsupported))
+    }
+
+    fn write_at(&self, buf: &[u8], offset: u64) -> io::Result<usize> {
+        if self.refuses_write || offset > BYTES as u64 {
             return Err(io::Error::from(ErrorKind::Other));
         }
+        let at = offset as usize;
         let count = buf.len().min(BYTES - at);
-        self.bytes[at..at + count].copy_from_slice(&buf[..count]);
-        self.at = at + count;
+        let mut bytes = self.bytes.get();
+        bytes[at..at + count].copy_from_slice(&buf[..count]);
+        self.bytes.set(bytes);
         Ok(count)
-    }
-
-    fn flush(&mut self) -> io::Result<()> {
-        Ok(())
-    }
-}
-
-impl Seek for FakeFile {
-    fn seek(&mut self, to: SeekFrom) -> io::Result<u64> {
-        match to {
-            SeekFrom::Start(at) if at <= BYTES as u64 => {
-                self.at = at as usize;
-                Ok(at)
-            }
-            _ => Err(io::Error::from(ErrorKind::InvalidInput)),
-        }
     }
 }
 

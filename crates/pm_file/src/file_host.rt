@@ -66,7 +66,7 @@ impl<R: Files<File = File> + Input + Print + Clone + Drop> FileHost<R> {
     }
 }
 
-impl<R: Files + Input + Print + Clone + Drop> Host for FileHost<R> {
+impl<R: Files<File = File> + Input + Print + Clone + Drop> Host for FileHost<R> {
     ghost tells = { ⊥ };
 
     ghost state = { λ _. silent };

@@ -1,11 +1,11 @@
 //! A run of neighbouring lines, written to the device's file together.
-ghost use Rattle.std.specs.Prelude.{◌≡◌, ◌+◌, ◌-◌, ◌*◌, ◌<◌, ◌≤◌, ◌++◌, true, take, drop, OnOk};
+ghost use Rattle.std.specs.Prelude.{◌≡◌, ◌+◌, ◌-◌, ◌*◌, ◌<◌, ◌≤◌, ◌++◌, true, length, take, drop, OnOk};
 ghost use Rattle.std.specs.List.{flat_map};
 ghost use Rattle.std.specs.Int.{to_le_bytes};
 ghost use mir.Syntax.{w64};
 
 use std::io;
-use std::io::{Seek, SeekFrom, Write};
+use std::os::unix::fs::FileExt;
 
 /// The bytes of a line: eight words of eight bytes, each with its lowest byte first.
 pub(crate) const LINE_BYTES: usize = 64;
@@ -55,9 +55,9 @@ impl LineRun {
     /// # Errors
     ///
     /// What waited could not be written.
-    pub(crate) fn put<F: Write + Seek>(
+    pub(crate) fn put<F: FileExt>(
         &mut self,
-        file: &mut F,
+        file: &F,
         line: u32,
         words: &[u64; 8],
     ) -> io::Result<()>
@@ -69,44 +69,44 @@ impl LineRun {
             self.write(file)?;
             self.first = line;
         }
-        self.push(&line_bytes(words));
+        self.push(words);
         Ok(())
     }
 
-    // Takes the bytes of the next line.
-    fn push(&mut self, line: &[u8; LINE_BYTES])
+    // Takes the words of the next line.
+    fn push(&mut self, words: &[u64; 8])
         requires { self.old.lines < 64 }
-        ensures bytes { take (64 * self.new.lines) self.new.bytes ≡ take (64 * self.old.lines) self.old.bytes ++ line.now }
+        ensures bytes { take (64 * self.new.lines) self.new.bytes
+            ≡ take (64 * self.old.lines) self.old.bytes ++ flat_map (to_le_bytes w64) words.now }
         ensures lines { self.new.lines ≡ self.old.lines + 1 }
         ensures first { self.new.first ≡ self.old.first }
     {
         let at = self.lines * LINE_BYTES;
-        self.bytes[at..at + LINE_BYTES].copy_from_slice(line);
+        spell(words, &mut self.bytes[at..at + LINE_BYTES]);
         self.lines += 1;
     }
 
     /// Writes what waits, at its place in the file. Then no line waits, also where the write failed.
-    pub(crate) fn write<F: Write + Seek>(&mut self, file: &mut F) -> io::Result<()>
+    pub(crate) fn write<F: FileExt>(&mut self, file: &F) -> io::Result<()>
         ensures { self.new.lines ≡ 0 }
     {
         let count = self.lines * LINE_BYTES;
         self.lines = 0;
         if count > 0 {
-            file.seek(SeekFrom::Start(u64::from(self.first) * LINE_BYTES as u64))?;
-            file.write_all(&self.bytes[..count])?;
+            let offset = u64::from(self.first) * LINE_BYTES as u64;
+            file.write_all_at(&self.bytes[..count], offset)?;
         }
         Ok(())
     }
 }
 
-// The bytes of a line's words.
-fn line_bytes(words: &[u64; 8]) -> [u8; LINE_BYTES]
-    ensures { result ≡ flat_map (to_le_bytes w64) words.now }
+// Puts the bytes of a line's words.
+fn spell(words: &[u64; 8], bytes: &mut [u8])
+    requires { length bytes.old ≡ 64 }
+    ensures { bytes.new ≡ flat_map (to_le_bytes w64) words.now }
 {
-    let mut bytes = [0u8; LINE_BYTES];
     for (place, word) in words.iter().enumerate() {
         let at = place * 8;
         bytes[at..at + 8].copy_from_slice(&word.to_le_bytes());
     }
-    bytes
 }

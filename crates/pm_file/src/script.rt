@@ -28,23 +28,32 @@ impl<I: Read + Drop> Script<I> {
     ///
     /// The stream failed.
     pub(crate) fn next_byte(&mut self) -> io::Result<Option<u8>> {
-        if self.is_ended {
+        if self.reader.buffer().is_empty() {
+            self.fill()?;
+        }
+        let Some(byte) = self.reader.buffer().first().copied() else {
             return Ok(None);
+        };
+        self.reader.consume(1);
+        Ok(Some(byte))
+    }
+
+    // Has the buffer hold more bytes, unless the stream has ended.
+    fn fill(&mut self) -> io::Result<()> {
+        if self.is_ended {
+            return Ok(());
         }
         for _ in 0..u64::MAX {
             match self.reader.fill_buf() {
                 Ok(bytes) => {
-                    let Some(byte) = bytes.first().copied() else {
-                        break;
-                    };
-                    self.reader.consume(1);
-                    return Ok(Some(byte));
+                    self.is_ended = bytes.is_empty();
+                    return Ok(());
                 }
                 Err(error) if error.kind() == ErrorKind::Interrupted => {}
                 Err(error) => return Err(error),
             }
         }
         self.is_ended = true;
-        Ok(None)
+        Ok(())
     }
 }

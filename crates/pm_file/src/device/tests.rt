@@ -5,7 +5,7 @@ use crate::fake_file::{BYTES, FakeFile};
 use pm_model::HostFault;
 use std::alloc::Global;
 use std::fs::OpenFile;
-use std::io::{Seek, Write};
+use std::os::unix::fs::FileExt;
 use std::process::Abort;
 
 fn fake_device(rt: &impl Abort, alloc: Global) -> Device<FakeFile> {
@@ -48,7 +48,7 @@ fn done(outcome: Result<(), HostFault>) -> u64 {
     }
 }
 
-fn put<F: Write + Seek + OpenFile>(
+fn put<F: FileExt + OpenFile>(
     rt: &impl Abort,
     device: &mut Device<F>,
     word: u32,
@@ -60,7 +60,7 @@ fn put<F: Write + Seek + OpenFile>(
     stored.max(done(device.flush(word / 8)))
 }
 
-fn load<F: Write + Seek + OpenFile>(rt: &impl Abort, device: &mut Device<F>, word: u32) -> u64 {
+fn load<F: FileExt + OpenFile>(rt: &impl Abort, device: &mut Device<F>, word: u32) -> u64 {
     assert!(rt; word < device.words.count());
     number(device.load(word))
 }
@@ -88,7 +88,7 @@ fn answer(rt: &impl Abort, device: &mut Device<FakeFile>, call: Call) -> u64 {
         }
         Call::Byte(at) => {
             assert!(rt; at < BYTES);
-            u64::from(device.file.file.bytes[at])
+            u64::from(device.file.file.bytes.get()[at])
         }
     }
 }

@@ -1,6 +1,5 @@
-use Rattle.std.proofs.Common.{ℕ, ◌<◌, ◌≤◌}
-use Rattle.pm_file.specs.Spelling.{word_of}
+use Rattle.std.proofs.Common.{ℕ, ◌<◌, ◌≤◌, slice_index}
 use Rattle.pm_file.proofs.reading.is_blank.Given as goal
 
-abbrev pub invariant-loop-place : goal.invariant-loop-place
-invariant-loop-place l = (place : ℕ) → place < l.place → word_of l.piece place ≤ l.any
+abbrev pub invariant-loop-byte : goal.invariant-loop-byte
+invariant-loop-byte l = (at : ℕ) → at < l.byte-index → slice_index l.piece at ≤ l.any

@@ -2,7 +2,7 @@ use Rattle.std.proofs.Common.{◌≡◌, ◌*◌, take, length}
 use Rattle.std.specs.List.{flat_map}
 use Rattle.std.specs.Int.{to_le_bytes}
 use mir.Syntax.{w64}
-use Rattle.pm_file.proofs.line_run.line_bytes.Given as goal
+use Rattle.pm_file.proofs.line_run.spell.Given as goal
 
 abbrev pub invariant-loop-place : goal.invariant-loop-place
 invariant-loop-place l = record {
