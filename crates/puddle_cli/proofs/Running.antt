@@ -19,6 +19,7 @@ use Rattle.pud_defs.proofs.Changing.{KeepsFiles-still, KeepsUnwritable-still, Ke
 use Rattle.pud_defs.proofs.Lines.{newlines-append, newlines_part, lines_taken-nothing}
 use Rattle.pud_defs.proofs.Stands.{StandsBehind-closed, StandsBehind-after}
 use Rattle.recover.specs.Recovery.{RefusesSame}
+use Rattle.independence.proofs.Runs.{independent_whole}
 use Rattle.puddled.specs.declared.daemon.RunFault.{RunFault}
 use Rattle.puddled.specs.declared.daemon.RunFault.TheVariants as faults
 use Rattle.puddled.specs.Faults.{risen_by, RoseBy, last_fault, CountsTurns}
@@ -199,6 +200,7 @@ module _ (size : ℕ) (w : World) (start : State) (rested : IsRested start.now.w
           in_start = moments_in_start (Err (starts.Host fault)) now s;
         };
         counted = counted_in_start fault status before after of_mode is last;
+        independent = λ done. absurd (not_whole (ap run_fault_at done));
       }
 
   said_behind : (mid now : State) (replies more : List ℕ) → mid.now.said ≡ start.now.said ++ text → now.now.said ≡ mid.now.said ++ replies ++ more
@@ -252,6 +254,7 @@ module _ (size : ℕ) (w : World) (start : State) (rested : IsRested start.now.w
           in_start = moments_behind_start (StandsWith size w (a.answered ++ a.pending)) memory mid now s first a.moments a.allowed;
         };
         counted = counted_behind_start status fault before a.mid after a.answered a.pending is a.whole a.turns_counted a.counted;
+        independent = λ end. independent_whole w a.taken ended a.answered a.pending (done end) (a.whole (sym is ∙ ap run_fault_at end)) a.is_run a.lines;
       }
 
 -- a world without clients, in which nothing is open, is as a start leaves it

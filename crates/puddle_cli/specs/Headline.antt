@@ -12,6 +12,7 @@ use Rattle.pud_defs.specs.Run.{Turn, cuts_of, IsRun, last_world, lines_taken, ne
 use Rattle.pud_defs.specs.Texts.{replies_text}
 use Rattle.pud_defs.specs.StartText.{start_text}
 use Rattle.pud_defs.specs.Stands.{StandsBehind}
+use Rattle.independence.specs.Independence.{AreIndependent}
 use Rattle.puddle_cli.specs.declared.status.TheConstants.{DONE, POWER_LOST, TOO_LONG}
 use Rattle.recover.specs.Recovery.{RefusesSame}
 use Rattle.ready_daemon.specs.Ready.{RefusesNone}
@@ -104,9 +105,11 @@ pub record RunCounts (begun : Bool) (answered pending : List Turn) (status : ℕ
   pub exact : run_fault_at status ≡ None → after.cuts ≡ risen_by (cuts_of answered) before.cuts
   pub exact_at_loss : status ≡ POWER_LOST → after.cuts ≡ risen_by (cuts_lost pending + cuts_of answered) before.cuts
 
--- The exit, the moments and the counts of one and the same run over a script, from a device whose images all stand for the stored world of w.
+-- The exit, the moments and the counts of one and the same run over a script, from a device whose images all stand for the stored world of w. At
+-- status 0 it is, for every set of pools, what each run over the set's own lines is.
 pub record Headline (size : ℕ) (w : World) (status : ℕ) (before after : Counts) (start end : State) : Type 0 where
   pub run : ScriptRun w start end
   pub exit : RunExit size w status start end run
   pub moments : RunMoments size w start end run
   pub counted : RunCounts run.begun run.answered run.pending status before after
+  pub independent : status ≡ DONE → AreIndependent w (lines_taken run.taken true) run.answered

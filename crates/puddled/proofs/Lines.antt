@@ -18,6 +18,7 @@ use Rattle.pud_defs.specs.Texts.{answer_text, begins_with_ok}
 use Rattle.pud_defs.specs.Stands.{StandsAfter, StandsWith}
 use Rattle.pud_defs.proofs.Lines.{newlines_part}
 use Rattle.pud_defs.proofs.Said.{newlines-answer_text}
+use Rattle.independence.proofs.Turns.{leaves_others}
 use Rattle.puddled.specs.declared.daemon.RunFault.{RunFault}
 use Rattle.puddled.specs.declared.daemon.RunFault.TheVariants.{NotSound}
 use Rattle.ready_daemon.specs.Memory.{Memory}
@@ -102,6 +103,7 @@ Answers-fault size w memory line aloud fault before after old new s =
       turn = s.turn;
       of_line = s.of_line;
       is_turn = s.is_turn;
+      others = leaves_others w s.turn s.is_turn;
       ok = tt;
       moments = silent_moments size w s.turn old new s.moments;
       says = record { bytes = []; rest = spoken aloud s.turn.answer; part = refl; said = s.quiet ∙ sym (append-nil old.now.said); whole = λ no. absurd (cc) };
@@ -121,6 +123,7 @@ Answers-unsaid size w memory line answered ok before after old new s is =
       turn = s.turn;
       of_line = s.of_line;
       is_turn = s.is_turn;
+      others = leaves_others w s.turn s.is_turn;
       ok = is s.turn.next ∙ ap begins_with_ok (sym s.replied);
       moments = silent_moments size w s.turn old new s.moments;
       says = record { bytes = []; rest = []; part = refl; said = s.quiet ∙ sym (append-nil old.now.said); whole = λ _. refl };
@@ -197,6 +200,7 @@ module _ (size : ℕ) (w : World) (memory : Memory) (line : List ℕ) (answered 
         turn = s.turn;
         of_line = s.of_line;
         is_turn = s.is_turn;
+        others = leaves_others w s.turn s.is_turn;
         ok = subst (λ (a : Answer). IfOk result (λ ok. ok ≡ begins_with_ok a)) (sym s.replied) (is s.turn.next);
         moments = said_moments fault says;
         says = record { bytes = part.bytes; rest = part.rest; part = part.part; said = part.said ∙ ap (λ (l : List ℕ). l ++ part.bytes) s.quiet; whole = λ n. part.whole (none n) };

@@ -16,6 +16,7 @@ use Rattle.pud_defs.specs.Changing.{file_in, KeepsFiles}
 use Rattle.pud_defs.specs.Run.{Turn, IsTurn, cuts_of}
 use Rattle.pud_defs.specs.Texts.{answer_text, begins_with_ok}
 use Rattle.pud_defs.specs.Stands.{StandsWith}
+use Rattle.independence.specs.Independence.{LeavesOthers}
 use Rattle.ready_daemon.specs.Memory.{Memory}
 use Rattle.pool_transaction.specs.Finishing.{Arrives, UnlessFailed}
 use Rattle.ready_daemon.specs.Moves.{MovesTo, still}
@@ -100,11 +101,13 @@ pub record SaysAnswer (frames : ℕ) (aloud : Bool) (result : Result Bool RunFau
 -- One line is one turn of the machine: at every moment the images stand for the world before it or the one that it gives, with its reply said
 -- only once that one is durable; without a fault the reply is whole and the daemon, with this memory, ready for the next line. A client that
 -- goes has its logs closed first. In no image left at any moment a registered log is refused: a restart refuses none. Without a fault a cut was
--- counted where the reply is `cut`, and nowhere else.
+-- counted where the reply is `cut`, and nowhere else. A line that names a pool leaves each other pool, with what is open on it, where it defines no
+-- type and power was not lost.
 pub record Answers (size : ℕ) (w : World) (line : List ℕ) (aloud : Bool) (result : Result Bool RunFault) (memory : Memory) (before after : Counts) (old new : State) : Type 0 where
   pub turn : Turn
   pub of_line : turn.line ≡ line
   pub is_turn : IsTurn w turn
+  pub others : LeavesOthers w turn
   pub ok : IfOk result (λ ok. ok ≡ begins_with_ok turn.answer)
   pub moments : Leaves (StandsWith size w (turn ∷ [])) old new
   pub says : SaysPart (spoken aloud turn.answer) (run_fault result) old new

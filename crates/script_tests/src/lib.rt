@@ -16,4 +16,6 @@ mod random;
 #[cfg(test)]
 mod random_cuts;
 #[cfg(test)]
+mod random_split;
+#[cfg(test)]
 mod talk;

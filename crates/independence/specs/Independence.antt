@@ -1,0 +1,34 @@
+-- Pools by themselves: what a pool is and what its lines are answered comes of its own lines, the types and the clients alone.
+use Rattle.std.specs.Prelude.{◌≡◌, ℕ, true, false, List, map}
+use Rattle.pud_defs.specs.World.{World}
+use Rattle.pud_defs.specs.Run.{Turn, is_cut, IsRun, last_world}
+use Rattle.independence.specs.Own.{Names, only, is_own, own, answers_to}
+use Rattle.independence.specs.Shares.{share, IsSamePool}
+use Rattle.independence.specs.Limits.{MeetNoLimit, MeetNoneAtAll}
+use Rattle.independence.specs.Premises.{DefinesNone, OthersDefineNone, is_imported, OthersLeaveFiles, OthersWriteNone}
+
+-- ---- a line
+
+-- A line that names a pool outside a set and defines no type leaves each pool of the set with what is open on it, where power was not lost.
+pub record LeavesOthers (w : World) (t : Turn) : Type 0 where
+  pub others : (S : Names) → is_own S t.line ≡ false → is_cut t.answer ≡ false → DefinesNone w t → (name : List ℕ) → S name ≡ true → share t.next name ≡ share w name
+
+-- ---- a run
+
+-- In both runs the lines that name a pool of the set are answered the same, and their last worlds have the same under each name of it.
+pub record IsSameFor (S : Names) (w : World) (turns : List Turn) (v : World) (others : List Turn) : Type 0 where
+  pub answers : answers_to S others ≡ answers_to S turns
+  pub shares : (name : List ℕ) → S name ≡ true → share (last_world v others) name ≡ share (last_world w turns) name
+
+-- For every set of pools the turns over all lines and each run over its own lines alone are the same: where in both no own line met a shared limit, and
+-- where in the turns of others' lines power was not lost, no type was defined, and each file that the set imports stayed.
+pub record AreIndependent (w : World) (lines : List (List ℕ)) (turns : List Turn) : Type 0 where
+  pub alone : (S : Names) → MeetNoLimit S w turns → OthersDefineNone S w turns → OthersLeaveFiles S (is_imported S lines) w turns
+      → (others : List Turn) → IsRun w others → map (λ t. t.line) others ≡ own S lines → MeetNoLimit S w others → IsSameFor S w turns w others
+
+-- The same of one pool and whole runs: in neither run a shared limit was met, and no line of another pool defines a type or writes a file that a line
+-- of this one imports.
+pub record IsPoolByItself (w : World) (lines : List (List ℕ)) (turns : List Turn) : Type 0 where
+  pub alone : (name : List ℕ) → MeetNoneAtAll w turns → OthersDefineNone (only name) w turns → OthersWriteNone (only name) (is_imported (only name) lines) turns
+      → (others : List Turn) → IsRun w others → map (λ t. t.line) others ≡ own (only name) lines → MeetNoneAtAll w others
+      → (answers_to (only name) others ≡ answers_to (only name) turns) × IsSamePool name (last_world w others) (last_world w turns)

@@ -1,0 +1,47 @@
+-- Limits that pools share: which answers tell that one was met.
+use Rattle.std.specs.Prelude.{◌≡◌, Bool, true, false, not, cond, List, [], ◌∷◌, Option, Some, None, ⊤}
+use Rattle.pud_defs.specs.declared.machine.Command.{Command}
+use Rattle.pud_defs.specs.declared.machine.Command.TheVariants.{New}
+use Rattle.pud_defs.specs.declared.machine.Reply.TheVariants as replies
+use Rattle.pud_defs.specs.declared.machine.Refusal.TheVariants as refusals
+use Rattle.pud_defs.specs.World.{World}
+use Rattle.pud_defs.specs.Grammar.{command_of}
+use Rattle.pud_defs.specs.Step.{Answer, is_full_graph, graph_for}
+use Rattle.pud_defs.specs.Step.Answer.{of_reply, of_text}
+use Rattle.pud_defs.specs.Run.{Turn, is_cut}
+use Rattle.independence.specs.Own.{Names, is_own}
+
+-- a command makes an object in a pool that by itself can have no more: it has as many as a pool may have, or no serial is left
+abbrev pub is_full_by_itself : World → Option Command → Bool
+is_full_by_itself w None = false
+is_full_by_itself w (Some (New client name t)) = is_full_graph (graph_for w (New client name t))
+is_full_by_itself w (Some c) = false
+
+-- Power was lost, or the answer tells of what no pool has by itself: frames, logs, memory, or room in the tables and UUID numbers. It is told whether
+-- the pool is full by itself.
+abbrev pub is_limit : (full : Bool) → Answer → Bool
+is_limit full (of_reply replies.Cut) = true
+is_limit full (of_reply (replies.No refusals.Space)) = true
+is_limit full (of_reply (replies.No refusals.Logs)) = true
+is_limit full (of_reply (replies.No refusals.Memory)) = true
+is_limit full (of_reply (replies.No refusals.Full)) = not full
+is_limit full (of_reply reply) = false
+is_limit full (of_text text) = false
+
+-- a shared limit was met in this turn
+abbrev pub is_at_limit : World → Turn → Bool
+is_at_limit w t = is_limit (is_full_by_itself w (command_of t.line)) t.answer
+
+-- one was met by an own line of the set, or power was lost in another's
+abbrev pub meets_limit : Names → World → Turn → Bool
+meets_limit S w t = cond (is_own S t.line) (is_at_limit w t) (is_cut t.answer)
+
+-- in no turn is that so
+abbrev pub MeetNoLimit : Names → World → List Turn → Type 0
+MeetNoLimit S w [] = ⊤
+MeetNoLimit S w (t ∷ turns) = (meets_limit S w t ≡ false) × MeetNoLimit S t.next turns
+
+-- in no turn a shared limit was met, whatever pool the line names
+abbrev pub MeetNoneAtAll : World → List Turn → Type 0
+MeetNoneAtAll w [] = ⊤
+MeetNoneAtAll w (t ∷ turns) = (is_at_limit w t ≡ false) × MeetNoneAtAll t.next turns

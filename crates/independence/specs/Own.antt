@@ -1,0 +1,45 @@
+-- Sets of pools, and which lines of a script are theirs.
+use Rattle.std.specs.Prelude.{ℕ, Bool, true, false, List, map, filter, bytes_eq, Option, Some, None}
+use Rattle.pud_defs.specs.declared.machine.Command.{Command}
+use Rattle.pud_defs.specs.Grammar.{command_of}
+use Rattle.pud_defs.specs.Step.{Answer, name_in}
+use Rattle.pud_defs.specs.Run.{Turn}
+
+-- a set of pools, by their names
+abbrev pub Names : Type 0
+Names = List ℕ → Bool
+
+-- the one pool of this name
+abbrev pub only : List ℕ → Names
+only name other = bytes_eq other name
+
+-- a name is given, and is of the set
+abbrev pub is_within : Names → Option (List ℕ) → Bool
+is_within S None = false
+is_within S (Some name) = S name
+
+-- none is given, or it is of the set
+abbrev pub is_none_or_within : Names → Option (List ℕ) → Bool
+is_none_or_within S None = true
+is_none_or_within S (Some name) = S name
+
+-- the name of the pool that a line names, by the command that it is: a line that is none names no pool
+abbrev pub name_by : Option Command → Option (List ℕ)
+name_by None = None
+name_by (Some c) = name_in c
+
+-- the line names a pool of the set
+abbrev pub is_of : Names → List ℕ → Bool
+is_of S line = is_within S (name_by (command_of line))
+
+-- it names such a pool, or none
+abbrev pub is_own : Names → List ℕ → Bool
+is_own S line = is_none_or_within S (name_by (command_of line))
+
+-- the own lines of a set: those that name a pool of it, and those that name none
+abbrev pub own : Names → List (List ℕ) → List (List ℕ)
+own S lines = filter (is_own S) lines
+
+-- the answers to the lines that name a pool of the set
+abbrev pub answers_to : Names → List Turn → List Answer
+answers_to S turns = map (λ t. t.answer) (filter (λ t. is_of S t.line) turns)
