@@ -1,11 +1,12 @@
 -- The addresses around one that was located.
-use Rattle.std.specs.Prelude.{◌≡◌, ℕ, ◌-◌, ◌/◌, ◌<◌, ◌≤◌, Some}
+use Rattle.std.specs.Prelude.{◌≡◌, ℕ, ◌-◌, ◌/◌, ◌<◌, ◌≤◌, Some, All}
 use Rattle.pud_defs.specs.declared.space.TheConstants.{WORD_BYTES}
 use Rattle.pud_defs.specs.Places.{located}
 use Rattle.pud_defs.specs.Puddles.{Member}
 use Rattle.pud_defs.specs.Tables.{Tables}
 use Rattle.puddle_space.specs.declared.addresses.Gap.{Gap}
 use Rattle.puddle_space.specs.declared.addresses.Nearby.{Nearby}
+use Rattle.puddle_space.specs.declared.addresses.Neighbours.{Neighbours}
 
 abbrev pub base_of_member : Member → ℕ
 base_of_member m = m.puddle.base
@@ -16,5 +17,9 @@ pub record IsInGap (gap : Gap) (address : ℕ) : Type 0 where
   pub high : address < gap.high
 
 -- each address of this range lies in the puddle of its frame, as these tables have it
-pub record IsNearby (t : Tables) (n : Nearby) : Type 0 where
+pub record AreNeighbours (t : Tables) (n : Neighbours) : Type 0 where
   pub each : (address : ℕ) → n.from ≤ address → address < n.end → located t address ≡ Some (n.frame, (address - n.base) / WORD_BYTES)
+
+-- each of the ranges that are kept is so
+abbrev pub IsNearby : Tables → Nearby → Type 0
+IsNearby t n = All (AreNeighbours t) n.known

@@ -11,11 +11,11 @@ ghost use Rattle.pud_defs.specs.Puddles.{puddle_at};
 ghost use Rattle.pud_defs.specs.Tables.{Tables, tables_of};
 ghost use Rattle.pud_defs.specs.Places.{word_in, located};
 ghost use Rattle.puddle_space.specs.Within.{IsPlaceIn};
-ghost use Rattle.puddle_space.specs.Nearby.{base_of_member, IsInGap, IsNearby};
+ghost use Rattle.puddle_space.specs.Nearby.{base_of_member, IsInGap, AreNeighbours, IsNearby};
 
 use pm_model::{Host, HostFault};
 use pud_defs::layout::{MAX_FRAMES, PUDDLE_RECORD_WORDS, PUDDLE_TABLE};
-use pud_defs::records::PUDDLE_BASE_WORD;
+use pud_defs::records::{MAX_PUDDLES, PUDDLE_BASE_WORD};
 use pud_defs::space::{RANGE_BYTES, WORD_BYTES};
 
 /// The word that the address lies in, where the range from this base on has it.
@@ -69,11 +69,11 @@ impl Gap {
     }
 
     /// The part of the gap that the range from this base on has, which is that of a frame.
-    fn inside(self, base: u64, frame: u32) -> Nearby
+    fn inside(self, base: u64, frame: u32) -> Neighbours
         ensures frame { result.frame ≡ frame }
         ensures each { (x : ℕ) → result.from ≤ x → x < result.end → IsInGap self x × (word_in base x ≡ Option.Some ((x - result.base) / WORD_BYTES)) }
     {
-        Nearby {
+        Neighbours {
             from: self.low.max(base),
             end: self.high.min(base.saturating_add(RANGE_BYTES)),
             base,
@@ -82,22 +82,21 @@ impl Gap {
     }
 }
 
-/// The addresses around one that was located, whose places are known: they lie in the same puddle. So the place of a neighbour costs
-/// no search.
+/// The addresses around one that was located, whose places are known: they lie in the same puddle.
 #[derive(Clone, Copy)]
-pub struct Nearby {
+struct Neighbours {
     from: u64,
     end: u64,
     base: u64,
     frame: u32,
 }
 
-impl Nearby {
-    /// None, as before the first search.
-    pub fn none() -> Nearby
-        ensures { (t : Tables) → IsNearby t result }
+impl Neighbours {
+    /// None, as where nothing was located.
+    fn none() -> Neighbours
+        ensures { (t : Tables) → AreNeighbours t result }
     {
-        Nearby {
+        Neighbours {
             from: 0,
             end: 0,
             base: 0,
@@ -107,7 +106,7 @@ impl Nearby {
 
     /// The place of the address, where it is one of these, and the frame one of so many.
     fn place(&self, frames: u32, address: u64) -> Option<(u32, u32)>
-        ensures place { (t : Tables) → IsNearby t self.now → IfSome result (λ place. located t address ≡ Option.Some place) }
+        ensures place { (t : Tables) → AreNeighbours t self.now → IfSome result (λ place. located t address ≡ Option.Some place) }
         ensures within { IfSome result (IsPlaceIn frames) }
     {
         if address < self.from || address >= self.end || self.frame >= frames {
@@ -118,12 +117,54 @@ impl Nearby {
             None => None,
         }
     }
+}
+
+/// The neighbours of the last addresses that were searched for, of as many puddles as a pool has at most. So the place of an address in a
+/// puddle that has one of these costs no search.
+#[derive(Drop)]
+pub struct Nearby {
+    known: [Neighbours; MAX_PUDDLES as usize],
+    next: u32,
+}
+
+impl Nearby {
+    /// None, as before the first search.
+    pub fn none() -> Nearby
+        ensures { (t : Tables) → IsNearby t result }
+    {
+        Nearby {
+            known: [Neighbours::none(); MAX_PUDDLES as usize],
+            next: 0,
+        }
+    }
+
+    /// The place of the address, where it is one of these, and the frame one of so many.
+    fn place(&self, frames: u32, address: u64) -> Option<(u32, u32)>
+        ensures place { (t : Tables) → IsNearby t self.now → IfSome result (λ place. located t address ≡ Option.Some place) }
+        ensures within { IfSome result (IsPlaceIn frames) }
+    {
+        for neighbours in &self.known {
+            if let Some(place) = neighbours.place(frames, address) {
+                return Some(place);
+            }
+        }
+        None
+    }
+
+    /// Keeps these in place of those that were kept first.
+    fn keep(&mut self, neighbours: Neighbours)
+        ensures { (t : Tables) → IsNearby t self.old → AreNeighbours t neighbours → IsNearby t self.new }
+    {
+        let at = self.next % MAX_PUDDLES;
+        self.known[at as usize] = neighbours;
+        self.next = at + 1;
+    }
 
     /// The frame and the word of it that the address lies in, or None exactly where no puddle's range has the address. An
     /// address that is no multiple of 8 lies in the word that it falls into. Where the puddle table is not sound and several
     /// puddles' ranges have the address, the lowest frame counts.
     ///
-    /// These are addresses around one that was located, or none, by the table that the device has now; so they are afterwards, around
+    /// These are addresses around some that were located, by the table that the device has now; so they are afterwards, also those around
     /// this address if it has a place. For one that is among them no word is loaded. For any other it takes one load for each frame, and
     /// one more for each puddle, up to the one that has the address.
     pub fn locate<H: Host>(
@@ -144,7 +185,12 @@ impl Nearby {
         if let Some(place) = self.place(frames, address) {
             return Ok(Some(place));
         }
-        search(h, frames, address, self)
+        let mut neighbours = Neighbours::none();
+        let place = search(h, frames, address, &mut neighbours)?;
+        if place.is_some() {
+            self.keep(neighbours);
+        }
+        Ok(place)
     }
 }
 
@@ -153,13 +199,13 @@ fn search<H: Host>(
     h: &mut H,
     frames: u32,
     address: u64,
-    nearby: &mut Nearby,
+    neighbours: &mut Neighbours,
 ) -> Result<Option<(u32, u32)>, HostFault>
     requires few { frames ≤ MAX_FRAMES }
     requires table { tables_end frames ≤ (H.counts h.old).size }
     ensures located { H.tells → (image : Image) → reads (H.state h.old).now.words ≡ image → IfOk result (λ found. found ≡ located (tables_of frames image) address) }
-    ensures nearby { H.tells → (image : Image) → reads (H.state h.old).now.words ≡ image → IsNearby (tables_of frames image) nearby.old
-        → IsNearby (tables_of frames image) nearby.new }
+    ensures neighbours { H.tells → (image : Image) → reads (H.state h.old).now.words ≡ image → AreNeighbours (tables_of frames image) neighbours.old
+        → AreNeighbours (tables_of frames image) neighbours.new }
     ensures within { IfOk result (λ found. IfSome found (IsPlaceIn frames)) }
     ensures only_reads { OnlyReads H.tells H.state H.counts (fault_of result) h.old h.new }
 {
@@ -172,7 +218,7 @@ fn search<H: Host>(
             continue;
         };
         if let Some(word) = word_in(base, address) {
-            *nearby = gap.inside(base, frame);
+            *neighbours = gap.inside(base, frame);
             return Ok(Some((frame, word)));
         }
         gap = gap.beside(base, address);

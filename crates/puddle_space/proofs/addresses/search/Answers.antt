@@ -4,7 +4,7 @@ use Rattle.pud_defs.specs.Tables.{tables_of}
 use Rattle.pud_defs.specs.Image.{Image}
 use Rattle.pud_defs.specs.Puddles.{puddle_at}
 use Rattle.pud_defs.specs.Places.{first_some, place_by}
-use Rattle.puddle_space.specs.Nearby.{IsNearby}
+use Rattle.puddle_space.specs.Nearby.{AreNeighbours}
 use Rattle.puddle_space.proofs.Located.{located_by_records, first_some-passed, first_some-found, first_some-none, placed_by_base, nowhere_by_base, unplaced_by_base}
 use Rattle.pm_model.proofs.Reading.{OnlyReads-none, OnlyReads-then, still_reads}
 use Rattle.puddle_space.proofs.addresses.search.Goals as goal
@@ -22,8 +22,8 @@ loop-frame-init g c =
       around = λ t image same x inside. located_by_records c.args.frames image x ∙ ap (first_some (places image x) 0) count;
     }
 
-pub returns-in_err-base-clause-nearby : goal.returns-in_err-base-clause-nearby
-returns-in_err-base-clause-nearby g c = λ t image same near. subst (IsNearby (tables_of c.args.frames image)) (sym c.loop-frame.invariant.stays) near
+pub returns-in_err-base-clause-neighbours : goal.returns-in_err-base-clause-neighbours
+returns-in_err-base-clause-neighbours g c = λ t image same near. subst (AreNeighbours (tables_of c.args.frames image)) (sym c.loop-frame.invariant.stays) near
 
 pub loop-frame-preserved-in_default : goal.loop-frame-preserved-in_default
 loop-frame-preserved-in_default g c =
@@ -70,8 +70,8 @@ returns-in-Some-word_in-clause-located g c = λ t image same.
     ∙ first_some-found (places image c.args.address) l.frame c.args.frames (l.frame, c.in-Some-word_in.word) (omega arith)
     (placed_by_base c.args.address l.frame c.in-Some.base c.in-Some-word_in.word (puddle_at image l.frame) base (sym c.word_in.ensures.word ∙ c.in-Some-word_in.is)))
 
-pub returns-in-Some-word_in-clause-nearby : goal.returns-in-Some-word_in-clause-nearby
-returns-in-Some-word_in-clause-nearby g c = λ t image same near.
+pub returns-in-Some-word_in-clause-neighbours : goal.returns-in-Some-word_in-clause-neighbours
+returns-in-Some-word_in-clause-neighbours g c = λ t image same near.
     let l = c.loop-frame in
     let within = c.loop-frame-test.true in
     let base = sym c.in-Some.is ∙ c.in_ok-base.ensures.base t image (still_reads l.invariant.only_reads t same) in
@@ -89,5 +89,5 @@ returns-clause-located g c = λ t image same.
     let past = c.loop-frame-test.false in
     sym (c.loop-frame.invariant.passed t image same ∙ first_some-none (places image c.args.address) c.loop-frame.frame c.args.frames (omega arith))
 
-pub returns-clause-nearby : goal.returns-clause-nearby
-returns-clause-nearby g c = λ t image same near. subst (IsNearby (tables_of c.args.frames image)) (sym c.loop-frame.invariant.stays) near
+pub returns-clause-neighbours : goal.returns-clause-neighbours
+returns-clause-neighbours g c = λ t image same near. subst (AreNeighbours (tables_of c.args.frames image)) (sym c.loop-frame.invariant.stays) near

@@ -10,7 +10,7 @@ use Rattle.puddle_space.proofs.addresses.search.Given as goal
 
 abbrev pub invariant-loop-frame : goal.invariant-loop-frame
 invariant-loop-frame g l = record {
-  stays : l.nearby ≡ l.initial.nearby;
+  stays : l.neighbours ≡ l.initial.neighbours;
   only_reads : OnlyReads g.H.Host.tells g.H.Host.state g.H.Host.counts None l.initial.h l.h;
   passed : g.H.Host.tells → (image : Image) → reads (g.H.Host.state l.initial.h).now.words ≡ image
       → located (tables_of l.frames image) l.address ≡ first_some (λ k. place_by l.address k (puddle_at image k)) l.frame (l.frames - l.frame);
