@@ -52,14 +52,18 @@ use Rattle.ready_daemon.proofs.PoolsBeside.{one_slot}
 use Rattle.ready_daemon.proofs.RestBeside.{held_graph}
 use Rattle.ready_daemon.specs.Memory.{Held, Memory, held_under}
 use Rattle.ready_daemon.specs.Held.{pool_held, open_held, IsHeld, IsHeldUnder, HasIdleLogs}
+use Rattle.known_pool.specs.Known.{Known, by_puddles}
+use Rattle.known_pool.proofs.KnownKept.{IsKnown-puddles}
+use Rattle.ready_daemon.specs.Judged.{alone_in}
 use Rattle.ready_daemon.specs.KnownPools.{KnowsPools}
+use Rattle.ready_daemon.proofs.Known.{alone_in-known}
 use Rattle.ready_daemon.specs.Ready.{IsReady, RefusesNone, StandsBetween, Applies}
 use Rattle.ready_daemon.proofs.Beside.{Leaves-from, names_none_idle, records_all, opened_as, own_apart, left_apart, ready_idle}
 use Rattle.ready_daemon.proofs.Beneath.{ready_gate, gate_kept, idle_kept}
 use Rattle.ready_daemon.proofs.PuddlesLeft.{LeavesPuddles-behind}
 use Rattle.pool_transaction.specs.Lifetime.{with_ended}
 use Rattle.pool_transaction.proofs.HeldRuns.{stands_within}
-use Rattle.ready_daemon.proofs.InTurn.{held_in_turn}
+use Rattle.ready_daemon.proofs.InTurn.{held_in_turn, held_there_known}
 use Rattle.ready_daemon.proofs.JudgedKept.{HasGraphIn}
 use Rattle.ready_daemon.proofs.JudgedOpen.{KnowsPools-ended, KeepsPools-held, graph_held_in, rest_held}
 use Rattle.ready_daemon.proofs.OthersHeld.{one_of_all, others_are, others_mask, holds_others, sessions_others}
@@ -455,10 +459,12 @@ module _ (size : ℕ) (w : World) (memory : Memory) (number : ℕ) (held : Held)
             graph_held_in w held ready.mask old new is_held changed left (types_read size w memory old ready).types (held_in_turn size w memory old ready number held there)
             (ap (graph_of w.stored.types) (stored_in-mine n is_held.at after (reads new.now.words) left_read) ∙ graph)
 
-        -- and is known as it was
-        knows_ended : KnowsPools n memory.judged others (reads new.now.words)
+        -- and its puddles are known as they were
+        knows_ended : KnowsPools n (alone_in held.slot memory.judged) others (reads new.now.words)
         knows_ended =
-            KnowsPools-ended n memory.judged number own others opens (reads old.now.words) (reads new.now.words) more (KeepsPools-held w held ready.mask old new is_held changed) graph_ended ready.knows
+            subst (λ (js : List (Option Known)). KnowsPools n js others (reads new.now.words)) (sym (alone_in-known memory.judged held.slot is_held.at (held_there_known size w memory old ready number held there)))
+            (KnowsPools-ended n memory.judged number own others opens (by_puddles is_held.at) (reads old.now.words) (reads new.now.words) more refl (KeepsPools-held w held ready.mask old new is_held changed) graph_ended
+            (IsKnown-puddles n is_held.at (reads new.now.words)) ready.knows)
 
         ready_ended : IsReady size next (with_ended number held memory) new
         ready_ended = record {

@@ -1,7 +1,7 @@
 -- Puddles of the pool of a transaction that is held are rewritten to their ends, before it writes there.
 use Rattle.std.proofs.Common.{◌≡◌, ℕ, ◌+◌, ◌%◌, ◌^◌, ◌≤◌, true, ◌&&◌, leb, ltb, eqb, List, set, Option, Some, None, refl, sym, ap, ◌∙◌, subst, arith}
 use Rattle.std.proofs.lemmas.Bool.{and_parts, leb-true, ltb-true}
-use Rattle.std.proofs.lemmas.List.{get_or-set_same, length-map}
+use Rattle.std.proofs.lemmas.List.{length-map}
 use Rattle.std.proofs.lemmas.Option.{none-some}
 use Rattle.std.proofs.lemmas.List.Elements.{All-weaker}
 use Rattle.pm_model.specs.declared.host.HostFault.{HostFault}
@@ -32,7 +32,8 @@ use Rattle.lazy_rewrite.proofs.Spared.{AreFrames, SparesObjects, Rewrites-spare}
 use Rattle.hybrid_tx.specs.Grounds.{IsPlaced, IsRewrittenAt}
 use Rattle.ready_daemon.specs.Memory.{Held, Memory, held_under}
 use Rattle.ready_daemon.specs.Held.{IsHeld}
-use Rattle.ready_daemon.specs.Judged.{known_in}
+use Rattle.known_pool.specs.Known.{by_puddles}
+use Rattle.ready_daemon.specs.Judged.{puddles_known, known_in, KnowsAlone}
 use Rattle.ready_daemon.specs.Moves.{Stays, MovesTo, led_in}
 use Rattle.ready_daemon.specs.Ready.{IsReady, AppliesBy, Applies}
 use Rattle.ready_daemon.proofs.Applying.{Applies-closed, AppliesBy-then}
@@ -40,6 +41,7 @@ use Rattle.ready_daemon.proofs.Beneath.{ready_gate}
 use Rattle.ready_daemon.proofs.Goals.{Joins-led_stays}
 use Rattle.ready_daemon.proofs.InTurn.{held_known, known_in_turn}
 use Rattle.ready_daemon.proofs.JudgedOpen.{known_within}
+use Rattle.ready_daemon.proofs.Known.{pool_kept}
 use Rattle.ready_daemon.proofs.TablesBeside.{sound_read}
 use Rattle.pool_transaction.specs.Changing.{both_finished}
 use Rattle.pool_transaction.specs.Finishing.{AppliesTo}
@@ -83,12 +85,12 @@ pub record MayMakeAt (F : ℕ) (at : List (ℕ × Puddle)) (image : Image) (slot
   pub free : IsFreePlace (stored_in F at image) (place_of_slot slot)
 
 module _ (size : ℕ) (w : World) (memory : Memory) (held : Held) (old : State) (number : ℕ) (there : held_under memory.held number ≡ Some held) (ready : IsReady size w memory old)
-    (F : ℕ) (same : F ≡ w.stored.frames) (at : List (ℕ × Puddle)) (known : known_in memory.judged held.slot ≡ Some at) where
+    (F : ℕ) (same : F ≡ w.stored.frames) (at : List (ℕ × Puddle)) (known : KnowsAlone memory.judged held.slot at) where
   abbrev is : IsHeld w held ready.mask old.now.words
   is = is_held size w memory held old number there ready
 
   pub its_puddles : at ≡ is.at
-  its_puddles = sym (held_known size w memory old ready number held there at known)
+  its_puddles = sym (held_known size w memory old ready number held there at (ap puddles_known known))
 
   pub its_placed : IsPlaced F at
   its_placed = subst (IsPlaced F) (sym its_puddles) (subst (λ (n : ℕ). IsPlaced n is.at) (sym same) (held_placed size w memory held old number there ready))
@@ -100,7 +102,7 @@ module _ (size : ℕ) (w : World) (memory : Memory) (held : Held) (old : State) 
   its_frontiers =
       let t = tables_of w.stored.frames (reads old.now.words) in
       legal_of_members w.stored.next_number t held.slot at (sound_read size w memory old ready)
-      (subst (λ (puddles : List (ℕ × Puddle)). HasMembers t held.slot puddles) (known_in_turn size w memory old ready held.slot at known) (members_in_turn t held.slot))
+      (subst (λ (puddles : List (ℕ × Puddle)). HasMembers t held.slot puddles) (known_in_turn size w memory old ready held.slot at (ap puddles_known known)) (members_in_turn t held.slot))
 
   -- where the first one and another are finished, none is left for both
   pub none_left : (o : ℕ) (later : List (ℕ × Puddle)) (fault : Option HostFault) (mid : State)
@@ -116,7 +118,7 @@ module _ (size : ℕ) (w : World) (memory : Memory) (held : Held) (old : State) 
 
     -- the memory behind them
     abbrev pub memory_finished : Memory
-    memory_finished = record memory { judged = set memory.judged held.slot (Some later) }
+    memory_finished = record memory { judged = set memory.judged held.slot (Some (by_puddles later)) }
 
     module _ (fault : Option HostFault) (mid : State) (owes : OwesRewrites fault mid) where
       does : Rewrites F goal at later fault old mid
@@ -124,14 +126,14 @@ module _ (size : ℕ) (w : World) (memory : Memory) (held : Held) (old : State) 
 
       -- frontiers of its pool alone move, towards these
       Applies-finished : AppliesBy (MovesTo (led_in held.slot (upto goal))) size w w memory_finished fault old mid
-      Applies-finished = Applies-rewrites size w memory held.slot at later goal fault old mid ready is.pool.slot known (subst (λ (n : ℕ). Rewrites n goal at later fault old mid) same does)
+      Applies-finished = Applies-rewrites size w memory held.slot (by_puddles at) later goal fault old mid ready is.pool.slot known (subst (λ (n : ℕ). Rewrites n goal at later fault old mid) same does)
 
     -- to ends that are goals
     module _ (final : List (ℕ × Puddle)) (target : ℕ → ℕ) (ends : AreEnds at final (upto goal) target) where
       Applies-led : (fault : Option HostFault) (mid : State) → OwesRewrites fault mid → AppliesBy (MovesTo (led_in held.slot target)) size w w memory_finished fault old mid
       Applies-led fault mid owes =
           AppliesBy-used (MovesTo (led_in held.slot (upto goal))) (MovesTo (led_in held.slot target)) size w w memory_finished fault old mid
-          (narrowed size w memory old ready held.slot is.pool.slot at known target final ends.reached (upto goal) ends.near) (Applies-finished fault mid owes)
+          (narrowed size w memory old ready held.slot is.pool.slot at (ap puddles_known known) target final ends.reached (upto goal) ends.near) (Applies-finished fault mid owes)
 
       -- one of them failed, of a line that leaves the stored world
       pub Applies-unfinished : (fault : HostFault) (mid : State) → OwesRewrites (Some fault) mid → (next : World) (behind : Memory) → closed w ≡ closed next
@@ -145,7 +147,7 @@ module _ (size : ℕ) (w : World) (memory : Memory) (held : Held) (old : State) 
       pub Applies-behind : (mid : State) → OwesRewrites None mid → (next : World) (behind : Memory) (fault : Option HostFault) (new : State) → closed w ≡ closed next → known_in behind.judged held.slot ≡ Some final
           → Applies size w next behind fault mid new → AppliesTo (led_in held.slot target) size w next behind fault old new
       Applies-behind mid owes next behind fault new stored after later_does =
-          AppliesTo-known size w memory old ready held.slot is.pool.slot at known target final ends.reached next behind fault new (ap (λ (v : StoredWorld). v.frames) (sym stored)) (λ done. after)
+          AppliesTo-known size w memory old ready held.slot is.pool.slot at (ap puddles_known known) target final ends.reached next behind fault new (ap (λ (v : StoredWorld). v.frames) (sym stored)) (λ done. after)
           (AppliesBy-then (MovesTo (led_in held.slot target)) Stays (MovesTo (led_in held.slot target)) (Joins-led_stays held.slot target) size w w next memory_finished behind fault old mid new stored refl
           (Applies-led None mid owes) later_does)
 
@@ -154,8 +156,8 @@ module _ (size : ℕ) (w : World) (memory : Memory) (held : Held) (old : State) 
       ready_finished = (Applies-finished None mid owes).ready refl
 
       -- its pool is known by the puddles as they are then
-      pub known_finished : known_in memory_finished.judged held.slot ≡ Some later
-      known_finished = get_or-set_same memory.judged held.slot (Some later) None (known_within memory.judged held.slot at known)
+      pub known_finished : KnowsAlone memory_finished.judged held.slot later
+      known_finished = pool_kept memory.judged held.slot (Some (by_puddles later)) (known_within memory.judged held.slot at (ap puddles_known known))
 
       pub spared_finished : SparesObjects F at later (reads old.now.words) (reads mid.now.words)
       spared_finished = Rewrites-spare F goal at later old mid (does None mid owes) its_frames

@@ -60,8 +60,10 @@ use Rattle.pool_transaction.specs.Finishing.{IsLonger}
 use Rattle.ready_daemon.proofs.RestBeside.{rest_by_words, held_graph}
 use Rattle.ready_daemon.specs.Memory.{Held, Memory, held_under}
 use Rattle.ready_daemon.specs.Held.{open_held, IsHeld, IsHeldUnder, Holds, HasDurableFrames, ByOthers, IsBeside}
-use Rattle.ready_daemon.specs.Judged.{known_in}
 use Rattle.ready_daemon.specs.KnownPools.{KnowsPools}
+use Rattle.known_pool.specs.Known.{by_puddles}
+use Rattle.known_pool.proofs.KnownKept.{IsKnown-puddles}
+use Rattle.ready_daemon.specs.Judged.{puddles_known, KnowsAlone}
 use Rattle.pool_transaction.specs.Changing.{with_opened, GrowsBy, with_more}
 use Rattle.ready_daemon.specs.Moves.{Stays, LeavesPuddles}
 use Rattle.ready_daemon.specs.Ready.{IsReady, StandsBetween, AppliesMasked, Applies}
@@ -413,10 +415,10 @@ module _ (size : ℕ) (w : World) (memory : Memory) (held : Held) (old : State) 
     }
 
     -- all other pools stay
-    knows_then : KnowsPools F (set memory.judged held.slot (Some at)) (with_transaction number (Some more) ready.held.opens) (reads words)
+    knows_then : KnowsPools F (set memory.judged held.slot (Some (by_puddles at))) (with_transaction number (Some more) ready.held.opens) (reads words)
     knows_then =
-        KnowsPools-grown F memory.judged number one more others ready.held.opens (with_transaction number (Some more) ready.held.opens) image (reads words) was (one_put number more ready.held.opens) refl shut
-        (subst (λ (n : ℕ). KeepsPools F (Some n) image (reads words)) (slot_is by) (KeepsPools-grow F a old new (within by) by.puddle.frame commits)) graph_then ready.knows
+        KnowsPools-grown F memory.judged number one more others ready.held.opens (with_transaction number (Some more) ready.held.opens) (by_puddles at) image (reads words) was (one_put number more ready.held.opens) refl refl shut
+        (subst (λ (n : ℕ). KeepsPools F (Some n) image (reads words)) (slot_is by) (KeepsPools-grow F a old new (within by) by.puddle.frame commits)) graph_then (IsKnown-puddles F at (reads words)) ready.knows
 
     ready_then : IsReady size next (with_opened number held.slot held at memory) new
     ready_then =
@@ -433,7 +435,7 @@ module _ (size : ℕ) (w : World) (memory : Memory) (held : Held) (old : State) 
           sessions = sessions_more w memory.held ready.mask new holds_then held number there e number_then sound_then owners listed_then rest_then e_finished some fresh next grows_held keeps_others memory.sessions ready.sessions;
           rest = subst (λ (n : ℕ). HasDurableFrames n (masked mask_then words)) (sym same) (rest_more w memory.held ready.mask new holds_then held number there e number_then sound_then owners listed_then rest_then e_finished);
           logs = logs_more w memory.held ready.mask new holds_then held number there e number_then sound_then owners listed_then rest_then e_finished next.stored.frames next.clients (done.logs refl);
-          knows = subst (λ (n : ℕ). KnowsPools n (set memory.judged held.slot (Some at)) (with_transaction number (Some more) ready.held.opens) (reads words)) (sym same) knows_then;
+          knows = subst (λ (n : ℕ). KnowsPools n (set memory.judged held.slot (Some (by_puddles at))) (with_transaction number (Some more) ready.held.opens) (reads words)) (sym same) knows_then;
         }
 
     -- its frames are as they were
@@ -475,10 +477,10 @@ module _ (size : ℕ) (w : World) (memory : Memory) (held : Held) (old : State) 
 
   -- ---- what the calls owe, on so many frames
 
-  module _ (n : ℕ) (same : n ≡ F) (pool : List (ℕ × Puddle)) (known : known_in memory.judged held.slot ≡ Some pool) (by : GrowsBy n held.slot pool image a) where
+  module _ (n : ℕ) (same : n ≡ F) (pool : List (ℕ × Puddle)) (known : KnowsAlone memory.judged held.slot pool) (by : GrowsBy n held.slot pool image a) where
     by_world : GrowsBy F held.slot is.at image a
     by_world =
-        subst (λ (ps : List (ℕ × Puddle)). GrowsBy F held.slot ps image a) (sym (held_known size w memory old ready number held there pool known))
+        subst (λ (ps : List (ℕ × Puddle)). GrowsBy F held.slot ps image a) (sym (held_known size w memory old ready number held there pool (ap puddles_known known)))
         (subst (λ (m : ℕ). GrowsBy m held.slot pool image a) same by)
 
     growth_there : (fault : Option HostFault) (new : State) → OwesGrowth n fault new → OwesGrowth F fault new
@@ -512,7 +514,7 @@ module _ (size : ℕ) (w : World) (memory : Memory) (held : Held) (old : State) 
         → IsLonger n pool puddles image (reads new.now.words)
     grows_longer puddles mid new grows worlds still scanned =
         subst (λ (m : ℕ). IsLonger m pool puddles image (reads new.now.words)) (sym same)
-        (subst (λ (ps : List (ℕ × Puddle)). IsLonger F ps puddles image (reads new.now.words)) (held_known size w memory old ready number held there pool known)
+        (subst (λ (ps : List (ℕ × Puddle)). IsLonger F ps puddles image (reads new.now.words)) (held_known size w memory old ready number held there pool (ap puddles_known known))
         (subst (λ (s : State). IsLonger F is.at puddles image (reads s.now.words)) (sym still)
         (IsLonger-wide by_world mid (growth_there None mid grows) (worlds_there None mid worlds) puddles
         (subst (λ (m : ℕ). puddles ≡ puddles_in_turn (tables_of m (reads mid.now.words)) held.slot) same scanned))))

@@ -1,7 +1,7 @@
 -- The line that makes an object in a transaction that is held, call by call.
 use Rattle.std.proofs.Common.{◌≡◌, inl, inr, ℕ, ◌<◌, ◌≤◌, true, false, List, set, Option, Some, None, refl, sym, ap, ap₂, subst, ◌∙◌, arith}
 use Rattle.std.proofs.lemmas.Bool.{cases_Bool}
-use Rattle.std.proofs.lemmas.List.{get_or-set_same, set-get_or, set-set}
+use Rattle.std.proofs.lemmas.List.{set-get_or, set-set}
 use Rattle.pm_model.specs.declared.host.HostFault.{HostFault}
 use Rattle.pm_model.specs.declared.host.HostFault.TheVariants.{Cut}
 use Rattle.pm_model.specs.Words.{IsRested, reads}
@@ -16,7 +16,9 @@ use Rattle.pud_defs.specs.Step.{graph_seen, next_in, grows, refusal_of, answer_b
 use Rattle.pud_defs.specs.Step.Answer.{of_reply}
 use Rattle.pud_defs.specs.World.{World, closed, open_on}
 use Rattle.pud_defs.proofs.Steps.{refused_answer}
-use Rattle.ready_daemon.specs.Judged.{known_in}
+use Rattle.known_pool.specs.Known.{Known, by_puddles}
+use Rattle.ready_daemon.specs.Judged.{puddles_known, KnowsAlone}
+use Rattle.ready_daemon.proofs.Known.{pool_kept}
 use Rattle.ready_daemon.specs.Memory.{Held, Memory, held_under, with_held}
 use Rattle.registry.specs.declared.adding.Added.{Added}
 use Rattle.pool_transaction.specs.Changing.{IsHeldIn, with_opened, refusal_by_tables, GrowsBy, refusal_by_world, with_more, with_made}
@@ -32,9 +34,9 @@ use Rattle.pool_transaction.proofs.Leading.{known_so, AppliesTo-then, finishing_
 use Rattle.pool_transaction.proofs.HeldNew.{refused_less, refused_more, answer_new, world_less, world_more, serial_is_some, grown_less, grown_refusal, grown_next}
 
 -- what is known already of a pool may be kept once more
-pub known_same : (number slot : ℕ) (h : Held) (at : List (ℕ × Puddle)) (memory : Memory) → known_in memory.judged slot ≡ Some at → with_opened number slot h at memory ≡ with_held number (Some h) memory
+pub known_same : (number slot : ℕ) (h : Held) (at : List (ℕ × Puddle)) (memory : Memory) → KnowsAlone memory.judged slot at → with_opened number slot h at memory ≡ with_held number (Some h) memory
 known_same number slot h at memory known =
-    ap (λ (js : List (Option (List (ℕ × Puddle)))). record (with_held number (Some h) memory) { judged = js }) (ap (set memory.judged slot) (sym known) ∙ set-get_or memory.judged slot None)
+    ap (λ (js : List (Option Known)). record (with_held number (Some h) memory) { judged = js }) (ap (set memory.judged slot) (sym known) ∙ set-get_or memory.judged slot None)
 
 -- the device has as many frames by another number that is the same
 pub with_frames : {F n : ℕ} {held : Held} {at : List (ℕ × Puddle)} {memory : Memory} → n ≡ F → IsHeldIn n held at memory → IsHeldIn F held at memory
@@ -55,10 +57,10 @@ module _ (size : ℕ) (w : World) (memory : Memory) (held : Held) (old : State) 
   memory_with h at = with_opened number held.slot h at memory
 
   -- which are the same puddles where only it changed
-  pub memory_on : (h : Held) (at : List (ℕ × Puddle)) → known_in memory.judged held.slot ≡ Some at → memory_with h at ≡ with_held number (Some h) memory
+  pub memory_on : (h : Held) (at : List (ℕ × Puddle)) → KnowsAlone memory.judged held.slot at → memory_with h at ≡ with_held number (Some h) memory
   memory_on h at known = known_same number held.slot h at memory known
 
-  same_memory : (at : List (ℕ × Puddle)) → known_in memory.judged held.slot ≡ Some at → memory_with held at ≡ memory
+  same_memory : (at : List (ℕ × Puddle)) → KnowsAlone memory.judged held.slot at → memory_with held at ≡ memory
   same_memory at known = memory_on held at known ∙ held_same memory number held there
 
   -- what the line owes, with such goals
@@ -72,7 +74,7 @@ module _ (size : ℕ) (w : World) (memory : Memory) (held : Held) (old : State) 
       (Applies-stopped size w given memory (memory_with behind at) fault old new ready same (λ cut. absurd (never_cut cut)))
 
   -- it is refused
-  pub new_refused : (finishes : (ℕ → ℕ) → Type 0) (r : Refusal) (at : List (ℕ × Puddle)) (new : State) → known_in memory.judged held.slot ≡ Some at → refusal_of w line ≡ Some r → new ≡ old → AppliesNew finishes held at None new
+  pub new_refused : (finishes : (ℕ → ℕ) → Type 0) (r : Refusal) (at : List (ℕ × Puddle)) (new : State) → KnowsAlone memory.judged held.slot at → refusal_of w line ≡ Some r → new ≡ old → AppliesNew finishes held at None new
   new_refused finishes r at new known refused same =
       finishing_refused held.slot finishes (refusal_of w line) r refused size w given (memory_with held at) None old new
       (subst (λ (m : Memory). Applies size w given m None old new) (sym (same_memory at known)) (Applies-refused size w memory line r old new ready refused same))
@@ -119,11 +121,11 @@ module _ (size : ℕ) (w : World) (memory : Memory) (held : Held) (old : State) 
 
     -- ---- where each slot is live
 
-    module _ (more : grows w held.name ≡ true) (F : ℕ) (frames : F ≡ w.stored.frames) (at : List (ℕ × Puddle)) (known : known_in memory.judged held.slot ≡ Some at) where
+    module _ (more : grows w held.name ≡ true) (F : ℕ) (frames : F ≡ w.stored.frames) (at : List (ℕ × Puddle)) (known : KnowsAlone memory.judged held.slot at) where
       by_tables : refusal_of w line ≡ refusal_by_tables F at (reads old.now.words)
       by_tables =
           refused_more size w memory held old number there ready id none more
-          ∙ (λ p. refusal_by_tables (sym frames p) (held_known size w memory old ready number held there at known p) (reads old.now.words))
+          ∙ (λ p. refusal_by_tables (sym frames p) (held_known size w memory old ready number held there at (ap puddles_known known) p) (reads old.now.words))
 
       pub refused_by_tables : (r : Refusal) → Some r ≡ refusal_by_tables F at (reads old.now.words) → refusal_of w line ≡ Some r
       refused_by_tables r is = by_tables ∙ sym is
@@ -160,7 +162,7 @@ module _ (size : ℕ) (w : World) (memory : Memory) (held : Held) (old : State) 
           held_then = record {
             frames = refl;
             there = ap (held_under (memory_with held pool).held) number_is ∙ held_here memory.held number (Some held) (held_within memory.held number held there);
-            known = get_or-set_same memory.judged held.slot (Some pool) None (known_within memory.judged held.slot at known);
+            known = pool_kept memory.judged held.slot (Some (by_puddles pool)) (known_within memory.judged held.slot at (ap puddles_known known));
           }
 
           less_then : grows grown held.name ≡ false
@@ -169,7 +171,7 @@ module _ (size : ℕ) (w : World) (memory : Memory) (held : Held) (old : State) 
           -- and another in its place, on the puddles as they are then
           instead : (behind : Held) (later : List (ℕ × Puddle)) → with_opened number held.slot behind later (memory_with held pool) ≡ memory_with behind later
           instead behind later =
-              ap₂ (λ (l : List (Option Held)) (js : List (Option (List (ℕ × Puddle)))). record memory { held = l; judged = js }) (set-set memory.held number (Some held) (Some behind)) (set-set memory.judged held.slot (Some pool) (Some later))
+              ap₂ (λ (l : List (Option Held)) (js : List (Option Known)). record memory { held = l; judged = js }) (set-set memory.held number (Some held) (Some behind)) (set-set memory.judged held.slot (Some (by_puddles pool)) (Some (by_puddles later)))
 
           pub new_in_more : (late finishes : (ℕ → ℕ) → Type 0) → ((goal : ℕ → ℕ) → late goal → finishes goal) → (behind : Held) (later : List (ℕ × Puddle)) (fault : Option HostFault) (new : State)
               → (IsReady size grown (memory_with held pool) mid → refusal_by_world grown held id ≡ None → grows grown held.name ≡ false

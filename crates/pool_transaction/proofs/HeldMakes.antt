@@ -23,6 +23,7 @@ use Rattle.pud_defs.specs.World.{Transaction, World, open_on}
 use Rattle.graph_laws.specs.Slots.{AreAllLive}
 use Rattle.hybrid_tx.specs.Grounds.{IsPlaced}
 use Rattle.hybrid_tx.specs.Objects.Transactions.{OpenTx, IsOpenOn, RunsOn, MakesIn}
+use Rattle.ready_daemon.specs.Judged.{KnowsAlone}
 use Rattle.ready_daemon.specs.Memory.{Held, Memory, held_under, with_held}
 use Rattle.ready_daemon.specs.Held.{IsHeld}
 use Rattle.pool_transaction.specs.Changing.{refusal_to_make, refusal_by_world, with_made}
@@ -115,14 +116,14 @@ module _ (size : ℕ) (w : World) (memory : Memory) (held : Held) (old : State) 
       the_object : with_new (blank_object id may.is) ≡ with_new (object_made w id)
       the_object = ap (λ (o : Option ℕ). with_new (blank_object id (unwrap_or o 0))) (sym may.defined)
 
-      pub Applies-made : (done : Result ℕ HostFault)
+      pub Applies-made : KnowsAlone memory.judged held.slot at → (done : Result ℕ HostFault)
           → ((m : ℕ) → map_of id w.stored.types ≡ Some m → is.transaction.now.next_serial < NUMBER_LIMIT
           → OwesRuns size w memory held old number there ready F at same listed tx new gate F at (charged NEW_UNITS (with_new (blank_object id m))) (fault_of done))
           → IfOk done (λ _. tx.units ≡ held.tx.units + NEW_UNITS)
           → Applies size w (with_made held.name id w) (with_held number (Some (with_tx tx held)) memory) (fault_of done) old new
-      Applies-made done runs used =
+      Applies-made known done runs used =
           let left = subst (λ (n : ℕ). n < NUMBER_LIMIT) next_serial may.left in
           let at_first = owed size w memory held old number there ready F at same listed tx new gate (charged NEW_UNITS (with_new (blank_object id may.is))) (fault_of done) (runs may.is may.defined left) in
-          Applies-runs size w memory held old number there ready tx NEW_UNITS (charged NEW_UNITS (with_new (object_made w id))) (Charges-charged NEW_UNITS (with_new (object_made w id))) (fault_of done) new gate
+          Applies-runs size w memory held old number there ready (subst (KnowsAlone memory.judged held.slot) listed known) tx NEW_UNITS (charged NEW_UNITS (with_new (object_made w id))) (Charges-charged NEW_UNITS (with_new (object_made w id))) (fault_of done) new gate
           (used_more done NEW_UNITS tx.units held.tx.units used)
           (subst (λ (change : Graph → Graph). RunsOn w.stored.frames is.at w.stored.types tx.log is.before is.undone (change is.transaction.now) is.transaction.laters (fault_of done) old new) the_object at_first)

@@ -1,6 +1,8 @@
 -- Calls of a transaction that is held: every word that they write is masked, and no other transaction's, so that each image left stands for the world before.
 use Rattle.std.proofs.Common.{◌≡◌, ◌≢◌, inl, inr, ℕ, ◌+◌, ◌<◌, true, false, Option, Some, None, refl, sym, ap, subst, ◌∙◌, arith}
+use Rattle.std.specs.Prelude.{List, set}
 use Rattle.std.proofs.lemmas.Bool.{cases_eq}
+use Rattle.std.proofs.lemmas.List.{set-get_or}
 use Rattle.std.proofs.lemmas.Option.{same_Some}
 use Rattle.pm_model.specs.declared.host.HostFault.{HostFault}
 use Rattle.pm_model.specs.Words.{Has, Cell, values, reads}
@@ -28,6 +30,9 @@ use Rattle.hybrid_tx.proofs.Open.OpenMasks.{open_record_place, mine_behind}
 use Rattle.hybrid_tx.proofs.Open.OpenPools.{open_on_device, placed_by_tables}
 use Rattle.pool_transaction.specs.Changing.{StaysOpen}
 use Rattle.ready_daemon.proofs.RestBeside.{held_graph}
+use Rattle.known_pool.specs.Known.{Known, by_puddles}
+use Rattle.known_pool.proofs.KnownKept.{IsKnown-puddles}
+use Rattle.ready_daemon.specs.Judged.{KnowsAlone}
 use Rattle.ready_daemon.specs.Memory.{Held, Memory, held_under, with_held}
 use Rattle.ready_daemon.specs.Held.{pool_held, open_held, IsHeld, IsHeldUnder, Holds, HasDurableFrames, HasIdleLogs}
 use Rattle.ready_daemon.specs.KnownPools.{KnowsPools}
@@ -192,7 +197,7 @@ module _ (size : ℕ) (w : World) (memory : Memory) (held : Held) (old : State) 
     }
 
   -- the transaction was changed, and used so many units more
-  module _ (tx : OpenTx) (units : ℕ) (change : Transaction → Transaction) (charges : Charges units change) (fault : Option HostFault) (new : State) (at : tx.log.at ≡ held.tx.log.at)
+  module _ (known : KnowsAlone memory.judged held.slot is.at) (tx : OpenTx) (units : ℕ) (change : Transaction → Transaction) (charges : Charges units change) (fault : Option HostFault) (new : State) (at : tx.log.at ≡ held.tx.log.at)
       (used : fault ≡ None → tx.units ≡ held.tx.units + units)
       (runs : RunsOn F is.at w.stored.types tx.log is.before is.undone (change is.transaction).now (change is.transaction).laters fault old new) where
     abbrev next : World
@@ -286,9 +291,10 @@ module _ (size : ℕ) (w : World) (memory : Memory) (held : Held) (old : State) 
     -- all other pools stay
     knows_within : fault ≡ None → KnowsPools F memory.judged ready.held.opens (reads new.now.words)
     knows_within none =
-        KnowsPools-later F memory.judged number (open_held held is.at is.rec is.who is.before) ready.held.opens now (reads new.now.words) under.opened
+        subst (λ (js : List (Option Known)). KnowsPools F js ready.held.opens (reads new.now.words)) (ap (set memory.judged held.slot) (sym known) ∙ set-get_or memory.judged held.slot None)
+        (KnowsPools-later F memory.judged number (open_held held is.at is.rec is.who is.before) ready.held.opens (by_puddles is.at) now (reads new.now.words) under.opened refl
         (KeepsPools-held w held ready.mask old new is (subst (λ (f : Option HostFault). Changes own f old new) none changes_own))
-        (graph_within none) ready.knows
+        (graph_within none) (IsKnown-puddles F is.at (reads new.now.words)) ready.knows)
 
     ready_within : fault ≡ None → IsReady size next (with_held number (Some later) memory) new
     ready_within none = record {

@@ -17,6 +17,7 @@ use Rattle.hybrid_tx.specs.Objects.Transactions.{OpenTx, IsOpenOn, RunsOn}
 use Rattle.pool_transaction.specs.declared.changing.Update.{Update}
 use Rattle.pool_transaction.specs.declared.changing.Update.TheVariants.{Set, Later, Root, Free}
 use Rattle.pool_transaction.specs.Changing.{update_line, changed_by, MayChange}
+use Rattle.ready_daemon.specs.Judged.{KnowsAlone}
 use Rattle.ready_daemon.specs.Memory.{Held, Memory, held_under, with_held}
 use Rattle.ready_daemon.specs.Held.{IsHeld}
 use Rattle.ready_daemon.specs.Ready.{IsReady, Applies}
@@ -73,17 +74,17 @@ module _ (size : ℕ) (w : World) (memory : Memory) (held : Held) (old : State) 
         subst (λ (n : ℕ). OwesRuns n is.at change fault) same (subst (λ (puddles : List (ℕ × Puddle)). OwesRuns F puddles change fault) listed runs) (held_placed size w memory held old number there ready) is.running
 
     -- a call that owes this carries the change out
-    pub Applies-changed : (units : ℕ) (change : Transaction → Transaction) → Charges units change → (done : Result Unit HostFault) → OwesRuns F at change (fault_of done) → OwesUsed F at units done
+    pub Applies-changed : KnowsAlone memory.judged held.slot at → (units : ℕ) (change : Transaction → Transaction) → Charges units change → (done : Result Unit HostFault) → OwesRuns F at change (fault_of done) → OwesUsed F at units done
         → Applies size w (record w { transactions = with_changed held.name change w.transactions }) (with_held number (Some (with_tx tx held)) memory) (fault_of done) old new
-    Applies-changed units change charges done runs used =
-        Applies-runs size w memory held old number there ready tx units change charges (fault_of done) new gate (used_more done units tx.units held.tx.units (told units done used)) (owed change (fault_of done) runs)
+    Applies-changed known units change charges done runs used =
+        Applies-runs size w memory held old number there ready (subst (KnowsAlone memory.judged held.slot) listed known) tx units change charges (fault_of done) new gate (used_more done units tx.units held.tx.units (told units done used)) (owed change (fault_of done) runs)
 
     -- a line that is not refused is carried out by a call that makes its change, where it may be made
-    pub Applies-line : (change : Update) (done : Result Unit HostFault) → refusal_of w (update_line change held.client held.name) ≡ None
+    pub Applies-line : KnowsAlone memory.judged held.slot at → (change : Update) (done : Result Unit HostFault) → refusal_of w (update_line change held.client held.name) ≡ None
         → (MayChange w.stored.types is.transaction change → OwesRuns F at (changed_by change) (fault_of done))
         → OwesUsed F at SET_UNITS done
         → Applies size w (after w (update_line change held.client held.name)) (with_held number (Some (with_tx tx held)) memory) (fault_of done) old new
-    Applies-line change done free runs used =
+    Applies-line known change done free runs used =
         let may = may_change_unrefused w held.client held.name change (stored_in w.stored.frames is.at (reads old.now.words)) is.transaction is.is is.running.is free in
         subst (λ (v : World). Applies size w v (with_held number (Some (with_tx tx held)) memory) (fault_of done) old new) (sym (after_line w held.client held.name change))
-        (Applies-changed SET_UNITS (changed_by change) (Charges-change change) done (runs may) used)
+        (Applies-changed known SET_UNITS (changed_by change) (Charges-change change) done (runs may) used)

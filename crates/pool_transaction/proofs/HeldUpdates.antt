@@ -22,7 +22,7 @@ use Rattle.hybrid_tx.specs.Objects.Transactions.{OpenTx, IsOpenOn, RunsOn}
 use Rattle.pool_transaction.specs.declared.changing.Found.{Found}
 use Rattle.pool_transaction.specs.declared.changing.Update.{Update}
 use Rattle.pool_transaction.specs.Changing.{IsHeldIn, with_opened, update_line, changed_by, MayChange, IsFoundBy, ordinal_written}
-use Rattle.ready_daemon.specs.Judged.{known_in}
+use Rattle.ready_daemon.specs.Judged.{puddles_known, KnowsAlone}
 use Rattle.ready_daemon.specs.Memory.{Held, Memory}
 use Rattle.ready_daemon.specs.Held.{IsHeld}
 use Rattle.ready_daemon.specs.Moves.{led_in}
@@ -33,6 +33,7 @@ use Rattle.pool_transaction.specs.Finishing.{end_of, AppliesTo}
 use Rattle.pool_transaction.proofs.Arriving.{AreEnds}
 use Rattle.pool_transaction.proofs.Leading.{ends_finished}
 use Rattle.pool_transaction.proofs.StepsMoved.{upto}
+use Rattle.known_pool.specs.Known.{by_puddles}
 use Rattle.pool_transaction.proofs.HeldLines.{known_same}
 use Rattle.pool_transaction.proofs.HeldRuns.{with_tx, is_held}
 use Rattle.pool_transaction.proofs.HeldSets.{same_stored, Applies-line}
@@ -69,7 +70,7 @@ module _ (size : ℕ) (w : World) (memory : Memory) (held : Held) (old : State) 
   next = after w (update_line update held.client held.name)
 
   abbrev then : Memory
-  then = record memory { judged = set memory.judged held.slot (Some later) }
+  then = record memory { judged = set memory.judged held.slot (Some (by_puddles later)) }
 
   -- what the call owes that rewrites the puddle of the ordinal
   abbrev pub Finishes : Option HostFault → Type 0
@@ -91,7 +92,7 @@ module _ (size : ℕ) (w : World) (memory : Memory) (held : Held) (old : State) 
     still_ready : IsReady size w then mid
     still_ready = ready_finished size w memory held old held.number its.there ready F on at its.known goal later mid finishes
 
-    known_then : known_in then.judged held.slot ≡ Some later
+    known_then : KnowsAlone then.judged held.slot later
     known_then = known_finished size w memory held old held.number its.there ready F on at its.known goal later mid finishes
 
     rewritten_lent : IsRewrittenAt lent (ordinal_written found)
@@ -108,12 +109,12 @@ module _ (size : ℕ) (w : World) (memory : Memory) (held : Held) (old : State) 
         → IsFoundBy F at (reads old.now.words) update found → CarriesOut F lent found held.tx.log tx.log (fault_of done) mid new → CountsOut F lent held.tx tx done mid
         → AppliesTo (led_in held.slot (end_of (ordinal_written found))) size w next (with_opened held.number held.slot (with_tx tx held) later memory) (fault_of done) old new
     Applies-update tx new gate done free by runs counts =
-        let listed = same ∙ sym (held_known size w then mid still_ready held.number held its.there later known_then) in
+        let listed = same ∙ sym (held_known size w then mid still_ready held.number held its.there later (ap puddles_known known_then)) in
         let one : IsHeld w held still_ready.mask mid.now.words = is_held size w then held mid held.number its.there still_ready in
         subst (λ (n : ℕ). AppliesTo (led_in held.slot (end_of n)) size w next (with_opened held.number held.slot (with_tx tx held) later memory) (fault_of done) old new) is
         (Applies-behind size w memory held old held.number its.there ready F on at its.known goal later (finished_at o at) (end_of o) its_ends mid finishes next
         (with_opened held.number held.slot (with_tx tx held) later memory) (fault_of done) new
-        (same_stored w held.client held.name update) (known_then ∙ ap (λ (ds : List (ℕ × Puddle)). Some ds) finished)
-        (Applies-line size w then held mid held.number its.there still_ready F lent on listed tx new gate update done free
+        (same_stored w held.client held.name update) (ap puddles_known known_then ∙ ap (λ (ds : List (ℕ × Puddle)). Some ds) finished)
+        (Applies-line size w then held mid held.number its.there still_ready F lent on listed tx new gate (subst (KnowsAlone then.judged held.slot) (sym same) known_then) update done free
         (λ may placed running. runs w.stored.types one.before one.undone one.transaction update placed rewritten_lent running may (found_lent by))
         (λ placed running. counts w.stored.types one.before one.undone one.transaction.now one.transaction.laters running)))

@@ -27,3 +27,4 @@ pub mod Ending
 pub mod HeldEnds
 pub mod HeldRefusals
 pub mod ChangeAnswers
+pub mod HeldAlone

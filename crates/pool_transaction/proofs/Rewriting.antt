@@ -1,7 +1,7 @@
 -- Frontiers of a pool move on beside what is held, on the pool itself too: the world stays.
-use Rattle.std.proofs.Common.{◌≡◌, ◌≢◌, inl, inr, ℕ, zero, suc, ◌<◌, List, [], ◌∷◌, Option, Some, None, refl, sym, ap, subst, ◌∙◌, arith}
+use Rattle.std.proofs.Common.{◌≡◌, ◌≢◌, inl, inr, ℕ, zero, suc, ◌<◌, List, Option, Some, None, refl, sym, ap, subst, ◌∙◌, arith}
 use Rattle.std.specs.Prelude.{set}
-use Rattle.std.proofs.lemmas.List.{get_or-set_same, get_or-set_other, set-set}
+use Rattle.std.proofs.lemmas.List.{set-get_or, set-set}
 use Rattle.std.proofs.lemmas.Option.{none-some, same_Some}
 use Rattle.pm_model.specs.declared.host.HostFault.{HostFault}
 use Rattle.pm_model.specs.declared.host.HostFault.TheVariants.{Cut}
@@ -30,7 +30,8 @@ use Rattle.hybrid_tx.specs.Open.Masks.{open_mask}
 use Rattle.hybrid_tx.specs.Open.ManyOpen.{with_transaction}
 use Rattle.hybrid_tx.specs.Objects.Transactions.{RestsAs}
 use Rattle.hybrid_tx.proofs.PoolGrounds.{pool_mine-each}
-use Rattle.ready_daemon.specs.Judged.{known_in}
+use Rattle.known_pool.specs.Known.{Known, with_puddles}
+use Rattle.ready_daemon.specs.Judged.{puddles_known, pool_in, known_in}
 use Rattle.ready_daemon.specs.KnownPools.{KnowsPools}
 use Rattle.ready_daemon.specs.Memory.{Held, Memory, held_under}
 use Rattle.ready_daemon.specs.Held.{pool_held, open_held, IsHeld, KeepsHeld, ByOthers}
@@ -41,7 +42,8 @@ use Rattle.ready_daemon.proofs.Goals.{led_stays, Joins-led}
 use Rattle.ready_daemon.proofs.Beside.{held_is, opens_apart_from, moments_beside, durable_frames_still, Applies-beside}
 use Rattle.ready_daemon.proofs.InTurn.{held_there_known, known_in_turn, held_known}
 use Rattle.ready_daemon.proofs.JudgedKept.{HasGraphIn, KeepsPools}
-use Rattle.ready_daemon.proofs.JudgedOpen.{IsShut, known_within, AreJudged-grown, KnowsPools-grown}
+use Rattle.ready_daemon.proofs.JudgedOpen.{IsShut, known_within, AreJudged-own, KnowsPools-grown}
+use Rattle.ready_daemon.proofs.Known.{pool_kept, known_other}
 use Rattle.ready_daemon.proofs.PoolsBeside.{one_slot, used_still}
 use Rattle.ready_daemon.proofs.RestBeside.{held_graph, rest_beside}
 use Rattle.ready_daemon.proofs.TablesBeside.{types_read, sound_read}
@@ -51,13 +53,11 @@ use Rattle.pool_transaction.proofs.StepsBeside.{IsShutIn, cases_held, known_plac
 use Rattle.pool_transaction.proofs.OwnMore.{OpensAnew}
 use Rattle.pool_transaction.proofs.Arriving.{pool_used}
 use Rattle.pool_transaction.proofs.StepsMoved.{upto, LeavesPuddles-steps}
-use Rattle.pool_transaction.proofs.StepsKept.{listed_then, graph_then, tables_then, sound_then, KeepsPools-steps}
+use Rattle.pool_transaction.proofs.StepsKept.{listed_then, graph_then, known_then, tables_then, sound_then, KeepsPools-steps}
 
 -- what is known anyway is kept again
-set-known : (judged : List (Option (List (ℕ × Puddle)))) (slot : ℕ) (at : List (ℕ × Puddle)) → known_in judged slot ≡ Some at → set judged slot (Some at) ≡ judged
-set-known [] slot at known = absurd (none-some at known)
-set-known (x ∷ judged) zero at known = ap (λ (y : Option (List (ℕ × Puddle))). y ∷ judged) (sym known)
-set-known (x ∷ judged) (suc slot) at known = ap (λ (ys : List (Option (List (ℕ × Puddle)))). x ∷ ys) (set-known judged slot at known)
+set-known : (judged : List (Option Known)) (slot : ℕ) (known : Known) → pool_in judged slot ≡ Some known → set judged slot (Some known) ≡ judged
+set-known judged slot known is = ap (set judged slot) (sym is) ∙ set-get_or judged slot None
 
 -- what is held is so of the same world
 keeps_world : (w : World) (held : List (Option Held)) → KeepsHeld w w held
@@ -65,11 +65,17 @@ keeps_world w held = record { frames = refl; transactions = refl; present = λ n
 
 -- ---- one batch
 
-module _ (size : ℕ) (w : World) (memory : Memory) (slot : ℕ) (at : List (ℕ × Puddle)) (old new : State) (ready : IsReady size w memory old) (known : known_in memory.judged slot ≡ Some at)
-    (goal : ℕ → ℕ) (o m : ℕ) (e : ℕ × Puddle) (next : AreNextSteps at goal o m e) (rec : PoolRec) (low : slot < POOL_RECORDS)
+module _ (size : ℕ) (w : World) (memory : Memory) (slot : ℕ) (kept : Known) (old new : State) (ready : IsReady size w memory old) (is_kept : pool_in memory.judged slot ≡ Some kept)
+    (goal : ℕ → ℕ) (o m : ℕ) (e : ℕ × Puddle) (next : AreNextSteps kept.at goal o m e) (rec : PoolRec) (low : slot < POOL_RECORDS)
     (used : (tables_of w.stored.frames (reads old.now.words)).pools slot ≡ Some rec) where
   abbrev F : ℕ
   F = w.stored.frames
+
+  abbrev at : List (ℕ × Puddle)
+  at = kept.at
+
+  known : known_in memory.judged slot ≡ Some at
+  known = ap puddles_known is_kept
 
   abbrev image : Image
   image = reads old.now.words
@@ -81,7 +87,7 @@ module _ (size : ℕ) (w : World) (memory : Memory) (slot : ℕ) (at : List (ℕ
   with_them = with_steps o m e at
 
   abbrev behind : Memory
-  behind = record memory { judged = set memory.judged slot (Some with_them) }
+  behind = record memory { judged = set memory.judged slot (Some (with_puddles with_them kept)) }
 
   -- where it failed no more is owed
   pub Applies-failed_steps : (fault : HostFault) (then : Memory) → CommitsSteps F at o m e (Some fault) old new → AppliesBy (MovesTo (led_in slot (upto goal))) size w w then (Some fault) old new
@@ -111,21 +117,26 @@ module _ (size : ℕ) (w : World) (memory : Memory) (slot : ℕ) (at : List (ℕ
         Applies-beside size w w memory None old new ready (keeps_world w memory.held) done (MovesTo (led_in slot (upto goal)))
         (LeavesPuddles-steps size w memory slot at old new ready known goal o m e next None c) behind refl refl refl
         (λ _. record {
-          judged = AreJudged-grown F slot memory.judged with_them image now keeps graph_then_is ready.knows.judged;
+          judged = AreJudged-own F slot memory.judged (with_puddles with_them kept) image now keeps graph_then_is
+              (known_then size w memory slot at old new ready known goal o m e next c kept refl (ready.knows.judged.known slot kept is_kept)) ready.knows.judged;
           open_pools = λ number x there.
-              get_or-set_other memory.judged slot x.pool.slot (Some with_them) None (opens_apart_from w memory.held ready.mask old.now.words ready.held slot shut.each number x there)
+              known_other memory.judged slot x.pool.slot (Some (with_puddles with_them kept)) (opens_apart_from w memory.held ready.mask old.now.words ready.held slot shut.each number x there)
               ∙ ready.knows.open_pools number x there;
         })
         (λ _. rest_beside size w memory old ready (Some slot) new (λ number h there same. shut.each number h there (sym (same_Some slot h.slot same))) keeps (done.beside.single refl))
 
 -- ---- one batch, with a transaction held on the pool
 
-module _ (size : ℕ) (w : World) (memory : Memory) (old new : State) (ready : IsReady size w memory old) (number : ℕ) (held : Held) (there : held_under memory.held number ≡ Some held) where
+module _ (size : ℕ) (w : World) (memory : Memory) (old new : State) (ready : IsReady size w memory old) (number : ℕ) (held : Held) (there : held_under memory.held number ≡ Some held) (kept : Known)
+    (is_kept : pool_in memory.judged held.slot ≡ Some kept) where
   abbrev its : IsHeld w held ready.mask old.now.words
   its = held_is w memory.held ready.mask old.now.words ready.held number held there
 
   abbrev known_its : known_in memory.judged held.slot ≡ Some its.at
   known_its = held_there_known size w memory old ready number held there
+
+  same_puddles : kept.at ≡ its.at
+  same_puddles = same_Some kept.at its.at (sym (ap puddles_known is_kept) ∙ known_its)
 
   module _ (goal : ℕ → ℕ) (o m : ℕ) (e : ℕ × Puddle) (next : AreNextSteps its.at goal o m e) (c : CommitsSteps w.stored.frames its.at o m e None old new) where
     abbrev n : ℕ
@@ -192,16 +203,16 @@ module _ (size : ℕ) (w : World) (memory : Memory) (old new : State) (ready : I
         let elsewhere : i ≢ number = λ at_it. none-some x (sym was.none ∙ ap (with_transaction number None ready.held.opens) (sym at_it) ∙ here) in
         elsewhere (ready.held.are.slots i number x it (was.same i elsewhere ∙ here) (ready.held.each number held there).opened same)
 
-    knows_then : KnowsPools n (set memory.judged held.slot (Some stepped_its))
+    knows_then : KnowsPools n (set memory.judged held.slot (Some (with_puddles stepped_its kept)))
         (opens_anew w memory.held ready.mask old new ready.held held number there applied.beside.changes its_opened) (reads new.now.words)
     knows_then =
         KnowsPools-grown n memory.judged number (open_held held its.at its.rec its.who its.before) (open_held held stepped_its its.rec its.who was_before) (with_transaction number None ready.held.opens) ready.held.opens
-        (opens_anew w memory.held ready.mask old new ready.held held number there applied.beside.changes its_opened) (reads old.now.words) (reads new.now.words)
+        (opens_anew w memory.held ready.mask old new ready.held held number there applied.beside.changes its_opened) (with_puddles stepped_its kept) (reads old.now.words) (reads new.now.words)
         (was_one w memory.held ready.mask old new ready.held held number there applied.beside.changes its_opened)
-        (then_one w memory.held ready.mask old new ready.held held number there applied.beside.changes its_opened) refl shut_others keeps_others
-        (graph_then size w memory held.slot its.at old new ready known_its goal o m e next c) ready.knows
+        (then_one w memory.held ready.mask old new ready.held held number there applied.beside.changes its_opened) refl refl shut_others keeps_others
+        (graph_then size w memory held.slot its.at old new ready known_its goal o m e next c) (known_then size w memory held.slot its.at old new ready known_its goal o m e next c kept same_puddles (ready.knows.judged.known held.slot kept is_kept)) ready.knows
 
-    ready_then : IsReady size w (record memory { judged = set memory.judged held.slot (Some stepped_its) }) new
+    ready_then : IsReady size w (record memory { judged = set memory.judged held.slot (Some (with_puddles stepped_its kept)) }) new
     ready_then = record {
       mask = wide w memory.held ready.mask old new ready.held held number there applied.beside.changes its_opened;
       settled = settled_anew w memory.held ready.mask old new ready.held held number there applied.beside.changes its_opened size (closed w) (applied.settled refl);
@@ -217,7 +228,7 @@ module _ (size : ℕ) (w : World) (memory : Memory) (old new : State) (ready : I
       knows = knows_then;
     }
 
-    pub Applies-held : AppliesBy (MovesTo (led_in held.slot (upto goal))) size w w (record memory { judged = set memory.judged held.slot (Some stepped_its) }) None old new
+    pub Applies-held : AppliesBy (MovesTo (led_in held.slot (upto goal))) size w w (record memory { judged = set memory.judged held.slot (Some (with_puddles stepped_its kept)) }) None old new
     Applies-held = record {
       moments = moments_beside size w w memory None old new ready refl applied;
       puddles = LeavesPuddles-steps size w memory held.slot its.at old new ready known_its goal o m e next None c;
@@ -230,9 +241,9 @@ module _ (size : ℕ) (w : World) (memory : Memory) (old new : State) (ready : I
 -- ---- batches in turn
 
 module _ (size : ℕ) (w : World) (slot : ℕ) (low : slot < POOL_RECORDS) (goal : ℕ → ℕ) where
-  -- the memory that knows the pool so
-  abbrev knowing : Memory → List (ℕ × Puddle) → Memory
-  knowing memory at = record memory { judged = set memory.judged slot (Some at) }
+  -- the memory that knows this of the pool
+  abbrev knowing : Memory → Known → Memory
+  knowing memory known = record memory { judged = set memory.judged slot (Some known) }
 
   -- what becomes of the records meanwhile
   abbrev Led : Member → Option Member → Type 0
@@ -246,54 +257,61 @@ module _ (size : ℕ) (w : World) (slot : ℕ) (low : slot < POOL_RECORDS) (goal
       pool_used w.stored.next_number (tables_of w.stored.frames (reads old.now.words)) (sound_read size w memory old ready) slot low e.0 of.member of.below of.used of.pool
 
   -- whichever transaction is held on it, or none
-  Applies-batch : (memory : Memory) (at : List (ℕ × Puddle)) (o m : ℕ) (e : ℕ × Puddle) (old new : State) (ready : IsReady size w memory old) → known_in memory.judged slot ≡ Some at → AreNextSteps at goal o m e
-      → CommitsSteps w.stored.frames at o m e None old new → AppliesBy Led size w w (knowing memory (with_steps o m e at)) None old new
-  Applies-batch memory at o m e old new ready known next c = elim (cases_held size w memory slot at old ready known) [
+  Applies-batch : (memory : Memory) (kept : Known) (o m : ℕ) (e : ℕ × Puddle) (old new : State) (ready : IsReady size w memory old) → pool_in memory.judged slot ≡ Some kept → AreNextSteps kept.at goal o m e
+      → CommitsSteps w.stored.frames kept.at o m e None old new → AppliesBy Led size w w (knowing memory (with_puddles (with_steps o m e kept.at) kept)) None old new
+  Applies-batch memory kept o m e old new ready is_kept next c = elim (cases_held size w memory slot kept.at old ready (ap puddles_known is_kept)) [
     | inr shut ↦
-        let used = used_of memory at o m e old ready known next in
-        Applies-shut size w memory slot at old new ready known goal o m e next used.0 low used.1 c shut
+        let used = used_of memory kept.at o m e old ready (ap puddles_known is_kept) next in
+        Applies-shut size w memory slot kept old new ready is_kept goal o m e next used.0 low used.1 c shut
     | inl on ↦
         let held = on.1 in
         let is = held_is w memory.held ready.mask old.now.words ready.held on.0.number held.mine held.is in
-        let same : at ≡ is.at = sym (held_known size w memory old ready on.0.number held.mine held.is at (ap (known_in memory.judged) held.slot_is ∙ known)) in
-        subst (λ (ps : List (ℕ × Puddle)). AppliesBy Led size w w (record memory { judged = set memory.judged slot (Some (with_steps o m e ps)) }) None old new) (sym same)
-        (subst (λ (i : ℕ). AppliesBy (MovesTo (led_in i (upto goal))) size w w (record memory { judged = set memory.judged i (Some (with_steps o m e is.at)) }) None old new) held.slot_is
-        (Applies-held size w memory old new ready on.0.number held.mine held.is goal o m e
+        let here : pool_in memory.judged held.mine.slot ≡ Some kept = ap (pool_in memory.judged) held.slot_is ∙ is_kept in
+        let same : kept.at ≡ is.at = sym (held_known size w memory old ready on.0.number held.mine held.is kept.at (ap puddles_known here)) in
+        subst (λ (ps : List (ℕ × Puddle)). AppliesBy Led size w w (knowing memory (with_puddles (with_steps o m e ps) kept)) None old new) (sym same)
+        (subst (λ (i : ℕ). AppliesBy (MovesTo (led_in i (upto goal))) size w w (record memory { judged = set memory.judged i (Some (with_puddles (with_steps o m e is.at) kept)) }) None old new) held.slot_is
+        (Applies-held size w memory old new ready on.0.number held.mine held.is kept here goal o m e
         (subst (λ (ps : List (ℕ × Puddle)). AreNextSteps ps goal o m e) same next) (subst (λ (ps : List (ℕ × Puddle)). CommitsSteps w.stored.frames ps o m e None old new) same c)))
   ]
 
-  Applies-once : (memory : Memory) (at later : List (ℕ × Puddle)) (fault : Option HostFault) (old new : State) → IsReady size w memory old → known_in memory.judged slot ≡ Some at
-      → RewritesOnce w.stored.frames goal at later fault old new → AppliesBy Led size w w (knowing memory later) fault old new
-  Applies-once memory at later None old new ready known one = elim one.does [
+  Applies-once : (memory : Memory) (kept : Known) (later : List (ℕ × Puddle)) (fault : Option HostFault) (old new : State) → IsReady size w memory old → pool_in memory.judged slot ≡ Some kept
+      → RewritesOnce w.stored.frames goal kept.at later fault old new → AppliesBy Led size w w (knowing memory (with_puddles later kept)) fault old new
+  Applies-once memory kept later None old new ready is_kept one = elim one.does [
     | inl still ↦ absurd (still.1.0 refl)
-    | inr c ↦ subst (λ (ps : List (ℕ × Puddle)). AppliesBy Led size w w (knowing memory ps) None old new) (sym one.pool) (Applies-batch memory at one.ordinal one.to one.puddle old new ready known one.next c)
-  ]
-  Applies-once memory at later (Some fault) old new ready known one = elim one.does [
-    | inl still ↦ AppliesBy-weaker Stays Led (led_stays slot (upto goal)) size w w (knowing memory later) (Some fault) old new (Applies-stopped size w w memory (knowing memory later) fault old new ready still.0 (λ cut. absurd (still.1.1 cut)))
     | inr c ↦
-        let used = used_of memory at one.ordinal one.to one.puddle old ready known one.next in
-        Applies-failed_steps size w memory slot at old new ready known goal one.ordinal one.to one.puddle one.next used.0 low used.1 fault (knowing memory later) c
+        subst (λ (ps : List (ℕ × Puddle)). AppliesBy Led size w w (knowing memory (with_puddles ps kept)) None old new) (sym one.pool)
+        (Applies-batch memory kept one.ordinal one.to one.puddle old new ready is_kept one.next c)
+  ]
+  Applies-once memory kept later (Some fault) old new ready is_kept one = elim one.does [
+    | inl still ↦
+        AppliesBy-weaker Stays Led (led_stays slot (upto goal)) size w w (knowing memory (with_puddles later kept)) (Some fault) old new
+        (Applies-stopped size w w memory (knowing memory (with_puddles later kept)) fault old new ready still.0 (λ cut. absurd (still.1.1 cut)))
+    | inr c ↦
+        let used = used_of memory kept.at one.ordinal one.to one.puddle old ready (ap puddles_known is_kept) one.next in
+        Applies-failed_steps size w memory slot kept old new ready is_kept goal one.ordinal one.to one.puddle one.next used.0 low used.1 fault (knowing memory (with_puddles later kept)) c
   ]
 
-  Applies-turns : (batches : ℕ) (memory : Memory) (at later : List (ℕ × Puddle)) (fault : Option HostFault) (old new : State) → IsReady size w memory old → known_in memory.judged slot ≡ Some at
-      → RewritesInTurn w.stored.frames goal batches at later fault old new → AppliesBy Led size w w (knowing memory later) fault old new
-  Applies-turns zero memory at later fault old new ready known turns =
-      let same : memory.judged ≡ set memory.judged slot (Some later) = sym (set-known memory.judged slot later (known ∙ ap (λ (ps : List (ℕ × Puddle)). Some ps) (sym turns.0))) in
-      Applies-known size w w memory fault old new memory.judged (set memory.judged slot (Some later)) same
+  Applies-turns : (batches : ℕ) (memory : Memory) (kept : Known) (later : List (ℕ × Puddle)) (fault : Option HostFault) (old new : State) → IsReady size w memory old → pool_in memory.judged slot ≡ Some kept
+      → RewritesInTurn w.stored.frames goal batches kept.at later fault old new → AppliesBy Led size w w (knowing memory (with_puddles later kept)) fault old new
+  Applies-turns zero memory kept later fault old new ready is_kept turns =
+      let same : memory.judged ≡ set memory.judged slot (Some (with_puddles later kept)) =
+      sym (set-known memory.judged slot (with_puddles later kept) (is_kept ∙ ap (λ (ps : List (ℕ × Puddle)). Some (with_puddles ps kept)) (sym turns.0))) in
+      Applies-known size w w memory fault old new memory.judged (set memory.judged slot (Some (with_puddles later kept))) same
       (AppliesBy-weaker Stays Led (led_stays slot (upto goal)) size w w memory fault old new
       (Applies-still size w memory fault old new ready turns.1.1 (λ cut. absurd (let no : None ≡ Some Cut = sym turns.1.0 ∙ cut in cc))))
-  Applies-turns (suc batches) memory at later fault old new ready known turns =
+  Applies-turns (suc batches) memory kept later fault old new ready is_kept turns =
       let mid = turns.0 in
       let between = turns.1.0 in
-      let first = Applies-turns batches memory at between None old mid ready known turns.1.1.0 in
-      let then = knowing memory between in
-      let now : known_in then.judged slot ≡ Some between = get_or-set_same memory.judged slot (Some between) None (known_within memory.judged slot at known) in
-      AppliesBy-then Led Led Led (Joins-led slot (upto goal)) size w w w then (knowing memory later) fault old mid new refl refl first
-      (Applies-known size w w memory fault mid new (set (set memory.judged slot (Some between)) slot (Some later)) (set memory.judged slot (Some later)) (set-set memory.judged slot (Some between) (Some later))
-      (Applies-once then between later fault mid new (first.ready refl) now turns.1.1.1))
+      let first = Applies-turns batches memory kept between None old mid ready is_kept turns.1.1.0 in
+      let then = knowing memory (with_puddles between kept) in
+      let now : pool_in then.judged slot ≡ Some (with_puddles between kept) = pool_kept memory.judged slot (Some (with_puddles between kept)) (known_within memory.judged slot kept.at (ap puddles_known is_kept)) in
+      AppliesBy-then Led Led Led (Joins-led slot (upto goal)) size w w w then (knowing memory (with_puddles later kept)) fault old mid new refl refl first
+      (Applies-known size w w memory fault mid new (set (set memory.judged slot (Some (with_puddles between kept))) slot (Some (with_puddles later kept))) (set memory.judged slot (Some (with_puddles later kept)))
+      (set-set memory.judged slot (Some (with_puddles between kept)) (Some (with_puddles later kept)))
+      (Applies-once then (with_puddles between kept) later fault mid new (first.ready refl) now turns.1.1.1))
 
--- the daemon is ready behind the batches, and knows the pool by what they made of its puddles
-pub Applies-rewrites : (size : ℕ) (w : World) (memory : Memory) (slot : ℕ) (at later : List (ℕ × Puddle)) (goal : ℕ → ℕ) (fault : Option HostFault) (old new : State)
-    → IsReady size w memory old → slot < POOL_RECORDS → known_in memory.judged slot ≡ Some at → Rewrites w.stored.frames goal at later fault old new
-    → AppliesBy (MovesTo (led_in slot (upto goal))) size w w (record memory { judged = set memory.judged slot (Some later) }) fault old new
-Applies-rewrites size w memory slot at later goal fault old new ready low known r = Applies-turns size w slot low goal r.batches memory at later fault old new ready known r.in_turn
+-- the daemon is ready behind the batches, and what it knows of the pool is so, by what they made of its puddles
+pub Applies-rewrites : (size : ℕ) (w : World) (memory : Memory) (slot : ℕ) (kept : Known) (later : List (ℕ × Puddle)) (goal : ℕ → ℕ) (fault : Option HostFault) (old new : State)
+    → IsReady size w memory old → slot < POOL_RECORDS → pool_in memory.judged slot ≡ Some kept → Rewrites w.stored.frames goal kept.at later fault old new
+    → AppliesBy (MovesTo (led_in slot (upto goal))) size w w (record memory { judged = set memory.judged slot (Some (with_puddles later kept)) }) fault old new
+Applies-rewrites size w memory slot kept later goal fault old new ready low is_kept r = Applies-turns size w slot low goal r.batches memory kept later fault old new ready is_kept r.in_turn

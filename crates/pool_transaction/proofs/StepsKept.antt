@@ -10,6 +10,7 @@ use Rattle.pud_defs.specs.declared.records.Puddle.{Puddle}
 use Rattle.pud_defs.specs.Geometry.{steps_of, is_legal_frontier}
 use Rattle.pud_defs.specs.Image.{Image}
 use Rattle.pud_defs.specs.Frames.{frame_at}
+use Rattle.pud_defs.specs.Stored.{stored_in}
 use Rattle.pud_defs.specs.Graph.{graph_of}
 use Rattle.pud_defs.specs.Layout.{tables_end}
 use Rattle.pud_defs.specs.Puddles.{Member, member_moved, moved_to, frontier_word}
@@ -32,6 +33,10 @@ use Rattle.lazy_rewrite.proofs.Turns.{by_batch}
 use Rattle.hybrid_tx.specs.Grounds.{pool_mine}
 use Rattle.hybrid_tx.proofs.PoolGrounds.{pool_mine-from}
 use Rattle.ready_daemon.specs.Memory.{Memory}
+use Rattle.known_pool.specs.Known.{Known, IsKnown, with_puddles}
+use Rattle.known_pool.proofs.KnownKept.{KeepsSerials, IsKnown-kept}
+use Rattle.lazy_rewrite.proofs.Gathered.{frame_below}
+use Rattle.lazy_rewrite.proofs.Spared.{batch_spares}
 use Rattle.ready_daemon.specs.Judged.{known_in}
 use Rattle.ready_daemon.specs.Ready.{IsReady}
 use Rattle.ready_daemon.proofs.Beneath.{ready_gate}
@@ -104,6 +109,16 @@ module _ (size : ℕ) (w : World) (memory : Memory) (slot : ℕ) (at : List (ℕ
   -- the pool has its graph
   pub graph_then : HasGraphIn F slot now with_them
   graph_then = record { graph = (known_graph size w memory slot at old ready known).graph; turn = behind.turn; stored = behind.graph }
+
+  -- and what is known of it is so, by the puddles as they are then
+  pub known_then : (kept : Known) → kept.at ≡ at → IsKnown F image kept → IsKnown F now (with_puddles with_them kept)
+  known_then kept same is =
+      let placed = known_placed size w memory slot at old ready known in
+      let spares = batch_spares F at goal o m e old new next c (record { distinct = placed.frames; below = λ i d here. frame_below F at i d placed.on_device here }) in
+      IsKnown-kept F kept with_them image now (known_graph size w memory slot at old ready known).graph
+      (subst (λ (ps : List (ℕ × Puddle)). graph_of (types_of image) (stored_in F ps image) ≡ Some (known_graph size w memory slot at old ready known).graph) (sym same) (known_graph size w memory slot at old ready known).stored)
+      behind.graph
+      (subst (λ (ps : List (ℕ × Puddle)). KeepsSerials F ps with_them image now) (sym same) (record { count = spares.moved.count; each = spares.serials })) is
 
   -- one frontier is another in the tables
   pub tables_then : tables_of F now ≡ with_frontier_at e.0 m t

@@ -34,20 +34,31 @@ use Rattle.pool_transaction.specs.declared.changing.Update.{Update}
 use Rattle.pool_transaction.specs.declared.changing.Update.TheVariants.{Set, Later, Root, Free}
 use Rattle.pool_transaction.specs.declared.changing.Found.{Found}
 use Rattle.pool_transaction.specs.declared.changing.Found.TheVariants as founds
-use Rattle.ready_daemon.specs.Judged.{known_in}
+use Rattle.known_pool.specs.Known.{Known, by_puddles}
+use Rattle.ready_daemon.specs.Judged.{pool_in, KnowsAlone}
 use Rattle.ready_daemon.specs.Memory.{Held, Memory, held_under}
 
 -- ---- where it is held
 
--- The memory of a device of so many frames holds the transaction under its number, and knows its pool by these puddles.
+-- The memory of a device of so many frames holds the transaction under its number, and knows its pool by these puddles alone.
 pub record IsHeldIn (F : ℕ) (held : Held) (at : List (ℕ × Puddle)) (memory : Memory) : Type 0 where
   pub frames : memory.frames ≡ F
   pub there : held_under memory.held held.number ≡ Some held
-  pub known : known_in memory.judged held.slot ≡ Some at
+  pub known : KnowsAlone memory.judged held.slot at
 
--- the memory that holds this one under the number, and knows the pool in the slot by these puddles
+-- The memory holds it so, and this is known of its pool.
+pub record IsHeldOn (F : ℕ) (held : Held) (kept : Known) (memory : Memory) : Type 0 where
+  pub frames : memory.frames ≡ F
+  pub there : held_under memory.held held.number ≡ Some held
+  pub known : pool_in memory.judged held.slot ≡ Some kept
+
+-- the memory that holds this one under the number, and knows this of the pool in the slot
+abbrev pub with_known : (number slot : ℕ) → Held → Known → Memory → Memory
+with_known number slot held known memory = record memory { held = set memory.held number (Some held); judged = set memory.judged slot (Some known) }
+
+-- the memory that holds this one under the number, and knows the pool in the slot by these puddles alone
 abbrev pub with_opened : (number slot : ℕ) → Held → List (ℕ × Puddle) → Memory → Memory
-with_opened number slot held at memory = record memory { held = set memory.held number (Some held); judged = set memory.judged slot (Some at) }
+with_opened number slot held at memory = with_known number slot held (by_puddles at) memory
 
 -- ---- a line of three units
 

@@ -5,7 +5,7 @@ use Rattle.pud_defs.specs.Image.{Image}
 use Rattle.log_space.specs.FreeLogs.{first_closed}
 use Rattle.nesting.specs.Sessions.{session_in, entered}
 use Rattle.ready_daemon.specs.Beginning.{MayBegin}
-use Rattle.ready_daemon.specs.Judged.{known_in}
+use Rattle.ready_daemon.specs.Judged.{known_in, alone_in}
 use Rattle.ready_daemon.specs.Memory.{Held, Memory}
 
 -- The client may begin a transaction on the pool of the name, whose record has this slot, and which is known and has no session: in the log of this
@@ -22,6 +22,7 @@ pub record MayBeginIn (memory : Memory) (image : Image) (client : ℕ) (name : L
 abbrev pub with_begun : Held → Memory → Memory
 with_begun held memory = record memory { held = set memory.held held.number (Some held); sessions = entered held.client held.slot held.number memory.sessions }
 
--- the memory in which this one, which was held under the number, has ended: it is held no more, and its session has ended
+-- the memory in which this one, which was held under the number, has ended: it is held no more, its session has ended, and of its pool the puddles alone
+-- are known
 abbrev pub with_ended : (number : ℕ) → Held → Memory → Memory
-with_ended number held memory = record memory { held = set memory.held number None; sessions = set memory.sessions held.slot None }
+with_ended number held memory = record memory { held = set memory.held number None; sessions = set memory.sessions held.slot None; judged = alone_in held.slot memory.judged }

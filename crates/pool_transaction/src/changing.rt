@@ -30,13 +30,14 @@ ghost use Rattle.ready_daemon.specs.Memory.{Memory};
 ghost use Rattle.ready_daemon.specs.Held.{IsHeldWithin};
 ghost use Rattle.registry.specs.Adding.{IsAddedWithin};
 ghost use Rattle.registry.specs.Places.{refusal_in};
-ghost use Rattle.pool_transaction.specs.Changing.{IsHeldIn, with_opened, line_of, update_line, changed_by, IsLegalChange, IsLegalUpdate, ordinal_written, IsFoundWithin, IsFoundBy, MayChange, StaysOpen, refusal_to_make, refusal_by_tables, GrowsBy, refusal_by_world, with_more, with_made, both_finished, MakesBehind};
+ghost use Rattle.pool_transaction.specs.Changing.{IsHeldIn, IsHeldOn, with_opened, with_known, line_of, update_line, changed_by, IsLegalChange, IsLegalUpdate, ordinal_written, IsFoundWithin, IsFoundBy, MayChange, StaysOpen, refusal_to_make, refusal_by_tables, GrowsBy, refusal_by_world, with_more, with_made, both_finished, MakesBehind};
 ghost use Rattle.pool_transaction.specs.Finishing.{end_of, FinishesFor, FinishesLowest, FinishesTaken, Finishes, FinishesUnless, IsLonger, AppliesTo, AppliesFinishing};
 ghost use Rattle.ready_daemon.specs.Moves.{led_in};
 ghost use Rattle.ready_daemon.specs.Ready.{KeepsRest, IsReady, Applies};
 
 use crate::opened::Opened;
 use hybrid_tx::Tx;
+use known_pool::KnownPool;
 use lazy_rewrite::finish;
 use object_alloc::{AllocFault, alloc_slot};
 use pm_model::{Host, HostFault};
@@ -455,13 +456,13 @@ impl Opened {
         self.make_in_more(h, frames, pool, t)
     }
 
-    /// Makes the change in the transaction, on the pool of which these puddles are known, or refuses to, as its line of the transaction's client does.
-    /// A refused one changes nothing.
+    /// Makes the change in the transaction, on the pool of which these puddles are known alone, or refuses to, as its line of the transaction's client
+    /// does. A refused one changes nothing.
     ///
     /// The device has so many frames. A puddle that is written is rewritten to its end first, by four fences for each batch of its steps that are left. An
     /// update takes at most two fences, and so does an object; where each slot is live the pool grows by a puddle first, which takes those of a batch and
     /// of a fresh frame; the puddle is then known.
-    pub fn change<H: Host>(
+    fn change_on<H: Host>(
         &mut self,
         h: &mut H,
         frames: u32,
@@ -489,5 +490,39 @@ impl Opened {
             Change::New { t } => self.new_object(h, frames, pool, t),
             Change::Update(update) => self.update_or_refuse(h, frames, pool, update),
         }
+    }
+
+    /// Makes the change in the transaction, on the pool of which this is known, or refuses to, as its line of the transaction's client does. A refused
+    /// one changes nothing but what is kept of the pool: of that the puddles alone are left.
+    ///
+    /// The device has so many frames. A puddle that is written is rewritten to its end first, by four fences for each batch of its steps that are left. An
+    /// update takes at most two fences, and so does an object; where each slot is live the pool grows by a puddle first, which takes those of a batch and
+    /// of a fresh frame; the puddle is then known.
+    pub fn change<H: Host>(
+        &mut self,
+        h: &mut H,
+        frames: u32,
+        pool: &mut KnownPool,
+        change: Change,
+    ) -> Result<Reply, HostFault>
+        requires few { frames ≤ MAX_FRAMES }
+        requires room { device_words frames ≤ (H.counts h.old).size }
+        requires within { IsHeldWithin frames self.old }
+        requires known { IsOnDevice frames pool.old.at }
+        requires legal { IsLegalChange change }
+        ensures reply { H.tells → (size : ℕ) → size ≡ (H.counts h.old).size → (w : World) → (memory : Memory) → IsHeldOn frames self.old pool.old memory → IsReady size w memory (H.state h.old)
+            → IfOk result (λ reply. of_reply reply ≡ answer_by w (Option.Some (line_of change (self.old).client (self.old).name))) }
+        ensures applies { H.tells → (size : ℕ) → size ≡ (H.counts h.old).size → (w : World) → (memory : Memory) → IsHeldOn frames self.old pool.old memory → IsReady size w memory (H.state h.old)
+            → AppliesFinishing (self.old).slot (FinishesUnless (refusal_of w (line_of change (self.old).client (self.old).name)) (Finishes frames pool.old.at (reads (H.state h.old).now.words) change)) size w (world_by w (Option.Some (line_of change (self.old).client (self.old).name))) (with_known (self.old).number (self.old).slot self.new pool.new memory) (fault_of result)
+            (H.state h.old) (H.state h.new) }
+        ensures within { IsHeldWithin frames self.new }
+        ensures known { IsOnDevice frames pool.new.at }
+        ensures stays { StaysOpen self.old self.new }
+        ensures rest { H.tells → KeepsRest (H.state h.old) (H.state h.new) }
+        ensures rests { H.tells → fault_of result ≡ Option.Some HostFault.Cut → IsRested (H.state h.new).now.words }
+        ensures cause { H.counts h.new ≡ after_fault (fault_of result) (H.counts h.old) }
+    {
+        pool.forget();
+        self.change_on(h, frames, &mut pool.puddles, change)
     }
 }

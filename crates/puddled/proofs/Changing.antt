@@ -1,5 +1,5 @@
 -- A change is made in the client's own transaction, on the pool that is known in the slot of its session.
-use Rattle.std.proofs.Common.{◌≡◌, ℕ, ◌<◌, List, length, Option, Some, None, set, sym, ap, ap₂, subst, ◌∙◌, refl}
+use Rattle.std.proofs.Common.{◌≡◌, ℕ, ◌<◌, List, length, Option, Some, None, option_map, set, sym, ap, ap₂, subst, ◌∙◌, refl}
 use Rattle.std.specs.Prelude.{slice_index_or}
 use Rattle.std.proofs.lemmas.List.{get_or_default}
 use Rattle.std.proofs.lemmas.Option.{none-some, same_Some}
@@ -11,13 +11,15 @@ use Rattle.pud_defs.specs.declared.records.Puddle.{Puddle}
 use Rattle.pud_defs.specs.declared.machine.Command.TheVariants.{Commit}
 use Rattle.pud_defs.specs.declared.machine.Refusal.{Refusal}
 use Rattle.pud_defs.specs.Step.{refusal_of, world_by}
+use Rattle.pud_defs.specs.Stored.{IsOnDevice}
 use Rattle.pud_defs.specs.Tables.{tables_of, puddles_in_turn}
 use Rattle.pud_defs.specs.World.{World}
 use Rattle.nesting.specs.declared.Session.{Session}
 use Rattle.pool_transaction.specs.declared.changing.Change.{Change}
 use Rattle.pool_transaction.specs.declared.changing.Change.TheVariants as changes
-use Rattle.pool_transaction.specs.Changing.{IsHeldIn, with_opened, line_of}
-use Rattle.ready_daemon.specs.Judged.{known_in}
+use Rattle.pool_transaction.specs.Changing.{IsHeldOn, with_known, line_of}
+use Rattle.known_pool.specs.Known.{Known}
+use Rattle.ready_daemon.specs.Judged.{puddles_known, pool_in, known_in, AreOnDevice}
 use Rattle.ready_daemon.specs.Memory.{Held, Memory, held_under}
 use Rattle.ready_daemon.specs.Holding.{IsOwnOn}
 use Rattle.ready_daemon.specs.Owning.{IsSlotOf}
@@ -32,19 +34,26 @@ use Rattle.pool_transaction.proofs.TransactionRefusals.{refused_change, refused_
 use Rattle.ready_daemon.proofs.InTurn.{held_there_known}
 
 -- what was read in a slot of the list is what is known there
-pub known_there : (judged : List (Option (List (ℕ × Puddle)))) (slot : ℕ) (read any : Option (List (ℕ × Puddle))) → slot < length judged → read ≡ slice_index_or judged slot any → known_in judged slot ≡ read
+pub known_there : (judged : List (Option Known)) (slot : ℕ) (read any : Option Known) → slot < length judged → read ≡ slice_index_or judged slot any → pool_in judged slot ≡ read
 known_there judged slot read any within is = get_or_default judged slot None any within ∙ sym is
 
-module _ (size : ℕ) (w : World) (F : ℕ) (all : List (Option Held)) (sessions : List (Option Session)) (judged : List (Option (List (ℕ × Puddle)))) (s : State)
+-- and what is known lies in frames of the device
+pub on_device_there : (F : ℕ) (judged : List (Option Known)) (slot : ℕ) (known : Known) → AreOnDevice F judged → pool_in judged slot ≡ Some known → IsOnDevice F known.at
+on_device_there F judged slot known all is = all.each slot known.at (ap puddles_known is)
+
+module _ (size : ℕ) (w : World) (F : ℕ) (all : List (Option Held)) (sessions : List (Option Session)) (judged : List (Option Known)) (s : State)
     (ready : IsReady size w (record { frames = F; held = all; sessions = sessions; judged = judged }) s) (client : ℕ) (name : List ℕ) (slot number : ℕ) (own : IsOwnOn client name slot number all) where
   abbrev memory : Memory
   memory = record { frames = F; held = all; sessions = sessions; judged = judged }
 
   -- its pool is known
-  pub is_known : known_in judged slot ≡ None → ⊥
-  is_known none = none-some _ (sym none ∙ ap (known_in judged) (sym own.slot_is) ∙ held_there_known size w memory s ready number own.own.mine own.own.is)
+  pub is_known : pool_in judged slot ≡ None → ⊥
+  is_known none = none-some _ (sym (ap (option_map (λ (k : Known). k.at)) none) ∙ ap (known_in judged) (sym own.slot_is) ∙ held_there_known size w memory s ready number own.own.mine own.own.is)
 
-  module _ (mine : Held) (there : held_under all number ≡ Some mine) (at : List (ℕ × Puddle)) (known : known_in judged slot ≡ Some at) where
+  module _ (mine : Held) (there : held_under all number ≡ Some mine) (pool_is : Known) (known : pool_in judged slot ≡ Some pool_is) where
+    abbrev at : List (ℕ × Puddle)
+    at = pool_is.at
+
     same : mine ≡ own.own.mine
     same = same_Some mine own.own.mine (sym there ∙ own.own.is)
 
@@ -54,8 +63,8 @@ module _ (size : ℕ) (w : World) (F : ℕ) (all : List (Option Held)) (sessions
     number_is : mine.number ≡ number
     number_is = (ready.held.each number mine there).number_is
 
-    pub held_in : IsHeldIn F mine at memory
-    held_in = record { frames = refl; there = ap (held_under all) number_is ∙ there; known = ap (known_in judged) slot_is ∙ known }
+    pub held_in : IsHeldOn F mine pool_is memory
+    held_in = record { frames = refl; there = ap (held_under all) number_is ∙ there; known = ap (pool_in judged) slot_is ∙ known }
 
     -- it is asked for by the client's line
     pub asked : (change : Change) → line_of change mine.client mine.name ≡ line_of change client name
@@ -71,21 +80,21 @@ module _ (size : ℕ) (w : World) (F : ℕ) (all : List (Option Held)) (sessions
           name_is = is.name ∙ own.own.pool;
         }
 
-    pub Applies-changed : (change : Change) (now : Held) (pool : List (ℕ × Puddle)) (fault : Option HostFault) (new : State)
+    pub Applies-changed : (change : Change) (now : Held) (pool : Known) (fault : Option HostFault) (new : State)
         → AppliesFinishing mine.slot (FinishesUnless (refusal_of w (line_of change mine.client mine.name)) (Finishes F at (reads s.now.words) change)) size w (world_by w (Some (line_of change mine.client mine.name)))
-        (with_opened mine.number mine.slot now pool memory) fault s new
+        (with_known mine.number mine.slot now pool memory) fault s new
         → AppliesAs size w (world_by w (Some (line_of change client name))) (Some (line_of change client name)) (record { frames = F; held = set all number (Some now); sessions = sessions; judged = set judged slot (Some pool) }) fault s new
     Applies-changed change now pool fault new applies =
         let line = line_of change mine.client mine.name in
         let finishes : (ℕ → ℕ) → Type 0 = Finishes w.stored.frames (puddles_in_turn (tables_of w.stored.frames (reads s.now.words)) slot) (reads s.now.words) change in
-        AppliesAs-change size w (world_by w (Some (line_of change client name))) client name change (with_opened number slot now pool memory) fault s new slot at_slot
-        (subst (λ (c : Command). AppliesFinishing slot (FinishesUnless (refusal_of w c) finishes) size w (world_by w (Some c)) (with_opened number slot now pool memory) fault s new) (asked change)
-        (subst (λ (i : ℕ). AppliesFinishing i (FinishesUnless (refusal_of w line) finishes) size w (world_by w (Some line)) (with_opened number i now pool memory) fault s new) slot_is
-        (subst (λ (n : ℕ). AppliesFinishing mine.slot (FinishesUnless (refusal_of w line) finishes) size w (world_by w (Some line)) (with_opened n mine.slot now pool memory) fault s new) number_is
+        AppliesAs-change size w (world_by w (Some (line_of change client name))) client name change (with_known number slot now pool memory) fault s new slot at_slot
+        (subst (λ (c : Command). AppliesFinishing slot (FinishesUnless (refusal_of w c) finishes) size w (world_by w (Some c)) (with_known number slot now pool memory) fault s new) (asked change)
+        (subst (λ (i : ℕ). AppliesFinishing i (FinishesUnless (refusal_of w line) finishes) size w (world_by w (Some line)) (with_known number i now pool memory) fault s new) slot_is
+        (subst (λ (n : ℕ). AppliesFinishing mine.slot (FinishesUnless (refusal_of w line) finishes) size w (world_by w (Some line)) (with_known n mine.slot now pool memory) fault s new) number_is
         (subst (λ (ps : List (ℕ × Puddle)). AppliesFinishing mine.slot (FinishesUnless (refusal_of w line) (Finishes w.stored.frames ps (reads s.now.words) change)) size w (world_by w (Some line))
-        (with_opened mine.number mine.slot now pool memory) fault s new) (sym (known_in_turn size w memory s ready slot at known))
+        (with_known mine.number mine.slot now pool memory) fault s new) (sym (known_in_turn size w memory s ready slot at (ap (option_map (λ (k : Known). k.at)) known)))
         (subst (λ (n : ℕ). AppliesFinishing mine.slot (FinishesUnless (refusal_of w line) (Finishes n at (reads s.now.words) change)) size w (world_by w (Some line))
-        (with_opened mine.number mine.slot now pool memory) fault s new) ready.frames applies)))))
+        (with_known mine.number mine.slot now pool memory) fault s new) ready.frames applies)))))
 
 -- where a line on the client's own is refused before what it asks is looked at, so is the line of each change
 pub refused_line : (w : World) (client : ℕ) (name : List ℕ) (r : Refusal) → refusal_of w (Commit client name) ≡ Some r → (change : Change) → refusal_of w (line_of change client name) ≡ Some r

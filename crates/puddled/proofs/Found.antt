@@ -40,6 +40,7 @@ use Rattle.nesting.specs.Sessions.{client_in, session_in, session_depth, IsSessi
 use Rattle.ready_daemon.specs.Memory.{Memory}
 use Rattle.ready_daemon.specs.Held.{IsHeld}
 use Rattle.ready_daemon.specs.Holding.{IsOwnOn}
+use Rattle.known_pool.specs.Known.{Known}
 use Rattle.ready_daemon.specs.Judged.{known_in, AreJudged, puddles_with_graph}
 use Rattle.ready_daemon.specs.Owning.{refusal_found, IsSlotOf}
 use Rattle.ready_daemon.specs.Beginning.{MayBegin}
@@ -439,7 +440,7 @@ no_number (Some number) none = absurd (let no : true ≡ false = none in cc)
 -- ---- more is known of pools
 
 -- by a call that judges one, and forgets none
-pub judged_more : (size : ℕ) (w : World) (memory : Memory) (judged : List (Option (List (ℕ × Puddle)))) (old : State) → IsReady size w memory old → AreJudged memory.frames judged (reads old.now.words)
+pub judged_more : (size : ℕ) (w : World) (memory : Memory) (judged : List (Option Known)) (old : State) → IsReady size w memory old → AreJudged memory.frames judged (reads old.now.words)
     → ((i : ℕ) (at : List (ℕ × Puddle)) → known_in memory.judged i ≡ Some at → known_in judged i ≡ Some at) → IsReady size w (record memory { judged = judged }) old
 judged_more size w memory judged old ready right kept =
     IsReady-beside size w memory (record memory { judged = judged }) old refl refl refl ready

@@ -12,26 +12,26 @@ use Rattle.nesting.specs.Sessions.{depth_in}
 use Rattle.pool_transaction.specs.Lifetime.{with_ended}
 use Rattle.pool_transaction.proofs.HeldEnds.{Applies-unheld}
 use Rattle.ready_daemon.specs.Holding.{IsOwnOn}
-use Rattle.ready_daemon.specs.Leaving.{sessions_behind, world_without_log}
+use Rattle.ready_daemon.specs.Leaving.{sessions_behind, judged_behind, world_without_log}
 use Rattle.ready_daemon.specs.Memory.{Held, Memory, held_under}
 use Rattle.ready_daemon.specs.Ready.{IsReady, Applies}
 
--- The memory is the other, in which what was held under the number is held no more and has no session.
+-- The memory is the other, in which what was held under the number is held no more and has no session, and of its pool the puddles alone are known.
 pub record IsReleased (number : ℕ) (memory behind : Memory) : Type 0 where
   pub held : behind.held ≡ set memory.held number None
   pub sessions : behind.sessions ≡ sessions_behind (held_under memory.held number) memory.sessions
-  pub judged : behind.judged ≡ memory.judged
+  pub judged : behind.judged ≡ judged_behind (held_under memory.held number) memory.judged
   pub frames : behind.frames ≡ memory.frames
 
 module _ (number : ℕ) (memory behind : Memory) (released : IsReleased number memory behind) where
   -- so it is known by what was held
-  behind_is : (o : Option Held) → held_under memory.held number ≡ o → record memory { held = set memory.held number None; sessions = sessions_behind o memory.sessions } ≡ behind
+  behind_is : (o : Option Held) → held_under memory.held number ≡ o → record memory { held = set memory.held number None; sessions = sessions_behind o memory.sessions; judged = judged_behind o memory.judged } ≡ behind
   behind_is o there =
-      ap (λ (f : ℕ). record { frames = f; held = set memory.held number None; sessions = sessions_behind o memory.sessions; judged = memory.judged }) (sym released.frames)
-      ∙ ap (λ (l : List (Option Held)). record { frames = behind.frames; held = l; sessions = sessions_behind o memory.sessions; judged = memory.judged }) (sym released.held)
-      ∙ ap (λ (l : List (Option Session)). record { frames = behind.frames; held = behind.held; sessions = l; judged = memory.judged })
+      ap (λ (f : ℕ). record { frames = f; held = set memory.held number None; sessions = sessions_behind o memory.sessions; judged = judged_behind o memory.judged }) (sym released.frames)
+      ∙ ap (λ (l : List (Option Held)). record { frames = behind.frames; held = l; sessions = sessions_behind o memory.sessions; judged = judged_behind o memory.judged }) (sym released.held)
+      ∙ ap (λ (l : List (Option Session)). record { frames = behind.frames; held = behind.held; sessions = l; judged = judged_behind o memory.judged })
       (ap (λ (x : Option Held). sessions_behind x memory.sessions) (sym there) ∙ sym released.sessions)
-      ∙ ap (λ js. record { frames = behind.frames; held = behind.held; sessions = behind.sessions; judged = js }) (sym released.judged)
+      ∙ ap (λ js. record { frames = behind.frames; held = behind.held; sessions = behind.sessions; judged = js }) (ap (λ (x : Option Held). judged_behind x memory.judged) (sym there) ∙ sym released.judged)
 
   module _ (size : ℕ) (w : World) (fault : Option HostFault) (old new : State) where
     -- a transaction that was held has ended

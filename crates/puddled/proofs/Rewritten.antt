@@ -1,8 +1,6 @@
 -- The line that rewrites pointers of a pool: why it is refused, and what its steps leave.
-use Rattle.std.proofs.Common.{◌≡◌, inl, inr, ℕ, ◌<◌, Bool, true, false, is_some, refl, List, length, Option, Some, None, Result, Ok, Err, sym, ap, ap₂, subst, ◌∙◌, arith}
+use Rattle.std.proofs.Common.{◌≡◌, ℕ, ◌<◌, Bool, true, false, is_some, refl, List, Option, Some, None, option_map, Result, Ok, Err, sym, ap, ap₂, subst, ◌∙◌, arith}
 use Rattle.std.specs.Prelude.{min, cond, is_none, set, IfOk}
-use Rattle.std.proofs.lemmas.Bool.{cases_lt}
-use Rattle.std.proofs.lemmas.List.{get_or-set_same, get_or_past}
 use Rattle.std.proofs.lemmas.Option.{none-some, same_Some}
 use Rattle.pm_model.specs.declared.host.HostFault.{HostFault}
 use Rattle.pm_model.specs.Words.{reads}
@@ -22,7 +20,10 @@ use Rattle.lazy_rewrite.specs.Entries.{HasLowBases}
 use Rattle.lazy_rewrite.specs.Batches.{Rewrites}
 use Rattle.lazy_rewrite.specs.Frontiers.{steps_from, left_among}
 use Rattle.nesting.specs.declared.Session.{Session}
-use Rattle.ready_daemon.specs.Judged.{known_in}
+use Rattle.known_pool.specs.Known.{Known, with_puddles}
+use Rattle.ready_daemon.specs.Judged.{puddles_known, pool_in, known_in}
+use Rattle.ready_daemon.proofs.JudgedOpen.{known_within}
+use Rattle.ready_daemon.proofs.Known.{known_kept_there}
 use Rattle.ready_daemon.specs.Memory.{Held, Memory}
 use Rattle.ready_daemon.specs.Owning.{IsSlotOf}
 use Rattle.ready_daemon.specs.Moves.{MovesTo, led_in}
@@ -62,69 +63,68 @@ module _ (w : World) (name : List ℕ) (n : ℕ) where
 -- ---- its steps
 
 -- what is known
-pub is_there : (o : Option (List (ℕ × Puddle))) → true ≡ is_some o → (at : List (ℕ × Puddle)) × (o ≡ Some at)
+pub is_there : (o : Option Known) → true ≡ is_some (option_map (λ (k : Known). k.at) o) → (kept : Known) × (o ≡ Some kept)
 is_there None there = absurd (let no : true ≡ false = there in cc)
-is_there (Some at) there = (at, refl)
+is_there (Some kept) there = (kept, refl)
 
 -- as many steps were done as the pool that is known has, at most
-pub steps_known : (result : Result ℕ HostFault) (judged now : List (Option (List (ℕ × Puddle)))) (slot n : ℕ) (at : List (ℕ × Puddle)) → judged ≡ now → known_in judged slot ≡ Some at → IfOk result (λ done. done ≡ min n (left_among at))
+pub steps_known : (result : Result ℕ HostFault) (judged now : List (Option Known)) (slot n : ℕ) (at : List (ℕ × Puddle)) → judged ≡ now → known_in judged slot ≡ Some at → IfOk result (λ done. done ≡ min n (left_among at))
     → IfOk result (λ done. (here : List (ℕ × Puddle)) → known_in now slot ≡ Some here → done ≡ min n (left_among here))
 steps_known (Err fault) judged now slot n at same known counted = tt
 steps_known (Ok done) judged now slot n at same known counted = λ here is.
-    counted ∙ ap (λ (ps : List (ℕ × Puddle)). min n (left_among ps)) (same_Some at here (sym known ∙ ap (λ (js : List (Option (List (ℕ × Puddle)))). known_in js slot) same ∙ is))
+    counted ∙ ap (λ (ps : List (ℕ × Puddle)). min n (left_among ps)) (same_Some at here (sym known ∙ ap (λ (js : List (Option Known)). known_in js slot) same ∙ is))
 
 -- they are those of the pool that is known
-pub moves_known : (result : Result ℕ HostFault) (judged now : List (Option (List (ℕ × Puddle)))) (slot n : ℕ) (at pool : List (ℕ × Puddle)) → judged ≡ now → known_in judged slot ≡ Some at
-    → IfOk result (λ done. pool ≡ steps_from n at)
-    → IfOk result (λ done. (here : List (ℕ × Puddle)) → known_in now slot ≡ Some here → set judged slot (Some pool) ≡ set now slot (Some (steps_from n here)))
-moves_known (Err fault) judged now slot n at pool same known moved = tt
-moves_known (Ok done) judged now slot n at pool same known moved = λ here is.
-    ap₂ (λ (js : List (Option (List (ℕ × Puddle)))) (p : List (ℕ × Puddle)). set js slot (Some p)) same
-    (moved ∙ ap (steps_from n) (same_Some at here (sym known ∙ ap (λ (js : List (Option (List (ℕ × Puddle)))). known_in js slot) same ∙ is)))
+pub moves_known : (result : Result ℕ HostFault) (judged now : List (Option Known)) (slot n : ℕ) (pool later : Known) → judged ≡ now → pool_in judged slot ≡ Some pool → later ≡ with_puddles later.at pool
+    → IfOk result (λ done. later.at ≡ steps_from n pool.at)
+    → IfOk result (λ done. (here : Known) → pool_in now slot ≡ Some here → set judged slot (Some later) ≡ set now slot (Some (with_puddles (steps_from n here.at) here)))
+moves_known (Err fault) judged now slot n pool later same known rest moved = tt
+moves_known (Ok done) judged now slot n pool later same known rest moved = λ here is.
+    let one : pool ≡ here = same_Some pool here (sym known ∙ ap (λ (js : List (Option Known)). pool_in js slot) same ∙ is) in
+    ap₂ (λ (js : List (Option Known)) (k : Known). set js slot (Some k)) same (rest ∙ ap (λ (ps : List (ℕ × Puddle)). with_puddles ps pool) moved ∙ ap (λ (k : Known). with_puddles (steps_from n k.at) k) one)
 
 -- of a pool that is not known none are
-pub moves_none : (judged now next : List (Option (List (ℕ × Puddle)))) (slot n : ℕ) → judged ≡ now → known_in judged slot ≡ None
-    → (here : List (ℕ × Puddle)) → known_in now slot ≡ Some here → next ≡ set now slot (Some (steps_from n here))
-moves_none judged now next slot n same none here is = absurd (none-some here (sym none ∙ ap (λ (js : List (Option (List (ℕ × Puddle)))). known_in js slot) same ∙ is))
+pub moves_none : (judged now next : List (Option Known)) (slot n : ℕ) → judged ≡ now → pool_in judged slot ≡ None
+    → (here : Known) → pool_in now slot ≡ Some here → next ≡ set now slot (Some (with_puddles (steps_from n here.at) here))
+moves_none judged now next slot n same none here is = absurd (none-some here (sym none ∙ ap (λ (js : List (Option Known)). pool_in js slot) same ∙ is))
 
-pub steps_none : (judged now : List (Option (List (ℕ × Puddle)))) (slot n done : ℕ) → judged ≡ now → known_in judged slot ≡ None → (here : List (ℕ × Puddle)) → known_in now slot ≡ Some here → done ≡ min n (left_among here)
-steps_none judged now slot n done same none here is = absurd (none-some here (sym none ∙ ap (λ (js : List (Option (List (ℕ × Puddle)))). known_in js slot) same ∙ is))
+pub steps_none : (judged now : List (Option Known)) (slot n done : ℕ) → judged ≡ now → known_in judged slot ≡ None → (here : List (ℕ × Puddle)) → known_in now slot ≡ Some here → done ≡ min n (left_among here)
+steps_none judged now slot n done same none here is = absurd (none-some here (sym none ∙ ap (λ (js : List (Option Known)). known_in js slot) same ∙ is))
 
--- what is known in a slot is within the list
-known_within : (judged : List (Option (List (ℕ × Puddle)))) (slot : ℕ) (at : List (ℕ × Puddle)) → known_in judged slot ≡ Some at → slot < length judged
-known_within judged slot at known = elim (cases_lt slot (length judged)) [
-  | inl within ↦ within
-  | inr past ↦ absurd (none-some at (sym (get_or_past judged slot None past) ∙ known))
-]
+-- the pool is known by what they made of it
+pub stepped_known : (judged now : List (Option Known)) (slot : ℕ) (at : List (ℕ × Puddle)) (later : Known) → known_in judged slot ≡ Some at → now ≡ set judged slot (Some later) → known_in now slot ≡ Some later.at
+stepped_known judged now slot at later known moves = ap (λ (js : List (Option Known)). known_in js slot) moves ∙ known_kept_there judged slot later (known_within judged slot at known)
 
-module _ (size : ℕ) (w : World) (F : ℕ) (held : List (Option Held)) (sessions : List (Option Session)) (judged : List (Option (List (ℕ × Puddle)))) (old : State)
-    (ready : IsReady size w (record { frames = F; held = held; sessions = sessions; judged = judged }) old) (slot : ℕ) (low : slot < POOL_RECORDS) (at : List (ℕ × Puddle)) (known : known_in judged slot ≡ Some at) where
+module _ (size : ℕ) (w : World) (F : ℕ) (held : List (Option Held)) (sessions : List (Option Session)) (judged : List (Option Known)) (old : State)
+    (ready : IsReady size w (record { frames = F; held = held; sessions = sessions; judged = judged }) old) (slot : ℕ) (low : slot < POOL_RECORDS) (kept : Known) (is_kept : pool_in judged slot ≡ Some kept) where
   abbrev memory : Memory
   memory = record { frames = F; held = held; sessions = sessions; judged = judged }
 
+  abbrev at : List (ℕ × Puddle)
+  at = kept.at
+
+  known : known_in judged slot ≡ Some at
+  known = ap puddles_known is_kept
+
   -- the daemon is ready behind them
   pub Applies-stepped : (goal : ℕ → ℕ) (later : List (ℕ × Puddle)) (fault : Option HostFault) (new : State) → (HasIdleGate DAEMON_LOG old.now.words → HasLowBases at → Rewrites F goal at later fault old new)
-      → AppliesBy (MovesTo (led_in slot goal)) size w w (record { frames = F; held = held; sessions = sessions; judged = set judged slot (Some later) }) fault old new
+      → AppliesBy (MovesTo (led_in slot goal)) size w w (record { frames = F; held = held; sessions = sessions; judged = set judged slot (Some (with_puddles later kept)) }) fault old new
   Applies-stepped goal later fault new does =
       let placed = known_placed size w memory slot at old ready known in
-      AppliesBy-weaker (MovesTo (led_in slot (upto goal))) (MovesTo (led_in slot goal)) (led_further slot (upto goal) goal (λ o. omega arith)) size w w (record memory { judged = set judged slot (Some later) }) fault old new
-      (Applies-rewrites size w memory slot at later goal fault old new ready low known
+      AppliesBy-weaker (MovesTo (led_in slot (upto goal))) (MovesTo (led_in slot goal)) (led_further slot (upto goal) goal (λ o. omega arith)) size w w (record memory { judged = set judged slot (Some (with_puddles later kept)) }) fault old new
+      (Applies-rewrites size w memory slot kept later goal fault old new ready low is_kept
       (subst (λ (n : ℕ). Rewrites n goal at later fault old new) ready.frames (does (ready_gate size w memory old ready) (low_of_placed w.stored.frames at placed))))
 
   -- its puddles are those before them, moved
-  pub DoesSteps-stepped : (name : List ℕ) (n : ℕ) (now : List (Option (List (ℕ × Puddle)))) (new : State) → IsSlotOf w.stored.frames name (reads old.now.words) slot → now ≡ set judged slot (Some (steps_from n at))
+  pub DoesSteps-stepped : (name : List ℕ) (n : ℕ) (now : List (Option Known)) (new : State) → IsSlotOf w.stored.frames name (reads old.now.words) slot → now ≡ set judged slot (Some (with_puddles (steps_from n at) kept))
       → IsReady size w (record { frames = F; held = held; sessions = sessions; judged = now }) new → DoesSteps w.stored.frames name n (reads old.now.words) (reads new.now.words)
   DoesSteps-stepped name n now new is moves then = record {
     slot = slot;
     is = is;
     at = at;
     before = ready.knows.judged.each slot at known;
-    behind = then.knows.judged.each slot (steps_from n at) (ap (λ (js : List (Option (List (ℕ × Puddle)))). known_in js slot) moves ∙ get_or-set_same judged slot (Some (steps_from n at)) None (known_within judged slot at known));
+    behind = then.knows.judged.each slot (steps_from n at) (stepped_known judged now slot at (with_puddles (steps_from n at) kept) known moves);
   }
-
--- the pool is known by what they made of it
-pub stepped_known : (judged now : List (Option (List (ℕ × Puddle)))) (slot : ℕ) (at later : List (ℕ × Puddle)) → known_in judged slot ≡ Some at → now ≡ set judged slot (Some later) → known_in now slot ≡ Some later
-stepped_known judged now slot at later known moves = ap (λ (js : List (Option (List (ℕ × Puddle)))). known_in js slot) moves ∙ get_or-set_same judged slot (Some later) None (known_within judged slot at known)
 
 -- the steps are those behind the answer
 pub steps_answered : (F : ℕ) (name : List ℕ) (n : ℕ) (old new : Image) (done : Result Reply HostFault) (result : Result Answered HostFault) → result ≡ as_answered done

@@ -1,4 +1,4 @@
-//! Which pools were judged, and where their puddles stand.
+//! Which pools were judged, and what is kept of them.
 ghost use Rattle.std.specs.Prelude.{◌≡◌, ◌≢◌, ◌<◌, ◌≤◌, ℕ, List, true, false, replicate, set, is_some, unwrap_or, [], Option, IfOk, IfSome};
 ghost use Rattle.pm_model.specs.Words.{reads};
 ghost use Rattle.pm_model.specs.Counts.{fault_of};
@@ -10,26 +10,28 @@ ghost use Rattle.pud_defs.specs.Image.{Image};
 ghost use Rattle.pud_defs.specs.Layout.{device_words};
 ghost use Rattle.pud_defs.specs.Stored.{IsOnDevice};
 ghost use Rattle.ready_daemon.specs.Judged.{puddles_with_graph};
-ghost use Rattle.ready_daemon.specs.Judged.{known_in, AreOnDevice, AreJudged};
+ghost use Rattle.known_pool.specs.Known.{by_puddles};
+ghost use Rattle.ready_daemon.specs.Judged.{known_in, alone_in, AreOnDevice, AreJudged};
 
 use graph_read::pool_is_sound;
+use known_pool::KnownPool;
 use pm_model::{Host, HostFault};
 use pud_defs::records::{POOL_RECORDS, Puddle};
 use puddle_table::{Puddles, find_puddles};
 use std::array;
 use std::marker::Model;
 
-/// The puddles of the pools that were found to have a graph, by the slots of the pools' records.
+/// What is kept of the pools that were found to have a graph, by the slots of the pools' records.
 #[derive(Drop)]
 pub(crate) struct Judged {
-    pub(crate) pools: [Option<Puddles>; POOL_RECORDS as usize],
+    pub(crate) pools: [Option<KnownPool>; POOL_RECORDS as usize],
 }
 
 impl Model for Judged {
-    ghost use Rattle.std.specs.Prelude.{ℕ, List, Option};
-    ghost use Rattle.pud_defs.specs.declared.records.Puddle.{Puddle};
+    ghost use Rattle.std.specs.Prelude.{List, Option};
+    ghost use Rattle.known_pool.specs.Known.{Known};
 
-    ghost Value = { List (Option (List (ℕ × Puddle))) };
+    ghost Value = { List (Option Known) };
 
     ghost view = { λ j. j.pools };
 }
@@ -76,18 +78,28 @@ impl Judged {
         ensures within { (F : ℕ) → AreOnDevice F self.now → IsOnDevice F result.now }
     {
         match &self.pools[slot as usize] {
-            Some(puddles) => puddles.as_slice(),
+            Some(pool) => pool.as_slice(),
             None => &[],
         }
     }
 
-    /// Keeps the puddles of the pool in this slot.
+    /// Keeps the puddles of the pool in this slot, and nothing else of it.
     pub(crate) fn put(&mut self, slot: u32, puddles: Puddles)
         requires { slot < POOL_RECORDS }
-        ensures put { self.new ≡ set self.old slot (Option.Some puddles) }
+        ensures put { self.new ≡ set self.old slot (Option.Some (by_puddles puddles)) }
         ensures known { known_in self.new slot ≡ Option.Some puddles }
     {
-        self.pools[slot as usize] = Some(puddles);
+        self.pools[slot as usize] = Some(KnownPool::new(puddles));
+    }
+
+    /// Forgets all but the puddles of the pool in this slot, where they are known.
+    pub(crate) fn leave_puddles(&mut self, slot: u32)
+        requires { slot < POOL_RECORDS }
+        ensures { self.new ≡ alone_in slot self.old }
+    {
+        if let Some(pool) = &mut self.pools[slot as usize] {
+            pool.forget();
+        }
     }
 
     /// Forgets what is known of the pool in this slot.

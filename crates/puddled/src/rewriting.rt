@@ -2,18 +2,25 @@
 ghost use Rattle.std.specs.Prelude.{◌≡◌, ◌<◌, ◌≤◌, ℕ, List, Option, IfOk, min, set};
 ghost use Rattle.pm_model.specs.Words.{IsRested, reads};
 ghost use Rattle.pm_model.specs.Counts.{after_fault, fault_of};
-ghost use Rattle.pud_defs.specs.declared.layout.TheConstants.{MAX_FRAMES};
+ghost use Rattle.pm_model.specs.Changes.{Changes};
+ghost use Rattle.pud_defs.specs.declared.layout.TheConstants.{DAEMON_LOG, MAX_FRAMES};
 ghost use Rattle.pud_defs.specs.declared.records.TheConstants.{POOL_RECORDS};
 ghost use Rattle.pud_defs.specs.declared.machine.Command.TheVariants as commands;
 ghost use Rattle.pud_defs.specs.declared.records.Puddle.{Puddle};
 ghost use Rattle.pud_defs.specs.Layout.{device_words};
+ghost use Rattle.pud_defs.specs.Stored.{IsOnDevice};
 ghost use Rattle.pud_defs.specs.Step.{answer_by, refusal_of, world_by};
 ghost use Rattle.pud_defs.specs.Step.Answer.{of_reply};
 ghost use Rattle.pud_defs.specs.World.{World};
+ghost use Rattle.batch.specs.Batches.{HasIdleGate};
+ghost use Rattle.known_pool.specs.Known.{Known, with_puddles};
+ghost use Rattle.log_replay.specs.Replaying.{Anything};
+ghost use Rattle.lazy_rewrite.specs.Entries.{HasLowBases};
+ghost use Rattle.lazy_rewrite.specs.Batches.{Rewrites};
 ghost use Rattle.lazy_rewrite.specs.Frontiers.{steps_from, left_among, frontiers_of};
 ghost use Rattle.nesting.specs.declared.Session.{Session};
 ghost use Rattle.ready_daemon.specs.Memory.{Held};
-ghost use Rattle.ready_daemon.specs.Judged.{AreOnDevice, known_in};
+ghost use Rattle.ready_daemon.specs.Judged.{AreOnDevice, pool_in, known_in};
 ghost use Rattle.ready_daemon.specs.Moves.{MovesTo, led_in};
 ghost use Rattle.ready_daemon.specs.Ready.{KeepsRest, IsReady, AppliesBy};
 ghost use Rattle.puddled.specs.Frontiers.{AppliesAs};
@@ -22,11 +29,36 @@ ghost use Rattle.puddled.specs.Rewriting.{DoesSteps};
 use crate::daemon::Daemon;
 use crate::finding::Need;
 use crate::judged::Judged;
+use known_pool::KnownPool;
 use lazy_rewrite::step;
 use pm_model::{Host, HostFault};
 use pool_table::find;
 use pud_defs::machine::{Refusal, Reply};
 use pud_defs::records::Name;
+
+/// Does the next `n` rewriting steps of the pool, or all that are left; the answer is how many. What else is known of the pool stays so.
+///
+/// The device has so many frames. The only errors are the host's own.
+fn step_pool<H: Host>(
+    h: &mut H,
+    frames: u32,
+    pool: &mut KnownPool,
+    n: u32,
+) -> Result<u32, HostFault>
+    requires few { frames ≤ MAX_FRAMES }
+    requires room { device_words frames ≤ (H.counts h.old).size }
+    requires known { IsOnDevice frames pool.old.at }
+    ensures steps { IfOk result (λ done. done ≡ min n (left_among pool.old.at)) }
+    ensures pool { IfOk result (λ done. pool.new.at ≡ steps_from n pool.old.at) }
+    ensures rest { pool.new ≡ with_puddles pool.new.at pool.old }
+    ensures rewrites { H.tells → (size : ℕ) → size ≡ (H.counts h.old).size → HasIdleGate DAEMON_LOG (H.state h.old).now.words → HasLowBases pool.old.at
+        → Rewrites frames (frontiers_of (steps_from n pool.old.at)) pool.old.at pool.new.at (fault_of result) (H.state h.old) (H.state h.new) }
+    ensures known { IsOnDevice frames pool.new.at }
+    ensures any { H.tells → Changes Anything (fault_of result) (H.state h.old) (H.state h.new) }
+    ensures cause { H.counts h.new ≡ after_fault (fault_of result) (H.counts h.old) }
+{
+    step(h, frames, &mut pool.puddles, n)
+}
 
 /// Does the next `n` rewriting steps of the pool in the slot, or all that are left, where it is known to have a graph; the answer is how many.
 /// What is known of it then is so of the device.
@@ -47,14 +79,14 @@ fn step_in<H: Host>(
         → IsReady size w (record { frames = frames; held = held; sessions = sessions; judged = judged.old }) (H.state h.old)
         → AppliesBy (MovesTo (led_in slot (frontiers_of (steps_from n at)))) size w w (record { frames = frames; held = held; sessions = sessions; judged = judged.new }) (fault_of result) (H.state h.old) (H.state h.new) }
     ensures steps { IfOk result (λ done. (at : List (ℕ × Puddle)) → known_in judged.old slot ≡ Option.Some at → done ≡ min n (left_among at)) }
-    ensures moves { IfOk result (λ _. (at : List (ℕ × Puddle)) → known_in judged.old slot ≡ Option.Some at → judged.new ≡ set judged.old slot (Option.Some (steps_from n at))) }
+    ensures moves { IfOk result (λ _. (kept : Known) → pool_in judged.old slot ≡ Option.Some kept → judged.new ≡ set judged.old slot (Option.Some (with_puddles (steps_from n kept.at) kept))) }
     ensures known { AreOnDevice frames judged.new }
     ensures rest { H.tells → KeepsRest (H.state h.old) (H.state h.new) }
     ensures rests { H.tells → fault_of result ≡ Option.Some HostFault.Cut → IsRested (H.state h.new).now.words }
     ensures cause { H.counts h.new ≡ after_fault (fault_of result) (H.counts h.old) }
 {
     match &mut judged.pools[slot as usize] {
-        Some(pool) => step(h, frames, pool, n),
+        Some(pool) => step_pool(h, frames, pool, n),
         None => Ok(0),
     }
 }

@@ -19,7 +19,7 @@ ghost use Rattle.ready_daemon.specs.Holding.{IsOwnOn};
 ghost use Rattle.ready_daemon.specs.Judged.{known_in};
 ghost use Rattle.ready_daemon.specs.Beginning.{MayBegin};
 ghost use Rattle.ready_daemon.specs.Held.{IsHeldWithin};
-ghost use Rattle.ready_daemon.specs.Leaving.{BehindTables, sessions_behind, world_without, world_without_log};
+ghost use Rattle.ready_daemon.specs.Leaving.{BehindTables, sessions_behind, judged_behind, world_without, world_without_log};
 ghost use Rattle.ready_daemon.specs.Ready.{KeepsRest, IsReady, Applies};
 ghost use Rattle.puddled.specs.declared.finding.Need.TheVariants as needs;
 ghost use Rattle.puddled.specs.Finding.{refusal_to};
@@ -102,19 +102,20 @@ impl Daemon {
         Ok(Reply::Ok)
     }
 
-    /// Lets go of what is held under the number: its session ends. Its pool is known still.
+    /// Lets go of what is held under the number: its session ends. Of its pool the puddles alone are known still.
     fn release(&mut self, number: u32) -> Option<Opened>
         requires { number < ALL_LOGS }
         ensures opened { result ≡ held_under (self.old).held number }
         ensures within { IfSome result (IsHeldWithin (self.old).frames) }
         ensures held { (self.new).held ≡ set (self.old).held number Option.None }
         ensures sessions { (self.new).sessions ≡ sessions_behind (held_under (self.old).held number) (self.old).sessions }
-        ensures judged { (self.new).judged ≡ (self.old).judged }
+        ensures judged { (self.new).judged ≡ judged_behind (held_under (self.old).held number) (self.old).judged }
         ensures frames { (self.new).frames ≡ (self.old).frames }
     {
         let opened = self.opened[number as usize].take();
         if let Some(opened) = &opened {
             self.sessions.end(opened.slot);
+            self.judged.leave_puddles(opened.slot);
         }
         opened
     }

@@ -1,5 +1,5 @@
 -- A command that changes nothing, and one that is not refused.
-use Rattle.std.proofs.Common.{◌≡◌, ◌⊎◌, inl, inr, ℕ, List, [], Option, Some, None, refl, sym, ap, subst, ◌∙◌}
+use Rattle.std.proofs.Common.{◌≡◌, ◌⊎◌, inl, inr, ℕ, List, [], set, Option, Some, None, refl, sym, ap, subst, ◌∙◌}
 use Rattle.std.proofs.lemmas.List.{append-nil}
 use Rattle.pm_model.specs.declared.host.HostFault.{HostFault}
 use Rattle.pm_model.specs.declared.host.HostFault.TheVariants.{Cut}
@@ -9,7 +9,6 @@ use Rattle.pm_model.specs.Changes.{Silently}
 use Rattle.pm_model.proofs.Leaves.{Leaves-still, Leaves-weaker, Leaves-then}
 use Rattle.pud_defs.specs.declared.machine.Command.{Command}
 use Rattle.pud_defs.specs.declared.machine.Refusal.{Refusal}
-use Rattle.pud_defs.specs.declared.records.Puddle.{Puddle}
 use Rattle.pud_defs.specs.declared.layout.TheConstants.{DAEMON_LOG}
 use Rattle.pud_defs.specs.Image.{Image}
 use Rattle.pud_defs.specs.Puddles.{Member}
@@ -18,11 +17,14 @@ use Rattle.pud_defs.specs.Tables.{tables_of}
 use Rattle.pud_defs.specs.World.{StoredWorld, World, world_of, closed}
 use Rattle.pud_defs.specs.Step.{refusal_of, after, unless_refused, world_by}
 use Rattle.pud_defs.proofs.Steps.{done_world}
+use Rattle.known_pool.specs.Known.{Known, IsKnown}
 use Rattle.ready_daemon.specs.Memory.{Memory}
+use Rattle.ready_daemon.specs.Judged.{known_in}
 use Rattle.ready_daemon.specs.KnownPools.{KnowsPools}
 use Rattle.ready_daemon.specs.Moves.{Stays, LeavesPuddles}
 use Rattle.ready_daemon.specs.Ready.{IsReady, StandsBetween, AppliesBy, Applies}
 use Rattle.ready_daemon.proofs.Beside.{ready_stands}
+use Rattle.ready_daemon.proofs.JudgedOpen.{KnowsPools-anew}
 use Rattle.ready_daemon.proofs.PuddlesLeft.{Joins, Joins-stays, LeavesPuddles-still, LeavesPuddles-then, LeavesPuddles-weaker, settled_ready}
 
 -- nothing happened
@@ -150,10 +152,17 @@ IsReady-beside size w memory next s frames held same ready knows = subst (λ (m 
   knows = knows;
 })
 
+-- more is known of a pool, or less, and its puddles are known still
+pub IsReady-anew : (size : ℕ) (w : World) (memory : Memory) (s : State) (slot : ℕ) (known : Known) → IsReady size w memory s → known_in memory.judged slot ≡ Some known.at → IsKnown w.stored.frames (reads s.now.words) known
+    → IsReady size w (record memory { judged = set memory.judged slot (Some known) }) s
+IsReady-anew size w memory s slot known ready was is =
+    IsReady-beside size w memory (record memory { judged = set memory.judged slot (Some known) }) s refl refl refl ready
+    (KnowsPools-anew w.stored.frames slot memory.judged ready.held.opens known (reads s.now.words) was is ready.knows)
+
 -- what is known may be given by what it equals
-pub Applies-known : {becomes : Member → Option Member → Type 0} (size : ℕ) (w next : World) (memory : Memory) (fault : Option HostFault) (old new : State) (judged known : List (Option (List (ℕ × Puddle)))) → judged ≡ known
+pub Applies-known : {becomes : Member → Option Member → Type 0} (size : ℕ) (w next : World) (memory : Memory) (fault : Option HostFault) (old new : State) (judged known : List (Option Known)) → judged ≡ known
     → AppliesBy becomes size w next (record memory { judged = judged }) fault old new → AppliesBy becomes size w next (record memory { judged = known }) fault old new
-Applies-known {becomes} size w next memory fault old new judged known same = subst (λ (js : List (Option (List (ℕ × Puddle)))). AppliesBy becomes size w next (record memory { judged = js }) fault old new) same
+Applies-known {becomes} size w next memory fault old new judged known same = subst (λ (js : List (Option Known)). AppliesBy becomes size w next (record memory { judged = js }) fault old new) same
 
 -- it is not refused, and carried out behind calls that read
 pub Applies-behind_reads : {becomes : Member → Option Member → Type 0} (size : ℕ) (w : World) (memory : Memory) (c : Command) (fault : Option HostFault) (a b d : State) → refusal_of w c ≡ None → b ≡ a

@@ -1,5 +1,5 @@
 -- What is known of pools beside open transactions: as one begins and ends, and while lines do that touch none.
-use Rattle.std.proofs.Common.{◌≡◌, ◌≢◌, inl, inr, ℕ, ◌+◌, ◌<◌, ◌≤◌, List, length, replicate, set, Option, Some, None, sym, ap, subst, ◌∙◌, arith}
+use Rattle.std.proofs.Common.{◌≡◌, ◌≢◌, inl, inr, ℕ, ◌+◌, ◌<◌, ◌≤◌, List, length, replicate, set, Option, Some, None, option_map, sym, ap, subst, ◌∙◌, arith}
 use Rattle.std.proofs.lemmas.Bool.{cases_eq, cases_lt}
 use Rattle.std.proofs.lemmas.List.{get_or_past, get_or-set_same, get_or-set_other, set-set}
 use Rattle.std.proofs.lemmas.Option.{none-some, same_Some}
@@ -24,12 +24,13 @@ use Rattle.hybrid_tx.specs.Open.ManyOpen.{OpenTransaction, Opens, none_open, IsO
 use Rattle.hybrid_tx.proofs.Open.PoolPlaces.{EachIsOf}
 use Rattle.hybrid_tx.specs.Objects.Transactions.{RestsAs}
 use Rattle.pm_model.proofs.Changes.{HasOnly-kept}
+use Rattle.known_pool.specs.Known.{Known, IsKnown}
 use Rattle.ready_daemon.specs.Memory.{Held}
 use Rattle.ready_daemon.specs.Held.{IsHeld}
 use Rattle.ready_daemon.specs.Judged.{known_in, puddles_with_graph, AreJudged}
 use Rattle.ready_daemon.specs.KnownPools.{KnowsPools}
 use Rattle.ready_daemon.proofs.JudgedKept.{HasGraphIn, graph_parts, graph_from, KeepsPools, KeepsPools-changes, KeepsPools-apart, SparesTables, AreJudged-all, AreJudged-but, in_turn_kept, types_same, puddles_same, own_by, words_apart, IsOwnWord, own_word}
-use Rattle.ready_daemon.proofs.Known.{AreJudged-none, AreJudged-set, AreJudged-forgotten}
+use Rattle.ready_daemon.proofs.Known.{AreJudged-none, AreJudged-set, AreJudged-forgotten, known_kept_there, known_other}
 use Rattle.ready_daemon.proofs.HeldUnder.{nothing_there}
 use Rattle.ready_daemon.proofs.PoolsBeside.{puddles_still}
 
@@ -88,10 +89,17 @@ module _ (F slot log : ℕ) (at : List (ℕ × Puddle)) (old new : State) (besid
 -- ---- what is known beside it
 
 -- a slot in which a pool is known is one of the list
-pub known_within : (judged : List (Option (List (ℕ × Puddle)))) (slot : ℕ) (at : List (ℕ × Puddle)) → known_in judged slot ≡ Some at → slot < length judged
+pub known_within : (judged : List (Option Known)) (slot : ℕ) (at : List (ℕ × Puddle)) → known_in judged slot ≡ Some at → slot < length judged
 known_within judged slot at known = elim (cases_lt slot (length judged)) [
   | inl within ↦ within
-  | inr past ↦ absurd (none-some at (sym (get_or_past judged slot None past) ∙ known))
+  | inr past ↦ absurd (none-some at (sym (ap (option_map (λ (k : Known). k.at)) (get_or_past judged slot None past)) ∙ known))
+]
+
+-- where a pool's puddles are known still, so are those of each that was known
+known_anew : (judged : List (Option Known)) (slot : ℕ) (known : Known) → known_in judged slot ≡ Some known.at → (i : ℕ) (at : List (ℕ × Puddle)) → known_in judged i ≡ Some at → known_in (set judged slot (Some known)) i ≡ Some at
+known_anew judged slot known was i at is = elim (cases_eq i slot) [
+  | inl same ↦ ap (known_in (set judged slot (Some known))) same ∙ known_kept_there judged slot known (known_within judged slot known.at was) ∙ sym was ∙ ap (known_in judged) (sym same) ∙ is
+  | inr other ↦ known_other judged slot i (Some known) other ∙ is
 ]
 
 -- a start knows nothing, and nothing is open
@@ -99,7 +107,7 @@ pub KnowsPools-none : (F n : ℕ) (image : Image) → KnowsPools F (replicate n 
 KnowsPools-none F n image = record { judged = AreJudged-none F n image; open_pools = λ number o there. absurd (none-some o there) }
 
 -- some more are judged
-pub KnowsPools-read : (F : ℕ) (judged next : List (Option (List (ℕ × Puddle)))) (opens : Opens) (image : Image) → AreJudged F next image
+pub KnowsPools-read : (F : ℕ) (judged next : List (Option Known)) (opens : Opens) (image : Image) → AreJudged F next image
     → ((slot : ℕ) (at : List (ℕ × Puddle)) → known_in judged slot ≡ Some at → known_in next slot ≡ Some at) → KnowsPools F judged opens image → KnowsPools F next opens image
 KnowsPools-read F judged next opens image right kept knows = record { judged = right; open_pools = λ number o there. kept o.pool.slot o.pool.at (knows.open_pools number o there) }
 
@@ -108,46 +116,36 @@ abbrev pub IsShut : Opens → (slot : ℕ) → Type 0
 IsShut opens slot = (number : ℕ) (o : OpenTransaction) → opens number ≡ Some o → o.pool.slot ≢ slot
 
 -- one is forgotten, on which none is open
-pub KnowsPools-forgotten : (F slot : ℕ) (judged : List (Option (List (ℕ × Puddle)))) (opens : Opens) (image : Image) → IsShut opens slot → KnowsPools F judged opens image
+pub KnowsPools-forgotten : (F slot : ℕ) (judged : List (Option Known)) (opens : Opens) (image : Image) → IsShut opens slot → KnowsPools F judged opens image
     → KnowsPools F (set judged slot None) opens image
 KnowsPools-forgotten F slot judged opens image shut knows = record {
   judged = AreJudged-forgotten F judged slot image knows.judged;
-  open_pools = λ number o there. get_or-set_other judged slot o.pool.slot None None (shut number o there) ∙ knows.open_pools number o there;
+  open_pools = λ number o there. known_other judged slot o.pool.slot None (shut number o there) ∙ knows.open_pools number o there;
 }
 
 -- ---- lines that leave what is held
 
 -- each pool stays
-pub KnowsPools-all : (F : ℕ) (judged : List (Option (List (ℕ × Puddle)))) (opens : Opens) (before after : Image) → KeepsPools F None before after → KnowsPools F judged opens before
+pub KnowsPools-all : (F : ℕ) (judged : List (Option Known)) (opens : Opens) (before after : Image) → KeepsPools F None before after → KnowsPools F judged opens before
     → KnowsPools F judged opens after
 KnowsPools-all F judged opens before after keeps knows = record { judged = AreJudged-all F judged before after keeps knows.judged; open_pools = knows.open_pools }
 
 -- one is dropped, and forgotten, on which none is open
-pub KnowsPools-dropped : (F slot : ℕ) (judged : List (Option (List (ℕ × Puddle)))) (opens : Opens) (before after : Image) → IsShut opens slot → KeepsPools F (Some slot) before after
+pub KnowsPools-dropped : (F slot : ℕ) (judged : List (Option Known)) (opens : Opens) (before after : Image) → IsShut opens slot → KeepsPools F (Some slot) before after
     → KnowsPools F judged opens before → KnowsPools F (set judged slot None) opens after
 KnowsPools-dropped F slot judged opens before after shut keeps knows =
     let less = KnowsPools-forgotten F slot judged opens before shut knows in
-    record { judged = AreJudged-but F slot (set judged slot None) before after keeps (nothing_there judged slot) less.judged; open_pools = less.open_pools }
+    record { judged = AreJudged-but F slot (set judged slot None) before after keeps (ap (option_map (λ (k : Known). k.at)) (nothing_there judged slot)) less.judged; open_pools = less.open_pools }
 
 -- ---- a transaction begins, goes on and ends
 
--- its pool has a graph, and each other stays
-pub AreJudged-own : (F slot : ℕ) (judged : List (Option (List (ℕ × Puddle)))) (before after : Image) → KeepsPools F (Some slot) before after
-    → ((at : List (ℕ × Puddle)) → known_in judged slot ≡ Some at → HasGraphIn F slot after at) → AreJudged F judged before → AreJudged F judged after
-AreJudged-own F slot judged before after keeps has are = record {
-  each = λ i at known. elim (cases_eq i slot) [
-    | inl same ↦ subst (λ (j : ℕ). puddles_with_graph F after j ≡ Some at) (sym same) (graph_from F slot after at (has at (ap (known_in judged) (sym same) ∙ known)))
-    | inr other ↦ graph_from F i after at (keeps.each i at (λ same. other (sym (same_Some slot i same))) (graph_parts F i before at (are.each i at known)))
-  ];
-}
-
--- and where it has other puddles, these are kept
-pub AreJudged-grown : (F slot : ℕ) (judged : List (Option (List (ℕ × Puddle)))) (more : List (ℕ × Puddle)) (before after : Image) → KeepsPools F (Some slot) before after
-    → HasGraphIn F slot after more → AreJudged F judged before → AreJudged F (set judged slot (Some more)) after
-AreJudged-grown F slot judged more before after keeps has are =
-    let less = AreJudged-but F slot (set judged slot None) before after keeps (nothing_there judged slot) (AreJudged-forgotten F judged slot before are) in
-    subst (λ (js : List (Option (List (ℕ × Puddle)))). AreJudged F js after) (set-set judged slot None (Some more))
-    (AreJudged-set F (set judged slot None) slot more after (graph_from F slot after more has) less)
+-- its pool has a graph, and this is known of it then; each other stays
+pub AreJudged-own : (F slot : ℕ) (judged : List (Option Known)) (known : Known) (before after : Image) → KeepsPools F (Some slot) before after → HasGraphIn F slot after known.at → IsKnown F after known
+    → AreJudged F judged before → AreJudged F (set judged slot (Some known)) after
+AreJudged-own F slot judged known before after keeps has is are =
+    let none = ap (option_map (λ (k : Known). k.at)) (nothing_there judged slot) in
+    let less = AreJudged-but F slot (set judged slot None) before after keeps none (AreJudged-forgotten F judged slot before are) in
+    subst (λ (js : List (Option Known)). AreJudged F js after) (set-set judged slot None (Some known)) (AreJudged-set F (set judged slot None) slot known after (graph_from F slot after known.at has) is less)
 
 -- one of those that are open, and the others as they were
 each_opened : (number : ℕ) (one : OpenTransaction) (others opens : Opens) → IsOneMore number one others opens → (P : OpenTransaction → Type 0) → P one
@@ -158,47 +156,56 @@ each_opened number one others opens more P its each m o there = elim (cases_eq m
 ]
 
 -- one more is open, on a pool that is known
-pub KnowsPools-begun : (F : ℕ) (judged : List (Option (List (ℕ × Puddle)))) (number : ℕ) (one : OpenTransaction) (others opens : Opens) (before after : Image) → IsOneMore number one others opens
+pub KnowsPools-begun : (F : ℕ) (judged : List (Option Known)) (number : ℕ) (one : OpenTransaction) (others opens : Opens) (before after : Image) → IsOneMore number one others opens
     → KeepsPools F None before after → known_in judged one.pool.slot ≡ Some one.pool.at → KnowsPools F judged others before → KnowsPools F judged opens after
 KnowsPools-begun F judged number one others opens before after more keeps known knows = record {
   judged = AreJudged-all F judged before after keeps knows.judged;
   open_pools = each_opened number one others opens more (λ o. known_in judged o.pool.slot ≡ Some o.pool.at) known knows.open_pools;
 }
 
--- one of all ends: its pool has a graph, and is known still
-pub KnowsPools-ended : (F : ℕ) (judged : List (Option (List (ℕ × Puddle)))) (number : ℕ) (one : OpenTransaction) (others opens : Opens) (before after : Image) → IsOneMore number one others opens
-    → KeepsPools F (Some one.pool.slot) before after → HasGraphIn F one.pool.slot after one.pool.at → KnowsPools F judged opens before → KnowsPools F judged others after
-KnowsPools-ended F judged number one others opens before after more keeps has knows = record {
-  judged = AreJudged-own F one.pool.slot judged before after keeps
-      (λ at known. subst (HasGraphIn F one.pool.slot after) (same_Some one.pool.at at (sym (knows.open_pools number one more.here) ∙ known)) has) knows.judged;
-  open_pools = λ m o there. elim (cases_eq m number) [
-    | inl same ↦ absurd (none-some o (sym more.none ∙ ap others (sym same) ∙ there))
-    | inr apart ↦ knows.open_pools m o (more.same m apart ∙ there)
-  ];
-}
-
--- one goes on, on the same puddles: its pool has a graph
-pub KnowsPools-later : (F : ℕ) (judged : List (Option (List (ℕ × Puddle)))) (number : ℕ) (one : OpenTransaction) (opens : Opens) (before after : Image) → opens number ≡ Some one
-    → KeepsPools F (Some one.pool.slot) before after → HasGraphIn F one.pool.slot after one.pool.at → KnowsPools F judged opens before → KnowsPools F judged opens after
-KnowsPools-later F judged number one opens before after there keeps has knows = record {
-  judged = AreJudged-own F one.pool.slot judged before after keeps
-      (λ at known. subst (HasGraphIn F one.pool.slot after) (same_Some one.pool.at at (sym (knows.open_pools number one there) ∙ known)) has) knows.judged;
-  open_pools = knows.open_pools;
-}
-
--- or on more, which are known then
-pub KnowsPools-grown : (F : ℕ) (judged : List (Option (List (ℕ × Puddle)))) (number : ℕ) (one more : OpenTransaction) (others opens then : Opens) (before after : Image) → IsOneMore number one others opens
-    → IsOneMore number more others then → more.pool.slot ≡ one.pool.slot → IsShut others one.pool.slot → KeepsPools F (Some one.pool.slot) before after
-    → HasGraphIn F one.pool.slot after more.pool.at → KnowsPools F judged opens before → KnowsPools F (set judged one.pool.slot (Some more.pool.at)) then after
-KnowsPools-grown F judged number one more others opens then before after was now same shut keeps has knows =
+-- one goes on, on the same puddles or on more, on which no other is open: its pool has a graph, and this is known of it then
+pub KnowsPools-grown : (F : ℕ) (judged : List (Option Known)) (number : ℕ) (one more : OpenTransaction) (others opens then : Opens) (known : Known) (before after : Image) → IsOneMore number one others opens
+    → IsOneMore number more others then → more.pool.slot ≡ one.pool.slot → known.at ≡ more.pool.at → IsShut others one.pool.slot → KeepsPools F (Some one.pool.slot) before after
+    → HasGraphIn F one.pool.slot after more.pool.at → IsKnown F after known → KnowsPools F judged opens before → KnowsPools F (set judged one.pool.slot (Some known)) then after
+KnowsPools-grown F judged number one more others opens then known before after was now same puddles shut keeps has is knows =
     let slot : ℕ = one.pool.slot in
-    let at : List (ℕ × Puddle) = more.pool.at in
     record {
-      judged = AreJudged-grown F slot judged at before after keeps has knows.judged;
-      open_pools = each_opened number more others then now (λ o. known_in (set judged slot (Some at)) o.pool.slot ≡ Some o.pool.at)
-          (ap (known_in (set judged slot (Some at))) same ∙ get_or-set_same judged slot (Some at) None (known_within judged slot one.pool.at (knows.open_pools number one was.here)))
-          (λ m o there. get_or-set_other judged slot o.pool.slot (Some at) None (shut m o there) ∙ knows.open_pools m o (was.same m (λ here. none-some o (sym was.none ∙ ap others (sym here) ∙ there)) ∙ there));
+      judged = AreJudged-own F slot judged known before after keeps (subst (HasGraphIn F slot after) (sym puddles) has) is knows.judged;
+      open_pools = each_opened number more others then now (λ o. known_in (set judged slot (Some known)) o.pool.slot ≡ Some o.pool.at)
+          (ap (known_in (set judged slot (Some known))) same ∙ known_kept_there judged slot known (known_within judged slot one.pool.at (knows.open_pools number one was.here)) ∙ ap (λ (at : List (ℕ × Puddle)). Some at) puddles)
+          (λ m o there. known_other judged slot o.pool.slot (Some known) (shut m o there) ∙ knows.open_pools m o (was.same m (λ here. none-some o (sym was.none ∙ ap others (sym here) ∙ there)) ∙ there));
     }
+
+-- one of all ends, on the same puddles: its pool has a graph, and this is known of it then
+pub KnowsPools-ended : (F : ℕ) (judged : List (Option Known)) (number : ℕ) (one : OpenTransaction) (others opens : Opens) (known : Known) (before after : Image) → IsOneMore number one others opens → known.at ≡ one.pool.at
+    → KeepsPools F (Some one.pool.slot) before after → HasGraphIn F one.pool.slot after one.pool.at → IsKnown F after known → KnowsPools F judged opens before → KnowsPools F (set judged one.pool.slot (Some known)) others after
+KnowsPools-ended F judged number one others opens known before after more puddles keeps has is knows =
+    let was = knows.open_pools number one more.here ∙ ap (λ (at : List (ℕ × Puddle)). Some at) (sym puddles) in
+    record {
+      judged = AreJudged-own F one.pool.slot judged known before after keeps (subst (HasGraphIn F one.pool.slot after) (sym puddles) has) is knows.judged;
+      open_pools = λ m o there. elim (cases_eq m number) [
+        | inl same ↦ absurd (none-some o (sym more.none ∙ ap others (sym same) ∙ there))
+        | inr apart ↦ known_anew judged one.pool.slot known was o.pool.slot o.pool.at (knows.open_pools m o (more.same m apart ∙ there))
+      ];
+    }
+
+-- one goes on, on the same puddles
+pub KnowsPools-later : (F : ℕ) (judged : List (Option Known)) (number : ℕ) (one : OpenTransaction) (opens : Opens) (known : Known) (before after : Image) → opens number ≡ Some one → known.at ≡ one.pool.at
+    → KeepsPools F (Some one.pool.slot) before after → HasGraphIn F one.pool.slot after one.pool.at → IsKnown F after known → KnowsPools F judged opens before → KnowsPools F (set judged one.pool.slot (Some known)) opens after
+KnowsPools-later F judged number one opens known before after there puddles keeps has is knows =
+    let was = knows.open_pools number one there ∙ ap (λ (at : List (ℕ × Puddle)). Some at) (sym puddles) in
+    record {
+      judged = AreJudged-own F one.pool.slot judged known before after keeps (subst (HasGraphIn F one.pool.slot after) (sym puddles) has) is knows.judged;
+      open_pools = λ m o here. known_anew judged one.pool.slot known was o.pool.slot o.pool.at (knows.open_pools m o here);
+    }
+
+-- more is known of a pool, or less, and its puddles are known still
+pub KnowsPools-anew : (F slot : ℕ) (judged : List (Option Known)) (opens : Opens) (known : Known) (image : Image) → known_in judged slot ≡ Some known.at → IsKnown F image known → KnowsPools F judged opens image
+    → KnowsPools F (set judged slot (Some known)) opens image
+KnowsPools-anew F slot judged opens known image was is knows = record {
+  judged = AreJudged-set F judged slot known image (knows.judged.each slot known.at was) is knows.judged;
+  open_pools = λ m o here. known_anew judged slot known was o.pool.slot o.pool.at (knows.open_pools m o here);
+}
 
 -- what its calls do
 module _ (w : World) (h : Held) (mask : Write) (old new : State) (is : IsHeld w h mask old.now.words) where

@@ -205,6 +205,8 @@ module _ (F : ℕ) (but : Option ℕ) (old new : State) (puts : List Put) (frame
         words = λ slot at apart has k mine.
             then.words slot at (λ same. other slot at apart has (sym (same_Some r.pool slot same))) (filled.each slot at (λ no. none-some slot no) has) k mine
             ∙ filled.words slot at (λ no. none-some slot no) has k mine;
+        known = λ slot known apart has is.
+            then.known slot known (λ same. other slot known.at apart has (sym (same_Some r.pool slot same))) (filled.each slot known.at (λ no. none-some slot no) has) (filled.known slot known (λ no. none-some slot no) has is);
       }
 
   -- a puddle more, of none of the pools that are to stay
@@ -213,7 +215,11 @@ module _ (F : ℕ) (but : Option ℕ) (old new : State) (puts : List Put) (frame
     | inl end ↦
         let filled = KeepsPools-filled F frame number ordinal old c.mid free (subst (λ (f : Option HostFault). Persists fill f old c.mid) (sym end.1) c.persists) in
         let all = KeepsPools-then F None (reads old.now.words) (reads c.mid.now.words) (reads new.now.words) filled (KeepsPools-still F None c.mid new end.0) in
-        record { each = λ slot at apart has. all.each slot at (λ no. none-some slot no) has; words = λ slot at apart has. all.words slot at (λ no. none-some slot no) has }
+        record {
+          each = λ slot at apart has. all.each slot at (λ no. none-some slot no) has;
+          words = λ slot at apart has. all.words slot at (λ no. none-some slot no) has;
+          known = λ slot known apart. all.known slot known (λ no. none-some slot no);
+        }
     | inr on ↦ more_by c.mid (subst (λ (f : Option HostFault). Persists fill f old c.mid) on.0 c.persists) on.1
   ]
 

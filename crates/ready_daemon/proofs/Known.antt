@@ -1,5 +1,5 @@
 -- What is known of pools, once one's puddles are kept, or it is forgotten.
-use Rattle.std.proofs.Common.{◌≡◌, ℕ, true, false, true≢false, List, [], length, length-set, replicate, set, Option, Some, None, is_some, unwrap_or, refl, sym, ap, subst, ◌∙◌, arith, inl, inr}
+use Rattle.std.proofs.Common.{◌≡◌, ◌≢◌, ℕ, ◌<◌, option_map, true, false, true≢false, List, [], length, length-set, replicate, set, Option, Some, None, is_some, unwrap_or, refl, sym, ap, subst, ◌∙◌, arith, inl, inr}
 use Rattle.std.proofs.lemmas.Bool.{cases_eq, cases_lt}
 use Rattle.std.proofs.lemmas.List.{get_or-set_same, get_or-set_other, get_or_past, get_or-replicate, length-replicate}
 use Rattle.std.proofs.lemmas.Option.{none-some, same_Some}
@@ -7,14 +7,19 @@ use Rattle.pud_defs.specs.declared.records.Puddle.{Puddle}
 use Rattle.pud_defs.specs.Image.{Image}
 use Rattle.pud_defs.specs.Stored.{IsOnDevice}
 use Rattle.ready_daemon.specs.Judged.{puddles_with_graph}
-use Rattle.ready_daemon.specs.Judged.{known_in, AreOnDevice, AreJudged}
+use Rattle.pud_defs.proofs.Keyed.{option_map_parts}
+use Rattle.known_pool.specs.Known.{Known, IsKnown, by_puddles}
+use Rattle.ready_daemon.specs.Judged.{pool_in, puddles_known, known_in, alone_in, AreOnDevice, AreJudged}
 
 -- of no pool anything is known
-pub none_known_in : (n slot : ℕ) → known_in (replicate n None) slot ≡ None
-none_known_in n slot = elim (cases_lt slot n) [
+pub none_pool_in : (n slot : ℕ) → pool_in (replicate n None) slot ≡ None
+none_pool_in n slot = elim (cases_lt slot n) [
   | inl within ↦ get_or-replicate n slot None None within
-  | inr past ↦ get_or_past (replicate n None) slot None (omega (arith, past, length-replicate {A = Option (List (ℕ × Puddle))} n None))
+  | inr past ↦ get_or_past (replicate n None) slot None (omega (arith, past, length-replicate {A = Option Known} n None))
 ]
+
+pub none_known_in : (n slot : ℕ) → known_in (replicate n None) slot ≡ None
+none_known_in n slot = ap (option_map (λ (k : Known). k.at)) (none_pool_in n slot)
 
 pub none_known : (n slot : ℕ) (here : List (ℕ × Puddle)) → known_in (replicate n None) slot ≡ Some here → ⊥
 none_known n slot here is = none-some here (sym (none_known_in n slot) ∙ is)
@@ -23,51 +28,82 @@ pub AreOnDevice-none : (F n : ℕ) → AreOnDevice F (replicate n None)
 AreOnDevice-none F n = record { each = λ slot here is. absurd (none_known n slot here is) }
 
 pub AreJudged-none : (F n : ℕ) (image : Image) → AreJudged F (replicate n None) image
-AreJudged-none F n image = record { each = λ slot here is. absurd (none_known n slot here is) }
+AreJudged-none F n image = record { each = λ slot here is. absurd (none_known n slot here is); known = λ slot known is. absurd (none-some known (sym (none_pool_in n slot) ∙ is)) }
 
-module _ (judged next : List (Option (List (ℕ × Puddle)))) (slot : ℕ) (at : List (ℕ × Puddle)) (put : next ≡ set judged slot (Some at)) (known : known_in next slot ≡ Some at) where
-  -- what is known then is what was kept, or was known before
-  kept_from : (P : ℕ → List (ℕ × Puddle) → Type 0) → P slot at → ((i : ℕ) (here : List (ℕ × Puddle)) → known_in judged i ≡ Some here → P i here) → (i : ℕ) (here : List (ℕ × Puddle)) → known_in next i ≡ Some here → P i here
-  kept_from P kept before i here is = elim (cases_eq i slot) [
-    | inl same ↦ subst (λ (j : ℕ). P j here) (sym same) (subst (P slot) (same_Some _ _ (sym known ∙ ap (known_in next) (sym same) ∙ is)) kept)
-    | inr other ↦ before i here (sym (ap (λ js. known_in js i) put ∙ get_or-set_other judged slot i (Some at) None other) ∙ is)
-  ]
+-- what was kept of a pool is known of it, and of others what was known before
+pub pool_kept : (judged : List (Option Known)) (slot : ℕ) (put : Option Known) → slot < length judged → pool_in (set judged slot put) slot ≡ put
+pool_kept judged slot put within = get_or-set_same judged slot put None within
 
-  pub AreOnDevice-put : (F : ℕ) → IsOnDevice F at → AreOnDevice F judged → AreOnDevice F next
-  AreOnDevice-put F kept before = record { each = kept_from (λ i here. IsOnDevice F here) kept before.each }
+pub pool_other : (judged : List (Option Known)) (slot i : ℕ) (put : Option Known) → i ≢ slot → pool_in (set judged slot put) i ≡ pool_in judged i
+pool_other judged slot i put other = get_or-set_other judged slot i put None other
 
-  pub AreJudged-put : (F : ℕ) (image : Image) → puddles_with_graph F image slot ≡ Some at → AreJudged F judged image → AreJudged F next image
-  AreJudged-put F image kept before = record { each = kept_from (λ i here. puddles_with_graph F image i ≡ Some here) kept before.each }
+-- the same of the puddles
+pub known_kept_there : (judged : List (Option Known)) (slot : ℕ) (known : Known) → slot < length judged → known_in (set judged slot (Some known)) slot ≡ Some known.at
+known_kept_there judged slot known within = ap (option_map (λ (k : Known). k.at)) (pool_kept judged slot (Some known) within)
 
--- wherever they are kept
-pub AreJudged-set : (F : ℕ) (judged : List (Option (List (ℕ × Puddle)))) (slot : ℕ) (at : List (ℕ × Puddle)) (image : Image) → puddles_with_graph F image slot ≡ Some at → AreJudged F judged image
-    → AreJudged F (set judged slot (Some at)) image
-AreJudged-set F judged slot at image kept before = elim (cases_lt slot (length judged)) [
-  | inl within ↦ AreJudged-put judged (set judged slot (Some at)) slot at refl (get_or-set_same judged slot (Some at) None within) F image kept before
-  | inr past ↦ record {
-    each = λ i here is. elim (cases_eq i slot) [
-      | inl same ↦
-          absurd (none-some here (sym (ap (known_in (set judged slot (Some at))) same ∙ get_or_past (set judged slot (Some at)) slot None (omega (arith, past, length-set judged slot (Some at)))) ∙ is))
-      | inr other ↦ before.each i here (sym (get_or-set_other judged slot i (Some at) None other) ∙ is)
-    ];
-  }
-]
+pub known_other : (judged : List (Option Known)) (slot i : ℕ) (put : Option Known) → i ≢ slot → known_in (set judged slot put) i ≡ known_in judged i
+known_other judged slot i put other = ap (option_map (λ (k : Known). k.at)) (pool_other judged slot i put other)
 
--- what is known of a pool that is forgotten, or of another one, was known before
-known_before : (judged : List (Option (List (ℕ × Puddle)))) (slot i : ℕ) (here : List (ℕ × Puddle)) → known_in (set judged slot None) i ≡ Some here → known_in judged i ≡ Some here
-known_before judged slot i here is = elim (cases_eq i slot) [
+-- what was put in the slot, or was known before, where it is known
+pool_from : (judged : List (Option Known)) (slot : ℕ) (put : Option Known) (P : ℕ → Known → Type 0) → ((known : Known) → put ≡ Some known → P slot known) → ((i : ℕ) (known : Known) → pool_in judged i ≡ Some known → P i known)
+    → (i : ℕ) (known : Known) → pool_in (set judged slot put) i ≡ Some known → P i known
+pool_from judged slot put P kept before i known is = elim (cases_eq i slot) [
+  | inr other ↦ before i known (sym (pool_other judged slot i put other) ∙ is)
   | inl same ↦ elim (cases_lt slot (length judged)) [
-    | inl within ↦ absurd (none-some here (sym (ap (λ j. known_in (set judged slot None) j) same ∙ get_or-set_same judged slot None None within) ∙ is))
-    | inr past ↦ absurd (none-some here (sym (ap (λ j. known_in (set judged slot None) j) same ∙ get_or_past (set judged slot None) slot None (omega (arith, past, length-set judged slot None))) ∙ is))
+    | inl within ↦ subst (λ (j : ℕ). P j known) (sym same) (kept known (sym (pool_kept judged slot put within) ∙ ap (pool_in (set judged slot put)) (sym same) ∙ is))
+    | inr past ↦ absurd (none-some known (sym (ap (pool_in (set judged slot put)) same ∙ get_or_past (set judged slot put) slot None (omega (arith, past, length-set judged slot put))) ∙ is))
   ]
-  | inr other ↦ sym (get_or-set_other judged slot i None None other) ∙ is
 ]
 
-pub AreOnDevice-forgotten : (F : ℕ) (judged : List (Option (List (ℕ × Puddle)))) (slot : ℕ) → AreOnDevice F judged → AreOnDevice F (set judged slot None)
-AreOnDevice-forgotten F judged slot before = record { each = λ i here is. before.each i here (known_before judged slot i here is) }
+-- where puddles are known, they are known alone once the rest is forgotten
+alone_by : (o : Option Known) (at : List (ℕ × Puddle)) → option_map (λ (k : Known). k.at) o ≡ Some at → option_map (λ (k : Known). by_puddles k.at) o ≡ Some (by_puddles at)
+alone_by None at none = absurd (none-some at none)
+alone_by (Some known) at is = ap (λ (ps : List (ℕ × Puddle)). Some (by_puddles ps)) (same_Some known.at at is)
 
-pub AreJudged-forgotten : (F : ℕ) (judged : List (Option (List (ℕ × Puddle)))) (slot : ℕ) (image : Image) → AreJudged F judged image → AreJudged F (set judged slot None) image
-AreJudged-forgotten F judged slot image before = record { each = λ i here is. before.each i here (known_before judged slot i here is) }
+pub alone_in-known : (judged : List (Option Known)) (slot : ℕ) (at : List (ℕ × Puddle)) → known_in judged slot ≡ Some at → alone_in slot judged ≡ set judged slot (Some (by_puddles at))
+alone_in-known judged slot at is = ap (set judged slot) (alone_by (pool_in judged slot) at is)
+
+-- what is known of a pool's puddles is known of the pool
+pool_of_known : (judged : List (Option Known)) (slot : ℕ) (at : List (ℕ × Puddle)) → known_in judged slot ≡ Some at → (known : Known) × ((pool_in judged slot ≡ Some known) × (known.at ≡ at))
+pool_of_known judged slot at is = let of = option_map_parts (λ (k : Known). k.at) (pool_in judged slot) at is in (of.value, (of.is, of.gives))
+
+-- the same of its puddles alone
+known_from : (judged : List (Option Known)) (slot : ℕ) (put : Option Known) (P : ℕ → List (ℕ × Puddle) → Type 0) → ((known : Known) → put ≡ Some known → P slot known.at)
+    → ((i : ℕ) (here : List (ℕ × Puddle)) → known_in judged i ≡ Some here → P i here) → (i : ℕ) (here : List (ℕ × Puddle)) → known_in (set judged slot put) i ≡ Some here → P i here
+known_from judged slot put P kept before i here is =
+    let of = pool_of_known (set judged slot put) i here is in
+    subst (P i) of.1.1 (pool_from judged slot put (λ j known. P j known.at) kept (λ j known was. before j known.at (ap (option_map (λ (k : Known). k.at)) was)) i of.0 of.1.0)
+
+-- of a pool this is kept, wherever that is
+pub AreOnDevice-put : (F : ℕ) (judged : List (Option Known)) (slot : ℕ) (known : Known) → IsOnDevice F known.at → AreOnDevice F judged → AreOnDevice F (set judged slot (Some known))
+AreOnDevice-put F judged slot known kept before =
+    record { each = known_from judged slot (Some known) (λ i here. IsOnDevice F here) (λ k is. subst (λ (x : Known). IsOnDevice F x.at) (same_Some known k is) kept) before.each }
+
+pub AreJudged-set : (F : ℕ) (judged : List (Option Known)) (slot : ℕ) (known : Known) (image : Image) → puddles_with_graph F image slot ≡ Some known.at → IsKnown F image known → AreJudged F judged image
+    → AreJudged F (set judged slot (Some known)) image
+AreJudged-set F judged slot known image has is before = record {
+  each = known_from judged slot (Some known) (λ i here. puddles_with_graph F image i ≡ Some here) (λ k same. subst (λ (x : Known). puddles_with_graph F image slot ≡ Some x.at) (same_Some known k same) has) before.each;
+  known = pool_from judged slot (Some known) (λ i k. IsKnown F image k) (λ k same. subst (IsKnown F image) (same_Some known k same) is) before.known;
+}
+
+-- a pool is forgotten
+pub AreOnDevice-forgotten : (F : ℕ) (judged : List (Option Known)) (slot : ℕ) → AreOnDevice F judged → AreOnDevice F (set judged slot None)
+AreOnDevice-forgotten F judged slot before = record { each = known_from judged slot None (λ i here. IsOnDevice F here) (λ k no. absurd (none-some k no)) before.each }
+
+-- all but its puddles is forgotten
+pub AreOnDevice-alone : (F : ℕ) (judged : List (Option Known)) (slot : ℕ) → AreOnDevice F judged → AreOnDevice F (alone_in slot judged)
+AreOnDevice-alone F judged slot before = record {
+  each = known_from judged slot (option_map (λ (k : Known). by_puddles k.at) (pool_in judged slot)) (λ i here. IsOnDevice F here)
+      (λ k is. let of = option_map_parts (λ (x : Known). by_puddles x.at) (pool_in judged slot) k is in
+      subst (λ (x : Known). IsOnDevice F x.at) of.gives (before.each slot of.value.at (ap puddles_known of.is)))
+      before.each;
+}
+
+pub AreJudged-forgotten : (F : ℕ) (judged : List (Option Known)) (slot : ℕ) (image : Image) → AreJudged F judged image → AreJudged F (set judged slot None) image
+AreJudged-forgotten F judged slot image before = record {
+  each = known_from judged slot None (λ i here. puddles_with_graph F image i ≡ Some here) (λ k no. absurd (none-some k no)) before.each;
+  known = pool_from judged slot None (λ i k. IsKnown F image k) (λ k no. absurd (none-some k no)) before.known;
+}
 
 -- ---- a pool that is known has a graph
 
@@ -77,7 +113,7 @@ known_puddles F slot image None is each = absurd (true≢false is)
 known_puddles F slot image (Some at) is each = sym (each at refl)
 
 -- of the puddles that are known
-pub judged_puddles : (F slot : ℕ) (image : Image) (judged : List (Option (List (ℕ × Puddle)))) → true ≡ is_some (known_in judged slot) → AreJudged F judged image
+pub judged_puddles : (F slot : ℕ) (image : Image) (judged : List (Option Known)) → true ≡ is_some (known_in judged slot) → AreJudged F judged image
     → Some (unwrap_or (known_in judged slot) []) ≡ puddles_with_graph F image slot
 judged_puddles F slot image judged is right = known_puddles F slot image (known_in judged slot) is (right.each slot)
 

@@ -37,3 +37,4 @@ pub mod Counting
 pub mod Losing
 pub mod PlacedWords
 pub mod PlacedPools
+pub mod SerialsKept

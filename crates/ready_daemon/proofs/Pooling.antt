@@ -54,6 +54,7 @@ use Rattle.registry.specs.Pools.{changing, dropping, OrStill, CommitsPuts, Makes
 use Rattle.registry.proofs.Joined.{few_puddles}
 use Rattle.nesting.specs.Sessions.{holder_in}
 use Rattle.ready_daemon.proofs.RestBeside.{rest_beside}
+use Rattle.known_pool.specs.Known.{Known}
 use Rattle.ready_daemon.specs.Memory.{Held, Memory, held_under}
 use Rattle.ready_daemon.specs.Held.{Holds, IsBeside}
 use Rattle.ready_daemon.specs.KnownPools.{KnowsPools}
@@ -214,7 +215,7 @@ IsNotNamed name held = (number : ℕ) (h : Held) → held_under held number ≡ 
 -- pools were changed: the command gives the world with the next stored one
 pub Applies-pools : (becomes : Member → Option Member → Type 0) (size : ℕ) (w : World) (memory : Memory) (c : Command) (next : StoredWorld) (also : Image → Type 0) (fault : Option HostFault) (old new : State) (ready : IsReady size w memory old)
     → LeavesPuddles w.stored.frames becomes old new → refusal_of w c ≡ None → after w c ≡ record w { stored = next } → KeepsPool w.stored next memory.held → ChangesBeside size w.stored next also ready.mask fault old new
-    → (judged : List (Option (List (ℕ × Puddle)))) → (fault ≡ None → KnowsPools w.stored.frames judged ready.held.opens (reads new.now.words))
+    → (judged : List (Option Known)) → (fault ≡ None → KnowsPools w.stored.frames judged ready.held.opens (reads new.now.words))
     → (but : Option ℕ) → ((number : ℕ) (h : Held) → held_under memory.held number ≡ Some h → but ≢ Some h.slot)
     → (fault ≡ None → KeepsPools w.stored.frames but (reads old.now.words) (reads new.now.words)) → AppliesBy becomes size w (world_by w (Some c)) (record memory { judged = judged }) fault old new
 Applies-pools becomes size w memory c next also fault old new ready puddles free gives keeps b judged knows but apart stay =

@@ -5,12 +5,19 @@ use Rattle.pud_defs.specs.Layout.{tables_end}
 use Rattle.pud_defs.specs.Transactions.{with_open, without_client}
 use Rattle.pud_defs.specs.World.{World}
 use Rattle.nesting.specs.declared.Session.{Session}
+use Rattle.known_pool.specs.Known.{Known}
+use Rattle.ready_daemon.specs.Judged.{alone_in}
 use Rattle.ready_daemon.specs.Memory.{Held}
 
 -- the sessions, without that of this one
 abbrev pub sessions_behind : Option Held → List (Option Session) → List (Option Session)
 sessions_behind None sessions = sessions
 sessions_behind (Some held) sessions = set sessions held.slot None
+
+-- what is known of pools, of its own the puddles alone
+abbrev pub judged_behind : Option Held → List (Option Known) → List (Option Known)
+judged_behind None judged = judged
+judged_behind (Some held) judged = alone_in held.slot judged
 
 -- the world in which this one is not open
 abbrev pub world_without_log : Option Held → World → World

@@ -1,7 +1,7 @@
 -- What the daemon holds in memory between two lines.
 use Rattle.std.specs.Prelude.{ℕ, List, set, slice_index_or, Option, None}
-use Rattle.pud_defs.specs.declared.records.Puddle.{Puddle}
 use Rattle.hybrid_tx.specs.Objects.Transactions.{OpenTx}
+use Rattle.known_pool.specs.Known.{Known}
 use Rattle.nesting.specs.declared.Session.{Session}
 
 -- A transaction that is open: whose it is, the name of its pool, the slot of the pool's record, the number of its log among those of all clients, and
@@ -20,8 +20,8 @@ pub record Memory : Type 0 where
   pub held : List (Option Held)
   -- whose transaction is open on a pool, with which log, and how often it was begun, by the slots of the pools' records
   pub sessions : List (Option Session)
-  -- the puddles of pools that have a graph, by their ordinals, each with its frame, by the slots of the pools' records, as far as they were asked for
-  pub judged : List (Option (List (ℕ × Puddle)))
+  -- what is known of pools that have a graph, by the slots of the pools' records, as far as it was asked for
+  pub judged : List (Option Known)
 
 -- the transaction that is open with the log of this number
 abbrev pub held_under : List (Option Held) → (number : ℕ) → Option Held

@@ -1,27 +1,32 @@
-use Rattle.std.proofs.Common.{◌≡◌, ℕ, List, Option, Some, sym, ap, subst, ◌∙◌, rules, refl}
+use Rattle.std.proofs.Common.{◌≡◌, List, Option, Some, sym, ap, subst, ◌∙◌, rules, refl}
 use Rattle.std.specs.Prelude.{IfOk}
 use Rattle.std.proofs.lemmas.Option.{same_Some}
 use Rattle.pm_model.specs.Counts.{fault_of}
 use Rattle.pud_defs.specs.declared.machine.Command.{Command}
-use Rattle.pud_defs.specs.declared.records.Puddle.{Puddle}
 use Rattle.pud_defs.specs.Step.{answer_by}
 use Rattle.pud_defs.specs.Step.Answer.{of_reply}
-use Rattle.ready_daemon.specs.Judged.{known_in}
+use Rattle.known_pool.specs.Known.{Known}
+use Rattle.ready_daemon.specs.Judged.{pool_in}
 use Rattle.ready_daemon.specs.Held.{IsHeldWithin}
 use Rattle.ready_daemon.specs.Ready.{IsReady}
 use Rattle.ready_daemon.proofs.HeldUnder.{AreHeldWithin-set, read_there, read_within}
-use Rattle.puddled.proofs.Changing.{known_there, is_known, held_in, asked, Applies-changed}
+use Rattle.puddled.proofs.Changing.{known_there, on_device_there, is_known, held_in, asked, Applies-changed}
 use Rattle.puddled.proofs.commands.change_in.Goals as goal
 use Rattle.puddled.proofs.commands.change_in.Goals.{in-Some-pools, in-None-pools}
 
 pub change-requires-clause-within : goal.change-requires-clause-within
 change-requires-clause-within g c = read_within _ _ _ _ _ c.in-Some.opened c.requires.within (search rules) refl c.in-Some.is
 
+pub change-requires-clause-known : goal.change-requires-clause-known
+change-requires-clause-known g c =
+    on_device_there c.args.frames c.args.judged.now c.args.own.slot c.in-Some-pools.pool c.requires.known
+    (ap (λ (ps : List (Option Known)). pool_in ps c.args.own.slot) (sym c.judged.view_is) ∙ known_there c.judged.inside.pools c.args.own.slot _ c.index-judged-own.result (search rules) refl ∙ c.in-Some-pools.is)
+
 pub returns-after-judged-own-clause-reply : goal.returns-after-judged-own-clause-reply
 returns-after-judged-own-clause-reply g c = λ t size e w sessions client name ready own.
     let mine = c.in-Some.opened in
     let there = read_there c.args.all.now c.args.own.number _ c.index-all-own.result mine (search rules) refl c.in-Some.is in
-    let read = ap (λ (ps : List (Option (List (ℕ × Puddle)))). known_in ps c.args.own.slot) (sym c.judged.view_is) ∙ known_there c.judged.inside.pools c.args.own.slot _ c.index-judged-own.result (search rules) refl in
+    let read = ap (λ (ps : List (Option Known)). pool_in ps c.args.own.slot) (sym c.judged.view_is) ∙ known_there c.judged.inside.pools c.args.own.slot _ c.index-judged-own.result (search rules) refl in
     elim c.match-judged-own.branch [
       | in-Some-pools b ↦
           let known = read ∙ b.in-Some-pools.is in
@@ -38,7 +43,7 @@ returns-after-judged-own-clause-applies g c = λ t size e w sessions client name
     let there = read_there c.args.all.now c.args.own.number _ c.index-all-own.result mine (search rules) refl c.in-Some.is in
     let pools = c.judged.inside.pools in
     let read = known_there pools c.args.own.slot _ c.index-judged-own.result (search rules) refl in
-    let then = subst (λ (ps : List (Option (List (ℕ × Puddle)))). IsReady size w (record { frames = c.args.frames; held = c.args.all.now; sessions = sessions; judged = ps }) s) (sym c.judged.view_is) ready in
+    let then = subst (λ (ps : List (Option Known)). IsReady size w (record { frames = c.args.frames; held = c.args.all.now; sessions = sessions; judged = ps }) s) (sym c.judged.view_is) ready in
     elim c.match-judged-own.branch [
       | in-Some-pools b ↦
           let known = read ∙ b.in-Some-pools.is in

@@ -1,40 +1,49 @@
-use Rattle.std.proofs.Common.{◌≡◌, ℕ, List, Option, Some, sym, ap, subst, ◌∙◌, rules, refl}
+use Rattle.std.proofs.Common.{◌≡◌, ℕ, List, Option, Some, option_map, sym, ap, subst, ◌∙◌, rules, refl}
 use Rattle.std.specs.Prelude.{set}
 use Rattle.std.proofs.lemmas.Option.{none-some, same_Some}
 use Rattle.pm_model.specs.Counts.{fault_of}
 use Rattle.pud_defs.specs.declared.records.Puddle.{Puddle}
 use Rattle.log_replay.specs.Replaying.{Anything}
 use Rattle.lazy_rewrite.specs.Frontiers.{steps_from, frontiers_of}
-use Rattle.ready_daemon.specs.Judged.{known_in}
+use Rattle.known_pool.specs.Known.{Known}
+use Rattle.ready_daemon.specs.Judged.{pool_in, known_in}
 use Rattle.ready_daemon.specs.Moves.{MovesTo, led_in}
 use Rattle.ready_daemon.specs.Ready.{IsReady, AppliesBy}
 use Rattle.ready_daemon.proofs.Keeping.{KeepsRest-changes, KeepsRest-still}
-use Rattle.puddled.proofs.Changing.{known_there}
+use Rattle.puddled.proofs.Changing.{known_there, on_device_there}
 use Rattle.puddled.proofs.Rewritten.{Applies-stepped, steps_known, steps_none, moves_known, moves_none}
 use Rattle.puddled.proofs.rewriting.step_in.Goals as goal
 use Rattle.puddled.proofs.rewriting.step_in.Goals.{in-Some, in-None}
+
+pub step_pool-requires-clause-known : goal.step_pool-requires-clause-known
+step_pool-requires-clause-known g c =
+    on_device_there c.args.frames c.args.judged.now c.args.slot c.in-Some.pool c.requires.known
+    (ap (λ (ps : List (Option Known)). pool_in ps c.args.slot) (sym c.judged.view_is) ∙ known_there c.judged.inside.pools c.args.slot _ c.index-judged-slot.result (search rules) refl ∙ c.in-Some.is)
 
 pub returns-clause-applies : goal.returns-clause-applies
 returns-clause-applies g c = λ t size e at known w held sessions ready.
     let s = g.H.Host.state c.args.h.now in
     let pools = c.judged.inside.pools in
     let read = known_there pools c.args.slot _ c.index-judged-slot.result (search rules) refl in
-    let then = subst (λ (ps : List (Option (List (ℕ × Puddle)))). IsReady size w (record { frames = c.args.frames; held = held; sessions = sessions; judged = ps }) s) (sym c.judged.view_is) ready in
+    let then = subst (λ (ps : List (Option Known)). IsReady size w (record { frames = c.args.frames; held = held; sessions = sessions; judged = ps }) s) (sym c.judged.view_is) ready in
     elim c.match-judged-slot.branch [
       | in-Some b ↦
-          let pool = b.in-Some.pool in
-          let same : at ≡ pool = same_Some at pool (sym known ∙ ap (λ (ps : List (Option (List (ℕ × Puddle)))). known_in ps c.args.slot) (sym c.judged.view_is) ∙ read ∙ b.in-Some.is) in
+          let pool : Known = b.in-Some.pool in
+          let here : known_in pools c.args.slot ≡ Some pool.at = ap (option_map (λ (k : Known). k.at)) (read ∙ b.in-Some.is) in
+          let same : at ≡ pool.at = same_Some at pool.at (sym known ∙ ap (λ (ps : List (Option Known)). known_in ps c.args.slot) (sym c.judged.view_is) ∙ here) in
           rw (b.result-is, b.judged-inside-is, b.h-is)
           (subst (λ (ps : List (ℕ × Puddle)). AppliesBy (MovesTo (led_in c.args.slot (frontiers_of (steps_from c.args.n ps)))) size w w
-          (record { frames = c.args.frames; held = held; sessions = sessions; judged = set pools c.args.slot (Some b.step.new.pool) }) (fault_of b.step.result) s (g.H.Host.state b.step.new.h)) (sym same)
-          (Applies-stepped size w c.args.frames held sessions pools s then c.args.slot c.requires.slot pool (read ∙ b.in-Some.is) (frontiers_of (steps_from c.args.n pool)) b.step.new.pool (fault_of b.step.result)
-          (g.H.Host.state b.step.new.h) (λ idle low. b.step.ensures.rewrites t size e idle low)))
-      | in-None b ↦ absurd (none-some at (sym (read ∙ b.in-None.is) ∙ ap (λ (ps : List (Option (List (ℕ × Puddle)))). known_in ps c.args.slot) c.judged.view_is ∙ known))
+          (record { frames = c.args.frames; held = held; sessions = sessions; judged = set pools c.args.slot (Some b.step_pool.new.pool) }) (fault_of b.step_pool.result) s (g.H.Host.state b.step_pool.new.h)) (sym same)
+          (subst (λ (k : Known). AppliesBy (MovesTo (led_in c.args.slot (frontiers_of (steps_from c.args.n pool.at)))) size w w
+          (record { frames = c.args.frames; held = held; sessions = sessions; judged = set pools c.args.slot (Some k) }) (fault_of b.step_pool.result) s (g.H.Host.state b.step_pool.new.h)) (sym b.step_pool.ensures.rest)
+          (Applies-stepped size w c.args.frames held sessions pools s then c.args.slot c.requires.slot pool (read ∙ b.in-Some.is) (frontiers_of (steps_from c.args.n pool.at)) b.step_pool.new.pool.at (fault_of b.step_pool.result)
+          (g.H.Host.state b.step_pool.new.h) (λ idle low. b.step_pool.ensures.rewrites t size e idle low))))
+      | in-None b ↦ absurd (none-some at (sym (ap (option_map (λ (k : Known). k.at)) (read ∙ b.in-None.is)) ∙ ap (λ (ps : List (Option Known)). known_in ps c.args.slot) c.judged.view_is ∙ known))
     ]
 
 pub returns-clause-rest : goal.returns-clause-rest
 returns-clause-rest g c = λ t. elim c.match-judged-slot.branch [
-  | in-Some b ↦ rw b.h-is (KeepsRest-changes Anything (fault_of b.step.result) _ _ (b.step.ensures.any t))
+  | in-Some b ↦ rw b.h-is (KeepsRest-changes Anything (fault_of b.step_pool.result) _ _ (b.step_pool.ensures.any t))
   | in-None b ↦ rw b.h-is (KeepsRest-still _ _ refl)
 ]
 
@@ -45,7 +54,7 @@ returns-clause-moves g c =
     elim c.match-judged-slot.branch [
       | in-Some b ↦
           rw (b.result-is, b.judged-inside-is)
-          (moves_known b.step.result pools c.args.judged.now c.args.slot c.args.n b.in-Some.pool b.step.new.pool c.judged.view_is (read ∙ b.in-Some.is) b.step.ensures.pool)
+          (moves_known b.step_pool.result pools c.args.judged.now c.args.slot c.args.n b.in-Some.pool b.step_pool.new.pool c.judged.view_is (read ∙ b.in-Some.is) b.step_pool.ensures.rest b.step_pool.ensures.pool)
       | in-None b ↦ rw (b.result-is, b.judged-inside-is) (moves_none pools c.args.judged.now _ c.args.slot c.args.n c.judged.view_is (read ∙ b.in-None.is))
     ]
 
@@ -54,6 +63,8 @@ returns-clause-steps g c =
     let pools = c.judged.inside.pools in
     let read = known_there pools c.args.slot _ c.index-judged-slot.result (search rules) refl in
     elim c.match-judged-slot.branch [
-      | in-Some b ↦ rw b.result-is (steps_known b.step.result pools c.args.judged.now c.args.slot c.args.n b.in-Some.pool c.judged.view_is (read ∙ b.in-Some.is) b.step.ensures.steps)
-      | in-None b ↦ rw b.result-is (steps_none pools c.args.judged.now c.args.slot c.args.n 0 c.judged.view_is (read ∙ b.in-None.is))
+      | in-Some b ↦
+          let pool : Known = b.in-Some.pool in
+          rw b.result-is (steps_known b.step_pool.result pools c.args.judged.now c.args.slot c.args.n pool.at c.judged.view_is (ap (option_map (λ (k : Known). k.at)) (read ∙ b.in-Some.is)) b.step_pool.ensures.steps)
+      | in-None b ↦ rw b.result-is (steps_none pools c.args.judged.now c.args.slot c.args.n 0 c.judged.view_is (ap (option_map (λ (k : Known). k.at)) (read ∙ b.in-None.is)))
     ]

@@ -21,7 +21,7 @@ use Rattle.lazy_rewrite.specs.Frontiers.{frontiers_of}
 use Rattle.hybrid_tx.specs.Objects.Transactions.{MakesIn}
 use Rattle.hybrid_tx.proofs.Objects.LowestSlot.{one_lowest, lowest_is_free, one_slot, first_there}
 use Rattle.hybrid_tx.proofs.Objects.ObjectPut.{MakesIn-stopped}
-use Rattle.ready_daemon.specs.Judged.{known_in}
+use Rattle.ready_daemon.specs.Judged.{puddles_known, KnowsAlone}
 use Rattle.ready_daemon.specs.Memory.{Held, held_under}
 use Rattle.ready_daemon.specs.Moves.{led_in}
 use Rattle.ready_daemon.specs.Ready.{IsReady}
@@ -177,7 +177,7 @@ returns-clause-makes g c = λ t size w memory its ready none less.
     finishing_led c.args.self.now.slot (FinishesLowest F at image) (end_of_both o) (finishes_lowest F at image c.in-Ok.at within found) size w _ _ _ _ _
     (subst (λ (s : State). AppliesTo (led_in c.args.self.now.slot (end_of_both o)) size w (with_made c.args.self.now.name c.args.t w) (with_opened c.args.self.now.number c.args.self.now.slot (with_tx c.new_at-made.new.self held) later memory) fault s new) still
     (subst (λ (o : Held).
-    held_under memory.held o.number ≡ Some o → known_in memory.judged o.slot ≡ Some at → refusal_by_world w o c.args.t ≡ None
+    held_under memory.held o.number ≡ Some o → KnowsAlone memory.judged o.slot at → refusal_by_world w o c.args.t ≡ None
     → AppliesTo (led_in o.slot (end_of_both c.in-Ok.at.ordinal)) size w (with_made o.name c.args.t w) (with_opened o.number o.slot (with_tx c.new_at-made.new.self held) later memory) fault start new)
     c.self.view_is
     (λ there known none.
@@ -188,9 +188,9 @@ returns-clause-makes g c = λ t size w memory its ready none less.
     (may_make_at size w memory held start held.number there then F same at known goal later mid owes c.in-Ok.at c.in_ok-finish_both.ensures.pool lowest) in
     Applies-behind size w memory held start held.number there then F same at known goal later (both_finished c.in-Ok.at.ordinal at) (end_of_both c.in-Ok.at.ordinal)
     (ends_both at c.in-Ok.at.ordinal (its_frontiers size w memory held start held.number there then F same at known)) mid owes (with_made held.name c.args.t w) (with_opened held.number held.slot (with_tx c.new_at-made.new.self held) later memory) fault new refl
-    (known_then ∙ ap (λ (ds : List (ℕ × Puddle)). Some ds) c.in_ok-finish_both.ensures.pool)
+    (ap puddles_known known_then ∙ ap (λ (ds : List (ℕ × Puddle)). Some ds) c.in_ok-finish_both.ensures.pool)
     (Applies-made size w behind held mid held.number there ready_then F c.as_slice-2.result.now same (c.as_slice-2.ensures.puddles ∙ its_puddles size w behind held mid held.number there ready_then F same later known_then)
-    c.args.t none c.new_at-made.new.self new c.new_at-made.ensures.at c.new_at-made.result
+    c.args.t none c.new_at-made.new.self new c.new_at-made.ensures.at (subst (KnowsAlone behind.judged held.slot) (sym c.as_slice-2.ensures.puddles) known_then) c.new_at-made.result
     (λ m defined left placed running. c.new_at-made.ensures.runs t _ m _ _ _ _ placed running defined left may.first may.its may.free)
     c.new_at-made.ensures.counts))
     its.there its.known none))
@@ -209,7 +209,7 @@ returns-clause-serial g c = λ t size w memory its ready less.
     let goal = frontiers_of (both_finished c.in-Ok.at.ordinal at) in
     let owes = c.in_ok-finish_both.ensures.rewrites t in
     subst (λ (o : Held).
-    held_under memory.held o.number ≡ Some o → known_in memory.judged o.slot ≡ Some at → IfOk c.new_at-made.result (λ serial. serial ≡ next_in (graph_seen (open_on o.name w) (pool_named o.name w.stored))))
+    held_under memory.held o.number ≡ Some o → KnowsAlone memory.judged o.slot at → IfOk c.new_at-made.result (λ serial. serial ≡ next_in (graph_seen (open_on o.name w) (pool_named o.name w.stored))))
     c.self.view_is
     (λ there known.
     let behind = memory_finished size w memory held start held.number there then F same at known goal later in
@@ -254,7 +254,7 @@ returns-clause-lowest g c = λ t size w memory its ready none slot of lowest.
     let lowest_then = subst (λ (im : Image). IsLowestFreeSlot (stored_in F at im) (place_of_slot made)) (ap (λ (s : State). reads s.now.words) (sym still)) found in
     subst (λ (s : Slot). MakesBehind F at later c.args.self.now.tx.log.at s c.args.t fault old new) it
     (subst (λ (s : State). MakesBehind F at later c.args.self.now.tx.log.at made c.args.t fault s new) still
-    (subst (λ (o : Held). held_under memory.held o.number ≡ Some o → known_in memory.judged o.slot ≡ Some at → refusal_by_world w o c.args.t ≡ None → MakesBehind F at later o.tx.log.at made c.args.t fault start new)
+    (subst (λ (o : Held). held_under memory.held o.number ≡ Some o → KnowsAlone memory.judged o.slot at → refusal_by_world w o c.args.t ≡ None → MakesBehind F at later o.tx.log.at made c.args.t fault start new)
     c.self.view_is
     (λ there known none.
     let behind = memory_finished size w memory held start held.number there then F same at known goal later in

@@ -20,6 +20,7 @@ use Rattle.pool_transaction.specs.Finishing.{end_of_both, FinishesTaken, Finishe
 use Rattle.pool_transaction.proofs.Leading.{finishes_more, finishing_taken}
 use Rattle.pool_transaction.proofs.HeldMakes.{all_live}
 use Rattle.pool_transaction.proofs.HeldFinishes.{its_puddles}
+use Rattle.ready_daemon.specs.Judged.{puddles_known}
 use Rattle.std.specs.Prelude.{ℕ, List, length}
 
 pub returns-in_err-refusal-clause-applies : goal.returns-in_err-refusal-clause-applies
@@ -33,7 +34,7 @@ returns-in-Some-clause-reply g c = λ t size e w memory its ready.
     let old = g.H.Host.state c.args.h.now in
     let held = c.args.self.now in
     let by_world =
-    refusal_found size w memory held old held.number its.there ready c.args.t c.args.frames (sym its.frames ∙ ready.frames) c.as_slice.result.now (c.as_slice.ensures.puddles ∙ sym (held_known size w memory _ ready c.args.self.now.number c.args.self.now its.there c.args.pool.now its.known)) c.in_ok-refusal.field-0 (Some c.in-Some.refusal) (c.in_ok-refusal.ensures.refusal t (reads old.now.words) refl) c.in-Some.is in
+    refusal_found size w memory held old held.number its.there ready c.args.t c.args.frames (sym its.frames ∙ ready.frames) c.as_slice.result.now (c.as_slice.ensures.puddles ∙ sym (held_known size w memory _ ready c.args.self.now.number c.args.self.now its.there c.args.pool.now (ap puddles_known its.known))) c.in_ok-refusal.field-0 (Some c.in-Some.refusal) (c.in_ok-refusal.ensures.refusal t (reads old.now.words) refl) c.in-Some.is in
     reply_refused size w memory held old held.number its.there ready c.args.t c.in-Some.refusal (refused_whatever size w memory held old held.number its.there ready c.args.t c.in-Some.refusal by_world)
 
 pub returns-in-Some-clause-applies : goal.returns-in-Some-clause-applies
@@ -41,7 +42,7 @@ returns-in-Some-clause-applies g c = λ t size e w memory its ready.
     let old = g.H.Host.state c.args.h.now in
     let held = c.args.self.now in
     let by_world =
-    refusal_found size w memory held old held.number its.there ready c.args.t c.args.frames (sym its.frames ∙ ready.frames) c.as_slice.result.now (c.as_slice.ensures.puddles ∙ sym (held_known size w memory _ ready c.args.self.now.number c.args.self.now its.there c.args.pool.now its.known)) c.in_ok-refusal.field-0 (Some c.in-Some.refusal) (c.in_ok-refusal.ensures.refusal t (reads old.now.words) refl) c.in-Some.is in
+    refusal_found size w memory held old held.number its.there ready c.args.t c.args.frames (sym its.frames ∙ ready.frames) c.as_slice.result.now (c.as_slice.ensures.puddles ∙ sym (held_known size w memory _ ready c.args.self.now.number c.args.self.now its.there c.args.pool.now (ap puddles_known its.known))) c.in_ok-refusal.field-0 (Some c.in-Some.refusal) (c.in_ok-refusal.ensures.refusal t (reads old.now.words) refl) c.in-Some.is in
     new_refused size w memory held old held.number its.there ready c.args.t (FinishesTaken c.args.frames c.args.pool.now (reads (g.H.Host.state c.args.h.now).now.words)) c.in-Some.refusal c.args.pool.now _ its.known (refused_whatever size w memory held old held.number its.there ready c.args.t c.in-Some.refusal by_world) (c.in_ok-refusal.ensures.only_reads.stays t)
 
 pub returns-in_err-serial-clause-applies : goal.returns-in_err-serial-clause-applies
@@ -54,7 +55,7 @@ returns-in_err-serial-clause-applies g c =
     let new = g.H.Host.state c.make.new.h in
     let still = c.in_ok-refusal.ensures.only_reads.stays t in
     let none =
-    refusal_found size w memory held old held.number its.there ready c.args.t c.args.frames (sym its.frames ∙ ready.frames) c.as_slice.result.now (c.as_slice.ensures.puddles ∙ sym (held_known size w memory _ ready c.args.self.now.number c.args.self.now its.there c.args.pool.now its.known)) c.in_ok-refusal.field-0 None (c.in_ok-refusal.ensures.refusal t (reads old.now.words) refl) c.in_default.is in
+    refusal_found size w memory held old held.number its.there ready c.args.t c.args.frames (sym its.frames ∙ ready.frames) c.as_slice.result.now (c.as_slice.ensures.puddles ∙ sym (held_known size w memory _ ready c.args.self.now.number c.args.self.now its.there c.args.pool.now (ap puddles_known its.known))) c.in_ok-refusal.field-0 None (c.in_ok-refusal.ensures.refusal t (reads old.now.words) refl) c.in_default.is in
     let then = subst (λ (s : State). IsReady size w memory s) (sym still) ready in
     subst (λ (s : State). AppliesFinishing held.slot (FinishesUnless (refusal_of w (New held.client held.name c.args.t)) (FinishesTaken c.args.frames c.args.pool.now (reads s.now.words))) size w (world_by w (Some (New held.client held.name c.args.t))) (with_opened held.number held.slot c.make.new.self c.make.new.pool memory) (Some c.in_err-serial.field-0.0) s new) still
     (new_unmade size w memory held start held.number its.there then c.args.t none (FinishesTaken c.args.frames c.args.pool.now (reads start.now.words)) (end_of_both (length c.args.pool.now)) c.make.new.self c.make.new.pool c.in_err-serial.field-0.0 new
@@ -70,7 +71,7 @@ returns-then-serial-gt0-clause-reply g c = λ t size e w memory its ready.
     let held = c.args.self.now in
     let start = g.H.Host.state c.find_refusal_to_make.new.h in
     let none =
-    refusal_found size w memory held old held.number its.there ready c.args.t c.args.frames (sym its.frames ∙ ready.frames) c.as_slice.result.now (c.as_slice.ensures.puddles ∙ sym (held_known size w memory _ ready c.args.self.now.number c.args.self.now its.there c.args.pool.now its.known)) c.in_ok-refusal.field-0 None (c.in_ok-refusal.ensures.refusal t (reads old.now.words) refl) c.in_default.is in
+    refusal_found size w memory held old held.number its.there ready c.args.t c.args.frames (sym its.frames ∙ ready.frames) c.as_slice.result.now (c.as_slice.ensures.puddles ∙ sym (held_known size w memory _ ready c.args.self.now.number c.args.self.now its.there c.args.pool.now (ap puddles_known its.known))) c.in_ok-refusal.field-0 None (c.in_ok-refusal.ensures.refusal t (reads old.now.words) refl) c.in_default.is in
     let then = subst (λ (s : State). IsReady size w memory s) (sym (c.in_ok-refusal.ensures.only_reads.stays t)) ready in
     let less = was_free size w memory held start held.number its.there then c.args.t none c.in_ok-serial.serial c.if-serial-gt0.true (λ more. (c.in_ok-serial.ensures.full t size w memory its then more).0) in
     reply_made size w memory held start held.number its.there then c.args.t none c.in_ok-serial.serial less (c.in_ok-serial.ensures.serial t size w memory its then less)
@@ -83,7 +84,7 @@ returns-then-serial-gt0-clause-applies g c = λ t size e w memory its ready.
     let new = g.H.Host.state c.make.new.h in
     let still = c.in_ok-refusal.ensures.only_reads.stays t in
     let none =
-    refusal_found size w memory held old held.number its.there ready c.args.t c.args.frames (sym its.frames ∙ ready.frames) c.as_slice.result.now (c.as_slice.ensures.puddles ∙ sym (held_known size w memory _ ready c.args.self.now.number c.args.self.now its.there c.args.pool.now its.known)) c.in_ok-refusal.field-0 None (c.in_ok-refusal.ensures.refusal t (reads old.now.words) refl) c.in_default.is in
+    refusal_found size w memory held old held.number its.there ready c.args.t c.args.frames (sym its.frames ∙ ready.frames) c.as_slice.result.now (c.as_slice.ensures.puddles ∙ sym (held_known size w memory _ ready c.args.self.now.number c.args.self.now its.there c.args.pool.now (ap puddles_known its.known))) c.in_ok-refusal.field-0 None (c.in_ok-refusal.ensures.refusal t (reads old.now.words) refl) c.in_default.is in
     let then = subst (λ (s : State). IsReady size w memory s) (sym still) ready in
     let less = was_free size w memory held start held.number its.there then c.args.t none c.in_ok-serial.serial c.if-serial-gt0.true (λ more. (c.in_ok-serial.ensures.full t size w memory its then more).0) in
     subst (λ (s : State). AppliesFinishing held.slot (FinishesUnless (refusal_of w (New held.client held.name c.args.t)) (FinishesTaken c.args.frames c.args.pool.now (reads s.now.words))) size w (world_by w (Some (New held.client held.name c.args.t))) (with_opened held.number held.slot c.make.new.self c.make.new.pool memory) None s new) still
@@ -97,7 +98,7 @@ returns-clause-reply g c = λ t size e w memory its ready.
     let start = g.H.Host.state c.find_refusal_to_make.new.h in
     let mid = g.H.Host.state c.make.new.h in
     let none =
-    refusal_found size w memory held old held.number its.there ready c.args.t c.args.frames (sym its.frames ∙ ready.frames) c.as_slice.result.now (c.as_slice.ensures.puddles ∙ sym (held_known size w memory _ ready c.args.self.now.number c.args.self.now its.there c.args.pool.now its.known)) c.in_ok-refusal.field-0 None (c.in_ok-refusal.ensures.refusal t (reads old.now.words) refl) c.in_default.is in
+    refusal_found size w memory held old held.number its.there ready c.args.t c.args.frames (sym its.frames ∙ ready.frames) c.as_slice.result.now (c.as_slice.ensures.puddles ∙ sym (held_known size w memory _ ready c.args.self.now.number c.args.self.now its.there c.args.pool.now (ap puddles_known its.known))) c.in_ok-refusal.field-0 None (c.in_ok-refusal.ensures.refusal t (reads old.now.words) refl) c.in_default.is in
     let then = subst (λ (s : State). IsReady size w memory s) (sym (c.in_ok-refusal.ensures.only_reads.stays t)) ready in
     let more = was_full size w memory held start held.number its.there then c.args.t none c.in_ok-serial.serial c.if-serial-gt0.false (λ less. c.in_ok-serial.ensures.serial t size w memory its then less) in
     let full = c.in_ok-serial.ensures.full t size w memory its then more in
@@ -116,7 +117,7 @@ returns-clause-applies g c = λ t size e w memory its ready.
     let new = g.H.Host.state c.make_in_more.new.h in
     let still = c.in_ok-refusal.ensures.only_reads.stays t in
     let none =
-    refusal_found size w memory held old held.number its.there ready c.args.t c.args.frames (sym its.frames ∙ ready.frames) c.as_slice.result.now (c.as_slice.ensures.puddles ∙ sym (held_known size w memory _ ready c.args.self.now.number c.args.self.now its.there c.args.pool.now its.known)) c.in_ok-refusal.field-0 None (c.in_ok-refusal.ensures.refusal t (reads old.now.words) refl) c.in_default.is in
+    refusal_found size w memory held old held.number its.there ready c.args.t c.args.frames (sym its.frames ∙ ready.frames) c.as_slice.result.now (c.as_slice.ensures.puddles ∙ sym (held_known size w memory _ ready c.args.self.now.number c.args.self.now its.there c.args.pool.now (ap puddles_known its.known))) c.in_ok-refusal.field-0 None (c.in_ok-refusal.ensures.refusal t (reads old.now.words) refl) c.in_default.is in
     let then = subst (λ (s : State). IsReady size w memory s) (sym still) ready in
     let more = was_full size w memory held start held.number its.there then c.args.t none c.in_ok-serial.serial c.if-serial-gt0.false (λ less. c.in_ok-serial.ensures.serial t size w memory its then less) in
     let full = c.in_ok-serial.ensures.full t size w memory its then more in

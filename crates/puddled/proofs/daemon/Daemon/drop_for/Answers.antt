@@ -6,9 +6,9 @@ use Rattle.pm_model.specs.Words.{reads}
 use Rattle.pm_model.specs.Moments.{State}
 use Rattle.pud_defs.specs.declared.machine.Command.TheVariants as commands
 use Rattle.pud_defs.specs.declared.machine.Refusal.{Refusal}
-use Rattle.pud_defs.specs.declared.records.Puddle.{Puddle}
 use Rattle.pud_defs.specs.Step.{world_by}
 use Rattle.pud_defs.proofs.Steps.{refused_answer, answer_is_ok}
+use Rattle.known_pool.specs.Known.{Known}
 use Rattle.ready_daemon.specs.Memory.{Memory}
 use Rattle.ready_daemon.specs.Judged.{AreOnDevice}
 use Rattle.ready_daemon.specs.Owning.{refusal_found, IsSlotOf}
@@ -62,7 +62,7 @@ returns-in_err-drop_pool-clause-applies g c =
     let free = sym (k.refusal t size w ready) ∙ ap refusal_found c.in-Ok.is in
     let at = subst (λ (r : Result ℕ Refusal). IfOk r (IsSlotOf w.stored.frames c.args.name (reads old.now.words))) c.in-Ok.is (k.slot t size w ready) in
     AppliesAs-drop size w c.args.client c.args.name (record now { judged = c.forget.new.self }) (Some c.in_err-drop_pool.field-0.0) old (g.H.Host.state c.drop_pool.new.h) c.in-Ok.slot free at
-    (subst (λ (js : List (Option (List (ℕ × Puddle)))). AppliesBy (MovesTo (freed_in c.in-Ok.slot)) size w (world_by w (Some (commands.Drop c.args.client c.args.name))) (record now { judged = js }) (Some c.in_err-drop_pool.field-0.0) old (g.H.Host.state c.drop_pool.new.h)) (sym c.forget.ensures)
+    (subst (λ (js : List (Option Known)). AppliesBy (MovesTo (freed_in c.in-Ok.slot)) size w (world_by w (Some (commands.Drop c.args.client c.args.name))) (record now { judged = js }) (Some c.in_err-drop_pool.field-0.0) old (g.H.Host.state c.drop_pool.new.h)) (sym c.forget.ensures)
     (Applies-behind size w (world_by w (Some (commands.Drop c.args.client c.args.name))) now (record now { judged = set now.judged c.in-Ok.slot None }) (Some c.in_err-drop_pool.field-0.0) old mid (g.H.Host.state c.drop_pool.new.h)
     (k.only_reads.stays t)
     (λ ready_then.
@@ -83,7 +83,7 @@ returns-clause-applies g c = λ t size e w ready.
     let free = sym (k.refusal t size w ready) ∙ ap refusal_found c.in-Ok.is in
     let at = subst (λ (r : Result ℕ Refusal). IfOk r (IsSlotOf w.stored.frames c.args.name (reads old.now.words))) c.in-Ok.is (k.slot t size w ready) in
     AppliesAs-drop size w c.args.client c.args.name (record now { judged = c.forget.new.self }) None old (g.H.Host.state c.drop_pool.new.h) c.in-Ok.slot free at
-    (subst (λ (js : List (Option (List (ℕ × Puddle)))). AppliesBy (MovesTo (freed_in c.in-Ok.slot)) size w (world_by w (Some (commands.Drop c.args.client c.args.name))) (record now { judged = js }) None old (g.H.Host.state c.drop_pool.new.h)) (sym c.forget.ensures)
+    (subst (λ (js : List (Option Known)). AppliesBy (MovesTo (freed_in c.in-Ok.slot)) size w (world_by w (Some (commands.Drop c.args.client c.args.name))) (record now { judged = js }) None old (g.H.Host.state c.drop_pool.new.h)) (sym c.forget.ensures)
     (Applies-behind size w (world_by w (Some (commands.Drop c.args.client c.args.name))) now (record now { judged = set now.judged c.in-Ok.slot None }) None old mid (g.H.Host.state c.drop_pool.new.h)
     (k.only_reads.stays t)
     (λ ready_then.
@@ -109,7 +109,7 @@ pub returns-clause-forgets : goal.returns-clause-forgets
 returns-clause-forgets g c = λ t size w ready free. record {
   slot = c.in-Ok.slot;
   is = subst (λ (r : Result ℕ Refusal). IfOk r (IsSlotOf w.stored.frames c.args.name (reads (g.H.Host.state c.args.h.now).now.words))) c.in-Ok.is (c.in_ok-refusal.ensures.slot t size w ready);
-  forgotten = c.forget.ensures ∙ ap (λ (m : Memory). set m.judged c.in-Ok.slot None) c.self.view_is ∙ ap (λ (js : List (Option (List (ℕ × Puddle)))). set js c.in-Ok.slot None) c.in_ok-refusal.ensures.judged;
+  forgotten = c.forget.ensures ∙ ap (λ (m : Memory). set m.judged c.in-Ok.slot None) c.self.view_is ∙ ap (λ (js : List (Option Known)). set js c.in-Ok.slot None) c.in_ok-refusal.ensures.judged;
 }
 
 pub invariant_of-self : goal.invariant_of-self

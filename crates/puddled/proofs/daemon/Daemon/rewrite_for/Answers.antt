@@ -1,4 +1,4 @@
-use Rattle.std.proofs.Common.{rules, ◌≡◌, true, false, is_some, Some, None, refl, sym, subst, ◌∙◌}
+use Rattle.std.proofs.Common.{rules, ◌≡◌, ℕ, List, true, false, is_some, Some, None, refl, sym, ap, subst, ◌∙◌}
 use Rattle.std.proofs.lemmas.Option.{none-some}
 use Rattle.std.proofs.lemmas.Result.{err_from_is_err_and}
 use Rattle.pm_model.specs.Words.{reads}
@@ -9,7 +9,9 @@ use Rattle.pud_defs.specs.declared.machine.Refusal.TheVariants as refusals
 use Rattle.pud_defs.specs.World.{World}
 use Rattle.pud_defs.proofs.Steps.{refused_answer, answer_is_ok}
 use Rattle.ready_daemon.specs.Memory.{Memory}
-use Rattle.ready_daemon.specs.Judged.{known_in}
+use Rattle.pud_defs.specs.declared.records.Puddle.{Puddle}
+use Rattle.known_pool.specs.Known.{with_puddles}
+use Rattle.ready_daemon.specs.Judged.{puddles_known, pool_in, known_in}
 use Rattle.ready_daemon.specs.Moves.{MovesTo, led_in}
 use Rattle.ready_daemon.specs.Ready.{IsReady, AppliesBy}
 use Rattle.lazy_rewrite.specs.Frontiers.{steps_from, frontiers_of}
@@ -94,7 +96,8 @@ returns-in_err-_done-clause-applies g c =
     let then = subst (λ (m : Memory). IsReady size w m (g.H.Host.state c.find.new.h)) (sym c.self.view_is) (k.ready t size w before) in
     let stays = k.only_reads.stays t ∙ same in
     let start = ready_read size w now _ _ (sym same) then in
-    let it = is_there (known_in i.judged c.in-Some.slot) known in
+    let pool = is_there (pool_in i.judged c.in-Some.slot) known in
+    let it : (at : List (ℕ × Puddle)) × (known_in i.judged c.in-Some.slot ≡ Some at) = (pool.0.at, ap puddles_known pool.1) in
     AppliesAs-rewrite size w now (record now { judged = c.step_in.new.judged }) c.args.name c.args.n c.in-Some.slot it.0 (Some c.in_err-_done.field-0.0) (g.H.Host.state c.args.h.now) (g.H.Host.state c.step_in.new.h) start (search rules) it.1 free
     (world_of_rewrite w c.args.name c.args.n free) (slot_is size w _ _ ready 0 c.args.name c.in-Some.slot c.in-Some.field-0-1 there) (λ done. absurd (none-some c.in_err-_done.field-0.0 (sym done)))
     (subst (λ (v : World). AppliesBy (MovesTo (led_in c.in-Some.slot (frontiers_of (steps_from c.args.n it.0)))) size w v (record now { judged = c.step_in.new.judged }) (Some c.in_err-_done.field-0.0) (g.H.Host.state c.args.h.now) (g.H.Host.state c.step_in.new.h)) (sym (world_of_rewrite w c.args.name c.args.n free))
@@ -124,9 +127,10 @@ returns-clause-applies g c = λ t size e w ready.
     let then = subst (λ (m : Memory). IsReady size w m (g.H.Host.state c.find.new.h)) (sym c.self.view_is) (k.ready t size w before) in
     let stays = k.only_reads.stays t ∙ same in
     let start = ready_read size w now _ _ (sym same) then in
-    let it = is_there (known_in i.judged c.in-Some.slot) known in
+    let pool = is_there (pool_in i.judged c.in-Some.slot) known in
+    let it : (at : List (ℕ × Puddle)) × (known_in i.judged c.in-Some.slot ≡ Some at) = (pool.0.at, ap puddles_known pool.1) in
     AppliesAs-rewrite size w now (record now { judged = c.step_in.new.judged }) c.args.name c.args.n c.in-Some.slot it.0 None (g.H.Host.state c.args.h.now) (g.H.Host.state c.step_in.new.h) start (search rules) it.1 free
-    (world_of_rewrite w c.args.name c.args.n free) (slot_is size w _ _ ready 0 c.args.name c.in-Some.slot c.in-Some.field-0-1 there) (λ done. stepped_known i.judged c.step_in.new.judged c.in-Some.slot it.0 (steps_from c.args.n it.0) it.1 (c.in_ok-_done.ensures.moves it.0 it.1))
+    (world_of_rewrite w c.args.name c.args.n free) (slot_is size w _ _ ready 0 c.args.name c.in-Some.slot c.in-Some.field-0-1 there) (λ done. stepped_known i.judged c.step_in.new.judged c.in-Some.slot it.0 (with_puddles (steps_from c.args.n it.0) pool.0) it.1 (c.in_ok-_done.ensures.moves pool.0 pool.1))
     (subst (λ (v : World). AppliesBy (MovesTo (led_in c.in-Some.slot (frontiers_of (steps_from c.args.n it.0)))) size w v (record now { judged = c.step_in.new.judged }) None (g.H.Host.state c.args.h.now) (g.H.Host.state c.step_in.new.h)) (sym (world_of_rewrite w c.args.name c.args.n free))
     (Applies-behind size w w now (record now { judged = c.step_in.new.judged }) None (g.H.Host.state c.args.h.now) (g.H.Host.state c.lacks_graph.new.h) (g.H.Host.state c.step_in.new.h) stays
     (λ ready_then. c.in_ok-_done.ensures.applies t size (still_size k.only_reads (still_size c.in_ok-slot.ensures.only_reads e)) it.0 it.1 w i.opened i.sessions ready_then) start))
@@ -157,7 +161,8 @@ returns-clause-moves g c = λ t size e w ready free.
     let now : Memory = record { frames = i.frames; held = i.opened; sessions = i.sessions; judged = i.judged } in
     let then = subst (λ (m : Memory). IsReady size w m (g.H.Host.state c.find.new.h)) (sym c.self.view_is) (k.ready t size w (ready_read size w _ _ _ same ready)) in
     let stays = k.only_reads.stays t ∙ same in
-    let at = is_there (known_in i.judged c.in-Some.slot) known in
+    let pool = is_there (pool_in i.judged c.in-Some.slot) known in
+    let at : (ps : List (ℕ × Puddle)) × (known_in i.judged c.in-Some.slot ≡ Some ps) = (pool.0.at, ap puddles_known pool.1) in
     let done = c.in_ok-_done.ensures.applies t size (still_size k.only_reads (still_size c.in_ok-slot.ensures.only_reads e)) at.0 at.1 w i.opened i.sessions (ready_read size w now _ _ (k.only_reads.stays t) then) in
-    DoesSteps-stepped size w i.frames i.opened i.sessions i.judged (g.H.Host.state c.args.h.now) (ready_read size w now _ _ (sym same) then) c.in-Some.slot (search rules) at.0 at.1 c.args.name c.args.n c.step_in.new.judged
-    (g.H.Host.state c.step_in.new.h) (slot_is size w _ _ ready 0 c.args.name c.in-Some.slot c.in-Some.field-0-1 there) (c.in_ok-_done.ensures.moves at.0 at.1) (done.ready refl)
+    DoesSteps-stepped size w i.frames i.opened i.sessions i.judged (g.H.Host.state c.args.h.now) (ready_read size w now _ _ (sym same) then) c.in-Some.slot (search rules) pool.0 pool.1 c.args.name c.args.n c.step_in.new.judged
+    (g.H.Host.state c.step_in.new.h) (slot_is size w _ _ ready 0 c.args.name c.in-Some.slot c.in-Some.field-0-1 there) (c.in_ok-_done.ensures.moves pool.0 pool.1) (done.ready refl)

@@ -1,12 +1,21 @@
-use Rattle.std.proofs.Common.{is_some, sym, ap, subst}
+use Rattle.std.proofs.Common.{is_some, List, Option, sym, ap, subst, ◌∙◌}
 use Rattle.std.specs.Prelude.{IfSome}
 use Rattle.pud_defs.specs.Stored.{IsOnDevice}
-use Rattle.ready_daemon.proofs.Known.{AreOnDevice-put}
+use Rattle.known_pool.specs.Known.{Known, by_puddles}
+use Rattle.known_pool.proofs.KnownKept.{IsKnown-puddles}
+use Rattle.ready_daemon.specs.Judged.{AreOnDevice, AreJudged}
+use Rattle.ready_daemon.proofs.Known.{AreOnDevice-put, AreJudged-set}
 use Rattle.puddled.proofs.judged.Judged.judge.Goals as goal
 
 pub returns-in-Some-clause-puddles : goal.returns-in-Some-clause-puddles
 returns-in-Some-clause-puddles g c = ap is_some (sym c.put.ensures.known)
 
+pub returns-in-Some-clause-judged : goal.returns-in-Some-clause-judged
+returns-in-Some-clause-judged g c = λ t image same before.
+    subst (λ (js : List (Option Known)). AreJudged c.args.frames js image) (sym c.put.ensures.put)
+    (AreJudged-set c.args.frames _ c.args.slot (by_puddles c.in-Some.puddles) image (sym (c.in_ok-puddles.ensures.found t image same) ∙ c.in-Some.is) (IsKnown-puddles c.args.frames c.in-Some.puddles image) before)
+
 pub returns-in-Some-clause-known : goal.returns-in-Some-clause-known
-returns-in-Some-clause-known g c = λ before. AreOnDevice-put _ _ c.args.slot c.in-Some.puddles c.put.ensures.put c.put.ensures.known c.args.frames
-    (subst (λ found. IfSome found (IsOnDevice c.args.frames)) c.in-Some.is c.in_ok-puddles.ensures.known) before
+returns-in-Some-clause-known g c = λ before.
+    subst (AreOnDevice c.args.frames) (sym c.put.ensures.put)
+    (AreOnDevice-put c.args.frames _ c.args.slot (by_puddles c.in-Some.puddles) (subst (λ found. IfSome found (IsOnDevice c.args.frames)) c.in-Some.is c.in_ok-puddles.ensures.known) before)

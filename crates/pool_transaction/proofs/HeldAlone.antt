@@ -1,0 +1,37 @@
+-- All but the puddles of a pool is forgotten before it is changed, beside a transaction that is held on it.
+use Rattle.std.proofs.Common.{◌≡◌, ℕ, List, set, Option, Some, option_map, ap}
+use Rattle.std.proofs.lemmas.List.{set-set}
+use Rattle.pm_model.specs.Words.{reads}
+use Rattle.pm_model.specs.Moments.{State}
+use Rattle.pud_defs.specs.declared.records.Puddle.{Puddle}
+use Rattle.pud_defs.specs.World.{World}
+use Rattle.known_pool.specs.Known.{Known, by_puddles}
+use Rattle.known_pool.proofs.KnownKept.{IsKnown-puddles}
+use Rattle.ready_daemon.specs.Judged.{known_in}
+use Rattle.ready_daemon.specs.Memory.{Held, Memory}
+use Rattle.ready_daemon.specs.Ready.{IsReady}
+use Rattle.ready_daemon.proofs.Applying.{IsReady-anew}
+use Rattle.ready_daemon.proofs.JudgedOpen.{known_within}
+use Rattle.ready_daemon.proofs.Known.{pool_kept}
+use Rattle.pool_transaction.specs.Changing.{IsHeldIn, IsHeldOn, with_known, with_opened}
+
+-- the memory that knows the puddles of the pool in a slot, and nothing else of it
+abbrev pub memory_alone : (slot : ℕ) → List (ℕ × Puddle) → Memory → Memory
+memory_alone slot at memory = record memory { judged = set memory.judged slot (Some (by_puddles at)) }
+
+module _ (F : ℕ) (held : Held) (known : Known) (memory : Memory) (its : IsHeldOn F held known memory) where
+  puddles_its : known_in memory.judged held.slot ≡ Some known.at
+  puddles_its = ap (option_map (λ (k : Known). k.at)) its.known
+
+  -- it is held there still
+  pub held_alone : IsHeldIn F held known.at (memory_alone held.slot known.at memory)
+  held_alone = record { frames = its.frames; there = its.there; known = pool_kept memory.judged held.slot (Some (by_puddles known.at)) (known_within memory.judged held.slot known.at puddles_its) }
+
+  -- and the daemon is ready
+  pub ready_alone : (size : ℕ) (w : World) (s : State) → IsReady size w memory s → IsReady size w (memory_alone held.slot known.at memory) s
+  ready_alone size w s ready = IsReady-anew size w memory s held.slot (by_puddles known.at) ready puddles_its (IsKnown-puddles w.stored.frames known.at (reads s.now.words))
+
+-- what is known behind that is known alone
+pub opened_alone : (number slot : ℕ) (now : Held) (at later : List (ℕ × Puddle)) (memory : Memory) → with_opened number slot now later (memory_alone slot at memory) ≡ with_known number slot now (by_puddles later) memory
+opened_alone number slot now at later memory =
+    ap (λ (js : List (Option Known)). record memory { held = set memory.held number (Some now); judged = js }) (set-set memory.judged slot (Some (by_puddles at)) (Some (by_puddles later)))
