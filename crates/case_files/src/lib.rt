@@ -1,0 +1,87 @@
+//! The program of case files: each file of each folder of the current one, or those that the words name, is carried out, and a line is said for it.
+//!
+//! Which program the cases run is a parameter ([`Program`]), so that a program of case files is its `main` and its data. A file of the folder `wrong` has to
+//! be told of as its first line says. The status is 1 where a file was not as it is to be.
+#![tactic(auto)]
+
+use case_bench::case_file::run_file;
+use case_bench::program::Program;
+use case_text::trouble::Trouble;
+use std::alloc::{AllocError, Global};
+use std::process::ExitCode;
+use std::{env, fs, io};
+
+/// The folder of files that have to be told of.
+const WRONG: &str = "wrong/";
+
+/// What is said of a file with this text, and whether it is as it is to be.
+fn verdict<P: Program>(
+    program: &P,
+    alloc: Global,
+    path: &str,
+    text: &str,
+) -> Result<(String, bool), AllocError> {
+    let found = match run_file(program, alloc, text) {
+        Ok(count) => {
+            let said = format!(in alloc; "{} cases, {} runs", count.cases, count.runs)?;
+            return Ok((said, !path.starts_with(WRONG)));
+        }
+        Err(Trouble::At(number, why)) => format!(in alloc; "line {number}: {why}")?,
+        Err(Trouble::Memory) => format!(in alloc; "there is no memory")?,
+    };
+    let wanted = text.lines().next().and_then(|line| line.strip_prefix("# "));
+    let is_wanted = path.starts_with(WRONG) && wanted == Some(found.as_str());
+    Ok((found, is_wanted))
+}
+
+/// Carries out the file and says its line. The answer is whether it is as it is to be.
+fn carry_out<P: Program>(rt: &HostRuntime, program: &P, path: &str) -> io::Result<bool> {
+    let text = fs::read_to_string(rt, path)?;
+    let (said, is_wanted) = verdict(program, rt.alloc(), path, &text)?;
+    let failed = if is_wanted { "" } else { "FAILED: " };
+    println!(rt; "{path}: {failed}{said}")?;
+    Ok(is_wanted)
+}
+
+/// The names in the folder, in order.
+fn names_in(rt: &HostRuntime, folder: &str) -> io::Result<Vec<String>> {
+    let mut names = Vec::new(rt.alloc());
+    for entry in fs::read_dir(rt, folder)? {
+        names.push(String::from_str(rt.alloc(), entry?.file_name())?)?;
+    }
+    names.sort()?;
+    Ok(names)
+}
+
+/// The files of the folders of the current one, in order.
+fn all_files(rt: &HostRuntime) -> io::Result<Vec<String>> {
+    let mut paths = Vec::new(rt.alloc());
+    for folder in names_in(rt, ".")?.iter() {
+        if fs::metadata(rt, folder.as_str())?.is_dir() {
+            for name in names_in(rt, folder)?.iter() {
+                paths.push(format!(in rt.alloc(); "{folder}/{name}")?)?;
+            }
+        }
+    }
+    Ok(paths)
+}
+
+/// Carries out the files that the words of the command line name, or where there are none each file of each folder of the current one, in order, by the
+/// program. A line is said for each, and one for all. The status is 1 where a file was not as it is to be, else 0. An error is that of a file or a stream.
+pub fn run_files<P: Program>(rt: &HostRuntime, program: &P) -> io::Result<ExitCode> {
+    let mut paths: Vec<String> = Vec::new(rt.alloc());
+    for word in env::args(rt)?.skip(1) {
+        paths.push(word)?;
+    }
+    if paths.is_empty() {
+        paths = all_files(rt)?;
+    }
+    let mut failed = 0u32;
+    for path in paths.iter() {
+        if !carry_out(rt, program, path)? {
+            failed = failed.saturating_add(1);
+        }
+    }
+    println!(rt; "{} files, {failed} failed", paths.len())?;
+    Ok(ExitCode::from(u8::from(failed > 0)))
+}
