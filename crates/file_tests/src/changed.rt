@@ -3,20 +3,16 @@ use crate::files::{
     AT_3, AT_4, AT_5, AT_8, BASE_0, BASE_1, FRAME_0, FRAME_1, Row, SLOT_3, SLOT_4, SLOT_5, SLOT_8,
     WORDS, changed,
 };
-use crate::plain;
-use pud_import::read_file;
+use crate::readers;
 use std::alloc::Global;
 use std::process::Abort;
 
 /// How many bytes the file has.
 const SIZE: usize = 8 * WORDS;
 
-/// Whether the file with these words changed, cut or filled up to a size, is one by both readers; they answer the same.
+/// Whether the file with these words changed, cut or filled up to a size, is one by both readers.
 fn is_file(rt: &impl Abort, alloc: Global, rows: &[Row], size: usize) -> bool {
-    let bytes = changed(alloc, rows, size).expect(rt, "memory");
-    let read = read_file(&bytes).is_ok();
-    assert_eq!(rt; read, plain::is_file(&bytes));
-    read
+    readers::is_file(rt, &changed(alloc, rows, size).expect(rt, "memory"))
 }
 
 /// Asserts of each change by itself whether the file with it is one.

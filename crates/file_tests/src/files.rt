@@ -82,18 +82,29 @@ fn set(words: &mut Vec<u64>, rows: &[Row]) {
     }
 }
 
-/// So many bytes of the file with these words changed, and 0 behind its last one.
-pub fn changed(alloc: Global, rows: &[Row], size: usize) -> Result<Vec<u8>, AllocError> {
+/// So many words, of which these rows list what is not 0, each as eight bytes.
+pub fn bytes_of(
+    alloc: Global,
+    count: usize,
+    listed: &[Row],
+    rows: &[Row],
+) -> Result<Vec<u8>, AllocError> {
     let mut words = Vec::new(alloc);
-    for _ in 0..WORDS {
+    for _ in 0..count {
         words.push(0u64)?;
     }
-    set(&mut words, &FILE);
+    set(&mut words, listed);
     set(&mut words, rows);
     let mut bytes = Vec::new(alloc);
     for word in &words {
         bytes.extend_from_slice(&word.to_le_bytes())?;
     }
+    Ok(bytes)
+}
+
+/// So many bytes of the file with these words changed, and 0 behind its last one.
+pub fn changed(alloc: Global, rows: &[Row], size: usize) -> Result<Vec<u8>, AllocError> {
+    let mut bytes = bytes_of(alloc, WORDS, &FILE, rows)?;
     bytes.resize(size, 0u8)?;
     Ok(bytes)
 }

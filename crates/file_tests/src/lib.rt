@@ -7,3 +7,7 @@ mod changed;
 mod files;
 #[cfg(test)]
 mod plain;
+#[cfg(test)]
+mod readers;
+#[cfg(test)]
+mod worked;

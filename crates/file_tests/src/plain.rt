@@ -24,7 +24,7 @@ struct Read<'a> {
 }
 
 /// Word `k`: its eighth byte first, each further one behind it. A byte that is not there is 0.
-fn word(bytes: &[u8], k: u64) -> u64 {
+pub fn word(bytes: &[u8], k: u64) -> u64 {
     let mut value = 0u64;
     for place in 0..8u64 {
         let at = k.wrapping_mul(8).wrapping_add(7 - place);

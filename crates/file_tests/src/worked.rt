@@ -1,0 +1,83 @@
+//! A file of one pool, byte by byte and word by word: its fronts, and each of its words with four values.
+use crate::files::{Row, bytes_of};
+use crate::plain;
+use crate::readers::is_file;
+
+/// How many words the file has: a type and a puddle.
+const WORDS: usize = 8 + 2 + 1 + 2048;
+
+const BASE: u64 = 0x1000_0000_0000;
+
+/// A file of type 1 (a number and a pointer), with objects 1, which is the root, and 2. Each word that is not listed is 0.
+const FILE: [Row; 20] = [
+    (0, 0x3130_5058_4544_5550),
+    (1, 1),
+    (2, 1),
+    (3, 1),
+    (4, 7),
+    (5, 1),
+    (8, 1),
+    (9, 0x2_0000_0002),
+    (10, BASE),
+    (11, 0x3130_454c_4444_5550),
+    (12, 2),
+    (14, 3),
+    (15, BASE + 512),
+    (75, 1),
+    (76, 1),
+    (77, 10),
+    (78, BASE + 768),
+    (107, 2),
+    (108, 1),
+    (110, BASE + 512),
+];
+
+#[test]
+fn no_front_of_a_file_is_one(rt: HostRuntime) {
+    let alloc = rt.alloc();
+    let mut bytes = bytes_of(alloc, WORDS, &FILE, &[]).expect(&rt, "memory");
+    assert!(rt; is_file(&rt, &bytes));
+    assert_eq!(rt; bytes.len(), 16_472);
+    for size in 0..bytes.len() {
+        let front = bytes.get(..size).unwrap_or(&[]);
+        assert!(rt; !is_file(&rt, front), "{size} bytes");
+    }
+    bytes.push(0).expect(&rt, "memory");
+    assert!(rt; !is_file(&rt, &bytes));
+}
+
+// It is a file with each of the four values of five words: of both that say who wrote it, of the puddle's number, and of the number fields of both objects.
+// Of the others 2,045 have 0 or 1, and may have that alone; both pointers and the root may be 0; and the next serial may be one more.
+#[test]
+fn each_word_with_four_values(rt: HostRuntime) {
+    let alloc = rt.alloc();
+    let bytes = bytes_of(alloc, WORDS, &FILE, &[]).expect(&rt, "memory");
+    let mut files = 0u32;
+    for k in 0..WORDS {
+        let old = plain::word(&bytes, k as u64);
+        for v in [0, 1, old.wrapping_add(1), u64::MAX] {
+            let changed = bytes_of(alloc, WORDS, &FILE, &[(k, v)]).expect(&rt, "memory");
+            if is_file(&rt, &changed) {
+                files = files.saturating_add(1);
+            }
+        }
+    }
+    assert_eq!(rt; files, 2_069);
+}
+
+// The serials change places; the second object has the next serial, which is one more; the type has a third field; the first field is a pointer, and null.
+#[test]
+fn two_words_together(rt: HostRuntime) {
+    let alloc = rt.alloc();
+    for (first, second) in [
+        ((75, 2), (107, 1)),
+        ((107, 3), (14, 4)),
+        ((79, 5), (9, 0x3_0000_0002)),
+        ((9, 0x2_0000_0003), (77, 0)),
+    ] {
+        let alone = bytes_of(alloc, WORDS, &FILE, &[first]).expect(&rt, "memory");
+        assert!(rt; !is_file(&rt, &alone), "word {}", first.0);
+        let both = bytes_of(alloc, WORDS, &FILE, &[first, second]).expect(&rt, "memory");
+        assert!(rt; is_file(&rt, &both), "word {}", first.0);
+    }
+}
