@@ -1,17 +1,18 @@
--- All but the puddles of a pool is forgotten before it is changed, beside a transaction that is held on it.
-use Rattle.std.proofs.Common.{◌≡◌, ℕ, List, set, Option, Some, option_map, ap}
-use Rattle.std.proofs.lemmas.List.{set-set}
+-- What is known of a pool on which a transaction is held is so, and all but the puddles is forgotten before the pool is changed.
+use Rattle.std.proofs.Common.{◌≡◌, ℕ, List, set, Option, Some, None, option_map, sym, ap, subst, ◌∙◌}
+use Rattle.std.proofs.lemmas.List.{set-set, set-get_or}
 use Rattle.pm_model.specs.Words.{reads}
 use Rattle.pm_model.specs.Moments.{State}
 use Rattle.pud_defs.specs.declared.records.Puddle.{Puddle}
 use Rattle.pud_defs.specs.World.{World}
-use Rattle.known_pool.specs.Known.{Known, by_puddles}
+use Rattle.known_pool.specs.Known.{Known, IsKnown, by_puddles}
 use Rattle.known_pool.proofs.KnownKept.{IsKnown-puddles}
 use Rattle.ready_daemon.specs.Judged.{known_in}
-use Rattle.ready_daemon.specs.Memory.{Held, Memory}
+use Rattle.ready_daemon.specs.Memory.{Held, Memory, with_held}
 use Rattle.ready_daemon.specs.Ready.{IsReady}
 use Rattle.ready_daemon.proofs.Applying.{IsReady-anew}
 use Rattle.ready_daemon.proofs.JudgedOpen.{known_within}
+use Rattle.ready_daemon.proofs.HeldUnder.{held_same}
 use Rattle.ready_daemon.proofs.Known.{pool_kept}
 use Rattle.pool_transaction.specs.Changing.{IsHeldIn, IsHeldOn, with_known, with_opened}
 
@@ -22,6 +23,16 @@ memory_alone slot at memory = record memory { judged = set memory.judged slot (S
 module _ (F : ℕ) (held : Held) (known : Known) (memory : Memory) (its : IsHeldOn F held known memory) where
   puddles_its : known_in memory.judged held.slot ≡ Some known.at
   puddles_its = ap (option_map (λ (k : Known). k.at)) its.known
+
+  -- it is so of the device
+  pub known_so : (size : ℕ) (w : World) (s : State) → IsReady size w memory s → IsKnown F (reads s.now.words) known
+  known_so size w s ready = subst (λ (n : ℕ). IsKnown n (reads s.now.words) known) (sym ready.frames ∙ its.frames) (ready.knows.judged.known held.slot known its.known)
+
+  -- and may be kept once more
+  pub known_on : with_known held.number held.slot held known memory ≡ memory
+  known_on =
+      ap (λ (js : List (Option Known)). record (with_held held.number (Some held) memory) { judged = js }) (ap (set memory.judged held.slot) (sym its.known) ∙ set-get_or memory.judged held.slot None)
+      ∙ held_same memory held.number held its.there
 
   -- it is held there still
   pub held_alone : IsHeldIn F held known.at (memory_alone held.slot known.at memory)

@@ -28,3 +28,4 @@ pub mod HeldEnds
 pub mod HeldRefusals
 pub mod ChangeAnswers
 pub mod HeldAlone
+pub mod HeldFound

@@ -238,32 +238,33 @@ impl Opened {
         &mut self,
         h: &mut H,
         frames: u32,
-        pool: &mut Puddles,
+        pool: &mut KnownPool,
         update: Update,
     ) -> Result<Reply, HostFault>
         requires few { frames ≤ MAX_FRAMES }
         requires room { device_words frames ≤ (H.counts h.old).size }
         requires within { IsHeldWithin frames self.old }
-        requires known { IsOnDevice frames pool.old }
+        requires known { IsOnDevice frames pool.old.at }
         requires legal { IsLegalUpdate update }
-        ensures reply { H.tells → (size : ℕ) → (w : World) → (memory : Memory) → IsHeldIn frames self.old pool.old memory → IsReady size w memory (H.state h.old)
+        ensures reply { H.tells → (size : ℕ) → (w : World) → (memory : Memory) → IsHeldOn frames self.old pool.old memory → IsReady size w memory (H.state h.old)
             → IfOk result (λ reply. of_reply reply ≡ answer_by w (Option.Some (update_line update (self.old).client (self.old).name))) }
-        ensures applies { H.tells → (size : ℕ) → size ≡ (H.counts h.old).size → (w : World) → (memory : Memory) → IsHeldIn frames self.old pool.old memory → IsReady size w memory (H.state h.old)
-            → AppliesFinishing (self.old).slot (FinishesUnless (refusal_of w (update_line update (self.old).client (self.old).name)) (FinishesFor frames pool.old (reads (H.state h.old).now.words) update)) size w (world_by w (Option.Some (update_line update (self.old).client (self.old).name))) (with_opened (self.old).number (self.old).slot self.new pool.new memory)
+        ensures applies { H.tells → (size : ℕ) → size ≡ (H.counts h.old).size → (w : World) → (memory : Memory) → IsHeldOn frames self.old pool.old memory → IsReady size w memory (H.state h.old)
+            → AppliesFinishing (self.old).slot (FinishesUnless (refusal_of w (update_line update (self.old).client (self.old).name)) (FinishesFor frames pool.old.at (reads (H.state h.old).now.words) update)) size w (world_by w (Option.Some (update_line update (self.old).client (self.old).name))) (with_known (self.old).number (self.old).slot self.new pool.new memory)
             (fault_of result) (H.state h.old) (H.state h.new) }
         ensures refused { IfOk result (λ reply. (why : Refusal) → reply ≡ Reply.No why → pool.new ≡ pool.old) }
         ensures within { IsHeldWithin frames self.new }
-        ensures known { IsOnDevice frames pool.new }
+        ensures known { IsOnDevice frames pool.new.at }
         ensures stays { StaysOpen self.old self.new }
         ensures rest { H.tells → KeepsRest (H.state h.old) (H.state h.new) }
         ensures rests { H.tells → fault_of result ≡ Option.Some HostFault.Cut → IsRested (H.state h.new).now.words }
         ensures cause { H.counts h.new ≡ after_fault (fault_of result) (H.counts h.old) }
     {
-        let found = match self.find_update(h, frames, pool.as_slice(), update)? {
+        let found = match self.find_update(h, frames, pool, update)? {
             Ok(found) => found,
             Err(refusal) => return Ok(Reply::No(refusal)),
         };
-        self.update(h, frames, pool, found)?;
+        pool.forget();
+        self.update(h, frames, &mut pool.puddles, found)?;
         Ok(Reply::Ok)
     }
 
@@ -456,44 +457,8 @@ impl Opened {
         self.make_in_more(h, frames, pool, t)
     }
 
-    /// Makes the change in the transaction, on the pool of which these puddles are known alone, or refuses to, as its line of the transaction's client
-    /// does. A refused one changes nothing.
-    ///
-    /// The device has so many frames. A puddle that is written is rewritten to its end first, by four fences for each batch of its steps that are left. An
-    /// update takes at most two fences, and so does an object; where each slot is live the pool grows by a puddle first, which takes those of a batch and
-    /// of a fresh frame; the puddle is then known.
-    fn change_on<H: Host>(
-        &mut self,
-        h: &mut H,
-        frames: u32,
-        pool: &mut Puddles,
-        change: Change,
-    ) -> Result<Reply, HostFault>
-        requires few { frames ≤ MAX_FRAMES }
-        requires room { device_words frames ≤ (H.counts h.old).size }
-        requires within { IsHeldWithin frames self.old }
-        requires known { IsOnDevice frames pool.old }
-        requires legal { IsLegalChange change }
-        ensures reply { H.tells → (size : ℕ) → size ≡ (H.counts h.old).size → (w : World) → (memory : Memory) → IsHeldIn frames self.old pool.old memory → IsReady size w memory (H.state h.old)
-            → IfOk result (λ reply. of_reply reply ≡ answer_by w (Option.Some (line_of change (self.old).client (self.old).name))) }
-        ensures applies { H.tells → (size : ℕ) → size ≡ (H.counts h.old).size → (w : World) → (memory : Memory) → IsHeldIn frames self.old pool.old memory → IsReady size w memory (H.state h.old)
-            → AppliesFinishing (self.old).slot (FinishesUnless (refusal_of w (line_of change (self.old).client (self.old).name)) (Finishes frames pool.old (reads (H.state h.old).now.words) change)) size w (world_by w (Option.Some (line_of change (self.old).client (self.old).name))) (with_opened (self.old).number (self.old).slot self.new pool.new memory) (fault_of result)
-            (H.state h.old) (H.state h.new) }
-        ensures within { IsHeldWithin frames self.new }
-        ensures known { IsOnDevice frames pool.new }
-        ensures stays { StaysOpen self.old self.new }
-        ensures rest { H.tells → KeepsRest (H.state h.old) (H.state h.new) }
-        ensures rests { H.tells → fault_of result ≡ Option.Some HostFault.Cut → IsRested (H.state h.new).now.words }
-        ensures cause { H.counts h.new ≡ after_fault (fault_of result) (H.counts h.old) }
-    {
-        match change {
-            Change::New { t } => self.new_object(h, frames, pool, t),
-            Change::Update(update) => self.update_or_refuse(h, frames, pool, update),
-        }
-    }
-
     /// Makes the change in the transaction, on the pool of which this is known, or refuses to, as its line of the transaction's client does. A refused
-    /// one changes nothing but what is kept of the pool: of that the puddles alone are left.
+    /// one changes nothing but what is kept of the pool: where an object is to be made, of that the puddles alone are left.
     ///
     /// The device has so many frames. A puddle that is written is rewritten to its end first, by four fences for each batch of its steps that are left. An
     /// update takes at most two fences, and so does an object; where each slot is live the pool grows by a puddle first, which takes those of a batch and
@@ -522,7 +487,12 @@ impl Opened {
         ensures rests { H.tells → fault_of result ≡ Option.Some HostFault.Cut → IsRested (H.state h.new).now.words }
         ensures cause { H.counts h.new ≡ after_fault (fault_of result) (H.counts h.old) }
     {
-        pool.forget();
-        self.change_on(h, frames, &mut pool.puddles, change)
+        match change {
+            Change::New { t } => {
+                pool.forget();
+                self.new_object(h, frames, &mut pool.puddles, t)
+            }
+            Change::Update(update) => self.update_or_refuse(h, frames, pool, update),
+        }
     }
 }

@@ -13,20 +13,21 @@ ghost use Rattle.pud_defs.specs.Step.{are_of_two_kinds, refusal_of};
 ghost use Rattle.ready_daemon.specs.Memory.{Memory};
 ghost use Rattle.ready_daemon.specs.Held.{IsHeldWithin};
 ghost use Rattle.hybrid_tx.specs.Grounds.{IsPlaced};
+ghost use Rattle.known_pool.specs.Known.{IsKnown};
 ghost use Rattle.registry.specs.Places.{refusal_in};
-ghost use Rattle.pool_transaction.specs.Changing.{IsHeldIn, update_line, field_change, IsLegalUpdate, IsFoundWithin, IsFoundBy};
+ghost use Rattle.pool_transaction.specs.Changing.{IsHeldOn, update_line, field_change, IsLegalUpdate, IsFoundWithin, IsFoundBy};
 ghost use Rattle.pool_transaction.specs.Refusing.{room_refusal, field_refusal, refusal_to_free};
 ghost use Rattle.ready_daemon.specs.Ready.{IsReady};
 
 use crate::changing::{Found, Update};
 use crate::opened::Opened;
-use graph_read::{FieldRead, field_at, find_serial, is_held};
+use graph_read::{FieldRead, field_at};
 use hybrid_tx::{place_and_word, word_for};
+use known_pool::KnownPool;
 use pm_model::{Host, HostFault};
 use pud_defs::layout::{LOG_ENTRY_WORDS, SET_UNITS};
 use pud_defs::machine::Refusal;
 use pud_defs::objects::Val;
-use pud_defs::records::Puddle;
 
 /// Whether one is a number and the other a reference.
 fn are_of_two_kinds(was: Val, x: Val) -> bool
@@ -91,7 +92,7 @@ impl Opened {
         &self,
         h: &mut H,
         frames: u32,
-        pool: &[(u32, Puddle)],
+        pool: &KnownPool,
         s: u64,
         f: u32,
         x: Val,
@@ -100,20 +101,21 @@ impl Opened {
         requires few { frames ≤ MAX_FRAMES }
         requires device { device_words frames ≤ (H.counts h.old).size }
         requires within { IsHeldWithin frames self.now }
-        requires known { IsOnDevice frames pool.now }
+        requires known { IsOnDevice frames pool.now.at }
         requires field { f < MAX_FIELDS }
-        ensures refusal { H.tells → (size : ℕ) → (w : World) → (memory : Memory) → IsHeldIn frames self.now pool.now memory → IsReady size w memory (H.state h.old)
+        ensures refusal { H.tells → (size : ℕ) → (w : World) → (memory : Memory) → IsHeldOn frames self.now pool.now memory → IsReady size w memory (H.state h.old)
             → IfOk result (λ found. refusal_in found ≡ refusal_of w (commands.Set (self.now).client (self.now).name s f x)) }
-        ensures found { H.tells → (image : Image) → reads (H.state h.old).now.words ≡ image → IsPlaced frames pool.now
-            → IfOk result (λ found. IfOk found (IsFoundBy frames pool.now image (field_change later s f x))) }
-        ensures within { IfOk result (λ found. IfOk found (IsFoundWithin pool.now)) }
+        ensures found { H.tells → (image : Image) → reads (H.state h.old).now.words ≡ image → IsKnown frames image pool.now → IsPlaced frames pool.now.at
+            → IfOk result (λ found. IfOk found (IsFoundBy frames pool.now.at image (field_change later s f x))) }
+        ensures within { IfOk result (λ found. IfOk found (IsFoundWithin pool.now.at)) }
         ensures room { IfOk result (λ found. IfOk found (λ _. (self.now).tx.units + SET_UNITS ≤ LOG_ENTRY_WORDS)) }
         ensures only_reads { OnlyReads H.tells H.state H.counts (fault_of result) h.old h.new }
     {
-        let Some((at, word)) = place_and_word(h, frames, pool, s, x)? else {
+        let puddles = pool.as_slice();
+        let Some((at, word)) = place_and_word(h, frames, puddles, s, x)? else {
             return Ok(Err(Refusal::Object));
         };
-        let read = field_at(h, frames, pool, &at, f)?;
+        let read = field_at(h, frames, puddles, &at, f)?;
         match field_refusal(read, x, self.tx.units()) {
             Some(refusal) => Ok(Err(refusal)),
             None => Ok(Ok(Found::Field { at, f, word, later })),
@@ -128,22 +130,22 @@ impl Opened {
         &self,
         h: &mut H,
         frames: u32,
-        pool: &[(u32, Puddle)],
+        pool: &KnownPool,
         s: u64,
     ) -> Result<Result<Found, Refusal>, HostFault>
         requires few { frames ≤ MAX_FRAMES }
         requires device { device_words frames ≤ (H.counts h.old).size }
         requires within { IsHeldWithin frames self.now }
-        requires known { IsOnDevice frames pool.now }
-        ensures refusal { H.tells → (size : ℕ) → (w : World) → (memory : Memory) → IsHeldIn frames self.now pool.now memory → IsReady size w memory (H.state h.old)
+        requires known { IsOnDevice frames pool.now.at }
+        ensures refusal { H.tells → (size : ℕ) → (w : World) → (memory : Memory) → IsHeldOn frames self.now pool.now memory → IsReady size w memory (H.state h.old)
             → IfOk result (λ found. refusal_in found ≡ refusal_of w (commands.Root (self.now).client (self.now).name s)) }
-        ensures found { H.tells → (image : Image) → reads (H.state h.old).now.words ≡ image → IsPlaced frames pool.now
-            → IfOk result (λ found. IfOk found (IsFoundBy frames pool.now image (Update.Root s))) }
-        ensures within { IfOk result (λ found. IfOk found (IsFoundWithin pool.now)) }
+        ensures found { H.tells → (image : Image) → reads (H.state h.old).now.words ≡ image → IsKnown frames image pool.now → IsPlaced frames pool.now.at
+            → IfOk result (λ found. IfOk found (IsFoundBy frames pool.now.at image (Update.Root s))) }
+        ensures within { IfOk result (λ found. IfOk found (IsFoundWithin pool.now.at)) }
         ensures room { IfOk result (λ found. IfOk found (λ _. (self.now).tx.units + SET_UNITS ≤ LOG_ENTRY_WORDS)) }
         ensures only_reads { OnlyReads H.tells H.state H.counts (fault_of result) h.old h.new }
     {
-        let Some(word) = word_for(h, frames, pool, Val::Ref(s))? else {
+        let Some(word) = word_for(h, frames, pool.as_slice(), Val::Ref(s))? else {
             return Ok(Err(Refusal::Object));
         };
         match room_refusal(self.tx.units()) {
@@ -152,35 +154,35 @@ impl Opened {
         }
     }
 
-    /// The slot of the object of serial `s`, at least 1, by which it is freed, or why it may not be. The device has so many frames. The object is
-    /// looked up once, and then one pass is made over the pool and one over the log.
+    /// The slot of the object of serial `s`, at least 1, by which it is freed, or why it may not be. The device has so many frames. Where no index
+    /// of the pool is kept, the object is looked up and then one pass is made over the pool; one pass is made over the log.
     ///
     /// The only errors are the host's own, and nothing changes.
     fn find_free<H: Host>(
         &self,
         h: &mut H,
         frames: u32,
-        pool: &[(u32, Puddle)],
+        pool: &KnownPool,
         s: u64,
     ) -> Result<Result<Found, Refusal>, HostFault>
         requires few { frames ≤ MAX_FRAMES }
         requires device { device_words frames ≤ (H.counts h.old).size }
         requires within { IsHeldWithin frames self.now }
-        requires known { IsOnDevice frames pool.now }
+        requires known { IsOnDevice frames pool.now.at }
         requires serial { 1 ≤ s }
-        ensures refusal { H.tells → (size : ℕ) → (w : World) → (memory : Memory) → IsHeldIn frames self.now pool.now memory → IsReady size w memory (H.state h.old)
+        ensures refusal { H.tells → (size : ℕ) → (w : World) → (memory : Memory) → IsHeldOn frames self.now pool.now memory → IsReady size w memory (H.state h.old)
             → IfOk result (λ found. refusal_in found ≡ refusal_of w (commands.Free (self.now).client (self.now).name s)) }
-        ensures found { H.tells → (image : Image) → reads (H.state h.old).now.words ≡ image → IsPlaced frames pool.now
-            → IfOk result (λ found. IfOk found (IsFoundBy frames pool.now image (Update.Free s))) }
-        ensures within { IfOk result (λ found. IfOk found (IsFoundWithin pool.now)) }
+        ensures found { H.tells → (image : Image) → reads (H.state h.old).now.words ≡ image → IsKnown frames image pool.now → IsPlaced frames pool.now.at
+            → IfOk result (λ found. IfOk found (IsFoundBy frames pool.now.at image (Update.Free s))) }
+        ensures within { IfOk result (λ found. IfOk found (IsFoundWithin pool.now.at)) }
         ensures room { IfOk result (λ found. IfOk found (λ _. (self.now).tx.units + SET_UNITS ≤ LOG_ENTRY_WORDS)) }
         ensures only_reads { OnlyReads H.tells H.state H.counts (fault_of result) h.old h.new }
     {
-        let Some(at) = find_serial(h, frames, pool, s)? else {
+        let Some(at) = pool.find(h, frames, s)? else {
             return Ok(Err(Refusal::Object));
         };
-        let held = is_held(h, frames, pool, s)?;
-        let asked = self.tx.later_names_at(h, frames, pool, s, &at)?;
+        let held = pool.is_held(h, frames, s)?;
+        let asked = self.tx.later_names_at(h, frames, pool.as_slice(), s, &at)?;
         match refusal_to_free(held, asked, self.tx.units()) {
             Some(refusal) => Ok(Err(refusal)),
             None => Ok(Ok(Found::Object { at })),
@@ -194,19 +196,19 @@ impl Opened {
         &self,
         h: &mut H,
         frames: u32,
-        pool: &[(u32, Puddle)],
+        pool: &KnownPool,
         update: Update,
     ) -> Result<Result<Found, Refusal>, HostFault>
         requires few { frames ≤ MAX_FRAMES }
         requires device { device_words frames ≤ (H.counts h.old).size }
         requires within { IsHeldWithin frames self.now }
-        requires known { IsOnDevice frames pool.now }
+        requires known { IsOnDevice frames pool.now.at }
         requires legal { IsLegalUpdate update }
-        ensures refusal { H.tells → (size : ℕ) → (w : World) → (memory : Memory) → IsHeldIn frames self.now pool.now memory → IsReady size w memory (H.state h.old)
+        ensures refusal { H.tells → (size : ℕ) → (w : World) → (memory : Memory) → IsHeldOn frames self.now pool.now memory → IsReady size w memory (H.state h.old)
             → IfOk result (λ found. refusal_in found ≡ refusal_of w (update_line update (self.now).client (self.now).name)) }
-        ensures found { H.tells → (image : Image) → reads (H.state h.old).now.words ≡ image → IsPlaced frames pool.now
-            → IfOk result (λ found. IfOk found (IsFoundBy frames pool.now image update)) }
-        ensures within { IfOk result (λ found. IfOk found (IsFoundWithin pool.now)) }
+        ensures found { H.tells → (image : Image) → reads (H.state h.old).now.words ≡ image → IsKnown frames image pool.now → IsPlaced frames pool.now.at
+            → IfOk result (λ found. IfOk found (IsFoundBy frames pool.now.at image update)) }
+        ensures within { IfOk result (λ found. IfOk found (IsFoundWithin pool.now.at)) }
         ensures room { IfOk result (λ found. IfOk found (λ _. (self.now).tx.units + SET_UNITS ≤ LOG_ENTRY_WORDS)) }
         ensures only_reads { OnlyReads H.tells H.state H.counts (fault_of result) h.old h.new }
     {

@@ -1,0 +1,91 @@
+-- A line that updates a transaction that is held, of which was found what it updates: the update is made on the puddles alone, and then all that is kept of
+-- the pool is known of it.
+use Rattle.std.proofs.Common.{◌≡◌, ◌<◌, ℕ, List, length, Option, Some, None, sym, ap, subst, ◌∙◌}
+use Rattle.std.proofs.lemmas.List.{set-set}
+use Rattle.pm_model.specs.declared.host.HostFault.{HostFault}
+use Rattle.pm_model.specs.Words.{reads}
+use Rattle.pm_model.specs.Moments.{State}
+use Rattle.pud_defs.specs.declared.machine.Command.{Command}
+use Rattle.pud_defs.specs.declared.records.Puddle.{Puddle}
+use Rattle.pud_defs.specs.Puddles.{Member}
+use Rattle.pud_defs.specs.Step.{refusal_of, after, world_by}
+use Rattle.pud_defs.specs.World.{World}
+use Rattle.hybrid_tx.specs.Grounds.{IsPlaced}
+use Rattle.known_pool.specs.Known.{Known, IsKnown, by_puddles}
+use Rattle.ready_daemon.specs.Judged.{puddles_known}
+use Rattle.ready_daemon.specs.Memory.{Held, Memory}
+use Rattle.ready_daemon.specs.Moves.{led_in}
+use Rattle.ready_daemon.specs.Ready.{IsReady}
+use Rattle.ready_daemon.proofs.Applying.{IsReady-anew}
+use Rattle.ready_daemon.proofs.JudgedOpen.{known_within}
+use Rattle.ready_daemon.proofs.Known.{known_kept_there}
+use Rattle.pool_transaction.specs.declared.changing.Found.{Found}
+use Rattle.pool_transaction.specs.declared.changing.Update.{Update}
+use Rattle.pool_transaction.specs.Changing.{IsHeldIn, IsHeldOn, with_known, with_opened, update_line, IsFoundBy, IsFoundWithin, ordinal_written}
+use Rattle.pool_transaction.specs.Finishing.{end_of, FinishesFor, FinishesUnless, AppliesTo, AppliesFinishing}
+use Rattle.pool_transaction.proofs.HeldAlone.{memory_alone, held_alone, ready_alone, opened_alone}
+use Rattle.pool_transaction.proofs.HeldFinishes.{its_placed}
+use Rattle.pool_transaction.proofs.Leading.{AppliesTo-behind_reads, finishes_found, finishing_free}
+
+-- what the call owes that makes the update which was found, on the puddles that it is lent
+abbrev pub Updates : (F : ℕ) → (held now : Held) → (at later : List (ℕ × Puddle)) → Update → Found → (size : ℕ) → World → Option HostFault → (old new : State) → Type 0
+Updates F held now at later update found size w fault old new =
+    (memory : Memory) → IsHeldIn F held at memory → IsReady size w memory old → refusal_of w (update_line update held.client held.name) ≡ None → IsFoundBy F at (reads old.now.words) update found
+    → AppliesTo (led_in held.slot (end_of (ordinal_written found))) size w (after w (update_line update held.client held.name)) (with_opened held.number held.slot now later memory) fault old new
+
+module _ (F : ℕ) (held : Held) (known : Known) (memory : Memory) (its : IsHeldOn F held known memory) (size : ℕ) (w : World) (old : State) (ready : IsReady size w memory old) where
+  -- its puddles lie as those of a ground
+  pub placed_on : IsPlaced F known.at
+  placed_on =
+      let alone = held_alone F held known memory its in
+      let then = ready_alone F held known memory its size w old ready in
+      its_placed size w (memory_alone held.slot known.at memory) held old held.number alone.there then F (sym alone.frames ∙ then.frames) known.at alone.known
+
+  -- what is known behind the calls may be kept, where that is so of the device
+  module _ (goal : Member → Option ℕ) (next : World) (now : Held) (later : List (ℕ × Puddle)) (more : Known) (puddles : more.at ≡ later) (fault : Option HostFault) (from new : State) where
+    abbrev alone : Memory
+    alone = with_opened held.number held.slot now later memory
+
+    slot_within : held.slot < length memory.judged
+    slot_within = known_within memory.judged held.slot known.at (ap puddles_known its.known)
+
+    ready_more : IsReady size next alone new → IsKnown F (reads new.now.words) more → IsReady size next (with_known held.number held.slot now more memory) new
+    ready_more then so =
+        let on : F ≡ next.stored.frames = sym its.frames ∙ then.frames in
+        subst (λ (js : List (Option Known)). IsReady size next (record alone { judged = js }) new) (set-set memory.judged held.slot (Some (by_puddles later)) (Some more))
+        (IsReady-anew size next alone new held.slot more then (known_kept_there memory.judged held.slot (by_puddles later) slot_within ∙ ap (λ (ps : List (ℕ × Puddle)). Some ps) (sym puddles))
+        (subst (λ (n : ℕ). IsKnown n (reads new.now.words) more) on so))
+
+    AppliesTo-more : (fault ≡ None → IsKnown F (reads new.now.words) more) → AppliesTo goal size w next alone fault from new → AppliesTo goal size w next (with_known held.number held.slot now more memory) fault from new
+    AppliesTo-more so a = record {
+      applies = record {
+        moments = a.applies.moments;
+        puddles = a.applies.puddles;
+        quiet = a.applies.quiet;
+        ready = λ none. ready_more (a.applies.ready none) (so none);
+        rests = a.applies.rests;
+        script = a.applies.script;
+      };
+      arrives = a.arrives;
+    }
+
+  -- the line is carried out
+  module _ (update : Update) (found : Found) (free : refusal_of w (update_line update held.client held.name) ≡ None) (within : IsFoundWithin known.at found) (by : IsFoundBy F known.at (reads old.now.words) update found) where
+    abbrev line : Command
+    line = update_line update held.client held.name
+
+    abbrev led : ℕ → ℕ
+    led = end_of (ordinal_written found)
+
+    pub Applies-found : (lent later : List (ℕ × Puddle)) (now : Held) (more : Known) (fault : Option HostFault) (mid new : State) → lent ≡ known.at → more.at ≡ later → mid ≡ old
+        → Updates F held now lent later update found size w fault mid new → (fault ≡ None → IsKnown F (reads new.now.words) more)
+        → AppliesFinishing held.slot (FinishesUnless (refusal_of w line) (FinishesFor F known.at (reads old.now.words) update)) size w (world_by w (Some line)) (with_known held.number held.slot now more memory) fault old new
+    Applies-found lent later now more fault mid new same puddles still updates so =
+        let behind = memory_alone held.slot known.at memory in
+        let its_alone = subst (λ (ps : List (ℕ × Puddle)). IsHeldIn F held ps behind) (sym same) (held_alone F held known memory its) in
+        let then = subst (λ (s : State). IsReady size w behind s) (sym still) (ready_alone F held known memory its size w old ready) in
+        let by_lent = subst (λ (ps : List (ℕ × Puddle)). IsFoundBy F ps (reads mid.now.words) update found) (sym same) (subst (λ (s : State). IsFoundBy F known.at (reads s.now.words) update found) (sym still) by) in
+        finishing_free held.slot (FinishesFor F known.at (reads old.now.words) update) (refusal_of w line) free led (finishes_found F known.at (reads old.now.words) update found within by) size w _ _ _ _ _
+        (AppliesTo-behind_reads held.slot led size w _ line fault old mid new free still
+        (AppliesTo-more (led_in held.slot led) (after w line) now later more puddles fault mid new so
+        (subst (λ (m : Memory). AppliesTo (led_in held.slot led) size w (after w line) m fault mid new) (opened_alone held.number held.slot now known.at later memory) (updates behind its_alone then free by_lent))))
