@@ -18,6 +18,10 @@ use pud_defs::records::Puddle;
 use puddle_table::Puddles;
 use std::marker::Model;
 
+/// How many calls of `build` leave a pool to scans where an index that was built has gone, before one is built again: a build costs some
+/// dozens of scans, which is little over so many lines that want one.
+const SCANS_BETWEEN: u32 = 256;
+
 /// What is kept of a pool.
 #[derive(Drop)]
 pub struct KnownPool {
@@ -27,6 +31,8 @@ pub struct KnownPool {
     index: Option<Index>,
     /// Each place below this one is live.
     full_below: u32,
+    /// How many more calls of `build` that find no index leave it so, since one was built or tried for.
+    wait: u32,
 }
 
 impl Model for KnownPool {
@@ -47,6 +53,7 @@ impl KnownPool {
             puddles,
             index: None,
             full_below: 0,
+            wait: 0,
         }
     }
 

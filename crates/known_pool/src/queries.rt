@@ -17,7 +17,7 @@ ghost use Rattle.graph_read.specs.Indexed.{slot_at_place};
 ghost use Rattle.graph_read.specs.Reading.{place_in_pool, field_in, read_by};
 ghost use Rattle.known_pool.specs.Known.{IsKnown, entries_of};
 
-use crate::KnownPool;
+use crate::{KnownPool, SCANS_BETWEEN};
 use graph_read::{FieldRead, Index, field_at, find_serial, is_held};
 use pm_model::{HostFault, Loads};
 use pud_defs::records::{Puddle, Slot};
@@ -40,7 +40,8 @@ fn slot_of(pool: &[(u32, Puddle)], kept: Option<(u32, u32)>) -> Option<Slot>
 }
 
 impl KnownPool {
-    /// Builds an index, where none is kept. None is kept behind it for want of memory.
+    /// Builds an index, where none is kept and none was tried for by one of the last 256 calls that found none. None is kept behind it
+    /// for want of memory.
     ///
     /// Each serial and each field is read once. The memory is that of `alloc`, which the index keeps. The only errors are the
     /// host's own, and then nothing changes.
@@ -61,9 +62,15 @@ impl KnownPool {
         ensures kept { (x : Index) → self.old.index ≡ Option.Some (entries_of x) → self.new ≡ self.old }
         ensures only_reads { OnlyReads H.tells H.state H.counts (fault_of result) h.old h.new }
     {
-        if self.index.is_none() {
-            self.index = Index::build(alloc, h, frames, self.puddles.as_slice())?;
+        if self.index.is_some() {
+            return Ok(());
         }
+        if self.wait > 0 {
+            self.wait -= 1;
+            return Ok(());
+        }
+        self.wait = SCANS_BETWEEN;
+        self.index = Index::build(alloc, h, frames, self.puddles.as_slice())?;
         Ok(())
     }
 

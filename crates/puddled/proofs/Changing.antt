@@ -11,15 +11,21 @@ use Rattle.pud_defs.specs.declared.records.Puddle.{Puddle}
 use Rattle.pud_defs.specs.declared.machine.Command.TheVariants.{Commit}
 use Rattle.pud_defs.specs.declared.machine.Refusal.{Refusal}
 use Rattle.pud_defs.specs.Step.{refusal_of, world_by}
-use Rattle.pud_defs.specs.Stored.{IsOnDevice}
+use Rattle.pud_defs.specs.Graph.{Graph, graph_of}
+use Rattle.pud_defs.specs.Image.{Image}
+use Rattle.pud_defs.specs.Stored.{IsOnDevice, stored_in}
+use Rattle.pud_defs.specs.Types.{types_of}
 use Rattle.pud_defs.specs.Tables.{tables_of, puddles_in_turn}
 use Rattle.pud_defs.specs.World.{World}
 use Rattle.nesting.specs.declared.Session.{Session}
 use Rattle.pool_transaction.specs.declared.changing.Change.{Change}
 use Rattle.pool_transaction.specs.declared.changing.Change.TheVariants as changes
 use Rattle.pool_transaction.specs.Changing.{IsHeldOn, with_known, line_of}
-use Rattle.known_pool.specs.Known.{Known}
-use Rattle.ready_daemon.specs.Judged.{puddles_known, pool_in, known_in, AreOnDevice}
+use Rattle.known_pool.specs.Known.{Known, IsKnown}
+use Rattle.ready_daemon.specs.Judged.{puddles_known, pool_in, known_in, AreOnDevice, AreJudged}
+use Rattle.ready_daemon.proofs.JudgedKept.{graph_parts}
+use Rattle.ready_daemon.proofs.JudgedOpen.{known_again}
+use Rattle.ready_daemon.proofs.Known.{AreJudged-set}
 use Rattle.ready_daemon.specs.Memory.{Held, Memory, held_under}
 use Rattle.ready_daemon.specs.Holding.{IsOwnOn}
 use Rattle.ready_daemon.specs.Owning.{IsSlotOf}
@@ -40,6 +46,23 @@ known_there judged slot read any within is = get_or_default judged slot None any
 -- and what is known lies in frames of the device
 pub on_device_there : (F : ℕ) (judged : List (Option Known)) (slot : ℕ) (known : Known) → AreOnDevice F judged → pool_in judged slot ≡ Some known → IsOnDevice F known.at
 on_device_there F judged slot known all is = all.each slot known.at (ap puddles_known is)
+
+-- ---- an index of it is built
+
+module _ (judged : List (Option Known)) (slot : ℕ) (known more : Known) (is : pool_in judged slot ≡ Some known) (same : more.at ≡ known.at) where
+  -- all pools are known by the puddles by which they were
+  pub puddles_built : (i : ℕ) → known_in (set judged slot (Some more)) i ≡ known_in judged i
+  puddles_built i = known_again judged slot more (ap puddles_known is ∙ ap (λ (at : List (ℕ × Puddle)). Some at) (sym same)) i
+
+  -- and what is known is so
+  pub AreJudged-built : (F : ℕ) (image : Image) → ((g : Graph) → graph_of (types_of image) (stored_in F known.at image) ≡ Some g → IsKnown F image known → IsKnown F image more) → AreJudged F judged image
+      → AreJudged F (set judged slot (Some more)) image
+  AreJudged-built F image built are =
+      let has = are.each slot known.at (ap puddles_known is) in
+      let graph = graph_parts F slot image known.at has in
+      AreJudged-set F judged slot more image (has ∙ ap (λ (at : List (ℕ × Puddle)). Some at) (sym same)) (built graph.graph graph.stored (are.known slot known is)) are
+
+-- ---- the client's own
 
 module _ (size : ℕ) (w : World) (F : ℕ) (all : List (Option Held)) (sessions : List (Option Session)) (judged : List (Option Known)) (s : State)
     (ready : IsReady size w (record { frames = F; held = all; sessions = sessions; judged = judged }) s) (client : ℕ) (name : List ℕ) (slot number : ℕ) (own : IsOwnOn client name slot number all) where

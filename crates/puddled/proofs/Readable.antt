@@ -1,5 +1,5 @@
 -- Lines that read a pool: the graph of its puddles, and what is replied.
-use Rattle.std.proofs.Common.{◌≡◌, ℕ, cond, List, [], Option, Some, None, is_none, refl, sym, ap, subst, ◌∙◌}
+use Rattle.std.proofs.Common.{◌≡◌, ℕ, true, true≢false, cond, List, [], Option, Some, None, is_none, is_some, refl, sym, ap, subst, ◌∙◌}
 use Rattle.std.specs.Prelude.{unwrap_or}
 use Rattle.std.specs.Option.{option_or}
 use Rattle.pm_model.specs.declared.host.HostFault.{HostFault}
@@ -25,7 +25,8 @@ use Rattle.graph_read.specs.declared.fields.FieldRead.{FieldRead}
 use Rattle.graph_read.specs.Reading.{read_value, read_by}
 use Rattle.ready_daemon.specs.Memory.{Memory}
 use Rattle.ready_daemon.specs.Holding.{IsOwnOn}
-use Rattle.ready_daemon.specs.Judged.{known_in}
+use Rattle.known_pool.specs.Known.{Known}
+use Rattle.ready_daemon.specs.Judged.{known_in, AreJudged}
 use Rattle.ready_daemon.specs.Ready.{IsReady, Applies}
 use Rattle.ready_daemon.proofs.Applying.{Applies-still}
 use Rattle.ready_daemon.proofs.InTurn.{held_there_known}
@@ -35,7 +36,7 @@ use Rattle.puddled.specs.declared.finding.Need.TheVariants as needs
 use Rattle.puddled.specs.declared.finding.Found.{Found}
 use Rattle.puddled.specs.Finding.{refusal_to, IsFound}
 use Rattle.puddled.specs.Reading.{HoldsGraph, reply_of_read}
-use Rattle.puddled.proofs.Found.{holds_graph}
+use Rattle.puddled.proofs.Found.{holds_graph, judged_ready, judged_more}
 use Rattle.puddled.proofs.Needs.{refusal_of-get as refusal_by_need}
 
 -- ---- the puddles of what was found
@@ -62,6 +63,21 @@ module _ (size : ℕ) (w : World) (memory : Memory) (s : State) (ready : IsReady
       by_own : (o : Option ℕ) → found.own ≡ o → HoldsGraph w w.stored.frames name (reads s.now.words) at
       by_own (Some number) own = holds_own found.slot number at known (is.own number own)
       by_own None shut = subst (HoldsGraph w w.stored.frames name (reads s.now.words)) (sym known) (holds_graph size w memory s ready client name found.slot is.rec is.is (is.none shut) _ (is.known refl))
+
+-- ---- what is known of pools
+
+-- where a pool is known to have a graph its puddles are known
+pub some_known : (o : Option (List (ℕ × Puddle))) → true ≡ is_some o → o ≡ Some (unwrap_or o [])
+some_known None none = absurd (true≢false none)
+some_known (Some at) is = refl
+
+-- an index of one was built, behind calls that read
+pub ready_built : (size : ℕ) (w : World) (memory : Memory) (judged : List (Option Known)) (a b : State) → b ≡ a → IsReady size w memory a
+    → (AreJudged memory.frames memory.judged (reads b.now.words) → AreJudged memory.frames judged (reads b.now.words)) → ((i : ℕ) → known_in judged i ≡ known_in memory.judged i)
+    → IsReady size w (record memory { judged = judged }) a
+ready_built size w memory judged a b same ready built puddles =
+    judged_more size w memory judged a ready
+    (subst (λ (s : State). AreJudged memory.frames judged (reads s.now.words)) same (built (judged_ready size w memory b (subst (λ (s : State). IsReady size w memory s) (sym same) ready)))) (λ i at is. puddles i ∙ is)
 
 -- ---- what is replied
 

@@ -212,7 +212,9 @@ fn apply<H: Host>(
             with_reply(daemon.change_for(h, client, name, mode))
         }
         Command::Drop { client, name } => with_reply(daemon.drop_for(h, client, name)),
-        Command::Get { client, name, s, f } => { with_reply(daemon.get_for(h, client, name, s, f)) }
+        Command::Get { client, name, s, f } => {
+            with_reply(daemon.get_for(alloc, h, client, name, s, f))
+        }
         Command::Begin { client, name } => with_reply(daemon.begin(h, client, name)),
         Command::Commit { client, name } => with_reply(daemon.commit(h, client, name)),
         Command::Abort { client, name } => with_reply(daemon.abort(h, client, name)),

@@ -6,18 +6,23 @@ ghost use Rattle.pm_model.specs.Reads.{OnlyReads};
 ghost use Rattle.pud_defs.specs.declared.layout.TheConstants.{MAX_FRAMES};
 ghost use Rattle.pud_defs.specs.declared.records.Puddle.{Puddle};
 ghost use Rattle.pud_defs.specs.declared.records.TheConstants.{POOL_RECORDS};
+ghost use Rattle.pud_defs.specs.declared.layout.TheConstants.{MAX_FIELDS};
+ghost use Rattle.pud_defs.specs.Graph.{Graph, graph_of, object_in};
 ghost use Rattle.pud_defs.specs.Image.{Image};
 ghost use Rattle.pud_defs.specs.Layout.{device_words};
-ghost use Rattle.pud_defs.specs.Stored.{IsOnDevice};
+ghost use Rattle.pud_defs.specs.Stored.{IsOnDevice, stored_in};
+ghost use Rattle.pud_defs.specs.Types.{types_of};
+ghost use Rattle.graph_read.specs.Reading.{read_by};
 ghost use Rattle.ready_daemon.specs.Judged.{puddles_with_graph};
 ghost use Rattle.known_pool.specs.Known.{by_puddles};
 ghost use Rattle.ready_daemon.specs.Judged.{known_in, alone_in, AreOnDevice, AreJudged};
 
-use graph_read::pool_is_sound;
+use graph_read::{FieldRead, pool_is_sound};
 use known_pool::KnownPool;
 use pm_model::{Host, HostFault};
 use pud_defs::records::{POOL_RECORDS, Puddle};
 use puddle_table::{Puddles, find_puddles};
+use std::alloc::Global;
 use std::array;
 use std::marker::Model;
 
@@ -80,6 +85,59 @@ impl Judged {
         match &self.pools[slot as usize] {
             Some(pool) => pool.as_slice(),
             None => &[],
+        }
+    }
+
+    /// Builds an index of the pool in this slot, where it is known and none is kept of it. None is kept behind it for want of memory. The device has so
+    /// many frames.
+    ///
+    /// The only errors are the host's own, and then nothing changes.
+    pub(crate) fn build<H: Host>(
+        &mut self,
+        alloc: Global,
+        h: &mut H,
+        frames: u32,
+        slot: u32,
+    ) -> Result<(), HostFault>
+        requires slot { slot < POOL_RECORDS }
+        requires few { frames ≤ MAX_FRAMES }
+        requires room { device_words frames ≤ (H.counts h.old).size }
+        requires known { AreOnDevice frames self.old }
+        ensures judged { H.tells → (image : Image) → reads (H.state h.old).now.words ≡ image → AreJudged frames self.old image → AreJudged frames self.new image }
+        ensures puddles { (i : ℕ) → known_in self.new i ≡ known_in self.old i }
+        ensures known { AreOnDevice frames self.new }
+        ensures only_reads { OnlyReads H.tells H.state H.counts (fault_of result) h.old h.new }
+    {
+        match &mut self.pools[slot as usize] {
+            Some(pool) => pool.build(alloc, h, frames),
+            None => Ok(()),
+        }
+    }
+
+    /// What is read of field `f`, 0 to 29, of the object of serial `s` in the pool in this slot, which is known. The device has so many frames. Where an
+    /// index of the pool is kept the object is not searched for.
+    ///
+    /// The only errors are the host's own.
+    pub(crate) fn read_field<H: Host>(
+        &self,
+        h: &mut H,
+        frames: u32,
+        slot: u32,
+        s: u64,
+        f: u32,
+    ) -> Result<FieldRead, HostFault>
+        requires slot { slot < POOL_RECORDS }
+        requires few { frames ≤ MAX_FRAMES }
+        requires room { device_words frames ≤ (H.counts h.old).size }
+        requires known { AreOnDevice frames self.now }
+        requires field { f < MAX_FIELDS }
+        ensures object { H.tells → (image : Image) → reads (H.state h.old).now.words ≡ image → AreJudged frames self.now image → (at : List (ℕ × Puddle)) → known_in self.now slot ≡ Option.Some at
+            → (g : Graph) → graph_of (types_of image) (stored_in frames at image) ≡ Option.Some g → IfOk result (λ read. read ≡ read_by (object_in s g) f) }
+        ensures only_reads { OnlyReads H.tells H.state H.counts (fault_of result) h.old h.new }
+    {
+        match &self.pools[slot as usize] {
+            Some(pool) => pool.read_field(h, frames, s, f),
+            None => Ok(FieldRead::NoObject),
         }
     }
 

@@ -16,11 +16,12 @@ ghost use Rattle.ready_daemon.specs.Ready.{IsReady, Applies};
 
 use crate::daemon::Daemon;
 use crate::finding::Need;
-use graph_read::{FieldRead, read_field};
+use graph_read::FieldRead;
 use pm_model::{Host, HostFault};
 use pud_defs::machine::{Refusal, Reply};
 use pud_defs::objects::Val;
 use pud_defs::records::{Name, Puddle};
+use std::alloc::Global;
 
 /// What is replied, by what was read of the field.
 fn reply_of(read: FieldRead) -> Reply
@@ -45,10 +46,11 @@ impl Daemon {
     }
 
     /// Reads field `f`, 0 to 29, of the object of serial `s` in the pool of this name for the client, or refuses to. Nothing on the device
-    /// changes, and the pool is judged where it is not known to have a graph. A pool on which a transaction is open is read as the
-    /// transaction has it, and by its client alone.
+    /// changes, and the pool is judged where it is not known to have a graph, and an index built where none is kept of it. A pool on which
+    /// a transaction is open is read as the transaction has it, and by its client alone.
     pub(crate) fn get_for<H: Host>(
         &mut self,
+        alloc: Global,
         h: &mut H,
         client: u8,
         name: Name,
@@ -71,7 +73,8 @@ impl Daemon {
             Err(refusal) => return Ok(Reply::No(refusal)),
             Ok(found) => found,
         };
-        let read = read_field(h, self.frames, self.puddles_of(found.slot), s, f)?;
+        self.judged.build(alloc, h, self.frames, found.slot)?;
+        let read = self.judged.read_field(h, self.frames, found.slot, s, f)?;
         Ok(reply_of(read))
     }
 }

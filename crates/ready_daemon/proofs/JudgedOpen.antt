@@ -1,7 +1,7 @@
 -- What is known of pools beside open transactions: as one begins and ends, and while lines do that touch none.
 use Rattle.std.proofs.Common.{◌≡◌, ◌≢◌, inl, inr, ℕ, ◌+◌, ◌<◌, ◌≤◌, List, length, replicate, set, Option, Some, None, option_map, sym, ap, subst, ◌∙◌, arith}
 use Rattle.std.proofs.lemmas.Bool.{cases_eq, cases_lt}
-use Rattle.std.proofs.lemmas.List.{get_or_past, get_or-set_same, get_or-set_other, set-set}
+use Rattle.std.proofs.lemmas.List.{get_or_past, set-set}
 use Rattle.std.proofs.lemmas.Option.{none-some, same_Some}
 use Rattle.pm_model.specs.Words.{reads}
 use Rattle.pm_model.specs.Moments.{State}
@@ -27,9 +27,9 @@ use Rattle.pm_model.proofs.Changes.{HasOnly-kept}
 use Rattle.known_pool.specs.Known.{Known, IsKnown}
 use Rattle.ready_daemon.specs.Memory.{Held}
 use Rattle.ready_daemon.specs.Held.{IsHeld}
-use Rattle.ready_daemon.specs.Judged.{known_in, puddles_with_graph, AreJudged}
+use Rattle.ready_daemon.specs.Judged.{known_in, AreJudged}
 use Rattle.ready_daemon.specs.KnownPools.{KnowsPools}
-use Rattle.ready_daemon.proofs.JudgedKept.{HasGraphIn, graph_parts, graph_from, KeepsPools, KeepsPools-changes, KeepsPools-apart, SparesTables, AreJudged-all, AreJudged-but, in_turn_kept, types_same, puddles_same, own_by, words_apart, IsOwnWord, own_word}
+use Rattle.ready_daemon.proofs.JudgedKept.{HasGraphIn, graph_from, KeepsPools, KeepsPools-changes, KeepsPools-apart, SparesTables, AreJudged-all, AreJudged-but, in_turn_kept, types_same, puddles_same, own_by, words_apart, IsOwnWord, own_word}
 use Rattle.ready_daemon.proofs.Known.{AreJudged-none, AreJudged-set, AreJudged-forgotten, known_kept_there, known_other}
 use Rattle.ready_daemon.proofs.HeldUnder.{nothing_there}
 use Rattle.ready_daemon.proofs.PoolsBeside.{puddles_still}
@@ -95,11 +95,11 @@ known_within judged slot at known = elim (cases_lt slot (length judged)) [
   | inr past ↦ absurd (none-some at (sym (ap (option_map (λ (k : Known). k.at)) (get_or_past judged slot None past)) ∙ known))
 ]
 
--- where a pool's puddles are known still, so are those of each that was known
-known_anew : (judged : List (Option Known)) (slot : ℕ) (known : Known) → known_in judged slot ≡ Some known.at → (i : ℕ) (at : List (ℕ × Puddle)) → known_in judged i ≡ Some at → known_in (set judged slot (Some known)) i ≡ Some at
-known_anew judged slot known was i at is = elim (cases_eq i slot) [
-  | inl same ↦ ap (known_in (set judged slot (Some known))) same ∙ known_kept_there judged slot known (known_within judged slot known.at was) ∙ sym was ∙ ap (known_in judged) (sym same) ∙ is
-  | inr other ↦ known_other judged slot i (Some known) other ∙ is
+-- where what is known of a pool has the puddles that were known of it, those of each pool are known that were
+pub known_again : (judged : List (Option Known)) (slot : ℕ) (known : Known) → known_in judged slot ≡ Some known.at → (i : ℕ) → known_in (set judged slot (Some known)) i ≡ known_in judged i
+known_again judged slot known was i = elim (cases_eq i slot) [
+  | inl same ↦ ap (known_in (set judged slot (Some known))) same ∙ known_kept_there judged slot known (known_within judged slot known.at was) ∙ sym was ∙ ap (known_in judged) (sym same)
+  | inr other ↦ known_other judged slot i (Some known) other
 ]
 
 -- a start knows nothing, and nothing is open
@@ -185,7 +185,7 @@ KnowsPools-ended F judged number one others opens known before after more puddle
       judged = AreJudged-own F one.pool.slot judged known before after keeps (subst (HasGraphIn F one.pool.slot after) (sym puddles) has) is knows.judged;
       open_pools = λ m o there. elim (cases_eq m number) [
         | inl same ↦ absurd (none-some o (sym more.none ∙ ap others (sym same) ∙ there))
-        | inr apart ↦ known_anew judged one.pool.slot known was o.pool.slot o.pool.at (knows.open_pools m o (more.same m apart ∙ there))
+        | inr apart ↦ known_again judged one.pool.slot known was o.pool.slot ∙ knows.open_pools m o (more.same m apart ∙ there)
       ];
     }
 
@@ -196,7 +196,7 @@ KnowsPools-later F judged number one opens known before after there puddles keep
     let was = knows.open_pools number one there ∙ ap (λ (at : List (ℕ × Puddle)). Some at) (sym puddles) in
     record {
       judged = AreJudged-own F one.pool.slot judged known before after keeps (subst (HasGraphIn F one.pool.slot after) (sym puddles) has) is knows.judged;
-      open_pools = λ m o here. known_anew judged one.pool.slot known was o.pool.slot o.pool.at (knows.open_pools m o here);
+      open_pools = λ m o here. known_again judged one.pool.slot known was o.pool.slot ∙ knows.open_pools m o here;
     }
 
 -- more is known of a pool, or less, and its puddles are known still
@@ -204,7 +204,7 @@ pub KnowsPools-anew : (F slot : ℕ) (judged : List (Option Known)) (opens : Ope
     → KnowsPools F (set judged slot (Some known)) opens image
 KnowsPools-anew F slot judged opens known image was is knows = record {
   judged = AreJudged-set F judged slot known image (knows.judged.each slot known.at was) is knows.judged;
-  open_pools = λ m o here. known_anew judged slot known was o.pool.slot o.pool.at (knows.open_pools m o here);
+  open_pools = λ m o here. known_again judged slot known was o.pool.slot ∙ knows.open_pools m o here;
 }
 
 -- what its calls do

@@ -1,7 +1,9 @@
-use Rattle.std.proofs.Common.{◌≡◌, None, Some, refl, sym, ap, ◌∙◌}
+use Rattle.std.proofs.Common.{◌≡◌, [], None, Some, refl, sym, ap, subst, ◌∙◌}
+use Rattle.std.specs.Prelude.{unwrap_or}
 use Rattle.std.proofs.lemmas.Result.{err_from_is_err_and}
 use Rattle.pm_model.specs.declared.host.HostFault.TheVariants.{Cut}
 use Rattle.pm_model.specs.Words.{reads}
+use Rattle.pm_model.proofs.Reading.{still_reads}
 use Rattle.pud_defs.specs.declared.machine.Command.TheVariants.{Get}
 use Rattle.pud_defs.specs.Types.{types_of}
 use Rattle.pud_defs.specs.Stored.{stored_in}
@@ -9,10 +11,12 @@ use Rattle.pud_defs.specs.Graph.{graph_of}
 use Rattle.pud_defs.specs.Step.Answer.{of_reply}
 use Rattle.pud_defs.proofs.Steps.{refused_answer}
 use Rattle.ready_daemon.specs.Memory.{Memory}
+use Rattle.ready_daemon.specs.Judged.{known_in}
 use Rattle.ready_daemon.specs.Owning.{refusal_found}
+use Rattle.ready_daemon.specs.Ready.{IsReady}
 use Rattle.puddled.specs.declared.finding.Need.TheVariants as needs
-use Rattle.puddled.proofs.Found.{finds}
-use Rattle.puddled.proofs.Readable.{get_refused, holds_found, reply_when_read, Applies-get}
+use Rattle.puddled.proofs.Found.{finds, judged_ready}
+use Rattle.puddled.proofs.Readable.{get_refused, holds_found, some_known, ready_built, reply_when_read, Applies-get}
 use Rattle.puddled.proofs.daemon.Daemon.get_for.Goals as goal
 
 pub returns-in-Err-clause-reply : goal.returns-in-Err-clause-reply
@@ -23,14 +27,23 @@ returns-in-Err-clause-reply g c = λ t size w ready.
 pub returns-clause-reply : goal.returns-clause-reply
 returns-clause-reply g c = λ t size w ready.
     let k = c.in_ok-refusal.ensures in
+    let i = c.self.inside in
+    let view : Memory = record { frames = i.frames; held = i.opened; sessions = i.sessions; judged = i.judged } in
     let now = c.find_pool.new.self in
-    let image = reads (g.H.Host.state c.find_pool.new.h).now.words in
+    let s = g.H.Host.state c.find_pool.new.h in
+    let image = reads s.now.words in
     let here = finds size w needs.Read c.args.client c.args.name c.args.self.now now _ _ _ c.in-Ok.found c.in-Ok.is (k.only_reads.stays t) k.sessions (k.ready t size w ready) (k.refusal t size w ready) (k.found t size w ready) k.whose in
-    let holds = holds_found size w now _ here.ready c.args.client c.args.name c.in-Ok.found c.puddles_of.result.now here.is c.puddles_of.ensures.known in
+    let there = subst (λ (m : Memory). IsReady size w m s) (sym c.self.view_is) here.ready in
+    let at = unwrap_or (known_in now.judged c.in-Ok.found.slot) [] in
+    let known = some_known (known_in now.judged c.in-Ok.found.slot) (rw c.in-Ok.is at k.known refl) in
+    let holds = holds_found size w now _ here.ready c.args.client c.args.name c.in-Ok.found at here.is refl in
     let on = ap (λ (m : Memory). m.frames) c.self.view_is ∙ here.ready.frames in
+    let built = c.in_ok-build.ensures in
     ap of_reply c.reply_of.ensures
-    ∙ reply_when_read w c.args.client c.args.name c.args.s c.args.f w.stored.frames image _ c.puddles_of.result.now c.in_ok-read.read holds refl
-    (λ graph stored. c.in_ok-read.ensures.object t image refl graph (ap (λ F. graph_of (types_of image) (stored_in F c.puddles_of.result.now image)) on ∙ stored)) here.free
+    ∙ reply_when_read w c.args.client c.args.name c.args.s c.args.f w.stored.frames image at at c.in_ok-read.read holds refl
+    (λ graph stored.
+    c.in_ok-read.ensures.object t image (still_reads built.only_reads t refl) (built.judged t image refl (judged_ready size w view s there)) at
+    (built.puddles c.in-Ok.found.slot ∙ ap (λ (m : Memory). known_in m.judged c.in-Ok.found.slot) c.self.view_is ∙ known) graph (ap (λ F. graph_of (types_of image) (stored_in F at image)) on ∙ stored)) here.free
 
 -- ---- what is known of pools alone changed
 
@@ -45,14 +58,38 @@ pub returns-in-Err-clause-applies : goal.returns-in-Err-clause-applies
 returns-in-Err-clause-applies g c = λ t size w ready.
     Applies-get w c.args.client c.args.name c.args.s c.args.f size c.find_pool.new.self None _ _ (c.in_ok-refusal.ensures.ready t size w ready) (c.in_ok-refusal.ensures.only_reads.stays t) (λ cut. let no : None ≡ Some Cut = cut in cc)
 
+pub returns-in_err-build-clause-applies : goal.returns-in_err-build-clause-applies
+returns-in_err-build-clause-applies g c =
+    let p = err_from_is_err_and c.from_residual-in_err-build.result c.from_residual-in_err-build.ensures.1 in
+    rw (p.1, p.2) (λ t size w ready.
+    let k = c.in_ok-refusal.ensures in
+    let i = c.self.inside in
+    let view : Memory = record { frames = i.frames; held = i.opened; sessions = i.sessions; judged = i.judged } in
+    let n = c.in_err-build.ensures in
+    let before = subst (λ (m : Memory). IsReady size w m (g.H.Host.state c.args.h.now)) (sym c.self.view_is) (k.ready t size w ready) in
+    Applies-get w c.args.client c.args.name c.args.s c.args.f size (record view { judged = c.build.new.self }) (Some c.in_err-build.field-0.0) _ _
+    (ready_built size w view c.build.new.self _ _ (k.only_reads.stays t) before (n.judged t _ refl) n.puddles) (n.only_reads.stays t ∙ k.only_reads.stays t) n.only_reads.never_cut)
+
 pub returns-in_err-read-clause-applies : goal.returns-in_err-read-clause-applies
 returns-in_err-read-clause-applies g c =
     let p = err_from_is_err_and c.from_residual-in_err-read.result c.from_residual-in_err-read.ensures.1 in
     rw (p.1, p.2) (λ t size w ready.
-    Applies-get w c.args.client c.args.name c.args.s c.args.f size c.find_pool.new.self (Some c.in_err-read.field-0.0) _ _ (c.in_ok-refusal.ensures.ready t size w ready)
-    (c.in_err-read.ensures.only_reads.stays t ∙ c.in_ok-refusal.ensures.only_reads.stays t) c.in_err-read.ensures.only_reads.never_cut)
+    let k = c.in_ok-refusal.ensures in
+    let i = c.self.inside in
+    let view : Memory = record { frames = i.frames; held = i.opened; sessions = i.sessions; judged = i.judged } in
+    let n = c.in_ok-build.ensures in
+    let r = c.in_err-read.ensures.only_reads in
+    let before = subst (λ (m : Memory). IsReady size w m (g.H.Host.state c.args.h.now)) (sym c.self.view_is) (k.ready t size w ready) in
+    Applies-get w c.args.client c.args.name c.args.s c.args.f size (record view { judged = c.build.new.self }) (Some c.in_err-read.field-0.0) _ _
+    (ready_built size w view c.build.new.self _ _ (k.only_reads.stays t) before (n.judged t _ refl) n.puddles) (r.stays t ∙ n.only_reads.stays t ∙ k.only_reads.stays t) r.never_cut)
 
 pub returns-clause-applies : goal.returns-clause-applies
 returns-clause-applies g c = λ t size w ready.
-    Applies-get w c.args.client c.args.name c.args.s c.args.f size c.find_pool.new.self None _ _ (c.in_ok-refusal.ensures.ready t size w ready)
-    (c.in_ok-read.ensures.only_reads.stays t ∙ c.in_ok-refusal.ensures.only_reads.stays t) (λ cut. let no : None ≡ Some Cut = cut in cc)
+    let k = c.in_ok-refusal.ensures in
+    let i = c.self.inside in
+    let view : Memory = record { frames = i.frames; held = i.opened; sessions = i.sessions; judged = i.judged } in
+    let n = c.in_ok-build.ensures in
+    let before = subst (λ (m : Memory). IsReady size w m (g.H.Host.state c.args.h.now)) (sym c.self.view_is) (k.ready t size w ready) in
+    Applies-get w c.args.client c.args.name c.args.s c.args.f size (record view { judged = c.build.new.self }) None _ _
+    (ready_built size w view c.build.new.self _ _ (k.only_reads.stays t) before (n.judged t _ refl) n.puddles)
+    (c.in_ok-read.ensures.only_reads.stays t ∙ n.only_reads.stays t ∙ k.only_reads.stays t) (λ cut. let no : None ≡ Some Cut = cut in cc)
