@@ -1,29 +1,42 @@
 -- Lemmas on rows of words, of which some lines are copied or lost.
-use Rattle.std.proofs.Common.{◌≡◌, ℕ, ◌+◌, ◌*◌, ◌/◌, ◌<◌, ◌≤◌, ◌==◌, ◌&&◌, not, nat_lt, Bool, true, false, cond, List, [], length, get_or, set, take, refl, arith, inl, inr, get_or-set_same, get_or-set_other}
+use Rattle.std.proofs.Common.{◌≡◌, ℕ, ◌+◌, ◌-◌, ◌*◌, ◌/◌, ◌<◌, ◌≤◌, ◌==◌, ◌&&◌, not, nat_lt, Bool, true, false, cond, List, [], length, get_or, set, take, slice_range, refl, ap, ◌∙◌, arith, rules, inl, inr, get_or-set_same, get_or-set_other}
+use Rattle.std.proofs.lemmas.List.{places}
 use Rattle.std.proofs.lemmas.List.Folds.{list_any_more}
 use Rattle.std.proofs.lemmas.Bool.Decides.{nat_tests}
-use Rattle.std.proofs.lemmas.Bool.{cases_eq}
+use Rattle.std.proofs.lemmas.Bool.{cases_eq, cases_lt}
+use borrow.Rule.Slice.PartMut.{put_mid}
 use Rattle.pm_model.specs.Picking.{keeps_newest}
 use Rattle.pm_rows.specs.Rows.{picked, TakesLine, TakesLines, LosesLine, LosesLines}
 
--- the words from first on and below upto are those of another row
-pub record TakesPart (first upto : ℕ) (from old new : List ℕ) : Type 0 where
-  pub each : (word : ℕ) → get_or new word 0 ≡ cond (not (nat_lt word first) && nat_lt word upto) (get_or from word 0) (get_or old word 0)
-
-pub TakesPart-start : (first : ℕ) (from old : List ℕ) → TakesPart first first from old old
-TakesPart-start first from old = record { each = λ word. grind (arith, nat_tests) }
-
-pub TakesPart-more : (first i value : ℕ) (from old new : List ℕ) → first ≤ i → i < length new → value ≡ get_or from i 0 → TakesPart first i from old new → TakesPart first (i + 1) from old (set new i value)
-TakesPart-more first i value from old new le lt is part = record {
+-- a line in the place of another
+pub TakesLine-copied : (line first : ℕ) (from old part : List ℕ) → first ≡ line * 8 → first + 8 ≤ length from → first + 8 ≤ length old → part ≡ slice_range from first (first + 8)
+    → TakesLine line from old (put_mid first (first + 8 - first) old part)
+TakesLine-copied line first from old part e in_from in_old is = record {
   each = λ word.
-      elim (cases_eq word i) [
-        | inl e ↦ grind (arith, nat_tests, e, is, get_or-set_same new i value 0 lt)
-        | inr ne ↦ grind (arith, nat_tests, ne, part.each word, get_or-set_other new i word value 0 ne)
+      let len : length part ≡ 8 = ap length is ∙ search (rules, places) in
+      elim (cases_lt word first) [
+        | inl before ↦
+            let same : get_or (put_mid first (first + 8 - first) old part) word 0 ≡ get_or old word 0 = search (rules, places) in
+            grind (arith, nat_tests, same)
+        | inr past ↦
+            elim (cases_lt word (first + 8)) [
+              | inl within ↦
+                  let there : get_or (put_mid first (first + 8 - first) old part) word 0 ≡ get_or part (word - first) 0 = search (rules, places) in
+                  let same : get_or part (word - first) 0 ≡ get_or from word 0 = rw is (search (rules, places)) in
+                  grind (arith, nat_tests, there, same)
+              | inr behind ↦
+                  let same : get_or (put_mid first (first + 8 - first) old part) word 0 ≡ get_or old word 0 = search (rules, places) in
+                  grind (arith, nat_tests, same)
+            ]
       ];
 }
 
-pub TakesLine-part : (line first : ℕ) (from old new : List ℕ) → first ≡ line * 8 → TakesPart first (first + 8) from old new → TakesLine line from old new
-TakesLine-part line first from old new e part = record { each = λ word. grind (arith, nat_tests, part.each word) }
+-- the row is as long as it was
+pub length-copied : (first : ℕ) (from old part : List ℕ) → first + 8 ≤ length from → first + 8 ≤ length old → part ≡ slice_range from first (first + 8)
+    → length (put_mid first (first + 8 - first) old part) ≡ length old
+length-copied first from old part in_from in_old is =
+    let len : length part ≡ 8 = ap length is ∙ search (rules, places) in
+    search (rules, places)
 
 pub TakesLines-none : (from old : List ℕ) → TakesLines [] from old old
 TakesLines-none from old = record { each = λ word. refl }

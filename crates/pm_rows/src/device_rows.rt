@@ -193,9 +193,8 @@ fn copy_line(from: &Vec<u64>, to: &mut Vec<u64>, line: u32)
     ensures len { vec_len to.new ≡ vec_len to.old }
 {
     let first = line as usize * LINE_WORDS;
-    for word in first..first + LINE_WORDS {
-        to[word] = from[word];
-    }
+    let row = to.as_mut_slice();
+    row[first..first + LINE_WORDS].copy_from_slice(&from[first..first + LINE_WORDS]);
 }
 
 // Copies lines from one row to another.
