@@ -205,7 +205,9 @@ impl<F: FileExt + OpenFile> Device<F> {
         ensures tally { self.new.tally ≡ self.old.tally }
         ensures armed { self.new.armed ≡ counted_down self.old.armed }
     {
-        self.armed = counted_down(self.armed);
+        if self.armed.is_some() {
+            self.armed = counted_down(self.armed);
+        }
     }
 
     // Loses power: the file takes each line in which a durable word changes.

@@ -72,6 +72,24 @@ impl DeviceWords {
         ensures kept { OnErr result (KeepsWords self.old.rows self.new.rows) }
         ensures size { self.new.lines ≡ self.old.lines }
     {
+        if word / LINE_WORDS as u32 >= self.rows.lines {
+            return self.store_beyond(word, value);
+        }
+        self.rows.store(word, value);
+        Ok(())
+    }
+
+    // The same of a word that the rows do not reach. It is no part of each store, which is short without it.
+    #[inline(never)]
+    fn store_beyond(&mut self, word: u32, value: u64) -> Result<(), AllocError>
+        requires { word < 8 * self.old.lines }
+        ensures newest { OnOk result (TakesWord word value
+            self.old.rows.newest.items self.new.rows.newest.items) }
+        ensures marked { AreSame self.new.rows.marked.items self.old.rows.marked.items }
+        ensures durable { AreSame self.new.rows.durable.items self.old.rows.durable.items }
+        ensures kept { OnErr result (KeepsWords self.old.rows self.new.rows) }
+        ensures size { self.new.lines ≡ self.old.lines }
+    {
         self.reach(word / LINE_WORDS as u32)?;
         self.rows.store(word, value);
         Ok(())

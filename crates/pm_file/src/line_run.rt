@@ -66,7 +66,9 @@ impl LineRun {
             ≡ flat_map (to_le_bytes w64) words.now) }
     {
         if !self.continues_at(line) {
-            self.write(file)?;
+            if self.lines > 0 {
+                self.write(file)?;
+            }
             self.first = line;
         }
         self.push(words);
