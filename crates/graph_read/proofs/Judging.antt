@@ -1,11 +1,9 @@
 -- What a pool stores is judged: its headers, its serials, and all of it together.
-use Rattle.std.proofs.Common.{◌≡◌, ◌≢◌, ℕ, zero, suc, ◌+◌, ◌<◌, ◌≤◌, Bool, true, false, not, ◌&&◌, ◌||◌, cond, eqb, ltb, nat_cmp, List, [], ◌∷◌, map, length, get_or, take, drop, slice_get, slice_index, Option, Some, None, is_some, option_map, eq-eqb, eqb-true, ne_eqb, inl, inr, refl, sym, ap, ap₂, ◌∙◌, arith, add-one, drop-cons}
-use Rattle.std.specs.List.{list_any}
+use Rattle.std.proofs.Common.{◌≡◌, ℕ, zero, ◌<◌, Bool, true, false, not, ◌&&◌, ◌||◌, cond, eqb, ltb, nat_cmp, List, [], ◌∷◌, map, length, get_or, slice_get, Option, Some, None, is_some, option_map, eqb-true, refl, sym, ap, ap₂, ◌∙◌, arith}
 use Rattle.std.proofs.Math.Bool.{and-false}
-use Rattle.std.proofs.lemmas.Bool.{cases_eq, cond-false}
+use Rattle.std.proofs.lemmas.Bool.{cond-false}
 use Rattle.std.proofs.lemmas.Option.{slice_get-map, slice_get-get_or}
 use Rattle.std.proofs.lemmas.List.{length-map}
-use Rattle.pud_defs.proofs.DistinctKeys.{some_or, none_by_some, some_under, eqb_turned}
 use Rattle.puddle_header.proofs.Fits.{is_header-words}
 use Rattle.puddle_header.proofs.Placed.{stored_word}
 use Rattle.pud_defs.specs.declared.layout.TheConstants.{FRAME_WORDS}
@@ -20,7 +18,7 @@ use Rattle.graph_read.specs.Reading.{pointee_of}
 use Rattle.graph_read.proofs.Pointed.{no_puddle}
 use Rattle.graph_read.proofs.Passing.{pointee_read}
 use Rattle.pud_defs.proofs.Spaces.{all_below-same}
-use Rattle.pud_defs.specs.Keyed.{are_distinct, is_apart, first_from, under}
+use Rattle.pud_defs.specs.Keyed.{are_distinct}
 use Rattle.pud_defs.specs.Spaces.{all_below}
 use Rattle.pud_defs.specs.Stored.{Stored, stored_in, places_of}
 use Rattle.graph_read.specs.declared.asking.Asked.TheVariants.{IsSound}

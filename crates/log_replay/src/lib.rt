@@ -132,8 +132,8 @@ fn replay_copy<H: Host>(h: &mut H, copy: &LogCopy) -> Result<(), HostFault>
 /// The only errors are the host's own.
 ///
 /// It loads the gate and each entry word that it counts once. For puddles the place of an entry in range is looked for once: it takes
-/// no load where the entry in range before it lies in the same puddle, else one for each frame, and one more for each puddle, up to the one that has its
-/// address. At the end stands one fence.
+/// no load where one of the last 16 searches led to the same puddle, else one for each frame, and one more for each puddle, up to the
+/// one that has its address. At the end stands one fence.
 pub fn replay_range<H: Host>(h: &mut H, log_at: u32, to: Target) -> Result<(), HostFault>
     requires log { log_at + LOG_WORDS ≤ (H.counts h.old).size }
     requires tables { HasTables to (H.counts h.old).size }
