@@ -43,7 +43,7 @@ pub fn transaction_stays_open_beside_calls()
 /// pool, and of no record that another rests on.
 pub fn words_of_one_are_masked_by_no_other()
     ensures { (frames : ℕ) (opens : Opens) (image : Image) → AreOpenPools frames opens → HasRecords opens image → (n : ℕ) (m : ℕ) (o : OpenTransaction) (q : OpenTransaction)
-        → opens n ≡ Option.Some o → opens m ≡ Option.Some q → n ≢ m → (k : ℕ) (v : ℕ) → ByTransaction (pool_ground frames (finished_of o.pool.at)) (log_number_at frames o.pool.number) k v
+        → opens n ≡ Option.Some o → opens m ≡ Option.Some q → n ≢ m → (k : ℕ) (v : ℕ) → ByTransaction (pool_ground frames (finished_of o.pool.at)) (log_number_at frames o.pool.log_number) k v
         → open_mask frames q.pool q.before k ≡ Option.None }
 {}
 
@@ -51,7 +51,7 @@ pub fn words_of_one_are_masked_by_no_other()
 /// from the beginning and no other, and the daemon log names none of its words.
 pub fn image_picked_is_left_with_it_open()
     ensures { (frames : ℕ) (p : OpenPool) (types : List (ℕ × ℕ)) (log : OpenLog) (before : Image) (undone : Graph) (now : Graph) (laters : List Later) (words : Words) (image : Image)
-        → log.at ≡ log_number_at frames p.number → IsOpenOn frames p.at types log before undone now laters words → Picks words image
+        → log.at ≡ log_number_at frames p.log_number → IsOpenOn frames p.at types log before undone now laters words → Picks words image
         → ((k : ℕ) → is_open_record p k ≡ true → HasOnly (words k) (before k))
         → ((k : ℕ) (v : ℕ) → open_mask frames p before k ≡ Option.Some v → new_value device_word (log_of image DAEMON_LOG) k ≡ Option.None)
         → IsLeftOpen frames p before image }

@@ -30,10 +30,10 @@ count_of-set_same client sessions pool next within same = omega (arith, count_of
 -- ---- a transaction begins, ends, or changes its depth
 
 module _ (client : ℕ) (sessions : List (Option Session)) (pool : ℕ) (within : pool < length sessions) where
-  pub count_of-begun : (number depth : ℕ) → session_in sessions pool ≡ None → count_of client (set sessions pool (Some (record { client = client; number = number; depth = depth }))) ≡ count_of client sessions + 1
-  count_of-begun number depth none = count_of-set_more client sessions pool (Some (record { client = client; number = number; depth = depth })) within (ap (is_of client) none) (eq-eqb client client refl)
+  pub count_of-begun : (number depth : ℕ) → session_in sessions pool ≡ None → count_of client (set sessions pool (Some (record { client = client; log_number = number; depth = depth }))) ≡ count_of client sessions + 1
+  count_of-begun number depth none = count_of-set_more client sessions pool (Some (record { client = client; log_number = number; depth = depth })) within (ap (is_of client) none) (eq-eqb client client refl)
 
-  pub count_of-ended : (number depth : ℕ) → session_in sessions pool ≡ Some (record { client = client; number = number; depth = depth }) → count_of client (set sessions pool None) + 1 ≡ count_of client sessions
+  pub count_of-ended : (number depth : ℕ) → session_in sessions pool ≡ Some (record { client = client; log_number = number; depth = depth }) → count_of client (set sessions pool None) + 1 ≡ count_of client sessions
   count_of-ended number depth is = count_of-set_fewer client sessions pool None within (ap (is_of client) is ∙ eq-eqb client client refl) refl
 
   pub count_of-at_depth : (session : Session) (depth : ℕ) → session_in sessions pool ≡ Some session → count_of client (set sessions pool (Some (record session { depth = depth }))) ≡ count_of client sessions
@@ -41,8 +41,8 @@ module _ (client : ℕ) (sessions : List (Option Session)) (pool : ℕ) (within 
 
   -- a session of another client that begins or ends
   module _ (other : ℕ) (apart : other ≢ client) (number depth : ℕ) where
-    pub count_of-begun_other : session_in sessions pool ≡ None → count_of client (set sessions pool (Some (record { client = other; number = number; depth = depth }))) ≡ count_of client sessions
-    count_of-begun_other none = count_of-set_same client sessions pool (Some (record { client = other; number = number; depth = depth })) within (ap (is_of client) none ∙ sym (ne_eqb other client apart))
+    pub count_of-begun_other : session_in sessions pool ≡ None → count_of client (set sessions pool (Some (record { client = other; log_number = number; depth = depth }))) ≡ count_of client sessions
+    count_of-begun_other none = count_of-set_same client sessions pool (Some (record { client = other; log_number = number; depth = depth })) within (ap (is_of client) none ∙ sym (ne_eqb other client apart))
 
-    pub count_of-ended_other : session_in sessions pool ≡ Some (record { client = other; number = number; depth = depth }) → count_of client (set sessions pool None) ≡ count_of client sessions
+    pub count_of-ended_other : session_in sessions pool ≡ Some (record { client = other; log_number = number; depth = depth }) → count_of client (set sessions pool None) ≡ count_of client sessions
     count_of-ended_other is = count_of-set_same client sessions pool None within (ap (is_of client) is ∙ ne_eqb other client apart)

@@ -17,7 +17,7 @@ client_in session = session.client
 
 -- the number of its log
 abbrev pub number_in : Session → ℕ
-number_in session = session.number
+number_in session = session.log_number
 
 -- how often it was begun
 abbrev pub session_depth : Option Session → ℕ
@@ -43,7 +43,7 @@ holder_in sessions pool = option_map client_in (session_in sessions pool)
 -- the number of the log of the client's own transaction on the pool, where it is open
 abbrev pub own_in : (client : ℕ) → Option Session → Option ℕ
 own_in client None = None
-own_in client (Some session) = cond (session.client == client) (Some session.number) None
+own_in client (Some session) = cond (session.client == client) (Some session.log_number) None
 
 -- how often the transaction on the pool was begun, 0 where none is open
 abbrev pub depth_in : List (Option Session) → (pool : ℕ) → ℕ
@@ -55,7 +55,7 @@ count_of client sessions = count_by (is_of client) sessions
 
 -- the client's on the pool, with the log of this number, one deeper
 abbrev pub entered : (client pool number : ℕ) → List (Option Session) → List (Option Session)
-entered client pool number sessions = set sessions pool (Some (record { client = client; number = number; depth = depth_in sessions pool + 1 }))
+entered client pool number sessions = set sessions pool (Some (record { client = client; log_number = number; depth = depth_in sessions pool + 1 }))
 
 -- the one on the pool, one less deep
 abbrev pub left : (pool : ℕ) → List (Option Session) → List (Option Session)
@@ -64,7 +64,7 @@ left pool sessions = set sessions pool (lowered_session (session_in sessions poo
 -- a session of one of the clients, with one of the logs, begun at least once and no more often than it may be
 pub record IsSession (session : Session) : Type 0 where
   pub client : session.client < CLIENTS
-  pub number : session.number < ALL_LOGS
+  pub number : session.log_number < ALL_LOGS
   pub begun : 1 ≤ session.depth
   pub few : session.depth ≤ MAX_DEPTH
 

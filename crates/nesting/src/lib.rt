@@ -20,7 +20,7 @@ pub struct Session {
     /// Whose it is, 0 to 7.
     pub client: u8,
     /// The number of its log, 0 to 31.
-    pub number: u32,
+    pub log_number: u32,
     /// How often it was begun, 1 to 16.
     pub depth: u32,
 }
@@ -138,7 +138,7 @@ impl Sessions {
         let depth = self.depth(pool) + 1;
         self.pools[pool as usize] = Some(Session {
             client,
-            number,
+            log_number: number,
             depth,
         });
         Ok(())

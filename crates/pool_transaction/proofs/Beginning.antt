@@ -119,7 +119,7 @@ module _ (size : ℕ) (w : World) (memory : Memory) (old : State) (ready : IsRea
   gate = log_number_at n number
 
   abbrev p : OpenPool
-  p = record { slot = slot; rec = may.rec; at = at; number = number; who = may.who }
+  p = record { slot = slot; rec = may.rec; at = at; log_number = number; who = may.who }
 
   abbrev o : OpenTransaction
   o = record { pool = p; before = now }

@@ -29,10 +29,10 @@ module _ (F : ℕ) (held : Held) (known : Known) (memory : Memory) (its : IsHeld
   known_so size w s ready = subst (λ (n : ℕ). IsKnown n (reads s.now.words) known) (sym ready.frames ∙ its.frames) (ready.knows.judged.known held.slot known its.known)
 
   -- and may be kept once more
-  pub known_on : with_known held.number held.slot held known memory ≡ memory
+  pub known_on : with_known held.log_number held.slot held known memory ≡ memory
   known_on =
-      ap (λ (js : List (Option Known)). record (with_held held.number (Some held) memory) { judged = js }) (ap (set memory.judged held.slot) (sym its.known) ∙ set-get_or memory.judged held.slot None)
-      ∙ held_same memory held.number held its.there
+      ap (λ (js : List (Option Known)). record (with_held held.log_number (Some held) memory) { judged = js }) (ap (set memory.judged held.slot) (sym its.known) ∙ set-get_or memory.judged held.slot None)
+      ∙ held_same memory held.log_number held its.there
 
   -- it is held there still
   pub held_alone : IsHeldIn F held known.at (memory_alone held.slot known.at memory)

@@ -56,7 +56,7 @@ module _ (held : List (Option Held)) (number : ℕ) (h later : Held) (there : he
   ]
 
   pub open_under_later : (name : List ℕ) → IsOpenUnder held name → IsOpenUnder next name
-  open_under_later name o = let still = still_held o.number o.mine o.is in record { number = o.number; mine = still.one; is = still.there; name_is = sym still.name ∙ o.name_is }
+  open_under_later name o = let still = still_held o.log_number o.mine o.is in record { number = o.log_number; mine = still.one; is = still.there; name_is = sym still.name ∙ o.name_is }
 
   held_on_later : (slot n : ℕ) → IsHeldOn held slot n → IsHeldOn next slot n
   held_on_later slot n o = let still = still_held n o.mine o.is in record { mine = still.one; is = still.there; slot_is = sym still.slot ∙ o.slot_is }
@@ -87,6 +87,6 @@ module _ (held : List (Option Held)) (number : ℕ) (h later : Held) (there : he
           let before = were.each g.name t opened in
           ap (session_in sessions) was.slot
           ∙ has.each n was.one before.was was.there (ap w.transactions (sym was.name) ∙ before.is)
-          ∙ (λ i. Some (record { client = before.client i; number = n; depth = before.depth i }));
-      only = λ slot s is. held_on_later slot s.number (has.only slot s is);
+          ∙ (λ i. Some (record { client = before.client i; log_number = n; depth = before.depth i }));
+      only = λ slot s is. held_on_later slot s.log_number (has.only slot s is);
     }

@@ -78,7 +78,7 @@ changed_beside name other change pools apart = changed_beside_by name other chan
 -- by values that agree on a word
 mask_agrees : (F : ℕ) (p : OpenPool) (after before : Image) (k : ℕ) → after k ≡ before k → open_mask F p after k ≡ open_mask F p before k
 unfolding open_mask
-mask_agrees F p after before k same q = cond (is_in_log (log_number_at F p.number) k) (Some (cond (eqb k (log_number_at F p.number)) CLOSED_GATE 0)) (cond (pool_mine F (finished_of p.at) k || is_open_record p k) (Some (same q)) None)
+mask_agrees F p after before k same q = cond (is_in_log (log_number_at F p.log_number) k) (Some (cond (eqb k (log_number_at F p.log_number)) CLOSED_GATE 0)) (cond (pool_mine F (finished_of p.at) k || is_open_record p k) (Some (same q)) None)
 
 -- ---- what the calls promise
 
@@ -150,7 +150,7 @@ module _ (size : ℕ) (w : World) (memory : Memory) (number : ℕ) (held : Held)
     pub undone_behind : Changes (BehindTables n) fault old new
     undone_behind =
         Changes-wider (ByTransaction (pool_ground n (finished_of is.at)) held.tx.log.at) (BehindTables n) fault old new
-        (λ k v may. behind_tables n held.number (finished_of is.at) k v (subst (λ (at : ℕ). ByTransaction (pool_ground n (finished_of is.at)) at k v) is.gate may)) closes.closes.changes
+        (λ k v may. behind_tables n held.log_number (finished_of is.at) k v (subst (λ (at : ℕ). ByTransaction (pool_ground n (finished_of is.at)) at k v) is.gate may)) closes.closes.changes
 
     pub Applies-aborted : Applies size w (world_without_log (Some held) w) (with_ended number held memory) fault old new
     Applies-aborted =

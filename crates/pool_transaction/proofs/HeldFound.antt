@@ -31,7 +31,7 @@ use Rattle.pool_transaction.proofs.Leading.{AppliesTo-behind_reads, finishes_fou
 abbrev pub Updates : (F : ℕ) → (held now : Held) → (at later : List (ℕ × Puddle)) → Update → Found → (size : ℕ) → World → Option HostFault → (old new : State) → Type 0
 Updates F held now at later update found size w fault old new =
     (memory : Memory) → IsHeldIn F held at memory → IsReady size w memory old → refusal_of w (update_line update held.client held.name) ≡ None → IsFoundBy F at (reads old.now.words) update found
-    → AppliesTo (led_in held.slot (end_of (ordinal_written found))) size w (after w (update_line update held.client held.name)) (with_opened held.number held.slot now later memory) fault old new
+    → AppliesTo (led_in held.slot (end_of (ordinal_written found))) size w (after w (update_line update held.client held.name)) (with_opened held.log_number held.slot now later memory) fault old new
 
 module _ (F : ℕ) (held : Held) (known : Known) (memory : Memory) (its : IsHeldOn F held known memory) (size : ℕ) (w : World) (old : State) (ready : IsReady size w memory old) where
   -- its puddles lie as those of a ground
@@ -39,24 +39,24 @@ module _ (F : ℕ) (held : Held) (known : Known) (memory : Memory) (its : IsHeld
   placed_on =
       let alone = held_alone F held known memory its in
       let then = ready_alone F held known memory its size w old ready in
-      its_placed size w (memory_alone held.slot known.at memory) held old held.number alone.there then F (sym alone.frames ∙ then.frames) known.at alone.known
+      its_placed size w (memory_alone held.slot known.at memory) held old held.log_number alone.there then F (sym alone.frames ∙ then.frames) known.at alone.known
 
   -- what is known behind the calls may be kept, where that is so of the device
   module _ (goal : Member → Option ℕ) (next : World) (now : Held) (later : List (ℕ × Puddle)) (more : Known) (puddles : more.at ≡ later) (fault : Option HostFault) (from new : State) where
     abbrev alone : Memory
-    alone = with_opened held.number held.slot now later memory
+    alone = with_opened held.log_number held.slot now later memory
 
     slot_within : held.slot < length memory.judged
     slot_within = known_within memory.judged held.slot known.at (ap puddles_known its.known)
 
-    ready_more : IsReady size next alone new → IsKnown F (reads new.now.words) more → IsReady size next (with_known held.number held.slot now more memory) new
+    ready_more : IsReady size next alone new → IsKnown F (reads new.now.words) more → IsReady size next (with_known held.log_number held.slot now more memory) new
     ready_more then so =
         let on : F ≡ next.stored.frames = sym its.frames ∙ then.frames in
         subst (λ (js : List (Option Known)). IsReady size next (record alone { judged = js }) new) (set-set memory.judged held.slot (Some (by_puddles later)) (Some more))
         (IsReady-anew size next alone new held.slot more then (known_kept_there memory.judged held.slot (by_puddles later) slot_within ∙ ap (λ (ps : List (ℕ × Puddle)). Some ps) (sym puddles))
         (subst (λ (n : ℕ). IsKnown n (reads new.now.words) more) on so))
 
-    AppliesTo-more : (fault ≡ None → IsKnown F (reads new.now.words) more) → AppliesTo goal size w next alone fault from new → AppliesTo goal size w next (with_known held.number held.slot now more memory) fault from new
+    AppliesTo-more : (fault ≡ None → IsKnown F (reads new.now.words) more) → AppliesTo goal size w next alone fault from new → AppliesTo goal size w next (with_known held.log_number held.slot now more memory) fault from new
     AppliesTo-more so a = record {
       applies = record {
         moments = a.applies.moments;
@@ -79,7 +79,7 @@ module _ (F : ℕ) (held : Held) (known : Known) (memory : Memory) (its : IsHeld
 
     pub Applies-found : (lent later : List (ℕ × Puddle)) (now : Held) (more : Known) (fault : Option HostFault) (mid new : State) → lent ≡ known.at → more.at ≡ later → mid ≡ old
         → Updates F held now lent later update found size w fault mid new → (fault ≡ None → IsKnown F (reads new.now.words) more)
-        → AppliesFinishing held.slot (FinishesUnless (refusal_of w line) (FinishesFor F known.at (reads old.now.words) update)) size w (world_by w (Some line)) (with_known held.number held.slot now more memory) fault old new
+        → AppliesFinishing held.slot (FinishesUnless (refusal_of w line) (FinishesFor F known.at (reads old.now.words) update)) size w (world_by w (Some line)) (with_known held.log_number held.slot now more memory) fault old new
     Applies-found lent later now more fault mid new same puddles still updates so =
         let behind = memory_alone held.slot known.at memory in
         let its_alone = subst (λ (ps : List (ℕ × Puddle)). IsHeldIn F held ps behind) (sym same) (held_alone F held known memory its) in
@@ -88,4 +88,4 @@ module _ (F : ℕ) (held : Held) (known : Known) (memory : Memory) (its : IsHeld
         finishing_free held.slot (FinishesFor F known.at (reads old.now.words) update) (refusal_of w line) free led (finishes_found F known.at (reads old.now.words) update found within by) size w _ _ _ _ _
         (AppliesTo-behind_reads held.slot led size w _ line fault old mid new free still
         (AppliesTo-more (led_in held.slot led) (after w line) now later more puddles fault mid new so
-        (subst (λ (m : Memory). AppliesTo (led_in held.slot led) size w (after w line) m fault mid new) (opened_alone held.number held.slot now known.at later memory) (updates behind its_alone then free by_lent))))
+        (subst (λ (m : Memory). AppliesTo (led_in held.slot led) size w (after w line) m fault mid new) (opened_alone held.log_number held.slot now known.at later memory) (updates behind its_alone then free by_lent))))

@@ -46,7 +46,7 @@ module _ (size : ℕ) (w : World) (memory : Memory) (held : Held) (old : State) 
   abbrev line : Command
   line = New held.client held.name id
 
-  number_is : held.number ≡ number
+  number_is : held.log_number ≡ number
   number_is = (ready.held.each number held there).number_is
 
   abbrev given : World
@@ -175,7 +175,7 @@ module _ (size : ℕ) (w : World) (memory : Memory) (held : Held) (old : State) 
 
           pub new_in_more : (late finishes : (ℕ → ℕ) → Type 0) → ((goal : ℕ → ℕ) → late goal → finishes goal) → (behind : Held) (later : List (ℕ × Puddle)) (fault : Option HostFault) (new : State)
               → (IsReady size grown (memory_with held pool) mid → refusal_by_world grown held id ≡ None → grows grown held.name ≡ false
-              → AppliesFinishing held.slot late size grown (with_made held.name id grown) (with_opened held.number held.slot behind later (memory_with held pool)) fault mid new)
+              → AppliesFinishing held.slot late size grown (with_made held.name id grown) (with_opened held.log_number held.slot behind later (memory_with held pool)) fault mid new)
               → AppliesNew finishes behind later fault new
           new_in_more late finishes so behind later fault new makes =
               let made = makes (after_growth.ready refl) (grown_refusal size w memory held old number there ready id held refl refl none) less_then in

@@ -55,8 +55,8 @@ CountsOut F at tx now done old =
     → IfOk done (λ _. now.units ≡ tx.units + SET_UNITS)
 
 -- the memory that holds it on the puddles by which it knows the pool is the same
-pub opened_same : (F : ℕ) (held : Held) (at : List (ℕ × Puddle)) (memory : Memory) → IsHeldIn F held at memory → with_opened held.number held.slot held at memory ≡ memory
-opened_same F held at memory its = known_same held.number held.slot held at memory its.known ∙ held_same memory held.number held its.there
+pub opened_same : (F : ℕ) (held : Held) (at : List (ℕ × Puddle)) (memory : Memory) → IsHeldIn F held at memory → with_opened held.log_number held.slot held at memory ≡ memory
+opened_same F held at memory its = known_same held.log_number held.slot held at memory its.known ∙ held_same memory held.log_number held its.there
 
 module _ (size : ℕ) (w : World) (memory : Memory) (held : Held) (old : State) (F : ℕ) (at : List (ℕ × Puddle)) (its : IsHeldIn F held at memory) (ready : IsReady size w memory old)
     (update : Update) (o : ℕ) (later : List (ℕ × Puddle)) (mid : State) where
@@ -77,44 +77,44 @@ module _ (size : ℕ) (w : World) (memory : Memory) (held : Held) (old : State) 
   Finishes fault = HasIdleGate DAEMON_LOG old.now.words → HasLowBases at → Rewrites F goal at later fault old mid
 
   its_ends : AreEnds at (finished_at o at) (upto goal) (end_of o)
-  its_ends = ends_finished at o (its_frontiers size w memory held old held.number its.there ready F on at its.known)
+  its_ends = ends_finished at o (its_frontiers size w memory held old held.log_number its.there ready F on at its.known)
 
   -- it failed
   pub Applies-unfinished_update : (found : Found) → o ≡ ordinal_written found → (behind : Memory) (fault : HostFault) → Finishes (Some fault)
       → AppliesTo (led_in held.slot (end_of (ordinal_written found))) size w next behind (Some fault) old mid
   Applies-unfinished_update found is behind fault finishes =
       subst (λ (n : ℕ). AppliesTo (led_in held.slot (end_of n)) size w next behind (Some fault) old mid) is
-      (Applies-unfinished size w memory held old held.number its.there ready F on at its.known goal later (finished_at o at) (end_of o) its_ends fault mid finishes next behind
+      (Applies-unfinished size w memory held old held.log_number its.there ready F on at its.known goal later (finished_at o at) (end_of o) its_ends fault mid finishes next behind
       (same_stored w held.client held.name update))
 
   -- or the update is made behind it
   module _ (found : Found) (is : o ≡ ordinal_written found) (finished : later ≡ finished_at o at) (finishes : Finishes None) (lent : List (ℕ × Puddle)) (same : lent ≡ later) where
     still_ready : IsReady size w then mid
-    still_ready = ready_finished size w memory held old held.number its.there ready F on at its.known goal later mid finishes
+    still_ready = ready_finished size w memory held old held.log_number its.there ready F on at its.known goal later mid finishes
 
     known_then : KnowsAlone then.judged held.slot later
-    known_then = known_finished size w memory held old held.number its.there ready F on at its.known goal later mid finishes
+    known_then = known_finished size w memory held old held.log_number its.there ready F on at its.known goal later mid finishes
 
     rewritten_lent : IsRewrittenAt lent (ordinal_written found)
     rewritten_lent =
         subst (λ (n : ℕ). IsRewrittenAt lent n) is
-        (subst (λ (ds : List (ℕ × Puddle)). IsRewrittenAt ds o) (sym (same ∙ finished)) (IsRewrittenAt-finished at o (its_frontiers size w memory held old held.number its.there ready F on at its.known)))
+        (subst (λ (ds : List (ℕ × Puddle)). IsRewrittenAt ds o) (sym (same ∙ finished)) (IsRewrittenAt-finished at o (its_frontiers size w memory held old held.log_number its.there ready F on at its.known)))
 
     found_lent : IsFoundBy F at (reads old.now.words) update found → IsFoundBy F lent (reads mid.now.words) update found
     found_lent by =
-        let spares = spared_finished size w memory held old held.number its.there ready F on at its.known goal later mid finishes in
+        let spares = spared_finished size w memory held old held.log_number its.there ready F on at its.known goal later mid finishes in
         subst (λ (ds : List (ℕ × Puddle)). IsFoundBy F ds (reads mid.now.words) update found) (sym same) (found_behind F at later (reads old.now.words) (reads mid.now.words) spares update found by)
 
     pub Applies-update : (tx : OpenTx) (new : State) → tx.log.at ≡ held.tx.log.at → (done : Result Unit HostFault) → refusal_of w (update_line update held.client held.name) ≡ None
         → IsFoundBy F at (reads old.now.words) update found → CarriesOut F lent found held.tx.log tx.log (fault_of done) mid new → CountsOut F lent held.tx tx done mid
-        → AppliesTo (led_in held.slot (end_of (ordinal_written found))) size w next (with_opened held.number held.slot (with_tx tx held) later memory) (fault_of done) old new
+        → AppliesTo (led_in held.slot (end_of (ordinal_written found))) size w next (with_opened held.log_number held.slot (with_tx tx held) later memory) (fault_of done) old new
     Applies-update tx new gate done free by runs counts =
-        let listed = same ∙ sym (held_known size w then mid still_ready held.number held its.there later (ap puddles_known known_then)) in
-        let one : IsHeld w held still_ready.mask mid.now.words = is_held size w then held mid held.number its.there still_ready in
-        subst (λ (n : ℕ). AppliesTo (led_in held.slot (end_of n)) size w next (with_opened held.number held.slot (with_tx tx held) later memory) (fault_of done) old new) is
-        (Applies-behind size w memory held old held.number its.there ready F on at its.known goal later (finished_at o at) (end_of o) its_ends mid finishes next
-        (with_opened held.number held.slot (with_tx tx held) later memory) (fault_of done) new
+        let listed = same ∙ sym (held_known size w then mid still_ready held.log_number held its.there later (ap puddles_known known_then)) in
+        let one : IsHeld w held still_ready.mask mid.now.words = is_held size w then held mid held.log_number its.there still_ready in
+        subst (λ (n : ℕ). AppliesTo (led_in held.slot (end_of n)) size w next (with_opened held.log_number held.slot (with_tx tx held) later memory) (fault_of done) old new) is
+        (Applies-behind size w memory held old held.log_number its.there ready F on at its.known goal later (finished_at o at) (end_of o) its_ends mid finishes next
+        (with_opened held.log_number held.slot (with_tx tx held) later memory) (fault_of done) new
         (same_stored w held.client held.name update) (ap puddles_known known_then ∙ ap (λ (ds : List (ℕ × Puddle)). Some ds) finished)
-        (Applies-line size w then held mid held.number its.there still_ready F lent on listed tx new gate (subst (KnowsAlone then.judged held.slot) (sym same) known_then) update done free
+        (Applies-line size w then held mid held.log_number its.there still_ready F lent on listed tx new gate (subst (KnowsAlone then.judged held.slot) (sym same) known_then) update done free
         (λ may placed running. runs w.stored.types one.before one.undone one.transaction update placed rewritten_lent running may (found_lent by))
         (λ placed running. counts w.stored.types one.before one.undone one.transaction.now one.transaction.laters running)))

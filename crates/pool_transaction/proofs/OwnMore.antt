@@ -135,11 +135,11 @@ module _ (w : World) (held : Held) (mask : Write) (were words : Words) (is : IsH
 
   module _ (number : ℕ) (sound : HasSoundTables number (tables_of F now)) (same_pools : (tables_of F now).pools held.slot ≡ (tables_of F (reads were)).pools held.slot)
       (owners : owner_of now held.client ≡ w.clients held.client) (listed : puddles_in_turn (tables_of F now) held.slot ≡ at) where
-    owner_there : owner_of before (client_of_log held.number) ≡ Some is.who
+    owner_there : owner_of before (client_of_log held.log_number) ≡ Some is.who
     owner_there =
         let whose = is.owner in
         let known = is.pool.known in
-        owner_of-same before now (client_of_log held.number) (omega arith) (λ k low high. table_begun F is.at is.before now k (omega arith))
+        owner_of-same before now (client_of_log held.log_number) (omega arith) (λ k low high. table_begun F is.at is.before now k (omega arith))
         ∙ ap (owner_of now) whose
         ∙ owners
         ∙ is.present
@@ -158,29 +158,29 @@ module _ (w : World) (held : Held) (mask : Write) (were words : Words) (is : IsH
     record_there : (k : ℕ) → is_open_record q k ≡ true → k < tables_end F
     record_there k of = (open_record_place F q k is.pool.slot is.pool.known (open_on_device F q before its_pool) of).high
 
-    mask_outside : (k : ℕ) → is_in_log (log_number_at F held.number) k ≡ false → before k ≡ now k → open_mask F p is.before k ≡ None → IsMaskedMore (open_mask F p is.before) (open_mask F q before) words k
+    mask_outside : (k : ℕ) → is_in_log (log_number_at F held.log_number) k ≡ false → before k ≡ now k → open_mask F p is.before k ≡ None → IsMaskedMore (open_mask F p is.before) (open_mask F q before) words k
     mask_outside k outside other none = elim (cases_Bool (pool_mine F (finished_of at) k || is_open_record q k)) [
       | inl own ↦ inr (none, mask_of_own F q before k outside own ∙ ap (λ (v : ℕ). Some v) other)
       | inr not ↦ let parts = or_parts (pool_mine F (finished_of at) k) (is_open_record q k) not in inl (mask_of_others F q before k outside parts.0 parts.1 ∙ sym none)
     ]
 
-    mask_in_log : (k : ℕ) → is_in_log (log_number_at F held.number) k ≡ true → open_mask F q before k ≡ open_mask F p is.before k
+    mask_in_log : (k : ℕ) → is_in_log (log_number_at F held.log_number) k ≡ true → open_mask F q before k ≡ open_mask F p is.before k
     unfolding open_mask
     mask_in_log k inside = cond-true _ _ _ inside ∙ sym (cond-true _ _ _ inside)
 
     -- a record that it rested on is one still
     record_before : (k : ℕ) → is_open_record p k ≡ true → is_open_record q k ≡ true
     unfolding is_open_record
-    record_before k of = elim (or_cases (is_in_pool_record held.slot k || is_in_space_record (client_of_log held.number) k) (list_any (is_in_puddle_record k) (finished_of is.at)) of) [
+    record_before k of = elim (or_cases (is_in_pool_record held.slot k || is_in_space_record (client_of_log held.log_number) k) (list_any (is_in_puddle_record k) (finished_of is.at)) of) [
       | inl first ↦ or_left _ _ first
       | inr puddle ↦
           let found = any_element (is_in_puddle_record k) (finished_of is.at) puddle in
           let to = later.each found.index found.element found.there in
-          or_right (is_in_pool_record held.slot k || is_in_space_record (client_of_log held.number) k) _ (element_passes (is_in_puddle_record k) (finished_of at) to.0 found.element to.1 found.passes)
+          or_right (is_in_pool_record held.slot k || is_in_space_record (client_of_log held.log_number) k) _ (element_passes (is_in_puddle_record k) (finished_of at) to.0 found.element to.1 found.passes)
     ]
 
     mask_then : (k : ℕ) → IsMaskedMore (open_mask F p is.before) (open_mask F q before) words k
-    mask_then k = elim (cases_Bool (is_in_log (log_number_at F held.number) k)) [
+    mask_then k = elim (cases_Bool (is_in_log (log_number_at F held.log_number) k)) [
       | inl inside ↦ inl (mask_in_log k inside)
       | inr outside ↦ elim (cases_Bool (pool_mine F (finished_of is.at) k)) [
         | inl own ↦

@@ -98,16 +98,16 @@ module _ (size : ℕ) (w : World) (memory : Memory) (slot : ℕ) (at : List (ℕ
   member o e there = member_of_pool F slot at image turn o e there
 
   -- whether one is held on it
-  held_or_shut : (session : Option Session) → session_in memory.sessions slot ≡ session → ((s : Session) × IsHeldOn memory.held slot s.number) ⊎ IsShutIn memory.held slot
+  held_or_shut : (session : Option Session) → session_in memory.sessions slot ≡ session → ((s : Session) × IsHeldOn memory.held slot s.log_number) ⊎ IsShutIn memory.held slot
   held_or_shut None none = inr (record {
     each = λ number h there same.
         let is = held_is w memory.held mask old.now.words ready.held number h there in
         let session = ready.sessions.each number h is.transaction there is.is in
-        none-some (record { client = is.transaction.client; number = number; depth = is.transaction.depth }) (sym none ∙ sym (ap (session_in memory.sessions) same) ∙ session);
+        none-some (record { client = is.transaction.client; log_number = number; depth = is.transaction.depth }) (sym none ∙ sym (ap (session_in memory.sessions) same) ∙ session);
   })
   held_or_shut (Some s) some = inl (s, ready.sessions.only slot s some)
 
-  pub cases_held : ((s : Session) × IsHeldOn memory.held slot s.number) ⊎ IsShutIn memory.held slot
+  pub cases_held : ((s : Session) × IsHeldOn memory.held slot s.log_number) ⊎ IsShutIn memory.held slot
   cases_held = held_or_shut (session_in memory.sessions slot) refl
 
   -- ---- its graph, masked

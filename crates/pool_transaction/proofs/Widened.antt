@@ -223,7 +223,7 @@ module _ (w : World) (held : Held) (mask : Write) (words : Words) (is : IsHeld w
             units = is.units;
             present = ap (λ clients. clients held.client) grows.clients ∙ is.present;
             owner = is.owner;
-            gate = is.gate ∙ ap (λ (m : ℕ). log_number_at m held.number) back;
+            gate = is.gate ∙ ap (λ (m : ℕ). log_number_at m held.log_number) back;
             name = is.name;
             stored = grows.stored ∙ is.stored;
             pool = subst (λ (m : ℕ). IsOpenPool m q before) back comes_more.pool;

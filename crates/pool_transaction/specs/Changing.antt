@@ -43,13 +43,13 @@ use Rattle.ready_daemon.specs.Memory.{Held, Memory, held_under}
 -- The memory of a device of so many frames holds the transaction under its number, and knows its pool by these puddles alone.
 pub record IsHeldIn (F : ℕ) (held : Held) (at : List (ℕ × Puddle)) (memory : Memory) : Type 0 where
   pub frames : memory.frames ≡ F
-  pub there : held_under memory.held held.number ≡ Some held
+  pub there : held_under memory.held held.log_number ≡ Some held
   pub known : KnowsAlone memory.judged held.slot at
 
 -- The memory holds it so, and this is known of its pool.
 pub record IsHeldOn (F : ℕ) (held : Held) (kept : Known) (memory : Memory) : Type 0 where
   pub frames : memory.frames ≡ F
-  pub there : held_under memory.held held.number ≡ Some held
+  pub there : held_under memory.held held.log_number ≡ Some held
   pub known : pool_in memory.judged held.slot ≡ Some kept
 
 -- the memory that holds this one under the number, and knows this of the pool in the slot
@@ -149,7 +149,7 @@ pub record StaysOpen (old new : Held) : Type 0 where
   pub client : new.client ≡ old.client
   pub name : new.name ≡ old.name
   pub slot : new.slot ≡ old.slot
-  pub number : new.number ≡ old.number
+  pub number : new.log_number ≡ old.log_number
   pub gate : new.tx.log.at ≡ old.tx.log.at
 
 -- ---- an object is made

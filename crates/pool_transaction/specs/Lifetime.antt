@@ -20,7 +20,7 @@ pub record MayBeginIn (memory : Memory) (image : Image) (client : ℕ) (name : L
 
 -- the memory in which this one has begun: it is held under its number, and has its session
 abbrev pub with_begun : Held → Memory → Memory
-with_begun held memory = record memory { held = set memory.held held.number (Some held); sessions = entered held.client held.slot held.number memory.sessions }
+with_begun held memory = record memory { held = set memory.held held.log_number (Some held); sessions = entered held.client held.slot held.log_number memory.sessions }
 
 -- the memory in which this one, which was held under the number, has ended: it is held no more, its session has ended, and of its pool the puddles alone
 -- are known

@@ -214,7 +214,7 @@ impl Opened {
         ensures applies { H.tells → (update : Update) → (size : ℕ) → size ≡ (H.counts h.old).size → (w : World) → (memory : Memory) → IsHeldIn frames self.old pool.old memory
             → IsReady size w memory (H.state h.old) → refusal_of w (update_line update (self.old).client (self.old).name) ≡ Option.None
             → IsFoundBy frames pool.old (reads (H.state h.old).now.words) update found
-            → AppliesTo (led_in (self.old).slot (end_of (ordinal_written found))) size w (after w (update_line update (self.old).client (self.old).name)) (with_opened (self.old).number (self.old).slot self.new pool.new memory) (fault_of result) (H.state h.old) (H.state h.new) }
+            → AppliesTo (led_in (self.old).slot (end_of (ordinal_written found))) size w (after w (update_line update (self.old).client (self.old).name)) (with_opened (self.old).log_number (self.old).slot self.new pool.new memory) (fault_of result) (H.state h.old) (H.state h.new) }
         ensures pool { IfOk result (λ _. pool.new ≡ finished_at (ordinal_written found) pool.old) }
         ensures within { IsHeldWithin frames self.new }
         ensures known { IsOnDevice frames pool.new }
@@ -249,7 +249,7 @@ impl Opened {
         ensures reply { H.tells → (size : ℕ) → (w : World) → (memory : Memory) → IsHeldOn frames self.old pool.old memory → IsReady size w memory (H.state h.old)
             → IfOk result (λ reply. of_reply reply ≡ answer_by w (Option.Some (update_line update (self.old).client (self.old).name))) }
         ensures applies { H.tells → (size : ℕ) → size ≡ (H.counts h.old).size → (w : World) → (memory : Memory) → IsHeldOn frames self.old pool.old memory → IsReady size w memory (H.state h.old)
-            → AppliesFinishing (self.old).slot (FinishesUnless (refusal_of w (update_line update (self.old).client (self.old).name)) (FinishesFor frames pool.old.at (reads (H.state h.old).now.words) update)) size w (world_by w (Option.Some (update_line update (self.old).client (self.old).name))) (with_known (self.old).number (self.old).slot self.new pool.new memory)
+            → AppliesFinishing (self.old).slot (FinishesUnless (refusal_of w (update_line update (self.old).client (self.old).name)) (FinishesFor frames pool.old.at (reads (H.state h.old).now.words) update)) size w (world_by w (Option.Some (update_line update (self.old).client (self.old).name))) (with_known (self.old).log_number (self.old).slot self.new pool.new memory)
             (fault_of result) (H.state h.old) (H.state h.new) }
         ensures refused { IfOk result (λ reply. (why : Refusal) → reply ≡ Reply.No why → pool.new ≡ pool.old) }
         ensures within { IsHeldWithin frames self.new }
@@ -333,7 +333,7 @@ impl Opened {
         requires known { IsOnDevice frames pool.old }
         requires units { (self.old).tx.units + NEW_UNITS ≤ LOG_ENTRY_WORDS }
         ensures makes { H.tells → (size : ℕ) → (w : World) → (memory : Memory) → IsHeldIn frames self.old pool.old memory → IsReady size w memory (H.state h.old) → refusal_by_world w self.old t ≡ Option.None → grows w (self.old).name ≡ false
-            → AppliesFinishing (self.old).slot (FinishesLowest frames pool.old (reads (H.state h.old).now.words)) size w (with_made (self.old).name t w) (with_opened (self.old).number (self.old).slot self.new pool.new memory) (fault_of result) (H.state h.old) (H.state h.new) }
+            → AppliesFinishing (self.old).slot (FinishesLowest frames pool.old (reads (H.state h.old).now.words)) size w (with_made (self.old).name t w) (with_opened (self.old).log_number (self.old).slot self.new pool.new memory) (fault_of result) (H.state h.old) (H.state h.new) }
         ensures serial { H.tells → (size : ℕ) → (w : World) → (memory : Memory) → IsHeldIn frames self.old pool.old memory → IsReady size w memory (H.state h.old) → grows w (self.old).name ≡ false
             → IfOk result (λ serial. serial ≡ next_in (graph_seen (open_on (self.old).name w) (pool_named (self.old).name w.stored))) }
         ensures full { H.tells → (size : ℕ) → (w : World) → (memory : Memory) → IsHeldIn frames self.old pool.old memory → IsReady size w memory (H.state h.old) → grows w (self.old).name ≡ true
@@ -375,7 +375,7 @@ impl Opened {
         requires known { IsOnDevice frames pool.old }
         requires puddle { IsAddedWithin frames added }
         ensures grows { H.tells → (size : ℕ) → size ≡ (H.counts h.old).size → (w : World) → (memory : Memory) → IsHeldIn frames self.now pool.old memory → IsReady size w memory (H.state h.old) → GrowsBy frames (self.now).slot pool.old (reads (H.state h.old).now.words) added
-            → Applies size w (with_more (self.now).name w) (with_opened (self.now).number (self.now).slot self.now pool.new memory) (fault_of result) (H.state h.old) (H.state h.new) }
+            → Applies size w (with_more (self.now).name w) (with_opened (self.now).log_number (self.now).slot self.now pool.new memory) (fault_of result) (H.state h.old) (H.state h.new) }
         ensures longer { H.tells → (size : ℕ) → size ≡ (H.counts h.old).size → (w : World) → (memory : Memory) → IsHeldIn frames self.now pool.old memory → IsReady size w memory (H.state h.old) → GrowsBy frames (self.now).slot pool.old (reads (H.state h.old).now.words) added
             → IfOk result (λ _. IsLonger frames pool.old pool.new (reads (H.state h.old).now.words) (reads (H.state h.new).now.words)) }
         ensures known { IsOnDevice frames pool.new }
@@ -403,7 +403,7 @@ impl Opened {
         ensures reply { H.tells → (size : ℕ) → size ≡ (H.counts h.old).size → (w : World) → (memory : Memory) → IsHeldIn frames self.old pool.old memory → IsReady size w memory (H.state h.old) → refusal_by_world w self.old t ≡ Option.None → grows w (self.old).name ≡ true
             → IfOk result (λ reply. of_reply reply ≡ answer_by w (Option.Some (commands.New (self.old).client (self.old).name t))) }
         ensures applies { H.tells → (size : ℕ) → size ≡ (H.counts h.old).size → (w : World) → (memory : Memory) → IsHeldIn frames self.old pool.old memory → IsReady size w memory (H.state h.old) → refusal_by_world w self.old t ≡ Option.None → grows w (self.old).name ≡ true
-            → AppliesFinishing (self.old).slot (FinishesUnless (refusal_of w (commands.New (self.old).client (self.old).name t)) (FinishesTaken frames pool.old (reads (H.state h.old).now.words))) size w (world_by w (Option.Some (commands.New (self.old).client (self.old).name t))) (with_opened (self.old).number (self.old).slot self.new pool.new memory) (fault_of result)
+            → AppliesFinishing (self.old).slot (FinishesUnless (refusal_of w (commands.New (self.old).client (self.old).name t)) (FinishesTaken frames pool.old (reads (H.state h.old).now.words))) size w (world_by w (Option.Some (commands.New (self.old).client (self.old).name t))) (with_opened (self.old).log_number (self.old).slot self.new pool.new memory) (fault_of result)
             (H.state h.old) (H.state h.new) }
         ensures within { IsHeldWithin frames self.new }
         ensures known { IsOnDevice frames pool.new }
@@ -438,7 +438,7 @@ impl Opened {
         requires known { IsOnDevice frames pool.old }
         ensures reply { H.tells → (size : ℕ) → size ≡ (H.counts h.old).size → (w : World) → (memory : Memory) → IsHeldIn frames self.old pool.old memory → IsReady size w memory (H.state h.old) → IfOk result (λ reply. of_reply reply ≡ answer_by w (Option.Some (commands.New (self.old).client (self.old).name t))) }
         ensures applies { H.tells → (size : ℕ) → size ≡ (H.counts h.old).size → (w : World) → (memory : Memory) → IsHeldIn frames self.old pool.old memory → IsReady size w memory (H.state h.old)
-            → AppliesFinishing (self.old).slot (FinishesUnless (refusal_of w (commands.New (self.old).client (self.old).name t)) (FinishesTaken frames pool.old (reads (H.state h.old).now.words))) size w (world_by w (Option.Some (commands.New (self.old).client (self.old).name t))) (with_opened (self.old).number (self.old).slot self.new pool.new memory) (fault_of result)
+            → AppliesFinishing (self.old).slot (FinishesUnless (refusal_of w (commands.New (self.old).client (self.old).name t)) (FinishesTaken frames pool.old (reads (H.state h.old).now.words))) size w (world_by w (Option.Some (commands.New (self.old).client (self.old).name t))) (with_opened (self.old).log_number (self.old).slot self.new pool.new memory) (fault_of result)
             (H.state h.old) (H.state h.new) }
         ensures within { IsHeldWithin frames self.new }
         ensures known { IsOnDevice frames pool.new }
@@ -478,7 +478,7 @@ impl Opened {
         ensures reply { H.tells → (size : ℕ) → size ≡ (H.counts h.old).size → (w : World) → (memory : Memory) → IsHeldOn frames self.old pool.old memory → IsReady size w memory (H.state h.old)
             → IfOk result (λ reply. of_reply reply ≡ answer_by w (Option.Some (line_of change (self.old).client (self.old).name))) }
         ensures applies { H.tells → (size : ℕ) → size ≡ (H.counts h.old).size → (w : World) → (memory : Memory) → IsHeldOn frames self.old pool.old memory → IsReady size w memory (H.state h.old)
-            → AppliesFinishing (self.old).slot (FinishesUnless (refusal_of w (line_of change (self.old).client (self.old).name)) (Finishes frames pool.old.at (reads (H.state h.old).now.words) change)) size w (world_by w (Option.Some (line_of change (self.old).client (self.old).name))) (with_known (self.old).number (self.old).slot self.new pool.new memory) (fault_of result)
+            → AppliesFinishing (self.old).slot (FinishesUnless (refusal_of w (line_of change (self.old).client (self.old).name)) (Finishes frames pool.old.at (reads (H.state h.old).now.words) change)) size w (world_by w (Option.Some (line_of change (self.old).client (self.old).name))) (with_known (self.old).log_number (self.old).slot self.new pool.new memory) (fault_of result)
             (H.state h.old) (H.state h.new) }
         ensures within { IsHeldWithin frames self.new }
         ensures known { IsOnDevice frames pool.new.at }

@@ -55,7 +55,7 @@ impl Opened {
             client,
             name,
             slot,
-            number,
+            log_number: number,
             tx,
         })
     }
@@ -78,7 +78,7 @@ impl Opened {
             client: _client,
             name: _name,
             slot: _slot,
-            number: _number,
+            log_number: _number,
             tx,
         } = self;
         tx.commit(h, frames)
@@ -106,7 +106,7 @@ impl Opened {
             client: _client,
             name: _name,
             slot: _slot,
-            number: _number,
+            log_number: _number,
             tx,
         } = self;
         tx.abort(h, frames)

@@ -18,7 +18,7 @@ pub struct Opened {
     /// The slot of the pool's record.
     pub slot: u32,
     /// The number of its log among those of all clients, 0 to 31.
-    pub number: u32,
+    pub log_number: u32,
     /// What it changes.
     pub tx: Tx,
 }
@@ -28,7 +28,7 @@ impl Model for Opened {
 
     ghost Value = { Held };
 
-    ghost view = { λ o. record { client = o.client; name = o.name; slot = o.slot; number = o.number; tx = o.tx } };
+    ghost view = { λ o. record { client = o.client; name = o.name; slot = o.slot; log_number = o.log_number; tx = o.tx } };
 }
 
 /// The transactions that are open, by the numbers of their logs.
@@ -49,7 +49,7 @@ pub fn lose(opened: Option<Opened>) {
                 client: _client,
                 name: _name,
                 slot: _slot,
-                number: _number,
+                log_number: _number,
                 tx,
             } = opened;
             tx.lose();

@@ -83,7 +83,7 @@ module _ (size : ℕ) (w : World) (F : ℕ) (all : List (Option Held)) (sessions
     slot_is : mine.slot ≡ slot
     slot_is = ap (λ (h : Held). h.slot) same ∙ own.slot_is
 
-    number_is : mine.number ≡ number
+    number_is : mine.log_number ≡ number
     number_is = (ready.held.each number mine there).number_is
 
     pub held_in : IsHeldOn F mine pool_is memory
@@ -105,7 +105,7 @@ module _ (size : ℕ) (w : World) (F : ℕ) (all : List (Option Held)) (sessions
 
     pub Applies-changed : (change : Change) (now : Held) (pool : Known) (fault : Option HostFault) (new : State)
         → AppliesFinishing mine.slot (FinishesUnless (refusal_of w (line_of change mine.client mine.name)) (Finishes F at (reads s.now.words) change)) size w (world_by w (Some (line_of change mine.client mine.name)))
-        (with_known mine.number mine.slot now pool memory) fault s new
+        (with_known mine.log_number mine.slot now pool memory) fault s new
         → AppliesAs size w (world_by w (Some (line_of change client name))) (Some (line_of change client name)) (record { frames = F; held = set all number (Some now); sessions = sessions; judged = set judged slot (Some pool) }) fault s new
     Applies-changed change now pool fault new applies =
         let line = line_of change mine.client mine.name in
@@ -115,9 +115,9 @@ module _ (size : ℕ) (w : World) (F : ℕ) (all : List (Option Held)) (sessions
         (subst (λ (i : ℕ). AppliesFinishing i (FinishesUnless (refusal_of w line) finishes) size w (world_by w (Some line)) (with_known number i now pool memory) fault s new) slot_is
         (subst (λ (n : ℕ). AppliesFinishing mine.slot (FinishesUnless (refusal_of w line) finishes) size w (world_by w (Some line)) (with_known n mine.slot now pool memory) fault s new) number_is
         (subst (λ (ps : List (ℕ × Puddle)). AppliesFinishing mine.slot (FinishesUnless (refusal_of w line) (Finishes w.stored.frames ps (reads s.now.words) change)) size w (world_by w (Some line))
-        (with_known mine.number mine.slot now pool memory) fault s new) (sym (known_in_turn size w memory s ready slot at (ap (option_map (λ (k : Known). k.at)) known)))
+        (with_known mine.log_number mine.slot now pool memory) fault s new) (sym (known_in_turn size w memory s ready slot at (ap (option_map (λ (k : Known). k.at)) known)))
         (subst (λ (n : ℕ). AppliesFinishing mine.slot (FinishesUnless (refusal_of w line) (Finishes n at (reads s.now.words) change)) size w (world_by w (Some line))
-        (with_known mine.number mine.slot now pool memory) fault s new) ready.frames applies)))))
+        (with_known mine.log_number mine.slot now pool memory) fault s new) ready.frames applies)))))
 
 -- where a line on the client's own is refused before what it asks is looked at, so is the line of each change
 pub refused_line : (w : World) (client : ℕ) (name : List ℕ) (r : Refusal) → refusal_of w (Commit client name) ≡ Some r → (change : Change) → refusal_of w (line_of change client name) ≡ Some r

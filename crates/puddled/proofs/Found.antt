@@ -86,9 +86,9 @@ judged_ready size w memory s ready = subst (λ (n : ℕ). AreJudged n memory.jud
 
 -- it is the client's own, or none is open
 whose_own : (sessions : List (Option Session)) (client slot number : ℕ) (s : Session) → session_in sessions slot ≡ Some s → (own : Bool) → eqb s.client client ≡ own
-    → IfOk {T = Found} (cond own (Ok (record { slot = slot; number = number; own = Some s.number })) (Err refusals.Busy)) (λ found. session_in sessions found.slot ≡ session_found sessions client found)
+    → IfOk {T = Found} (cond own (Ok (record { slot = slot; number = number; own = Some s.log_number })) (Err refusals.Busy)) (λ found. session_in sessions found.slot ≡ session_found sessions client found)
 whose_own sessions client slot number s is false e = tt
-whose_own sessions client slot number s is true e = is ∙ ap₂ (λ (c d : ℕ). Some (record { client = c; number = s.number; depth = d })) (eqb-true s.client client e) (sym (ap session_depth is))
+whose_own sessions client slot number s is true e = is ∙ ap₂ (λ (c d : ℕ). Some (record { client = c; log_number = s.log_number; depth = d })) (eqb-true s.client client e) (sym (ap session_depth is))
 
 whose_by : (sessions : List (Option Session)) (client slot number : ℕ) (o : Option Session) → session_in sessions slot ≡ o
     → IfOk (beside o client slot number) (λ found. session_in sessions found.slot ≡ session_found sessions client found)
@@ -103,7 +103,7 @@ pub number_found : (o : Option Session) (client slot number : ℕ) → IfSome o 
 number_found None client slot number is = tt
 number_found (Some s) client slot number is = by_own (eqb s.client client)
   where
-    by_own : (own : Bool) → IfOk {T = Found} (cond own (Ok (record { slot = slot; number = number; own = Some s.number })) (Err refusals.Busy)) (λ found. IfSome found.own (λ n. n < ALL_LOGS))
+    by_own : (own : Bool) → IfOk {T = Found} (cond own (Ok (record { slot = slot; number = number; own = Some s.log_number })) (Err refusals.Busy)) (λ found. IfSome found.own (λ n. n < ALL_LOGS))
     by_own false = tt
     by_own true = is.number
 
@@ -338,7 +338,7 @@ module _ (size : ℕ) (w : World) (memory : Memory) (s : State) (ready : IsReady
       its_client = sym (ap client_in of_session.session_is)
 
       abbrev pub its : IsHeld w of_session.mine ready.mask s.now.words
-      its = held_is w memory.held ready.mask s.now.words ready.held session.number of_session.mine of_session.is
+      its = held_is w memory.held ready.mask s.now.words ready.held session.log_number of_session.mine of_session.is
 
       pub its_graph : graph_in (pool_named name w.stored) ≡ Some its.undone
       its_graph = ap (λ (n : List ℕ). graph_in (pool_named n w.stored)) (sym of_session.name_is) ∙ its.stored
@@ -347,7 +347,7 @@ module _ (size : ℕ) (w : World) (memory : Memory) (s : State) (ready : IsReady
       pub its_puddles : puddles_with_graph F image slot ≡ Some its.at
       its_puddles =
           subst (λ (i : ℕ). puddles_with_graph F image i ≡ Some its.at) of_session.slot_is
-          (ready.knows.judged.each of_session.mine.slot its.at (held_there_known size w memory s ready session.number of_session.mine of_session.is))
+          (ready.knows.judged.each of_session.mine.slot its.at (held_there_known size w memory s ready session.log_number of_session.mine of_session.is))
 
     -- ---- by whose it is
 
@@ -368,7 +368,7 @@ module _ (size : ℕ) (w : World) (memory : Memory) (s : State) (ready : IsReady
         ∙ ap (λ (n : ℕ). cond (not (eqb n client)) (Some refusals.Busy) None) (sym (its_client session at))
         ∙ ap (λ (t : Option Transaction). cond (is_others client t) (Some refusals.Busy) None) (sym (of_session session at).there)
       where
-        busy_by : (own : Bool) → refusal_found {A = Found} (cond own (Ok (record { slot = slot; number = number; own = Some session.number })) (Err refusals.Busy)) ≡ cond (not own) (Some refusals.Busy) None
+        busy_by : (own : Bool) → refusal_found {A = Found} (cond own (Ok (record { slot = slot; number = number; own = Some session.log_number })) (Err refusals.Busy)) ≡ cond (not own) (Some refusals.Busy) None
         busy_by true = refl
         busy_by false = refl
 
@@ -392,16 +392,16 @@ module _ (size : ℕ) (w : World) (memory : Memory) (s : State) (ready : IsReady
       found_by (Some session) at = own_by (eqb session.client client) refl
         where
           own_by : (own : Bool) → eqb session.client client ≡ own
-              → IfOk {T = Found} (cond own (Ok (record { slot = slot; number = rec.number; own = Some session.number })) (Err refusals.Busy)) (IsFound w need client name image memory)
+              → IfOk {T = Found} (cond own (Ok (record { slot = slot; number = rec.number; own = Some session.log_number })) (Err refusals.Busy)) (IsFound w need client name image memory)
           own_by false e = tt
           own_by true e = record {
             rec = rec;
             is = is;
             number_is = refl;
             own = λ number own.
-                subst (λ (n : ℕ). IsOwnOn client name slot n memory.held) (same_Some session.number number own)
+                subst (λ (n : ℕ). IsOwnOn client name slot n memory.held) (same_Some session.log_number number own)
                 (own_on w memory.held client name slot session (of_session session at) (eqb-true session.client client e));
-            none = λ shut. absurd (none-some session.number (sym shut));
+            none = λ shut. absurd (none-some session.log_number (sym shut));
             known = known_here;
           }
 

@@ -75,7 +75,7 @@ refusal_to w need client name = need_refusal need (w.clients client) (pool_named
 -- by the session on the pool
 abbrev pub beside : Option Session → (client slot number : ℕ) → Result Found Refusal
 beside None client slot number = Ok (record { slot = slot; number = number; own = None })
-beside (Some session) client slot number = cond (session.client == client) (Ok (record { slot = slot; number = number; own = Some session.number })) (Err refusals.Busy)
+beside (Some session) client slot number = cond (session.client == client) (Ok (record { slot = slot; number = number; own = Some session.log_number })) (Err refusals.Busy)
 
 -- the pool of the name has this record, as it is read, in the slot
 abbrev pub IsRecordOf : (F : ℕ) → List ℕ → Image → (slot : ℕ) → PoolRec → Type 0
@@ -83,7 +83,7 @@ IsRecordOf F name image slot rec = ◌≡◌ {A = Option (ℕ × PoolRec)} (Some
 
 -- the session on it then
 abbrev pub session_found : List (Option Session) → (client : ℕ) → Found → Option Session
-session_found sessions client found = option_map (λ number. record { client = client; number = number; depth = depth_in sessions found.slot }) found.own
+session_found sessions client found = option_map (λ number. record { client = client; log_number = number; depth = depth_in sessions found.slot }) found.own
 
 -- The pool that was found is that of the name, by its record. Where a transaction is open on it that is the client's own, with the log of the number.
 -- Where it needs a graph, what is known of it is its puddles, and that they have one.
@@ -98,8 +98,8 @@ pub record IsFound (w : World) (need : Need) (client : ℕ) (name : List ℕ) (i
 -- What was found of the client's own transaction lies within the tables, and is the client's by its session.
 pub record FindsOwn (client : ℕ) (memory : Memory) (own : Own) : Type 0 where
   pub slot : own.slot < POOL_RECORDS
-  pub number : own.number < ALL_LOGS
-  pub whose : session_in memory.sessions own.slot ≡ Some (record { client = client; number = own.number; depth = depth_in memory.sessions own.slot })
+  pub number : own.log_number < ALL_LOGS
+  pub whose : session_in memory.sessions own.slot ≡ Some (record { client = client; log_number = own.log_number; depth = depth_in memory.sessions own.slot })
 
 -- why the session of a transaction does not begin, or is not one deeper
 abbrev pub refusal_to_enter : EnterFault → Refusal

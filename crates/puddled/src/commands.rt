@@ -43,15 +43,15 @@ fn change_in<H: Host>(
     requires few { frames ≤ MAX_FRAMES }
     requires room { device_words frames ≤ (H.counts h.old).size }
     requires slot { own.slot < POOL_RECORDS }
-    requires number { own.number < ALL_LOGS }
+    requires number { own.log_number < ALL_LOGS }
     requires within { AreHeldWithin frames all.old }
     requires known { AreOnDevice frames judged.old }
     requires legal { IsLegalChange change }
     ensures reply { H.tells → (size : ℕ) → size ≡ (H.counts h.old).size → (w : World) → (sessions : List (Option Session)) → (client : ℕ) → (name : List ℕ)
-        → IsReady size w (record { frames = frames; held = all.old; sessions = sessions; judged = judged.old }) (H.state h.old) → IsOwnOn client name own.slot own.number all.old
+        → IsReady size w (record { frames = frames; held = all.old; sessions = sessions; judged = judged.old }) (H.state h.old) → IsOwnOn client name own.slot own.log_number all.old
         → IfOk result (λ reply. of_reply reply ≡ answer_by w (Option.Some (line_of change client name))) }
     ensures applies { H.tells → (size : ℕ) → size ≡ (H.counts h.old).size → (w : World) → (sessions : List (Option Session)) → (client : ℕ) → (name : List ℕ)
-        → IsReady size w (record { frames = frames; held = all.old; sessions = sessions; judged = judged.old }) (H.state h.old) → IsOwnOn client name own.slot own.number all.old
+        → IsReady size w (record { frames = frames; held = all.old; sessions = sessions; judged = judged.old }) (H.state h.old) → IsOwnOn client name own.slot own.log_number all.old
         → AppliesAs size w (world_by w (Option.Some (line_of change client name))) (Option.Some (line_of change client name)) (record { frames = frames; held = all.new; sessions = sessions; judged = judged.new }) (fault_of result)
         (H.state h.old) (H.state h.new) }
     ensures within { AreHeldWithin frames all.new }
@@ -60,7 +60,7 @@ fn change_in<H: Host>(
     ensures rests { H.tells → fault_of result ≡ Option.Some HostFault.Cut → IsRested (H.state h.new).now.words }
     ensures cause { H.counts h.new ≡ after_fault (fault_of result) (H.counts h.old) }
 {
-    match &mut all[own.number as usize] {
+    match &mut all[own.log_number as usize] {
         Some(opened) => match &mut judged.pools[own.slot as usize] {
             Some(pool) => opened.change(h, frames, pool, change),
             None => Ok(Reply::No(Refusal::Wild)),
@@ -163,7 +163,7 @@ impl Daemon {
             Err(refusal) => return Ok(Reply::No(refusal)),
             Ok(own) => own,
         };
-        self.undo(h, own.number)?;
+        self.undo(h, own.log_number)?;
         Ok(Reply::Ok)
     }
 

@@ -60,7 +60,7 @@ pub(crate) struct Own {
     /// 0 to 31.
     pub(crate) slot: u32,
     /// 0 to 31, among those of all clients.
-    pub(crate) number: u32,
+    pub(crate) log_number: u32,
 }
 
 /// Whether a graph is needed.
@@ -100,7 +100,7 @@ fn beside(session: Option<Session>, client: u8, slot: u32, number: u64) -> Resul
                 Ok(Found {
                     slot,
                     number,
-                    own: Some(session.number),
+                    own: Some(session.log_number),
                 })
             } else {
                 Err(Refusal::Busy)
@@ -211,7 +211,7 @@ impl Daemon {
         ensures refusal { H.tells → (size : ℕ) → (w : World) → IsReady size w self.old (H.state h.old)
             → IfOk result (λ found. refusal_found found ≡ refusal_of w (commands.Commit client name)) }
         ensures own { H.tells → (size : ℕ) → (w : World) → IsReady size w self.old (H.state h.old)
-            → IfOk result (λ found. IfOk found (λ own. IsOwnOn client name own.slot own.number (self.old).held)) }
+            → IfOk result (λ found. IfOk found (λ own. IsOwnOn client name own.slot own.log_number (self.old).held)) }
         ensures finds { IfOk result (λ found. IfOk found (FindsOwn client self.old)) }
         ensures ready { H.tells → (size : ℕ) → (w : World) → IsReady size w self.old (H.state h.old) → IsReady size w self.new (H.state h.old) }
         ensures frames { (self.new).frames ≡ (self.old).frames }
@@ -226,7 +226,7 @@ impl Daemon {
         match found.own {
             Some(number) => Ok(Ok(Own {
                 slot: found.slot,
-                number,
+                log_number: number,
             })),
             None => Ok(Err(Refusal::Tx)),
         }

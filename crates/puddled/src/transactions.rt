@@ -51,7 +51,7 @@ impl Daemon {
         requires slot { slot < POOL_RECORDS }
         requires number { number < ALL_LOGS }
         requires within { AreSessions (self.old).sessions }
-        requires own { session_in (self.old).sessions slot ≡ Option.Some (record { client = client; number = number; depth = depth_in (self.old).sessions slot }) }
+        requires own { session_in (self.old).sessions slot ≡ Option.Some (record { client = client; log_number = number; depth = depth_in (self.old).sessions slot }) }
         ensures reply { (size : ℕ) → (w : World) → (name : List ℕ) → (s : State) → IsReady size w self.old s → IsOwnOn client name slot number (self.old).held
             → refusal_to w needs.Write client name ≡ Option.None → of_reply result ≡ answer_by w (Option.Some (commands.Begin client name)) }
         ensures ready { (size : ℕ) → (w : World) → (name : List ℕ) → (s : State) → IsReady size w self.old s → IsOwnOn client name slot number (self.old).held
@@ -129,11 +129,11 @@ impl Daemon {
         own: Own,
     ) -> Result<(), HostFault>
         requires room { device_words (self.old).frames ≤ (H.counts h.old).size }
-        requires number { own.number < ALL_LOGS }
+        requires number { own.log_number < ALL_LOGS }
         requires slot { own.slot < POOL_RECORDS }
-        requires whose { session_in (self.old).sessions own.slot ≡ Option.Some (record { client = client; number = own.number; depth = depth_in (self.old).sessions own.slot }) }
+        requires whose { session_in (self.old).sessions own.slot ≡ Option.Some (record { client = client; log_number = own.log_number; depth = depth_in (self.old).sessions own.slot }) }
         ensures applies { H.tells → (size : ℕ) → size ≡ (H.counts h.old).size → (w : World) → (name : List ℕ) → IsReady size w self.old (H.state h.old)
-            → IsOwnOn client name own.slot own.number (self.old).held
+            → IsOwnOn client name own.slot own.log_number (self.old).held
             → Applies size w (after w (commands.Commit client name)) self.new (fault_of result) (H.state h.old) (H.state h.new) }
         // Where it was begun more often than once, no call of the device is made.
         ensures nested { 1 < depth_in (self.old).sessions own.slot → h.new ≡ h.old }
@@ -147,7 +147,7 @@ impl Daemon {
             return Ok(());
         }
         let frames = self.frames;
-        match self.release(own.number) {
+        match self.release(own.log_number) {
             Some(opened) => opened.commit(h, frames),
             None => Ok(()),
         }

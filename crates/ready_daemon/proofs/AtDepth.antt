@@ -157,7 +157,7 @@ module _ (size : ℕ) (w : World) (memory : Memory) (s : State) (ready : IsReady
 
   deeper_sessions : (client : ℕ) → client ≡ t.client → entered client held.slot number memory.sessions ≡ sessions_at (t.depth + 1)
   deeper_sessions client whose =
-      ap₂ (λ (c : ℕ) (o : Option Session). set memory.sessions held.slot (Some (record { client = c; number = number; depth = session_depth o + 1 }))) whose its_session
+      ap₂ (λ (c : ℕ) (o : Option Session). set memory.sessions held.slot (Some (record { client = c; log_number = number; depth = session_depth o + 1 }))) whose its_session
 
   pub ready_deeper : (client : ℕ) → client ≡ held.client → IsReady size (after w (commands.Begin client held.name)) (record memory { sessions = entered client held.slot number memory.sessions }) s
   ready_deeper client whose =

@@ -105,7 +105,7 @@ module _ (w : World) (held : Held) (mask : Write) (words : Words) (is : IsHeld w
   pub log_masked : (k : ℕ) → IsInLog held.tx.log.at k → mask k ≡ None → ⊥
   log_masked k inside none =
       let there = subst (λ (n : ℕ). IsInLog n k) is.gate inside in
-      let m = mask_of_log F p is.before k (in_log (log_number_at F held.number) k there) in
+      let m = mask_of_log F p is.before k (in_log (log_number_at F held.log_number) k there) in
       none-some m.0 (sym none ∙ is.masked k m.0 m.1)
 
   pub own_masked : (k : ℕ) → pool_mine F (finished_of is.at) k ≡ true → mask k ≡ None → ⊥
@@ -204,7 +204,7 @@ module _ (w next : World) (held : Held) (mask anew : Write) (old new : State) (i
         units = is.units;
         present = keeps.present ∙ is.present;
         owner = is.owner;
-        gate = is.gate ∙ ap (λ (m : ℕ). log_number_at m held.number) back;
+        gate = is.gate ∙ ap (λ (m : ℕ). log_number_at m held.log_number) back;
         name = is.name;
         stored = keeps.stored ∙ is.stored;
         pool = subst (λ (m : ℕ). IsOpenPool m (pool_held held is.at is.rec is.who) is.before) back is.pool;
@@ -214,7 +214,7 @@ module _ (w next : World) (held : Held) (mask anew : Write) (old new : State) (i
       }
 
   -- and it is held so under its number, where it is open under that
-  abbrev pub still_under : (opens : Opens) (number : ℕ) → held.number ≡ number → opens number ≡ Some (open_held held is.at is.rec is.who is.before) → IsHeldUnder next opens anew new.now.words number held
+  abbrev pub still_under : (opens : Opens) (number : ℕ) → held.log_number ≡ number → opens number ≡ Some (open_held held is.at is.rec is.who is.before) → IsHeldUnder next opens anew new.now.words number held
   still_under opens number its opened = record { is = held_still; number_is = its; opened = opened }
 
 -- ---- all that is held
@@ -322,11 +322,11 @@ module _ (w : World) (held : List (Option Held)) (mask : Write) (words : Words) 
     abbrev q : OpenTransaction
     q = open_held g others.is.at others.is.rec others.is.who others.is.before
 
-    in_its_log : (k : ℕ) → IsInLog h.tx.log.at k → is_in_log (log_number_at N h.number) k ≡ true
-    in_its_log k inside = in_log (log_number_at N h.number) k (subst (λ (n : ℕ). IsInLog n k) its.is.gate inside)
+    in_its_log : (k : ℕ) → IsInLog h.tx.log.at k → is_in_log (log_number_at N h.log_number) k ≡ true
+    in_its_log k inside = in_log (log_number_at N h.log_number) k (subst (λ (n : ℕ). IsInLog n k) its.is.gate inside)
 
-    in_others_log : (k : ℕ) → IsInLog g.tx.log.at k → is_in_log (log_number_at N g.number) k ≡ true
-    in_others_log k inside = in_log (log_number_at N g.number) k (subst (λ (n : ℕ). IsInLog n k) others.is.gate inside)
+    in_others_log : (k : ℕ) → IsInLog g.tx.log.at k → is_in_log (log_number_at N g.log_number) k ≡ true
+    in_others_log k inside = in_log (log_number_at N g.log_number) k (subst (λ (n : ℕ). IsInLog n k) others.is.gate inside)
 
     -- are no words of another
     pub own_apart : IsApart N g (pool_held g others.is.at others.is.rec others.is.who) (ByTransaction (pool_ground N (finished_of its.is.at)) h.tx.log.at)

@@ -100,15 +100,15 @@ module _ (w : World) (held : List (Option Held)) (mask : Write) (words : Words) 
     then_sessions = entered client begun.slot number sessions
 
     abbrev its_session : Session
-    its_session = record { client = client; number = number; depth = 1 }
+    its_session = record { client = client; log_number = number; depth = 1 }
 
     session_here : session_in then_sessions begun.slot ≡ Some its_session
     session_here =
-        get_or-set_same sessions begun.slot (Some (record { client = client; number = number; depth = session_depth (session_in sessions begun.slot) + 1 })) None fits
-        ∙ ap (λ (o : Option Session). Some (record { client = client; number = number; depth = session_depth o + 1 })) unheld
+        get_or-set_same sessions begun.slot (Some (record { client = client; log_number = number; depth = session_depth (session_in sessions begun.slot) + 1 })) None fits
+        ∙ ap (λ (o : Option Session). Some (record { client = client; log_number = number; depth = session_depth o + 1 })) unheld
 
     session_elsewhere : (slot : ℕ) → slot ≢ begun.slot → session_in then_sessions slot ≡ session_in sessions slot
-    session_elsewhere slot apart = get_or-set_other sessions begun.slot slot (Some (record { client = client; number = number; depth = session_depth (session_in sessions begun.slot) + 1 })) None apart
+    session_elsewhere slot apart = get_or-set_other sessions begun.slot slot (Some (record { client = client; log_number = number; depth = session_depth (session_in sessions begun.slot) + 1 })) None apart
 
     pub HasSessions-more : HasSessions next all then_sessions
     HasSessions-more = record {
@@ -116,7 +116,7 @@ module _ (w : World) (held : List (Option Held)) (mask : Write) (words : Words) 
           (λ on.
           let one : t ≡ x = same_Some t x (sym (open_there begun.name w.transactions (Some t)) ∙ on) in
           let its : its_session ≡ session_of number x =
-          ap₂ (λ (c d : ℕ). record { client = c; number = number; depth = d }) (sym whose ∙ ap (λ (y : Transaction). y.client) one) (sym once ∙ ap (λ (y : Transaction). y.depth) one) in
+          ap₂ (λ (c d : ℕ). record { client = c; log_number = number; depth = d }) (sym whose ∙ ap (λ (y : Transaction). y.client) one) (sym once ∙ ap (λ (y : Transaction). y.depth) one) in
           session_here ∙ ap (λ (s : Session). Some s) its)
           (λ i y was on.
           session_elsewhere y.slot (none_held w held mask words holds sessions has begun.slot unheld i y was)
@@ -128,6 +128,6 @@ module _ (w : World) (held : List (Option Held)) (mask : Write) (words : Words) 
             record { mine = begun; is = ap (held_under all) (sym (ap number_in one)) ∙ begun_there; slot_is = sym same }
         | inr apart ↦
             let on = has.only slot s (sym (session_elsewhere slot apart) ∙ there) in
-            record { mine = on.mine; is = still_there s.number on.mine on.is; slot_is = on.slot_is }
+            record { mine = on.mine; is = still_there s.log_number on.mine on.is; slot_is = on.slot_is }
       ];
     }

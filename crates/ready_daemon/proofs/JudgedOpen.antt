@@ -214,7 +214,7 @@ module _ (w : World) (h : Held) (mask : Write) (old new : State) (is : IsHeld w 
 
   -- its log is a client's
   pub held_log : IsLogBeside F h.tx.log.at
-  held_log = subst (IsLogBeside F) (sym is.gate) (log_beside F h.number is.pool.known)
+  held_log = subst (IsLogBeside F) (sym is.gate) (log_beside F h.log_number is.pool.known)
 
   module _ (c : Changes (ByTransaction (pool_ground F (finished_of is.at)) h.tx.log.at) None old new) where
     -- words of it are set

@@ -97,7 +97,7 @@ module _ (w : World) (held : Held) (mask : Write) (words : Words) (is : IsHeld w
         let here = pool_mine-each F (puddles_in_turn t slot) k mine in
         let low = here.low in
         let few = is.pool.known in
-        mask_of_others F p is.before k (outside_log (log_number_at F held.number) k (inr (omega arith))) (not_mine k mine) (not_record k (is_open_record p k) refl mine)
+        mask_of_others F p is.before k (outside_log (log_number_at F held.log_number) k (inr (omega arith))) (not_mine k mine) (not_record k (is_open_record p k) refl mine)
 
 -- what a pool stores on which none is held is read as it is
 pub pool_unmasked : (w : World) (held : List (Option Held)) (mask : Write) (words : Words) (name : List ℕ) (slot : ℕ) (r : PoolRec) → Holds w held mask words

@@ -57,7 +57,7 @@ module _ (w : World) (held : Held) (mask : Write) (words : Words) (is : IsHeld w
   on_device = open_on_device F p is.before is.pool
 
   -- its logs are others
-  other_number : (number : ℕ) → number < CLIENT_LOGS → CLIENT_LOGS * client + number ≡ held.number → ⊥
+  other_number : (number : ℕ) → number < CLIENT_LOGS → CLIENT_LOGS * client + number ≡ held.log_number → ⊥
   other_number number below here = let by = is.owner in other (omega arith)
 
   gate_unmasked : (k v : ℕ) → ByClosing F client k v → open_mask F p is.before k ≡ None
@@ -66,7 +66,7 @@ module _ (w : World) (held : Held) (mask : Write) (words : Words) (is : IsHeld w
       let at = gate.0.is in
       let inside : IsInLog (log_number_at F (CLIENT_LOGS * client + gate.0.number)) k = record { low = omega arith; high = omega arith } in
       mask_of_others F p is.before k
-      (other_log_apart F held.number (CLIENT_LOGS * client + gate.0.number) k (other_number gate.0.number below) inside)
+      (other_log_apart F held.log_number (CLIENT_LOGS * client + gate.0.number) k (other_number gate.0.number below) inside)
       (mine_behind F (finished_of is.at) k (omega arith))
       (false_from_ne_true (is_open_record p k) (λ of. let place = open_record_place F p k is.pool.slot is.pool.known on_device of in let high = place.high in absurd (omega arith)))
 
@@ -74,8 +74,8 @@ module _ (w : World) (held : Held) (mask : Write) (words : Words) (is : IsHeld w
   record_unmasked : (k : ℕ) → space_record_at client ≤ k → k < space_record_at (client + 1) → is_open_record p k ≡ false
   unfolding is_open_record
   record_unmasked k low high = false_from_ne_true (is_open_record p k) (λ of.
-      elim (or_cases (is_in_pool_record p.slot k || is_in_space_record (client_of_log p.number) k) (list_any (is_in_puddle_record k) (finished_of p.at)) of) [
-        | inl first ↦ elim (or_cases (is_in_pool_record p.slot k) (is_in_space_record (client_of_log p.number) k) first) [
+      elim (or_cases (is_in_pool_record p.slot k || is_in_space_record (client_of_log p.log_number) k) (list_any (is_in_puddle_record k) (finished_of p.at)) of) [
+        | inl first ↦ elim (or_cases (is_in_pool_record p.slot k) (is_in_space_record (client_of_log p.log_number) k) first) [
           | inl pool ↦
               let slot = is.pool.slot in
               let parts = and_parts (leb (pool_record_at p.slot) k) (ltb k (pool_record_at (p.slot + 1))) pool in
@@ -83,7 +83,7 @@ module _ (w : World) (held : Held) (mask : Write) (words : Words) (is : IsHeld w
               absurd (omega arith)
           | inr space ↦
               let by = is.owner in
-              let parts = and_parts (leb (space_record_at (client_of_log p.number)) k) (ltb k (space_record_at (client_of_log p.number + 1))) space in
+              let parts = and_parts (leb (space_record_at (client_of_log p.log_number)) k) (ltb k (space_record_at (client_of_log p.log_number + 1))) space in
               let from = leb-true _ _ parts.0 in
               let end = ltb-true _ _ parts.1 in
               absurd (other (omega arith))
@@ -97,7 +97,7 @@ module _ (w : World) (held : Held) (mask : Write) (words : Words) (is : IsHeld w
 
   space_unmasked : (k : ℕ) → space_record_at client ≤ k → k < space_record_at (client + 1) → open_mask F p is.before k ≡ None
   space_unmasked k low high =
-      mask_of_others F p is.before k (outside_log (log_number_at F held.number) k (inl (omega arith))) (mine_behind F (finished_of is.at) k (omega arith)) (record_unmasked k low high)
+      mask_of_others F p is.before k (outside_log (log_number_at F held.log_number) k (inl (omega arith))) (mine_behind F (finished_of is.at) k (omega arith)) (record_unmasked k low high)
 
   batch_unmasked : (vals : List ℕ) → length vals ≤ SPACE_RECORD_WORDS → (k v : ℕ) → ByBatch DAEMON_LOG (record_batch client vals) k v → open_mask F p is.before k ≡ None
   batch_unmasked vals few k v (inl log) = let high = log.high in mask_below F p is.before is.pool.slot is.pool.known on_device k (omega arith)

@@ -143,6 +143,6 @@ module _ (w : World) (list : List (Option Held)) (mask : Write) (old : State) (h
       only = λ slot s e.
           let apart : slot ≢ held.slot = λ same. none-some s (sym (nothing_there sessions held.slot) ∙ ap (session_in (set sessions held.slot None)) (sym same) ∙ e) in
           let on = has.only slot s (sym (get_or-set_other sessions held.slot slot None None apart) ∙ e) in
-          let elsewhere : s.number ≢ number = λ same. apart (sym on.slot_is ∙ ap (λ (h : Held). h.slot) (same_Some on.mine held (sym on.is ∙ ap (held_under list) same ∙ there))) in
-          record { mine = on.mine; is = held_there list number None s.number elsewhere ∙ on.is; slot_is = on.slot_is };
+          let elsewhere : s.log_number ≢ number = λ same. apart (sym on.slot_is ∙ ap (λ (h : Held). h.slot) (same_Some on.mine held (sym on.is ∙ ap (held_under list) same ∙ there))) in
+          record { mine = on.mine; is = held_there list number None s.log_number elsewhere ∙ on.is; slot_is = on.slot_is };
     }

@@ -43,16 +43,16 @@ record IsOfPuddle (at : List (ℕ × Puddle)) (k : ℕ) : Type 0 where
 
 -- a word of a record of a transaction is one of its pool's, of its client's, or of a puddle's
 open_record_of : (p : OpenPool) (k : ℕ) → is_open_record p k ≡ true
-    → IsWithin (pool_record_at p.slot) (pool_record_at (p.slot + 1)) k ⊎ (IsWithin (space_record_at (client_of_log p.number)) (space_record_at (client_of_log p.number + 1)) k ⊎ IsOfPuddle (finished_of p.at) k)
+    → IsWithin (pool_record_at p.slot) (pool_record_at (p.slot + 1)) k ⊎ (IsWithin (space_record_at (client_of_log p.log_number)) (space_record_at (client_of_log p.log_number + 1)) k ⊎ IsOfPuddle (finished_of p.at) k)
 unfolding is_open_record
 open_record_of p k is =
-    elim (or_cases (is_in_pool_record p.slot k || is_in_space_record (client_of_log p.number) k) (list_any (is_in_puddle_record k) (finished_of p.at)) is) [
-      | inl first ↦ elim (or_cases (is_in_pool_record p.slot k) (is_in_space_record (client_of_log p.number) k) first) [
+    elim (or_cases (is_in_pool_record p.slot k || is_in_space_record (client_of_log p.log_number) k) (list_any (is_in_puddle_record k) (finished_of p.at)) is) [
+      | inl first ↦ elim (or_cases (is_in_pool_record p.slot k) (is_in_space_record (client_of_log p.log_number) k) first) [
         | inl pool ↦
             let parts = and_parts (leb (pool_record_at p.slot) k) (ltb k (pool_record_at (p.slot + 1))) pool in
             inl (record { low = leb-true _ _ parts.0; high = ltb-true _ _ parts.1 })
         | inr space ↦
-            let parts = and_parts (leb (space_record_at (client_of_log p.number)) k) (ltb k (space_record_at (client_of_log p.number + 1))) space in
+            let parts = and_parts (leb (space_record_at (client_of_log p.log_number)) k) (ltb k (space_record_at (client_of_log p.log_number + 1))) space in
             inr (inl (record { low = leb-true _ _ parts.0; high = ltb-true _ _ parts.1 }))
       ]
       | inr puddle ↦
@@ -64,13 +64,13 @@ open_record_of p k is =
 of_pool_record : (p : OpenPool) (k : ℕ) → pool_record_at p.slot ≤ k → k < pool_record_at (p.slot + 1) → is_open_record p k ≡ true
 unfolding is_open_record
 of_pool_record p k low high =
-    or_left (is_in_pool_record p.slot k || is_in_space_record (client_of_log p.number) k) (list_any (is_in_puddle_record k) (finished_of p.at))
-    (or_left (is_in_pool_record p.slot k) (is_in_space_record (client_of_log p.number) k) (and_from (leb (pool_record_at p.slot) k) (ltb k (pool_record_at (p.slot + 1))) (le-leb _ _ low) (lt-ltb _ _ high)))
+    or_left (is_in_pool_record p.slot k || is_in_space_record (client_of_log p.log_number) k) (list_any (is_in_puddle_record k) (finished_of p.at))
+    (or_left (is_in_pool_record p.slot k) (is_in_space_record (client_of_log p.log_number) k) (and_from (leb (pool_record_at p.slot) k) (ltb k (pool_record_at (p.slot + 1))) (le-leb _ _ low) (lt-ltb _ _ high)))
 
 of_puddle_record : (p : OpenPool) (k o : ℕ) (e : ℕ × Puddle) → slice_get (finished_of p.at) o ≡ Some e → puddle_record_at e.0 ≤ k → k < puddle_record_at (e.0 + 1) → is_open_record p k ≡ true
 unfolding is_open_record
 of_puddle_record p k o e there low high =
-    or_right (is_in_pool_record p.slot k || is_in_space_record (client_of_log p.number) k) (list_any (is_in_puddle_record k) (finished_of p.at))
+    or_right (is_in_pool_record p.slot k || is_in_space_record (client_of_log p.log_number) k) (list_any (is_in_puddle_record k) (finished_of p.at))
     (element_passes (is_in_puddle_record k) (finished_of p.at) o e there (and_from (leb (puddle_record_at e.0) k) (ltb k (puddle_record_at (e.0 + 1))) (le-leb _ _ low) (lt-ltb _ _ high)))
 
 module _ (w : World) (held : Held) (mask : Write) (words : Words) (is : IsHeld w held mask words) where
@@ -86,7 +86,7 @@ module _ (w : World) (held : Held) (mask : Write) (words : Words) (is : IsHeld w
   -- a word of the tables that is none of its records
   not_record : (k : ℕ) → k < tables_end F → (is_open_record p k ≡ true → ⊥) → open_mask F p is.before k ≡ None
   not_record k below never =
-      mask_of_others F p is.before k (outside_log (log_number_at F held.number) k (inl (omega arith))) (mine_behind F (finished_of is.at) k (omega arith)) (false_from_ne_true (is_open_record p k) never)
+      mask_of_others F p is.before k (outside_log (log_number_at F held.log_number) k (inl (omega arith))) (mine_behind F (finished_of is.at) k (omega arith)) (false_from_ne_true (is_open_record p k) never)
 
   -- its record is read as it was
   pub used_still : now.pools held.slot ≡ Some is.rec
@@ -148,7 +148,7 @@ module _ (w : World) (held : Held) (mask : Write) (words : Words) (is : IsHeld w
   other_frame frame k below other low high =
       let few = is.pool.known in
       let slot = is.pool.slot in
-      mask_of_others F p is.before k (outside_log (log_number_at F held.number) k (inr (omega arith)))
+      mask_of_others F p is.before k (outside_log (log_number_at F held.log_number) k (inr (omega arith)))
       (false_from_ne_true (pool_mine F (finished_of is.at) k) (λ mine.
       let m = pool_mine-each F (finished_of is.at) k mine in
       let from = m.low in let to = m.high in

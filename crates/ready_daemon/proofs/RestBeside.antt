@@ -92,7 +92,7 @@ module _ (size : ℕ) (w : World) (memory : Memory) (old : State) (ready : IsRea
         let is = is_held m h was in
         let pool = pool_held h is.at is.rec is.who in
         let few = is.pool.known in
-        mask_of_others F pool is.before k (outside_log (log_number_at F h.number) k (inr (omega arith))) (not_mine m h was) (false_from_ne_true (is_open_record pool k) (λ of.
+        mask_of_others F pool is.before k (outside_log (log_number_at F h.log_number) k (inr (omega arith))) (not_mine m h was) (false_from_ne_true (is_open_record pool k) (λ of.
         let place = open_record_place F pool k is.pool.slot is.pool.known (open_on_device F pool is.before is.pool) of in
         let high = place.high in
         omega arith)))

@@ -30,17 +30,17 @@ use Rattle.ready_daemon.proofs.TablesBeside.{sound_read}
 -- The session in the slot is that of a transaction on the pool of the name, which is held under its number.
 pub record IsSessionOf (w : World) (held : List (Option Held)) (name : List ℕ) (slot : ℕ) (session : Session) : Type 0 where
   pub mine : Held
-  pub is : held_under held session.number ≡ Some mine
+  pub is : held_under held session.log_number ≡ Some mine
   pub slot_is : mine.slot ≡ slot
   pub name_is : mine.name ≡ name
   pub transaction : Transaction
   pub there : open_on name w ≡ Some transaction
-  pub session_is : session ≡ session_of session.number transaction
+  pub session_is : session ≡ session_of session.log_number transaction
   pub client : transaction.client ≡ mine.client
 
 -- where it is the client's, so is that transaction
 pub own_on : (w : World) (held : List (Option Held)) (client : ℕ) (name : List ℕ) (slot : ℕ) (session : Session) (of : IsSessionOf w held name slot session) → session.client ≡ client
-    → IsOwnOn client name slot session.number held
+    → IsOwnOn client name slot session.log_number held
 own_on w held client name slot session of whose = record {
   own = record { mine = of.mine; is = of.is; whose = sym of.client ∙ sym (ap client_in of.session_is) ∙ whose; pool = of.name_is };
   slot_is = of.slot_is;
@@ -97,7 +97,7 @@ module _ (w : World) (held : List (Option Held)) (mask : Write) (words : Words) 
     pub session_there : (name : List ℕ) (slot : ℕ) (r : PoolRec) (s : Session) → t.pools slot ≡ Some r → r.name ≡ name → session_in sessions slot ≡ Some s → IsSessionOf w held name slot s
     session_there name slot r s used named there =
         let on = has.only slot s there in
-        let is = held_is w held mask words holds s.number on.mine on.is in
+        let is = held_is w held mask words holds s.log_number on.mine on.is in
         let rec : is.rec ≡ r = same_Some is.rec r (sym (used_still w on.mine mask words is) ∙ ap t.pools on.slot_is ∙ used) in
         let same : on.mine.name ≡ name = sym is.name ∙ ap (λ (x : PoolRec). x.name) rec ∙ named in
         record {
@@ -107,7 +107,7 @@ module _ (w : World) (held : List (Option Held)) (mask : Write) (words : Words) 
           name_is = same;
           transaction = is.transaction;
           there = ap w.transactions (sym same) ∙ is.is;
-          session_is = same_Some s (session_of s.number is.transaction) (sym there ∙ ap (session_in sessions) (sym on.slot_is) ∙ session_held s.number on.mine on.is);
+          session_is = same_Some s (session_of s.log_number is.transaction) (sym there ∙ ap (session_in sessions) (sym on.slot_is) ∙ session_held s.log_number on.mine on.is);
           client = is.client;
         }
 

@@ -29,4 +29,4 @@ pub record MayBegin (F client : ℕ) (name : List ℕ) (image : Image) (slot : �
 
 -- as it begins, in the log of a number on a device of so many frames
 abbrev pub begins_as : (client : ℕ) → (name : List ℕ) → (slot : ℕ) → (F number : ℕ) → Held
-begins_as client name slot F number = record { client = client; name = name; slot = slot; number = number; tx = begun_tx (log_number_at F number) }
+begins_as client name slot F number = record { client = client; name = name; slot = slot; log_number = number; tx = begun_tx (log_number_at F number) }

@@ -30,7 +30,7 @@ use Rattle.ready_daemon.specs.Memory.{Held, held_under}
 
 -- where it is open
 abbrev pub pool_held : Held → List (ℕ × Puddle) → PoolRec → Owner → OpenPool
-pool_held held at rec who = record { slot = held.slot; rec = rec; at = at; number = held.number; who = who }
+pool_held held at rec who = record { slot = held.slot; rec = rec; at = at; log_number = held.log_number; who = who }
 
 -- and from which image
 abbrev pub open_held : Held → List (ℕ × Puddle) → PoolRec → Owner → Image → OpenTransaction
@@ -50,8 +50,8 @@ pub record IsHeld (w : World) (held : Held) (mask : Write) (words : Words) : Typ
   pub client : transaction.client ≡ held.client
   pub units : transaction.units ≡ held.tx.units
   pub present : w.clients held.client ≡ Some who
-  pub owner : client_of_log held.number ≡ held.client
-  pub gate : held.tx.log.at ≡ log_number_at w.stored.frames held.number
+  pub owner : client_of_log held.log_number ≡ held.client
+  pub gate : held.tx.log.at ≡ log_number_at w.stored.frames held.log_number
   pub name : rec.name ≡ held.name
   pub stored : graph_in (pool_named held.name w.stored) ≡ Some undone
   pub pool : IsOpenPool w.stored.frames (pool_held held at rec who) before
@@ -62,7 +62,7 @@ pub record IsHeld (w : World) (held : Held) (mask : Write) (words : Words) : Typ
 -- It is held under this number, that of its log, and is one of these that are open.
 pub record IsHeldUnder (w : World) (opens : Opens) (mask : Write) (words : Words) (number : ℕ) (held : Held) : Type 0 where
   pub is : IsHeld w held mask words
-  pub number_is : held.number ≡ number
+  pub number_is : held.log_number ≡ number
   pub opened : opens number ≡ Some (open_held held is.at is.rec is.who is.before)
 
 -- one is held on the pool of the name
@@ -90,20 +90,20 @@ pub record IsHeldOn (held : List (Option Held)) (slot number : ℕ) : Type 0 whe
 
 -- the session of a transaction with the log of a number
 abbrev pub session_of : (number : ℕ) → Transaction → Session
-session_of number t = record { client = t.client; number = number; depth = t.depth }
+session_of number t = record { client = t.client; log_number = number; depth = t.depth }
 
 -- Each transaction that is held has the session of its pool, of its client, with its log, and begun as often as it was; and there is no other.
 pub record HasSessions (w : World) (held : List (Option Held)) (sessions : List (Option Session)) : Type 0 where
   pub each : (number : ℕ) (h : Held) (t : Transaction) → held_under held number ≡ Some h → open_on h.name w ≡ Some t → session_in sessions h.slot ≡ Some (session_of number t)
-  pub only : (slot : ℕ) (s : Session) → session_in sessions slot ≡ Some s → IsHeldOn held slot s.number
+  pub only : (slot : ℕ) (s : Session) → session_in sessions slot ≡ Some s → IsHeldOn held slot s.log_number
 
 -- A transaction that is held lies in a device of so many frames: its pool's slot is one of the table, and its log is that of its number, one of its
 -- client's. It has taken no more units than there are.
 pub record IsHeldWithin (F : ℕ) (held : Held) : Type 0 where
   pub slot : held.slot < POOL_RECORDS
   pub client : held.client < CLIENTS
-  pub number : held.number < ALL_LOGS
-  pub gate : held.tx.log.at ≡ log_number_at F held.number
+  pub number : held.log_number < ALL_LOGS
+  pub gate : held.tx.log.at ≡ log_number_at F held.log_number
   pub units : held.tx.units ≤ LOG_ENTRY_WORDS
 
 -- and so does each that is held

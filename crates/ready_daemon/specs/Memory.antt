@@ -10,7 +10,7 @@ pub record Held : Type 0 where
   pub client : ℕ
   pub name : List ℕ
   pub slot : ℕ
-  pub number : ℕ
+  pub log_number : ℕ
   pub tx : OpenTx
 
 pub record Memory : Type 0 where

@@ -84,11 +84,11 @@ module _ (number : ℕ) (o : OpenTransaction) (others opens : Opens) (more : IsO
   ]
 
   -- so what is known of the others and of this one is known of all
-  pub opens_more : (F : ℕ) → AreOpenPools F others → o.pool.number ≡ number → IsOpenPool F o.pool o.before
+  pub opens_more : (F : ℕ) → AreOpenPools F others → o.pool.log_number ≡ number → IsOpenPool F o.pool o.before
       → ((n : ℕ) (q : OpenTransaction) → others n ≡ Some q → q.pool.slot ≡ o.pool.slot → ⊥) → AreOpenPools F opens
   opens_more F are its opened apart = record {
     number = λ n q there. elim (one_or_other n q there) [
-      | inl one ↦ ap (λ (t : OpenTransaction). t.pool.number) (sym one.1) ∙ its ∙ sym one.0
+      | inl one ↦ ap (λ (t : OpenTransaction). t.pool.log_number) (sym one.1) ∙ its ∙ sym one.0
       | inr other ↦ are.number n q other
     ];
     pool = λ n q there. elim (one_or_other n q there) [
@@ -218,7 +218,7 @@ module _ (size : ℕ) (s : StoredWorld) (number : ℕ) (o : OpenTransaction) (ot
       ap (idle_world_of size) (masked_one_more number o others opens more F all rest masks its j)
       ∙ idle_world_masked size s o.pool o.before under (are.pool number o more.here) unnamed_under record_under mine_under world
 
-  closed_under : is_closed_log j (log_number_at F number) ≡ true → is_closed_log under (log_number_at F o.pool.number) ≡ true
+  closed_under : is_closed_log j (log_number_at F number) ≡ true → is_closed_log under (log_number_at F o.pool.log_number) ≡ true
   closed_under shut =
       let few : number < ALL_LOGS = omega (arith, are.number number o more.here, (are.pool number o more.here).known) in
       ap (λ (n : ℕ). is_closed_log under (log_number_at F n)) (are.number number o more.here)

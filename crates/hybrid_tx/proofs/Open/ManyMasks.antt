@@ -61,7 +61,7 @@ module _ (F : ℕ) (opens : Opens) (mask : Write) (are : AreOpenPools F opens) (
   -- the words of one
   module _ (n : ℕ) (o : OpenTransaction) (there : opens n ≡ Some o) where
     pub masks_of_gate : mask (log_number_at F n) ≡ Some CLOSED_GATE
-    masks_of_gate = ap (λ (x : ℕ). mask (log_number_at F x)) (sym (are.number n o there)) ∙ all.has n o there (log_number_at F o.pool.number) CLOSED_GATE (mask_of_gate F o.pool o.before)
+    masks_of_gate = ap (λ (x : ℕ). mask (log_number_at F x)) (sym (are.number n o there)) ∙ all.has n o there (log_number_at F o.pool.log_number) CLOSED_GATE (mask_of_gate F o.pool o.before)
 
     pub masks_of_log : (k : ℕ) → is_in_log (log_number_at F n) k ≡ true → (v : ℕ) × (mask k ≡ Some v)
     masks_of_log k inside =
@@ -142,11 +142,11 @@ module _ (F : ℕ) (opens : Opens) (image : Image) (are : AreOpenPools F opens) 
 
   module _ (n m : ℕ) (o q : OpenTransaction) (here : opens n ≡ Some o) (there : opens m ≡ Some q) (apart : n ≢ m) (k : ℕ) where
     -- a word of the log of one is not masked by another
-    pub log_or_own : is_in_log (log_number_at F o.pool.number) k ≡ true → (pool_mine F (finished_of q.pool.at) k || is_open_record q.pool k) ≡ true → ⊥
+    pub log_or_own : is_in_log (log_number_at F o.pool.log_number) k ≡ true → (pool_mine F (finished_of q.pool.at) k || is_open_record q.pool k) ≡ true → ⊥
     log_or_own inside own =
         let known = (are.pool n o here).known in
         let opened = are.pool m q there in
-        let is = within_log (log_number_at F o.pool.number) k inside in
+        let is = within_log (log_number_at F o.pool.log_number) k inside in
         let low = is.low in
         let high = is.high in
         elim (or_cases (pool_mine F (finished_of q.pool.at) k) (is_open_record q.pool k) own) [
@@ -154,10 +154,10 @@ module _ (F : ℕ) (opens : Opens) (image : Image) (are : AreOpenPools F opens) 
           | inr of ↦ let h = (open_record_place F q.pool k opened.slot opened.known (open_on_device F q.pool q.before opened) of).high in absurd (omega arith)
         ]
 
-    pub two_logs : is_in_log (log_number_at F o.pool.number) k ≡ true → is_in_log (log_number_at F q.pool.number) k ≡ true → ⊥
+    pub two_logs : is_in_log (log_number_at F o.pool.log_number) k ≡ true → is_in_log (log_number_at F q.pool.log_number) k ≡ true → ⊥
     two_logs inside its =
-        let differ : o.pool.number ≡ q.pool.number → ⊥ = λ same. apart (sym (are.number n o here) ∙ same ∙ are.number m q there) in
-        let it : true ≡ false = sym its ∙ other_log_apart F q.pool.number o.pool.number k differ (within_log (log_number_at F o.pool.number) k inside) in cc
+        let differ : o.pool.log_number ≡ q.pool.log_number → ⊥ = λ same. apart (sym (are.number n o here) ∙ same ∙ are.number m q there) in
+        let it : true ≡ false = sym its ∙ other_log_apart F q.pool.log_number o.pool.log_number k differ (within_log (log_number_at F o.pool.log_number) k inside) in cc
 
     pub mine_or_record : pool_mine F (finished_of o.pool.at) k ≡ true → is_open_record q.pool k ≡ true → ⊥
     mine_or_record mine of =

@@ -10,18 +10,18 @@ abbrev pub the_one : OpenPool → Image → OpenTransaction
 the_one p before = record { pool = p; before = before }
 
 abbrev pub alone : OpenPool → Image → Opens
-alone p before = with_transaction p.number (Some (the_one p before)) none_open
+alone p before = with_transaction p.log_number (Some (the_one p before)) none_open
 
 module _ (p : OpenPool) (before : Image) where
-  alone_there : alone p before p.number ≡ Some (the_one p before)
-  alone_there = cond-true (eqb p.number p.number) (Some (the_one p before)) None (eq-eqb p.number p.number refl)
+  alone_there : alone p before p.log_number ≡ Some (the_one p before)
+  alone_there = cond-true (eqb p.log_number p.log_number) (Some (the_one p before)) None (eq-eqb p.log_number p.log_number refl)
 
-  alone_is : (n : ℕ) (o : OpenTransaction) → alone p before n ≡ Some o → (n ≡ p.number) × (the_one p before ≡ o)
-  alone_is n o is = let parts = cond_some (eqb n p.number) (the_one p before) o is in (eqb-true n p.number parts.0, parts.1)
+  alone_is : (n : ℕ) (o : OpenTransaction) → alone p before n ≡ Some o → (n ≡ p.log_number) × (the_one p before ≡ o)
+  alone_is n o is = let parts = cond_some (eqb n p.log_number) (the_one p before) o is in (eqb-true n p.log_number parts.0, parts.1)
 
   pub are_alone : (F : ℕ) → IsOpenPool F p before → AreOpenPools F (alone p before)
   are_alone F opened = record {
-    number = λ n o is. let e = alone_is n o is in ap (λ (t : OpenTransaction). t.pool.number) (sym e.1) ∙ sym e.0;
+    number = λ n o is. let e = alone_is n o is in ap (λ (t : OpenTransaction). t.pool.log_number) (sym e.1) ∙ sym e.0;
     pool = λ n o is. subst (λ (t : OpenTransaction). IsOpenPool F t.pool t.before) (alone_is n o is).1 opened;
     slots = λ n m o q is also same. (alone_is n o is).0 ∙ sym (alone_is m q also).0;
   }
@@ -29,7 +29,7 @@ module _ (p : OpenPool) (before : Image) where
   pub masks_alone : (F : ℕ) → MasksAll F (alone p before) (open_mask F p before)
   masks_alone F = record {
     has = λ n o is k v masked. ap (λ (t : OpenTransaction). open_mask F t.pool t.before k) (alone_is n o is).1 ∙ masked;
-    each = λ k v is. record { number = p.number; transaction = the_one p before; there = alone_there; is = is };
+    each = λ k v is. record { number = p.log_number; transaction = the_one p before; there = alone_there; is = is };
   }
 
   module _ (image : Image) where

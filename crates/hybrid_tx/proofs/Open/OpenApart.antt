@@ -16,7 +16,7 @@ is_in : (at k : ℕ) → IsInLog at k → is_in_log at k ≡ true
 is_in at k inside = and_from _ _ (le-leb _ _ inside.low) (lt-ltb _ _ inside.high)
 
 pub unmasked_by_another : (F : ℕ) (opens : Opens) (image : Image) → AreOpenPools F opens → HasRecords opens image → (n m : ℕ) (o q : OpenTransaction) → opens n ≡ Some o → opens m ≡ Some q → n ≢ m
-    → (k v : ℕ) → ByTransaction (pool_ground F (finished_of o.pool.at)) (log_number_at F o.pool.number) k v → open_mask F q.pool q.before k ≡ None
+    → (k v : ℕ) → ByTransaction (pool_ground F (finished_of o.pool.at)) (log_number_at F o.pool.log_number) k v → open_mask F q.pool q.before k ≡ None
 unmasked_by_another F opens image are records n m o q here there apart k v wrote =
     nothing_given (open_mask F q.pool q.before k) (λ x given. elim (mask_cases F q.pool q.before k x given) [
       | inl its ↦ elim wrote [

@@ -108,7 +108,7 @@ module _ (size : ℕ) (s : StoredWorld) (p : OpenPool) (before j : Image) (opene
   front = mask_below s.frames p before opened.slot opened.known (open_on_device s.frames p before opened)
 
   -- a masked word that is none of the log has the value with which it is masked
-  as_masked : (k : ℕ) → is_in_log (log_number_at s.frames p.number) k ≡ false → (v : ℕ) → mask k ≡ Some v → j k ≡ v
+  as_masked : (k : ℕ) → is_in_log (log_number_at s.frames p.log_number) k ≡ false → (v : ℕ) → mask k ≡ Some v → j k ≡ v
   as_masked k outside v is = elim (mask_cases s.frames p before k v is) [
     | inl inside ↦ absurd (let it : true ≡ false = sym inside ∙ outside in cc)
     | inr own ↦ elim (or_cases (pool_mine s.frames (finished_of p.at) k) (is_open_record p k) own.0) [
@@ -118,34 +118,34 @@ module _ (size : ℕ) (s : StoredWorld) (p : OpenPool) (before j : Image) (opene
   ]
 
   -- all but the words of the log are the same masked
-  same_words : (k : ℕ) → is_in_log (log_number_at s.frames p.number) k ≡ false → settled_by DAEMON_LOG masked_j k ≡ settled_by DAEMON_LOG j k
+  same_words : (k : ℕ) → is_in_log (log_number_at s.frames p.log_number) k ≡ false → settled_by DAEMON_LOG masked_j k ≡ settled_by DAEMON_LOG j k
   same_words k outside = masked_same mask front j unnamed k (as_masked k outside)
 
-  masked_is_closed : is_closed_log (settled_by DAEMON_LOG masked_j) (log_number_at s.frames p.number) ≡ true
+  masked_is_closed : is_closed_log (settled_by DAEMON_LOG masked_j) (log_number_at s.frames p.log_number) ≡ true
   masked_is_closed =
-      closed_by_gate (settled_by DAEMON_LOG masked_j) (log_number_at s.frames p.number)
-      (masked_word mask front j unnamed (log_number_at s.frames p.number) CLOSED_GATE (mask_of_gate s.frames p before))
+      closed_by_gate (settled_by DAEMON_LOG masked_j) (log_number_at s.frames p.log_number)
+      (masked_word mask front j unnamed (log_number_at s.frames p.log_number) CLOSED_GATE (mask_of_gate s.frames p before))
 
   -- As a transaction begins: an image that stands for a world with each log closed does so masked.
   pub idle_world_masked : idle_world_of size j ≡ Some s → idle_world_of size masked_j ≡ Some s
   idle_world_masked world =
       idle_world_of_standing size masked_j s
       (same_legal mask front j unnamed ∙ legal_log_of_idle_world size j s world)
-      (standing_beside_own size p.number (settled_by DAEMON_LOG j) (settled_by DAEMON_LOG masked_j) s opened.known same_words masked_is_closed (standing_of_idle_world size j s world))
+      (standing_beside_own size p.log_number (settled_by DAEMON_LOG j) (settled_by DAEMON_LOG masked_j) s opened.known same_words masked_is_closed (standing_of_idle_world size j s world))
 
-  own_is_closed : is_closed_log j (log_number_at s.frames p.number) ≡ true → is_closed_log (settled_by DAEMON_LOG j) (log_number_at s.frames p.number) ≡ true
+  own_is_closed : is_closed_log j (log_number_at s.frames p.log_number) ≡ true → is_closed_log (settled_by DAEMON_LOG j) (log_number_at s.frames p.log_number) ≡ true
   own_is_closed shut =
-      is_closed_log-same (settled_by DAEMON_LOG j) j (log_number_at s.frames p.number) (λ k inside.
-      let v = mask_of_log s.frames p before k (is_in (log_number_at s.frames p.number) k inside) in
+      is_closed_log-same (settled_by DAEMON_LOG j) j (log_number_at s.frames p.log_number) (λ k inside.
+      let v = mask_of_log s.frames p before k (is_in (log_number_at s.frames p.log_number) k inside) in
       masked_word_stays mask front j unnamed k v.0 v.1)
       ∙ shut
 
   -- As it ends, with its log closed: an image that stands for a world masked does so as it is.
-  pub idle_world_unmasked : is_closed_log j (log_number_at s.frames p.number) ≡ true → idle_world_of size masked_j ≡ Some s → idle_world_of size j ≡ Some s
+  pub idle_world_unmasked : is_closed_log j (log_number_at s.frames p.log_number) ≡ true → idle_world_of size masked_j ≡ Some s → idle_world_of size j ≡ Some s
   idle_world_unmasked shut world =
       idle_world_of_standing size j s
       (sym (same_legal mask front j unnamed) ∙ legal_log_of_idle_world size masked_j s world)
-      (standing_beside_own size p.number (settled_by DAEMON_LOG masked_j) (settled_by DAEMON_LOG j) s opened.known (λ k outside. sym (same_words k outside)) (own_is_closed shut)
+      (standing_beside_own size p.log_number (settled_by DAEMON_LOG masked_j) (settled_by DAEMON_LOG j) s opened.known (λ k outside. sym (same_words k outside)) (own_is_closed shut)
       (standing_of_idle_world size masked_j s world))
 
 -- ---- an image with the same tables
@@ -160,6 +160,6 @@ IsOpenPool-same F p before after same opened =
       slot = opened.slot;
       used = ap (λ (t : Tables). t.pools p.slot) tables ∙ opened.used;
       puddles = subst (λ (t : Tables). ArePuddlesOf t p.slot (finished_of p.at)) (sym tables) opened.puddles;
-      owned = owner_of-same after before (client_of_log p.number) (omega arith) (λ k low high. same k (omega arith) (omega arith)) ∙ opened.owned;
+      owned = owner_of-same after before (client_of_log p.log_number) (omega arith) (λ k low high. same k (omega arith) (omega arith)) ∙ opened.owned;
       right = opened.right;
     }

@@ -32,20 +32,20 @@ module _ (p : OpenPool) (k : ℕ) where
   of_pool_record : pool_record_at p.slot ≤ k → k < pool_record_at (p.slot + 1) → is_open_record p k ≡ true
   unfolding is_open_record
   of_pool_record low high =
-      or_left (is_in_pool_record p.slot k || is_in_space_record (client_of_log p.number) k) (list_any (is_in_puddle_record k) (finished_of p.at))
-      (or_left (is_in_pool_record p.slot k) (is_in_space_record (client_of_log p.number) k) (and_from (leb (pool_record_at p.slot) k) (ltb k (pool_record_at (p.slot + 1))) (le-leb _ _ low) (lt-ltb _ _ high)))
+      or_left (is_in_pool_record p.slot k || is_in_space_record (client_of_log p.log_number) k) (list_any (is_in_puddle_record k) (finished_of p.at))
+      (or_left (is_in_pool_record p.slot k) (is_in_space_record (client_of_log p.log_number) k) (and_from (leb (pool_record_at p.slot) k) (ltb k (pool_record_at (p.slot + 1))) (le-leb _ _ low) (lt-ltb _ _ high)))
 
-  of_space_record : space_record_at (client_of_log p.number) ≤ k → k < space_record_at (client_of_log p.number + 1) → is_open_record p k ≡ true
+  of_space_record : space_record_at (client_of_log p.log_number) ≤ k → k < space_record_at (client_of_log p.log_number + 1) → is_open_record p k ≡ true
   unfolding is_open_record
   of_space_record low high =
-      or_left (is_in_pool_record p.slot k || is_in_space_record (client_of_log p.number) k) (list_any (is_in_puddle_record k) (finished_of p.at))
-      (or_right (is_in_pool_record p.slot k) (is_in_space_record (client_of_log p.number) k)
-      (and_from (leb (space_record_at (client_of_log p.number)) k) (ltb k (space_record_at (client_of_log p.number + 1))) (le-leb _ _ low) (lt-ltb _ _ high)))
+      or_left (is_in_pool_record p.slot k || is_in_space_record (client_of_log p.log_number) k) (list_any (is_in_puddle_record k) (finished_of p.at))
+      (or_right (is_in_pool_record p.slot k) (is_in_space_record (client_of_log p.log_number) k)
+      (and_from (leb (space_record_at (client_of_log p.log_number)) k) (ltb k (space_record_at (client_of_log p.log_number + 1))) (le-leb _ _ low) (lt-ltb _ _ high)))
 
   of_puddle_record : (o : ℕ) (e : ℕ × Puddle) → slice_get (finished_of p.at) o ≡ Some e → puddle_record_at e.0 ≤ k → k < puddle_record_at (e.0 + 1) → is_open_record p k ≡ true
   unfolding is_open_record
   of_puddle_record o e there low high =
-      or_right (is_in_pool_record p.slot k || is_in_space_record (client_of_log p.number) k) (list_any (is_in_puddle_record k) (finished_of p.at))
+      or_right (is_in_pool_record p.slot k || is_in_space_record (client_of_log p.log_number) k) (list_any (is_in_puddle_record k) (finished_of p.at))
       (element_passes (is_in_puddle_record k) (finished_of p.at) o e there (and_from (leb (puddle_record_at e.0) k) (ltb k (puddle_record_at (e.0 + 1))) (le-leb _ _ low) (lt-ltb _ _ high)))
 
 -- ---- what the records say
@@ -73,9 +73,9 @@ module _ (F : ℕ) (p : OpenPool) (before image : Image) (opened : IsOpenPool F 
     right = opened.right;
   }
 
-  pub open_owned : owner_of image (client_of_log p.number) ≡ Some p.who
+  pub open_owned : owner_of image (client_of_log p.log_number) ≡ Some p.who
   open_owned =
-      let at = space_record_at (client_of_log p.number) in
+      let at = space_record_at (client_of_log p.log_number) in
       let e0 = records at (of_space_record p at (omega arith) (omega arith)) in
       let e1 = records (at + 1) (of_space_record p (at + 1) (omega arith) (omega arith)) in
       let e2 = records (at + 2) (of_space_record p (at + 2) (omega arith) (omega arith)) in
@@ -94,18 +94,18 @@ module _ (F : ℕ) (p : OpenPool) (before image : Image) (opened : IsOpenPool F 
         subst (λ (n : ℕ). HasPlaces (pool_ground n (finished_of p.at)) (puddle_word (tables_of F image))) (frames_of_tables F image)
         (places_of_puddles next (tables_of F image) sound p.slot (finished_of p.at) open_puddles)
 
-    open_ground : IsGround (device_words F) (log_number_at F p.number) (pool_ground F (finished_of p.at))
-    open_ground = let few = opened.known in is_ground F (device_words F) (log_number_at F p.number) (finished_of p.at) open_placed (omega arith) (omega arith)
+    open_ground : IsGround (device_words F) (log_number_at F p.log_number) (pool_ground F (finished_of p.at))
+    open_ground = let few = opened.known in is_ground F (device_words F) (log_number_at F p.log_number) (finished_of p.at) open_placed (omega arith) (omega arith)
 
     -- where it settles to the values from the beginning, its log is allowed and gives them
-    pub gives_own : SettlesTo (pool_ground F (finished_of p.at)) (log_number_at F p.number) before image → GivesOwn F p before image
+    pub gives_own : SettlesTo (pool_ground F (finished_of p.at)) (log_number_at F p.log_number) before image → GivesOwn F p before image
     gives_own s =
-        let log = log_of image (log_number_at F p.number) in
+        let log = log_of image (log_number_at F p.log_number) in
         let same = λ (w : ℕ). new_value_placed (pool_ground F (finished_of p.at)) (puddle_word (tables_of F image)) log open_places s.es w s.spells s.own in
         record {
           owned = open_owned;
           allowed = own_log_allowed next (tables_of F image) sound p.slot (finished_of p.at) open_puddles p.who open_writable F log s.es s.spells s.own;
-          own = λ w v is. new_value_own (device_words F) (log_number_at F p.number) (pool_ground F (finished_of p.at)) log open_ground w v s.es s.spells s.own (sym (same w) ∙ is);
+          own = λ w v is. new_value_own (device_words F) (log_number_at F p.log_number) (pool_ground F (finished_of p.at)) log open_ground w v s.es s.spells s.own (sym (same w) ∙ is);
           settled = λ w mine. ap (λ (o : Option ℕ). unwrap_or o (image w)) (same w) ∙ s.settled w mine;
         }
 

@@ -41,10 +41,10 @@ pub record AreApart (F : ℕ) (opens : Opens) : Type 0 where
 
 -- In this image the transaction's log is allowed; what it gives it gives to own words, which then are as they were at the beginning.
 pub record GivesOwn (F : ℕ) (p : OpenPool) (before d : Image) : Type 0 where
-  pub owned : owner_of d (client_of_log p.number) ≡ Some p.who
-  pub allowed : is_allowed_log (tables_of F d) p.who (log_of d (log_number_at F p.number)) ≡ true
-  pub own : (k v : ℕ) → new_value (puddle_word (tables_of F d)) (log_of d (log_number_at F p.number)) k ≡ Some v → pool_mine F (finished_of p.at) k ≡ true
-  pub settled : (k : ℕ) → pool_mine F (finished_of p.at) k ≡ true → replayed (puddle_word (tables_of F d)) (log_of d (log_number_at F p.number)) d k ≡ before k
+  pub owned : owner_of d (client_of_log p.log_number) ≡ Some p.who
+  pub allowed : is_allowed_log (tables_of F d) p.who (log_of d (log_number_at F p.log_number)) ≡ true
+  pub own : (k v : ℕ) → new_value (puddle_word (tables_of F d)) (log_of d (log_number_at F p.log_number)) k ≡ Some v → pool_mine F (finished_of p.at) k ≡ true
+  pub settled : (k : ℕ) → pool_mine F (finished_of p.at) k ≡ true → replayed (puddle_word (tables_of F d)) (log_of d (log_number_at F p.log_number)) d k ≡ before k
 
 log_place : (F number : ℕ) → log_number_at F number ≡ tables_end F + LOG_WORDS * number
 log_place F number = omega arith
@@ -151,19 +151,19 @@ module _ (F : ℕ) (opens : Opens) (d m : Image) (are : AreOpenPools F opens) (l
     other_refused = λ q. is_refused (same_tables q) (same_owner (client_of_log other) (omega arith) q) (other_log q)
 
   module _ (gives : (n : ℕ) (o : OpenTransaction) → opens n ≡ Some o → GivesOwn F o.pool o.before d) where
-    own_gives : (n : ℕ) (o : OpenTransaction) → opens n ≡ Some o → (w : ℕ) → given_by_log F d n w ≡ new_value (puddle_word (tables_of F d)) (log_of d (log_number_at F o.pool.number)) w
+    own_gives : (n : ℕ) (o : OpenTransaction) → opens n ≡ Some o → (w : ℕ) → given_by_log F d n w ≡ new_value (puddle_word (tables_of F d)) (log_of d (log_number_at F o.pool.log_number)) w
     own_gives n o there w =
         let g = gives n o there in
         ap (λ (x : ℕ). given_by_log F d x w) (sym (are.number n o there))
-        ∙ gives_to-accepted (tables_of F d) (owner_of d (client_of_log o.pool.number)) (log_of d (log_number_at F o.pool.number)) w
-        (ap (λ x. is_accepted (tables_of F d) x (log_of d (log_number_at F o.pool.number))) g.owned ∙ g.allowed)
+        ∙ gives_to-accepted (tables_of F d) (owner_of d (client_of_log o.pool.log_number)) (log_of d (log_number_at F o.pool.log_number)) w
+        (ap (λ x. is_accepted (tables_of F d) x (log_of d (log_number_at F o.pool.log_number))) g.owned ∙ g.allowed)
 
     -- a word that is none of its frames gets nothing from a log
     gives_none : are_closed_logs m F ≡ true → (w n : ℕ) → n < ALL_LOGS → IsNotOf F opens w n → (o : Option OpenTransaction) → opens n ≡ o → given_by_log F d n w ≡ None
     gives_none closed w n few others None e = other_gives n few e w ∙ given_by_log-closed F m n w closed few
     gives_none closed w n few others (Some o) e =
         own_gives n o e w
-        ∙ nothing_given (new_value (puddle_word (tables_of F d)) (log_of d (log_number_at F o.pool.number)) w)
+        ∙ nothing_given (new_value (puddle_word (tables_of F d)) (log_of d (log_number_at F o.pool.log_number)) w)
         (λ v is. let it : true ≡ false = sym ((gives n o e).own w v is) ∙ others o e in cc)
 
     module _ (apart : AreApart F opens) (closed : are_closed_logs m F ≡ true) where
@@ -198,7 +198,7 @@ module _ (F : ℕ) (opens : Opens) (d m : Image) (are : AreOpenPools F opens) (l
       refused_by number few (Some o) e =
           let g = gives number o e in
           ap (λ (n : ℕ). is_refused_log F d n) (sym (are.number number o e))
-          ∙ ap (λ x. is_refused (tables_of F d) x (log_of d (log_number_at F o.pool.number))) g.owned
+          ∙ ap (λ x. is_refused (tables_of F d) x (log_of d (log_number_at F o.pool.log_number))) g.owned
           ∙ ap not g.allowed
 
       -- and no log is refused, where none of the masked image is

@@ -50,7 +50,7 @@ pub record MasksAll (F : ℕ) (opens : Opens) (mask : Write) : Type 0 where
 
 -- By the image of its beginning each is open on a pool of the device, with the log of its number; no two are on one pool.
 pub record AreOpenPools (F : ℕ) (opens : Opens) : Type 0 where
-  pub number : (n : ℕ) (o : OpenTransaction) → opens n ≡ Some o → o.pool.number ≡ n
+  pub number : (n : ℕ) (o : OpenTransaction) → opens n ≡ Some o → o.pool.log_number ≡ n
   pub pool : (n : ℕ) (o : OpenTransaction) → opens n ≡ Some o → IsOpenPool F o.pool o.before
   pub slots : (n m : ℕ) (o q : OpenTransaction) → opens n ≡ Some o → opens m ≡ Some q → o.pool.slot ≡ q.pool.slot → n ≡ m
 

@@ -25,22 +25,22 @@ change-requires-clause-known g c =
 pub returns-after-judged-own-clause-reply : goal.returns-after-judged-own-clause-reply
 returns-after-judged-own-clause-reply g c = λ t size e w sessions client name ready own.
     let mine = c.in-Some.opened in
-    let there = read_there c.args.all.now c.args.own.number _ c.index-all-own.result mine (search rules) refl c.in-Some.is in
+    let there = read_there c.args.all.now c.args.own.log_number _ c.index-all-own.result mine (search rules) refl c.in-Some.is in
     let read = ap (λ (ps : List (Option Known)). pool_in ps c.args.own.slot) (sym c.judged.view_is) ∙ known_there c.judged.inside.pools c.args.own.slot _ c.index-judged-own.result (search rules) refl in
     elim c.match-judged-own.branch [
       | in-Some-pools b ↦
           let known = read ∙ b.in-Some-pools.is in
           rw b.result-is (subst (λ (x : Command). IfOk b.change.result (λ reply. of_reply reply ≡ answer_by w (Some x)))
-          (asked size w c.args.frames c.args.all.now sessions c.args.judged.now _ ready client name c.args.own.slot c.args.own.number own mine there b.in-Some-pools.pool known c.args.change)
-          (b.change.ensures.reply t size e w _ (held_in size w c.args.frames c.args.all.now sessions c.args.judged.now _ ready client name c.args.own.slot c.args.own.number own mine there b.in-Some-pools.pool known) ready))
-      | in-None-pools b ↦ absurd (is_known size w c.args.frames c.args.all.now sessions c.args.judged.now _ ready client name c.args.own.slot c.args.own.number own (read ∙ b.in-None-pools.is))
+          (asked size w c.args.frames c.args.all.now sessions c.args.judged.now _ ready client name c.args.own.slot c.args.own.log_number own mine there b.in-Some-pools.pool known c.args.change)
+          (b.change.ensures.reply t size e w _ (held_in size w c.args.frames c.args.all.now sessions c.args.judged.now _ ready client name c.args.own.slot c.args.own.log_number own mine there b.in-Some-pools.pool known) ready))
+      | in-None-pools b ↦ absurd (is_known size w c.args.frames c.args.all.now sessions c.args.judged.now _ ready client name c.args.own.slot c.args.own.log_number own (read ∙ b.in-None-pools.is))
     ]
 
 pub returns-after-judged-own-clause-applies : goal.returns-after-judged-own-clause-applies
 returns-after-judged-own-clause-applies g c = λ t size e w sessions client name ready own.
     let mine = c.in-Some.opened in
     let s = g.H.Host.state c.args.h.now in
-    let there = read_there c.args.all.now c.args.own.number _ c.index-all-own.result mine (search rules) refl c.in-Some.is in
+    let there = read_there c.args.all.now c.args.own.log_number _ c.index-all-own.result mine (search rules) refl c.in-Some.is in
     let pools = c.judged.inside.pools in
     let read = known_there pools c.args.own.slot _ c.index-judged-own.result (search rules) refl in
     let then = subst (λ (ps : List (Option Known)). IsReady size w (record { frames = c.args.frames; held = c.args.all.now; sessions = sessions; judged = ps }) s) (sym c.judged.view_is) ready in
@@ -48,10 +48,10 @@ returns-after-judged-own-clause-applies g c = λ t size e w sessions client name
       | in-Some-pools b ↦
           let known = read ∙ b.in-Some-pools.is in
           rw (b.result-is, b.all-is, b.judged-inside-is, b.h-is)
-          (Applies-changed size w c.args.frames c.args.all.now sessions pools s then client name c.args.own.slot c.args.own.number own mine there b.in-Some-pools.pool known c.args.change
+          (Applies-changed size w c.args.frames c.args.all.now sessions pools s then client name c.args.own.slot c.args.own.log_number own mine there b.in-Some-pools.pool known c.args.change
           b.change.new.self b.change.new.pool (fault_of b.change.result) _
-          (b.change.ensures.applies t size e w _ (held_in size w c.args.frames c.args.all.now sessions pools s then client name c.args.own.slot c.args.own.number own mine there b.in-Some-pools.pool known) then))
-      | in-None-pools b ↦ absurd (is_known size w c.args.frames c.args.all.now sessions pools s then client name c.args.own.slot c.args.own.number own (read ∙ b.in-None-pools.is))
+          (b.change.ensures.applies t size e w _ (held_in size w c.args.frames c.args.all.now sessions pools s then client name c.args.own.slot c.args.own.log_number own mine there b.in-Some-pools.pool known) then))
+      | in-None-pools b ↦ absurd (is_known size w c.args.frames c.args.all.now sessions pools s then client name c.args.own.slot c.args.own.log_number own (read ∙ b.in-None-pools.is))
     ]
 
 pub returns-after-judged-own-clause-within : goal.returns-after-judged-own-clause-within

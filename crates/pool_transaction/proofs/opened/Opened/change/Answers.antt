@@ -38,12 +38,12 @@ returns-in-New-clause-applies g c = λ t size e w memory its ready.
     let alone = subst (λ (ps : List (ℕ × Puddle)). IsHeldIn c.args.frames held ps behind) (sym puddles) (held_alone c.args.frames held known memory its) in
     let made = c.new_object.ensures.applies t size e w behind alone (ready_alone c.args.frames held known memory its size w old ready) in
     let on = subst (λ (ps : List (ℕ × Puddle)). AppliesFinishing held.slot (FinishesUnless (refusal_of w line) (FinishesTaken c.args.frames ps (reads old.now.words))) size w (world_by w (Some line))
-    (with_opened held.number held.slot now later behind) (fault_of c.new_object.result) old new) puddles made in
+    (with_opened held.log_number held.slot now later behind) (fault_of c.new_object.result) old new) puddles made in
     let asked = line_of c.args.change held.client held.name in
     let by_change = subst (λ (change : Change). AppliesFinishing held.slot (FinishesUnless (refusal_of w (line_of change held.client held.name)) (Finishes c.args.frames known.at (reads old.now.words) change)) size w
-    (world_by w (Some (line_of change held.client held.name))) (with_opened held.number held.slot now later behind) (fault_of c.new_object.result) old new) (sym c.in-New.is) on in
+    (world_by w (Some (line_of change held.client held.name))) (with_opened held.log_number held.slot now later behind) (fault_of c.new_object.result) old new) (sym c.in-New.is) on in
     subst (λ (m : Memory). AppliesFinishing held.slot (FinishesUnless (refusal_of w asked) (Finishes c.args.frames known.at (reads old.now.words) c.args.change)) size w (world_by w (Some asked)) m (fault_of c.new_object.result) old new)
-    (opened_alone held.number held.slot now known.at later memory ∙ ap (λ (k : Known). with_known held.number held.slot now k memory) (sym (ap (with_puddles later) view))) by_change
+    (opened_alone held.log_number held.slot now known.at later memory ∙ ap (λ (k : Known). with_known held.log_number held.slot now k memory) (sym (ap (with_puddles later) view))) by_change
 
 pub returns-in-Update-clause-reply : goal.returns-in-Update-clause-reply
 returns-in-Update-clause-reply g c = λ t size e w memory its ready.
@@ -54,6 +54,6 @@ pub returns-in-Update-clause-applies : goal.returns-in-Update-clause-applies
 returns-in-Update-clause-applies g c = λ t size e w memory its ready.
     let held = c.args.self.now in
     subst (λ (change : Change). AppliesFinishing held.slot (FinishesUnless (refusal_of w (line_of change held.client held.name)) (Finishes c.args.frames c.args.pool.now.at (reads (g.H.Host.state c.args.h.now).now.words) change)) size w
-    (world_by w (Some (line_of change held.client held.name))) (with_known held.number held.slot c.update_or_refuse.new.self c.update_or_refuse.new.pool memory)
+    (world_by w (Some (line_of change held.client held.name))) (with_known held.log_number held.slot c.update_or_refuse.new.self c.update_or_refuse.new.pool memory)
     (fault_of c.update_or_refuse.result) (g.H.Host.state c.args.h.now) (g.H.Host.state c.update_or_refuse.new.h)) (sym c.in-Update.is)
     (c.update_or_refuse.ensures.applies t size e w memory its ready)

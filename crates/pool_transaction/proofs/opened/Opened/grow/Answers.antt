@@ -13,8 +13,8 @@ returns-in_err-grow_pool-clause-grows g c =
     let p = err_from_is_err_and c.from_residual.result c.from_residual.ensures.1 in
     rw (p.1, p.2) (λ t size e w memory its ready by.
     let held = c.args.self.now in
-    grows_failed size w memory held (g.H.Host.state c.args.h.now) held.number its.there ready c.args.added c.args.frames (sym its.frames ∙ ready.frames) c.args.pool.now its.known by
-    (with_opened held.number held.slot held c.args.pool.now memory) c.in_err-grow_pool.field-0.0 (g.H.Host.state c.grow_pool.new.h)
+    grows_failed size w memory held (g.H.Host.state c.args.h.now) held.log_number its.there ready c.args.added c.args.frames (sym its.frames ∙ ready.frames) c.args.pool.now its.known by
+    (with_opened held.log_number held.slot held c.args.pool.now memory) c.in_err-grow_pool.field-0.0 (g.H.Host.state c.grow_pool.new.h)
     (λ idle. c.in_err-grow_pool.ensures.commits t idle)
     (λ mask at. c.in_err-grow_pool.ensures.grows t size e w.stored _ mask at))
 
@@ -23,8 +23,8 @@ returns-in_err-pool-clause-grows g c =
     let p = err_from_is_err_and c.from_residual-in_err-pool.result c.from_residual-in_err-pool.ensures.1 in
     rw (p.1, p.2) (λ t size e w memory its ready by.
     let held = c.args.self.now in
-    grows_unread size w memory held (g.H.Host.state c.args.h.now) held.number its.there ready c.args.added c.args.frames (sym its.frames ∙ ready.frames) c.args.pool.now its.known by
-    (with_opened held.number held.slot held c.args.pool.now memory) c.in_err-pool.field-0.0 (g.H.Host.state c.grow_pool.new.h) (g.H.Host.state c.find_puddles.new.h)
+    grows_unread size w memory held (g.H.Host.state c.args.h.now) held.log_number its.there ready c.args.added c.args.frames (sym its.frames ∙ ready.frames) c.args.pool.now its.known by
+    (with_opened held.log_number held.slot held c.args.pool.now memory) c.in_err-pool.field-0.0 (g.H.Host.state c.grow_pool.new.h) (g.H.Host.state c.find_puddles.new.h)
     (λ idle. c.in_ok-grow_pool.ensures.commits t idle)
     (λ mask at. c.in_ok-grow_pool.ensures.grows t size e w.stored _ mask at)
     (c.in_err-pool.ensures.only_reads.stays t) c.in_err-pool.ensures.only_reads.never_cut)
@@ -32,7 +32,7 @@ returns-in_err-pool-clause-grows g c =
 pub returns-clause-grows : goal.returns-clause-grows
 returns-clause-grows g c = λ t size e w memory its ready by.
     let held = c.args.self.now in
-    grows_done size w memory held (g.H.Host.state c.args.h.now) held.number its.there ready c.args.added c.args.frames (sym its.frames ∙ ready.frames) c.args.pool.now its.known by
+    grows_done size w memory held (g.H.Host.state c.args.h.now) held.log_number its.there ready c.args.added c.args.frames (sym its.frames ∙ ready.frames) c.args.pool.now its.known by
     c.in_ok-pool.field-0 (g.H.Host.state c.grow_pool.new.h) (g.H.Host.state c.find_puddles.new.h)
     (λ idle. c.in_ok-grow_pool.ensures.commits t idle)
     (λ mask at. c.in_ok-grow_pool.ensures.grows t size e w.stored _ mask at)
@@ -42,7 +42,7 @@ returns-clause-grows g c = λ t size e w memory its ready by.
 pub returns-clause-longer : goal.returns-clause-longer
 returns-clause-longer g c = λ t size e w memory its ready by.
     let held = c.args.self.now in
-    grows_longer size w memory held (g.H.Host.state c.args.h.now) held.number its.there ready c.args.added c.args.frames (sym its.frames ∙ ready.frames) c.args.pool.now its.known by
+    grows_longer size w memory held (g.H.Host.state c.args.h.now) held.log_number its.there ready c.args.added c.args.frames (sym its.frames ∙ ready.frames) c.args.pool.now its.known by
     c.in_ok-pool.field-0 (g.H.Host.state c.grow_pool.new.h) (g.H.Host.state c.find_puddles.new.h)
     (λ idle. c.in_ok-grow_pool.ensures.commits t idle)
     (λ mask at. c.in_ok-grow_pool.ensures.grows t size e w.stored _ mask at)

@@ -49,8 +49,8 @@ returns-in-Err-Full-clause-makes g c = λ t size w memory its ready none less.
     let held = c.args.self.now in
     let old = g.H.Host.state c.args.h.now in
     let same = sym its.frames ∙ ready.frames in
-    absurd {A = AppliesFinishing held.slot (FinishesLowest c.args.frames c.args.pool.now (reads old.now.words)) size w (with_made held.name c.args.t w) (with_opened held.number held.slot held c.args.pool.now memory) None old (g.H.Host.state c.alloc_slot.new.h)}
-    (not_live size w memory held old held.number its.there ready c.args.frames c.args.pool.now same (its_puddles size w memory held old held.number its.there ready c.args.frames same c.args.pool.now its.known) less
+    absurd {A = AppliesFinishing held.slot (FinishesLowest c.args.frames c.args.pool.now (reads old.now.words)) size w (with_made held.name c.args.t w) (with_opened held.log_number held.slot held c.args.pool.now memory) None old (g.H.Host.state c.alloc_slot.new.h)}
+    (not_live size w memory held old held.log_number its.there ready c.args.frames c.args.pool.now same (its_puddles size w memory held old held.log_number its.there ready c.args.frames same c.args.pool.now its.known) less
     (all_live_there c.args.frames c.args.pool.now c.as_slice.result.now (reads (g.H.Host.state c.args.h.now).now.words) c.in-Err-Full.field-0 c.as_slice.ensures.puddles c.in-Err-Full.field-0-is (c.in-Err-Full.ensures.full t _ refl)))
 
 pub returns-in-Err-Full-clause-serial : goal.returns-in-Err-Full-clause-serial
@@ -58,7 +58,7 @@ returns-in-Err-Full-clause-serial g c = λ t size w memory its ready less.
     let held = c.args.self.now in
     let old = g.H.Host.state c.args.h.now in
     let same = sym its.frames ∙ ready.frames in
-    absurd (not_live size w memory held old held.number its.there ready c.args.frames c.args.pool.now same (its_puddles size w memory held old held.number its.there ready c.args.frames same c.args.pool.now its.known) less
+    absurd (not_live size w memory held old held.log_number its.there ready c.args.frames c.args.pool.now same (its_puddles size w memory held old held.log_number its.there ready c.args.frames same c.args.pool.now its.known) less
     (all_live_there c.args.frames c.args.pool.now c.as_slice.result.now (reads (g.H.Host.state c.args.h.now).now.words) c.in-Err-Full.field-0 c.as_slice.ensures.puddles c.in-Err-Full.field-0-is (c.in-Err-Full.ensures.full t _ refl)))
 
 pub returns-in-Err-Full-clause-lowest : goal.returns-in-Err-Full-clause-lowest
@@ -72,7 +72,7 @@ returns-in-Err-Host-clause-makes g c = λ t size w memory its ready none less.
     let read = rw c.in-Err-Host.field-0-is at c.in-Err-Host.ensures.only_reads in
     let held = c.args.self.now in
     finishing_failed held.slot (FinishesLowest c.args.frames c.args.pool.now (reads (g.H.Host.state c.args.h.now).now.words)) size w _ _ _ _ _ read.never_cut
-    (Applies-stopped size w (with_made held.name c.args.t w) memory (with_opened held.number held.slot held c.args.pool.now memory) c.in-Err-Host.fault (g.H.Host.state c.args.h.now) (g.H.Host.state c.alloc_slot.new.h) ready
+    (Applies-stopped size w (with_made held.name c.args.t w) memory (with_opened held.log_number held.slot held c.args.pool.now memory) c.in-Err-Host.fault (g.H.Host.state c.args.h.now) (g.H.Host.state c.alloc_slot.new.h) ready
     (read.stays t) (λ cut. absurd (read.never_cut cut)))
 
 pub returns-in-Err-Host-clause-lowest : goal.returns-in-Err-Host-clause-lowest
@@ -104,19 +104,19 @@ returns-in_err-finish_both-clause-makes g c =
     let found = subst (λ (ds : List (ℕ × Puddle)). IsLowestFreeSlot (stored_in c.args.frames ds image) (place_of_slot c.in-Ok.at)) c.as_slice.ensures.puddles (c.in-Ok.ensures.free t image refl) in
     let within = subst (λ (ds : List (ℕ × Puddle)). IsSlotOf ds c.in-Ok.at) c.as_slice.ensures.puddles c.in-Ok.ensures.within in
     finishing_led held.slot (FinishesLowest c.args.frames at image) (end_of_both o) (finishes_lowest c.args.frames at image c.in-Ok.at within found) size w _ _ _ _ _
-    (subst (λ (s : State). AppliesTo (led_in held.slot (end_of_both o)) size w (with_made held.name c.args.t w) (with_opened held.number held.slot held c.finish_both.new.pool memory) (Some c.in_err-finish_both.field-0.0) s mid) still
-    (Applies-unfinished size w memory held start held.number its.there then c.args.frames same at its.known (frontiers_of (both_finished o at)) c.finish_both.new.pool
-    (both_finished o at) (end_of_both o) (ends_both at o (its_frontiers size w memory held start held.number its.there then c.args.frames same at its.known))
-    c.in_err-finish_both.field-0.0 mid (c.in_err-finish_both.ensures.rewrites t) (with_made held.name c.args.t w) (with_opened held.number held.slot held c.finish_both.new.pool memory) refl)))
+    (subst (λ (s : State). AppliesTo (led_in held.slot (end_of_both o)) size w (with_made held.name c.args.t w) (with_opened held.log_number held.slot held c.finish_both.new.pool memory) (Some c.in_err-finish_both.field-0.0) s mid) still
+    (Applies-unfinished size w memory held start held.log_number its.there then c.args.frames same at its.known (frontiers_of (both_finished o at)) c.finish_both.new.pool
+    (both_finished o at) (end_of_both o) (ends_both at o (its_frontiers size w memory held start held.log_number its.there then c.args.frames same at its.known))
+    c.in_err-finish_both.field-0.0 mid (c.in_err-finish_both.ensures.rewrites t) (with_made held.name c.args.t w) (with_opened held.log_number held.slot held c.finish_both.new.pool memory) refl)))
 
 pub returns-in_err-finish_both-clause-full : goal.returns-in_err-finish_both-clause-full
 returns-in_err-finish_both-clause-full g c = λ t size w memory its ready more.
     let held = c.args.self.now in
     let old = g.H.Host.state c.args.h.now in
     let same = sym its.frames ∙ ready.frames in
-    let listed = its_puddles size w memory held old held.number its.there ready c.args.frames same c.args.pool.now its.known in
+    let listed = its_puddles size w memory held old held.log_number its.there ready c.args.frames same c.args.pool.now its.known in
     absurd (lowest_is_free (stored_in c.args.frames c.as_slice.result.now (reads old.now.words)) (place_of_slot c.in-Ok.at) (c.in-Ok.ensures.free t (reads old.now.words) refl)
-    (all_live size w memory held old held.number its.there ready c.args.frames c.as_slice.result.now same (c.as_slice.ensures.puddles ∙ listed) more))
+    (all_live size w memory held old held.log_number its.there ready c.args.frames c.as_slice.result.now same (c.as_slice.ensures.puddles ∙ listed) more))
 
 pub returns-in_err-finish_both-clause-lowest : goal.returns-in_err-finish_both-clause-lowest
 returns-in_err-finish_both-clause-lowest g c =
@@ -138,7 +138,7 @@ returns-in_err-finish_both-clause-lowest g c =
     let found = subst (λ (ds : List (ℕ × Puddle)). IsLowestFreeSlot (stored_in F ds image) (place_of_slot made)) c.as_slice.ensures.puddles (c.in-Ok.ensures.free t image refl) in
     let within = subst (λ (ds : List (ℕ × Puddle)). IsSlotOf ds made) c.as_slice.ensures.puddles c.in-Ok.ensures.within in
     let it = one_slot at made slot within of (one_lowest (stored_in F at image) (place_of_slot made) (place_of_slot slot) found lowest) in
-    let finishes = c.in_err-finish_both.ensures.rewrites t (ready_gate size w memory start then) (low_of_placed F at (its_placed size w memory held start held.number its.there then F same at its.known)) in
+    let finishes = c.in_err-finish_both.ensures.rewrites t (ready_gate size w memory start then) (low_of_placed F at (its_placed size w memory held start held.log_number its.there then F same at its.known)) in
     subst (λ (s : Slot). MakesBehind F at later held.tx.log.at s c.args.t (Some fault) old mid) it
     (subst (λ (s : State). MakesBehind F at later held.tx.log.at made c.args.t (Some fault) s mid) still
     (record { mid = mid; first = Some fault; finishes = finishes; makes = inl (refl, (λ no. none-some fault (sym no), refl)) })))
@@ -155,7 +155,7 @@ new_at-made-requires-clause-within g c =
 pub returns-clause-makes : goal.returns-clause-makes
 returns-clause-makes g c = λ t size w memory its ready none less.
     let i = c.self.inside in
-    let held : Held = record { client = i.client; name = i.name; slot = i.slot; number = i.number; tx = i.tx } in
+    let held : Held = record { client = i.client; name = i.name; slot = i.slot; log_number = i.log_number; tx = i.tx } in
     let F = c.args.frames in
     let at = c.args.pool.now in
     let later = c.finish_both.new.pool in
@@ -175,21 +175,21 @@ returns-clause-makes g c = λ t size w memory its ready none less.
     let found = subst (λ (ds : List (ℕ × Puddle)). IsLowestFreeSlot (stored_in F ds image) (place_of_slot c.in-Ok.at)) c.as_slice.ensures.puddles (c.in-Ok.ensures.free t image refl) in
     let within = subst (λ (ds : List (ℕ × Puddle)). IsSlotOf ds c.in-Ok.at) c.as_slice.ensures.puddles c.in-Ok.ensures.within in
     finishing_led c.args.self.now.slot (FinishesLowest F at image) (end_of_both o) (finishes_lowest F at image c.in-Ok.at within found) size w _ _ _ _ _
-    (subst (λ (s : State). AppliesTo (led_in c.args.self.now.slot (end_of_both o)) size w (with_made c.args.self.now.name c.args.t w) (with_opened c.args.self.now.number c.args.self.now.slot (with_tx c.new_at-made.new.self held) later memory) fault s new) still
+    (subst (λ (s : State). AppliesTo (led_in c.args.self.now.slot (end_of_both o)) size w (with_made c.args.self.now.name c.args.t w) (with_opened c.args.self.now.log_number c.args.self.now.slot (with_tx c.new_at-made.new.self held) later memory) fault s new) still
     (subst (λ (o : Held).
-    held_under memory.held o.number ≡ Some o → KnowsAlone memory.judged o.slot at → refusal_by_world w o c.args.t ≡ None
-    → AppliesTo (led_in o.slot (end_of_both c.in-Ok.at.ordinal)) size w (with_made o.name c.args.t w) (with_opened o.number o.slot (with_tx c.new_at-made.new.self held) later memory) fault start new)
+    held_under memory.held o.log_number ≡ Some o → KnowsAlone memory.judged o.slot at → refusal_by_world w o c.args.t ≡ None
+    → AppliesTo (led_in o.slot (end_of_both c.in-Ok.at.ordinal)) size w (with_made o.name c.args.t w) (with_opened o.log_number o.slot (with_tx c.new_at-made.new.self held) later memory) fault start new)
     c.self.view_is
     (λ there known none.
-    let behind = memory_finished size w memory held start held.number there then F same at known goal later in
-    let ready_then = ready_finished size w memory held start held.number there then F same at known goal later mid owes in
-    let known_then = known_finished size w memory held start held.number there then F same at known goal later mid owes in
+    let behind = memory_finished size w memory held start held.log_number there then F same at known goal later in
+    let ready_then = ready_finished size w memory held start held.log_number there then F same at known goal later mid owes in
+    let known_then = known_finished size w memory held start held.log_number there then F same at known goal later mid owes in
     let may = subst (λ (ds : List (ℕ × Puddle)). MayMakeAt F ds (reads mid.now.words) c.in-Ok.at) (sym c.as_slice-2.ensures.puddles)
-    (may_make_at size w memory held start held.number there then F same at known goal later mid owes c.in-Ok.at c.in_ok-finish_both.ensures.pool lowest) in
-    Applies-behind size w memory held start held.number there then F same at known goal later (both_finished c.in-Ok.at.ordinal at) (end_of_both c.in-Ok.at.ordinal)
-    (ends_both at c.in-Ok.at.ordinal (its_frontiers size w memory held start held.number there then F same at known)) mid owes (with_made held.name c.args.t w) (with_opened held.number held.slot (with_tx c.new_at-made.new.self held) later memory) fault new refl
+    (may_make_at size w memory held start held.log_number there then F same at known goal later mid owes c.in-Ok.at c.in_ok-finish_both.ensures.pool lowest) in
+    Applies-behind size w memory held start held.log_number there then F same at known goal later (both_finished c.in-Ok.at.ordinal at) (end_of_both c.in-Ok.at.ordinal)
+    (ends_both at c.in-Ok.at.ordinal (its_frontiers size w memory held start held.log_number there then F same at known)) mid owes (with_made held.name c.args.t w) (with_opened held.log_number held.slot (with_tx c.new_at-made.new.self held) later memory) fault new refl
     (ap puddles_known known_then ∙ ap (λ (ds : List (ℕ × Puddle)). Some ds) c.in_ok-finish_both.ensures.pool)
-    (Applies-made size w behind held mid held.number there ready_then F c.as_slice-2.result.now same (c.as_slice-2.ensures.puddles ∙ its_puddles size w behind held mid held.number there ready_then F same later known_then)
+    (Applies-made size w behind held mid held.log_number there ready_then F c.as_slice-2.result.now same (c.as_slice-2.ensures.puddles ∙ its_puddles size w behind held mid held.log_number there ready_then F same later known_then)
     c.args.t none c.new_at-made.new.self new c.new_at-made.ensures.at (subst (KnowsAlone behind.judged held.slot) (sym c.as_slice-2.ensures.puddles) known_then) c.new_at-made.result
     (λ m defined left placed running. c.new_at-made.ensures.runs t _ m _ _ _ _ placed running defined left may.first may.its may.free)
     c.new_at-made.ensures.counts))
@@ -198,7 +198,7 @@ returns-clause-makes g c = λ t size w memory its ready none less.
 pub returns-clause-serial : goal.returns-clause-serial
 returns-clause-serial g c = λ t size w memory its ready less.
     let i = c.self.inside in
-    let held : Held = record { client = i.client; name = i.name; slot = i.slot; number = i.number; tx = i.tx } in
+    let held : Held = record { client = i.client; name = i.name; slot = i.slot; log_number = i.log_number; tx = i.tx } in
     let F = c.args.frames in
     let at = c.args.pool.now in
     let later = c.finish_both.new.pool in
@@ -209,13 +209,13 @@ returns-clause-serial g c = λ t size w memory its ready less.
     let goal = frontiers_of (both_finished c.in-Ok.at.ordinal at) in
     let owes = c.in_ok-finish_both.ensures.rewrites t in
     subst (λ (o : Held).
-    held_under memory.held o.number ≡ Some o → KnowsAlone memory.judged o.slot at → IfOk c.new_at-made.result (λ serial. serial ≡ next_in (graph_seen (open_on o.name w) (pool_named o.name w.stored))))
+    held_under memory.held o.log_number ≡ Some o → KnowsAlone memory.judged o.slot at → IfOk c.new_at-made.result (λ serial. serial ≡ next_in (graph_seen (open_on o.name w) (pool_named o.name w.stored))))
     c.self.view_is
     (λ there known.
-    let behind = memory_finished size w memory held start held.number there then F same at known goal later in
-    let ready_then = ready_finished size w memory held start held.number there then F same at known goal later mid owes in
-    let known_then = known_finished size w memory held start held.number there then F same at known goal later mid owes in
-    serial_made size w behind held mid held.number there ready_then F c.as_slice-2.result.now same (c.as_slice-2.ensures.puddles ∙ its_puddles size w behind held mid held.number there ready_then F same later known_then)
+    let behind = memory_finished size w memory held start held.log_number there then F same at known goal later in
+    let ready_then = ready_finished size w memory held start held.log_number there then F same at known goal later mid owes in
+    let known_then = known_finished size w memory held start held.log_number there then F same at known goal later mid owes in
+    serial_made size w behind held mid held.log_number there ready_then F c.as_slice-2.result.now same (c.as_slice-2.ensures.puddles ∙ its_puddles size w behind held mid held.log_number there ready_then F same later known_then)
     c.new_at-made.result (λ is. c.new_at-made.ensures.serial t _ _ is))
     its.there its.known
 
@@ -224,14 +224,14 @@ returns-clause-full g c = λ t size w memory its ready more.
     let held = c.args.self.now in
     let old = g.H.Host.state c.args.h.now in
     let same = sym its.frames ∙ ready.frames in
-    let listed = its_puddles size w memory held old held.number its.there ready c.args.frames same c.args.pool.now its.known in
+    let listed = its_puddles size w memory held old held.log_number its.there ready c.args.frames same c.args.pool.now its.known in
     absurd (lowest_is_free (stored_in c.args.frames c.as_slice.result.now (reads old.now.words)) (place_of_slot c.in-Ok.at) (c.in-Ok.ensures.free t (reads old.now.words) refl)
-    (all_live size w memory held old held.number its.there ready c.args.frames c.as_slice.result.now same (c.as_slice.ensures.puddles ∙ listed) more))
+    (all_live size w memory held old held.log_number its.there ready c.args.frames c.as_slice.result.now same (c.as_slice.ensures.puddles ∙ listed) more))
 
 pub returns-clause-lowest : goal.returns-clause-lowest
 returns-clause-lowest g c = λ t size w memory its ready none slot of lowest.
     let i = c.self.inside in
-    let held : Held = record { client = i.client; name = i.name; slot = i.slot; number = i.number; tx = i.tx } in
+    let held : Held = record { client = i.client; name = i.name; slot = i.slot; log_number = i.log_number; tx = i.tx } in
     let F = c.args.frames in
     let at = c.args.pool.now in
     let later = c.finish_both.new.pool in
@@ -254,20 +254,20 @@ returns-clause-lowest g c = λ t size w memory its ready none slot of lowest.
     let lowest_then = subst (λ (im : Image). IsLowestFreeSlot (stored_in F at im) (place_of_slot made)) (ap (λ (s : State). reads s.now.words) (sym still)) found in
     subst (λ (s : Slot). MakesBehind F at later c.args.self.now.tx.log.at s c.args.t fault old new) it
     (subst (λ (s : State). MakesBehind F at later c.args.self.now.tx.log.at made c.args.t fault s new) still
-    (subst (λ (o : Held). held_under memory.held o.number ≡ Some o → KnowsAlone memory.judged o.slot at → refusal_by_world w o c.args.t ≡ None → MakesBehind F at later o.tx.log.at made c.args.t fault start new)
+    (subst (λ (o : Held). held_under memory.held o.log_number ≡ Some o → KnowsAlone memory.judged o.slot at → refusal_by_world w o c.args.t ≡ None → MakesBehind F at later o.tx.log.at made c.args.t fault start new)
     c.self.view_is
     (λ there known none.
-    let behind = memory_finished size w memory held start held.number there then F same at known goal later in
-    let ready_then = ready_finished size w memory held start held.number there then F same at known goal later mid owes in
-    let known_then = known_finished size w memory held start held.number there then F same at known goal later mid owes in
+    let behind = memory_finished size w memory held start held.log_number there then F same at known goal later in
+    let ready_then = ready_finished size w memory held start held.log_number there then F same at known goal later mid owes in
+    let known_then = known_finished size w memory held start held.log_number there then F same at known goal later mid owes in
     let may = subst (λ (ds : List (ℕ × Puddle)). MayMakeAt F ds (reads mid.now.words) made) (sym c.as_slice-2.ensures.puddles)
-    (may_make_at size w memory held start held.number there then F same at known goal later mid owes made c.in_ok-finish_both.ensures.pool lowest_then) in
+    (may_make_at size w memory held start held.log_number there then F same at known goal later mid owes made c.in_ok-finish_both.ensures.pool lowest_then) in
     record {
       mid = mid;
       first = None;
-      finishes = owes (ready_gate size w memory start then) (low_of_placed F at (its_placed size w memory held start held.number there then F same at known));
+      finishes = owes (ready_gate size w memory start then) (low_of_placed F at (its_placed size w memory held start held.log_number there then F same at known));
       makes = inr (subst (λ (ds : List (ℕ × Puddle)). MakesIn F ds held.tx.log.at made c.args.t fault mid new) c.as_slice-2.ensures.puddles
-          (made_there size w behind held mid held.number there ready_then F lent same (c.as_slice-2.ensures.puddles ∙ its_puddles size w behind held mid held.number there ready_then F same later known_then) c.args.t none fault new made
+          (made_there size w behind held mid held.log_number there ready_then F lent same (c.as_slice-2.ensures.puddles ∙ its_puddles size w behind held mid held.log_number there ready_then F same later known_then) c.args.t none fault new made
           (λ placed running left. c.new_at-made.ensures.makes t _ _ _ _ _ placed running left may.first may.its)));
     })
     its.there its.known none))

@@ -24,7 +24,7 @@ returns-in_err-finish-clause-applies g c =
     rw (p.1, p.2) (λ t update size e w memory its ready free found.
     let held = c.args.self.now in
     Applies-unfinished_update size w memory held (g.H.Host.state c.args.h.now) c.args.frames c.args.pool.now its ready update c.ordinal_written.result c.finish.new.pool (g.H.Host.state c.finish.new.h) c.args.found c.ordinal_written.ensures
-    (with_opened held.number held.slot held c.finish.new.pool memory) c.in_err-finish.field-0.0 (c.in_err-finish.ensures.rewrites t size e))
+    (with_opened held.log_number held.slot held c.finish.new.pool memory) c.in_err-finish.field-0.0 (c.in_err-finish.ensures.rewrites t size e))
 
 pub returns-in_err-finish-clause-rest : goal.returns-in_err-finish-clause-rest
 returns-in_err-finish-clause-rest g c = λ t. KeepsRest-changes _ _ _ _ (c.in_err-finish.ensures.any t)
@@ -40,7 +40,7 @@ carry_out-done-requires-clause-within g c =
 pub returns-clause-applies : goal.returns-clause-applies
 returns-clause-applies g c = λ t update size e w memory its ready free found.
     let i = c.self.inside in
-    let held : Held = record { client = i.client; name = i.name; slot = i.slot; number = i.number; tx = i.tx } in
+    let held : Held = record { client = i.client; name = i.name; slot = i.slot; log_number = i.log_number; tx = i.tx } in
     let at = c.args.pool.now in
     let o = c.ordinal_written.result in
     let later = c.finish.new.pool in
@@ -48,7 +48,7 @@ returns-clause-applies g c = λ t update size e w memory its ready free found.
     let new = g.H.Host.state c.carry_out-done.new.h in
     subst (λ (h : Held).
     IsHeldIn c.args.frames h at memory → refusal_of w (update_line update h.client h.name) ≡ None
-    → AppliesTo (led_in h.slot (end_of (ordinal_written c.args.found))) size w (after w (update_line update h.client h.name)) (with_opened h.number h.slot (with_tx c.carry_out-done.new.tx held) later memory) (fault_of c.carry_out-done.result) old new)
+    → AppliesTo (led_in h.slot (end_of (ordinal_written c.args.found))) size w (after w (update_line update h.client h.name)) (with_opened h.log_number h.slot (with_tx c.carry_out-done.new.tx held) later memory) (fault_of c.carry_out-done.result) old new)
     c.self.view_is
     (λ its free.
     Applies-update size w memory held old c.args.frames at its ready update o later (g.H.Host.state c.finish.new.h) c.args.found c.ordinal_written.ensures c.in_ok-finish.ensures.pool (c.in_ok-finish.ensures.rewrites t size e)
@@ -63,7 +63,7 @@ returns-clause-within g c =
     record {
       slot = was.slot;
       client = was.client;
-      number = was.number;
+      number = was.log_number;
       gate = c.carry_out-done.ensures.at ∙ was.gate;
       units = omega (arith, counted, few);
     }

@@ -27,7 +27,7 @@ returns-in_err-found-clause-applies g c =
     let held = c.args.self.now in
     let k = c.in_err-found.ensures.only_reads in
     finishing_failed held.slot (FinishesUnless (refusal_of w (update_line c.args.update held.client held.name)) (FinishesFor c.args.frames c.args.pool.now.at (reads (g.H.Host.state c.args.h.now).now.words) c.args.update)) size w _ _ _ _ _ k.never_cut
-    (Applies-stopped size w (world_by w (Some (update_line c.args.update held.client held.name))) memory (with_known held.number held.slot held c.args.pool.now memory) c.in_err-found.field-0.0 _ _
+    (Applies-stopped size w (world_by w (Some (update_line c.args.update held.client held.name))) memory (with_known held.log_number held.slot held c.args.pool.now memory) c.in_err-found.field-0.0 _ _
     ready (k.stays t) (λ cut. absurd (k.never_cut cut))))
 
 pub returns-in-Err-clause-reply : goal.returns-in-Err-clause-reply
@@ -40,7 +40,7 @@ returns-in-Err-clause-applies g c = λ t size e w memory its ready.
     let held = c.args.self.now in
     let refused = sym (c.in_ok-found.ensures.refusal t size w memory its ready) ∙ ap refusal_in c.in-Err.is in
     finishing_refused held.slot (FinishesFor c.args.frames c.args.pool.now.at (reads (g.H.Host.state c.args.h.now).now.words) c.args.update) (refusal_of w (update_line c.args.update held.client held.name)) c.in-Err.refusal refused size w _ _ _ _ _
-    (Applies-refused size w (with_known held.number held.slot held c.args.pool.now memory) (update_line c.args.update held.client held.name) c.in-Err.refusal _ _
+    (Applies-refused size w (with_known held.log_number held.slot held c.args.pool.now memory) (update_line c.args.update held.client held.name) c.in-Err.refusal _ _
     (subst (λ (m : Memory). IsReady size w m (g.H.Host.state c.args.h.now)) (sym (known_on c.args.frames held c.args.pool.now memory its)) ready)
     refused (c.in_ok-found.ensures.only_reads.stays t))
 

@@ -39,7 +39,7 @@ returns-clause-carries g c = λ t size e w ready.
     let read = ready_read size w c.find_own.new.self _ _ (k.only_reads.stays t) (k.ready t size w ready) in
     let then = subst (λ (m : Memory). IsReady size w m (g.H.Host.state c.find_own.new.h)) (sym c.self.view_is) read in
     let found = rw c.in-Ok.is at (k.own t size w ready) in
-    let own = subst (λ (held : List (Option Held)). IsOwnOn c.args.client c.args.name c.in-Ok.own.slot c.in-Ok.own.number held) (sym (ap (λ (m : Memory). m.held) c.self.view_is ∙ k.held)) found in
+    let own = subst (λ (held : List (Option Held)). IsOwnOn c.args.client c.args.name c.in-Ok.own.slot c.in-Ok.own.log_number held) (sym (ap (λ (m : Memory). m.held) c.self.view_is ∙ k.held)) found in
     let n = c.change_in.ensures in
     let same = still_size k.only_reads e in
     CarriesOut-replied size w (record { frames = i.frames; held = c.change_in.new.all; sessions = i.sessions; judged = c.change_in.new.judged }) _ _ _ _ _ _ (line_of c.args.change c.args.client c.args.name)

@@ -16,7 +16,7 @@ returns-then-depth-gt1-clause-applies g c = λ t size e w name ready own.
     let depth = ap (λ (m : Memory). depth_in m.sessions slot) c.self.view_is in
     let is = c.depth.ensures.depth in
     let more = c.if-depth-gt1.true in
-    Applies-rises size w c.args.self.now (record view { sessions = c.leave.new.self }) _ c.args.client name slot c.args.own.number (omega (arith, depth, is, more))
+    Applies-rises size w c.args.self.now (record view { sessions = c.leave.new.self }) _ c.args.client name slot c.args.own.log_number (omega (arith, depth, is, more))
     (ap (λ (m : Memory). record m { sessions = left slot m.sessions }) (sym c.self.view_is) ∙ ap (λ (l : List (Option Session)). record view { sessions = l }) (sym c.leave.ensures.left)) ready own
 
 pub returns-in-Some-clause-applies : goal.returns-in-Some-clause-applies
@@ -25,10 +25,10 @@ returns-in-Some-clause-applies g c = λ t size e w name ready own.
     let is = c.depth.ensures.depth in
     let last = c.if-depth-gt1.false in
     let r = c.release.ensures in
-    let released : IsReleased c.args.own.number c.args.self.now c.release.new.self = record { held = r.held; sessions = r.sessions; judged = r.judged; frames = r.frames } in
+    let released : IsReleased c.args.own.log_number c.args.self.now c.release.new.self = record { held = r.held; sessions = r.sessions; judged = r.judged; frames = r.frames } in
     let there = sym r.opened ∙ c.in-Some.is in
-    Applies-own_ended c.args.own.number c.args.self.now c.release.new.self released size w (fault_of c.commit.result) _ _ c.in-Some.opened c.args.client name c.args.own.slot there own (omega (arith, depth, is, last))
-    (c.commit.ensures.applies t size e w c.args.self.now c.args.own.number (ap (λ (m : Memory). m.frames) (sym c.self.view_is)) there ready)
+    Applies-own_ended c.args.own.log_number c.args.self.now c.release.new.self released size w (fault_of c.commit.result) _ _ c.in-Some.opened c.args.client name c.args.own.slot there own (omega (arith, depth, is, last))
+    (c.commit.ensures.applies t size e w c.args.self.now c.args.own.log_number (ap (λ (m : Memory). m.frames) (sym c.self.view_is)) there ready)
 
 -- the client's own is held
 pub returns-in-None-clause-applies : goal.returns-in-None-clause-applies
