@@ -139,11 +139,11 @@ impl Tx {
         requires few { frames ≤ MAX_FRAMES }
         requires device { device_words frames ≤ (H.counts h.old).size }
         requires known { IsOnDevice frames pool.now }
-        requires place { (self.old).log.at + LOG_WORDS ≤ frames_at frames }
+        requires place { (self.old).log.gate_at + LOG_WORDS ≤ frames_at frames }
         requires field { f < MAX_FIELDS }
         requires room { (self.old).units + SET_UNITS ≤ LOG_ENTRY_WORDS }
-        ensures at { (self.new).log.at ≡ (self.old).log.at }
-        ensures changes { H.tells → Changes (ByTransaction (pool_ground frames pool.now) (self.old).log.at) (fault_of result) (H.state h.old) (H.state h.new) }
+        ensures at { (self.new).log.gate_at ≡ (self.old).log.gate_at }
+        ensures changes { H.tells → Changes (ByTransaction (pool_ground frames pool.now) (self.old).log.gate_at) (fault_of result) (H.state h.old) (H.state h.new) }
         ensures runs { H.tells → (types : List (ℕ × ℕ)) (before : Image) (undone : Graph) (now : Graph) (laters : List Later) → IsPlaced frames pool.now
             → IsRewrittenFor frames pool.now (reads (H.state h.old).now.words) s → IsOpenOn frames pool.now types (self.old).log before undone now laters (H.state h.old).now.words → MaySet types now s f x
             → RunsOn frames pool.now types (self.new).log before undone (with_field s f x now) laters (fault_of result) (H.state h.old) (H.state h.new) }
@@ -177,12 +177,12 @@ impl Tx {
         requires few { frames ≤ MAX_FRAMES }
         requires device { device_words frames ≤ (H.counts h.old).size }
         requires known { IsOnDevice frames pool.now }
-        requires place { (self.old).log.at + LOG_WORDS ≤ frames_at frames }
+        requires place { (self.old).log.gate_at + LOG_WORDS ≤ frames_at frames }
         requires within { IsSlotOf pool.now at.now }
         requires field { f < MAX_FIELDS }
         requires room { (self.old).units + SET_UNITS ≤ LOG_ENTRY_WORDS }
-        ensures at { (self.new).log.at ≡ (self.old).log.at }
-        ensures changes { H.tells → Changes (ByTransaction (pool_ground frames pool.now) (self.old).log.at) (fault_of result) (H.state h.old) (H.state h.new) }
+        ensures at { (self.new).log.gate_at ≡ (self.old).log.gate_at }
+        ensures changes { H.tells → Changes (ByTransaction (pool_ground frames pool.now) (self.old).log.gate_at) (fault_of result) (H.state h.old) (H.state h.new) }
         ensures runs { H.tells → (types : List (ℕ × ℕ)) (before : Image) (undone : Graph) (now : Graph) (laters : List Later) (s : ℕ) (x : Val) → IsPlaced frames pool.now
             → IsRewrittenFor frames pool.now (reads (H.state h.old).now.words) s → IsOpenOn frames pool.now types (self.old).log before undone now laters (H.state h.old).now.words → MaySet types now s f x
             → place_in_pool frames pool.now (reads (H.state h.old).now.words) s ≡ Option.Some (place_of_slot at.now) → word_for frames pool.now (reads (H.state h.old).now.words) x ≡ Option.Some word
@@ -208,13 +208,13 @@ impl Tx {
         requires few { frames ≤ MAX_FRAMES }
         requires device { device_words frames ≤ (H.counts h.old).size }
         requires known { IsOnDevice frames pool.now }
-        requires place { (self.old).log.at + LOG_WORDS ≤ frames_at frames }
+        requires place { (self.old).log.gate_at + LOG_WORDS ≤ frames_at frames }
         requires within { IsSlotOf pool.now at.now }
         requires room { (self.old).units + NEW_UNITS ≤ LOG_ENTRY_WORDS }
-        ensures at { (self.new).log.at ≡ (self.old).log.at }
+        ensures at { (self.new).log.gate_at ≡ (self.old).log.gate_at }
         ensures counts { IfOk result (λ _. (self.new).units ≡ (self.old).units + NEW_UNITS) }
         ensures changes { H.tells → (first : ℕ × Puddle) → slice_get pool.now 0 ≡ Option.Some first
-            → Changes (ByPutBoth (self.old).log.at (frame_at frames at.now.frame + slot_begins at.now) words.now (frame_at frames first.0 + NEXT_SERIAL_WORD) next) (fault_of result) (H.state h.old) (H.state h.new) }
+            → Changes (ByPutBoth (self.old).log.gate_at (frame_at frames at.now.frame + slot_begins at.now) words.now (frame_at frames first.0 + NEXT_SERIAL_WORD) next) (fault_of result) (H.state h.old) (H.state h.new) }
         ensures saves { H.tells → IsPlaced frames pool.now → (first : ℕ × Puddle) → slice_get pool.now 0 ≡ Option.Some first → IsRewrittenAt pool.now 0 → IsRewrittenAt pool.now at.now.ordinal
             → (before : Image) (redo : List Entry) → IsSaving frames (finished_of pool.now) (self.old).log before redo (H.state h.old).now.words
             → Saves frames (finished_of pool.now) (self.new).log before redo (over (placed (frame_at frames at.now.frame + slot_begins at.now) words.now) (placed (frame_at frames first.0 + NEXT_SERIAL_WORD) (next ∷ [])))
@@ -252,11 +252,11 @@ impl Tx {
         requires few { frames ≤ MAX_FRAMES }
         requires device { device_words frames ≤ (H.counts h.old).size }
         requires known { IsOnDevice frames pool.now }
-        requires place { (self.old).log.at + LOG_WORDS ≤ frames_at frames }
+        requires place { (self.old).log.gate_at + LOG_WORDS ≤ frames_at frames }
         requires within { IsSlotOf pool.now at.now }
         requires room { (self.old).units + NEW_UNITS ≤ LOG_ENTRY_WORDS }
-        ensures at { (self.new).log.at ≡ (self.old).log.at }
-        ensures changes { H.tells → Changes (ByTransaction (pool_ground frames pool.now) (self.old).log.at) (fault_of result) (H.state h.old) (H.state h.new) }
+        ensures at { (self.new).log.gate_at ≡ (self.old).log.gate_at }
+        ensures changes { H.tells → Changes (ByTransaction (pool_ground frames pool.now) (self.old).log.gate_at) (fault_of result) (H.state h.old) (H.state h.new) }
         ensures runs { H.tells → (types : List (ℕ × ℕ)) (m : ℕ) (before : Image) (undone : Graph) (now : Graph) (laters : List Later) → IsPlaced frames pool.now
             → IsOpenOn frames pool.now types (self.old).log before undone now laters (H.state h.old).now.words → map_of t types ≡ Option.Some m → now.next_serial < NUMBER_LIMIT
             → IsRewrittenAt pool.now 0 → IsRewrittenAt pool.now at.now.ordinal → IsFreePlace (stored_in frames pool.now (reads (H.state h.old).now.words)) (place_of_slot at.now)
@@ -264,7 +264,7 @@ impl Tx {
         ensures makes { H.tells → (types : List (ℕ × ℕ)) (before : Image) (undone : Graph) (now : Graph) (laters : List Later) → IsPlaced frames pool.now
             → IsOpenOn frames pool.now types (self.old).log before undone now laters (H.state h.old).now.words → now.next_serial < NUMBER_LIMIT
             → IsRewrittenAt pool.now 0 → IsRewrittenAt pool.now at.now.ordinal
-            → MakesIn frames pool.now (self.old).log.at at.now t (fault_of result) (H.state h.old) (H.state h.new) }
+            → MakesIn frames pool.now (self.old).log.gate_at at.now t (fault_of result) (H.state h.old) (H.state h.new) }
         ensures serial { H.tells → (types : List (ℕ × ℕ)) (now : Graph) → graph_of types (stored_in frames pool.now (reads (H.state h.old).now.words)) ≡ Option.Some now
             → IfOk result (λ serial. serial ≡ now.next_serial) }
         ensures counts { IfOk result (λ _. (self.new).units ≡ (self.old).units + NEW_UNITS) }
@@ -294,10 +294,10 @@ impl Tx {
         requires few { frames ≤ MAX_FRAMES }
         requires device { device_words frames ≤ (H.counts h.old).size }
         requires known { IsOnDevice frames pool.now }
-        requires place { (self.old).log.at + LOG_WORDS ≤ frames_at frames }
+        requires place { (self.old).log.gate_at + LOG_WORDS ≤ frames_at frames }
         requires room { (self.old).units + NEW_UNITS ≤ LOG_ENTRY_WORDS }
-        ensures at { (self.new).log.at ≡ (self.old).log.at }
-        ensures changes { H.tells → Changes (ByTransaction (pool_ground frames pool.now) (self.old).log.at) (fault_of result) (H.state h.old) (H.state h.new) }
+        ensures at { (self.new).log.gate_at ≡ (self.old).log.gate_at }
+        ensures changes { H.tells → Changes (ByTransaction (pool_ground frames pool.now) (self.old).log.gate_at) (fault_of result) (H.state h.old) (H.state h.new) }
         ensures runs { H.tells → (types : List (ℕ × ℕ)) (m : ℕ) (before : Image) (undone : Graph) (now : Graph) (laters : List Later) → IsPlaced frames pool.now
             → IsOpenOn frames pool.now types (self.old).log before undone now laters (H.state h.old).now.words → map_of t types ≡ Option.Some m → now.next_serial < NUMBER_LIMIT
             → IsRewrittenAt pool.now 0 → IsRewrittenAtLowest frames pool.now (reads (H.state h.old).now.words) → (AreAllLive (stored_in frames pool.now (reads (H.state h.old).now.words)) → ⊥)
@@ -305,7 +305,7 @@ impl Tx {
         ensures makes { H.tells → (types : List (ℕ × ℕ)) (before : Image) (undone : Graph) (now : Graph) (laters : List Later) → IsPlaced frames pool.now
             → IsOpenOn frames pool.now types (self.old).log before undone now laters (H.state h.old).now.words → now.next_serial < NUMBER_LIMIT
             → IsRewrittenAt pool.now 0 → IsRewrittenAtLowest frames pool.now (reads (H.state h.old).now.words) → (slot : Slot) → IsSlotOf pool.now slot → IsLowestFreeSlot (stored_in frames pool.now (reads (H.state h.old).now.words)) (place_of_slot slot)
-            → MakesIn frames pool.now (self.old).log.at slot t (fault_of result) (H.state h.old) (H.state h.new) }
+            → MakesIn frames pool.now (self.old).log.gate_at slot t (fault_of result) (H.state h.old) (H.state h.new) }
         ensures serial { H.tells → (types : List (ℕ × ℕ)) (now : Graph) → graph_of types (stored_in frames pool.now (reads (H.state h.old).now.words)) ≡ Option.Some now
             → (AreAllLive (stored_in frames pool.now (reads (H.state h.old).now.words)) → ⊥) → IfOk result (λ serial. serial ≡ now.next_serial) }
         ensures counts { H.tells → (AreAllLive (stored_in frames pool.now (reads (H.state h.old).now.words)) → ⊥) → IfOk result (λ _. (self.new).units ≡ (self.old).units + NEW_UNITS) }
@@ -331,12 +331,12 @@ impl Tx {
         requires few { frames ≤ MAX_FRAMES }
         requires device { device_words frames ≤ (H.counts h.old).size }
         requires known { IsOnDevice frames pool.now }
-        requires place { (self.old).log.at + LOG_WORDS ≤ frames_at frames }
+        requires place { (self.old).log.gate_at + LOG_WORDS ≤ frames_at frames }
         requires within { IsSlotOf pool.now at }
         requires room { (self.old).units + SET_UNITS ≤ LOG_ENTRY_WORDS }
-        ensures at { (self.new).log.at ≡ (self.old).log.at }
+        ensures at { (self.new).log.gate_at ≡ (self.old).log.gate_at }
         ensures counts { IfOk result (λ _. (self.new).units ≡ (self.old).units + SET_UNITS) }
-        ensures changes { H.tells → Changes (ByTransaction (pool_ground frames pool.now) (self.old).log.at) (fault_of result) (H.state h.old) (H.state h.new) }
+        ensures changes { H.tells → Changes (ByTransaction (pool_ground frames pool.now) (self.old).log.gate_at) (fault_of result) (H.state h.old) (H.state h.new) }
         ensures saves { H.tells → IsPlaced frames pool.now → IsRewrittenAt pool.now at.ordinal → (before : Image) (redo : List Entry)
             → IsSaving frames (finished_of pool.now) (self.old).log before redo (H.state h.old).now.words
             → Saves frames (finished_of pool.now) (self.new).log before redo (placed (serial_word_at frames at) (0 ∷ [])) (fault_of result) (H.state h.old) (H.state h.new) }
@@ -363,11 +363,11 @@ impl Tx {
         requires few { frames ≤ MAX_FRAMES }
         requires device { device_words frames ≤ (H.counts h.old).size }
         requires known { IsOnDevice frames pool.now }
-        requires place { (self.old).log.at + LOG_WORDS ≤ frames_at frames }
+        requires place { (self.old).log.gate_at + LOG_WORDS ≤ frames_at frames }
         requires within { IsSlotOf pool.now at.now }
         requires room { (self.old).units + SET_UNITS ≤ LOG_ENTRY_WORDS }
-        ensures at { (self.new).log.at ≡ (self.old).log.at }
-        ensures changes { H.tells → Changes (ByTransaction (pool_ground frames pool.now) (self.old).log.at) (fault_of result) (H.state h.old) (H.state h.new) }
+        ensures at { (self.new).log.gate_at ≡ (self.old).log.gate_at }
+        ensures changes { H.tells → Changes (ByTransaction (pool_ground frames pool.now) (self.old).log.gate_at) (fault_of result) (H.state h.old) (H.state h.new) }
         ensures runs { H.tells → (types : List (ℕ × ℕ)) (before : Image) (undone : Graph) (now : Graph) (laters : List Later) (s : ℕ) → IsPlaced frames pool.now
             → IsRewrittenFor frames pool.now (reads (H.state h.old).now.words) s → IsOpenOn frames pool.now types (self.old).log before undone now laters (H.state h.old).now.words → MayFree now s → laters_name s laters ≡ false
             → place_in_pool frames pool.now (reads (H.state h.old).now.words) s ≡ Option.Some (place_of_slot at.now)
@@ -394,10 +394,10 @@ impl Tx {
         requires few { frames ≤ MAX_FRAMES }
         requires device { device_words frames ≤ (H.counts h.old).size }
         requires known { IsOnDevice frames pool.now }
-        requires place { (self.old).log.at + LOG_WORDS ≤ frames_at frames }
+        requires place { (self.old).log.gate_at + LOG_WORDS ≤ frames_at frames }
         requires room { (self.old).units + SET_UNITS ≤ LOG_ENTRY_WORDS }
-        ensures at { (self.new).log.at ≡ (self.old).log.at }
-        ensures changes { H.tells → Changes (ByTransaction (pool_ground frames pool.now) (self.old).log.at) (fault_of result) (H.state h.old) (H.state h.new) }
+        ensures at { (self.new).log.gate_at ≡ (self.old).log.gate_at }
+        ensures changes { H.tells → Changes (ByTransaction (pool_ground frames pool.now) (self.old).log.gate_at) (fault_of result) (H.state h.old) (H.state h.new) }
         ensures runs { H.tells → (types : List (ℕ × ℕ)) (before : Image) (undone : Graph) (now : Graph) (laters : List Later) → IsPlaced frames pool.now
             → IsRewrittenFor frames pool.now (reads (H.state h.old).now.words) s → IsOpenOn frames pool.now types (self.old).log before undone now laters (H.state h.old).now.words → MayFree now s → laters_name s laters ≡ false
             → RunsOn frames pool.now types (self.new).log before undone (without_object s now) laters (fault_of result) (H.state h.old) (H.state h.new) }
@@ -430,10 +430,10 @@ impl Tx {
         requires few { frames ≤ MAX_FRAMES }
         requires device { device_words frames ≤ (H.counts h.old).size }
         requires known { IsOnDevice frames pool.now }
-        requires place { (self.old).log.at + LOG_WORDS ≤ frames_at frames }
+        requires place { (self.old).log.gate_at + LOG_WORDS ≤ frames_at frames }
         requires room { (self.old).units + SET_UNITS ≤ LOG_ENTRY_WORDS }
-        ensures at { (self.new).log.at ≡ (self.old).log.at }
-        ensures changes { H.tells → Changes (ByTransaction (pool_ground frames pool.now) (self.old).log.at) (fault_of result) (H.state h.old) (H.state h.new) }
+        ensures at { (self.new).log.gate_at ≡ (self.old).log.gate_at }
+        ensures changes { H.tells → Changes (ByTransaction (pool_ground frames pool.now) (self.old).log.gate_at) (fault_of result) (H.state h.old) (H.state h.new) }
         ensures runs { H.tells → (types : List (ℕ × ℕ)) (before : Image) (undone : Graph) (now : Graph) (laters : List Later) → IsPlaced frames pool.now
             → IsRewrittenAt pool.now 0 → IsOpenOn frames pool.now types (self.old).log before undone now laters (H.state h.old).now.words → MayName now s
             → RunsOn frames pool.now types (self.new).log before undone (with_root s now) laters (fault_of result) (H.state h.old) (H.state h.new) }
@@ -465,10 +465,10 @@ impl Tx {
         requires few { frames ≤ MAX_FRAMES }
         requires device { device_words frames ≤ (H.counts h.old).size }
         requires known { IsOnDevice frames pool.now }
-        requires place { (self.old).log.at + LOG_WORDS ≤ frames_at frames }
+        requires place { (self.old).log.gate_at + LOG_WORDS ≤ frames_at frames }
         requires room { (self.old).units + SET_UNITS ≤ LOG_ENTRY_WORDS }
-        ensures at { (self.new).log.at ≡ (self.old).log.at }
-        ensures changes { H.tells → Changes (ByTransaction (pool_ground frames pool.now) (self.old).log.at) (fault_of result) (H.state h.old) (H.state h.new) }
+        ensures at { (self.new).log.gate_at ≡ (self.old).log.gate_at }
+        ensures changes { H.tells → Changes (ByTransaction (pool_ground frames pool.now) (self.old).log.gate_at) (fault_of result) (H.state h.old) (H.state h.new) }
         ensures runs { H.tells → (types : List (ℕ × ℕ)) (before : Image) (undone : Graph) (now : Graph) (laters : List Later) (s : ℕ) → IsPlaced frames pool.now
             → IsRewrittenAt pool.now 0 → IsOpenOn frames pool.now types (self.old).log before undone now laters (H.state h.old).now.words
             → word_for frames pool.now (reads (H.state h.old).now.words) (Val.Ref s) ≡ Option.Some word

@@ -38,12 +38,12 @@ impl Tx {
     /// Where no value is asked for later it takes no load, the only word written is the log's gate, and it takes three fences; else
     /// the loads of a replay, and four fences.
     pub fn commit<H: Host>(self, h: &mut H, frames: u32) -> Result<(), HostFault>
-        requires log { self.log.at + LOG_WORDS ≤ (H.counts h.old).size }
+        requires log { self.log.gate_at + LOG_WORDS ≤ (H.counts h.old).size }
         requires tables { HasPuddleTable frames (H.counts h.old).size }
         ensures ends { H.tells → (pool : List (ℕ × Puddle)) (types : List (ℕ × ℕ)) (before : Image) (undone : Graph) (now : Graph) (laters : List Later) → IsPlaced frames pool
-            → device_words frames ≤ (H.counts h.old).size → self.log.at + LOG_WORDS ≤ frames_at frames → IsOpenOn frames pool types self.log before undone now laters (H.state h.old).now.words
-            → (laters ≢ [] → CanRedo (pool_ground frames (finished_of pool)) frames self.log.at (H.state h.old).now.words)
-            → EndsOn frames pool types self.log.at before undone (with_laters laters now) (fault_of result) (H.state h.old) (H.state h.new) }
+            → device_words frames ≤ (H.counts h.old).size → self.log.gate_at + LOG_WORDS ≤ frames_at frames → IsOpenOn frames pool types self.log before undone now laters (H.state h.old).now.words
+            → (laters ≢ [] → CanRedo (pool_ground frames (finished_of pool)) frames self.log.gate_at (H.state h.old).now.words)
+            → EndsOn frames pool types self.log.gate_at before undone (with_laters laters now) (fault_of result) (H.state h.old) (H.state h.new) }
         ensures gate { H.tells → (es : List Entry) → IsOpen self.log es (H.state h.old).now.words → asks es ≡ false → Changes (ByCommit self.log) (fault_of result) (H.state h.old) (H.state h.new) }
         ensures any { H.tells → Changes Anything (fault_of result) (H.state h.old) (H.state h.new) }
         ensures cause { H.counts h.new ≡ after_fault (fault_of result) (H.counts h.old) }
@@ -63,12 +63,12 @@ impl Tx {
     ///
     /// Where nothing was set, made or asked for it takes no load, and one fence; else the loads of a replay, and two fences.
     pub fn abort<H: Host>(self, h: &mut H, frames: u32) -> Result<(), HostFault>
-        requires log { self.log.at + LOG_WORDS ≤ (H.counts h.old).size }
+        requires log { self.log.gate_at + LOG_WORDS ≤ (H.counts h.old).size }
         requires tables { HasPuddleTable frames (H.counts h.old).size }
         ensures closes { H.tells → (pool : List (ℕ × Puddle)) (types : List (ℕ × ℕ)) (before : Image) (undone : Graph) (now : Graph) (laters : List Later) → IsPlaced frames pool
-            → device_words frames ≤ (H.counts h.old).size → self.log.at + LOG_WORDS ≤ frames_at frames → IsOpenOn frames pool types self.log before undone now laters (H.state h.old).now.words
+            → device_words frames ≤ (H.counts h.old).size → self.log.gate_at + LOG_WORDS ≤ frames_at frames → IsOpenOn frames pool types self.log before undone now laters (H.state h.old).now.words
             → HasPlaces (pool_ground frames (finished_of pool)) (puddle_word (tables_of frames (reads (H.state h.old).now.words))) → HasOneTable frames (H.state h.old).now.words
-            → ClosesOn frames pool types self.log.at before undone (fault_of result) (H.state h.old) (H.state h.new) }
+            → ClosesOn frames pool types self.log.gate_at before undone (fault_of result) (H.state h.old) (H.state h.new) }
         ensures any { H.tells → Changes Anything (fault_of result) (H.state h.old) (H.state h.new) }
         ensures cause { H.counts h.new ≡ after_fault (fault_of result) (H.counts h.old) }
     {
@@ -90,7 +90,7 @@ impl Tx {
 
     /// The word of its log's gate.
     pub fn at(&self) -> u32
-        ensures { result ≡ (self.now).log.at }
+        ensures { result ≡ (self.now).log.gate_at }
     {
         self.words.at()
     }

@@ -147,11 +147,11 @@ impl Tx {
         requires few { frames ≤ MAX_FRAMES }
         requires device { device_words frames ≤ (H.counts h.old).size }
         requires known { IsOnDevice frames pool.now }
-        requires place { (self.old).log.at + LOG_WORDS ≤ frames_at frames }
+        requires place { (self.old).log.gate_at + LOG_WORDS ≤ frames_at frames }
         requires field { f < MAX_FIELDS }
         requires room { (self.old).units + SET_UNITS ≤ LOG_ENTRY_WORDS }
-        ensures at { (self.new).log.at ≡ (self.old).log.at }
-        ensures changes { H.tells → Changes (InLog (self.old).log.at) (fault_of result) (H.state h.old) (H.state h.new) }
+        ensures at { (self.new).log.gate_at ≡ (self.old).log.gate_at }
+        ensures changes { H.tells → Changes (InLog (self.old).log.gate_at) (fault_of result) (H.state h.old) (H.state h.new) }
         ensures runs { H.tells → (types : List (ℕ × ℕ)) (before : Image) (undone : Graph) (now : Graph) (laters : List Later) → IsPlaced frames pool.now
             → IsRewrittenFor frames pool.now (reads (H.state h.old).now.words) s → IsOpenOn frames pool.now types (self.old).log before undone now laters (H.state h.old).now.words → MaySet types now s f x
             → RunsOn frames pool.now types (self.new).log before undone now (laters ++ record { s = s; f = f; x = x } ∷ []) (fault_of result) (H.state h.old) (H.state h.new) }
@@ -185,12 +185,12 @@ impl Tx {
         requires few { frames ≤ MAX_FRAMES }
         requires device { device_words frames ≤ (H.counts h.old).size }
         requires known { IsOnDevice frames pool.now }
-        requires place { (self.old).log.at + LOG_WORDS ≤ frames_at frames }
+        requires place { (self.old).log.gate_at + LOG_WORDS ≤ frames_at frames }
         requires within { IsSlotOf pool.now at.now }
         requires field { f < MAX_FIELDS }
         requires room { (self.old).units + SET_UNITS ≤ LOG_ENTRY_WORDS }
-        ensures at { (self.new).log.at ≡ (self.old).log.at }
-        ensures changes { H.tells → Changes (InLog (self.old).log.at) (fault_of result) (H.state h.old) (H.state h.new) }
+        ensures at { (self.new).log.gate_at ≡ (self.old).log.gate_at }
+        ensures changes { H.tells → Changes (InLog (self.old).log.gate_at) (fault_of result) (H.state h.old) (H.state h.new) }
         ensures runs { H.tells → (types : List (ℕ × ℕ)) (before : Image) (undone : Graph) (now : Graph) (laters : List Later) (s : ℕ) (x : Val) → IsPlaced frames pool.now
             → IsRewrittenFor frames pool.now (reads (H.state h.old).now.words) s → IsOpenOn frames pool.now types (self.old).log before undone now laters (H.state h.old).now.words → MaySet types now s f x
             → place_in_pool frames pool.now (reads (H.state h.old).now.words) s ≡ Option.Some (place_of_slot at.now) → word_for frames pool.now (reads (H.state h.old).now.words) x ≡ Option.Some word
@@ -216,7 +216,7 @@ impl Tx {
         requires few { frames ≤ MAX_FRAMES }
         requires device { device_words frames ≤ (H.counts h.old).size }
         requires known { IsOnDevice frames pool.now }
-        requires place { (self.now).log.at + LOG_WORDS ≤ (H.counts h.old).size }
+        requires place { (self.now).log.gate_at + LOG_WORDS ≤ (H.counts h.old).size }
         ensures names { H.tells → (image : Image) → reads (H.state h.old).now.words ≡ image → (before : Image) (undone : Graph) (now : Graph) (laters : List Later) → IsPlaced frames pool.now
             → IsOpenOn frames pool.now (types_of image) (self.now).log before undone now laters (H.state h.old).now.words → s ≢ 0 → IfOk result (λ named. named ≡ laters_name s laters) }
         ensures only_reads { OnlyReads H.tells H.state H.counts (fault_of result) h.old h.new }
@@ -239,7 +239,7 @@ impl Tx {
         requires few { frames ≤ MAX_FRAMES }
         requires device { device_words frames ≤ (H.counts h.old).size }
         requires known { IsOnDevice frames pool.now }
-        requires place { (self.now).log.at + LOG_WORDS ≤ (H.counts h.old).size }
+        requires place { (self.now).log.gate_at + LOG_WORDS ≤ (H.counts h.old).size }
         requires within { IsSlotOf pool.now at.now }
         ensures names { H.tells → (image : Image) → reads (H.state h.old).now.words ≡ image → (before : Image) (undone : Graph) (now : Graph) (laters : List Later) → IsPlaced frames pool.now
             → IsOpenOn frames pool.now (types_of image) (self.now).log before undone now laters (H.state h.old).now.words → s ≢ 0

@@ -66,15 +66,15 @@ impl Tx {
         first: u32,
         vals: &[u64],
     ) -> Result<(), HostFault>
-        requires place { (self.old).log.at + LOG_WORDS ≤ (H.counts h.old).size }
+        requires place { (self.old).log.gate_at + LOG_WORDS ≤ (H.counts h.old).size }
         requires some { 1 ≤ length vals.now }
         requires no_more { length vals.now ≤ MAX_ENTRY_VALUES }
         requires within { first + length vals.now ≤ (H.counts h.old).size }
         requires room { (self.old).units + (length vals.now + ENTRY_HEADER_WORDS) ≤ LOG_ENTRY_WORDS }
-        ensures at { (self.new).log.at ≡ (self.old).log.at }
+        ensures at { (self.new).log.gate_at ≡ (self.old).log.gate_at }
         ensures counts { IfOk result (λ _. (self.new).units ≡ (self.old).units + (length vals.now + ENTRY_HEADER_WORDS)) }
-        ensures changes { H.tells → Changes (ByPut (self.old).log.at first vals.now) (fault_of result) (H.state h.old) (H.state h.new) }
-        ensures puts { H.tells → (size : ℕ) → size ≡ (H.counts h.old).size → (g : Ground) → (es : List Entry) → (before : Image) → IsGround size (self.old).log.at g
+        ensures changes { H.tells → Changes (ByPut (self.old).log.gate_at first vals.now) (fault_of result) (H.state h.old) (H.state h.new) }
+        ensures puts { H.tells → (size : ℕ) → size ≡ (H.counts h.old).size → (g : Ground) → (es : List Entry) → (before : Image) → IsGround size (self.old).log.gate_at g
             → g.may address (length vals.now) ≡ true → g.place address ≡ Option.Some first → IsRunning g (self.old).log es before (H.state h.old).now.words
             → Puts g (self.new).log es before (placed first vals.now) (fault_of result) (H.state h.old) (H.state h.new) }
         ensures cause { H.counts h.new ≡ after_fault (fault_of result) (H.counts h.old) }
@@ -98,16 +98,16 @@ impl Tx {
         second: u32,
         value: u64,
     ) -> Result<(), HostFault>
-        requires place { (self.old).log.at + LOG_WORDS ≤ (H.counts h.old).size }
+        requires place { (self.old).log.gate_at + LOG_WORDS ≤ (H.counts h.old).size }
         requires some { 1 ≤ length vals.now }
         requires no_more { length vals.now ≤ MAX_ENTRY_VALUES }
         requires within { first + length vals.now ≤ (H.counts h.old).size }
         requires second_within { second < (H.counts h.old).size }
         requires room { (self.old).units + (length vals.now + 5) ≤ LOG_ENTRY_WORDS }
-        ensures at { (self.new).log.at ≡ (self.old).log.at }
+        ensures at { (self.new).log.gate_at ≡ (self.old).log.gate_at }
         ensures counts { IfOk result (λ _. (self.new).units ≡ (self.old).units + (length vals.now + 5)) }
-        ensures changes { H.tells → Changes (ByPutBoth (self.old).log.at first vals.now second value) (fault_of result) (H.state h.old) (H.state h.new) }
-        ensures puts { H.tells → (size : ℕ) → size ≡ (H.counts h.old).size → (g : Ground) → (es : List Entry) → (before : Image) → IsGround size (self.old).log.at g
+        ensures changes { H.tells → Changes (ByPutBoth (self.old).log.gate_at first vals.now second value) (fault_of result) (H.state h.old) (H.state h.new) }
+        ensures puts { H.tells → (size : ℕ) → size ≡ (H.counts h.old).size → (g : Ground) → (es : List Entry) → (before : Image) → IsGround size (self.old).log.gate_at g
             → g.may address (length vals.now) ≡ true → g.place address ≡ Option.Some first → g.may address2 1 ≡ true → g.place address2 ≡ Option.Some second
             → IsRunning g (self.old).log es before (H.state h.old).now.words
             → Puts g (self.new).log es before (over (placed first vals.now) (placed second (value ∷ []))) (fault_of result) (H.state h.old) (H.state h.new) }
@@ -136,15 +136,15 @@ impl Tx {
         requires few { frames ≤ MAX_FRAMES }
         requires device { device_words frames ≤ (H.counts h.old).size }
         requires known { IsOnDevice frames pool.now }
-        requires place { (self.old).log.at + LOG_WORDS ≤ frames_at frames }
+        requires place { (self.old).log.gate_at + LOG_WORDS ≤ frames_at frames }
         requires there { ordinal < length pool.now }
         requires some { 1 ≤ length vals.now }
         requires no_more { length vals.now ≤ MAX_ENTRY_VALUES }
         requires within { word + length vals.now ≤ FRAME_WORDS }
         requires room { (self.old).units + (length vals.now + ENTRY_HEADER_WORDS) ≤ LOG_ENTRY_WORDS }
-        ensures at { (self.new).log.at ≡ (self.old).log.at }
+        ensures at { (self.new).log.gate_at ≡ (self.old).log.gate_at }
         ensures counts { IfOk result (λ _. (self.new).units ≡ (self.old).units + (length vals.now + ENTRY_HEADER_WORDS)) }
-        ensures changes { H.tells → Changes (ByTransaction (pool_ground frames pool.now) (self.old).log.at) (fault_of result) (H.state h.old) (H.state h.new) }
+        ensures changes { H.tells → Changes (ByTransaction (pool_ground frames pool.now) (self.old).log.gate_at) (fault_of result) (H.state h.old) (H.state h.new) }
         ensures saves { H.tells → IsPlaced frames pool.now → (e : ℕ × Puddle) → slice_get pool.now ordinal ≡ Option.Some e → e.1.frontier ≡ steps_of e.1 → (before : Image) (redo : List Entry)
             → IsSaving frames (finished_of pool.now) (self.old).log before redo (H.state h.old).now.words
             → Saves frames (finished_of pool.now) (self.new).log before redo (placed (frame_at frames e.0 + word) vals.now) (fault_of result) (H.state h.old) (H.state h.new) }
@@ -164,15 +164,15 @@ impl Tx {
         word: u32,
         value: u64,
     ) -> Result<(), HostFault>
-        requires place { (self.old).log.at + LOG_WORDS ≤ (H.counts h.old).size }
+        requires place { (self.old).log.gate_at + LOG_WORDS ≤ (H.counts h.old).size }
         requires there { ordinal < length pool.now }
         requires within { word < FRAME_WORDS }
         requires room { (self.old).units + SET_UNITS ≤ LOG_ENTRY_WORDS }
-        ensures at { (self.new).log.at ≡ (self.old).log.at }
+        ensures at { (self.new).log.gate_at ≡ (self.old).log.gate_at }
         ensures done { IfOk result (λ _. (self.new).log ≡ asking SET_UNITS (self.old).log) }
         ensures counts { IfOk result (λ _. (self.new).units ≡ (self.old).units + SET_UNITS) }
-        ensures changes { H.tells → Changes (InLog (self.old).log.at) (fault_of result) (H.state h.old) (H.state h.new) }
-        ensures asks { H.tells → (frames : ℕ) → IsPlaced frames pool.now → device_words frames ≤ (H.counts h.old).size → (self.old).log.at + LOG_WORDS ≤ frames_at frames
+        ensures changes { H.tells → Changes (InLog (self.old).log.gate_at) (fault_of result) (H.state h.old) (H.state h.new) }
+        ensures asks { H.tells → (frames : ℕ) → IsPlaced frames pool.now → device_words frames ≤ (H.counts h.old).size → (self.old).log.gate_at + LOG_WORDS ≤ frames_at frames
             → (e : ℕ × Puddle) → slice_get pool.now ordinal ≡ Option.Some e → e.1.frontier ≡ steps_of e.1 → (before : Image) (redo : List Entry)
             → IsSaving frames (finished_of pool.now) (self.old).log before redo (H.state h.old).now.words
             → Saves frames (finished_of pool.now) (self.new).log before (redo ++ redo_entry (e.1.base + WORD_BYTES * word) (value ∷ []) ∷ []) nothing (fault_of result) (H.state h.old) (H.state h.new) }

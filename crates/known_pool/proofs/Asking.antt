@@ -41,26 +41,26 @@ MayMove-entries was now x y same may = record {
 
 module _ (F : ℕ) (image : Image) (known : Known) (k : IsKnown F image known) (s : ℕ) where
   abbrev place : Option ℕ
-  place = place_in_pool F known.at image s
+  place = place_in_pool F known.puddles image s
 
-  within_by : (o : Option ℕ) → place ≡ o → IfSome o (λ p. p < places_in known.at)
+  within_by : (o : Option ℕ) → place ≡ o → IfSome o (λ p. p < places_in known.puddles)
   within_by None none = tt
-  within_by (Some p) there = (place_of-some (table_in F known.at image) (places_in known.at) s p there).within
+  within_by (Some p) there = (place_of-some (table_in F known.puddles image) (places_in known.puddles) s p there).within
 
-  pub place_within : IfSome place (λ p. p < places_in known.at)
+  pub place_within : IfSome place (λ p. p < places_in known.puddles)
   place_within = within_by place refl
 
   module _ (x : Index) (is : known.index ≡ Some (entries_of x)) where
-    index_is : IsIndexOf F known.at (types_of image) image x
+    index_is : IsIndexOf F known.puddles (types_of image) image x
     index_is = k.indexed x is
 
     pub found_place : option_map place_kept (kept_under x s) ≡ option_map slot_at_place place
-    found_place = found_by (place_in_pool F known.at image) (λ q. holders q index_is.graph) x index_is.index s
+    found_place = found_by (place_in_pool F known.puddles image) (λ q. holders q index_is.graph) x index_is.index s
 
-    held_by : (g : Graph) → graph_of (types_of image) (stored_in F known.at image) ≡ Some g → (o : Option ℕ) → place ≡ o → is_some (option_map slot_at_place o) ≡ true → ltb 0 (holders_kept (kept_under x s)) ≡ is_held s g
+    held_by : (g : Graph) → graph_of (types_of image) (stored_in F known.puddles image) ≡ Some g → (o : Option ℕ) → place ≡ o → is_some (option_map slot_at_place o) ≡ true → ltb 0 (holders_kept (kept_under x s)) ≡ is_held s g
     held_by g stored None none some = absurd (true≢false (sym some))
-    held_by g stored (Some p) there some = sym (held_by_index F known.at (types_of image) image g stored x index_is s p there)
+    held_by g stored (Some p) there some = sym (held_by_index F known.puddles (types_of image) image g stored x index_is s p there)
 
     -- of an object that it has it knows whether it is held
-    pub held_there : (g : Graph) → graph_of (types_of image) (stored_in F known.at image) ≡ Some g → is_some (option_map place_kept (kept_under x s)) ≡ true → ltb 0 (holders_kept (kept_under x s)) ≡ is_held s g
+    pub held_there : (g : Graph) → graph_of (types_of image) (stored_in F known.puddles image) ≡ Some g → is_some (option_map place_kept (kept_under x s)) ≡ true → ltb 0 (holders_kept (kept_under x s)) ≡ is_held s g
     held_there g stored some = held_by g stored place refl (sym (ap is_some found_place) ∙ some)

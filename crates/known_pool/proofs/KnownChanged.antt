@@ -25,16 +25,16 @@ use Rattle.known_pool.proofs.KnownKept.{serial_in, KeepsSerials, place_kept, liv
 use Rattle.known_pool.proofs.Bounded.{next_unnamed, slot_at_slot}
 
 -- what is kept then of the same pool
-module _ (F : ℕ) (known next : Known) (image later : Image) (g : Graph) (puddles : next.at ≡ known.at) (types : types_of later ≡ types_of image) (stored : graph_of (types_of image) (stored_in F known.at image) ≡ Some g)
+module _ (F : ℕ) (known next : Known) (image later : Image) (g : Graph) (puddles : next.puddles ≡ known.puddles) (types : types_of later ≡ types_of image) (stored : graph_of (types_of image) (stored_in F known.puddles image) ≡ Some g)
     (k : IsKnown F image known) where
   abbrev at : List (ℕ × Puddle)
-  at = known.at
+  at = known.puddles
 
   -- by an index of the same puddles and types
-  indexed_then : (x : Index) → IsIndexOf F at (types_of image) later x → IsIndexOf F next.at (types_of later) later x
+  indexed_then : (x : Index) → IsIndexOf F at (types_of image) later x → IsIndexOf F next.puddles (types_of later) later x
   indexed_then x is = subst (λ (ps : List (ℕ × Puddle)). IsIndexOf F ps (types_of later) later x) (sym puddles) (subst (λ (ts : List (ℕ × ℕ)). IsIndexOf F at ts later x) (sym types) is)
 
-  full_then : ((p : ℕ) → p < next.full_below → IsLivePlace (stored_in F at later) p) → AreLiveBefore (stored_in F next.at later) next.full_below
+  full_then : ((p : ℕ) → p < next.full_below → IsLivePlace (stored_in F at later) p) → AreLiveBefore (stored_in F next.puddles later) next.full_below
   full_then live = subst (λ (ps : List (ℕ × Puddle)). AreLiveBefore (stored_in F ps later) next.full_below) (sym puddles) (record { each = live })
 
   live_then : next.full_below ≡ known.full_below → KeepsSerials F at at image later → (p : ℕ) → p < next.full_below → IsLivePlace (stored_in F at later) p

@@ -66,24 +66,24 @@ live_within F at image p live = let within = live_by F image (place_begins (stor
 
 -- ---- what is known
 
-module _ (F : ℕ) (known : Known) (later : List (ℕ × Puddle)) (before after : Image) (g : Graph) (was : graph_of (types_of before) (stored_in F known.at before) ≡ Some g)
+module _ (F : ℕ) (known : Known) (later : List (ℕ × Puddle)) (before after : Image) (g : Graph) (was : graph_of (types_of before) (stored_in F known.puddles before) ≡ Some g)
     (is : graph_of (types_of after) (stored_in F later after) ≡ Some g) where
   -- the graph stays, and so do the places, and what is live
-  pub IsKnown-placed : ((q : ℕ) → place_in_pool F later after q ≡ place_in_pool F known.at before q) → ((p : ℕ) → p < known.full_below → IsLivePlace (stored_in F known.at before) p → IsLivePlace (stored_in F later after) p)
+  pub IsKnown-placed : ((q : ℕ) → place_in_pool F later after q ≡ place_in_pool F known.puddles before q) → ((p : ℕ) → p < known.full_below → IsLivePlace (stored_in F known.puddles before) p → IsLivePlace (stored_in F later after) p)
       → IsKnown F before known → IsKnown F after (with_puddles later known)
   IsKnown-placed places live k = record {
     indexed = λ x kept. record {
       graph = g;
       is = is;
-      index = IsIndexBy-same (place_in_pool F known.at before) (place_in_pool F later after) (λ q. holders q g) (λ q. holders q g) x places (λ q p there. refl)
-          (by_graph F known.at (types_of before) before g was x (k.indexed x kept));
+      index = IsIndexBy-same (place_in_pool F known.puddles before) (place_in_pool F later after) (λ q. holders q g) (λ q. holders q g) x places (λ q p there. refl)
+          (by_graph F known.puddles (types_of before) before g was x (k.indexed x kept));
     };
     full = record { each = λ p below. live p below (k.full.each p below) };
   }
 
   -- the graph stays, and the serials
-  pub IsKnown-kept : KeepsSerials F known.at later before after → IsKnown F before known → IsKnown F after (with_puddles later known)
-  IsKnown-kept keeps = IsKnown-placed (place_kept F known.at later before after keeps) (λ p below live free. live (sym (keeps.each p (live_within F known.at before p live)) ∙ free))
+  pub IsKnown-kept : KeepsSerials F known.puddles later before after → IsKnown F before known → IsKnown F after (with_puddles later known)
+  IsKnown-kept keeps = IsKnown-placed (place_kept F known.puddles later before after keeps) (λ p below live free. live (sym (keeps.each p (live_within F known.puddles before p live)) ∙ free))
 
 -- ---- indexes
 

@@ -15,7 +15,7 @@ entries_of x = x.map.entries
 
 pub record Known : Type 0 where
   -- its puddles by their ordinals, each with its frame
-  pub at : List (ℕ × Puddle)
+  pub puddles : List (ℕ × Puddle)
   -- the entries of its index, where one is kept
   pub index : Option (List (ℕ × Kept))
   -- the place from which on a free slot is looked for
@@ -23,13 +23,13 @@ pub record Known : Type 0 where
 
 -- its puddles alone
 abbrev pub by_puddles : List (ℕ × Puddle) → Known
-by_puddles at = record { at = at; index = None; full_below = 0 }
+by_puddles at = record { puddles = at; index = None; full_below = 0 }
 
 -- the same of other puddles
 abbrev pub with_puddles : List (ℕ × Puddle) → Known → Known
-with_puddles at known = record known { at = at }
+with_puddles at known = record known { puddles = at }
 
 -- It is so: the index is what a scan of the pool gives, and no slot is free before the place from which on one is looked for.
 pub record IsKnown (F : ℕ) (image : Image) (known : Known) : Type 0 where
-  pub indexed : (x : Index) → known.index ≡ Some (entries_of x) → IsIndexOf F known.at (types_of image) image x
-  pub full : AreLiveBefore (stored_in F known.at image) known.full_below
+  pub indexed : (x : Index) → known.index ≡ Some (entries_of x) → IsIndexOf F known.puddles (types_of image) image x
+  pub full : AreLiveBefore (stored_in F known.puddles image) known.full_below

@@ -124,7 +124,7 @@ impl KnownPool {
     pub fn moved(&mut self, was: Val, now: Val)
         ensures follows { Follows (after_move was now) self.old.index self.new.index }
         ensures kept { (x : Index) → self.old.index ≡ Option.Some (entries_of x) → MayMove was now x → is_some self.new.index ≡ true }
-        ensures puddles { self.new.at ≡ self.old.at }
+        ensures puddles { self.new.puddles ≡ self.old.puddles }
         ensures full { self.new.full_below ≡ self.old.full_below }
     {
         retarget(&mut self.index, was, now);
@@ -132,10 +132,10 @@ impl KnownPool {
 
     /// An object of serial `s` was made in a slot, before which each is live. The index goes for want of memory.
     pub fn made(&mut self, s: u64, at: &Slot)
-        requires few { length self.old.at ≤ MAX_PUDDLES }
-        requires within { IsSlotOf self.old.at at.now }
+        requires few { length self.old.puddles ≤ MAX_PUDDLES }
+        requires within { IsSlotOf self.old.puddles at.now }
         ensures follows { Follows (after_made s at.now) self.old.index self.new.index }
-        ensures puddles { self.new.at ≡ self.old.at }
+        ensures puddles { self.new.puddles ≡ self.old.puddles }
         ensures full { self.new.full_below ≡ place_of_slot at.now + 1 }
     {
         self.full_below = place_of(self.puddles.as_slice(), at) + 1;
@@ -161,13 +161,13 @@ impl KnownPool {
     ) -> Result<(), HostFault>
         requires few { frames ≤ MAX_FRAMES }
         requires room { device_words frames ≤ (H.counts h.old).size }
-        requires known { IsOnDevice frames self.old.at }
-        requires within { IsSlotOf self.old.at at.now }
+        requires known { IsOnDevice frames self.old.puddles }
+        requires within { IsSlotOf self.old.puddles at.now }
         ensures lets_go { H.tells → (image : Image) → reads (H.state h.old).now.words ≡ image
-            → (g : Graph) → graph_of (types_of image) (stored_in frames self.old.at image) ≡ Option.Some g
-            → place_in_pool frames self.old.at image s ≡ Option.Some (place_of_slot at.now) → IsKnown frames image self.old
-            → IfOk result (λ _. (x : Index) → self.new.index ≡ Option.Some (entries_of x) → LetsGo (place_in_pool frames self.old.at image) g s x) }
-        ensures puddles { self.new.at ≡ self.old.at }
+            → (g : Graph) → graph_of (types_of image) (stored_in frames self.old.puddles image) ≡ Option.Some g
+            → place_in_pool frames self.old.puddles image s ≡ Option.Some (place_of_slot at.now) → IsKnown frames image self.old
+            → IfOk result (λ _. (x : Index) → self.new.index ≡ Option.Some (entries_of x) → LetsGo (place_in_pool frames self.old.puddles image) g s x) }
+        ensures puddles { self.new.puddles ≡ self.old.puddles }
         ensures full { IfOk result (λ _. self.new.full_below ≡ min self.old.full_below (place_of_slot at.now)) }
         ensures only_reads { OnlyReads H.tells H.state H.counts (fault_of result) h.old h.new }
     {

@@ -41,7 +41,7 @@ impl Model for KnownPool {
 
     ghost Value = { Known };
 
-    ghost view = { λ k. record { at = k.puddles; index = option_map entries_of k.index; full_below = k.full_below } };
+    ghost view = { λ k. record { puddles = k.puddles; index = option_map entries_of k.index; full_below = k.full_below } };
 }
 
 impl KnownPool {
@@ -59,7 +59,7 @@ impl KnownPool {
 
     /// Its puddles by their ordinals, each with its frame.
     pub fn as_slice(&self) -> &[(u32, Puddle)]
-        ensures puddles { result.now ≡ self.now.at }
+        ensures puddles { result.now ≡ self.now.puddles }
         ensures few { length result.now ≤ MAX_PUDDLES }
     {
         self.puddles.as_slice()
@@ -74,7 +74,7 @@ impl KnownPool {
 
     /// Forgets all but its puddles.
     pub fn forget(&mut self)
-        ensures { self.new ≡ by_puddles self.old.at }
+        ensures { self.new ≡ by_puddles self.old.puddles }
     {
         self.index = None;
         self.full_below = 0;

@@ -53,11 +53,11 @@ impl KnownPool {
     ) -> Result<(), HostFault>
         requires few { frames ≤ MAX_FRAMES }
         requires room { device_words frames ≤ (H.counts h.old).size }
-        requires known { IsOnDevice frames self.old.at }
+        requires known { IsOnDevice frames self.old.puddles }
         ensures known { H.tells → (image : Image) → reads (H.state h.old).now.words ≡ image
-            → (g : Graph) → graph_of (types_of image) (stored_in frames self.old.at image) ≡ Option.Some g
+            → (g : Graph) → graph_of (types_of image) (stored_in frames self.old.puddles image) ≡ Option.Some g
             → IsKnown frames image self.old → IsKnown frames image self.new }
-        ensures puddles { self.new.at ≡ self.old.at }
+        ensures puddles { self.new.puddles ≡ self.old.puddles }
         ensures full { self.new.full_below ≡ self.old.full_below }
         ensures kept { (x : Index) → self.old.index ≡ Option.Some (entries_of x) → self.new ≡ self.old }
         ensures only_reads { OnlyReads H.tells H.state H.counts (fault_of result) h.old h.new }
@@ -79,13 +79,13 @@ impl KnownPool {
     pub fn find<H: Loads>(&self, h: &mut H, frames: u32, s: u64) -> Result<Option<Slot>, HostFault>
         requires few { frames ≤ MAX_FRAMES }
         requires room { device_words frames ≤ (H.counts h.old).size }
-        requires known { IsOnDevice frames self.now.at }
+        requires known { IsOnDevice frames self.now.puddles }
         ensures found { H.tells → (image : Image) → reads (H.state h.old).now.words ≡ image → IsKnown frames image self.now
-            → IfOk result (λ found. option_map place_of_slot found ≡ place_in_pool frames self.now.at image s) }
+            → IfOk result (λ found. option_map place_of_slot found ≡ place_in_pool frames self.now.puddles image s) }
         ensures object { H.tells → (image : Image) → reads (H.state h.old).now.words ≡ image → IsKnown frames image self.now
-            → (g : Graph) → graph_of (types_of image) (stored_in frames self.now.at image) ≡ Option.Some g
+            → (g : Graph) → graph_of (types_of image) (stored_in frames self.now.puddles image) ≡ Option.Some g
             → IfOk result (λ found. is_none found ≡ is_none (object_in s g)) }
-        ensures within { IfOk result (λ found. IfSome found (IsSlotOf self.now.at)) }
+        ensures within { IfOk result (λ found. IfSome found (IsSlotOf self.now.puddles)) }
         ensures only_reads { OnlyReads H.tells H.state H.counts (fault_of result) h.old h.new }
     {
         match &self.index {
@@ -100,9 +100,9 @@ impl KnownPool {
     pub fn is_held<H: Loads>(&self, h: &mut H, frames: u32, s: u64) -> Result<bool, HostFault>
         requires few { frames ≤ MAX_FRAMES }
         requires room { device_words frames ≤ (H.counts h.old).size }
-        requires known { IsOnDevice frames self.now.at }
+        requires known { IsOnDevice frames self.now.puddles }
         ensures held { H.tells → (image : Image) → reads (H.state h.old).now.words ≡ image → IsKnown frames image self.now → (g : Graph)
-            → graph_of (types_of image) (stored_in frames self.now.at image) ≡ Option.Some g → IfOk result (λ held. held ≡ is_held s g) }
+            → graph_of (types_of image) (stored_in frames self.now.puddles image) ≡ Option.Some g → IfOk result (λ held. held ≡ is_held s g) }
         ensures only_reads { OnlyReads H.tells H.state H.counts (fault_of result) h.old h.new }
     {
         if let Some(index) = &self.index {
@@ -125,12 +125,12 @@ impl KnownPool {
     ) -> Result<FieldRead, HostFault>
         requires few { frames ≤ MAX_FRAMES }
         requires room { device_words frames ≤ (H.counts h.old).size }
-        requires known { IsOnDevice frames self.now.at }
+        requires known { IsOnDevice frames self.now.puddles }
         requires field { f < MAX_FIELDS }
         ensures read { H.tells → (image : Image) → reads (H.state h.old).now.words ≡ image → IsKnown frames image self.now
-            → IfOk result (λ read. read ≡ field_in frames self.now.at image s f) }
+            → IfOk result (λ read. read ≡ field_in frames self.now.puddles image s f) }
         ensures object { H.tells → (image : Image) → reads (H.state h.old).now.words ≡ image → IsKnown frames image self.now
-            → (g : Graph) → graph_of (types_of image) (stored_in frames self.now.at image) ≡ Option.Some g
+            → (g : Graph) → graph_of (types_of image) (stored_in frames self.now.puddles image) ≡ Option.Some g
             → IfOk result (λ read. read ≡ read_by (object_in s g) f) }
         ensures only_reads { OnlyReads H.tells H.state H.counts (fault_of result) h.old h.new }
     {

@@ -23,7 +23,7 @@ use Rattle.pm_model.proofs.OneWord.{value_of_only}
 
 -- the word behind those that count
 abbrev pub behind : OpenLog → ℕ
-behind log = log.at + LOG_HEADER_WORDS + log.used
+behind log = log.gate_at + LOG_HEADER_WORDS + log.used
 
 -- the gate that counts so many words more
 abbrev pub next_gate : OpenLog → (count : ℕ) → ℕ
@@ -37,26 +37,26 @@ pub record IsBlock (log : OpenLog) (count : ℕ) (ws : List ℕ) : Type 0 where
 -- ---- which words are written
 
 module _ (log : OpenLog) (count : ℕ) (ws : List ℕ) where
-  write_gate : (k : ℕ) → k ≡ log.at → words_write log count ws k ≡ Some (next_gate log count)
-  write_gate k is = rw (eq-eqb k log.at is) refl
+  write_gate : (k : ℕ) → k ≡ log.gate_at → words_write log count ws k ≡ Some (next_gate log count)
+  write_gate k is = rw (eq-eqb k log.gate_at is) refl
 
-  write_behind : (k : ℕ) → (k ≡ log.at → ⊥) → words_write log count ws k ≡ placed (behind log) ws k
-  write_behind k apart = rw (ne_eqb k log.at apart) refl
+  write_behind : (k : ℕ) → (k ≡ log.gate_at → ⊥) → words_write log count ws k ≡ placed (behind log) ws k
+  write_behind k apart = rw (ne_eqb k log.gate_at apart) refl
 
   words_are_written : (k v : ℕ) → written (placed (behind log) ws) k v → written (words_write log count ws) k v
   words_are_written k v is =
       let place = placed_within (behind log) k v ws is in
       write_behind k (λ same. absurd (omega arith)) ∙ is
 
-  gate_is_written : (k v : ℕ) → written (only log.at (next_gate log count)) k v → written (words_write log count ws) k v
+  gate_is_written : (k v : ℕ) → written (only log.gate_at (next_gate log count)) k v → written (words_write log count ws) k v
   gate_is_written k v is =
-      let here = only_at log.at (next_gate log count) k v is in
-      let value = value_of_only log.at (next_gate log count) v (subst (λ (n : ℕ). only log.at (next_gate log count) n ≡ Some v) here is) in
+      let here = only_at log.gate_at (next_gate log count) k v is in
+      let value = value_of_only log.gate_at (next_gate log count) v (subst (λ (n : ℕ). only log.gate_at (next_gate log count) n ≡ Some v) here is) in
       write_gate k here ∙ ap Some (sym value)
 
   -- only words of the log, and none that counts but the gate
-  written_within : (k v : ℕ) → count ≡ length ws → written (words_write log count ws) k v → (k ≡ log.at) ⊎ ((behind log ≤ k) × (k < behind log + count))
-  written_within k v counted is = elim (cases_eq k log.at) [
+  written_within : (k v : ℕ) → count ≡ length ws → written (words_write log count ws) k v → (k ≡ log.gate_at) ⊎ ((behind log ≤ k) × (k < behind log + count))
+  written_within k v counted is = elim (cases_eq k log.gate_at) [
     | inl here ↦ inl here
     | inr apart ↦
         let place = placed_within (behind log) k v ws (sym (write_behind k apart) ∙ is) in
@@ -72,30 +72,30 @@ module _ (log : OpenLog) (count : ℕ) (ws : List ℕ) where
 
   -- they are durable, and then the gate is set
   pub Persists-both : (fault : Option HostFault) (s t u : State) → Persists (placed (behind log) ws) None s t
-      → Persists (only log.at (next_gate log count)) fault t u → Persists (words_write log count ws) fault s u
+      → Persists (only log.gate_at (next_gate log count)) fault t u → Persists (words_write log count ws) fault s u
   Persists-both fault s t u first second =
       record {
         changes = Changes-then (written (words_write log count ws)) fault s t u
             (Changes-wider (written (placed (behind log) ws)) (written (words_write log count ws)) None s t words_are_written first.changes)
-            (Changes-wider (written (only log.at (next_gate log count))) (written (words_write log count ws)) fault t u gate_is_written second.changes);
-        durable = λ none k v is. elim (cases_eq k log.at) [
+            (Changes-wider (written (only log.gate_at (next_gate log count))) (written (words_write log count ws)) fault t u gate_is_written second.changes);
+        durable = λ none k v is. elim (cases_eq k log.gate_at) [
           | inl here ↦
               let value = same_Some v (next_gate log count) (sym is ∙ write_gate k here) in
-              second.durable none k v (ap (only log.at (next_gate log count)) here ∙ only_here log.at (next_gate log count) ∙ ap Some (sym value))
+              second.durable none k v (ap (only log.gate_at (next_gate log count)) here ∙ only_here log.gate_at (next_gate log count) ∙ ap Some (sym value))
           | inr apart ↦
-              HasOnly-kept (written (only log.at (next_gate log count))) fault t u k v second.changes (λ x may. apart (only_at log.at (next_gate log count) k x may))
+              HasOnly-kept (written (only log.gate_at (next_gate log count))) fault t u k v second.changes (λ x may. apart (only_at log.gate_at (next_gate log count) k x may))
               (first.durable refl k v (sym (write_behind k apart) ∙ is))
         ];
       }
 
 -- what is written for a block that fits lies within its log
-pub written_in_log : (log : OpenLog) (count : ℕ) (ws : List ℕ) → IsBlock log count ws → (k v : ℕ) → written (words_write log count ws) k v → InLog log.at k v
+pub written_in_log : (log : OpenLog) (count : ℕ) (ws : List ℕ) → IsBlock log count ws → (k v : ℕ) → written (words_write log count ws) k v → InLog log.gate_at k v
 written_in_log log count ws block k v is =
     let room = block.room in
     elim (written_within log count ws k v block.counted is) [ inl here ↦ record { low = omega arith; high = omega arith } | inr inside ↦ record { low = omega arith; high = omega arith } ]
 
-pub changes_in_log : (log : OpenLog) (count : ℕ) (ws : List ℕ) (fault : Option HostFault) (s t : State) → IsBlock log count ws → Persists (words_write log count ws) fault s t → Changes (InLog log.at) fault s t
-changes_in_log log count ws fault s t block p = Changes-wider (written (words_write log count ws)) (InLog log.at) fault s t (written_in_log log count ws block) p.changes
+pub changes_in_log : (log : OpenLog) (count : ℕ) (ws : List ℕ) (fault : Option HostFault) (s t : State) → IsBlock log count ws → Persists (words_write log count ws) fault s t → Changes (InLog log.gate_at) fault s t
+changes_in_log log count ws fault s t block p = Changes-wider (written (words_write log count ws)) (InLog log.gate_at) fault s t (written_in_log log count ws block) p.changes
 
 -- ---- which entries there are then
 
@@ -138,16 +138,16 @@ module _ (log : OpenLog) (es : List Entry) (count : ℕ) (ws : List ℕ) (more :
   words_may = written (placed (behind log) ws)
 
   abbrev Grown : Image → Type 0
-  Grown = HasGrown s.now.words log.at more
+  Grown = HasGrown s.now.words log.gate_at more
 
   -- the words that count as they were, the block behind them, and a gate that counts it
-  log_of-grown : (image : Image) → image log.at ≡ next_gate log count
-      → ((k : ℕ) → log.at + LOG_HEADER_WORDS ≤ k → k < behind log → image k ≡ (s.now.words k).newest)
+  log_of-grown : (image : Image) → image log.gate_at ≡ next_gate log count
+      → ((k : ℕ) → log.gate_at + LOG_HEADER_WORDS ≤ k → k < behind log → image k ≡ (s.now.words k).newest)
       → ((i : ℕ) → i < length ws → image (behind log + i) ≡ get_or ws i 0)
-      → log_of image log.at ≡ saying log (es ++ more)
+      → log_of image log.gate_at ≡ saying log (es ++ more)
   log_of-grown image gate same holds =
       let fits = IsOpen-fits log es s.now.words open_log in
-      let start = log.at + LOG_HEADER_WORDS in
+      let start = log.gate_at + LOG_HEADER_WORDS in
       let old = words_from (reads s.now.words) start log.used in
       let are : words_from image start (log.used + count) ≡ old ++ ws =
       words_from-add image start log.used count
@@ -162,8 +162,8 @@ module _ (log : OpenLog) (es : List Entry) (count : ℕ) (ws : List ℕ) (more :
   IsOpen-grown u p =
       let room = block.room in
       let counted = block.counted in
-      let gate : HasOnly (u.now.words log.at) (next_gate log count) = p.durable refl log.at (next_gate log count) (write_gate log count ws log.at refl) in
-      let kept = λ (k : ℕ) (low : log.at + LOG_HEADER_WORDS ≤ k) (high : k < behind log).
+      let gate : HasOnly (u.now.words log.gate_at) (next_gate log count) = p.durable refl log.gate_at (next_gate log count) (write_gate log count ws log.gate_at refl) in
+      let kept = λ (k : ℕ) (low : log.gate_at + LOG_HEADER_WORDS ≤ k) (high : k < behind log).
       HasOnly-kept (written (words_write log count ws)) None s u k (s.now.words k).newest p.changes
       (λ x may. elim (written_within log count ws k x counted may) [ inl here ↦ absurd (omega arith) | inr inside ↦ absurd (omega arith) ]) (open_log.counted k low high) in
       let new = λ (i : ℕ) (h : i < length ws).
@@ -178,7 +178,7 @@ module _ (log : OpenLog) (es : List Entry) (count : ℕ) (ws : List ℕ) (more :
               HasOnly-own (u.now.words k) (get_or ws i 0) (subst (λ (n : ℕ). HasOnly (u.now.words n) (get_or ws i 0)) place (new i (omega arith)))
           | inr early ↦ HasOnly-own (u.now.words k) (s.now.words k).newest (kept k low early.1)
         ];
-        says = log_of-grown (reads u.now.words) (HasOnly-newest (u.now.words log.at) _ gate)
+        says = log_of-grown (reads u.now.words) (HasOnly-newest (u.now.words log.gate_at) _ gate)
             (λ k low high. HasOnly-newest (u.now.words k) (s.now.words k).newest (kept k low high))
             (λ i h. HasOnly-newest (u.now.words (behind log + i)) _ (new i h));
         asked = ap (asks_with more) open_log.asked ∙ sym (asks-append es more);
@@ -191,7 +191,7 @@ module _ (log : OpenLog) (es : List Entry) (count : ℕ) (ws : List ℕ) (more :
       elim counts.is [ inl gate ↦ absurd (omega arith) | inr entry ↦ absurd (omega arith) ]
 
   -- nor does a word outside the log
-  block_inside : (k v : ℕ) → words_may k v → InLog log.at k v
+  block_inside : (k v : ℕ) → words_may k v → InLog log.gate_at k v
   block_inside k v is = written_in_log log count ws block k v (words_are_written log count ws k v is)
 
   -- images left while the block is written
@@ -205,22 +205,22 @@ module _ (log : OpenLog) (es : List Entry) (count : ℕ) (ws : List ℕ) (more :
         picked = picked;
         outside = λ k apart. elim (from.each k) [ inl was ↦ was | inr new ↦ absurd (apart (block_inside k (image k) new)) ];
         log = inl (
-            IsOpen-log_by log es s.now.words image open_log (same log.at (record { is = inl refl }) ∙ open_log.gate.each (before log.at) (picked.each log.at))
+            IsOpen-log_by log es s.now.words image open_log (same log.gate_at (record { is = inl refl }) ∙ open_log.gate.each (before log.gate_at) (picked.each log.gate_at))
             (λ k low high. same k (record { is = inr (low, high) }) ∙ (open_log.counted k low high).each (before k) (picked.each k))
             ∙ sym (IsOpen-log log es s.now.words before open_log picked));
       }) changes
 
   -- images left while the gate is set, the block being durable
-  second_images : (fault : Option HostFault) (t u : State) → Persists (placed (behind log) ws) None s t → Persists (only log.at (next_gate log count)) fault t u → Leaves (Silently Grown) t u
+  second_images : (fault : Option HostFault) (t u : State) → Persists (placed (behind log) ws) None s t → Persists (only log.gate_at (next_gate log count)) fault t u → Leaves (Silently Grown) t u
   second_images fault t u first second =
       let g = next_gate log count in
       let still : IsOpen log es t.now.words = IsOpen-kept_by words_may None s t log es first.changes block_apart open_log in
-      Leaves-changes Grown (written (only log.at g)) fault t u
+      Leaves-changes Grown (written (only log.gate_at g)) fault t u
       (λ half image picked from.
       let o = origin words_may s.now.words t.now.words half (Changes-now words_may None s t first.changes) picked in
-      let was : log_of o.before log.at ≡ saying log es = IsOpen-log log es s.now.words o.before open_log o.picked in
-      let other = λ (k : ℕ) (apart : k ≡ log.at → ⊥). (let it : image k ≡ half k = elim (from.each k) [ inl same ↦ same | inr new ↦ absurd (apart (only_at log.at g k (image k) new)) ] in it) in
-      let counted = λ (k : ℕ) (low : log.at + LOG_HEADER_WORDS ≤ k) (high : k < behind log).
+      let was : log_of o.before log.gate_at ≡ saying log es = IsOpen-log log es s.now.words o.before open_log o.picked in
+      let other = λ (k : ℕ) (apart : k ≡ log.gate_at → ⊥). (let it : image k ≡ half k = elim (from.each k) [ inl same ↦ same | inr new ↦ absurd (apart (only_at log.gate_at g k (image k) new)) ] in it) in
+      let counted = λ (k : ℕ) (low : log.gate_at + LOG_HEADER_WORDS ≤ k) (high : k < behind log).
       other k (λ here. absurd (omega arith)) ∙ (still.counted k low high).each (half k) (picked.each k) in
       record {
         before = o.before;
@@ -228,11 +228,11 @@ module _ (log : OpenLog) (es : List Entry) (count : ℕ) (ws : List ℕ) (more :
         outside = λ k apart.
             other k (λ here. apart (record { low = omega arith; high = omega arith }))
             ∙ (let it : half k ≡ o.before k = elim (o.from.each k) [ inl same ↦ same | inr new ↦ absurd (apart (block_inside k (half k) new)) ] in it);
-        log = elim (from.each log.at) [
+        log = elim (from.each log.gate_at) [
           | inl same ↦
-              inl (IsOpen-log_by log es t.now.words image still (same ∙ still.gate.each (half log.at) (picked.each log.at)) counted ∙ sym was)
+              inl (IsOpen-log_by log es t.now.words image still (same ∙ still.gate.each (half log.gate_at) (picked.each log.gate_at)) counted ∙ sym was)
           | inr new ↦
-              inr (log_of-grown image (value_of_only log.at g (image log.at) new)
+              inr (log_of-grown image (value_of_only log.gate_at g (image log.gate_at) new)
               (λ k low high. counted k low high ∙ HasOnly-newest (t.now.words k) (s.now.words k).newest
               (HasOnly-kept words_may None s t k (s.now.words k).newest first.changes (λ x. block_apart k x (record { is = inr (low, high) })) (open_log.counted k low high)))
               (λ i h. other (behind log + i) (λ here. absurd (omega arith))
@@ -241,7 +241,7 @@ module _ (log : OpenLog) (es : List Entry) (count : ℕ) (ws : List ℕ) (more :
         ];
       }) second.changes
 
-  pub both_images : (fault : Option HostFault) (t u : State) → Persists (placed (behind log) ws) None s t → Persists (only log.at (next_gate log count)) fault t u → Leaves (Silently Grown) s u
+  pub both_images : (fault : Option HostFault) (t u : State) → Persists (placed (behind log) ws) None s t → Persists (only log.gate_at (next_gate log count)) fault t u → Leaves (Silently Grown) s u
   both_images fault t u first second =
       let P = Silently Grown in
       let said = Changes-said words_may None s t first.changes in
@@ -258,10 +258,10 @@ Persists-spelled log ws of count fault s t are counted p =
     subst (λ (n : ℕ). Persists (words_write log n of) fault s t) (sym counted) (subst (λ (l : List ℕ). Persists (words_write log (length l) l) fault s t) are p)
 
 pub Appends-failed : (log : OpenLog) (es : List Entry) (count : ℕ) (more : List Entry) (fault : HostFault) (s t : State) → Persists (words_write log count (spelled_all more)) (Some fault) s t
-    → Leaves (Silently (HasGrown s.now.words log.at more)) s t → Appends log es count more (Err (Host fault)) s t
+    → Leaves (Silently (HasGrown s.now.words log.gate_at more)) s t → Appends log es count more (Err (Host fault)) s t
 Appends-failed log es count more fault s t p moments = record { writes = p.changes; moments = moments; done = tt }
 
 pub Appends-done : (log : OpenLog) (es : List Entry) (count : ℕ) (more : List Entry) (s t : State) → IsBlock log count (spelled_all more) → entries_in 0 (spelled_all more) ≡ Some more → IsOpen log es s.now.words
-    → Persists (words_write log count (spelled_all more)) None s t → Leaves (Silently (HasGrown s.now.words log.at more)) s t → Appends log es count more (Ok tt) s t
+    → Persists (words_write log count (spelled_all more)) None s t → Leaves (Silently (HasGrown s.now.words log.gate_at more)) s t → Appends log es count more (Ok tt) s t
 Appends-done log es count more s t block spells open_log p moments =
     record { writes = p.changes; moments = moments; done = IsOpen-grown log es count (spelled_all more) more s block spells open_log t p }

@@ -27,15 +27,15 @@ pub used_is : (log : OpenLog) → FitsGate log → gate_used (gate_word log.lo l
 used_is log fits = gate_used-of log.lo log.hi log.used fits.lo_fits fits.hi_fits (let h = fits.used_within in omega arith)
 
 -- a gate, and the words that it counts
-pub log_of-is : (image : Image) (log : OpenLog) (ws : List ℕ) (es : List Entry) → FitsGate log → image log.at ≡ gate_word log.lo log.hi log.used
-    → words_from image (log.at + LOG_HEADER_WORDS) log.used ≡ ws → entries_in 0 ws ≡ Some es → log_of image log.at ≡ saying log es
+pub log_of-is : (image : Image) (log : OpenLog) (ws : List ℕ) (es : List Entry) → FitsGate log → image log.gate_at ≡ gate_word log.lo log.hi log.used
+    → words_from image (log.gate_at + LOG_HEADER_WORDS) log.used ≡ ws → entries_in 0 ws ≡ Some es → log_of image log.gate_at ≡ saying log es
 log_of-is image log ws es fits gate words some =
     let few : log.used < 2 ^ 16 = let h = fits.used_within in omega arith in
-    let lo : gate_lo (image log.at) ≡ log.lo = ap gate_lo gate ∙ gate_lo-of log.lo log.hi log.used fits.lo_fits fits.hi_fits few in
-    let hi : gate_hi (image log.at) ≡ log.hi = ap gate_hi gate ∙ gate_hi-of log.lo log.hi log.used fits.lo_fits fits.hi_fits few in
-    let entries : entries_of image log.at ≡ Some es =
-    entries_of-is image log.at (gate_word log.lo log.hi log.used) ws gate (is_legal_gate-of log.lo log.hi log.used fits.lo_fits fits.hi_fits fits.used_within)
-    (ap (words_from image (log.at + LOG_HEADER_WORDS)) (used_is log fits) ∙ words) ∙ some in
+    let lo : gate_lo (image log.gate_at) ≡ log.lo = ap gate_lo gate ∙ gate_lo-of log.lo log.hi log.used fits.lo_fits fits.hi_fits few in
+    let hi : gate_hi (image log.gate_at) ≡ log.hi = ap gate_hi gate ∙ gate_hi-of log.lo log.hi log.used fits.lo_fits fits.hi_fits few in
+    let entries : entries_of image log.gate_at ≡ Some es =
+    entries_of-is image log.gate_at (gate_word log.lo log.hi log.used) ws gate (is_legal_gate-of log.lo log.hi log.used fits.lo_fits fits.hi_fits fits.used_within)
+    (ap (words_from image (log.gate_at + LOG_HEADER_WORDS)) (used_is log fits) ∙ words) ∙ some in
     λ p. record { lo = lo p; hi = hi p; entries = entries p }
 
 -- ---- what is known of an open log
@@ -45,12 +45,12 @@ fits_by g lo hi used is lo_is hi_is below within = omega arith
 
 pub IsOpen-fits : (log : OpenLog) (es : List Entry) (words : Words) → IsOpen log es words → FitsGate log
 IsOpen-fits log es words open_log =
-    let g = (words log.at).newest in
-    let is : g ≡ gate_word log.lo log.hi log.used = HasOnly-newest (words log.at) _ open_log.gate in
+    let g = (words log.gate_at).newest in
+    let is : g ≡ gate_word log.lo log.hi log.used = HasOnly-newest (words log.gate_at) _ open_log.gate in
     let lo : gate_lo g ≡ log.lo = ap (λ (l : Log). l.lo) open_log.says in
     let hi : gate_hi g ≡ log.hi = ap (λ (l : Log). l.hi) open_log.says in
-    let entries : entries_of (reads words) log.at ≡ Some es = ap (λ (l : Log). l.entries) open_log.says in
-    let parts = and_parts (ltb g (2 ^ 32)) (leb (gate_used g) LOG_ENTRY_WORDS) (spells (reads words) log.at es entries).legal in
+    let entries : entries_of (reads words) log.gate_at ≡ Some es = ap (λ (l : Log). l.entries) open_log.says in
+    let parts = and_parts (ltb g (2 ^ 32)) (leb (gate_used g) LOG_ENTRY_WORDS) (spells (reads words) log.gate_at es entries).legal in
     record {
       lo_fits = omega arith;
       hi_fits = omega arith;
@@ -58,48 +58,48 @@ IsOpen-fits log es words open_log =
     }
 
 pub IsOpen-words : (log : OpenLog) (es : List Entry) (words : Words) → IsOpen log es words
-    → entries_in 0 (words_from (reads words) (log.at + LOG_HEADER_WORDS) log.used) ≡ Some es
+    → entries_in 0 (words_from (reads words) (log.gate_at + LOG_HEADER_WORDS) log.used) ≡ Some es
 IsOpen-words log es words open_log =
-    let entries : entries_of (reads words) log.at ≡ Some es = ap (λ (l : Log). l.entries) open_log.says in
-    let gate : gate_used (words log.at).newest ≡ log.used = ap gate_used (HasOnly-newest (words log.at) _ open_log.gate) ∙ used_is log (IsOpen-fits log es words open_log) in
-    ap (λ n. entries_in 0 (words_from (reads words) (log.at + LOG_HEADER_WORDS) n)) (sym gate) ∙ (spells (reads words) log.at es entries).words
+    let entries : entries_of (reads words) log.gate_at ≡ Some es = ap (λ (l : Log). l.entries) open_log.says in
+    let gate : gate_used (words log.gate_at).newest ≡ log.used = ap gate_used (HasOnly-newest (words log.gate_at) _ open_log.gate) ∙ used_is log (IsOpen-fits log es words open_log) in
+    ap (λ n. entries_in 0 (words_from (reads words) (log.gate_at + LOG_HEADER_WORDS) n)) (sym gate) ∙ (spells (reads words) log.gate_at es entries).words
 
 -- an image that agrees with the words of an open log on its gate and on what it counts says the same
-pub IsOpen-log_by : (log : OpenLog) (es : List Entry) (words : Words) (image : Image) → IsOpen log es words → image log.at ≡ gate_word log.lo log.hi log.used
-    → ((k : ℕ) → log.at + LOG_HEADER_WORDS ≤ k → k < log.at + LOG_HEADER_WORDS + log.used → image k ≡ (words k).newest) → log_of image log.at ≡ saying log es
+pub IsOpen-log_by : (log : OpenLog) (es : List Entry) (words : Words) (image : Image) → IsOpen log es words → image log.gate_at ≡ gate_word log.lo log.hi log.used
+    → ((k : ℕ) → log.gate_at + LOG_HEADER_WORDS ≤ k → k < log.gate_at + LOG_HEADER_WORDS + log.used → image k ≡ (words k).newest) → log_of image log.gate_at ≡ saying log es
 IsOpen-log_by log es words image open_log gate same =
-    log_of-is image log _ es (IsOpen-fits log es words open_log) gate (words_from-same image (reads words) (log.at + LOG_HEADER_WORDS) log.used same) (IsOpen-words log es words open_log)
+    log_of-is image log _ es (IsOpen-fits log es words open_log) gate (words_from-same image (reads words) (log.gate_at + LOG_HEADER_WORDS) log.used same) (IsOpen-words log es words open_log)
 
 -- each image that may be left says it
-pub IsOpen-log : (log : OpenLog) (es : List Entry) (words : Words) (image : Image) → IsOpen log es words → Picks words image → log_of image log.at ≡ saying log es
+pub IsOpen-log : (log : OpenLog) (es : List Entry) (words : Words) (image : Image) → IsOpen log es words → Picks words image → log_of image log.gate_at ≡ saying log es
 IsOpen-log log es words image open_log picked =
-    IsOpen-log_by log es words image open_log (open_log.gate.each (image log.at) (picked.each log.at)) (λ k low high. (open_log.counted k low high).each (image k) (picked.each k))
+    IsOpen-log_by log es words image open_log (open_log.gate.each (image log.gate_at) (picked.each log.gate_at)) (λ k low high. (open_log.counted k low high).each (image k) (picked.each k))
 
 -- ---- after other calls
 
 -- the words of a log that count
 pub record IsCounted (log : OpenLog) (k : ℕ) : Type 0 where
-  pub is : (k ≡ log.at) ⊎ ((log.at + LOG_HEADER_WORDS ≤ k) × (k < log.at + LOG_HEADER_WORDS + log.used))
+  pub is : (k ≡ log.gate_at) ⊎ ((log.gate_at + LOG_HEADER_WORDS ≤ k) × (k < log.gate_at + LOG_HEADER_WORDS + log.used))
 
 -- calls that give the words that count no value leave the log open
 pub IsOpen-kept_by : (may : Footprint) (fault : Option HostFault) (old new : State) (log : OpenLog) (es : List Entry) → Changes may fault old new
     → ((k v : ℕ) → IsCounted log k → may k v → ⊥) → IsOpen log es old.now.words → IsOpen log es new.now.words
 IsOpen-kept_by may fault old new log es changes apart open_log =
     let kept = λ (k v : ℕ) (counts : IsCounted log k) (one : HasOnly (old.now.words k) v). HasOnly-kept may fault old new k v changes (λ x. apart k x counts) one in
-    let gate : HasOnly (new.now.words log.at) (gate_word log.lo log.hi log.used) = kept log.at _ (record { is = inl refl }) open_log.gate in
-    let counted = λ (k : ℕ) (low : log.at + LOG_HEADER_WORDS ≤ k) (high : k < log.at + LOG_HEADER_WORDS + log.used).
+    let gate : HasOnly (new.now.words log.gate_at) (gate_word log.lo log.hi log.used) = kept log.gate_at _ (record { is = inl refl }) open_log.gate in
+    let counted = λ (k : ℕ) (low : log.gate_at + LOG_HEADER_WORDS ≤ k) (high : k < log.gate_at + LOG_HEADER_WORDS + log.used).
     kept k (old.now.words k).newest (record { is = inr (low, high) }) (open_log.counted k low high) in
     record {
       gate = gate;
       counted = λ k low high. HasOnly-own (new.now.words k) (old.now.words k).newest (counted k low high);
-      says = IsOpen-log_by log es old.now.words (reads new.now.words) open_log (HasOnly-newest (new.now.words log.at) _ gate)
+      says = IsOpen-log_by log es old.now.words (reads new.now.words) open_log (HasOnly-newest (new.now.words log.gate_at) _ gate)
           (λ k low high. HasOnly-newest (new.now.words k) (old.now.words k).newest (counted k low high));
       asked = open_log.asked;
     }
 
 -- calls that give the words of the log no value leave it open
 pub IsOpen-kept : (may : Footprint) (fault : Option HostFault) (old new : State) (log : OpenLog) (es : List Entry) → Changes may fault old new
-    → ((k v : ℕ) → InLog log.at k v → may k v → ⊥) → IsOpen log es old.now.words → IsOpen log es new.now.words
+    → ((k v : ℕ) → InLog log.gate_at k v → may k v → ⊥) → IsOpen log es old.now.words → IsOpen log es new.now.words
 IsOpen-kept may fault old new log es changes apart open_log =
     let within = (IsOpen-fits log es old.now.words open_log).used_within in
     IsOpen-kept_by may fault old new log es changes
@@ -113,11 +113,11 @@ only_here w v = rw (eq-eqb w w refl) refl
 
 -- the gate of a running log alone makes it an open one without entries
 pub IsOpen-running : (at : ℕ) (old new : State) → Persists (only at RUNNING_GATE) None old new
-    → IsOpen (record { at = at; lo = RUNNING_LO; hi = RUNNING_HI; used = 0; asks = false }) [] new.now.words
+    → IsOpen (record { gate_at = at; lo = RUNNING_LO; hi = RUNNING_HI; used = 0; asks = false }) [] new.now.words
 unfolding entries_in
 IsOpen-running at old new p =
     let gate = p.durable refl at RUNNING_GATE (only_here at RUNNING_GATE) in
-    let log : OpenLog = record { at = at; lo = RUNNING_LO; hi = RUNNING_HI; used = 0; asks = false } in
+    let log : OpenLog = record { gate_at = at; lo = RUNNING_LO; hi = RUNNING_HI; used = 0; asks = false } in
     record {
       gate = gate;
       counted = λ k low high. absurd (omega arith);
@@ -128,44 +128,44 @@ IsOpen-running at old new p =
 
 -- the gate of another range alone makes it one with that range
 pub IsOpen-moved : (lo hi : ℕ) (log : OpenLog) (es : List Entry) (old new : State) → lo < 2 ^ 8 → hi < 2 ^ 8 → IsOpen log es old.now.words
-    → Persists (only log.at (gate_word lo hi log.used)) None old new → IsOpen (record log { lo = lo; hi = hi }) es new.now.words
+    → Persists (only log.gate_at (gate_word lo hi log.used)) None old new → IsOpen (record log { lo = lo; hi = hi }) es new.now.words
 IsOpen-moved lo hi log es old new lo_fits hi_fits open_log p =
     let g = gate_word lo hi log.used in
-    let gate = p.durable refl log.at g (only_here log.at g) in
-    let counted = λ (k : ℕ) (low : log.at + LOG_HEADER_WORDS ≤ k) (high : k < log.at + LOG_HEADER_WORDS + log.used).
-    let apart : k ≡ log.at → ⊥ = λ e. absurd (omega arith) in
-    HasOnly-kept (written (only log.at g)) None old new k (old.now.words k).newest p.changes (λ x may. apart (only_at log.at g k x may)) (open_log.counted k low high) in
+    let gate = p.durable refl log.gate_at g (only_here log.gate_at g) in
+    let counted = λ (k : ℕ) (low : log.gate_at + LOG_HEADER_WORDS ≤ k) (high : k < log.gate_at + LOG_HEADER_WORDS + log.used).
+    let apart : k ≡ log.gate_at → ⊥ = λ e. absurd (omega arith) in
+    HasOnly-kept (written (only log.gate_at g)) None old new k (old.now.words k).newest p.changes (λ x may. apart (only_at log.gate_at g k x may)) (open_log.counted k low high) in
     record {
       gate = gate;
       counted = λ k low high. HasOnly-own (new.now.words k) (old.now.words k).newest (counted k low high);
       says = log_of-is (reads new.now.words) (record log { lo = lo; hi = hi }) _ es
           (record { lo_fits = lo_fits; hi_fits = hi_fits; used_within = (IsOpen-fits log es old.now.words open_log).used_within })
-          (HasOnly-newest (new.now.words log.at) g gate)
-          (words_from-same (reads new.now.words) (reads old.now.words) (log.at + LOG_HEADER_WORDS) log.used (λ k low high. HasOnly-newest (new.now.words k) (old.now.words k).newest (counted k low high)))
+          (HasOnly-newest (new.now.words log.gate_at) g gate)
+          (words_from-same (reads new.now.words) (reads old.now.words) (log.gate_at + LOG_HEADER_WORDS) log.used (λ k low high. HasOnly-newest (new.now.words k) (old.now.words k).newest (counted k low high)))
           (IsOpen-words log es old.now.words open_log);
       asked = open_log.asked;
     }
 
 -- while its gate is given another range, each image has the log as it was or with that range
 pub log_of-moving : (lo hi : ℕ) (log : OpenLog) (es : List Entry) (words : Words) (before image : Image) → lo < 2 ^ 8 → hi < 2 ^ 8 → IsOpen log es words → Picks words before
-    → IsFrom (written (only log.at (gate_word lo hi log.used))) before image → (log_of image log.at ≡ saying log es) ⊎ (log_of image log.at ≡ saying (record log { lo = lo; hi = hi }) es)
+    → IsFrom (written (only log.gate_at (gate_word lo hi log.used))) before image → (log_of image log.gate_at ≡ saying log es) ⊎ (log_of image log.gate_at ≡ saying (record log { lo = lo; hi = hi }) es)
 log_of-moving lo hi log es words before image lo_fits hi_fits open_log picked from =
     let g = gate_word lo hi log.used in
-    let counted = λ (k : ℕ) (low : log.at + LOG_HEADER_WORDS ≤ k) (high : k < log.at + LOG_HEADER_WORDS + log.used).
+    let counted = λ (k : ℕ) (low : log.gate_at + LOG_HEADER_WORDS ≤ k) (high : k < log.gate_at + LOG_HEADER_WORDS + log.used).
     (let it : image k ≡ (words k).newest = elim (from.each k) [
       | inl same ↦ same ∙ (open_log.counted k low high).each (before k) (picked.each k)
-      | inr new ↦ absurd (let here = only_at log.at g k (image k) new in omega arith)
+      | inr new ↦ absurd (let here = only_at log.gate_at g k (image k) new in omega arith)
     ] in it) in
-    elim (from.each log.at) [
-      | inl same ↦ inl (IsOpen-log_by log es words image open_log (same ∙ open_log.gate.each (before log.at) (picked.each log.at)) counted)
+    elim (from.each log.gate_at) [
+      | inl same ↦ inl (IsOpen-log_by log es words image open_log (same ∙ open_log.gate.each (before log.gate_at) (picked.each log.gate_at)) counted)
       | inr new ↦ inr (log_of-is image (record log { lo = lo; hi = hi }) _ es
           (record { lo_fits = lo_fits; hi_fits = hi_fits; used_within = (IsOpen-fits log es words open_log).used_within })
-          (value_of_only log.at g (image log.at) new) (words_from-same image (reads words) (log.at + LOG_HEADER_WORDS) log.used counted) (IsOpen-words log es words open_log))
+          (value_of_only log.gate_at g (image log.gate_at) new) (words_from-same image (reads words) (log.gate_at + LOG_HEADER_WORDS) log.used counted) (IsOpen-words log es words open_log))
     ]
 
 -- the gate of a closed log says the range (4,4) and no entry, whatever its other words hold
 pub log_of-closed : (at : ℕ) (image : Image) → image at ≡ CLOSED_GATE → log_of image at ≡ record { lo = COMMITTING_HI; hi = COMMITTING_HI; entries = Some [] }
 unfolding entries_in
 log_of-closed at image gate =
-    let log : OpenLog = record { at = at; lo = COMMITTING_HI; hi = COMMITTING_HI; used = 0; asks = false } in
+    let log : OpenLog = record { gate_at = at; lo = COMMITTING_HI; hi = COMMITTING_HI; used = 0; asks = false } in
     log_of-is image log [] [] (record { lo_fits = omega arith; hi_fits = omega arith; used_within = omega arith }) gate (words_from-none image (at + LOG_HEADER_WORDS) 0 refl) refl

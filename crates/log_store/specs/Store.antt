@@ -15,7 +15,7 @@ use Rattle.log_store.specs.declared.AppendFault.TheVariants as faults
 
 -- the word of the gate, the range, how many entry words count, and whether an entry asks for values
 pub record OpenLog : Type 0 where
-  pub at : ℕ
+  pub gate_at : ℕ
   pub lo : ℕ
   pub hi : ℕ
   pub used : ℕ
@@ -74,9 +74,9 @@ InLog at k v = IsInLog at k
 -- The words hold this log with these entries: its gate and each entry word that counts have one value, and say this; and what is known of whether
 -- one of them asks for values is so. What stands behind the words that count may be anything.
 pub record IsOpen (log : OpenLog) (es : List Entry) (words : Words) : Type 0 where
-  pub gate : HasOnly (words log.at) (gate_word log.lo log.hi log.used)
-  pub counted : (k : ℕ) → log.at + LOG_HEADER_WORDS ≤ k → k < log.at + LOG_HEADER_WORDS + log.used → HasOnly (words k) (words k).newest
-  pub says : log_of (reads words) log.at ≡ saying log es
+  pub gate : HasOnly (words log.gate_at) (gate_word log.lo log.hi log.used)
+  pub counted : (k : ℕ) → log.gate_at + LOG_HEADER_WORDS ≤ k → k < log.gate_at + LOG_HEADER_WORDS + log.used → HasOnly (words k) (words k).newest
+  pub says : log_of (reads words) log.gate_at ≡ saying log es
   pub asked : log.asks ≡ asks es
 
 -- the words that spell entries, one behind the other
@@ -88,7 +88,7 @@ spelled_all (e ∷ f ∷ es) = spelled e ++ spelled_all (f ∷ es)
 -- words behind those that count, and the gate that counts so many more
 abbrev pub words_write : OpenLog → (count : ℕ) → List ℕ → Write
 words_write log count words k =
-    cond (k == log.at) (Some (gate_word log.lo log.hi (log.used + count))) (placed (log.at + LOG_HEADER_WORDS + log.used) words k)
+    cond (k == log.gate_at) (Some (gate_word log.lo log.hi (log.used + count))) (placed (log.gate_at + LOG_HEADER_WORDS + log.used) words k)
 
 -- the log with more entries last
 abbrev pub with_last : List Entry → Log → Log
@@ -105,5 +105,5 @@ pub record HasGrown (words : Words) (at : ℕ) (more : List Entry) (image : Imag
 -- was or with all of them; at Ok each has them.
 pub record Appends (log : OpenLog) (es : List Entry) (count : ℕ) (more : List Entry) (result : Result (Unit {0}) AppendFault) (old new : State) : Type 0 where
   pub writes : Changes (written (words_write log count (spelled_all more))) (append_fault result) old new
-  pub moments : Leaves (Silently (HasGrown old.now.words log.at more)) old new
+  pub moments : Leaves (Silently (HasGrown old.now.words log.gate_at more)) old new
   pub done : IfOk result (λ _. IsOpen (with_entries count more log) (es ++ more) new.now.words)

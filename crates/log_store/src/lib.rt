@@ -46,7 +46,7 @@ impl From<HostFault> for AppendFault {
 /// A log that was opened: where it stands, its range, how many entry words count, and whether an entry asks for values.
 #[derive(Drop)]
 pub struct Log {
-    at: u32,
+    gate_at: u32,
     lo: u32,
     hi: u32,
     used: u32,
@@ -56,7 +56,7 @@ pub struct Log {
 impl Model for Log {
     ghost Value = { OpenLog };
 
-    ghost view = { λ log. record { at = log.at; lo = log.lo; hi = log.hi; used = log.used; asks = log.asks } };
+    ghost view = { λ log. record { gate_at = log.gate_at; lo = log.lo; hi = log.hi; used = log.used; asks = log.asks } };
 
     ghost invariant = { λ log. (log.lo < 2 ^ 8) × (log.hi < 2 ^ 8) × (log.used ≤ LOG_ENTRY_WORDS) };
 }
@@ -107,14 +107,14 @@ impl Log {
     /// The log lies in the device. The only errors are the host's own. The one word written is the gate.
     pub fn open_running<H: Host>(h: &mut H, at: u32) -> Result<Log, HostFault>
         requires { at + LOG_WORDS ≤ (H.counts h.old).size }
-        ensures opened { IfOk result (λ log. log ≡ record { at = at; lo = RUNNING_LO; hi = RUNNING_HI; used = 0; asks = false }) }
+        ensures opened { IfOk result (λ log. log ≡ record { gate_at = at; lo = RUNNING_LO; hi = RUNNING_HI; used = 0; asks = false }) }
         ensures persists { H.tells → Persists (only at RUNNING_GATE) (fault_of result) (H.state h.old) (H.state h.new) }
         ensures open { H.tells → IfOk result (λ log. IsOpen log [] (H.state h.new).now.words) }
         ensures cause { H.counts h.new ≡ after_fault (fault_of result) (H.counts h.old) }
     {
         persist_word(h, at, RUNNING_GATE)?;
         Ok(Log {
-            at,
+            gate_at: at,
             lo: RUNNING_LO,
             hi: RUNNING_HI,
             used: 0,
@@ -124,9 +124,9 @@ impl Log {
 
     /// The word of its gate.
     pub fn at(&self) -> u32
-        ensures { result ≡ self.now.at }
+        ensures { result ≡ self.now.gate_at }
     {
-        self.at
+        self.gate_at
     }
 
     /// How many of its entry words count, from 0 to 1,016.
@@ -147,19 +147,19 @@ impl Log {
     /// Appends words that spell entries, for which the log has room: they are durable before the gate that counts them is
     /// stored.
     fn append_fitting<H: Host>(&self, h: &mut H, words: &[u64]) -> Result<(), HostFault>
-        requires place { self.now.at + LOG_WORDS ≤ (H.counts h.old).size }
+        requires place { self.now.gate_at + LOG_WORDS ≤ (H.counts h.old).size }
         requires fits { self.now.used + length words.now ≤ LOG_ENTRY_WORDS }
         ensures persists { H.tells → Persists (words_write self.now (length words.now) words.now) (fault_of result) (H.state h.old) (H.state h.new) }
         ensures moments { H.tells → (es : List Entry) → (more : List Entry) → entries_in 0 words.now ≡ Option.Some more → IsOpen self.now es (H.state h.old).now.words
-            → Leaves (Silently (HasGrown (H.state h.old).now.words self.now.at more)) (H.state h.old) (H.state h.new) }
+            → Leaves (Silently (HasGrown (H.state h.old).now.words self.now.gate_at more)) (H.state h.old) (H.state h.new) }
         ensures cause { H.counts h.new ≡ after_fault (fault_of result) (H.counts h.old) }
     {
         // With this call the proof has that a device's words are counted by 32 bits, so that places of them are, too.
         let _words = h.words();
         let behind = self.used + words.len() as u32;
-        let at = self.at + LOG_HEADER_WORDS + self.used;
+        let at = self.gate_at + LOG_HEADER_WORDS + self.used;
         persist_range(h, at, words)?;
-        persist_gate(h, self.at, self.lo, self.hi, behind)
+        persist_gate(h, self.gate_at, self.lo, self.hi, behind)
     }
 
     /// Appends an entry. At `Ok` each image has it; before, each has the log as it was or with the whole entry.
@@ -174,7 +174,7 @@ impl Log {
         order: u32,
         vals: &[u64],
     ) -> Result<(), AppendFault>
-        requires place { self.old.at + LOG_WORDS ≤ (H.counts h.old).size }
+        requires place { self.old.gate_at + LOG_WORDS ≤ (H.counts h.old).size }
         requires some { 1 ≤ length vals.now }
         requires no_more { length vals.now ≤ MAX_ENTRY_VALUES }
         requires seq_fits { seq < 2 ^ 16 }
@@ -183,7 +183,7 @@ impl Log {
         ensures too_big_stays { H.tells → result ≡ Result.Err AppendFault.TooBig → H.state h.new ≡ H.state h.old }
         ensures appended { IfOk result (λ _. self.new ≡ with_entry (record { address = addr; seq = seq; order = order; vals = vals.now }) self.old) }
         ensures failed { OnErr result (self.new ≡ self.old) }
-        ensures changes { H.tells → Changes (InLog self.old.at) (append_fault result) (H.state h.old) (H.state h.new) }
+        ensures changes { H.tells → Changes (InLog self.old.gate_at) (append_fault result) (H.state h.old) (H.state h.new) }
         ensures appends { H.tells → (es : List Entry) → IsOpen self.old es (H.state h.old).now.words
             → Appends self.old es (length vals.now + ENTRY_HEADER_WORDS) (record { address = addr; seq = seq; order = order; vals = vals.now } ∷ []) result (H.state h.old) (H.state h.new) }
         ensures cause { H.counts h.new ≡ after_fault (append_fault result) (H.counts h.old) }
@@ -213,14 +213,14 @@ impl Log {
         addr2: u64,
         word: u64,
     ) -> Result<(), AppendFault>
-        requires place { self.old.at + LOG_WORDS ≤ (H.counts h.old).size }
+        requires place { self.old.gate_at + LOG_WORDS ≤ (H.counts h.old).size }
         requires some { 1 ≤ length vals.now }
         requires no_more { length vals.now ≤ MAX_ENTRY_VALUES }
         ensures too_big { (result ≡ Result.Err AppendFault.TooBig) ↔ (LOG_ENTRY_WORDS < self.old.used + (length vals.now + 5)) }
         ensures too_big_stays { H.tells → result ≡ Result.Err AppendFault.TooBig → H.state h.new ≡ H.state h.old }
         ensures appended { IfOk result (λ _. self.new ≡ longer (length vals.now + 5) self.old) }
         ensures failed { OnErr result (self.new ≡ self.old) }
-        ensures changes { H.tells → Changes (InLog self.old.at) (append_fault result) (H.state h.old) (H.state h.new) }
+        ensures changes { H.tells → Changes (InLog self.old.gate_at) (append_fault result) (H.state h.old) (H.state h.new) }
         ensures appends { H.tells → (es : List Entry) → IsOpen self.old es (H.state h.old).now.words
             → Appends self.old es (length vals.now + 5) (undo_entry addr vals.now ∷ undo_entry addr2 (word ∷ []) ∷ []) result (H.state h.old) (H.state h.new) }
         ensures cause { H.counts h.new ≡ after_fault (append_fault result) (H.counts h.old) }
@@ -240,14 +240,14 @@ impl Log {
     ///
     /// The only errors are the host's own; after one `self` is as it was.
     pub fn to_committing<H: Host>(&mut self, h: &mut H) -> Result<(), HostFault>
-        requires { self.old.at + LOG_WORDS ≤ (H.counts h.old).size }
+        requires { self.old.gate_at + LOG_WORDS ≤ (H.counts h.old).size }
         ensures moved { IfOk result (λ _. self.new ≡ committing self.old) }
         ensures failed { OnErr result (self.new ≡ self.old) }
-        ensures persists { H.tells → Persists (only self.old.at (gate_word COMMITTING_LO COMMITTING_HI self.old.used)) (fault_of result) (H.state h.old) (H.state h.new) }
+        ensures persists { H.tells → Persists (only self.old.gate_at (gate_word COMMITTING_LO COMMITTING_HI self.old.used)) (fault_of result) (H.state h.old) (H.state h.new) }
         ensures open { H.tells → (es : List Entry) → IsOpen self.old es (H.state h.old).now.words → IfOk result (λ _. IsOpen self.new es (H.state h.new).now.words) }
         ensures cause { H.counts h.new ≡ after_fault (fault_of result) (H.counts h.old) }
     {
-        persist_gate(h, self.at, COMMITTING_LO, COMMITTING_HI, self.used)?;
+        persist_gate(h, self.gate_at, COMMITTING_LO, COMMITTING_HI, self.used)?;
         self.lo = COMMITTING_LO;
         self.hi = COMMITTING_HI;
         Ok(())
@@ -257,10 +257,10 @@ impl Log {
     ///
     /// The only errors are the host's own. The one word written is the gate.
     pub fn close<H: Host>(self, h: &mut H) -> Result<(), HostFault>
-        requires { self.at + LOG_WORDS ≤ (H.counts h.old).size }
-        ensures persists { H.tells → Persists (only self.at CLOSED_GATE) (fault_of result) (H.state h.old) (H.state h.new) }
+        requires { self.gate_at + LOG_WORDS ≤ (H.counts h.old).size }
+        ensures persists { H.tells → Persists (only self.gate_at CLOSED_GATE) (fault_of result) (H.state h.old) (H.state h.new) }
         ensures cause { H.counts h.new ≡ after_fault (fault_of result) (H.counts h.old) }
     {
-        persist_word(h, self.at, CLOSED_GATE)
+        persist_word(h, self.gate_at, CLOSED_GATE)
     }
 }

@@ -119,7 +119,7 @@ module _ (size : ℕ) (w : World) (memory : Memory) (old : State) (ready : IsRea
   gate = log_number_at n number
 
   abbrev p : OpenPool
-  p = record { slot = slot; rec = may.rec; at = at; log_number = number; who = may.who }
+  p = record { slot = slot; rec = may.rec; puddles = at; log_number = number; who = may.who }
 
   abbrev o : OpenTransaction
   o = record { pool = p; before = now }
@@ -289,7 +289,7 @@ module _ (size : ℕ) (w : World) (memory : Memory) (old : State) (ready : IsRea
   off : (k v : ℕ) → By k v → ready.mask k ≡ None
   off k v wrote = ap ready.mask (only_at gate RUNNING_GATE k v wrote) ∙ gate_unmasked
 
-  begun_apart : (h : Held) (is : IsHeld w h ready.mask old.now.words) → IsApart n h (pool_held h is.at is.rec is.who) By
+  begun_apart : (h : Held) (is : IsHeld w h ready.mask old.now.words) → IsApart n h (pool_held h is.puddles is.rec is.who) By
   begun_apart h is =
       let a = others_apart w h ready.mask old.now.words is in
       record {
@@ -430,7 +430,7 @@ module _ (size : ℕ) (w : World) (memory : Memory) (old : State) (ready : IsRea
       held_begun = record {
         rec = may.rec;
         who = may.who;
-        at = at;
+        puddles = at;
         before = now;
         undone = may.graph;
         transaction = begun_transaction;
@@ -454,10 +454,10 @@ module _ (size : ℕ) (w : World) (memory : Memory) (old : State) (ready : IsRea
           let opened_then = more.same m (other_number w memory.held ready.mask old.now.words ready.held number begun_held begun_transaction placed_there vacant.free vacant.shut m h there) ∙ under.opened in
           still_under w next h ready.mask mask_then old new under.is
           (keeps_others w memory.held ready.mask old.now.words ready.held number begun_held begun_transaction placed_there vacant.free vacant.shut m h there)
-          By (begun_apart h under.is) changed (masks_then.has m (open_held h under.is.at under.is.rec under.is.who under.is.before) opened_then)
+          By (begun_apart h under.is) changed (masks_then.has m (open_held h under.is.puddles under.is.rec under.is.who under.is.before) opened_then)
           (record {
             each = λ k mine other.
-                let word = pool_mine-each n under.is.at k mine in
+                let word = pool_mine-each n under.is.puddles k mine in
                 let low = word.low in
                 HasOnly-kept By None old new k (under.is.before k) changed (λ v. not_gate k v (in_frames k (omega arith))) (under.is.running.rests.each k mine other);
           }) opens_then m under.number_is opened_then
@@ -518,8 +518,8 @@ Applies-begins size w memory F client name slot number fault old new on below fe
     let high = of.high in
     let n = w.stored.frames in
     let same : n ≡ F = sym ready.frames ∙ on in
-    let may : MayBegin n client name (reads old.now.words) slot m.at = subst (λ (k : ℕ). MayBegin k client name (reads old.now.words) slot m.at) ready.frames m.may in
-    let vacant : IsVacant w memory client name slot number m.at = record {
+    let may : MayBegin n client name (reads old.now.words) slot m.puddles = subst (λ (k : ℕ). MayBegin k client name (reads old.now.words) slot m.puddles) ready.frames m.may in
+    let vacant : IsVacant w memory client name slot number m.puddles = record {
       slot_below = below;
       known = omega arith;
       whose = (let e : number / CLIENT_LOGS ≡ client = omega arith in e);
@@ -535,6 +535,6 @@ Applies-begins size w memory F client name slot number fault old new on below fe
     → Runs (pool_ground k (finished_of pool)) (begun (log_number_at k number)) [] before nothing fault old new)
     → Applies size w (after w (commands.Begin client name)) (with_begun (begins_as client name slot k number) memory) fault old new) same
     (λ persists runs.
-    Applies-begun size w memory old ready client name slot number m.at vacant may fault new persists
-    (runs m.at (reads old.now.words) (placed size w memory old ready client name slot number m.at vacant may) (idle size w memory old ready client name slot number m.at vacant may)) place)
+    Applies-begun size w memory old ready client name slot number m.puddles vacant may fault new persists
+    (runs m.puddles (reads old.now.words) (placed size w memory old ready client name slot number m.puddles vacant may) (idle size w memory old ready client name slot number m.puddles vacant may)) place)
     persists runs

@@ -73,7 +73,7 @@ use Rattle.ready_daemon.proofs.TablesBeside.{types_read}
 
 -- images that differ in the words of one open transaction alone, its log's and its frames', where the daemon log of the first counts nothing
 module _ (size : ℕ) (s : StoredWorld) (number : ℕ) (o : OpenTransaction) (others opens : Opens) (more : IsOneMore number o others opens) (are : AreOpenPools s.frames opens) (i j : Image)
-    (idle : is_idle_gate (i DAEMON_LOG) ≡ true) (same : (k : ℕ) → is_in_log (log_number_at s.frames number) k ≡ false → pool_mine s.frames (finished_of o.pool.at) k ≡ false → j k ≡ i k)
+    (idle : is_idle_gate (i DAEMON_LOG) ≡ true) (same : (k : ℕ) → is_in_log (log_number_at s.frames number) k ≡ false → pool_mine s.frames (finished_of o.pool.puddles) k ≡ false → j k ≡ i k)
     (records : HasRecords opens i) (world : idle_world_of size (masked_image (open_masks s.frames opens) i) ≡ Some s) where
   abbrev F : ℕ
   F = s.frames
@@ -92,7 +92,7 @@ module _ (size : ℕ) (s : StoredWorld) (number : ℕ) (o : OpenTransaction) (ot
   masked_same =
       let each : (k : ℕ) → masked_image m j k ≡ masked_image m i k = λ k. elim (cases_Bool (is_in_log gate k)) [
         | inl inside ↦ let v = masks_of_log F opens m are masks number o more.here k inside in masked_image-there m j k v.0 v.1 ∙ sym (masked_image-there m i k v.0 v.1)
-        | inr outside ↦ elim (cases_Bool (pool_mine F (finished_of o.pool.at) k)) [
+        | inr outside ↦ elim (cases_Bool (pool_mine F (finished_of o.pool.puddles) k)) [
           | inl mine ↦
               let is = masks_of_mine F opens m are masks number o more.here k mine in
               masked_image-there m j k (o.before k) is ∙ sym (masked_image-there m i k (o.before k) is)
@@ -102,7 +102,7 @@ module _ (size : ℕ) (s : StoredWorld) (number : ℕ) (o : OpenTransaction) (ot
       λ q k. each k q
 
   before_logs : (k : ℕ) → k < tables_end F → j k ≡ i k
-  before_logs k below = same k (outside_log gate k (inl (omega arith))) (mine_behind F (finished_of o.pool.at) k (omega arith))
+  before_logs k below = same k (outside_log gate k (inl (omega arith))) (mine_behind F (finished_of o.pool.puddles) k (omega arith))
 
   pub idle_now : is_idle_gate (j DAEMON_LOG) ≡ true
   idle_now = ap is_idle_gate (before_logs DAEMON_LOG (omega arith)) ∙ idle
@@ -123,7 +123,7 @@ module _ (size : ℕ) (s : StoredWorld) (number : ℕ) (o : OpenTransaction) (ot
   left_stands left = (world_with_many size F s opens j refl are left world_now, record { each = none_refused_with_many size F s opens j refl are left world_now })
 
   -- and where its log is closed and its frames have these values it does so, idle, with the words of the others masked
-  pub ended_stands : is_closed_log j gate ≡ true → ((k : ℕ) → pool_mine F (finished_of o.pool.at) k ≡ true → j k ≡ o.before k) → idle_world_of size (masked_image (open_masks F others) j) ≡ Some s
+  pub ended_stands : is_closed_log j gate ≡ true → ((k : ℕ) → pool_mine F (finished_of o.pool.puddles) k ≡ true → j k ≡ o.before k) → idle_world_of size (masked_image (open_masks F others) j) ≡ Some s
   ended_stands shut mine = idle_world_ended size s number o others opens more j are records_now mine (λ k v is. unnamed_idle j k idle_now) shut world_now
 
 -- ---- the calls that end one
@@ -183,13 +183,13 @@ module _ (size : ℕ) (w : World) (memory : Memory) (number : ℕ) (held : Held)
   is_held = under.is
 
   abbrev pool : OpenPool
-  pool = pool_held held is_held.at is_held.rec is_held.who
+  pool = pool_held held is_held.puddles is_held.rec is_held.who
 
   abbrev before : Image
   before = is_held.before
 
   abbrev pub own : OpenTransaction
-  own = open_held held is_held.at is_held.rec is_held.who before
+  own = open_held held is_held.puddles is_held.rec is_held.who before
 
   abbrev others : Opens
   others = with_transaction number None opens
@@ -198,12 +198,12 @@ module _ (size : ℕ) (w : World) (memory : Memory) (number : ℕ) (held : Held)
   rest = open_masks n others
 
   abbrev g : Ground
-  g = pool_ground n (finished_of is_held.at)
+  g = pool_ground n (finished_of is_held.puddles)
 
   abbrev may : Footprint
-  may = ByTransaction g held.tx.log.at
+  may = ByTransaction g held.tx.log.gate_at
 
-  gate_is : held.tx.log.at ≡ log_number_at n number
+  gate_is : held.tx.log.gate_at ≡ log_number_at n number
   gate_is = is_held.gate ∙ ap (log_number_at n) under.number_is
 
   pub more : IsOneMore number own others opens
@@ -239,23 +239,23 @@ module _ (size : ℕ) (w : World) (memory : Memory) (number : ℕ) (held : Held)
   world_there i picked =
       ap (λ (m : Write). idle_world_of size (masked_image m i)) (sym mask_is) ∙ ready.settled.stands (masked_image ready.mask i) (Picks-masked ready.mask old.now.words i picked)
 
-  below_mine : (k : ℕ) → k < tables_end n → pool_mine n (finished_of is_held.at) k ≡ false
-  below_mine k below = mine_behind n (finished_of is_held.at) k (omega arith)
+  below_mine : (k : ℕ) → k < tables_end n → pool_mine n (finished_of is_held.puddles) k ≡ false
+  below_mine k below = mine_behind n (finished_of is_held.puddles) k (omega arith)
 
-  below_log : (k : ℕ) → k < tables_end n → is_in_log held.tx.log.at k ≡ false
-  below_log k below = let gate = is_held.gate in outside_log held.tx.log.at k (inl (omega arith))
+  below_log : (k : ℕ) → k < tables_end n → is_in_log held.tx.log.gate_at k ≡ false
+  below_log k below = let gate = is_held.gate in outside_log held.tx.log.gate_at k (inl (omega arith))
 
-  above_log : (k : ℕ) → frames_at n ≤ k → is_in_log held.tx.log.at k ≡ false
-  above_log k above = let gate = is_held.gate in let few = is_held.pool.known in outside_log held.tx.log.at k (inr (omega arith))
+  above_log : (k : ℕ) → frames_at n ≤ k → is_in_log held.tx.log.gate_at k ≡ false
+  above_log k above = let gate = is_held.gate in let few = is_held.pool.known in outside_log held.tx.log.gate_at k (inr (omega arith))
 
   not_below : (k v : ℕ) → k < tables_end n → may k v → ⊥
-  not_below k v below wrote = beside_transaction g held.tx.log.at k v (below_log k below) (below_mine k below) wrote
+  not_below k v below wrote = beside_transaction g held.tx.log.gate_at k v (below_log k below) (below_mine k below) wrote
 
   record_below : (k : ℕ) → is_open_record pool k ≡ true → k < tables_end n
   record_below k of = (open_record_place n pool k is_held.pool.slot is_held.pool.known (open_on_device n pool before is_held.pool) of).high
 
   -- a word behind the tables that is none of its own is masked as it is with the words of the others alone
-  rest_same : (k : ℕ) → is_in_log held.tx.log.at k ≡ false → pool_mine n (finished_of is_held.at) k ≡ false → tables_end n ≤ k → ready.mask k ≡ rest k
+  rest_same : (k : ℕ) → is_in_log held.tx.log.gate_at k ≡ false → pool_mine n (finished_of is_held.puddles) k ≡ false → tables_end n ≤ k → ready.mask k ≡ rest k
   rest_same k outside other above =
       masks_elsewhere number own others opens more n ready.mask rest ready.held.masks rest_masks k
       (mask_of_others n pool before k (ap (λ (at : ℕ). is_in_log at k) (sym is_held.gate) ∙ outside) other
@@ -269,10 +269,10 @@ module _ (size : ℕ) (w : World) (memory : Memory) (number : ℕ) (held : Held)
   -- ---- an image that is left by its calls
 
   module _ (j : Image) (f : HasOrigin may old.now.words j) where
-    from_same : (k : ℕ) → is_in_log held.tx.log.at k ≡ false → pool_mine n (finished_of is_held.at) k ≡ false → j k ≡ f.before k
-    from_same k outside other = elim (f.from.each k) [ inl same ↦ same | inr wrote ↦ absurd (beside_transaction g held.tx.log.at k (j k) outside other wrote) ]
+    from_same : (k : ℕ) → is_in_log held.tx.log.gate_at k ≡ false → pool_mine n (finished_of is_held.puddles) k ≡ false → j k ≡ f.before k
+    from_same k outside other = elim (f.from.each k) [ inl same ↦ same | inr wrote ↦ absurd (beside_transaction g held.tx.log.gate_at k (j k) outside other wrote) ]
 
-    from_number : (k : ℕ) → is_in_log (log_number_at n number) k ≡ false → pool_mine n (finished_of is_held.at) k ≡ false → j k ≡ f.before k
+    from_number : (k : ℕ) → is_in_log (log_number_at n number) k ≡ false → pool_mine n (finished_of is_held.puddles) k ≡ false → j k ≡ f.before k
     from_number k outside other = from_same k (ap (λ (at : ℕ). is_in_log at k) gate_is ∙ outside) other
 
     idle_left : is_idle_gate (j DAEMON_LOG) ≡ true
@@ -290,13 +290,13 @@ module _ (size : ℕ) (w : World) (memory : Memory) (number : ℕ) (held : Held)
           let x = open_elsewhere m r has in
           let a = opened_as w memory.held ready.mask old.now.words ready.held m r x.was in
           let u = ready.held.each m a.one a.there in
-          subst (λ (t : OpenTransaction). IsLeftOpen n t.pool t.before j) (same_Some (open_held a.one u.is.at u.is.rec u.is.who u.is.before) r (sym u.opened ∙ x.was))
+          subst (λ (t : OpenTransaction). IsLeftOpen n t.pool t.before j) (same_Some (open_held a.one u.is.puddles u.is.rec u.is.who u.is.before) r (sym u.opened ∙ x.was))
           (left_apart w a.one ready.mask old.now.words u.is may (own_apart w memory.held ready.mask old.now.words ready.held number m held a.one there a.there (λ same. x.apart (sym same))) ready.tables j f
           (names_none_idle ready.mask j idle_left));
     }
 
     -- and this one is, as if it had begun with the values to which it settles
-    own_left : (values : Image) → ((k : ℕ) → is_open_record pool k ≡ true → j k ≡ values k) → SettlesTo g held.tx.log.at values j → IsLeftOpen n pool values j
+    own_left : (values : Image) → ((k : ℕ) → is_open_record pool k ≡ true → j k ≡ values k) → SettlesTo g held.tx.log.gate_at values j → IsLeftOpen n pool values j
     own_left values records settles = record {
       unnamed = λ k v is. unnamed_idle j k idle_left;
       records = records;
@@ -318,7 +318,7 @@ module _ (size : ℕ) (w : World) (memory : Memory) (number : ℕ) (held : Held)
 
   -- ---- other values of its frames
 
-  module _ (after : Image) (agrees : (k : ℕ) → pool_mine n (finished_of is_held.at) k ≡ false → after k ≡ before k) where
+  module _ (after : Image) (agrees : (k : ℕ) → pool_mine n (finished_of is_held.puddles) k ≡ false → after k ≡ before k) where
     abbrev pub later : OpenTransaction
     later = record { pool = pool; before = after }
 
@@ -348,7 +348,7 @@ module _ (size : ℕ) (w : World) (memory : Memory) (number : ℕ) (held : Held)
 
     module _ (ps : List (List ℕ × Pool)) (stands : (i : Image) → Picks old.now.words i → idle_world_of size (masked_image (open_masks n all_later) i) ≡ Some (record w.stored { pools = ps }))
         (kept : (name : List ℕ) → name ≢ held.name → pool_named name (record w.stored { pools = ps }) ≡ pool_named name w.stored)
-        (left : Graph) (graph : graph_of w.stored.types (stored_in n is_held.at after) ≡ Some left) (fault : Option HostFault) (new : State) (e : EndsBy g held.tx.log.at before after fault old new) where
+        (left : Graph) (graph : graph_of w.stored.types (stored_in n is_held.puddles after) ≡ Some left) (fault : Option HostFault) (new : State) (e : EndsBy g held.tx.log.gate_at before after fault old new) where
       abbrev s : StoredWorld
       s = record w.stored { pools = ps }
 
@@ -356,18 +356,18 @@ module _ (size : ℕ) (w : World) (memory : Memory) (number : ℕ) (held : Held)
       next = record w { stored = s; transactions = with_open held.name None w.transactions }
 
       -- an image that settles to them stands for the next world
-      stands_after : (j : Image) → HasOrigin may old.now.words j → SettlesTo g held.tx.log.at after j → (world_of size j ≡ Some s) × RefusesNone j
+      stands_after : (j : Image) → HasOrigin may old.now.words j → SettlesTo g held.tx.log.gate_at after j → (world_of size j ≡ Some s) × RefusesNone j
       stands_after j f settles =
           left_stands size s number later others all_later later_more later_are f.before j (idle_there f.before f.picked) (from_number j f) (later_records f.before f.picked) (stands f.before f.picked)
           (left_more number later others all_later later_more n j (others_left j f) (own_left j f after (λ k of. record_left j f k of ∙ sym (agrees k (below_mine k (record_below k of)))) settles))
 
-      image_stands : (j : Image) → SettlesTo g held.tx.log.at before j ⊎ SettlesTo g held.tx.log.at after j → HasOrigin may old.now.words j → StandsBetween size w next j
+      image_stands : (j : Image) → SettlesTo g held.tx.log.gate_at before j ⊎ SettlesTo g held.tx.log.gate_at after j → HasOrigin may old.now.words j → StandsBetween size w next j
       image_stands j (inl settles) f = let both = stands_within size w memory held old number there ready j f settles in (inl both.0, both.1)
       image_stands j (inr settles) f = let both = stands_after j f settles in (inr both.0, both.1)
 
       all_moments : Leaves (Silently (StandsBetween size w next)) old new
       all_moments =
-          let P = λ (image : Image). SettlesTo g held.tx.log.at before image ⊎ SettlesTo g held.tx.log.at after image in
+          let P = λ (image : Image). SettlesTo g held.tx.log.gate_at before image ⊎ SettlesTo g held.tx.log.gate_at after image in
           Leaves-weaker (Silently (λ image. P image × HasOrigin may old.now.words image)) (Silently (StandsBetween size w next)) old new
           (λ bytes image m. (m.0, image_stands image m.1.0 m.1.1)) (Leaves-from P may fault old new e.changes e.moments)
 
@@ -383,7 +383,7 @@ module _ (size : ℕ) (w : World) (memory : Memory) (number : ℕ) (held : Held)
         ended_world j picked =
             let f = origin may old.now.words new.now.words j (Changes-now may None old new changed) picked in
             ended_stands size s number later others all_later later_more later_are f.before j (idle_there f.before f.picked) (from_number j f) (later_records f.before f.picked) (stands f.before f.picked)
-            (closed_by_gate j (log_number_at n number) (ap j (sym gate_is) ∙ (e.closed done).each (j held.tx.log.at) (picked.each held.tx.log.at)))
+            (closed_by_gate j (log_number_at n number) (ap j (sym gate_is) ∙ (e.closed done).each (j held.tx.log.gate_at) (picked.each held.tx.log.gate_at)))
             (λ k mine. (e.durable done k mine).each (j k) (picked.each k))
 
         gate_idle : HasIdleGate DAEMON_LOG new.now.words
@@ -396,17 +396,17 @@ module _ (size : ℕ) (w : World) (memory : Memory) (number : ℕ) (held : Held)
         }
 
         frames_single : (k : ℕ) → frames_at n ≤ k → HasOnly (masked rest new.now.words k) (masked rest new.now.words k).newest
-        frames_single k above = elim (cases_Bool (pool_mine n (finished_of is_held.at) k)) [
+        frames_single k above = elim (cases_Bool (pool_mine n (finished_of is_held.puddles) k)) [
           | inl mine ↦ HasOnly-own_masked rest new.now.words k (HasOnly-own (new.now.words k) (after k) (e.durable done k mine))
           | inr other ↦
               let outside = above_log k above in
               let was = subst (λ (x : Option ℕ). HasOnly (masked_cell x (old.now.words k)) (masked_cell x (old.now.words k)).newest) (rest_same k outside other (omega arith)) (ready.rest.each k above) in
               HasOnly-own (masked rest new.now.words k) (masked rest old.now.words k).newest
-              (HasOnly-kept may None (masked_state rest old) (masked_state rest new) k (masked rest old.now.words k).newest changed_under (λ v. beside_transaction g held.tx.log.at k v outside other) was)
+              (HasOnly-kept may None (masked_state rest old) (masked_state rest new) k (masked rest old.now.words k).newest changed_under (λ v. beside_transaction g held.tx.log.gate_at k v outside other) was)
         ]
 
         -- its own log is closed, and each other as it was
-        own_idle : (at : ℕ) → held.tx.log.at ≡ at → rest at ≡ None → HasIdleGate at (masked rest new.now.words)
+        own_idle : (at : ℕ) → held.tx.log.gate_at ≡ at → rest at ≡ None → HasIdleGate at (masked rest new.now.words)
         own_idle at here none = record {
           each = λ v had. ap is_idle_gate ((subst (λ (k : ℕ). HasOnly (new.now.words k) CLOSED_GATE) here (e.closed done)).each v (subst (λ (c : Cell). Has (values c) v) (masked-elsewhere rest new.now.words at none) had));
         }
@@ -424,9 +424,9 @@ module _ (size : ℕ) (w : World) (memory : Memory) (number : ℕ) (held : Held)
                     (masks_beside_log n others rest rest_are rest_masks number gate more.none (omega (arith, known, under.number_is)) (record { low = omega (arith, here); high = omega (arith, here) }))
                 | inr apart ↦
                     let its = gate_is in
-                    let outside : is_in_log held.tx.log.at gate ≡ false = outside_log held.tx.log.at gate (elim (cases_lt gate held.tx.log.at) [ inl low ↦ inl low | inr high ↦ inr (omega arith) ]) in
-                    let other : pool_mine n (finished_of is_held.at) gate ≡ false = mine_behind n (finished_of is_held.at) gate (omega arith) in
-                    idle_kept gate may None (masked_state rest old) (masked_state rest new) changed_under (λ v wrote. absurd (beside_transaction g held.tx.log.at gate v outside other wrote))
+                    let outside : is_in_log held.tx.log.gate_at gate ≡ false = outside_log held.tx.log.gate_at gate (elim (cases_lt gate held.tx.log.gate_at) [ inl low ↦ inl low | inr high ↦ inr (omega arith) ]) in
+                    let other : pool_mine n (finished_of is_held.puddles) gate ≡ false = mine_behind n (finished_of is_held.puddles) gate (omega arith) in
+                    idle_kept gate may None (masked_state rest old) (masked_state rest new) changed_under (λ v wrote. absurd (beside_transaction g held.tx.log.gate_at gate v outside other wrote))
                     (record {
                       each = λ v had. (ready.logs.each client number_of low few present).each v (subst (λ (x : Option ℕ). Has (values (masked_cell x (old.now.words gate))) v) (sym (rest_same gate outside other (omega arith))) had);
                     })
@@ -434,37 +434,37 @@ module _ (size : ℕ) (w : World) (memory : Memory) (number : ℕ) (held : Held)
         }
 
         -- each word of its pool has the value that is left
-        left_read : (k : ℕ) → pool_mine n is_held.at k ≡ true → reads new.now.words k ≡ after k
-        left_read k mine = elim (cases_Bool (pool_mine n (finished_of is_held.at) k)) [
+        left_read : (k : ℕ) → pool_mine n is_held.puddles k ≡ true → reads new.now.words k ≡ after k
+        left_read k mine = elim (cases_Bool (pool_mine n (finished_of is_held.puddles) k)) [
           | inl own ↦ HasOnly-newest (new.now.words k) (after k) (e.durable done k own)
           | inr other ↦
-              let m = pool_mine-each n is_held.at k mine in
+              let m = pool_mine-each n is_held.puddles k mine in
               let low = m.low in
               let outside = above_log k (omega arith) in
               HasOnly-newest (new.now.words k) (before k)
-              (HasOnly-kept may None old new k (before k) changed (λ v. beside_transaction g held.tx.log.at k v outside other) (is_held.running.rests.each k mine other))
+              (HasOnly-kept may None old new k (before k) changed (λ v. beside_transaction g held.tx.log.gate_at k v outside other) (is_held.running.rests.each k mine other))
               ∙ sym (agrees k other)
         ]
 
         -- the words that rest of another pool do so still
-        others_rest : (m : ℕ) (h : Held) (was : held_under memory.held m ≡ Some h) → m ≢ number → RestsAs n (ready.held.each m h was).is.at (ready.held.each m h was).is.before new.now.words
+        others_rest : (m : ℕ) (h : Held) (was : held_under memory.held m ≡ Some h) → m ≢ number → RestsAs n (ready.held.each m h was).is.puddles (ready.held.each m h was).is.before new.now.words
         others_rest m h was apart =
             let its = ready.held.each m h was in
-            rest_held w held ready.mask old new is_held changed h.slot its.is.at its.is.before
+            rest_held w held ready.mask old new is_held changed h.slot its.is.puddles its.is.before
             (λ same. apart (one_slot w memory.held ready.mask old.now.words ready.held m number h held was there (sym same))) (held_graph size w memory old ready m h was) its.is.running.rests
 
         -- its pool has a graph
-        graph_ended : HasGraphIn n held.slot (reads new.now.words) is_held.at
+        graph_ended : HasGraphIn n held.slot (reads new.now.words) is_held.puddles
         graph_ended =
             graph_held_in w held ready.mask old new is_held changed left (types_read size w memory old ready).types (held_in_turn size w memory old ready number held there)
-            (ap (graph_of w.stored.types) (stored_in-mine n is_held.at after (reads new.now.words) left_read) ∙ graph)
+            (ap (graph_of w.stored.types) (stored_in-mine n is_held.puddles after (reads new.now.words) left_read) ∙ graph)
 
         -- and its puddles are known as they were
         knows_ended : KnowsPools n (alone_in held.slot memory.judged) others (reads new.now.words)
         knows_ended =
-            subst (λ (js : List (Option Known)). KnowsPools n js others (reads new.now.words)) (sym (alone_in-known memory.judged held.slot is_held.at (held_there_known size w memory old ready number held there)))
-            (KnowsPools-ended n memory.judged number own others opens (by_puddles is_held.at) (reads old.now.words) (reads new.now.words) more refl (KeepsPools-held w held ready.mask old new is_held changed) graph_ended
-            (IsKnown-puddles n is_held.at (reads new.now.words)) ready.knows)
+            subst (λ (js : List (Option Known)). KnowsPools n js others (reads new.now.words)) (sym (alone_in-known memory.judged held.slot is_held.puddles (held_there_known size w memory old ready number held there)))
+            (KnowsPools-ended n memory.judged number own others opens (by_puddles is_held.puddles) (reads old.now.words) (reads new.now.words) more refl (KeepsPools-held w held ready.mask old new is_held changed) graph_ended
+            (IsKnown-puddles n is_held.puddles (reads new.now.words)) ready.knows)
 
         ready_ended : IsReady size next (with_ended number held memory) new
         ready_ended = record {

@@ -21,8 +21,8 @@ abbrev pub memory_alone : (slot : ℕ) → List (ℕ × Puddle) → Memory → M
 memory_alone slot at memory = record memory { judged = set memory.judged slot (Some (by_puddles at)) }
 
 module _ (F : ℕ) (held : Held) (known : Known) (memory : Memory) (its : IsHeldOn F held known memory) where
-  puddles_its : known_in memory.judged held.slot ≡ Some known.at
-  puddles_its = ap (option_map (λ (k : Known). k.at)) its.known
+  puddles_its : known_in memory.judged held.slot ≡ Some known.puddles
+  puddles_its = ap (option_map (λ (k : Known). k.puddles)) its.known
 
   -- it is so of the device
   pub known_so : (size : ℕ) (w : World) (s : State) → IsReady size w memory s → IsKnown F (reads s.now.words) known
@@ -35,12 +35,12 @@ module _ (F : ℕ) (held : Held) (known : Known) (memory : Memory) (its : IsHeld
       ∙ held_same memory held.log_number held its.there
 
   -- it is held there still
-  pub held_alone : IsHeldIn F held known.at (memory_alone held.slot known.at memory)
-  held_alone = record { frames = its.frames; there = its.there; known = pool_kept memory.judged held.slot (Some (by_puddles known.at)) (known_within memory.judged held.slot known.at puddles_its) }
+  pub held_alone : IsHeldIn F held known.puddles (memory_alone held.slot known.puddles memory)
+  held_alone = record { frames = its.frames; there = its.there; known = pool_kept memory.judged held.slot (Some (by_puddles known.puddles)) (known_within memory.judged held.slot known.puddles puddles_its) }
 
   -- and the daemon is ready
-  pub ready_alone : (size : ℕ) (w : World) (s : State) → IsReady size w memory s → IsReady size w (memory_alone held.slot known.at memory) s
-  ready_alone size w s ready = IsReady-anew size w memory s held.slot (by_puddles known.at) ready puddles_its (IsKnown-puddles w.stored.frames known.at (reads s.now.words))
+  pub ready_alone : (size : ℕ) (w : World) (s : State) → IsReady size w memory s → IsReady size w (memory_alone held.slot known.puddles memory) s
+  ready_alone size w s ready = IsReady-anew size w memory s held.slot (by_puddles known.puddles) ready puddles_its (IsKnown-puddles w.stored.frames known.puddles (reads s.now.words))
 
 -- what is known behind that is known alone
 pub opened_alone : (number slot : ℕ) (now : Held) (at later : List (ℕ × Puddle)) (memory : Memory) → with_opened number slot now later (memory_alone slot at memory) ≡ with_known number slot now (by_puddles later) memory

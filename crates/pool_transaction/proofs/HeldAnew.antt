@@ -31,7 +31,7 @@ keeps_all w h = record { frames = refl; transaction = refl; present = refl; stor
 
 module _ (w : World) (all : List (Option Held)) (mask : Write) (old new : State) (holds : Holds w all mask old.now.words) (held : Held) (number : ℕ) (there : held_under all number ≡ Some held)
     (beside : Changes (ByOthers mask) None old new) {at : List (ℕ × Puddle)} {before : Image}
-    (anew : OpensAnew w.stored.frames (open_held held (holds.each number held there).is.at (holds.each number held there).is.rec (holds.each number held there).is.who (holds.each number held there).is.before)
+    (anew : OpensAnew w.stored.frames (open_held held (holds.each number held there).is.puddles (holds.each number held there).is.rec (holds.each number held there).is.who (holds.each number held there).is.before)
     (open_held held at (holds.each number held there).is.rec (holds.each number held there).is.who before) new.now.words) where
   abbrev n : ℕ
   n = w.stored.frames
@@ -44,7 +44,7 @@ module _ (w : World) (all : List (Option Held)) (mask : Write) (old new : State)
 
   -- as it was open, and as it is then
   abbrev o : OpenTransaction
-  o = open_held held under.is.at under.is.rec under.is.who under.is.before
+  o = open_held held under.is.puddles under.is.rec under.is.who under.is.before
 
   abbrev q : OpenTransaction
   q = open_held held at under.is.rec under.is.who before
@@ -128,7 +128,7 @@ module _ (w : World) (all : List (Option Held)) (mask : Write) (old new : State)
   -- ---- what is held
 
   module _ (it : (anew : Write) → ((k v : ℕ) → open_mask n q.pool before k ≡ Some v → anew k ≡ Some v) → (h : IsHeld w held anew new.now.words) × (open_held held h.at h.rec h.who h.before ≡ q))
-      (rest : (m : ℕ) (g : Held) (has : held_under all m ≡ Some g) → m ≢ number → RestsAs n (holds.each m g has).is.at (holds.each m g has).is.before new.now.words) where
+      (rest : (m : ℕ) (g : Held) (has : held_under all m ≡ Some g) → m ≢ number → RestsAs n (holds.each m g has).is.puddles (holds.each m g has).is.before new.now.words) where
     abbrev its : (h : IsHeld w held wide new.now.words) × (open_held held h.at h.rec h.who h.before ≡ q)
     its = it wide (λ k v is. masks_anew.has number q then_one.here k v is)
 
@@ -141,7 +141,7 @@ module _ (w : World) (all : List (Option Held)) (mask : Write) (old new : State)
         let opened = other_is m apart ∙ other.opened in
         record {
           is = held_still w w g mask wide old new other.is (keeps_all w g) (ByOthers mask) (others_apart w g mask old.now.words other.is) beside
-              (λ k v is. masks_anew.has m (open_held g other.is.at other.is.rec other.is.who other.is.before) opened k v is) (rest m g has apart);
+              (λ k v is. masks_anew.has m (open_held g other.is.puddles other.is.rec other.is.who other.is.before) opened k v is) (rest m g has apart);
           number_is = other.number_is;
           opened = opened;
         }

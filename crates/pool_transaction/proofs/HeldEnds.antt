@@ -78,22 +78,22 @@ changed_beside name other change pools apart = changed_beside_by name other chan
 -- by values that agree on a word
 mask_agrees : (F : ℕ) (p : OpenPool) (after before : Image) (k : ℕ) → after k ≡ before k → open_mask F p after k ≡ open_mask F p before k
 unfolding open_mask
-mask_agrees F p after before k same q = cond (is_in_log (log_number_at F p.log_number) k) (Some (cond (eqb k (log_number_at F p.log_number)) CLOSED_GATE 0)) (cond (pool_mine F (finished_of p.at) k || is_open_record p k) (Some (same q)) None)
+mask_agrees F p after before k same q = cond (is_in_log (log_number_at F p.log_number) k) (Some (cond (eqb k (log_number_at F p.log_number)) CLOSED_GATE 0)) (cond (pool_mine F (finished_of p.puddles) k || is_open_record p k) (Some (same q)) None)
 
 -- ---- what the calls promise
 
 -- on so many frames of a device of so many words, with this log
 abbrev pub Undoes : (F sz : ℕ) → OpenLog → Option HostFault → State → State → Type 0
 Undoes F sz log fault old new =
-    (pool : List (ℕ × Puddle)) (types : List (ℕ × ℕ)) (before : Image) (undone : Graph) (seen : Graph) (laters : List Later) → IsPlaced F pool → device_words F ≤ sz → log.at + LOG_WORDS ≤ frames_at F
+    (pool : List (ℕ × Puddle)) (types : List (ℕ × ℕ)) (before : Image) (undone : Graph) (seen : Graph) (laters : List Later) → IsPlaced F pool → device_words F ≤ sz → log.gate_at + LOG_WORDS ≤ frames_at F
     → IsOpenOn F pool types log before undone seen laters old.now.words → HasPlaces (pool_ground F (finished_of pool)) (puddle_word (tables_of F (reads old.now.words))) → HasOneTable F old.now.words
-    → ClosesOn F pool types log.at before undone fault old new
+    → ClosesOn F pool types log.gate_at before undone fault old new
 
 abbrev pub Commits : (F sz : ℕ) → OpenLog → Option HostFault → State → State → Type 0
 Commits F sz log fault old new =
-    (pool : List (ℕ × Puddle)) (types : List (ℕ × ℕ)) (before : Image) (undone : Graph) (seen : Graph) (laters : List Later) → IsPlaced F pool → device_words F ≤ sz → log.at + LOG_WORDS ≤ frames_at F
-    → IsOpenOn F pool types log before undone seen laters old.now.words → (laters ≢ [] → CanRedo (pool_ground F (finished_of pool)) F log.at old.now.words)
-    → EndsOn F pool types log.at before undone (with_laters laters seen) fault old new
+    (pool : List (ℕ × Puddle)) (types : List (ℕ × ℕ)) (before : Image) (undone : Graph) (seen : Graph) (laters : List Later) → IsPlaced F pool → device_words F ≤ sz → log.gate_at + LOG_WORDS ≤ frames_at F
+    → IsOpenOn F pool types log before undone seen laters old.now.words → (laters ≢ [] → CanRedo (pool_ground F (finished_of pool)) F log.gate_at old.now.words)
+    → EndsOn F pool types log.gate_at before undone (with_laters laters seen) fault old new
 
 -- a transaction writes no word in front of the clients' logs
 behind_tables : (F number : ℕ) (at : List (ℕ × Puddle)) (k v : ℕ) → ByTransaction (pool_ground F at) (log_number_at F number) k v → BehindTables F k v
@@ -110,15 +110,15 @@ module _ (size : ℕ) (w : World) (memory : Memory) (number : ℕ) (held : Held)
   n = w.stored.frames
 
   abbrev p : OpenPool
-  p = pool_held held is.at is.rec is.who
+  p = pool_held held is.puddles is.rec is.who
 
   abbrev now : Image
   now = reads old.now.words
 
-  placed : IsPlaced n is.at
+  placed : IsPlaced n is.puddles
   placed = held_placed size w memory held old number there ready
 
-  held_places : HasPlaces (pool_ground n (finished_of is.at)) (puddle_word (tables_of n now))
+  held_places : HasPlaces (pool_ground n (finished_of is.puddles)) (puddle_word (tables_of n now))
   held_places =
       let picked = Picks-reads old.now.words in
       places_beside size n w.stored ready.held.opens now refl ready.held.are (idle_there size w memory number held old ready there now picked) (records_there size w memory number held old ready there now picked)
@@ -127,10 +127,10 @@ module _ (size : ℕ) (w : World) (memory : Memory) (number : ℕ) (held : Held)
   held_table : HasOneTable n old.now.words
   held_table = record { each = λ k within. let low = within.low in let high = within.high in ready.tables.each k (inr (omega arith)) high }
 
-  can_redo : CanRedo (pool_ground n (finished_of is.at)) n held.tx.log.at old.now.words
+  can_redo : CanRedo (pool_ground n (finished_of is.puddles)) n held.tx.log.gate_at old.now.words
   can_redo = record { before = let gate = is.gate in omega arith; table = held_table; places = held_places }
 
-  log_apart : held.tx.log.at + LOG_WORDS ≤ frames_at n
+  log_apart : held.tx.log.gate_at + LOG_WORDS ≤ frames_at n
   log_apart = let gate = is.gate in let few = is.pool.known in omega arith
 
   room : device_words n ≤ size
@@ -143,19 +143,19 @@ module _ (size : ℕ) (w : World) (memory : Memory) (number : ℕ) (held : Held)
   -- ---- undone
 
   module _ (F sz : ℕ) (fault : Option HostFault) (new : State) (on : F ≡ n) (same : size ≡ sz) (undoes : Undoes F sz held.tx.log fault old new) where
-    closes : ClosesOn n is.at w.stored.types held.tx.log.at is.before is.undone fault old new
+    closes : ClosesOn n is.puddles w.stored.types held.tx.log.gate_at is.before is.undone fault old new
     closes =
-        subst (λ (m : ℕ). Undoes m sz held.tx.log fault old new) on undoes is.at w.stored.types is.before is.undone is.transaction.now is.transaction.laters placed (omega (arith, same, room)) log_apart is.running held_places held_table
+        subst (λ (m : ℕ). Undoes m sz held.tx.log fault old new) on undoes is.puddles w.stored.types is.before is.undone is.transaction.now is.transaction.laters placed (omega (arith, same, room)) log_apart is.running held_places held_table
 
     pub undone_behind : Changes (BehindTables n) fault old new
     undone_behind =
-        Changes-wider (ByTransaction (pool_ground n (finished_of is.at)) held.tx.log.at) (BehindTables n) fault old new
-        (λ k v may. behind_tables n held.log_number (finished_of is.at) k v (subst (λ (at : ℕ). ByTransaction (pool_ground n (finished_of is.at)) at k v) is.gate may)) closes.closes.changes
+        Changes-wider (ByTransaction (pool_ground n (finished_of is.puddles)) held.tx.log.gate_at) (BehindTables n) fault old new
+        (λ k v may. behind_tables n held.log_number (finished_of is.puddles) k v (subst (λ (at : ℕ). ByTransaction (pool_ground n (finished_of is.puddles)) at k v) is.gate may)) closes.closes.changes
 
     pub Applies-aborted : Applies size w (world_without_log (Some held) w) (with_ended number held memory) fault old new
     Applies-aborted =
         Applies-ended size w memory number held old ready there is.before (λ k other. refl) w.stored.pools (world_before size w memory number held old ready there) (λ name apart. refl) is.undone is.running.was fault new
-        (EndsBy-closes (pool_ground n (finished_of is.at)) held.tx.log.at is.before fault old new closes.closes)
+        (EndsBy-closes (pool_ground n (finished_of is.puddles)) held.tx.log.gate_at is.before fault old new closes.closes)
 
   -- ---- committed
 
@@ -171,43 +171,43 @@ module _ (size : ℕ) (w : World) (memory : Memory) (number : ℕ) (held : Held)
   abbrev made : Graph
   made = with_laters is.transaction.laters is.transaction.now
 
-  module _ (x : Image) (graph : graph_of w.stored.types (stored_in n is.at x) ≡ Some made)
-      (beside : (k : ℕ) → pool_mine n is.at k ≡ true → pool_mine n (finished_of is.at) k ≡ false → x k ≡ is.before k) where
+  module _ (x : Image) (graph : graph_of w.stored.types (stored_in n is.puddles x) ≡ Some made)
+      (beside : (k : ℕ) → pool_mine n is.puddles k ≡ true → pool_mine n (finished_of is.puddles) k ≡ false → x k ≡ is.before k) where
     abbrev values : Image
-    values = mixed (pool_ground n (finished_of is.at)) x is.before
+    values = mixed (pool_ground n (finished_of is.puddles)) x is.before
 
     abbrev pools_after : List (List ℕ × Pool)
     pools_after = changed_pool is.rec.name (holding_graph made) w.stored.pools
 
-    values_beside : (k : ℕ) → pool_mine n (finished_of is.at) k ≡ false → values k ≡ is.before k
+    values_beside : (k : ℕ) → pool_mine n (finished_of is.puddles) k ≡ false → values k ≡ is.before k
     values_beside k other = cond-false _ _ _ other
 
-    values_read : (k : ℕ) → pool_mine n is.at k ≡ true → values k ≡ x k
-    values_read k mine = elim (cases_Bool (pool_mine n (finished_of is.at) k)) [
+    values_read : (k : ℕ) → pool_mine n is.puddles k ≡ true → values k ≡ x k
+    values_read k mine = elim (cases_Bool (pool_mine n (finished_of is.puddles) k)) [
       | inl own ↦ cond-true _ _ _ own
       | inr other ↦ cond-false _ _ _ other ∙ sym (beside k mine other)
     ]
 
-    graph_after : graph_of w.stored.types (stored_in n is.at values) ≡ Some made
-    graph_after = ap (graph_of w.stored.types) (stored_in-mine n is.at x values values_read) ∙ graph
+    graph_after : graph_of w.stored.types (stored_in n is.puddles values) ≡ Some made
+    graph_after = ap (graph_of w.stored.types) (stored_in-mine n is.puddles x values values_read) ∙ graph
 
     -- all are masked, with these values of its frames
     abbrev anew : Write
     anew = open_masks n (all_later size w memory number held old ready there values values_beside)
 
     -- beside its frames they are masked as they were
-    anew_beside : (i : Image) → Picks old.now.words i → (k : ℕ) → pool_mine n (finished_of is.at) k ≡ false → anew k ≡ ready.mask k
+    anew_beside : (i : Image) → Picks old.now.words i → (k : ℕ) → pool_mine n (finished_of is.puddles) k ≡ false → anew k ≡ ready.mask k
     anew_beside i picked k other =
         masks_changed number (own size w memory number held old ready there) (later size w memory number held old ready there values values_beside) _ ready.held.opens
         (all_later size w memory number held old ready there values values_beside) (more size w memory number held old ready there) (later_more size w memory number held old ready there values values_beside) n ready.mask anew
         (rest size w memory number held old ready there) ready.held.masks (later_masks size w memory number held old ready there values values_beside i picked) (rest_masks size w memory number held old ready there) k
         (mask_agrees n p values is.before k (values_beside k other))
 
-    values_graph : (i : Image) → Picks old.now.words i → graph_of w.stored.types (stored_in n is.at (masked_image anew i)) ≡ Some made
+    values_graph : (i : Image) → Picks old.now.words i → graph_of w.stored.types (stored_in n is.puddles (masked_image anew i)) ≡ Some made
     values_graph i picked =
         let masks = later_masks size w memory number held old ready there values values_beside i picked in
         let its = later_more size w memory number held old ready there values values_beside in
-        ap (graph_of w.stored.types) (stored_in-mine n is.at x (masked_image anew i) (λ k mine. elim (cases_Bool (pool_mine n (finished_of is.at) k)) [
+        ap (graph_of w.stored.types) (stored_in-mine n is.puddles x (masked_image anew i) (λ k mine. elim (cases_Bool (pool_mine n (finished_of is.puddles) k)) [
           | inl own ↦
               masked_image-there anew i k (values k) (masks.has number (later size w memory number held old ready there values values_beside) its.here k (values k) (mask_of_mine n p values k is.pool.known own))
               ∙ cond-true _ _ _ own
@@ -220,12 +220,12 @@ module _ (size : ℕ) (w : World) (memory : Memory) (number : ℕ) (held : Held)
     stands_after : (i : Image) → Picks old.now.words i → idle_world_of size (masked_image anew i) ≡ Some (record w.stored { pools = pools_after })
     stands_after i picked =
         let tables = masked_tables i picked in
-        idle_world_with_graph size w.stored (masked_image ready.mask i) (masked_image anew i) held.slot is.rec is.at made
+        idle_world_with_graph size w.stored (masked_image ready.mask i) (masked_image anew i) held.slot is.rec is.puddles made
         (ap is_idle_gate (masked_image-elsewhere ready.mask i DAEMON_LOG (daemon_log_unmasked w memory.held ready.mask old.now.words ready.held)) ∙ idle_there size w memory number held old ready there i picked)
         (ready.settled.stands (masked_image ready.mask i) (Picks-masked ready.mask old.now.words i picked)) is.pool.slot
         (ap (λ (t : Tables). t.pools held.slot) tables ∙ used_still w held ready.mask old.now.words is)
         (ap (λ (t : Tables). puddles_in_turn t held.slot) tables ∙ held_in_turn size w memory old ready number held there)
-        (λ k other. ap (λ (o : Option ℕ). unwrap_or o (i k)) (anew_beside i picked k (none_of_finished n is.at k other))) (values_graph i picked)
+        (λ k other. ap (λ (o : Option ℕ). unwrap_or o (i k)) (anew_beside i picked k (none_of_finished n is.puddles k other))) (values_graph i picked)
 
     pools_beside : (name : List ℕ) → name ≢ held.name → pool_named name (record w.stored { pools = pools_after }) ≡ pool_named name w.stored
     pools_beside name apart = changed_beside is.rec.name name (holding_graph made) w.stored.pools (λ same. apart (same ∙ is.name))
@@ -244,11 +244,11 @@ module _ (size : ℕ) (w : World) (memory : Memory) (number : ℕ) (held : Held)
     pub Applies-committed : (F sz : ℕ) (fault : Option HostFault) (new : State) → F ≡ n → size ≡ sz → Commits F sz held.tx.log fault old new
         → Applies size w (after w (Commit client held.name)) (with_ended number held memory) fault old new
     Applies-committed F sz fault new on same commits =
-        let e = subst (λ (m : ℕ). Commits m sz held.tx.log fault old new) on commits is.at w.stored.types is.before is.undone is.transaction.now is.transaction.laters placed (omega (arith, same, room)) log_apart is.running
+        let e = subst (λ (m : ℕ). Commits m sz held.tx.log fault old new) on commits is.puddles w.stored.types is.before is.undone is.transaction.now is.transaction.laters placed (omega (arith, same, room)) log_apart is.running
         (λ some. can_redo) in
         subst (λ (v : World). Applies size w v (with_ended number held memory) fault old new) (sym committed_world)
         (Applies-ended size w memory number held old ready there (values e.after e.is e.beside) (values_beside e.after e.is e.beside) (pools_after e.after e.is e.beside) (stands_after e.after e.is e.beside) (pools_beside e.after e.is e.beside) made
-        (graph_after e.after e.is e.beside) fault new (EndsBy-ends (pool_ground n (finished_of is.at)) held.tx.log.at is.before e.after fault old new e.ends))
+        (graph_after e.after e.is e.beside) fault new (EndsBy-ends (pool_ground n (finished_of is.puddles)) held.tx.log.gate_at is.before e.after fault old new e.ends))
 
 -- the client's own is undone
 aborted_world : (w : World) (client : ℕ) (name : List ℕ) (number : ℕ) (held : List (Option Held)) → IsOwn client name number held → world_without_log (held_under held number) w ≡ after w (Abort client name)

@@ -89,11 +89,11 @@ module _ (size : ℕ) (w : World) (memory : Memory) (held : Held) (old : State) 
   abbrev is : IsHeld w held ready.mask old.now.words
   is = is_held size w memory held old number there ready
 
-  pub its_puddles : at ≡ is.at
+  pub its_puddles : at ≡ is.puddles
   its_puddles = sym (held_known size w memory old ready number held there at (ap puddles_known known))
 
   pub its_placed : IsPlaced F at
-  its_placed = subst (IsPlaced F) (sym its_puddles) (subst (λ (n : ℕ). IsPlaced n is.at) (sym same) (held_placed size w memory held old number there ready))
+  its_placed = subst (IsPlaced F) (sym its_puddles) (subst (λ (n : ℕ). IsPlaced n is.puddles) (sym same) (held_placed size w memory held old number there ready))
 
   its_frames : AreFrames F at
   its_frames = record { distinct = its_placed.frames; below = λ o e here. frame_below F at o e its_placed.on_device here }

@@ -35,11 +35,11 @@ Updates F held now at later update found size w fault old new =
 
 module _ (F : ℕ) (held : Held) (known : Known) (memory : Memory) (its : IsHeldOn F held known memory) (size : ℕ) (w : World) (old : State) (ready : IsReady size w memory old) where
   -- its puddles lie as those of a ground
-  pub placed_on : IsPlaced F known.at
+  pub placed_on : IsPlaced F known.puddles
   placed_on =
       let alone = held_alone F held known memory its in
       let then = ready_alone F held known memory its size w old ready in
-      its_placed size w (memory_alone held.slot known.at memory) held old held.log_number alone.there then F (sym alone.frames ∙ then.frames) known.at alone.known
+      its_placed size w (memory_alone held.slot known.puddles memory) held old held.log_number alone.there then F (sym alone.frames ∙ then.frames) known.puddles alone.known
 
   -- what is known behind the calls may be kept, where that is so of the device
   module _ (goal : Member → Option ℕ) (next : World) (now : Held) (later : List (ℕ × Puddle)) (more : Known) (puddles : more.at ≡ later) (fault : Option HostFault) (from new : State) where
@@ -47,7 +47,7 @@ module _ (F : ℕ) (held : Held) (known : Known) (memory : Memory) (its : IsHeld
     alone = with_opened held.log_number held.slot now later memory
 
     slot_within : held.slot < length memory.judged
-    slot_within = known_within memory.judged held.slot known.at (ap puddles_known its.known)
+    slot_within = known_within memory.judged held.slot known.puddles (ap puddles_known its.known)
 
     ready_more : IsReady size next alone new → IsKnown F (reads new.now.words) more → IsReady size next (with_known held.log_number held.slot now more memory) new
     ready_more then so =
@@ -70,22 +70,22 @@ module _ (F : ℕ) (held : Held) (known : Known) (memory : Memory) (its : IsHeld
     }
 
   -- the line is carried out
-  module _ (update : Update) (found : Found) (free : refusal_of w (update_line update held.client held.name) ≡ None) (within : IsFoundWithin known.at found) (by : IsFoundBy F known.at (reads old.now.words) update found) where
+  module _ (update : Update) (found : Found) (free : refusal_of w (update_line update held.client held.name) ≡ None) (within : IsFoundWithin known.puddles found) (by : IsFoundBy F known.puddles (reads old.now.words) update found) where
     abbrev line : Command
     line = update_line update held.client held.name
 
     abbrev led : ℕ → ℕ
     led = end_of (ordinal_written found)
 
-    pub Applies-found : (lent later : List (ℕ × Puddle)) (now : Held) (more : Known) (fault : Option HostFault) (mid new : State) → lent ≡ known.at → more.at ≡ later → mid ≡ old
+    pub Applies-found : (lent later : List (ℕ × Puddle)) (now : Held) (more : Known) (fault : Option HostFault) (mid new : State) → lent ≡ known.puddles → more.at ≡ later → mid ≡ old
         → Updates F held now lent later update found size w fault mid new → (fault ≡ None → IsKnown F (reads new.now.words) more)
-        → AppliesFinishing held.slot (FinishesUnless (refusal_of w line) (FinishesFor F known.at (reads old.now.words) update)) size w (world_by w (Some line)) (with_known held.log_number held.slot now more memory) fault old new
+        → AppliesFinishing held.slot (FinishesUnless (refusal_of w line) (FinishesFor F known.puddles (reads old.now.words) update)) size w (world_by w (Some line)) (with_known held.log_number held.slot now more memory) fault old new
     Applies-found lent later now more fault mid new same puddles still updates so =
-        let behind = memory_alone held.slot known.at memory in
+        let behind = memory_alone held.slot known.puddles memory in
         let its_alone = subst (λ (ps : List (ℕ × Puddle)). IsHeldIn F held ps behind) (sym same) (held_alone F held known memory its) in
         let then = subst (λ (s : State). IsReady size w behind s) (sym still) (ready_alone F held known memory its size w old ready) in
-        let by_lent = subst (λ (ps : List (ℕ × Puddle)). IsFoundBy F ps (reads mid.now.words) update found) (sym same) (subst (λ (s : State). IsFoundBy F known.at (reads s.now.words) update found) (sym still) by) in
-        finishing_free held.slot (FinishesFor F known.at (reads old.now.words) update) (refusal_of w line) free led (finishes_found F known.at (reads old.now.words) update found within by) size w _ _ _ _ _
+        let by_lent = subst (λ (ps : List (ℕ × Puddle)). IsFoundBy F ps (reads mid.now.words) update found) (sym same) (subst (λ (s : State). IsFoundBy F known.puddles (reads s.now.words) update found) (sym still) by) in
+        finishing_free held.slot (FinishesFor F known.puddles (reads old.now.words) update) (refusal_of w line) free led (finishes_found F known.puddles (reads old.now.words) update found within by) size w _ _ _ _ _
         (AppliesTo-behind_reads held.slot led size w _ line fault old mid new free still
         (AppliesTo-more (led_in held.slot led) (after w line) now later more puddles fault mid new so
-        (subst (λ (m : Memory). AppliesTo (led_in held.slot led) size w (after w line) m fault mid new) (opened_alone held.log_number held.slot now known.at later memory) (updates behind its_alone then free by_lent))))
+        (subst (λ (m : Memory). AppliesTo (led_in held.slot led) size w (after w line) m fault mid new) (opened_alone held.log_number held.slot now known.puddles later memory) (updates behind its_alone then free by_lent))))

@@ -136,7 +136,7 @@ module _ (size : ℕ) (w : World) (memory : Memory) (held : Held) (old : State) 
   abbrev pub OwesWorld : ℕ → Option HostFault → State → Type 0
   OwesWorld n fault new = (mask : Write) → GrowsAt size w.stored (with_grown_pool held.name w.stored) n a mask old.now.words → ChangesMasked mask size w.stored (with_grown_pool held.name w.stored) (IsFilled n a) fault old new
 
-  module _ (by : GrowsBy F held.slot is.at image a) where
+  module _ (by : GrowsBy F held.slot is.puddles image a) where
     slot_is : a.puddle.pool ≡ held.slot
     slot_is = by.puddle.slot_is
 
@@ -155,7 +155,7 @@ module _ (size : ℕ) (w : World) (memory : Memory) (held : Held) (old : State) 
     next_read : IsNext (tables_of F image) (image NEXT_NUMBER_WORD)
     next_read =
         subst (λ (n : ℕ). IsGrowthFor (tables_of F image) (image NEXT_NUMBER_WORD) a.puddle.pool n a) (sym (count_held size w memory held old number there ready) ∙ ap (puddle_count (tables_of F image)) (sym slot_is))
-        (subst (λ (n : ℕ). IsGrowthFor (tables_of F image) (image NEXT_NUMBER_WORD) n (length is.at) a) (sym slot_is) by)
+        (subst (λ (n : ℕ). IsGrowthFor (tables_of F image) (image NEXT_NUMBER_WORD) n (length is.puddles) a) (sym slot_is) by)
 
     grows_at : GrowsAt size w.stored (with_grown_pool held.name w.stored) F a ready.mask old.now.words
     grows_at = record {
@@ -171,7 +171,7 @@ module _ (size : ℕ) (w : World) (memory : Memory) (held : Held) (old : State) 
       grown = inl (is.undone, its_graph size w memory held old number there ready, ap (λ (name : List ℕ). with_grown_pool name w.stored) (sym is.name));
     }
 
-  module _ (by : GrowsBy F held.slot is.at image a) (fault : Option HostFault) (new : State) (grows : OwesGrowth F fault new) (worlds : OwesWorld F fault new) where
+  module _ (by : GrowsBy F held.slot is.puddles image a) (fault : Option HostFault) (new : State) (grows : OwesGrowth F fault new) (worlds : OwesWorld F fault new) where
     beside : IsBeside ready.mask fault old new
     beside = IsBeside-adds ready.mask F a (growing a) fault old new (off by) (ready_gate size w memory old ready) (grows (ready_gate size w memory old ready))
 
@@ -203,7 +203,7 @@ module _ (size : ℕ) (w : World) (memory : Memory) (held : Held) (old : State) 
 
   -- ---- the transaction has the puddle too
 
-  module _ (by : GrowsBy F held.slot is.at image a) (new : State) (grows : OwesGrowth F None new) (worlds : OwesWorld F None new) where
+  module _ (by : GrowsBy F held.slot is.puddles image a) (new : State) (grows : OwesGrowth F None new) (worlds : OwesWorld F None new) where
     abbrev words : Words
     words = new.now.words
 
@@ -222,7 +222,7 @@ module _ (size : ℕ) (w : World) (memory : Memory) (held : Held) (old : State) 
         holds_still w w memory.held ready.mask old new ready.held
         (record { frames = refl; transactions = refl; present = λ n h has. refl; stored = λ n h has. refl; types = λ id m is. is; graphs = λ st g is. is }) done.beside.changes
         (rest_by_words size w memory old ready new
-        (λ n h has k mine. words_grow F a old new (within by) by.puddle.frame (grows (ready_gate size w memory old ready)) h.slot (ready.held.each n h has).is.at (held_graph size w memory old ready n h has) k mine)
+        (λ n h has k mine. words_grow F a old new (within by) by.puddle.frame (grows (ready_gate size w memory old ready)) h.slot (ready.held.each n h has).is.puddles (held_graph size w memory old ready n h has) k mine)
         (done.beside.single refl)).each
 
     abbrev is_then : IsHeld w held ready.mask words
@@ -274,15 +274,15 @@ module _ (size : ℕ) (w : World) (memory : Memory) (held : Held) (old : State) 
     e_finished = by.puddle.frontier
 
     abbrev at : List (ℕ × Puddle)
-    at = is.at ++ e ∷ []
+    at = is.puddles ++ e ∷ []
 
-    last : a.puddle.ordinal ≡ length is.at
+    last : a.puddle.ordinal ≡ length is.puddles
     last = by.puddle.ordinal_is
 
     used_then : t.pools held.slot ≡ Some is_then.rec
     used_then = used_still w held ready.mask words is_then
 
-    counted_then : puddle_count t held.slot ≡ length is.at + 1
+    counted_then : puddle_count t held.slot ≡ length is.puddles + 1
     counted_then =
         let p = its_pool size w memory held old number there ready in
         let s = with_grown_pool held.name w.stored in
@@ -295,7 +295,7 @@ module _ (size : ℕ) (w : World) (memory : Memory) (held : Held) (old : State) 
         ∙ subst (λ (n : ℕ). puddle_count (tables_of n under) held.slot ≡ p.pool.puddles + 1) (grown_frames held.name w.stored) now
         ∙ ap (λ (n : ℕ). n + 1) (puddles_counted size w memory held old number there ready)
 
-    comes : (i : ℕ) → i ≡ length is.at → IsMemberOf t held.slot i e
+    comes : (i : ℕ) → i ≡ length is.puddles → IsMemberOf t held.slot i e
     comes i same =
         let below = known by in
         record {
@@ -308,7 +308,7 @@ module _ (size : ℕ) (w : World) (memory : Memory) (held : Held) (old : State) 
         }
 
     -- one that it had is in no free frame, and has its record still
-    stays_there : (i : ℕ) (x : ℕ × Puddle) → slice_get is.at i ≡ Some x → IsMemberOf t held.slot i x
+    stays_there : (i : ℕ) (x : ℕ × Puddle) → slice_get is.puddles i ≡ Some x → IsMemberOf t held.slot i x
     stays_there i x has =
         let turn = held_in_turn size w memory old ready number held there in
         let m = (members_in_turn (tables_of F image) held.slot).each i x (ap (λ (ps : List (ℕ × Puddle)). slice_get ps i) turn ∙ has) in
@@ -327,12 +327,12 @@ module _ (size : ℕ) (w : World) (memory : Memory) (held : Held) (old : State) 
 
     all_there : HasMembers t held.slot at
     all_there = record {
-      each = λ i x there. elim (cases_lt i (length is.at)) [
-        | inl below ↦ stays_there i x (sym (slice_get-front is.at (e ∷ []) i below) ∙ there)
+      each = λ i x there. elim (cases_lt i (length is.puddles)) [
+        | inl below ↦ stays_there i x (sym (slice_get-front is.puddles (e ∷ []) i below) ∙ there)
         | inr past ↦
             let within = slice_get_within at i x there in
-            let same : i ≡ length is.at = omega (arith, within, past, length_push is.at e) in
-            let is_last : e ≡ x = same_Some e x (sym (slice_get-push is.at e) ∙ ap (slice_get at) (sym same) ∙ there) in
+            let same : i ≡ length is.puddles = omega (arith, within, past, length_push is.puddles e) in
+            let is_last : e ≡ x = same_Some e x (sym (slice_get-push is.puddles e) ∙ ap (slice_get at) (sym same) ∙ there) in
             subst (λ (y : ℕ × Puddle). IsMemberOf t held.slot i y) is_last (comes i same)
       ];
     }
@@ -340,9 +340,9 @@ module _ (size : ℕ) (w : World) (memory : Memory) (held : Held) (old : State) 
     listed_then : puddles_in_turn t held.slot ≡ at
     listed_then =
         all_members (with_grown_pool held.name w.stored).next_number t sound_then held.slot is.pool.slot is_then.rec at used_then all_there
-        (length_puddles (with_grown_pool held.name w.stored).next_number t sound_then held.slot is.pool.slot ∙ counted_then ∙ sym (length_push is.at e))
+        (length_puddles (with_grown_pool held.name w.stored).next_number t sound_then held.slot is.pool.slot ∙ counted_then ∙ sym (length_push is.puddles e))
 
-    fresh : IsFreshFrame F e.0 e.1.number (length is.at) (reads words)
+    fresh : IsFreshFrame F e.0 e.1.number (length is.puddles) (reads words)
     fresh = subst (λ (n : ℕ). IsFreshFrame F a.frame a.puddle.number n (reads words)) last grown.1
 
     owners : owner_of (reads words) held.client ≡ w.clients held.client
@@ -384,7 +384,7 @@ module _ (size : ℕ) (w : World) (memory : Memory) (held : Held) (old : State) 
     mask_then = wide w memory.held ready.mask new holds_then held number there e number_then sound_then owners listed_then rest_then e_finished
 
     abbrev one : OpenTransaction
-    one = open_held held is.at is.rec is.who is.before
+    one = open_held held is.puddles is.rec is.who is.before
 
     -- where it is open then
     abbrev more : OpenTransaction
@@ -411,7 +411,7 @@ module _ (size : ℕ) (w : World) (memory : Memory) (held : Held) (old : State) 
       graph = is_then.transaction.now;
       turn = listed_then;
       stored = ap (λ (ts : List (ℕ × ℕ)). graph_of ts (stored_in F at (reads words))) types_then
-          ∙ graph_longer w.stored.types F (reads words) is.at e is_then.transaction.now (some_held size w memory held old number there ready) fresh is_then.running.is;
+          ∙ graph_longer w.stored.types F (reads words) is.puddles e is_then.transaction.now (some_held size w memory held old number there ready) fresh is_then.running.is;
     }
 
     -- all other pools stay
@@ -439,28 +439,28 @@ module _ (size : ℕ) (w : World) (memory : Memory) (held : Held) (old : State) 
         }
 
     -- its frames are as they were
-    stored_then : stored_in F is.at (reads words) ≡ stored_in F is.at image
+    stored_then : stored_in F is.puddles (reads words) ≡ stored_in F is.puddles image
     stored_then =
-        stored_in-same F is.at image (reads words)
+        stored_in-same F is.puddles image (reads words)
         (record {
           each = λ o k d here below.
-              words_grow F a old new (within by) by.puddle.frame commits held.slot is.at (held_graph size w memory old ready number held there) (frame_at F d.0 + k)
-              (pool_mine-from F is.at (frame_at F d.0 + k) (record { ordinal = o; puddle = d; there = here; low = omega arith; high = omega arith }));
+              words_grow F a old new (within by) by.puddle.frame commits held.slot is.puddles (held_graph size w memory old ready number held there) (frame_at F d.0 + k)
+              (pool_mine-from F is.puddles (frame_at F d.0 + k) (record { ordinal = o; puddle = d; there = here; low = omega arith; high = omega arith }));
         })
 
-    word_longer : (o k : ℕ) → o < length is.at → (stored_in F at (reads words)).word o k ≡ (stored_in F is.at image).word o k
-    word_longer o k low = ap (word_in_frame F (reads words) k) (slice_get-front is.at (e ∷ []) o low) ∙ ap (λ (st : Stored). st.word o k) stored_then
+    word_longer : (o k : ℕ) → o < length is.puddles → (stored_in F at (reads words)).word o k ≡ (stored_in F is.puddles image).word o k
+    word_longer o k low = ap (word_in_frame F (reads words) k) (slice_get-front is.puddles (e ∷ []) o low) ∙ ap (λ (st : Stored). st.word o k) stored_then
 
     -- so each slot in which an object lived has one still
-    longer : IsLonger F is.at at image (reads words)
+    longer : IsLonger F is.puddles at image (reads words)
     longer = record {
-      count = length_push is.at e;
-      live = λ p low live. let below : ordinal_of p < length is.at = omega (arith, low, length-map is.at (λ (x : ℕ × Puddle). x.1)) in
+      count = length_push is.puddles e;
+      live = λ p low live. let below : ordinal_of p < length is.puddles = omega (arith, low, length-map is.puddles (λ (x : ℕ × Puddle). x.1)) in
           λ none. live (sym (word_longer (ordinal_of p) (puddle_slot_at (slot_of p) + SLOT_SERIAL_WORD) below) ∙ none);
     }
 
-    pub IsLonger-wide : (puddles : List (ℕ × Puddle)) → puddles ≡ puddles_in_turn t held.slot → IsLonger F is.at puddles image (reads words)
-    IsLonger-wide puddles scanned = subst (λ (ps : List (ℕ × Puddle)). IsLonger F is.at ps image (reads words)) (sym (scanned ∙ listed_then)) longer
+    pub IsLonger-wide : (puddles : List (ℕ × Puddle)) → puddles ≡ puddles_in_turn t held.slot → IsLonger F is.puddles puddles image (reads words)
+    IsLonger-wide puddles scanned = subst (λ (ps : List (ℕ × Puddle)). IsLonger F is.puddles ps image (reads words)) (sym (scanned ∙ listed_then)) longer
 
     -- whatever a scan gives
     pub Applies-wide : (puddles : List (ℕ × Puddle)) → puddles ≡ puddles_in_turn t held.slot → Applies size w next (with_opened number held.slot held puddles memory) None old new
@@ -478,7 +478,7 @@ module _ (size : ℕ) (w : World) (memory : Memory) (held : Held) (old : State) 
   -- ---- what the calls owe, on so many frames
 
   module _ (n : ℕ) (same : n ≡ F) (pool : List (ℕ × Puddle)) (known : KnowsAlone memory.judged held.slot pool) (by : GrowsBy n held.slot pool image a) where
-    by_world : GrowsBy F held.slot is.at image a
+    by_world : GrowsBy F held.slot is.puddles image a
     by_world =
         subst (λ (ps : List (ℕ × Puddle)). GrowsBy F held.slot ps image a) (sym (held_known size w memory old ready number held there pool (ap puddles_known known)))
         (subst (λ (m : ℕ). GrowsBy m held.slot pool image a) same by)
@@ -515,6 +515,6 @@ module _ (size : ℕ) (w : World) (memory : Memory) (held : Held) (old : State) 
     grows_longer puddles mid new grows worlds still scanned =
         subst (λ (m : ℕ). IsLonger m pool puddles image (reads new.now.words)) (sym same)
         (subst (λ (ps : List (ℕ × Puddle)). IsLonger F ps puddles image (reads new.now.words)) (held_known size w memory old ready number held there pool (ap puddles_known known))
-        (subst (λ (s : State). IsLonger F is.at puddles image (reads s.now.words)) (sym still)
+        (subst (λ (s : State). IsLonger F is.puddles puddles image (reads s.now.words)) (sym still)
         (IsLonger-wide by_world mid (growth_there None mid grows) (worlds_there None mid worlds) puddles
         (subst (λ (m : ℕ). puddles ≡ puddles_in_turn (tables_of m (reads mid.now.words)) held.slot) same scanned))))

@@ -70,16 +70,16 @@ module _ (size : ℕ) (w : World) (memory : Memory) (held : Held) (old : State) 
   pub next_serial : next_in (graph_seen (open_on held.name w) (pool_named held.name w.stored)) ≡ is.transaction.now.next_serial
   next_serial = ap (λ (o : Option Transaction). next_in (graph_seen o (pool_named held.name w.stored))) is.is
 
-  module _ (F : ℕ) (at : List (ℕ × Puddle)) (same : F ≡ w.stored.frames) (listed : at ≡ is.at) where
-    live_there : AreAllLive (stored_in F at (reads old.now.words)) → AreAllLive (stored_in w.stored.frames is.at (reads old.now.words))
+  module _ (F : ℕ) (at : List (ℕ × Puddle)) (same : F ≡ w.stored.frames) (listed : at ≡ is.puddles) where
+    live_there : AreAllLive (stored_in F at (reads old.now.words)) → AreAllLive (stored_in w.stored.frames is.puddles (reads old.now.words))
     live_there live =
-        subst (λ (n : ℕ). AreAllLive (stored_in n is.at (reads old.now.words))) same (subst (λ (puddles : List (ℕ × Puddle)). AreAllLive (stored_in F puddles (reads old.now.words))) listed live)
+        subst (λ (n : ℕ). AreAllLive (stored_in n is.puddles (reads old.now.words))) same (subst (λ (puddles : List (ℕ × Puddle)). AreAllLive (stored_in F puddles (reads old.now.words))) listed live)
 
     -- each slot is live where the pool is to grow, and not all where it is not
     pub all_live : grows w held.name ≡ true → AreAllLive (stored_in F at (reads old.now.words))
     all_live more =
         subst (λ (puddles : List (ℕ × Puddle)). AreAllLive (stored_in F puddles (reads old.now.words))) (sym listed)
-        (subst (λ (n : ℕ). AreAllLive (stored_in n is.at (reads old.now.words))) (sym same) (grows_live size w memory held old number there ready more))
+        (subst (λ (n : ℕ). AreAllLive (stored_in n is.puddles (reads old.now.words))) (sym same) (grows_live size w memory held old number there ready more))
 
     pub not_live : grows w held.name ≡ false → AreAllLive (stored_in F at (reads old.now.words)) → ⊥
     not_live less live = grows_not size w memory held old number there ready less (live_there live)
@@ -90,26 +90,26 @@ module _ (size : ℕ) (w : World) (memory : Memory) (held : Held) (old : State) 
         → IfOk done (λ serial. serial ≡ next_in (graph_seen (open_on held.name w) (pool_named held.name w.stored)))
     serial_made done told =
         let graph = subst (λ (puddles : List (ℕ × Puddle)). graph_of w.stored.types (stored_in F puddles (reads old.now.words)) ≡ Some is.transaction.now) (sym listed)
-        (subst (λ (n : ℕ). graph_of w.stored.types (stored_in n is.at (reads old.now.words)) ≡ Some is.transaction.now) (sym same) is.running.is) in
+        (subst (λ (n : ℕ). graph_of w.stored.types (stored_in n is.puddles (reads old.now.words)) ≡ Some is.transaction.now) (sym same) is.running.is) in
         subst (λ (n : ℕ). IfOk done (λ serial. serial ≡ n)) (sym next_serial) (told graph)
 
     -- what a call owes that makes an object in a slot, on these puddles
     abbrev OwesMakes : (slot : Slot) (id : ℕ) → Option HostFault → State → List (ℕ × Puddle) → Type 0
     OwesMakes slot id fault new puddles =
         IsPlaced F puddles → IsOpenOn F puddles w.stored.types held.tx.log is.before is.undone is.transaction.now is.transaction.laters old.now.words → is.transaction.now.next_serial < NUMBER_LIMIT
-        → MakesIn F puddles held.tx.log.at slot id fault old new
+        → MakesIn F puddles held.tx.log.gate_at slot id fault old new
 
     -- it makes it in this one
-    pub made_there : (id : ℕ) → refusal_by_world w held id ≡ None → (fault : Option HostFault) (new : State) (slot : Slot) → OwesMakes slot id fault new at → MakesIn F at held.tx.log.at slot id fault old new
+    pub made_there : (id : ℕ) → refusal_by_world w held id ≡ None → (fault : Option HostFault) (new : State) (slot : Slot) → OwesMakes slot id fault new at → MakesIn F at held.tx.log.gate_at slot id fault old new
     made_there id none fault new slot owes =
         let may = may_make (map_of id w.stored.types) held.tx.units (next_in (graph_seen (open_on held.name w) (pool_named held.name w.stored))) none in
         owes
-        (subst (IsPlaced F) (sym listed) (subst (λ (n : ℕ). IsPlaced n is.at) (sym same) (held_placed size w memory held old number there ready)))
+        (subst (IsPlaced F) (sym listed) (subst (λ (n : ℕ). IsPlaced n is.puddles) (sym same) (held_placed size w memory held old number there ready)))
         (subst (λ (puddles : List (ℕ × Puddle)). IsOpenOn F puddles w.stored.types held.tx.log is.before is.undone is.transaction.now is.transaction.laters old.now.words) (sym listed)
-        (subst (λ (n : ℕ). IsOpenOn n is.at w.stored.types held.tx.log is.before is.undone is.transaction.now is.transaction.laters old.now.words) (sym same) is.running))
+        (subst (λ (n : ℕ). IsOpenOn n is.puddles w.stored.types held.tx.log is.before is.undone is.transaction.now is.transaction.laters old.now.words) (sym same) is.running))
         (subst (λ (n : ℕ). n < NUMBER_LIMIT) next_serial may.left)
 
-    module _ (id : ℕ) (none : refusal_by_world w held id ≡ None) (tx : OpenTx) (new : State) (gate : tx.log.at ≡ held.tx.log.at) where
+    module _ (id : ℕ) (none : refusal_by_world w held id ≡ None) (tx : OpenTx) (new : State) (gate : tx.log.gate_at ≡ held.tx.log.gate_at) where
       may : MayMake (map_of id w.stored.types) held.tx.units (next_in (graph_seen (open_on held.name w) (pool_named held.name w.stored)))
       may = may_make (map_of id w.stored.types) held.tx.units (next_in (graph_seen (open_on held.name w) (pool_named held.name w.stored))) none
 
@@ -126,4 +126,4 @@ module _ (size : ℕ) (w : World) (memory : Memory) (held : Held) (old : State) 
           let at_first = owed size w memory held old number there ready F at same listed tx new gate (charged NEW_UNITS (with_new (blank_object id may.is))) (fault_of done) (runs may.is may.defined left) in
           Applies-runs size w memory held old number there ready (subst (KnowsAlone memory.judged held.slot) listed known) tx NEW_UNITS (charged NEW_UNITS (with_new (object_made w id))) (Charges-charged NEW_UNITS (with_new (object_made w id))) (fault_of done) new gate
           (used_more done NEW_UNITS tx.units held.tx.units used)
-          (subst (λ (change : Graph → Graph). RunsOn w.stored.frames is.at w.stored.types tx.log is.before is.undone (change is.transaction.now) is.transaction.laters (fault_of done) old new) the_object at_first)
+          (subst (λ (change : Graph → Graph). RunsOn w.stored.frames is.puddles w.stored.types tx.log is.before is.undone (change is.transaction.now) is.transaction.laters (fault_of done) old new) the_object at_first)

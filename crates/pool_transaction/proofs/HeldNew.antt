@@ -106,7 +106,7 @@ module _ (size : ℕ) (w : World) (memory : Memory) (held : Held) (s : State) (n
       ap₂ (λ n ps. ltb n (sum_by (λ (e : List ℕ × Pool). e.1.puddles) ps + 1)) (sym (frames_of_tables F image)) (sym (pools_read size w memory s ready))
       ∙ sym (space_by_table hold w.stored.next_number t (sound_read size w memory s ready) (record { beyond = λ slot beyond. pools_beyond F image slot beyond }))
 
-  few_held : length is.at ≤ MAX_PUDDLES
+  few_held : length is.puddles ≤ MAX_PUDDLES
   few_held = (held_placed size w memory held s number there ready).on_device.few
 
   -- the client's own transaction is open
@@ -121,18 +121,18 @@ module _ (size : ℕ) (w : World) (memory : Memory) (held : Held) (s : State) (n
 
   less_by : grows w held.name ≡ false → many ≡ false
   less_by less =
-      most_objects (length is.transaction.now.objects) (length is.at) (objects_fit size w memory held s number there ready) few_held (sym (grows_by size w memory held s number there ready) ∙ less)
+      most_objects (length is.transaction.now.objects) (length is.puddles) (objects_fit size w memory held s number there ready) few_held (sym (grows_by size w memory held s number there ready) ∙ less)
 
-  all_by : grows w held.name ≡ true → length is.transaction.now.objects ≡ slots_among (length is.at)
-  all_by more = eqb-true (length is.transaction.now.objects) (slots_among (length is.at)) (sym (grows_by size w memory held s number there ready) ∙ more)
+  all_by : grows w held.name ≡ true → length is.transaction.now.objects ≡ slots_among (length is.puddles)
+  all_by more = eqb-true (length is.transaction.now.objects) (slots_among (length is.puddles)) (sym (grows_by size w memory held s number there ready) ∙ more)
 
-  more_by : grows w held.name ≡ true → (many || lacks_a_number w.stored.next_number) ≡ not (has_room (length is.at) (image NEXT_NUMBER_WORD))
+  more_by : grows w held.name ≡ true → (many || lacks_a_number w.stored.next_number) ≡ not (has_room (length is.puddles) (image NEXT_NUMBER_WORD))
   more_by more =
-      full_or_room (length is.transaction.now.objects) (length is.at) w.stored.next_number (all_by more)
-      ∙ ap (λ (n : ℕ). not (has_room (length is.at) n)) (sym (header_read size w memory s ready).next_number)
+      full_or_room (length is.transaction.now.objects) (length is.puddles) w.stored.next_number (all_by more)
+      ∙ ap (λ (n : ℕ). not (has_room (length is.puddles) n)) (sym (header_read size w memory s ready).next_number)
 
   -- Its refusals are those that count whatever slots there are, and behind them, where each slot is live, those of a puddle more.
-  pub refusal_new : refusal_of w line ≡ option_or (refusal_by_world w held id) (cond (grows w held.name) (refusal_by_tables F is.at image) None)
+  pub refusal_new : refusal_of w line ≡ option_or (refusal_by_world w held id) (cond (grows w held.name) (refusal_by_tables F is.puddles image) None)
   refusal_new =
       let units : units_of (open_on held.name w) ≡ held.tx.units = ap units_of opened ∙ is.units in
       let full : is_full_graph (graph_seen (open_on held.name w) (pool_named held.name w.stored)) ≡ (leb NUMBER_LIMIT is.transaction.now.next_serial || many) =
@@ -143,19 +143,19 @@ module _ (size : ℕ) (w : World) (memory : Memory) (held : Held) (s : State) (n
       ∙ (λ p. cond (is_none (map_of id w.stored.types)) (Some refusals.NoType) (cond (ltb LOG_ENTRY_WORDS (units p + NEW_UNITS)) (Some refusals.TooBig)
       (cond (full p || (grows w held.name && lacks_a_number w.stored.next_number)) (Some refusals.Full) (cond (grows w held.name && lacks_frames w.stored 1) (Some refusals.Space) None))))
       ∙ joined (is_none (map_of id w.stored.types)) (ltb LOG_ENTRY_WORDS (held.tx.units + NEW_UNITS)) (leb NUMBER_LIMIT is.transaction.now.next_serial) many (lacks_a_number w.stored.next_number) (lacks_frames w.stored 1)
-      (grows w held.name) (has_room (length is.at) (image NEXT_NUMBER_WORD)) (is_none (first_free t.puddles 0 t.frames)) less_by more_by frames_lack
-      ∙ ap (λ (n : ℕ). option_or (refusal_to_make (map_of id w.stored.types) held.tx.units n) (cond (grows w held.name) (refusal_by_tables F is.at image) None)) (sym next)
+      (grows w held.name) (has_room (length is.puddles) (image NEXT_NUMBER_WORD)) (is_none (first_free t.puddles 0 t.frames)) less_by more_by frames_lack
+      ∙ ap (λ (n : ℕ). option_or (refusal_to_make (map_of id w.stored.types) held.tx.units n) (cond (grows w held.name) (refusal_by_tables F is.puddles image) None)) (sym next)
 
   -- what is read gives those that count whatever slots there are
-  refusal_read : (n : ℕ) → n ≡ F → refusal_to_make (map_of id (types_of image)) held.tx.units (next_serial_of (stored_in n is.at image)) ≡ refusal_by_world w held id
+  refusal_read : (n : ℕ) → n ≡ F → refusal_to_make (map_of id (types_of image)) held.tx.units (next_serial_of (stored_in n is.puddles image)) ≡ refusal_by_world w held id
   refusal_read n same =
-      let has = graph_of-each w.stored.types (stored_in F is.at image) is.transaction.now is.running.is in
+      let has = graph_of-each w.stored.types (stored_in F is.puddles image) is.transaction.now is.running.is in
       let types : types_of image ≡ w.stored.types = (types_read size w memory s ready).types in
-      let serial : next_serial_of (stored_in n is.at image) ≡ next_in (graph_seen (open_on held.name w) (pool_named held.name w.stored)) =
-      ap (λ (m : ℕ). next_serial_of (stored_in m is.at image)) same ∙ ap (λ (g : Graph). g.next_serial) has.is ∙ sym (next_serial size w memory held s number there ready) in
+      let serial : next_serial_of (stored_in n is.puddles image) ≡ next_in (graph_seen (open_on held.name w) (pool_named held.name w.stored)) =
+      ap (λ (m : ℕ). next_serial_of (stored_in m is.puddles image)) same ∙ ap (λ (g : Graph). g.next_serial) has.is ∙ sym (next_serial size w memory held s number there ready) in
       ap₂ (λ (ts : List (ℕ × ℕ)) (v : ℕ). refusal_to_make (map_of id ts) held.tx.units v) types serial
 
-  pub refusal_found : (n : ℕ) → n ≡ F → (at : List (ℕ × Puddle)) → at ≡ is.at → (found refused : Option Refusal)
+  pub refusal_found : (n : ℕ) → n ≡ F → (at : List (ℕ × Puddle)) → at ≡ is.puddles → (found refused : Option Refusal)
       → found ≡ refusal_to_make (map_of id (types_of image)) held.tx.units (next_serial_of (stored_in n at image)) → found ≡ refused → refusal_by_world w held id ≡ refused
   refusal_found n same at listed found refused read so =
       sym (refusal_read n same) ∙ ap (λ (ps : List (ℕ × Puddle)). refusal_to_make (map_of id (types_of image)) held.tx.units (next_serial_of (stored_in n ps image))) (sym listed) ∙ sym read ∙ so
@@ -163,17 +163,17 @@ module _ (size : ℕ) (w : World) (memory : Memory) (held : Held) (s : State) (n
   -- ---- what it gives
 
   pub refused_whatever : (r : Refusal) → refusal_by_world w held id ≡ Some r → refusal_of w line ≡ Some r
-  refused_whatever r refused = refusal_new ∙ ap (λ (o : Option Refusal). option_or o (cond (grows w held.name) (refusal_by_tables F is.at image) None)) refused
+  refused_whatever r refused = refusal_new ∙ ap (λ (o : Option Refusal). option_or o (cond (grows w held.name) (refusal_by_tables F is.puddles image) None)) refused
 
   module _ (none : refusal_by_world w held id ≡ None) where
-    behind_it : refusal_of w line ≡ cond (grows w held.name) (refusal_by_tables F is.at image) None
-    behind_it = refusal_new ∙ ap (λ (o : Option Refusal). option_or o (cond (grows w held.name) (refusal_by_tables F is.at image) None)) none
+    behind_it : refusal_of w line ≡ cond (grows w held.name) (refusal_by_tables F is.puddles image) None
+    behind_it = refusal_new ∙ ap (λ (o : Option Refusal). option_or o (cond (grows w held.name) (refusal_by_tables F is.puddles image) None)) none
 
     pub refused_less : grows w held.name ≡ false → refusal_of w line ≡ None
-    refused_less less = behind_it ∙ ap (λ (b : Bool). cond b (refusal_by_tables F is.at image) None) less
+    refused_less less = behind_it ∙ ap (λ (b : Bool). cond b (refusal_by_tables F is.puddles image) None) less
 
-    pub refused_more : grows w held.name ≡ true → refusal_of w line ≡ refusal_by_tables F is.at image
-    refused_more more = behind_it ∙ ap (λ (b : Bool). cond b (refusal_by_tables F is.at image) None) more
+    pub refused_more : grows w held.name ≡ true → refusal_of w line ≡ refusal_by_tables F is.puddles image
+    refused_more more = behind_it ∙ ap (λ (b : Bool). cond b (refusal_by_tables F is.puddles image) None) more
 
   -- the reply is the serial
   pub answer_new : refusal_of w line ≡ None → answer_by w (Some line) ≡ of_reply (replies.Ref (next_in (graph_seen (open_on held.name w) (pool_named held.name w.stored))))
@@ -201,8 +201,8 @@ module _ (size : ℕ) (w : World) (memory : Memory) (held : Held) (s : State) (n
   -- there is a next serial
   pub serial_is_some : 1 ≤ next_in (graph_seen (open_on held.name w) (pool_named held.name w.stored))
   serial_is_some =
-      let has = graph_of-each w.stored.types (stored_in F is.at image) is.transaction.now is.running.is in
-      let n = next_serial_of (stored_in F is.at image) in
+      let has = graph_of-each w.stored.types (stored_in F is.puddles image) is.transaction.now is.running.is in
+      let n = next_serial_of (stored_in F is.puddles image) in
       let legal = leb-true 1 n (and_parts (leb 1 n) (leb n NUMBER_LIMIT) has.graph.legal).0 in
       let same = ap (λ (g : Graph). g.next_serial) has.is in
       omega (arith, legal, same, next_serial size w memory held s number there ready)

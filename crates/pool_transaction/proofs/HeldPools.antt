@@ -53,7 +53,7 @@ module _ (size : ℕ) (w : World) (memory : Memory) (held : Held) (s : State) (n
   t = tables_of F (reads s.now.words)
 
   abbrev st : Stored
-  st = stored_in F is.at (reads s.now.words)
+  st = stored_in F is.puddles (reads s.now.words)
 
   -- the world has it
   pub its_pool : HasPool (pool_named held.name w.stored) is.undone
@@ -73,16 +73,16 @@ module _ (size : ℕ) (w : World) (memory : Memory) (held : Held) (s : State) (n
       (ap (λ (u : Tables). u.pools held.slot) (tables_read size w memory s ready) ∙ used_still w held ready.mask s.now.words is) by_record
 
   -- which are those on which it is open
-  pub count_held : puddle_count t held.slot ≡ length is.at
+  pub count_held : puddle_count t held.slot ≡ length is.puddles
   count_held =
       let turn = puddles_in_turn-listed w.stored.next_number t held.slot is.rec (sound_read size w memory s ready) is.pool.slot (used_still w held ready.mask s.now.words is) in
       sym (length_puddles w.stored.next_number t (sound_read size w memory s ready) held.slot is.pool.slot)
       ∙ sym (length-map (puddles_of t held.slot) (λ (e : ℕ × (ℕ × Puddle)). e.1)) ∙ sym (ap length turn) ∙ ap length (held_in_turn size w memory s ready number held there)
 
-  pub puddles_counted : its_pool.pool.puddles ≡ length is.at
+  pub puddles_counted : its_pool.pool.puddles ≡ length is.puddles
   puddles_counted = sym its_count ∙ count_held
 
-  pub some_held : 1 ≤ length is.at
+  pub some_held : 1 ≤ length is.puddles
   some_held =
       let sound = sound_read size w memory s ready in
       let few = few_members w.stored.next_number t sound held.slot is.rec is.pool.slot (used_still w held ready.mask s.now.words is) in
@@ -90,11 +90,11 @@ module _ (size : ℕ) (w : World) (memory : Memory) (held : Held) (s : State) (n
       let counted = length_puddles w.stored.next_number t sound held.slot is.pool.slot in
       omega (arith, counted, count_held, some)
 
-  places : places_of st ≡ places_among (length is.at)
-  places = ap (λ n. places_among n) (length-map is.at (λ (e : ℕ × Puddle). e.1))
+  places : places_of st ≡ places_among (length is.puddles)
+  places = ap (λ n. places_among n) (length-map is.puddles (λ (e : ℕ × Puddle). e.1))
 
   -- a pool that grows has as many objects as slots
-  pub grows_by : grows w held.name ≡ (length is.transaction.now.objects == slots_among (length is.at))
+  pub grows_by : grows w held.name ≡ (length is.transaction.now.objects == slots_among (length is.puddles))
   grows_by =
       ap₂ (λ (o : Option Transaction) (found : Option Pool). is_all_live (graph_seen o found) found) is.is its_pool.there
       ∙ ap (λ n. length is.transaction.now.objects == slots_among n) puddles_counted
@@ -102,14 +102,14 @@ module _ (size : ℕ) (w : World) (memory : Memory) (held : Held) (s : State) (n
   -- and no free slot
   pub grows_live : grows w held.name ≡ true → AreAllLive st
   grows_live more =
-      let many = eqb-true (length is.transaction.now.objects) (slots_among (length is.at)) (sym grows_by ∙ more) in
+      let many = eqb-true (length is.transaction.now.objects) (slots_among (length is.puddles)) (sym grows_by ∙ more) in
       (objects-live w.stored.types st is.transaction.now is.running.is).1 (many ∙ sym places)
 
   pub grows_not : grows w held.name ≡ false → AreAllLive st → ⊥
   grows_not less all =
       let many = (objects-live w.stored.types st is.transaction.now is.running.is).0 all in
-      let no : true ≡ false = sym (eq-eqb (length is.transaction.now.objects) (slots_among (length is.at)) (many ∙ places)) ∙ sym grows_by ∙ less in
+      let no : true ≡ false = sym (eq-eqb (length is.transaction.now.objects) (slots_among (length is.puddles)) (many ∙ places)) ∙ sym grows_by ∙ less in
       cc
 
-  pub objects_fit : length is.transaction.now.objects ≤ slots_among (length is.at)
+  pub objects_fit : length is.transaction.now.objects ≤ slots_among (length is.puddles)
   objects_fit = let most = objects-most w.stored.types st is.transaction.now is.running.is in omega (arith, most, places)

@@ -79,12 +79,12 @@ module _ (size : ℕ) (w : World) (memory : Memory) (s : State) (ready : IsReady
   own_held = own_is_open w memory.held ready.mask s.now.words held.client held.name number ready.held (record { mine = held; is = there; whose = refl; pool = refl })
 
   -- its puddles have the graph that its client sees
-  graph_held : (frames : ℕ) → frames ≡ w.stored.frames → graph_of (types_of image) (stored_in frames is.at image) ≡ Some is.transaction.now
-  graph_held frames on = (λ p. graph_of ((types_read size w memory s ready).types p) (stored_in (on p) is.at image)) ∙ is.running.is
+  graph_held : (frames : ℕ) → frames ≡ w.stored.frames → graph_of (types_of image) (stored_in frames is.puddles image) ≡ Some is.transaction.now
+  graph_held frames on = (λ p. graph_of ((types_read size w memory s ready).types p) (stored_in (on p) is.puddles image)) ∙ is.running.is
 
   -- and lie as those of a ground
-  pub placed_at : (frames : ℕ) → frames ≡ w.stored.frames → IsPlaced frames is.at
-  placed_at frames on = subst (λ (n : ℕ). IsPlaced n is.at) (sym on) (held_placed size w memory held s number there ready)
+  pub placed_at : (frames : ℕ) → frames ≡ w.stored.frames → IsPlaced frames is.puddles
+  placed_at frames on = subst (λ (n : ℕ). IsPlaced n is.puddles) (sym on) (held_placed size w memory held s number there ready)
 
   -- a change of it is refused by its own causes alone
   refused_by : (change : Update) → change_refusal change (Some is.transaction.now) is.transaction.laters is.transaction.units ≡ refusal_of w (update_line change held.client held.name)
@@ -93,7 +93,7 @@ module _ (size : ℕ) (w : World) (memory : Memory) (s : State) (ready : IsReady
       ∙ ap (λ (r : Option Refusal). option_or r (change_refusal change (graph_seen (open_on held.name w) (pool_named held.name w.stored)) (laters_of (open_on held.name w)) (units_of (open_on held.name w)))) (sym own_held)
       ∙ sym (refusal_of-change w held.client held.name change)
 
-  module _ (frames : ℕ) (at : List (ℕ × Puddle)) (on : frames ≡ w.stored.frames) (same : at ≡ is.at) where
+  module _ (frames : ℕ) (at : List (ℕ × Puddle)) (on : frames ≡ w.stored.frames) (same : at ≡ is.puddles) where
     abbrev now : Graph
     now = is.transaction.now
 
@@ -166,16 +166,16 @@ module _ (size : ℕ) (w : World) (memory : Memory) (s : State) (ready : IsReady
   IsOpenIn then frames at types log = IsOpenOn frames at types log is.before is.undone is.transaction.now is.transaction.laters then.now.words
 
   -- so it is by the types that are read, and its puddles lie as those of a ground
-  open_read : (then : State) (frames : ℕ) (at : List (ℕ × Puddle)) (log : OpenLog) → then ≡ s → frames ≡ w.stored.frames → at ≡ is.at → log ≡ held.tx.log
+  open_read : (then : State) (frames : ℕ) (at : List (ℕ × Puddle)) (log : OpenLog) → then ≡ s → frames ≡ w.stored.frames → at ≡ is.puddles → log ≡ held.tx.log
       → IsPlaced frames at × IsOpenIn then frames at (types_of image) log
   open_read then frames at log still on same logged =
-      let typed = subst (λ (types : List (ℕ × ℕ)). IsOpenIn s w.stored.frames is.at types log) (sym (types_read size w memory s ready).types) (subst (IsOpenIn s w.stored.frames is.at w.stored.types) (sym logged) is.running) in
-      let opened = subst (λ (x : State). IsOpenIn x w.stored.frames is.at (types_of image) log) (sym still) typed in
+      let typed = subst (λ (types : List (ℕ × ℕ)). IsOpenIn s w.stored.frames is.puddles types log) (sym (types_read size w memory s ready).types) (subst (IsOpenIn s w.stored.frames is.puddles w.stored.types) (sym logged) is.running) in
+      let opened = subst (λ (x : State). IsOpenIn x w.stored.frames is.puddles (types_of image) log) (sym still) typed in
       subst (λ (n : ℕ). IsPlaced n at × IsOpenIn then n at (types_of image) log) (sym on)
       (subst (λ (puddles : List (ℕ × Puddle)). IsPlaced w.stored.frames puddles × IsOpenIn then w.stored.frames puddles (types_of image) log) (sym same) (held_placed size w memory held s number there ready, opened))
 
   -- or by what names one that is there
-  pub refused_to_free : (then : State) (frames serial units place : ℕ) (at : List (ℕ × Puddle)) (log : OpenLog) (named asked : Bool) → then ≡ s → (on : frames ≡ w.stored.frames) (same : at ≡ is.at) → log ≡ held.tx.log
+  pub refused_to_free : (then : State) (frames serial units place : ℕ) (at : List (ℕ × Puddle)) (log : OpenLog) (named asked : Bool) → then ≡ s → (on : frames ≡ w.stored.frames) (same : at ≡ is.puddles) → log ≡ held.tx.log
       → place_in_pool frames at image serial ≡ Some place
       → ((g : Graph) → graph_of (types_of image) (stored_in frames at image) ≡ Some g → named ≡ is_held serial g)
       → (IsPlaced frames at → IsOpenIn then frames at (types_of image) log → asked ≡ laters_name serial is.transaction.laters) → units ≡ held.tx.units

@@ -68,19 +68,19 @@ module _ (size : ℕ) (w : World) (memory : Memory) (held : Held) (old : State) 
   is = is_held
 
   abbrev p : OpenPool
-  p = pool_held held is.at is.rec is.who
+  p = pool_held held is.puddles is.rec is.who
 
   abbrev now : Image
   now = reads old.now.words
 
   -- its puddles lie as those of a ground
-  pub held_placed : IsPlaced F is.at
-  held_placed = placed_by_tables w.stored.next_number F now held.slot is.at (sound_read size w memory old ready) (held_in_turn size w memory old ready number held there)
+  pub held_placed : IsPlaced F is.puddles
+  held_placed = placed_by_tables w.stored.next_number F now held.slot is.puddles (sound_read size w memory old ready) (held_in_turn size w memory old ready number held there)
 
   -- ---- what it may write
 
   abbrev own : Footprint
-  own = ByTransaction (pool_ground F (finished_of is.at)) held.tx.log.at
+  own = ByTransaction (pool_ground F (finished_of is.puddles)) held.tx.log.gate_at
 
   -- every such word is masked
   written_masked : (k v : ℕ) → own k v → ready.mask k ≡ None → ⊥
@@ -93,11 +93,11 @@ module _ (size : ℕ) (w : World) (memory : Memory) (held : Held) (old : State) 
       let gate = is.gate in
       let low = inside.low in
       absurd (omega arith)
-  own_behind k v below (inr mine) = let no : true ≡ false = sym mine ∙ mine_behind F (finished_of is.at) k (omega arith) in cc
+  own_behind k v below (inr mine) = let no : true ≡ false = sym mine ∙ mine_behind F (finished_of is.puddles) k (omega arith) in cc
 
   -- and none is one of another that is held
   its_own : (n : ℕ) (g : Held) (has : held_under memory.held n ≡ Some g) → n ≢ number
-      → IsApart F g (pool_held g (ready.held.each n g has).is.at (ready.held.each n g has).is.rec (ready.held.each n g has).is.who) own
+      → IsApart F g (pool_held g (ready.held.each n g has).is.puddles (ready.held.each n g has).is.rec (ready.held.each n g has).is.who) own
   its_own n g has apart = own_apart w memory.held ready.mask old.now.words ready.held number n held g there has (λ same. apart (sym same))
 
   -- masked, an image left meanwhile is the one that it is from
@@ -122,33 +122,33 @@ module _ (size : ℕ) (w : World) (memory : Memory) (held : Held) (old : State) 
     log_idle : is_idle_gate (image DAEMON_LOG) ≡ true
     log_idle = ap is_idle_gate (same_before DAEMON_LOG (omega arith)) ∙ ready_idle size w memory old ready o.before o.picked
 
-    left_open : SettlesTo (pool_ground F (finished_of is.at)) held.tx.log.at is.before image → IsLeftOpen F p is.before image
+    left_open : SettlesTo (pool_ground F (finished_of is.puddles)) held.tx.log.gate_at is.before image → IsLeftOpen F p is.before image
     left_open settles = record {
       unnamed = λ k v e. (names_none_idle ready.mask image log_idle).each k v (is.masked k v e);
       records = λ k of.
           let place = open_record_place F p k is.pool.slot is.pool.known (open_on_device F p is.before is.pool) of in
           same_before k place.high ∙ record_picked w held ready.mask old.now.words is ready.tables o.before o.picked k of;
-      settles = subst (λ (n : ℕ). SettlesTo (pool_ground F (finished_of is.at)) n is.before image) is.gate settles;
+      settles = subst (λ (n : ℕ). SettlesTo (pool_ground F (finished_of is.puddles)) n is.before image) is.gate settles;
     }
 
     -- each is left open: it by its log, and any other since none of its words was written
-    each_open : SettlesTo (pool_ground F (finished_of is.at)) held.tx.log.at is.before image → (n : ℕ) (g : Held) (there : held_under memory.held n ≡ Some g) (is : IsHeldUnder w ready.held.opens ready.mask old.now.words n g)
-        → IsLeftOpen F (pool_held g is.is.at is.is.rec is.is.who) is.is.before image
+    each_open : SettlesTo (pool_ground F (finished_of is.puddles)) held.tx.log.gate_at is.before image → (n : ℕ) (g : Held) (there : held_under memory.held n ≡ Some g) (is : IsHeldUnder w ready.held.opens ready.mask old.now.words n g)
+        → IsLeftOpen F (pool_held g is.is.puddles is.is.rec is.is.who) is.is.before image
     each_open settles n g has other = elim (cases_eq n number) [
       | inl same ↦
-          let one : open_held held is.at is.rec is.who is.before ≡ open_held g other.is.at other.is.rec other.is.who other.is.before =
-          same_Some (open_held held is.at is.rec is.who is.before) (open_held g other.is.at other.is.rec other.is.who other.is.before) (sym under.opened ∙ ap ready.held.opens (sym same) ∙ other.opened) in
+          let one : open_held held is.puddles is.rec is.who is.before ≡ open_held g other.is.puddles other.is.rec other.is.who other.is.before =
+          same_Some (open_held held is.puddles is.rec is.who is.before) (open_held g other.is.puddles other.is.rec other.is.who other.is.before) (sym under.opened ∙ ap ready.held.opens (sym same) ∙ other.opened) in
           subst (λ (t : OpenTransaction). IsLeftOpen F t.pool t.before image) one (left_open settles)
       | inr apart ↦
           let its = ready.held.each n g has in
-          let one : open_held g its.is.at its.is.rec its.is.who its.is.before ≡ open_held g other.is.at other.is.rec other.is.who other.is.before =
-          same_Some (open_held g its.is.at its.is.rec its.is.who its.is.before) (open_held g other.is.at other.is.rec other.is.who other.is.before) (sym its.opened ∙ other.opened) in
+          let one : open_held g its.is.puddles its.is.rec its.is.who its.is.before ≡ open_held g other.is.puddles other.is.rec other.is.who other.is.before =
+          same_Some (open_held g its.is.puddles its.is.rec its.is.who its.is.before) (open_held g other.is.puddles other.is.rec other.is.who other.is.before) (sym its.opened ∙ other.opened) in
           subst (λ (t : OpenTransaction). IsLeftOpen F t.pool t.before image) one
           (left_apart w g ready.mask old.now.words its.is own (its_own n g has apart) ready.tables image o (names_none_idle ready.mask image log_idle))
     ]
 
     -- so it stands for the world, where its log gives back what was there at the beginning
-    pub stands_within : SettlesTo (pool_ground F (finished_of is.at)) held.tx.log.at is.before image → (world_of size image ≡ Some (closed w)) × RefusesNone image
+    pub stands_within : SettlesTo (pool_ground F (finished_of is.puddles)) held.tx.log.gate_at is.before image → (world_of size image ≡ Some (closed w)) × RefusesNone image
     stands_within settles =
         let left : AreLeftOpen F ready.held.opens image = left_all w memory.held ready.mask old.now.words ready.held image (each_open settles) in
         let it = under_left w memory.held ready.mask old.now.words ready.held size image left in
@@ -158,11 +158,11 @@ module _ (size : ℕ) (w : World) (memory : Memory) (held : Held) (old : State) 
 
   module _ (fault : Option HostFault) (new : State) (changes : Changes own fault old new) where
     -- each image left stands for the world
-    pub moments_within : Leaves (Silently (SettlesTo (pool_ground F (finished_of is.at)) held.tx.log.at is.before)) old new → Leaves (Silently (λ image. (world_of size image ≡ Some (closed w)) × RefusesNone image)) old new
+    pub moments_within : Leaves (Silently (SettlesTo (pool_ground F (finished_of is.puddles)) held.tx.log.gate_at is.before)) old new → Leaves (Silently (λ image. (world_of size image ≡ Some (closed w)) × RefusesNone image)) old new
     moments_within moments =
-        Leaves-weaker (Silently (λ image. SettlesTo (pool_ground F (finished_of is.at)) held.tx.log.at is.before image × HasOrigin own old.now.words image)) (Silently (λ image. (world_of size image ≡ Some (closed w)) × RefusesNone image)) old new
+        Leaves-weaker (Silently (λ image. SettlesTo (pool_ground F (finished_of is.puddles)) held.tx.log.gate_at is.before image × HasOrigin own old.now.words image)) (Silently (λ image. (world_of size image ≡ Some (closed w)) × RefusesNone image)) old new
         (λ bytes image m. (m.0, stands_within image m.1.1 m.1.0))
-        (Leaves-from (SettlesTo (pool_ground F (finished_of is.at)) held.tx.log.at is.before) own fault old new changes moments)
+        (Leaves-from (SettlesTo (pool_ground F (finished_of is.puddles)) held.tx.log.gate_at is.before) own fault old new changes moments)
 
     -- masked, a word has no value that it had not
     masked_value : (k v : ℕ) (x : Option ℕ) → ready.mask k ≡ x → Has (values (masked ready.mask new.now.words k)) v → Has (values (masked ready.mask old.now.words k)) v
@@ -197,9 +197,9 @@ module _ (size : ℕ) (w : World) (memory : Memory) (held : Held) (old : State) 
     }
 
   -- the transaction was changed, and used so many units more
-  module _ (known : KnowsAlone memory.judged held.slot is.at) (tx : OpenTx) (units : ℕ) (change : Transaction → Transaction) (charges : Charges units change) (fault : Option HostFault) (new : State) (at : tx.log.at ≡ held.tx.log.at)
+  module _ (known : KnowsAlone memory.judged held.slot is.puddles) (tx : OpenTx) (units : ℕ) (change : Transaction → Transaction) (charges : Charges units change) (fault : Option HostFault) (new : State) (at : tx.log.gate_at ≡ held.tx.log.gate_at)
       (used : fault ≡ None → tx.units ≡ held.tx.units + units)
-      (runs : RunsOn F is.at w.stored.types tx.log is.before is.undone (change is.transaction).now (change is.transaction).laters fault old new) where
+      (runs : RunsOn F is.puddles w.stored.types tx.log is.before is.undone (change is.transaction).now (change is.transaction).laters fault old new) where
     abbrev next : World
     next = record w { transactions = with_changed held.name change w.transactions }
 
@@ -207,13 +207,13 @@ module _ (size : ℕ) (w : World) (memory : Memory) (held : Held) (old : State) 
     later = with_tx tx held
 
     changes_own : Changes own fault old new
-    changes_own = subst (λ (n : ℕ). Changes (ByTransaction (pool_ground F (finished_of is.at)) n) fault old new) at runs.saves.runs.changes
+    changes_own = subst (λ (n : ℕ). Changes (ByTransaction (pool_ground F (finished_of is.puddles)) n) fault old new) at runs.saves.runs.changes
 
     moments_own : Leaves (Silently (StandsBetween size w next)) old new
     moments_own =
         Leaves-weaker (Silently (λ image. (world_of size image ≡ Some (closed w)) × RefusesNone image)) (Silently (StandsBetween size w next)) old new
         (λ bytes image m. (m.0, (inl m.1.0, m.1.1)))
-        (moments_within fault new changes_own (subst (λ (n : ℕ). Leaves (Silently (SettlesTo (pool_ground F (finished_of is.at)) n is.before)) old new) at runs.saves.runs.moments))
+        (moments_within fault new changes_own (subst (λ (n : ℕ). Leaves (Silently (SettlesTo (pool_ground F (finished_of is.puddles)) n is.before)) old new) at runs.saves.runs.moments))
 
     kept_within : fault ≡ None → (k : ℕ) → k < tables_end F → reads new.now.words k ≡ now k
     kept_within none k below =
@@ -223,7 +223,7 @@ module _ (size : ℕ) (w : World) (memory : Memory) (held : Held) (old : State) 
     held_within none = record {
       rec = is.rec;
       who = is.who;
-      at = is.at;
+      puddles = is.puddles;
       before = is.before;
       undone = is.undone;
       transaction = change is.transaction;
@@ -269,7 +269,7 @@ module _ (size : ℕ) (w : World) (memory : Memory) (held : Held) (old : State) 
         let other = ready.held.each n g has in
         record {
           is = held_still w next g ready.mask ready.mask old new other.is (keeps_other n g apart has) own (its_own n g has apart) (subst (λ (f : Option HostFault). Changes own f old new) none changes_own) other.is.masked
-              (rest_held w held ready.mask old new is (subst (λ (f : Option HostFault). Changes own f old new) none changes_own) g.slot other.is.at other.is.before
+              (rest_held w held ready.mask old new is (subst (λ (f : Option HostFault). Changes own f old new) none changes_own) g.slot other.is.puddles other.is.before
               (λ same. apart (one_slot w memory.held ready.mask old.now.words ready.held n number g held has there (sym same))) (held_graph size w memory old ready n g has) other.is.running.rests);
           number_is = other.number_is;
           opened = other.opened;
@@ -284,7 +284,7 @@ module _ (size : ℕ) (w : World) (memory : Memory) (held : Held) (old : State) 
         (record { is = held_within none; number_is = under.number_is; opened = under.opened }) (other_within none) (λ n apart free. free)
 
     -- its pool has the graph that it shows
-    graph_within : fault ≡ None → HasGraphIn F held.slot (reads new.now.words) is.at
+    graph_within : fault ≡ None → HasGraphIn F held.slot (reads new.now.words) is.puddles
     graph_within none =
         graph_held_in w held ready.mask old new is (subst (λ (f : Option HostFault). Changes own f old new) none changes_own) (change is.transaction).now (types_read size w memory old ready).types (held_in_turn size w memory old ready number held there) (runs.is none)
 
@@ -292,9 +292,9 @@ module _ (size : ℕ) (w : World) (memory : Memory) (held : Held) (old : State) 
     knows_within : fault ≡ None → KnowsPools F memory.judged ready.held.opens (reads new.now.words)
     knows_within none =
         subst (λ (js : List (Option Known)). KnowsPools F js ready.held.opens (reads new.now.words)) (ap (set memory.judged held.slot) (sym known) ∙ set-get_or memory.judged held.slot None)
-        (KnowsPools-later F memory.judged number (open_held held is.at is.rec is.who is.before) ready.held.opens (by_puddles is.at) now (reads new.now.words) under.opened refl
+        (KnowsPools-later F memory.judged number (open_held held is.puddles is.rec is.who is.before) ready.held.opens (by_puddles is.puddles) now (reads new.now.words) under.opened refl
         (KeepsPools-held w held ready.mask old new is (subst (λ (f : Option HostFault). Changes own f old new) none changes_own))
-        (graph_within none) (IsKnown-puddles F is.at (reads new.now.words)) ready.knows)
+        (graph_within none) (IsKnown-puddles F is.puddles (reads new.now.words)) ready.knows)
 
     ready_within : fault ≡ None → IsReady size next (with_held number (Some later) memory) new
     ready_within none = record {

@@ -52,7 +52,7 @@ module _ (size : ℕ) (w : World) (memory : Memory) (held : Held) (old : State) 
   abbrev is : IsHeld w held ready.mask old.now.words
   is = is_held size w memory held old number there ready
 
-  module _ (F : ℕ) (at : List (ℕ × Puddle)) (same : F ≡ w.stored.frames) (listed : at ≡ is.at) (tx : OpenTx) (new : State) (gate : tx.log.at ≡ held.tx.log.at) where
+  module _ (F : ℕ) (at : List (ℕ × Puddle)) (same : F ≡ w.stored.frames) (listed : at ≡ is.puddles) (tx : OpenTx) (new : State) (gate : tx.log.gate_at ≡ held.tx.log.gate_at) where
     -- what a call owes that changes the transaction so, on these puddles
     abbrev pub OwesRuns : ℕ → List (ℕ × Puddle) → (change : Transaction → Transaction) → Option HostFault → Type 0
     OwesRuns n puddles change fault =
@@ -66,12 +66,12 @@ module _ (size : ℕ) (w : World) (memory : Memory) (held : Held) (old : State) 
 
     pub told : {X : Type 0} (units : ℕ) (done : Result X HostFault) → OwesUsed F at units done → IfOk done (λ _. tx.units ≡ held.tx.units + units)
     told units done used =
-        subst (λ (n : ℕ). OwesUsed n is.at units done) same (subst (λ (puddles : List (ℕ × Puddle)). OwesUsed F puddles units done) listed used) (held_placed size w memory held old number there ready) is.running
+        subst (λ (n : ℕ). OwesUsed n is.puddles units done) same (subst (λ (puddles : List (ℕ × Puddle)). OwesUsed F puddles units done) listed used) (held_placed size w memory held old number there ready) is.running
 
     pub owed : (change : Transaction → Transaction) (fault : Option HostFault) → OwesRuns F at change fault
-        → RunsOn w.stored.frames is.at w.stored.types tx.log is.before is.undone (change is.transaction).now (change is.transaction).laters fault old new
+        → RunsOn w.stored.frames is.puddles w.stored.types tx.log is.before is.undone (change is.transaction).now (change is.transaction).laters fault old new
     owed change fault runs =
-        subst (λ (n : ℕ). OwesRuns n is.at change fault) same (subst (λ (puddles : List (ℕ × Puddle)). OwesRuns F puddles change fault) listed runs) (held_placed size w memory held old number there ready) is.running
+        subst (λ (n : ℕ). OwesRuns n is.puddles change fault) same (subst (λ (puddles : List (ℕ × Puddle)). OwesRuns F puddles change fault) listed runs) (held_placed size w memory held old number there ready) is.running
 
     -- a call that owes this carries the change out
     pub Applies-changed : KnowsAlone memory.judged held.slot at → (units : ℕ) (change : Transaction → Transaction) → Charges units change → (done : Result Unit HostFault) → OwesRuns F at change (fault_of done) → OwesUsed F at units done
@@ -85,6 +85,6 @@ module _ (size : ℕ) (w : World) (memory : Memory) (held : Held) (old : State) 
         → OwesUsed F at SET_UNITS done
         → Applies size w (after w (update_line change held.client held.name)) (with_held number (Some (with_tx tx held)) memory) (fault_of done) old new
     Applies-line known change done free runs used =
-        let may = may_change_unrefused w held.client held.name change (stored_in w.stored.frames is.at (reads old.now.words)) is.transaction is.is is.running.is free in
+        let may = may_change_unrefused w held.client held.name change (stored_in w.stored.frames is.puddles (reads old.now.words)) is.transaction is.is is.running.is free in
         subst (λ (v : World). Applies size w v (with_held number (Some (with_tx tx held)) memory) (fault_of done) old new) (sym (after_line w held.client held.name change))
         (Applies-changed known SET_UNITS (changed_by change) (Charges-change change) done (runs may) used)

@@ -96,8 +96,8 @@ module _ (F : ℕ) (at : List (ℕ × Puddle)) (goal : ℕ → ℕ) (o m : ℕ) 
 
 -- ---- one transaction
 
-module _ (w : World) (held : Held) (mask : Write) (old new : State) (is : IsHeld w held mask old.now.words) (goal : ℕ → ℕ) (o m : ℕ) (e : ℕ × Puddle) (next : AreNextSteps is.at goal o m e)
-    (c : CommitsSteps w.stored.frames is.at o m e None old new) (types : types_of (reads old.now.words) ≡ w.stored.types) (beside : Changes (ByOthers mask) None old new) (single : StaysSingle old new) where
+module _ (w : World) (held : Held) (mask : Write) (old new : State) (is : IsHeld w held mask old.now.words) (goal : ℕ → ℕ) (o m : ℕ) (e : ℕ × Puddle) (next : AreNextSteps is.puddles goal o m e)
+    (c : CommitsSteps w.stored.frames is.puddles o m e None old new) (types : types_of (reads old.now.words) ≡ w.stored.types) (beside : Changes (ByOthers mask) None old new) (single : StaysSingle old new) where
   abbrev F : ℕ
   F = w.stored.frames
 
@@ -106,136 +106,136 @@ module _ (w : World) (held : Held) (mask : Write) (old new : State) (is : IsHeld
 
   -- its puddles with these steps
   abbrev pub at : List (ℕ × Puddle)
-  at = stepped F is.at goal o m e next
+  at = stepped F is.puddles goal o m e next
 
   abbrev q : OpenPool
   q = pool_held held at is.rec is.who
 
   -- the values of its beginning, and of the words that were not its own those that are read
   abbrev pub before : Image
-  before = begun F is.at is.before now
+  before = begun F is.puddles is.before now
 
   abbrev pub opened_stepped : OpenTransaction
   opened_stepped = open_held held at is.rec is.who before
 
-  own_word : (k : ℕ) → pool_mine F (finished_of is.at) k ≡ true → before k ≡ is.before k
-  own_word = own_begun F is.at is.before now
+  own_word : (k : ℕ) → pool_mine F (finished_of is.puddles) k ≡ true → before k ≡ is.before k
+  own_word = own_begun F is.puddles is.before now
 
-  other_word : (k : ℕ) → pool_mine F (finished_of is.at) k ≡ false → before k ≡ now k
-  other_word = other_begun F is.at is.before now
+  other_word : (k : ℕ) → pool_mine F (finished_of is.puddles) k ≡ false → before k ≡ now k
+  other_word = other_begun F is.puddles is.before now
 
   -- a masked word is read as it was
   masked_word : (k : ℕ) → (mask k ≡ None → ⊥) → now k ≡ reads old.now.words k
   masked_word k masked = reads_kept (ByOthers mask) old new k beside (λ v none. masked none)
 
   -- each word of the pool that is not its own has one value
-  rest_single : (k : ℕ) → pool_mine F is.at k ≡ true → pool_mine F (finished_of is.at) k ≡ false → HasOnly (new.now.words k) (before k)
+  rest_single : (k : ℕ) → pool_mine F is.puddles k ≡ true → pool_mine F (finished_of is.puddles) k ≡ false → HasOnly (new.now.words k) (before k)
   rest_single k mine other =
-      let low = (pool_mine-each F is.at k mine).low in
+      let low = (pool_mine-each F is.puddles k mine).low in
       let was = is.running.rests.each k mine other in
       let one = single.each k (outside_log DAEMON_LOG k (inr (omega arith))) (HasOnly-own (old.now.words k) (is.before k) was) in
       subst (λ (v : ℕ). HasOnly (new.now.words k) v) (sym (other_word k other)) one
 
   module _ (number : ℕ) (sound : HasSoundTables number (tables_of F now)) (same_pools : (tables_of F now).pools held.slot ≡ (tables_of F (reads old.now.words)).pools held.slot)
-      (owners : owner_of now held.client ≡ w.clients held.client) (placed_was : IsPlaced F is.at) (listed : puddles_in_turn (tables_of F now) held.slot ≡ at) where
+      (owners : owner_of now held.client ≡ w.clients held.client) (placed_was : IsPlaced F is.puddles) (listed : puddles_in_turn (tables_of F now) held.slot ≡ at) where
     placed : IsPlaced F at
     placed = placed_by_tables number F now held.slot at sound listed
 
-    placed_before : IsPlaced F (finished_of is.at)
-    placed_before = finished_placed F is.at placed_was
+    placed_before : IsPlaced F (finished_of is.puddles)
+    placed_before = finished_placed F is.puddles placed_was
 
-    frames : AreFrames F is.at
-    frames = record { distinct = placed_was.frames; below = λ i d there. all_there (λ (x : ℕ × Puddle). x.0 < F) is.at i d placed_was.on_device.frames there }
+    frames : AreFrames F is.puddles
+    frames = record { distinct = placed_was.frames; below = λ i d there. all_there (λ (x : ℕ × Puddle). x.0 < F) is.puddles i d placed_was.on_device.frames there }
 
-    pub comes_stepped : OpensAnew F (open_held held is.at is.rec is.who is.before) opened_stepped new.now.words
-    comes_stepped = comes_open w held mask old.now.words new.now.words is masked_word at (later F is.at goal o m e next) number sound same_pools owners listed
+    pub comes_stepped : OpensAnew F (open_held held is.puddles is.rec is.who is.before) opened_stepped new.now.words
+    comes_stepped = comes_open w held mask old.now.words new.now.words is masked_word at (later F is.puddles goal o m e next) number sound same_pools owners listed
 
     -- ---- what is open
 
-    wider : IsWider (pool_ground F (finished_of is.at)) (pool_ground F (finished_of at))
-    wider = wider_ground F is.at at (later F is.at goal o m e next) placed_before (finished_placed F at placed)
+    wider : IsWider (pool_ground F (finished_of is.puddles)) (pool_ground F (finished_of at))
+    wider = wider_ground F is.puddles at (later F is.puddles goal o m e next) placed_before (finished_placed F at placed)
 
-    fresh_word : (k : ℕ) → pool_mine F (finished_of at) k ≡ true → pool_mine F (finished_of is.at) k ≡ false → HasOnly (new.now.words k) (before k)
-    fresh_word k own other = rest_single k (mine_before F is.at goal o m e next k (mine_of_finished F at k own)) other
+    fresh_word : (k : ℕ) → pool_mine F (finished_of at) k ≡ true → pool_mine F (finished_of is.puddles) k ≡ false → HasOnly (new.now.words k) (before k)
+    fresh_word k own other = rest_single k (mine_before F is.puddles goal o m e next k (mine_of_finished F at k own)) other
 
     rests_stepped : RestsAs F at before new.now.words
     rests_stepped = record {
       each = λ k mine other.
-          rest_single k (mine_before F is.at goal o m e next k mine) (elim (cases_Bool (pool_mine F (finished_of is.at) k)) [
+          rest_single k (mine_before F is.puddles goal o m e next k mine) (elim (cases_Bool (pool_mine F (finished_of is.puddles) k)) [
             | inr none ↦ none
-            | inl own ↦ absurd (let no : true ≡ false = sym (mine_later F is.at at (later F is.at goal o m e next) k own) ∙ other in cc)
+            | inl own ↦ absurd (let no : true ≡ false = sym (mine_later F is.puddles at (later F is.puddles goal o m e next) k own) ∙ other in cc)
           ]);
     }
 
-    ground : IsGround (device_words F) held.tx.log.at (pool_ground F (finished_of is.at))
+    ground : IsGround (device_words F) held.tx.log.gate_at (pool_ground F (finished_of is.puddles))
     ground =
         let gate = is.gate in
         let known = is.pool.known in
-        is_ground F (device_words F) held.tx.log.at (finished_of is.at) placed_before (omega arith) (omega arith)
+        is_ground F (device_words F) held.tx.log.gate_at (finished_of is.puddles) placed_before (omega arith) (omega arith)
 
     -- ---- the graphs
 
     -- an image with the frame of the puddle as it was read has the same graph with the steps written over it
     graph_over : (i j : Image) (g : Graph) → ((k : ℕ) → k < FRAME_WORDS → frame_word F e.0 k i ≡ frame_word F e.0 k (reads old.now.words))
-        → ((k : ℕ) → pool_mine F at k ≡ true → j k ≡ overwritten (batch_write c.es) i k) → graph_of w.stored.types (stored_in F is.at i) ≡ Some g → graph_of w.stored.types (stored_in F at j) ≡ Some g
+        → ((k : ℕ) → pool_mine F at k ≡ true → j k ≡ overwritten (batch_write c.es) i k) → graph_of w.stored.types (stored_in F is.puddles i) ≡ Some g → graph_of w.stored.types (stored_in F at j) ≡ Some g
     graph_over i j g frame same graph =
         let image = reads old.now.words in
-        let write : steps_in F w.stored.types is.at i o m e ≡ batch_write c.es =
-        steps_in-same F w.stored.types is.at image i o m e next.here frame ∙ ap (λ (ts : List (ℕ × ℕ)). steps_in F ts is.at image o m e) (sym types) ∙ sym c.write in
+        let write : steps_in F w.stored.types is.puddles i o m e ≡ batch_write c.es =
+        steps_in-same F w.stored.types is.puddles image i o m e next.here frame ∙ ap (λ (ts : List (ℕ × ℕ)). steps_in F ts is.puddles image o m e) (sym types) ∙ sym c.write in
         ap (graph_of w.stored.types) (stored_in-mine F at (overwritten (batch_write c.es) i) j same)
         ∙ ap (λ (x : ℕ → Option ℕ). graph_of w.stored.types (stored_in F at (overwritten x i))) (sym write)
-        ∙ graph_of-written F w.stored.types is.at i o m e placed_was.frames next.here (frames.below o e next.here) placed_was.bases (omega (arith, next.some)) g graph
+        ∙ graph_of-written F w.stored.types is.puddles i o m e placed_was.frames next.here (frames.below o e next.here) placed_was.bases (omega (arith, next.some)) g graph
 
     -- a word of the frame is not one of its own
-    frame_other : (k : ℕ) → k < FRAME_WORDS → pool_mine F (finished_of is.at) (frame_at F e.0 + k) ≡ false
-    frame_other k low = elim (cases_Bool (pool_mine F (finished_of is.at) (frame_at F e.0 + k))) [
+    frame_other : (k : ℕ) → k < FRAME_WORDS → pool_mine F (finished_of is.puddles) (frame_at F e.0 + k) ≡ false
+    frame_other k low = elim (cases_Bool (pool_mine F (finished_of is.puddles) (frame_at F e.0 + k))) [
       | inr other ↦ other
       | inl own ↦
-          let n = pool_mine-each F (finished_of is.at) (frame_at F e.0 + k) own in
+          let n = pool_mine-each F (finished_of is.puddles) (frame_at F e.0 + k) own in
           let from = n.low in
           let to = n.high in
-          let s = stood is_finished is.at n.ordinal n.puddle n.there in
+          let s = stood is_finished is.puddles n.ordinal n.puddle n.there in
           let finished : n.puddle.1.frontier ≡ steps_of n.puddle.1 = eqb-true n.puddle.1.frontier (steps_of n.puddle.1) s.passes in
-          absurd (finished_apart F is.at goal o m e next s.index n.puddle s.there finished (placed_was.frames.each s.index o n.puddle e s.there next.here (omega arith)))
+          absurd (finished_apart F is.puddles goal o m e next s.index n.puddle s.there finished (placed_was.frames.each s.index o n.puddle e s.there next.here (omega arith)))
     ]
 
-    frame_mine : (k : ℕ) → k < FRAME_WORDS → pool_mine F is.at (frame_at F e.0 + k) ≡ true
-    frame_mine k low = pool_mine-from F is.at (frame_at F e.0 + k) (record { ordinal = o; puddle = e; there = next.here; low = omega arith; high = omega arith })
+    frame_mine : (k : ℕ) → k < FRAME_WORDS → pool_mine F is.puddles (frame_at F e.0 + k) ≡ true
+    frame_mine k low = pool_mine-from F is.puddles (frame_at F e.0 + k) (record { ordinal = o; puddle = e; there = next.here; low = omega arith; high = omega arith })
 
     frame_was : (k : ℕ) → k < FRAME_WORDS → frame_word F e.0 k is.before ≡ frame_word F e.0 k (reads old.now.words)
     frame_was k low = sym (HasOnly-newest (old.now.words (frame_at F e.0 + k)) (is.before (frame_at F e.0 + k)) (is.running.rests.each (frame_at F e.0 + k) (frame_mine k low) (frame_other k low)))
 
     -- what is read of the pool is what was read, with the steps over it
     read_over : (k : ℕ) → pool_mine F at k ≡ true → now k ≡ overwritten (batch_write c.es) (reads old.now.words) k
-    read_over k mine = let low = (pool_mine-each F at k mine).low in read_behind F is.at goal o m e old new next c k (inr (omega arith))
+    read_over k mine = let low = (pool_mine-each F at k mine).low in read_behind F is.puddles goal o m e old new next c k (inr (omega arith))
 
     -- and so of the beginning
     over_before : (k : ℕ) → pool_mine F at k ≡ true → before k ≡ overwritten (batch_write c.es) is.before k
-    over_before k mine = elim (cases_Bool (pool_mine F (finished_of is.at) k)) [
+    over_before k mine = elim (cases_Bool (pool_mine F (finished_of is.puddles) k)) [
       | inl own ↦ own_word k own ∙ sym (overwritten-stays (batch_write c.es) is.before k (unwritten k own))
       | inr other ↦
           other_word k other
           ∙ read_over k mine
-          ∙ ap (λ (v : ℕ). unwrap_or (batch_write c.es k) v) (HasOnly-newest (old.now.words k) (is.before k) (is.running.rests.each k (mine_before F is.at goal o m e next k mine) other))
+          ∙ ap (λ (v : ℕ). unwrap_or (batch_write c.es k) v) (HasOnly-newest (old.now.words k) (is.before k) (is.running.rests.each k (mine_before F is.puddles goal o m e next k mine) other))
     ]
       where
-        unwritten : (k : ℕ) → pool_mine F (finished_of is.at) k ≡ true → batch_write c.es k ≡ None
+        unwritten : (k : ℕ) → pool_mine F (finished_of is.puddles) k ≡ true → batch_write c.es k ≡ None
         unwritten k own =
-            let n = pool_mine-each F (finished_of is.at) k own in
+            let n = pool_mine-each F (finished_of is.puddles) k own in
             let from = n.low in
             let to = n.high in
             ap (λ (x : ℕ → Option ℕ). x k) c.write
-            ∙ write-other F (types_of (reads old.now.words)) (map (λ (d : ℕ × Puddle). d.1) is.at) ((stored_in F is.at (reads old.now.words)).word o) o m e k
+            ∙ write-other F (types_of (reads old.now.words)) (map (λ (d : ℕ × Puddle). d.1) is.puddles) ((stored_in F is.puddles (reads old.now.words)).word o) o m e k
             (λ low high.
             let back : frame_at F e.0 + (k - frame_at F e.0) ≡ k = omega arith in
-            let no : true ≡ false = sym own ∙ ap (λ (j : ℕ). pool_mine F (finished_of is.at) j) (sym back) ∙ frame_other (k - frame_at F e.0) (omega arith) in
+            let no : true ≡ false = sym own ∙ ap (λ (j : ℕ). pool_mine F (finished_of is.puddles) j) (sym back) ∙ frame_other (k - frame_at F e.0) (omega arith) in
             cc)
             (λ frontier. let below = frames.below o e next.here in absurd (omega arith))
 
     pub running_stepped : IsOpenOn F at w.stored.types held.tx.log before is.undone is.transaction.now is.transaction.laters new.now.words
     running_stepped =
         let r = is.running in
-        let g = pool_ground F (finished_of is.at) in
+        let g = pool_ground F (finished_of is.puddles) in
         record {
           redo = r.redo;
           saving = record {
@@ -249,8 +249,8 @@ module _ (w : World) (held : Held) (mask : Write) (old new : State) (is : IsHeld
           rests = rests_stepped;
           was = graph_over is.before before is.undone frame_was over_before r.was;
           is = graph_over (reads old.now.words) now is.transaction.now (λ k low. refl) read_over r.is;
-          are = AreLaters-wider F is.at at w.stored.types w.stored.types (reads old.now.words) now is.transaction.now is.transaction.now (keeps F is.at goal o m e next) (record { each = λ id x there. there })
-              (record { each = λ s object live. place_in_pool-spared F is.at at (reads old.now.words) now (batch_spares F is.at goal o m e old new next c frames) s }) (KeepsObjects-same is.transaction.now)
+          are = AreLaters-wider F is.puddles at w.stored.types w.stored.types (reads old.now.words) now is.transaction.now is.transaction.now (keeps F is.puddles goal o m e next) (record { each = λ id x there. there })
+              (record { each = λ s object live. place_in_pool-spared F is.puddles at (reads old.now.words) now (batch_spares F is.puddles goal o m e old new next c frames) s }) (KeepsObjects-same is.transaction.now)
               is.transaction.laters r.redo r.are;
         }
 
@@ -259,7 +259,7 @@ module _ (w : World) (held : Held) (mask : Write) (old new : State) (is : IsHeld
     held_stepped anew masks = record {
       rec = is.rec;
       who = is.who;
-      at = at;
+      puddles = at;
       before = before;
       undone = is.undone;
       transaction = is.transaction;

@@ -105,7 +105,7 @@ module _ (size : ℕ) (w : World) (memory : Memory) (held : Held) (old : State) 
         let spares = spared_finished size w memory held old held.log_number its.there ready F on at its.known goal later mid finishes in
         subst (λ (ds : List (ℕ × Puddle)). IsFoundBy F ds (reads mid.now.words) update found) (sym same) (found_behind F at later (reads old.now.words) (reads mid.now.words) spares update found by)
 
-    pub Applies-update : (tx : OpenTx) (new : State) → tx.log.at ≡ held.tx.log.at → (done : Result Unit HostFault) → refusal_of w (update_line update held.client held.name) ≡ None
+    pub Applies-update : (tx : OpenTx) (new : State) → tx.log.gate_at ≡ held.tx.log.gate_at → (done : Result Unit HostFault) → refusal_of w (update_line update held.client held.name) ≡ None
         → IsFoundBy F at (reads old.now.words) update found → CarriesOut F lent found held.tx.log tx.log (fault_of done) mid new → CountsOut F lent held.tx tx done mid
         → AppliesTo (led_in held.slot (end_of (ordinal_written found))) size w next (with_opened held.log_number held.slot (with_tx tx held) later memory) (fault_of done) old new
     Applies-update tx new gate done free by runs counts =

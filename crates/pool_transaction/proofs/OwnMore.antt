@@ -117,7 +117,7 @@ module _ (F : ℕ) (own at : List (ℕ × Puddle)) (later : FinishesMore own at)
 -- ---- it is open so
 
 module _ (w : World) (held : Held) (mask : Write) (were words : Words) (is : IsHeld w held mask were) (kept : (k : ℕ) → (mask k ≡ None → ⊥) → reads words k ≡ reads were k)
-    (at : List (ℕ × Puddle)) (later : FinishesMore is.at at) where
+    (at : List (ℕ × Puddle)) (later : FinishesMore is.puddles at) where
   abbrev F : ℕ
   F = w.stored.frames
 
@@ -125,13 +125,13 @@ module _ (w : World) (held : Held) (mask : Write) (were words : Words) (is : IsH
   now = reads words
 
   abbrev p : OpenPool
-  p = pool_held held is.at is.rec is.who
+  p = pool_held held is.puddles is.rec is.who
 
   abbrev q : OpenPool
   q = pool_held held at is.rec is.who
 
   abbrev before : Image
-  before = begun F is.at is.before now
+  before = begun F is.puddles is.before now
 
   module _ (number : ℕ) (sound : HasSoundTables number (tables_of F now)) (same_pools : (tables_of F now).pools held.slot ≡ (tables_of F (reads were)).pools held.slot)
       (owners : owner_of now held.client ≡ w.clients held.client) (listed : puddles_in_turn (tables_of F now) held.slot ≡ at) where
@@ -139,7 +139,7 @@ module _ (w : World) (held : Held) (mask : Write) (were words : Words) (is : IsH
     owner_there =
         let whose = is.owner in
         let known = is.pool.known in
-        owner_of-same before now (client_of_log held.log_number) (omega arith) (λ k low high. table_begun F is.at is.before now k (omega arith))
+        owner_of-same before now (client_of_log held.log_number) (omega arith) (λ k low high. table_begun F is.puddles is.before now k (omega arith))
         ∙ ap (owner_of now) whose
         ∙ owners
         ∙ is.present
@@ -148,8 +148,8 @@ module _ (w : World) (held : Held) (mask : Write) (were words : Words) (is : IsH
     its_pool = record {
       known = is.pool.known;
       slot = is.pool.slot;
-      used = ap (λ (t : Tables). t.pools held.slot) (tables_begun F is.at is.before now) ∙ same_pools ∙ used_still w held mask were is;
-      puddles = subst (λ (t : Tables). ArePuddlesOf t held.slot (finished_of at)) (sym (tables_begun F is.at is.before now))
+      used = ap (λ (t : Tables). t.pools held.slot) (tables_begun F is.puddles is.before now) ∙ same_pools ∙ used_still w held mask were is;
+      puddles = subst (λ (t : Tables). ArePuddlesOf t held.slot (finished_of at)) (sym (tables_begun F is.puddles is.before now))
           (finished_puddles (tables_of F now) held.slot at (subst (λ (ps : List (ℕ × Puddle)). ArePuddlesOf (tables_of F now) held.slot ps) listed (are_puddles_in_turn number (tables_of F now) held.slot sound)));
       owned = owner_there;
       right = is.pool.right;
@@ -171,10 +171,10 @@ module _ (w : World) (held : Held) (mask : Write) (were words : Words) (is : IsH
     -- a record that it rested on is one still
     record_before : (k : ℕ) → is_open_record p k ≡ true → is_open_record q k ≡ true
     unfolding is_open_record
-    record_before k of = elim (or_cases (is_in_pool_record held.slot k || is_in_space_record (client_of_log held.log_number) k) (list_any (is_in_puddle_record k) (finished_of is.at)) of) [
+    record_before k of = elim (or_cases (is_in_pool_record held.slot k || is_in_space_record (client_of_log held.log_number) k) (list_any (is_in_puddle_record k) (finished_of is.puddles)) of) [
       | inl first ↦ or_left _ _ first
       | inr puddle ↦
-          let found = any_element (is_in_puddle_record k) (finished_of is.at) puddle in
+          let found = any_element (is_in_puddle_record k) (finished_of is.puddles) puddle in
           let to = later.each found.index found.element found.there in
           or_right (is_in_pool_record held.slot k || is_in_space_record (client_of_log held.log_number) k) _ (element_passes (is_in_puddle_record k) (finished_of at) to.0 found.element to.1 found.passes)
     ]
@@ -182,23 +182,23 @@ module _ (w : World) (held : Held) (mask : Write) (were words : Words) (is : IsH
     mask_then : (k : ℕ) → IsMaskedMore (open_mask F p is.before) (open_mask F q before) words k
     mask_then k = elim (cases_Bool (is_in_log (log_number_at F held.log_number) k)) [
       | inl inside ↦ inl (mask_in_log k inside)
-      | inr outside ↦ elim (cases_Bool (pool_mine F (finished_of is.at) k)) [
+      | inr outside ↦ elim (cases_Bool (pool_mine F (finished_of is.puddles) k)) [
         | inl own ↦
-            inl (mask_of_mine F q before k is.pool.known (mine_later F is.at at later k own) ∙ ap (λ (v : ℕ). Some v) (own_begun F is.at is.before now k own) ∙ sym (mask_of_mine F p is.before k is.pool.known own))
+            inl (mask_of_mine F q before k is.pool.known (mine_later F is.puddles at later k own) ∙ ap (λ (v : ℕ). Some v) (own_begun F is.puddles is.before now k own) ∙ sym (mask_of_mine F p is.before k is.pool.known own))
         | inr other ↦ elim (cases_Bool (is_open_record p k)) [
           | inl of ↦
               let below = record_there k (record_before k of) in
               inl (mask_of_record F q before k below (record_before k of)
-              ∙ ap (λ (v : ℕ). Some v) (table_begun F is.at is.before now k (omega (arith, below)) ∙ kept k (record_masked w held mask were is k of) ∙ is.records k of)
+              ∙ ap (λ (v : ℕ). Some v) (table_begun F is.puddles is.before now k (omega (arith, below)) ∙ kept k (record_masked w held mask were is k of) ∙ is.records k of)
               ∙ sym (mask_of_record F p is.before k below of))
-          | inr not ↦ mask_outside k outside (other_begun F is.at is.before now k other) (mask_of_others F p is.before k outside other not)
+          | inr not ↦ mask_outside k outside (other_begun F is.puddles is.before now k other) (mask_of_others F p is.before k outside other not)
         ]
       ]
     ]
 
-    pub comes_open : OpensAnew F (open_held held is.at is.rec is.who is.before) (open_held held at is.rec is.who before) words
+    pub comes_open : OpensAnew F (open_held held is.puddles is.rec is.who is.before) (open_held held at is.rec is.who before) words
     comes_open = record {
       pool = its_pool;
-      records = λ k of. let below = record_there k of in sym (table_begun F is.at is.before now k (omega (arith, below)));
+      records = λ k of. let below = record_there k of in sym (table_begun F is.puddles is.before now k (omega (arith, below)));
       more = mask_then;
     }

@@ -66,13 +66,13 @@ keeps_world w held = record { frames = refl; transactions = refl; present = λ n
 -- ---- one batch
 
 module _ (size : ℕ) (w : World) (memory : Memory) (slot : ℕ) (kept : Known) (old new : State) (ready : IsReady size w memory old) (is_kept : pool_in memory.judged slot ≡ Some kept)
-    (goal : ℕ → ℕ) (o m : ℕ) (e : ℕ × Puddle) (next : AreNextSteps kept.at goal o m e) (rec : PoolRec) (low : slot < POOL_RECORDS)
+    (goal : ℕ → ℕ) (o m : ℕ) (e : ℕ × Puddle) (next : AreNextSteps kept.puddles goal o m e) (rec : PoolRec) (low : slot < POOL_RECORDS)
     (used : (tables_of w.stored.frames (reads old.now.words)).pools slot ≡ Some rec) where
   abbrev F : ℕ
   F = w.stored.frames
 
   abbrev at : List (ℕ × Puddle)
-  at = kept.at
+  at = kept.puddles
 
   known : known_in memory.judged slot ≡ Some at
   known = ap puddles_known is_kept
@@ -132,28 +132,28 @@ module _ (size : ℕ) (w : World) (memory : Memory) (old new : State) (ready : I
   abbrev its : IsHeld w held ready.mask old.now.words
   its = held_is w memory.held ready.mask old.now.words ready.held number held there
 
-  abbrev known_its : known_in memory.judged held.slot ≡ Some its.at
+  abbrev known_its : known_in memory.judged held.slot ≡ Some its.puddles
   known_its = held_there_known size w memory old ready number held there
 
-  same_puddles : kept.at ≡ its.at
-  same_puddles = same_Some kept.at its.at (sym (ap puddles_known is_kept) ∙ known_its)
+  same_puddles : kept.puddles ≡ its.puddles
+  same_puddles = same_Some kept.puddles its.puddles (sym (ap puddles_known is_kept) ∙ known_its)
 
-  module _ (goal : ℕ → ℕ) (o m : ℕ) (e : ℕ × Puddle) (next : AreNextSteps its.at goal o m e) (c : CommitsSteps w.stored.frames its.at o m e None old new) where
+  module _ (goal : ℕ → ℕ) (o m : ℕ) (e : ℕ × Puddle) (next : AreNextSteps its.puddles goal o m e) (c : CommitsSteps w.stored.frames its.puddles o m e None old new) where
     abbrev n : ℕ
     n = w.stored.frames
 
     abbrev stepped_its : List (ℕ × Puddle)
-    stepped_its = with_steps o m e its.at
+    stepped_its = with_steps o m e its.puddles
 
     applied : AppliesMasked size w w ready.mask None old new
     applied =
-        steps_apply size w memory held.slot its.at old ready known_its goal o m e next its.rec its.pool.slot (used_still w held ready.mask old.now.words its) None new c
+        steps_apply size w memory held.slot its.puddles old ready known_its goal o m e next its.rec its.pool.slot (used_still w held ready.mask old.now.words its) None new c
 
     keeps_others : KeepsPools n (Some held.slot) (reads old.now.words) (reads new.now.words)
-    keeps_others = KeepsPools-steps size w memory held.slot its.at old new ready known_its goal o m e next c
+    keeps_others = KeepsPools-steps size w memory held.slot its.puddles old new ready known_its goal o m e next c
 
     -- the words of others that rest do so still
-    rest_others : (i : ℕ) (h : Held) (has : held_under memory.held i ≡ Some h) → i ≢ number → RestsAs n (ready.held.each i h has).is.at (ready.held.each i h has).is.before new.now.words
+    rest_others : (i : ℕ) (h : Held) (has : held_under memory.held i ≡ Some h) → i ≢ number → RestsAs n (ready.held.each i h has).is.puddles (ready.held.each i h has).is.before new.now.words
     rest_others i h has apart =
         let other = held_is w memory.held ready.mask old.now.words ready.held i h has in
         record {
@@ -173,21 +173,21 @@ module _ (size : ℕ) (w : World) (memory : Memory) (old new : State) (ready : I
     owner_then = let whose = its.owner in let few = its.pool.known in applied.clients refl held.client (omega (arith, whose, few))
 
     sound_after : HasSoundTables w.stored.next_number (tables_of n (reads new.now.words))
-    sound_after = sound_then size w memory held.slot its.at old new ready known_its goal o m e next c
+    sound_after = sound_then size w memory held.slot its.puddles old new ready known_its goal o m e next c
 
     same_pools : (tables_of n (reads new.now.words)).pools held.slot ≡ (tables_of n (reads old.now.words)).pools held.slot
-    same_pools = ap (λ (t : Tables). t.pools held.slot) (tables_then size w memory held.slot its.at old new ready known_its goal o m e next c)
+    same_pools = ap (λ (t : Tables). t.pools held.slot) (tables_then size w memory held.slot its.puddles old new ready known_its goal o m e next c)
 
-    placed_its : IsPlaced n its.at
-    placed_its = known_placed size w memory held.slot its.at old ready known_its
+    placed_its : IsPlaced n its.puddles
+    placed_its = known_placed size w memory held.slot its.puddles old ready known_its
 
     listed_its : puddles_in_turn (tables_of n (reads new.now.words)) held.slot ≡ stepped_its
-    listed_its = listed_then size w memory held.slot its.at old new ready known_its goal o m e next c
+    listed_its = listed_then size w memory held.slot its.puddles old new ready known_its goal o m e next c
 
     abbrev was_before : Image
     was_before = before w held ready.mask old new its goal o m e next c types_were applied.beside.changes (applied.beside.single refl)
 
-    its_opened : OpensAnew n (open_held held its.at its.rec its.who its.before) (open_held held stepped_its its.rec its.who was_before) new.now.words
+    its_opened : OpensAnew n (open_held held its.puddles its.rec its.who its.before) (open_held held stepped_its its.rec its.who was_before) new.now.words
     its_opened = comes_stepped w held ready.mask old new its goal o m e next c types_were applied.beside.changes (applied.beside.single refl) w.stored.next_number sound_after same_pools owner_then placed_its listed_its
 
     abbrev its_anew : (anew : Write) → ((k v : ℕ) → open_mask n (pool_held held stepped_its its.rec its.who) was_before k ≡ Some v → anew k ≡ Some v)
@@ -198,7 +198,7 @@ module _ (size : ℕ) (w : World) (memory : Memory) (old new : State) (ready : I
     -- no other is open on its pool
     shut_others : IsShut (with_transaction number None ready.held.opens) held.slot
     shut_others i x here same =
-        let it = open_held held its.at its.rec its.who its.before in
+        let it = open_held held its.puddles its.rec its.who its.before in
         let was = was_one w memory.held ready.mask old new ready.held held number there applied.beside.changes its_opened in
         let elsewhere : i ≢ number = λ at_it. none-some x (sym was.none ∙ ap (with_transaction number None ready.held.opens) (sym at_it) ∙ here) in
         elsewhere (ready.held.are.slots i number x it (was.same i elsewhere ∙ here) (ready.held.each number held there).opened same)
@@ -206,11 +206,11 @@ module _ (size : ℕ) (w : World) (memory : Memory) (old new : State) (ready : I
     knows_then : KnowsPools n (set memory.judged held.slot (Some (with_puddles stepped_its kept)))
         (opens_anew w memory.held ready.mask old new ready.held held number there applied.beside.changes its_opened) (reads new.now.words)
     knows_then =
-        KnowsPools-grown n memory.judged number (open_held held its.at its.rec its.who its.before) (open_held held stepped_its its.rec its.who was_before) (with_transaction number None ready.held.opens) ready.held.opens
+        KnowsPools-grown n memory.judged number (open_held held its.puddles its.rec its.who its.before) (open_held held stepped_its its.rec its.who was_before) (with_transaction number None ready.held.opens) ready.held.opens
         (opens_anew w memory.held ready.mask old new ready.held held number there applied.beside.changes its_opened) (with_puddles stepped_its kept) (reads old.now.words) (reads new.now.words)
         (was_one w memory.held ready.mask old new ready.held held number there applied.beside.changes its_opened)
         (then_one w memory.held ready.mask old new ready.held held number there applied.beside.changes its_opened) refl refl shut_others keeps_others
-        (graph_then size w memory held.slot its.at old new ready known_its goal o m e next c) (known_then size w memory held.slot its.at old new ready known_its goal o m e next c kept same_puddles (ready.knows.judged.known held.slot kept is_kept)) ready.knows
+        (graph_then size w memory held.slot its.puddles old new ready known_its goal o m e next c) (known_then size w memory held.slot its.puddles old new ready known_its goal o m e next c kept same_puddles (ready.knows.judged.known held.slot kept is_kept)) ready.knows
 
     ready_then : IsReady size w (record memory { judged = set memory.judged held.slot (Some (with_puddles stepped_its kept)) }) new
     ready_then = record {
@@ -231,7 +231,7 @@ module _ (size : ℕ) (w : World) (memory : Memory) (old new : State) (ready : I
     pub Applies-held : AppliesBy (MovesTo (led_in held.slot (upto goal))) size w w (record memory { judged = set memory.judged held.slot (Some (with_puddles stepped_its kept)) }) None old new
     Applies-held = record {
       moments = moments_beside size w w memory None old new ready refl applied;
-      puddles = LeavesPuddles-steps size w memory held.slot its.at old new ready known_its goal o m e next None c;
+      puddles = LeavesPuddles-steps size w memory held.slot its.puddles old new ready known_its goal o m e next None c;
       quiet = Changes-said (ByOthers ready.mask) None old new applied.beside.changes;
       ready = λ _. ready_then;
       rests = applied.beside.changes.rests;
@@ -257,25 +257,25 @@ module _ (size : ℕ) (w : World) (slot : ℕ) (low : slot < POOL_RECORDS) (goal
       pool_used w.stored.next_number (tables_of w.stored.frames (reads old.now.words)) (sound_read size w memory old ready) slot low e.0 of.member of.below of.used of.pool
 
   -- whichever transaction is held on it, or none
-  Applies-batch : (memory : Memory) (kept : Known) (o m : ℕ) (e : ℕ × Puddle) (old new : State) (ready : IsReady size w memory old) → pool_in memory.judged slot ≡ Some kept → AreNextSteps kept.at goal o m e
-      → CommitsSteps w.stored.frames kept.at o m e None old new → AppliesBy Led size w w (knowing memory (with_puddles (with_steps o m e kept.at) kept)) None old new
-  Applies-batch memory kept o m e old new ready is_kept next c = elim (cases_held size w memory slot kept.at old ready (ap puddles_known is_kept)) [
+  Applies-batch : (memory : Memory) (kept : Known) (o m : ℕ) (e : ℕ × Puddle) (old new : State) (ready : IsReady size w memory old) → pool_in memory.judged slot ≡ Some kept → AreNextSteps kept.puddles goal o m e
+      → CommitsSteps w.stored.frames kept.puddles o m e None old new → AppliesBy Led size w w (knowing memory (with_puddles (with_steps o m e kept.puddles) kept)) None old new
+  Applies-batch memory kept o m e old new ready is_kept next c = elim (cases_held size w memory slot kept.puddles old ready (ap puddles_known is_kept)) [
     | inr shut ↦
-        let used = used_of memory kept.at o m e old ready (ap puddles_known is_kept) next in
+        let used = used_of memory kept.puddles o m e old ready (ap puddles_known is_kept) next in
         Applies-shut size w memory slot kept old new ready is_kept goal o m e next used.0 low used.1 c shut
     | inl on ↦
         let held = on.1 in
         let is = held_is w memory.held ready.mask old.now.words ready.held on.0.number held.mine held.is in
         let here : pool_in memory.judged held.mine.slot ≡ Some kept = ap (pool_in memory.judged) held.slot_is ∙ is_kept in
-        let same : kept.at ≡ is.at = sym (held_known size w memory old ready on.0.number held.mine held.is kept.at (ap puddles_known here)) in
+        let same : kept.puddles ≡ is.puddles = sym (held_known size w memory old ready on.0.number held.mine held.is kept.puddles (ap puddles_known here)) in
         subst (λ (ps : List (ℕ × Puddle)). AppliesBy Led size w w (knowing memory (with_puddles (with_steps o m e ps) kept)) None old new) (sym same)
-        (subst (λ (i : ℕ). AppliesBy (MovesTo (led_in i (upto goal))) size w w (record memory { judged = set memory.judged i (Some (with_puddles (with_steps o m e is.at) kept)) }) None old new) held.slot_is
+        (subst (λ (i : ℕ). AppliesBy (MovesTo (led_in i (upto goal))) size w w (record memory { judged = set memory.judged i (Some (with_puddles (with_steps o m e is.puddles) kept)) }) None old new) held.slot_is
         (Applies-held size w memory old new ready on.0.number held.mine held.is kept here goal o m e
         (subst (λ (ps : List (ℕ × Puddle)). AreNextSteps ps goal o m e) same next) (subst (λ (ps : List (ℕ × Puddle)). CommitsSteps w.stored.frames ps o m e None old new) same c)))
   ]
 
   Applies-once : (memory : Memory) (kept : Known) (later : List (ℕ × Puddle)) (fault : Option HostFault) (old new : State) → IsReady size w memory old → pool_in memory.judged slot ≡ Some kept
-      → RewritesOnce w.stored.frames goal kept.at later fault old new → AppliesBy Led size w w (knowing memory (with_puddles later kept)) fault old new
+      → RewritesOnce w.stored.frames goal kept.puddles later fault old new → AppliesBy Led size w w (knowing memory (with_puddles later kept)) fault old new
   Applies-once memory kept later None old new ready is_kept one = elim one.does [
     | inl still ↦ absurd (still.1.0 refl)
     | inr c ↦
@@ -287,12 +287,12 @@ module _ (size : ℕ) (w : World) (slot : ℕ) (low : slot < POOL_RECORDS) (goal
         AppliesBy-weaker Stays Led (led_stays slot (upto goal)) size w w (knowing memory (with_puddles later kept)) (Some fault) old new
         (Applies-stopped size w w memory (knowing memory (with_puddles later kept)) fault old new ready still.0 (λ cut. absurd (still.1.1 cut)))
     | inr c ↦
-        let used = used_of memory kept.at one.ordinal one.to one.puddle old ready (ap puddles_known is_kept) one.next in
+        let used = used_of memory kept.puddles one.ordinal one.to one.puddle old ready (ap puddles_known is_kept) one.next in
         Applies-failed_steps size w memory slot kept old new ready is_kept goal one.ordinal one.to one.puddle one.next used.0 low used.1 fault (knowing memory (with_puddles later kept)) c
   ]
 
   Applies-turns : (batches : ℕ) (memory : Memory) (kept : Known) (later : List (ℕ × Puddle)) (fault : Option HostFault) (old new : State) → IsReady size w memory old → pool_in memory.judged slot ≡ Some kept
-      → RewritesInTurn w.stored.frames goal batches kept.at later fault old new → AppliesBy Led size w w (knowing memory (with_puddles later kept)) fault old new
+      → RewritesInTurn w.stored.frames goal batches kept.puddles later fault old new → AppliesBy Led size w w (knowing memory (with_puddles later kept)) fault old new
   Applies-turns zero memory kept later fault old new ready is_kept turns =
       let same : memory.judged ≡ set memory.judged slot (Some (with_puddles later kept)) =
       sym (set-known memory.judged slot (with_puddles later kept) (is_kept ∙ ap (λ (ps : List (ℕ × Puddle)). Some (with_puddles ps kept)) (sym turns.0))) in
@@ -304,7 +304,7 @@ module _ (size : ℕ) (w : World) (slot : ℕ) (low : slot < POOL_RECORDS) (goal
       let between = turns.1.0 in
       let first = Applies-turns batches memory kept between None old mid ready is_kept turns.1.1.0 in
       let then = knowing memory (with_puddles between kept) in
-      let now : pool_in then.judged slot ≡ Some (with_puddles between kept) = pool_kept memory.judged slot (Some (with_puddles between kept)) (known_within memory.judged slot kept.at (ap puddles_known is_kept)) in
+      let now : pool_in then.judged slot ≡ Some (with_puddles between kept) = pool_kept memory.judged slot (Some (with_puddles between kept)) (known_within memory.judged slot kept.puddles (ap puddles_known is_kept)) in
       AppliesBy-then Led Led Led (Joins-led slot (upto goal)) size w w w then (knowing memory (with_puddles later kept)) fault old mid new refl refl first
       (Applies-known size w w memory fault mid new (set (set memory.judged slot (Some (with_puddles between kept))) slot (Some (with_puddles later kept))) (set memory.judged slot (Some (with_puddles later kept)))
       (set-set memory.judged slot (Some (with_puddles between kept)) (Some (with_puddles later kept)))
@@ -312,6 +312,6 @@ module _ (size : ℕ) (w : World) (slot : ℕ) (low : slot < POOL_RECORDS) (goal
 
 -- the daemon is ready behind the batches, and what it knows of the pool is so, by what they made of its puddles
 pub Applies-rewrites : (size : ℕ) (w : World) (memory : Memory) (slot : ℕ) (kept : Known) (later : List (ℕ × Puddle)) (goal : ℕ → ℕ) (fault : Option HostFault) (old new : State)
-    → IsReady size w memory old → slot < POOL_RECORDS → pool_in memory.judged slot ≡ Some kept → Rewrites w.stored.frames goal kept.at later fault old new
+    → IsReady size w memory old → slot < POOL_RECORDS → pool_in memory.judged slot ≡ Some kept → Rewrites w.stored.frames goal kept.puddles later fault old new
     → AppliesBy (MovesTo (led_in slot (upto goal))) size w w (record memory { judged = set memory.judged slot (Some (with_puddles later kept)) }) fault old new
 Applies-rewrites size w memory slot kept later goal fault old new ready low is_kept r = Applies-turns size w slot low goal r.batches memory kept later fault old new ready is_kept r.in_turn

@@ -132,13 +132,13 @@ module _ (size : ℕ) (w : World) (memory : Memory) (slot : ℕ) (at : List (ℕ
       ap (λ (c : Cell). c.newest) (masked-elsewhere mask old.now.words k none)
 
   -- where one is, those that are its own have the values of its beginning, and the others that value alone
-  held_word : (number : ℕ) (h : Held) (there : held_under memory.held number ≡ Some h) (k : ℕ) → pool_mine F (held_is w memory.held mask old.now.words ready.held number h there).at k ≡ true
+  held_word : (number : ℕ) (h : Held) (there : held_under memory.held number ≡ Some h) (k : ℕ) → pool_mine F (held_is w memory.held mask old.now.words ready.held number h there).puddles k ≡ true
       → reads under k ≡ (held_is w memory.held mask old.now.words ready.held number h there).before k
   held_word number h there k mine =
       let is = held_is w memory.held mask old.now.words ready.held number h there in
-      elim (cases_Bool (pool_mine F (finished_of is.at) k)) [
+      elim (cases_Bool (pool_mine F (finished_of is.puddles) k)) [
         | inl own ↦
-            ap (λ (c : Cell). c.newest) (masked-there mask old.now.words k (is.before k) (is.masked k (is.before k) (mask_of_mine F (pool_held h is.at is.rec is.who) is.before k is.pool.known own)))
+            ap (λ (c : Cell). c.newest) (masked-there mask old.now.words k (is.before k) (is.masked k (is.before k) (mask_of_mine F (pool_held h is.puddles is.rec is.who) is.before k is.pool.known own)))
         | inr other ↦
             ap (λ (c : Cell). c.newest) (masked-elsewhere mask old.now.words k (rest_unmasked size w memory old ready number h there k mine other))
             ∙ HasOnly-newest (old.now.words k) (is.before k) (is.running.rests.each k mine other)
@@ -152,11 +152,11 @@ module _ (size : ℕ) (w : World) (memory : Memory) (slot : ℕ) (at : List (ℕ
     | inl on ↦
         let held = on.1 in
         let is = held_is w memory.held mask old.now.words ready.held on.0.number held.mine held.is in
-        let same : is.at ≡ at = held_known size w memory old ready on.0.number held.mine held.is at (ap (known_in memory.judged) held.slot_is ∙ known) in (
+        let same : is.puddles ≡ at = held_known size w memory old ready on.0.number held.mine held.is at (ap (known_in memory.judged) held.slot_is ∙ known) in (
           is.undone,
           ap (λ (ts : List (ℕ × ℕ)). graph_of ts (stored_in F at (reads under))) (types_masked ∙ (types_read size w memory old ready).types)
               ∙ ap (λ (ps : List (ℕ × Puddle)). graph_of w.stored.types (stored_in F ps (reads under))) (sym same)
-              ∙ ap (graph_of w.stored.types) (stored_in-mine F is.at is.before (reads under) (held_word on.0.number held.mine held.is))
+              ∙ ap (graph_of w.stored.types) (stored_in-mine F is.puddles is.before (reads under) (held_word on.0.number held.mine held.is))
               ∙ is.running.was,
         )
   ]

@@ -111,7 +111,7 @@ module _ (size : ℕ) (w : World) (memory : Memory) (slot : ℕ) (at : List (ℕ
   graph_then = record { graph = (known_graph size w memory slot at old ready known).graph; turn = behind.turn; stored = behind.graph }
 
   -- and what is known of it is so, by the puddles as they are then
-  pub known_then : (kept : Known) → kept.at ≡ at → IsKnown F image kept → IsKnown F now (with_puddles with_them kept)
+  pub known_then : (kept : Known) → kept.puddles ≡ at → IsKnown F image kept → IsKnown F now (with_puddles with_them kept)
   known_then kept same is =
       let placed = known_placed size w memory slot at old ready known in
       let spares = batch_spares F at goal o m e old new next c (record { distinct = placed.frames; below = λ i d here. frame_below F at i d placed.on_device here }) in

@@ -76,93 +76,93 @@ module _ (w : World) (held : Held) (mask : Write) (words : Words) (is : IsHeld w
 
   -- its puddles with this one
   abbrev at : List (ℕ × Puddle)
-  at = is.at ++ e ∷ []
+  at = is.puddles ++ e ∷ []
 
   abbrev q : OpenPool
   q = pool_held held at is.rec is.who
 
   -- its own words keep the values of its beginning, and the others begin as they are read
   abbrev pub before : Image
-  before = begun F is.at is.before now
+  before = begun F is.puddles is.before now
 
   abbrev pub opened_more : OpenTransaction
   opened_more = open_held held at is.rec is.who before
 
   -- so does each word of its pool
-  pool_word : (k : ℕ) → pool_mine F is.at k ≡ true → before k ≡ is.before k
-  pool_word k mine = elim (cases_Bool (pool_mine F (finished_of is.at) k)) [
-    | inl own ↦ own_begun F is.at is.before now k own
-    | inr other ↦ other_begun F is.at is.before now k other ∙ HasOnly-newest (words k) (is.before k) (is.running.rests.each k mine other)
+  pool_word : (k : ℕ) → pool_mine F is.puddles k ≡ true → before k ≡ is.before k
+  pool_word k mine = elim (cases_Bool (pool_mine F (finished_of is.puddles) k)) [
+    | inl own ↦ own_begun F is.puddles is.before now k own
+    | inr other ↦ other_begun F is.puddles is.before now k other ∙ HasOnly-newest (words k) (is.before k) (is.running.rests.each k mine other)
   ]
 
-  other_word : (k : ℕ) → pool_mine F is.at k ≡ false → before k ≡ now k
-  other_word k other = other_begun F is.at is.before now k (none_of_finished F is.at k other)
+  other_word : (k : ℕ) → pool_mine F is.puddles k ≡ false → before k ≡ now k
+  other_word k other = other_begun F is.puddles is.before now k (none_of_finished F is.puddles k other)
 
-  front : (i : ℕ) (d : ℕ × Puddle) → slice_get is.at i ≡ Some d → slice_get at i ≡ Some d
-  front i d there = slice_get-front is.at (e ∷ []) i (slice_get_within is.at i d there) ∙ there
+  front : (i : ℕ) (d : ℕ × Puddle) → slice_get is.puddles i ≡ Some d → slice_get at i ≡ Some d
+  front i d there = slice_get-front is.puddles (e ∷ []) i (slice_get_within is.puddles i d there) ∙ there
 
-  finished_front : (i : ℕ) (d : ℕ × Puddle) → slice_get (finished_of is.at) i ≡ Some d → slice_get (finished_of at) i ≡ Some d
+  finished_front : (i : ℕ) (d : ℕ × Puddle) → slice_get (finished_of is.puddles) i ≡ Some d → slice_get (finished_of at) i ≡ Some d
   finished_front i d there =
-      ap (λ (puddles : List (ℕ × Puddle)). slice_get puddles i) (finished_last is.at e finished)
-      ∙ slice_get-front (finished_of is.at) (e ∷ []) i (slice_get_within (finished_of is.at) i d there) ∙ there
+      ap (λ (puddles : List (ℕ × Puddle)). slice_get puddles i) (finished_last is.puddles e finished)
+      ∙ slice_get-front (finished_of is.puddles) (e ∷ []) i (slice_get_within (finished_of is.puddles) i d there) ∙ there
 
   -- its own words, and those of this one's frame
   mine_split : (own : List (ℕ × Puddle)) (k : ℕ) → pool_mine F (own ++ e ∷ []) k ≡ (pool_mine F own k || (is_in_frame F k e || false))
   unfolding pool_mine
   mine_split own k = list_any-append (is_in_frame F k) own (e ∷ [])
 
-  later : FinishesMore is.at at
+  later : FinishesMore is.puddles at
   later = record { each = λ i d there. (i, finished_front i d there) }
 
-  in_frame : (k : ℕ) → pool_mine F at k ≡ true → pool_mine F is.at k ≡ false → is_in_frame F k e ≡ true
-  in_frame k own other = elim (or_cases (pool_mine F is.at k) _ (sym (mine_split is.at k) ∙ own)) [
+  in_frame : (k : ℕ) → pool_mine F at k ≡ true → pool_mine F is.puddles k ≡ false → is_in_frame F k e ≡ true
+  in_frame k own other = elim (or_cases (pool_mine F is.puddles k) _ (sym (mine_split is.puddles k) ∙ own)) [
     | inl was ↦ absurd (let no : true ≡ false = sym was ∙ other in cc)
     | inr new ↦ elim (or_cases (is_in_frame F k e) false new) [ inl here ↦ here | inr never ↦ absurd (let it : false ≡ true = never in cc) ]
   ]
 
   -- what is new is its own
-  pub fresh_own : (k : ℕ) → pool_mine F at k ≡ true → pool_mine F is.at k ≡ false → pool_mine F (finished_of at) k ≡ true
+  pub fresh_own : (k : ℕ) → pool_mine F at k ≡ true → pool_mine F is.puddles k ≡ false → pool_mine F (finished_of at) k ≡ true
   fresh_own k own other =
-      ap (λ (puddles : List (ℕ × Puddle)). pool_mine F puddles k) (finished_last is.at e finished)
-      ∙ mine_split (finished_of is.at) k
-      ∙ or_right (pool_mine F (finished_of is.at) k) _ (or_left (is_in_frame F k e) false (in_frame k own other))
+      ap (λ (puddles : List (ℕ × Puddle)). pool_mine F puddles k) (finished_last is.puddles e finished)
+      ∙ mine_split (finished_of is.puddles) k
+      ∙ or_right (pool_mine F (finished_of is.puddles) k) _ (or_left (is_in_frame F k e) false (in_frame k own other))
 
   module _ (number : ℕ) (sound : HasSoundTables number (tables_of F now)) (owners : owner_of now held.client ≡ w.clients held.client)
       (listed : puddles_in_turn (tables_of F now) held.slot ≡ at) where
     placed : IsPlaced F at
     placed = placed_by_tables number F now held.slot at sound listed
 
-    placed_before : IsPlaced F (finished_of is.at)
+    placed_before : IsPlaced F (finished_of is.puddles)
     placed_before =
         let frames = frames_of_tables F now in
-        subst (λ (n : ℕ). IsPlaced n (finished_of is.at)) frames
-        (placed_of_puddles number (tables_of F now) sound held.slot (finished_of is.at) (puddles_still w held mask words is))
+        subst (λ (n : ℕ). IsPlaced n (finished_of is.puddles)) frames
+        (placed_of_puddles number (tables_of F now) sound held.slot (finished_of is.puddles) (puddles_still w held mask words is))
 
     -- no word of its frame was the transaction's own
-    apart : (k : ℕ) → k < FRAME_WORDS → pool_mine F is.at (frame_at F e.0 + k) ≡ false
-    apart k below = elim (cases_Bool (pool_mine F is.at (frame_at F e.0 + k))) [
+    apart : (k : ℕ) → k < FRAME_WORDS → pool_mine F is.puddles (frame_at F e.0 + k) ≡ false
+    apart k below = elim (cases_Bool (pool_mine F is.puddles (frame_at F e.0 + k))) [
       | inr other ↦ other
       | inl own ↦
-          let m = pool_mine-each F is.at (frame_at F e.0 + k) own in
+          let m = pool_mine-each F is.puddles (frame_at F e.0 + k) own in
           let low = m.low in
           let high = m.high in
           let frame : m.puddle.0 ≡ e.0 = omega arith in
-          let within = slice_get_within is.at m.ordinal m.puddle m.there in
-          let same = placed.frames.each m.ordinal (length is.at) m.puddle e (front m.ordinal m.puddle m.there) (slice_get-push is.at e) frame in
+          let within = slice_get_within is.puddles m.ordinal m.puddle m.there in
+          let same = placed.frames.each m.ordinal (length is.puddles) m.puddle e (front m.ordinal m.puddle m.there) (slice_get-push is.puddles e) frame in
           absurd (omega (arith, within, same))
     ]
 
-    pub comes_more : OpensAnew F (open_held held is.at is.rec is.who is.before) opened_more words
+    pub comes_more : OpensAnew F (open_held held is.puddles is.rec is.who is.before) opened_more words
     comes_more = comes_open w held mask words words is (λ k masked. refl) at later number sound refl owners listed
 
     -- ---- what is open
 
-    module _ (some : 1 ≤ length is.at) (fresh : IsFreshFrame F e.0 e.1.number (length is.at) now) (one_value : (k : ℕ) → pool_mine F at k ≡ true → pool_mine F is.at k ≡ false → HasOnly (words k) (now k)) where
-      wider : IsWider (pool_ground F (finished_of is.at)) (pool_ground F (finished_of at))
-      wider = wider_ground F is.at at later placed_before (finished_placed F at placed)
+    module _ (some : 1 ≤ length is.puddles) (fresh : IsFreshFrame F e.0 e.1.number (length is.puddles) now) (one_value : (k : ℕ) → pool_mine F at k ≡ true → pool_mine F is.puddles k ≡ false → HasOnly (words k) (now k)) where
+      wider : IsWider (pool_ground F (finished_of is.puddles)) (pool_ground F (finished_of at))
+      wider = wider_ground F is.puddles at later placed_before (finished_placed F at placed)
 
-      fresh_word : (k : ℕ) → pool_mine F (finished_of at) k ≡ true → pool_mine F (finished_of is.at) k ≡ false → HasOnly (words k) (before k)
-      fresh_word k own other = elim (cases_Bool (pool_mine F is.at k)) [
+      fresh_word : (k : ℕ) → pool_mine F (finished_of at) k ≡ true → pool_mine F (finished_of is.puddles) k ≡ false → HasOnly (words k) (before k)
+      fresh_word k own other = elim (cases_Bool (pool_mine F is.puddles k)) [
         | inl mine ↦ subst (λ (v : ℕ). HasOnly (words k) v) (sym (pool_word k mine)) (is.running.rests.each k mine other)
         | inr none ↦ subst (λ (v : ℕ). HasOnly (words k) v) (sym (other_word k none)) (one_value k (mine_of_finished F at k own) none)
       ]
@@ -170,41 +170,41 @@ module _ (w : World) (held : Held) (mask : Write) (words : Words) (is : IsHeld w
       -- what rested rests
       rests_more : RestsAs F at before words
       rests_more = record {
-        each = λ k mine other. elim (cases_Bool (pool_mine F is.at k)) [
+        each = λ k mine other. elim (cases_Bool (pool_mine F is.puddles k)) [
           | inl was ↦
               subst (λ (v : ℕ). HasOnly (words k) v) (sym (pool_word k was))
-              (is.running.rests.each k was (elim (cases_Bool (pool_mine F (finished_of is.at) k)) [
+              (is.running.rests.each k was (elim (cases_Bool (pool_mine F (finished_of is.puddles) k)) [
                 | inr none ↦ none
-                | inl own ↦ absurd (let no : true ≡ false = sym (mine_later F is.at at later k own) ∙ other in cc)
+                | inl own ↦ absurd (let no : true ≡ false = sym (mine_later F is.puddles at later k own) ∙ other in cc)
               ]))
           | inr none ↦ subst (λ (v : ℕ). HasOnly (words k) v) (sym (other_word k none)) (one_value k mine none)
         ];
       }
 
-      ground : IsGround (device_words F) held.tx.log.at (pool_ground F (finished_of is.at))
+      ground : IsGround (device_words F) held.tx.log.gate_at (pool_ground F (finished_of is.puddles))
       ground =
           let gate = is.gate in
           let known = is.pool.known in
-          is_ground F (device_words F) held.tx.log.at (finished_of is.at) placed_before (omega arith) (omega arith)
+          is_ground F (device_words F) held.tx.log.gate_at (finished_of is.puddles) placed_before (omega arith) (omega arith)
 
       pub running_more : IsOpenOn F at w.stored.types held.tx.log before is.undone is.transaction.now is.transaction.laters words
       running_more =
           let r = is.running in
-          let g = pool_ground F (finished_of is.at) in
-          let fresh_before : IsFreshFrame F e.0 e.1.number (length is.at) before = record { each = λ k below. other_word (frame_at F e.0 + k) (apart k below) ∙ fresh.each k below } in
+          let g = pool_ground F (finished_of is.puddles) in
+          let fresh_before : IsFreshFrame F e.0 e.1.number (length is.puddles) before = record { each = λ k below. other_word (frame_at F e.0 + k) (apart k below) ∙ fresh.each k below } in
           record {
             redo = r.redo;
             saving = record {
               es = r.saving.es;
               running = IsRunning-wider g (pool_ground F (finished_of at)) held.tx.log r.saving.es before words wider fresh_word
-                  (IsRunning-values (device_words F) g held.tx.log r.saving.es is.before before words ground (λ k own. sym (own_begun F is.at is.before now k own)) r.saving.running);
+                  (IsRunning-values (device_words F) g held.tx.log r.saving.es is.before before words ground (λ k own. sym (own_begun F is.puddles is.before now k own)) r.saving.running);
               asks = r.saving.asks;
             };
             rests = rests_more;
-            was = graph_longer w.stored.types F before is.at e is.undone some fresh_before (ap (graph_of w.stored.types) (stored_in-mine F is.at is.before before pool_word) ∙ r.was);
-            is = graph_longer w.stored.types F now is.at e is.transaction.now some fresh r.is;
-            are = AreLaters-wider F is.at at w.stored.types w.stored.types now now is.transaction.now is.transaction.now (keeps_front is.at at front) (record { each = λ id m is. is })
-                (places_longer w.stored.types F now is.at e is.transaction.now r.is) (KeepsObjects-same is.transaction.now) is.transaction.laters r.redo r.are;
+            was = graph_longer w.stored.types F before is.puddles e is.undone some fresh_before (ap (graph_of w.stored.types) (stored_in-mine F is.puddles is.before before pool_word) ∙ r.was);
+            is = graph_longer w.stored.types F now is.puddles e is.transaction.now some fresh r.is;
+            are = AreLaters-wider F is.puddles at w.stored.types w.stored.types now now is.transaction.now is.transaction.now (keeps_front is.puddles at front) (record { each = λ id m is. is })
+                (places_longer w.stored.types F now is.puddles e is.transaction.now r.is) (KeepsObjects-same is.transaction.now) is.transaction.laters r.redo r.are;
           }
 
       -- The next world holds it with that puddle, where its words are masked.
@@ -214,7 +214,7 @@ module _ (w : World) (held : Held) (mask : Write) (words : Words) (is : IsHeld w
           record {
             rec = is.rec;
             who = is.who;
-            at = at;
+            puddles = at;
             before = before;
             undone = is.undone;
             transaction = is.transaction;
@@ -237,7 +237,7 @@ module _ (w : World) (held : Held) (mask : Write) (words : Words) (is : IsHeld w
 
 module _ (w : World) (all : List (Option Held)) (mask : Write) (s : State) (holds : Holds w all mask s.now.words) (held : Held) (number : ℕ) (there : held_under all number ≡ Some held) (e : ℕ × Puddle)
     (next_number : ℕ) (sound : HasSoundTables next_number (tables_of w.stored.frames (reads s.now.words))) (owners : owner_of (reads s.now.words) held.client ≡ w.clients held.client)
-    (listed : puddles_in_turn (tables_of w.stored.frames (reads s.now.words)) held.slot ≡ (holds.each number held there).is.at ++ e ∷ []) (rest : HasDurableFrames w.stored.frames (masked mask s.now.words)) (finished : e.1.frontier ≡ steps_of e.1) where
+    (listed : puddles_in_turn (tables_of w.stored.frames (reads s.now.words)) held.slot ≡ (holds.each number held there).is.puddles ++ e ∷ []) (rest : HasDurableFrames w.stored.frames (masked mask s.now.words)) (finished : e.1.frontier ≡ steps_of e.1) where
   abbrev n : ℕ
   n = w.stored.frames
 
@@ -248,7 +248,7 @@ module _ (w : World) (all : List (Option Held)) (mask : Write) (s : State) (hold
   under = holds.each number held there
 
   abbrev o : OpenTransaction
-  o = open_held held under.is.at under.is.rec under.is.who under.is.before
+  o = open_held held under.is.puddles under.is.rec under.is.who under.is.before
 
   abbrev more : OpenTransaction
   more = opened_more w held mask s.now.words under.is e finished
@@ -293,11 +293,11 @@ module _ (w : World) (all : List (Option Held)) (mask : Write) (s : State) (hold
     | inr other ↦ other
   ]
 
-  of_no_other : (k : ℕ) → pool_mine n (under.is.at ++ e ∷ []) k ≡ true → pool_mine n under.is.at k ≡ false → (m : ℕ) (q : OpenTransaction) → holds.opens m ≡ Some q → pool_mine n (finished_of q.pool.at) k ≡ false
+  of_no_other : (k : ℕ) → pool_mine n (under.is.puddles ++ e ∷ []) k ≡ true → pool_mine n under.is.puddles k ≡ false → (m : ℕ) (q : OpenTransaction) → holds.opens m ≡ Some q → pool_mine n (finished_of q.pool.puddles) k ≡ false
   of_no_other k own other m q has = elim (cases_eq m number) [
     | inl same ↦
         let one : o ≡ q = same_Some o q (sym under.opened ∙ ap holds.opens (sym same) ∙ has) in
-        subst (λ (t : OpenTransaction). pool_mine n (finished_of t.pool.at) k ≡ false) one (none_of_finished n under.is.at k other)
+        subst (λ (t : OpenTransaction). pool_mine n (finished_of t.pool.puddles) k ≡ false) one (none_of_finished n under.is.puddles k other)
     | inr apart ↦ (opens_apart n opens image are_then (records_opened w all mask s s holds held number there still anew)).each number m more q one_then.here (others_then m apart ∙ has) (λ same. apart (sym same)) k (fresh_own w held mask s.now.words under.is e finished k own other)
   ]
 
@@ -306,9 +306,9 @@ module _ (w : World) (all : List (Option Held)) (mask : Write) (s : State) (hold
       let known : m < ALL_LOGS = omega (arith, holds.are.number m q has, (holds.are.pool m q has).known) in
       outside_log (log_number_at n m) k (inr (omega arith))
 
-  pub one_value : (k : ℕ) → pool_mine n (under.is.at ++ e ∷ []) k ≡ true → pool_mine n under.is.at k ≡ false → HasOnly (s.now.words k) (image k)
+  pub one_value : (k : ℕ) → pool_mine n (under.is.puddles ++ e ∷ []) k ≡ true → pool_mine n under.is.puddles k ≡ false → HasOnly (s.now.words k) (image k)
   one_value k own other =
-      let low = (pool_mine-each n (under.is.at ++ e ∷ []) k own).low in
+      let low = (pool_mine-each n (under.is.puddles ++ e ∷ []) k own).low in
       let above : frames_at n ≤ k = omega arith in
       let none : mask k ≡ None =
       masks_of_others n holds.opens mask holds.are holds.masks k (record { log = no_log k above; frames = of_no_other k own other }) (no_record k above) in
@@ -316,7 +316,7 @@ module _ (w : World) (all : List (Option Held)) (mask : Write) (s : State) (hold
 
   -- ---- the next world
 
-  module _ (some : 1 ≤ length under.is.at) (fresh : IsFreshFrame n e.0 e.1.number (length under.is.at) image) (next : World) (grows : GrowsHeld w next held)
+  module _ (some : 1 ≤ length under.is.puddles) (fresh : IsFreshFrame n e.0 e.1.number (length under.is.puddles) image) (next : World) (grows : GrowsHeld w next held)
       (keeps : (m : ℕ) (g : Held) → m ≢ number → held_under all m ≡ Some g → KeepsOne w next g) where
     pub same_pool : StaysOpen held held
     same_pool = record { client = refl; name = refl; slot = refl; number = refl; gate = refl }
@@ -331,7 +331,7 @@ module _ (w : World) (all : List (Option Held)) (mask : Write) (s : State) (hold
         let opened = others_then m apart ∙ other.opened in
         record {
           is = held_still w next g mask wide s s other.is (keeps m g apart has) (ByOthers mask) (others_apart w g mask s.now.words other.is) still
-              (λ k v is. masks_then.has m (open_held g other.is.at other.is.rec other.is.who other.is.before) opened k v is) other.is.running.rests;
+              (λ k v is. masks_then.has m (open_held g other.is.puddles other.is.rec other.is.who other.is.before) opened k v is) other.is.running.rests;
           number_is = other.number_is;
           opened = opened;
         }

@@ -150,7 +150,7 @@ pub record StaysOpen (old new : Held) : Type 0 where
   pub name : new.name ≡ old.name
   pub slot : new.slot ≡ old.slot
   pub number : new.log_number ≡ old.log_number
-  pub gate : new.tx.log.at ≡ old.tx.log.at
+  pub gate : new.tx.log.gate_at ≡ old.tx.log.gate_at
 
 -- ---- an object is made
 

@@ -145,11 +145,11 @@ fn carry_out<H: Host>(
     requires few { frames ≤ MAX_FRAMES }
     requires device { device_words frames ≤ (H.counts h.old).size }
     requires known { IsOnDevice frames pool.now }
-    requires place { (tx.old).log.at + LOG_WORDS ≤ frames_at frames }
+    requires place { (tx.old).log.gate_at + LOG_WORDS ≤ frames_at frames }
     requires within { IsFoundWithin pool.now found }
     requires room { (tx.old).units + SET_UNITS ≤ LOG_ENTRY_WORDS }
-    ensures at { (tx.new).log.at ≡ (tx.old).log.at }
-    ensures changes { H.tells → Changes (ByTransaction (pool_ground frames pool.now) (tx.old).log.at) (fault_of result) (H.state h.old) (H.state h.new) }
+    ensures at { (tx.new).log.gate_at ≡ (tx.old).log.gate_at }
+    ensures changes { H.tells → Changes (ByTransaction (pool_ground frames pool.now) (tx.old).log.gate_at) (fault_of result) (H.state h.old) (H.state h.new) }
     ensures runs { H.tells → (types : List (ℕ × ℕ)) (before : Image) (undone : Graph) (t : Transaction) (update : Update) → IsPlaced frames pool.now → IsRewrittenAt pool.now (ordinal_written found)
         → IsOpenOn frames pool.now types (tx.old).log before undone t.now t.laters (H.state h.old).now.words → MayChange types t update
         → IsFoundBy frames pool.now (reads (H.state h.old).now.words) update found
@@ -244,16 +244,16 @@ impl Opened {
         requires few { frames ≤ MAX_FRAMES }
         requires room { device_words frames ≤ (H.counts h.old).size }
         requires within { IsHeldWithin frames self.old }
-        requires known { IsOnDevice frames pool.old.at }
+        requires known { IsOnDevice frames pool.old.puddles }
         requires legal { IsLegalUpdate update }
         ensures reply { H.tells → (size : ℕ) → (w : World) → (memory : Memory) → IsHeldOn frames self.old pool.old memory → IsReady size w memory (H.state h.old)
             → IfOk result (λ reply. of_reply reply ≡ answer_by w (Option.Some (update_line update (self.old).client (self.old).name))) }
         ensures applies { H.tells → (size : ℕ) → size ≡ (H.counts h.old).size → (w : World) → (memory : Memory) → IsHeldOn frames self.old pool.old memory → IsReady size w memory (H.state h.old)
-            → AppliesFinishing (self.old).slot (FinishesUnless (refusal_of w (update_line update (self.old).client (self.old).name)) (FinishesFor frames pool.old.at (reads (H.state h.old).now.words) update)) size w (world_by w (Option.Some (update_line update (self.old).client (self.old).name))) (with_known (self.old).log_number (self.old).slot self.new pool.new memory)
+            → AppliesFinishing (self.old).slot (FinishesUnless (refusal_of w (update_line update (self.old).client (self.old).name)) (FinishesFor frames pool.old.puddles (reads (H.state h.old).now.words) update)) size w (world_by w (Option.Some (update_line update (self.old).client (self.old).name))) (with_known (self.old).log_number (self.old).slot self.new pool.new memory)
             (fault_of result) (H.state h.old) (H.state h.new) }
         ensures refused { IfOk result (λ reply. (why : Refusal) → reply ≡ Reply.No why → pool.new ≡ pool.old) }
         ensures within { IsHeldWithin frames self.new }
-        ensures known { IsOnDevice frames pool.new.at }
+        ensures known { IsOnDevice frames pool.new.puddles }
         ensures stays { StaysOpen self.old self.new }
         ensures rest { H.tells → KeepsRest (H.state h.old) (H.state h.new) }
         ensures rests { H.tells → fault_of result ≡ Option.Some HostFault.Cut → IsRested (H.state h.new).now.words }
@@ -341,7 +341,7 @@ impl Opened {
         // In the lowest free slot, whatever the frontiers are.
         ensures lowest { H.tells → (size : ℕ) → (w : World) → (memory : Memory) → IsHeldIn frames self.old pool.old memory → IsReady size w memory (H.state h.old) → refusal_by_world w self.old t ≡ Option.None
             → (slot : Slot) → IsSlotOf pool.old slot → IsLowestFreeSlot (stored_in frames pool.old (reads (H.state h.old).now.words)) (place_of_slot slot)
-            → MakesBehind frames pool.old pool.new (self.old).tx.log.at slot t (fault_of result) (H.state h.old) (H.state h.new) }
+            → MakesBehind frames pool.old pool.new (self.old).tx.log.gate_at slot t (fault_of result) (H.state h.old) (H.state h.new) }
         ensures within { IsHeldWithin frames self.new }
         ensures known { IsOnDevice frames pool.new }
         ensures stays { StaysOpen self.old self.new }
@@ -473,15 +473,15 @@ impl Opened {
         requires few { frames ≤ MAX_FRAMES }
         requires room { device_words frames ≤ (H.counts h.old).size }
         requires within { IsHeldWithin frames self.old }
-        requires known { IsOnDevice frames pool.old.at }
+        requires known { IsOnDevice frames pool.old.puddles }
         requires legal { IsLegalChange change }
         ensures reply { H.tells → (size : ℕ) → size ≡ (H.counts h.old).size → (w : World) → (memory : Memory) → IsHeldOn frames self.old pool.old memory → IsReady size w memory (H.state h.old)
             → IfOk result (λ reply. of_reply reply ≡ answer_by w (Option.Some (line_of change (self.old).client (self.old).name))) }
         ensures applies { H.tells → (size : ℕ) → size ≡ (H.counts h.old).size → (w : World) → (memory : Memory) → IsHeldOn frames self.old pool.old memory → IsReady size w memory (H.state h.old)
-            → AppliesFinishing (self.old).slot (FinishesUnless (refusal_of w (line_of change (self.old).client (self.old).name)) (Finishes frames pool.old.at (reads (H.state h.old).now.words) change)) size w (world_by w (Option.Some (line_of change (self.old).client (self.old).name))) (with_known (self.old).log_number (self.old).slot self.new pool.new memory) (fault_of result)
+            → AppliesFinishing (self.old).slot (FinishesUnless (refusal_of w (line_of change (self.old).client (self.old).name)) (Finishes frames pool.old.puddles (reads (H.state h.old).now.words) change)) size w (world_by w (Option.Some (line_of change (self.old).client (self.old).name))) (with_known (self.old).log_number (self.old).slot self.new pool.new memory) (fault_of result)
             (H.state h.old) (H.state h.new) }
         ensures within { IsHeldWithin frames self.new }
-        ensures known { IsOnDevice frames pool.new.at }
+        ensures known { IsOnDevice frames pool.new.puddles }
         ensures stays { StaysOpen self.old self.new }
         ensures rest { H.tells → KeepsRest (H.state h.old) (H.state h.new) }
         ensures rests { H.tells → fault_of result ≡ Option.Some HostFault.Cut → IsRested (H.state h.new).now.words }

@@ -101,13 +101,13 @@ impl Opened {
         requires few { frames ≤ MAX_FRAMES }
         requires device { device_words frames ≤ (H.counts h.old).size }
         requires within { IsHeldWithin frames self.now }
-        requires known { IsOnDevice frames pool.now.at }
+        requires known { IsOnDevice frames pool.now.puddles }
         requires field { f < MAX_FIELDS }
         ensures refusal { H.tells → (size : ℕ) → (w : World) → (memory : Memory) → IsHeldOn frames self.now pool.now memory → IsReady size w memory (H.state h.old)
             → IfOk result (λ found. refusal_in found ≡ refusal_of w (commands.Set (self.now).client (self.now).name s f x)) }
-        ensures found { H.tells → (image : Image) → reads (H.state h.old).now.words ≡ image → IsKnown frames image pool.now → IsPlaced frames pool.now.at
-            → IfOk result (λ found. IfOk found (IsFoundBy frames pool.now.at image (field_change later s f x))) }
-        ensures within { IfOk result (λ found. IfOk found (IsFoundWithin pool.now.at)) }
+        ensures found { H.tells → (image : Image) → reads (H.state h.old).now.words ≡ image → IsKnown frames image pool.now → IsPlaced frames pool.now.puddles
+            → IfOk result (λ found. IfOk found (IsFoundBy frames pool.now.puddles image (field_change later s f x))) }
+        ensures within { IfOk result (λ found. IfOk found (IsFoundWithin pool.now.puddles)) }
         ensures room { IfOk result (λ found. IfOk found (λ _. (self.now).tx.units + SET_UNITS ≤ LOG_ENTRY_WORDS)) }
         ensures only_reads { OnlyReads H.tells H.state H.counts (fault_of result) h.old h.new }
     {
@@ -136,12 +136,12 @@ impl Opened {
         requires few { frames ≤ MAX_FRAMES }
         requires device { device_words frames ≤ (H.counts h.old).size }
         requires within { IsHeldWithin frames self.now }
-        requires known { IsOnDevice frames pool.now.at }
+        requires known { IsOnDevice frames pool.now.puddles }
         ensures refusal { H.tells → (size : ℕ) → (w : World) → (memory : Memory) → IsHeldOn frames self.now pool.now memory → IsReady size w memory (H.state h.old)
             → IfOk result (λ found. refusal_in found ≡ refusal_of w (commands.Root (self.now).client (self.now).name s)) }
-        ensures found { H.tells → (image : Image) → reads (H.state h.old).now.words ≡ image → IsKnown frames image pool.now → IsPlaced frames pool.now.at
-            → IfOk result (λ found. IfOk found (IsFoundBy frames pool.now.at image (Update.Root s))) }
-        ensures within { IfOk result (λ found. IfOk found (IsFoundWithin pool.now.at)) }
+        ensures found { H.tells → (image : Image) → reads (H.state h.old).now.words ≡ image → IsKnown frames image pool.now → IsPlaced frames pool.now.puddles
+            → IfOk result (λ found. IfOk found (IsFoundBy frames pool.now.puddles image (Update.Root s))) }
+        ensures within { IfOk result (λ found. IfOk found (IsFoundWithin pool.now.puddles)) }
         ensures room { IfOk result (λ found. IfOk found (λ _. (self.now).tx.units + SET_UNITS ≤ LOG_ENTRY_WORDS)) }
         ensures only_reads { OnlyReads H.tells H.state H.counts (fault_of result) h.old h.new }
     {
@@ -168,13 +168,13 @@ impl Opened {
         requires few { frames ≤ MAX_FRAMES }
         requires device { device_words frames ≤ (H.counts h.old).size }
         requires within { IsHeldWithin frames self.now }
-        requires known { IsOnDevice frames pool.now.at }
+        requires known { IsOnDevice frames pool.now.puddles }
         requires serial { 1 ≤ s }
         ensures refusal { H.tells → (size : ℕ) → (w : World) → (memory : Memory) → IsHeldOn frames self.now pool.now memory → IsReady size w memory (H.state h.old)
             → IfOk result (λ found. refusal_in found ≡ refusal_of w (commands.Free (self.now).client (self.now).name s)) }
-        ensures found { H.tells → (image : Image) → reads (H.state h.old).now.words ≡ image → IsKnown frames image pool.now → IsPlaced frames pool.now.at
-            → IfOk result (λ found. IfOk found (IsFoundBy frames pool.now.at image (Update.Free s))) }
-        ensures within { IfOk result (λ found. IfOk found (IsFoundWithin pool.now.at)) }
+        ensures found { H.tells → (image : Image) → reads (H.state h.old).now.words ≡ image → IsKnown frames image pool.now → IsPlaced frames pool.now.puddles
+            → IfOk result (λ found. IfOk found (IsFoundBy frames pool.now.puddles image (Update.Free s))) }
+        ensures within { IfOk result (λ found. IfOk found (IsFoundWithin pool.now.puddles)) }
         ensures room { IfOk result (λ found. IfOk found (λ _. (self.now).tx.units + SET_UNITS ≤ LOG_ENTRY_WORDS)) }
         ensures only_reads { OnlyReads H.tells H.state H.counts (fault_of result) h.old h.new }
     {
@@ -202,13 +202,13 @@ impl Opened {
         requires few { frames ≤ MAX_FRAMES }
         requires device { device_words frames ≤ (H.counts h.old).size }
         requires within { IsHeldWithin frames self.now }
-        requires known { IsOnDevice frames pool.now.at }
+        requires known { IsOnDevice frames pool.now.puddles }
         requires legal { IsLegalUpdate update }
         ensures refusal { H.tells → (size : ℕ) → (w : World) → (memory : Memory) → IsHeldOn frames self.now pool.now memory → IsReady size w memory (H.state h.old)
             → IfOk result (λ found. refusal_in found ≡ refusal_of w (update_line update (self.now).client (self.now).name)) }
-        ensures found { H.tells → (image : Image) → reads (H.state h.old).now.words ≡ image → IsKnown frames image pool.now → IsPlaced frames pool.now.at
-            → IfOk result (λ found. IfOk found (IsFoundBy frames pool.now.at image update)) }
-        ensures within { IfOk result (λ found. IfOk found (IsFoundWithin pool.now.at)) }
+        ensures found { H.tells → (image : Image) → reads (H.state h.old).now.words ≡ image → IsKnown frames image pool.now → IsPlaced frames pool.now.puddles
+            → IfOk result (λ found. IfOk found (IsFoundBy frames pool.now.puddles image update)) }
+        ensures within { IfOk result (λ found. IfOk found (IsFoundWithin pool.now.puddles)) }
         ensures room { IfOk result (λ found. IfOk found (λ _. (self.now).tx.units + SET_UNITS ≤ LOG_ENTRY_WORDS)) }
         ensures only_reads { OnlyReads H.tells H.state H.counts (fault_of result) h.old h.new }
     {

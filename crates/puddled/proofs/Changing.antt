@@ -44,22 +44,22 @@ pub known_there : (judged : List (Option Known)) (slot : ℕ) (read any : Option
 known_there judged slot read any within is = get_or_default judged slot None any within ∙ sym is
 
 -- and what is known lies in frames of the device
-pub on_device_there : (F : ℕ) (judged : List (Option Known)) (slot : ℕ) (known : Known) → AreOnDevice F judged → pool_in judged slot ≡ Some known → IsOnDevice F known.at
-on_device_there F judged slot known all is = all.each slot known.at (ap puddles_known is)
+pub on_device_there : (F : ℕ) (judged : List (Option Known)) (slot : ℕ) (known : Known) → AreOnDevice F judged → pool_in judged slot ≡ Some known → IsOnDevice F known.puddles
+on_device_there F judged slot known all is = all.each slot known.puddles (ap puddles_known is)
 
 -- ---- an index of it is built
 
-module _ (judged : List (Option Known)) (slot : ℕ) (known more : Known) (is : pool_in judged slot ≡ Some known) (same : more.at ≡ known.at) where
+module _ (judged : List (Option Known)) (slot : ℕ) (known more : Known) (is : pool_in judged slot ≡ Some known) (same : more.at ≡ known.puddles) where
   -- all pools are known by the puddles by which they were
   pub puddles_built : (i : ℕ) → known_in (set judged slot (Some more)) i ≡ known_in judged i
   puddles_built i = known_again judged slot more (ap puddles_known is ∙ ap (λ (at : List (ℕ × Puddle)). Some at) (sym same)) i
 
   -- and what is known is so
-  pub AreJudged-built : (F : ℕ) (image : Image) → ((g : Graph) → graph_of (types_of image) (stored_in F known.at image) ≡ Some g → IsKnown F image known → IsKnown F image more) → AreJudged F judged image
+  pub AreJudged-built : (F : ℕ) (image : Image) → ((g : Graph) → graph_of (types_of image) (stored_in F known.puddles image) ≡ Some g → IsKnown F image known → IsKnown F image more) → AreJudged F judged image
       → AreJudged F (set judged slot (Some more)) image
   AreJudged-built F image built are =
-      let has = are.each slot known.at (ap puddles_known is) in
-      let graph = graph_parts F slot image known.at has in
+      let has = are.each slot known.puddles (ap puddles_known is) in
+      let graph = graph_parts F slot image known.puddles has in
       AreJudged-set F judged slot more image (has ∙ ap (λ (at : List (ℕ × Puddle)). Some at) (sym same)) (built graph.graph graph.stored (are.known slot known is)) are
 
 -- ---- the client's own
@@ -71,7 +71,7 @@ module _ (size : ℕ) (w : World) (F : ℕ) (all : List (Option Held)) (sessions
 
   -- its pool is known
   pub is_known : pool_in judged slot ≡ None → ⊥
-  is_known none = none-some _ (sym (ap (option_map (λ (k : Known). k.at)) none) ∙ ap (known_in judged) (sym own.slot_is) ∙ held_there_known size w memory s ready number own.own.mine own.own.is)
+  is_known none = none-some _ (sym (ap (option_map (λ (k : Known). k.puddles)) none) ∙ ap (known_in judged) (sym own.slot_is) ∙ held_there_known size w memory s ready number own.own.mine own.own.is)
 
   module _ (mine : Held) (there : held_under all number ≡ Some mine) (pool_is : Known) (known : pool_in judged slot ≡ Some pool_is) where
     abbrev at : List (ℕ × Puddle)
@@ -115,7 +115,7 @@ module _ (size : ℕ) (w : World) (F : ℕ) (all : List (Option Held)) (sessions
         (subst (λ (i : ℕ). AppliesFinishing i (FinishesUnless (refusal_of w line) finishes) size w (world_by w (Some line)) (with_known number i now pool memory) fault s new) slot_is
         (subst (λ (n : ℕ). AppliesFinishing mine.slot (FinishesUnless (refusal_of w line) finishes) size w (world_by w (Some line)) (with_known n mine.slot now pool memory) fault s new) number_is
         (subst (λ (ps : List (ℕ × Puddle)). AppliesFinishing mine.slot (FinishesUnless (refusal_of w line) (Finishes w.stored.frames ps (reads s.now.words) change)) size w (world_by w (Some line))
-        (with_known mine.log_number mine.slot now pool memory) fault s new) (sym (known_in_turn size w memory s ready slot at (ap (option_map (λ (k : Known). k.at)) known)))
+        (with_known mine.log_number mine.slot now pool memory) fault s new) (sym (known_in_turn size w memory s ready slot at (ap (option_map (λ (k : Known). k.puddles)) known)))
         (subst (λ (n : ℕ). AppliesFinishing mine.slot (FinishesUnless (refusal_of w line) (Finishes n at (reads s.now.words) change)) size w (world_by w (Some line))
         (with_known mine.log_number mine.slot now pool memory) fault s new) ready.frames applies)))))
 

@@ -344,10 +344,10 @@ module _ (size : ℕ) (w : World) (memory : Memory) (s : State) (ready : IsReady
       its_graph = ap (λ (n : List ℕ). graph_in (pool_named n w.stored)) (sym of_session.name_is) ∙ its.stored
 
       -- so it lacks none, as it is judged
-      pub its_puddles : puddles_with_graph F image slot ≡ Some its.at
+      pub its_puddles : puddles_with_graph F image slot ≡ Some its.puddles
       its_puddles =
-          subst (λ (i : ℕ). puddles_with_graph F image i ≡ Some its.at) of_session.slot_is
-          (ready.knows.judged.each of_session.mine.slot its.at (held_there_known size w memory s ready session.log_number of_session.mine of_session.is))
+          subst (λ (i : ℕ). puddles_with_graph F image i ≡ Some its.puddles) of_session.slot_is
+          (ready.knows.judged.each of_session.mine.slot its.puddles (held_there_known size w memory s ready session.log_number of_session.mine of_session.is))
 
     -- ---- by whose it is
 

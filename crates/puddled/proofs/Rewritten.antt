@@ -63,7 +63,7 @@ module _ (w : World) (name : List ℕ) (n : ℕ) where
 -- ---- its steps
 
 -- what is known
-pub is_there : (o : Option Known) → true ≡ is_some (option_map (λ (k : Known). k.at) o) → (kept : Known) × (o ≡ Some kept)
+pub is_there : (o : Option Known) → true ≡ is_some (option_map (λ (k : Known). k.puddles) o) → (kept : Known) × (o ≡ Some kept)
 is_there None there = absurd (let no : true ≡ false = there in cc)
 is_there (Some kept) there = (kept, refl)
 
@@ -75,13 +75,13 @@ steps_known (Ok done) judged now slot n at same known counted = λ here is.
     counted ∙ ap (λ (ps : List (ℕ × Puddle)). min n (left_among ps)) (same_Some at here (sym known ∙ ap (λ (js : List (Option Known)). known_in js slot) same ∙ is))
 
 -- they are those of the pool that is known
-pub moves_known : (result : Result ℕ HostFault) (judged now : List (Option Known)) (slot n : ℕ) (pool later : Known) → judged ≡ now → pool_in judged slot ≡ Some pool → later ≡ with_puddles later.at pool
-    → IfOk result (λ done. later.at ≡ steps_from n pool.at)
+pub moves_known : (result : Result ℕ HostFault) (judged now : List (Option Known)) (slot n : ℕ) (pool later : Known) → judged ≡ now → pool_in judged slot ≡ Some pool → later ≡ with_puddles later.puddles pool
+    → IfOk result (λ done. later.puddles ≡ steps_from n pool.at)
     → IfOk result (λ done. (here : Known) → pool_in now slot ≡ Some here → set judged slot (Some later) ≡ set now slot (Some (with_puddles (steps_from n here.at) here)))
 moves_known (Err fault) judged now slot n pool later same known rest moved = tt
 moves_known (Ok done) judged now slot n pool later same known rest moved = λ here is.
     let one : pool ≡ here = same_Some pool here (sym known ∙ ap (λ (js : List (Option Known)). pool_in js slot) same ∙ is) in
-    ap₂ (λ (js : List (Option Known)) (k : Known). set js slot (Some k)) same (rest ∙ ap (λ (ps : List (ℕ × Puddle)). with_puddles ps pool) moved ∙ ap (λ (k : Known). with_puddles (steps_from n k.at) k) one)
+    ap₂ (λ (js : List (Option Known)) (k : Known). set js slot (Some k)) same (rest ∙ ap (λ (ps : List (ℕ × Puddle)). with_puddles ps pool) moved ∙ ap (λ (k : Known). with_puddles (steps_from n k.puddles) k) one)
 
 -- of a pool that is not known none are
 pub moves_none : (judged now next : List (Option Known)) (slot n : ℕ) → judged ≡ now → pool_in judged slot ≡ None
@@ -92,7 +92,7 @@ pub steps_none : (judged now : List (Option Known)) (slot n done : ℕ) → judg
 steps_none judged now slot n done same none here is = absurd (none-some here (sym none ∙ ap (λ (js : List (Option Known)). known_in js slot) same ∙ is))
 
 -- the pool is known by what they made of it
-pub stepped_known : (judged now : List (Option Known)) (slot : ℕ) (at : List (ℕ × Puddle)) (later : Known) → known_in judged slot ≡ Some at → now ≡ set judged slot (Some later) → known_in now slot ≡ Some later.at
+pub stepped_known : (judged now : List (Option Known)) (slot : ℕ) (at : List (ℕ × Puddle)) (later : Known) → known_in judged slot ≡ Some at → now ≡ set judged slot (Some later) → known_in now slot ≡ Some later.puddles
 stepped_known judged now slot at later known moves = ap (λ (js : List (Option Known)). known_in js slot) moves ∙ known_kept_there judged slot later (known_within judged slot at known)
 
 module _ (size : ℕ) (w : World) (F : ℕ) (held : List (Option Held)) (sessions : List (Option Session)) (judged : List (Option Known)) (old : State)
@@ -101,7 +101,7 @@ module _ (size : ℕ) (w : World) (F : ℕ) (held : List (Option Held)) (session
   memory = record { frames = F; held = held; sessions = sessions; judged = judged }
 
   abbrev at : List (ℕ × Puddle)
-  at = kept.at
+  at = kept.puddles
 
   known : known_in judged slot ≡ Some at
   known = ap puddles_known is_kept

@@ -47,13 +47,13 @@ fn step_pool<H: Host>(
 ) -> Result<u32, HostFault>
     requires few { frames ≤ MAX_FRAMES }
     requires room { device_words frames ≤ (H.counts h.old).size }
-    requires known { IsOnDevice frames pool.old.at }
-    ensures steps { IfOk result (λ done. done ≡ min n (left_among pool.old.at)) }
-    ensures pool { IfOk result (λ done. pool.new.at ≡ steps_from n pool.old.at) }
-    ensures rest { pool.new ≡ with_puddles pool.new.at pool.old }
-    ensures rewrites { H.tells → (size : ℕ) → size ≡ (H.counts h.old).size → HasIdleGate DAEMON_LOG (H.state h.old).now.words → HasLowBases pool.old.at
-        → Rewrites frames (frontiers_of (steps_from n pool.old.at)) pool.old.at pool.new.at (fault_of result) (H.state h.old) (H.state h.new) }
-    ensures known { IsOnDevice frames pool.new.at }
+    requires known { IsOnDevice frames pool.old.puddles }
+    ensures steps { IfOk result (λ done. done ≡ min n (left_among pool.old.puddles)) }
+    ensures pool { IfOk result (λ done. pool.new.puddles ≡ steps_from n pool.old.puddles) }
+    ensures rest { pool.new ≡ with_puddles pool.new.puddles pool.old }
+    ensures rewrites { H.tells → (size : ℕ) → size ≡ (H.counts h.old).size → HasIdleGate DAEMON_LOG (H.state h.old).now.words → HasLowBases pool.old.puddles
+        → Rewrites frames (frontiers_of (steps_from n pool.old.puddles)) pool.old.puddles pool.new.puddles (fault_of result) (H.state h.old) (H.state h.new) }
+    ensures known { IsOnDevice frames pool.new.puddles }
     ensures any { H.tells → Changes Anything (fault_of result) (H.state h.old) (H.state h.new) }
     ensures cause { H.counts h.new ≡ after_fault (fault_of result) (H.counts h.old) }
 {
@@ -79,7 +79,7 @@ fn step_in<H: Host>(
         → IsReady size w (record { frames = frames; held = held; sessions = sessions; judged = judged.old }) (H.state h.old)
         → AppliesBy (MovesTo (led_in slot (frontiers_of (steps_from n at)))) size w w (record { frames = frames; held = held; sessions = sessions; judged = judged.new }) (fault_of result) (H.state h.old) (H.state h.new) }
     ensures steps { IfOk result (λ done. (at : List (ℕ × Puddle)) → known_in judged.old slot ≡ Option.Some at → done ≡ min n (left_among at)) }
-    ensures moves { IfOk result (λ _. (kept : Known) → pool_in judged.old slot ≡ Option.Some kept → judged.new ≡ set judged.old slot (Option.Some (with_puddles (steps_from n kept.at) kept))) }
+    ensures moves { IfOk result (λ _. (kept : Known) → pool_in judged.old slot ≡ Option.Some kept → judged.new ≡ set judged.old slot (Option.Some (with_puddles (steps_from n kept.puddles) kept))) }
     ensures known { AreOnDevice frames judged.new }
     ensures rest { H.tells → KeepsRest (H.state h.old) (H.state h.new) }
     ensures rests { H.tells → fault_of result ≡ Option.Some HostFault.Cut → IsRested (H.state h.new).now.words }

@@ -153,7 +153,7 @@ IsReady-beside size w memory next s frames held same ready knows = subst (λ (m 
 })
 
 -- more is known of a pool, or less, and its puddles are known still
-pub IsReady-anew : (size : ℕ) (w : World) (memory : Memory) (s : State) (slot : ℕ) (known : Known) → IsReady size w memory s → known_in memory.judged slot ≡ Some known.at → IsKnown w.stored.frames (reads s.now.words) known
+pub IsReady-anew : (size : ℕ) (w : World) (memory : Memory) (s : State) (slot : ℕ) (known : Known) → IsReady size w memory s → known_in memory.judged slot ≡ Some known.puddles → IsKnown w.stored.frames (reads s.now.words) known
     → IsReady size w (record memory { judged = set memory.judged slot (Some known) }) s
 IsReady-anew size w memory s slot known ready was is =
     IsReady-beside size w memory (record memory { judged = set memory.judged slot (Some known) }) s refl refl refl ready

@@ -65,7 +65,7 @@ module _ (size : ℕ) (w : World) (memory : Memory) (s : State) (ready : IsReady
           is = record {
             rec = i.rec;
             who = i.who;
-            at = i.at;
+            puddles = i.at;
             before = i.before;
             undone = i.undone;
             transaction = x;

@@ -167,8 +167,8 @@ module _ (w : World) (held : List (Option Held)) (mask : Write) (words : Words) 
       let o = m.transaction in
       elim (mask_cases F o.pool o.before k v m.is) [
         | inl inside ↦ absurd (let it : true ≡ false = sym inside ∙ outside_log (log_number_at F o.pool.log_number) k (inl (omega arith)) in cc)
-        | inr own ↦ elim (or_cases (pool_mine F (finished_of o.pool.at) k) (is_open_record o.pool k) own.0) [
-          | inl mine ↦ absurd (let it : true ≡ false = sym mine ∙ mine_behind F (finished_of o.pool.at) k (omega arith) in cc)
+        | inr own ↦ elim (or_cases (pool_mine F (finished_of o.pool.puddles) k) (is_open_record o.pool k) own.0) [
+          | inl mine ↦ absurd (let it : true ≡ false = sym mine ∙ mine_behind F (finished_of o.pool.puddles) k (omega arith) in cc)
           | inr of ↦ (records_all w held mask words holds).each m.number o m.there k of ∙ own.1
         ]
       ]

@@ -68,8 +68,8 @@ in_log at k inside = and_from _ _ (le-leb at k inside.low) (lt-ltb k (at + LOG_W
 
 -- no word that may be written is one of its log, of the frames of its finished puddles, or of the records that it rests on
 pub record IsApart (F : ℕ) (held : Held) (p : OpenPool) (may : Footprint) : Type 0 where
-  pub log : (k v : ℕ) → may k v → IsInLog held.tx.log.at k → ⊥
-  pub mine : (k v : ℕ) → may k v → pool_mine F (finished_of p.at) k ≡ true → ⊥
+  pub log : (k v : ℕ) → may k v → IsInLog held.tx.log.gate_at k → ⊥
+  pub mine : (k v : ℕ) → may k v → pool_mine F (finished_of p.puddles) k ≡ true → ⊥
   pub records : (k v : ℕ) → may k v → is_open_record p k ≡ true → ⊥
 
 -- The next world has the same of one transaction that is held.
@@ -96,19 +96,19 @@ module _ (w : World) (held : Held) (mask : Write) (words : Words) (is : IsHeld w
   F = w.stored.frames
 
   abbrev p : OpenPool
-  p = pool_held held is.at is.rec is.who
+  p = pool_held held is.puddles is.rec is.who
 
-  on_device : IsOnDevice F (finished_of is.at)
+  on_device : IsOnDevice F (finished_of is.puddles)
   on_device = open_on_device F p is.before is.pool
 
   -- every word of the log, of the frames of the pool's finished puddles and of its records is masked
-  pub log_masked : (k : ℕ) → IsInLog held.tx.log.at k → mask k ≡ None → ⊥
+  pub log_masked : (k : ℕ) → IsInLog held.tx.log.gate_at k → mask k ≡ None → ⊥
   log_masked k inside none =
       let there = subst (λ (n : ℕ). IsInLog n k) is.gate inside in
       let m = mask_of_log F p is.before k (in_log (log_number_at F held.log_number) k there) in
       none-some m.0 (sym none ∙ is.masked k m.0 m.1)
 
-  pub own_masked : (k : ℕ) → pool_mine F (finished_of is.at) k ≡ true → mask k ≡ None → ⊥
+  pub own_masked : (k : ℕ) → pool_mine F (finished_of is.puddles) k ≡ true → mask k ≡ None → ⊥
   own_masked k mine none = none-some (is.before k) (sym none ∙ is.masked k (is.before k) (mask_of_mine F p is.before k is.pool.known mine))
 
   pub record_masked : (k : ℕ) → is_open_record p k ≡ true → mask k ≡ None → ⊥
@@ -144,47 +144,47 @@ module _ (w : World) (held : Held) (mask : Write) (words : Words) (is : IsHeld w
       left_apart = record {
         unnamed = λ k v e. names.each k v (is.masked k v e);
         records = λ k of. same k (λ v wrote. apart.records k v wrote of) ∙ was_record k of;
-        settles = subst (λ (n : ℕ). SettlesTo (pool_ground F (finished_of is.at)) n is.before image) is.gate
-            (SettlesTo-local (pool_ground F (finished_of is.at)) held.tx.log.at is.before o.before image
+        settles = subst (λ (n : ℕ). SettlesTo (pool_ground F (finished_of is.puddles)) n is.before image) is.gate
+            (SettlesTo-local (pool_ground F (finished_of is.puddles)) held.tx.log.gate_at is.before o.before image
             (λ k inside. same k (λ v wrote. apart.log k v wrote inside)) (λ k mine. same k (λ v wrote. apart.mine k v wrote mine))
-            (IsRunning-settles (pool_ground F (finished_of is.at)) held.tx.log is.running.saving.es is.before o.before words is.running.saving.running o.picked));
+            (IsRunning-settles (pool_ground F (finished_of is.puddles)) held.tx.log is.running.saving.es is.before o.before words is.running.saving.running o.picked));
       }
 
 -- ---- what is held stays
 
 module _ (w next : World) (held : Held) (mask anew : Write) (old new : State) (is : IsHeld w held mask old.now.words) (keeps : KeepsOne w next held) (may : Footprint)
-    (apart : IsApart w.stored.frames held (pool_held held is.at is.rec is.who) may) (c : Changes may None old new)
-    (masked_so : (k v : ℕ) → open_mask w.stored.frames (pool_held held is.at is.rec is.who) is.before k ≡ Some v → anew k ≡ Some v)
-    (rests : RestsAs w.stored.frames is.at is.before new.now.words) where
+    (apart : IsApart w.stored.frames held (pool_held held is.puddles is.rec is.who) may) (c : Changes may None old new)
+    (masked_so : (k v : ℕ) → open_mask w.stored.frames (pool_held held is.puddles is.rec is.who) is.before k ≡ Some v → anew k ≡ Some v)
+    (rests : RestsAs w.stored.frames is.puddles is.before new.now.words) where
   abbrev n : ℕ
   n = w.stored.frames
 
-  stored_still : stored_in n is.at (reads new.now.words) ≡ stored_in n is.at (reads old.now.words)
+  stored_still : stored_in n is.puddles (reads new.now.words) ≡ stored_in n is.puddles (reads old.now.words)
   stored_still =
-      stored_in-mine n is.at (reads old.now.words) (reads new.now.words)
-      (λ k mine. elim (cases_Bool (pool_mine n (finished_of is.at) k)) [
+      stored_in-mine n is.puddles (reads old.now.words) (reads new.now.words)
+      (λ k mine. elim (cases_Bool (pool_mine n (finished_of is.puddles) k)) [
         | inl own ↦ reads_kept may old new k c (λ v wrote. apart.mine k v wrote own)
         | inr other ↦
             HasOnly-newest (new.now.words k) (is.before k) (rests.each k mine other) ∙ sym (HasOnly-newest (old.now.words k) (is.before k) (is.running.rests.each k mine other))
       ])
 
-  pub still_running : IsOpenOn n is.at next.stored.types held.tx.log is.before is.undone is.transaction.now is.transaction.laters new.now.words
+  pub still_running : IsOpenOn n is.puddles next.stored.types held.tx.log is.before is.undone is.transaction.now is.transaction.laters new.now.words
   still_running =
       let r = is.running in
       record {
         redo = r.redo;
         saving = record {
           es = r.saving.es;
-          running = IsRunning-kept (pool_ground n (finished_of is.at)) held.tx.log r.saving.es is.before may None old new c
+          running = IsRunning-kept (pool_ground n (finished_of is.puddles)) held.tx.log r.saving.es is.before may None old new c
               (λ k v inside wrote. apart.log k v wrote inside) (λ k v mine wrote. apart.mine k v wrote mine) r.saving.running;
           asks = r.saving.asks;
         };
         rests = rests;
-        was = keeps.graphs (stored_in n is.at is.before) is.undone r.was;
-        is = keeps.graphs (stored_in n is.at (reads new.now.words)) is.transaction.now
+        was = keeps.graphs (stored_in n is.puddles is.before) is.undone r.was;
+        is = keeps.graphs (stored_in n is.puddles (reads new.now.words)) is.transaction.now
             (ap (graph_of w.stored.types) stored_still ∙ r.is);
-        are = AreLaters-wider n is.at is.at w.stored.types next.stored.types (reads old.now.words) (reads new.now.words) is.transaction.now is.transaction.now (keeps_front is.at is.at (λ o e there. there))
-            (record { each = keeps.types }) (record { each = λ s o live. place_in_pool-stored n is.at (reads old.now.words) (reads new.now.words) stored_still s }) (KeepsObjects-same is.transaction.now)
+        are = AreLaters-wider n is.puddles is.puddles w.stored.types next.stored.types (reads old.now.words) (reads new.now.words) is.transaction.now is.transaction.now (keeps_front is.puddles is.puddles (λ o e there. there))
+            (record { each = keeps.types }) (record { each = λ s o live. place_in_pool-stored n is.puddles (reads old.now.words) (reads new.now.words) stored_still s }) (KeepsObjects-same is.transaction.now)
             is.transaction.laters r.redo r.are;
       }
 
@@ -195,7 +195,7 @@ module _ (w next : World) (held : Held) (mask anew : Write) (old new : State) (i
       record {
         rec = is.rec;
         who = is.who;
-        at = is.at;
+        puddles = is.puddles;
         before = is.before;
         undone = is.undone;
         transaction = is.transaction;
@@ -207,14 +207,14 @@ module _ (w next : World) (held : Held) (mask anew : Write) (old new : State) (i
         gate = is.gate ∙ ap (λ (m : ℕ). log_number_at m held.log_number) back;
         name = is.name;
         stored = keeps.stored ∙ is.stored;
-        pool = subst (λ (m : ℕ). IsOpenPool m (pool_held held is.at is.rec is.who) is.before) back is.pool;
+        pool = subst (λ (m : ℕ). IsOpenPool m (pool_held held is.puddles is.rec is.who) is.before) back is.pool;
         records = λ k of. reads_kept may old new k c (λ v wrote. apart.records k v wrote of) ∙ is.records k of;
-        running = subst (λ (m : ℕ). IsOpenOn m is.at next.stored.types held.tx.log is.before is.undone is.transaction.now is.transaction.laters new.now.words) back still_running;
-        masked = subst (λ (m : ℕ). (k v : ℕ) → open_mask m (pool_held held is.at is.rec is.who) is.before k ≡ Some v → anew k ≡ Some v) back masked_so;
+        running = subst (λ (m : ℕ). IsOpenOn m is.puddles next.stored.types held.tx.log is.before is.undone is.transaction.now is.transaction.laters new.now.words) back still_running;
+        masked = subst (λ (m : ℕ). (k v : ℕ) → open_mask m (pool_held held is.puddles is.rec is.who) is.before k ≡ Some v → anew k ≡ Some v) back masked_so;
       }
 
   -- and it is held so under its number, where it is open under that
-  abbrev pub still_under : (opens : Opens) (number : ℕ) → held.log_number ≡ number → opens number ≡ Some (open_held held is.at is.rec is.who is.before) → IsHeldUnder next opens anew new.now.words number held
+  abbrev pub still_under : (opens : Opens) (number : ℕ) → held.log_number ≡ number → opens number ≡ Some (open_held held is.puddles is.rec is.who is.before) → IsHeldUnder next opens anew new.now.words number held
   still_under opens number its opened = record { is = held_still; number_is = its; opened = opened }
 
 -- ---- all that is held
@@ -224,7 +224,7 @@ pub record IsOpenAs (w : World) (opens : Opens) (held : List (Option Held)) (mas
   pub one : Held
   pub there : held_under held number ≡ Some one
   pub under : IsHeldUnder w opens mask words number one
-  pub same : open_held one under.is.at under.is.rec under.is.who under.is.before ≡ o
+  pub same : open_held one under.is.puddles under.is.rec under.is.who under.is.before ≡ o
 
 module _ (w : World) (held : List (Option Held)) (mask : Write) (words : Words) (holds : Holds w held mask words) where
   abbrev N : ℕ
@@ -238,7 +238,7 @@ module _ (w : World) (held : List (Option Held)) (mask : Write) (words : Words) 
   opened_by number o None e there = absurd (none-some o (sym (holds.none number e) ∙ there))
   opened_by number o (Some h) e there =
       let under = holds.each number h e in
-      record { one = h; there = e; under = under; same = same_Some (open_held h under.is.at under.is.rec under.is.who under.is.before) o (sym under.opened ∙ there) }
+      record { one = h; there = e; under = under; same = same_Some (open_held h under.is.puddles under.is.rec under.is.who under.is.before) o (sym under.opened ∙ there) }
 
   pub opened_as : (number : ℕ) (o : OpenTransaction) → holds.opens number ≡ Some o → IsOpenAs w holds.opens held mask words number o
   opened_as number o there = opened_by number o (held_under held number) refl there
@@ -250,7 +250,7 @@ module _ (w : World) (held : List (Option Held)) (mask : Write) (words : Words) 
       apart number a.one a.there (ap (λ (t : OpenTransaction). t.pool.slot) a.same ∙ same)
 
   -- each is open in the image, where each that is held is
-  module _ (image : Image) (each : (number : ℕ) (h : Held) (there : held_under held number ≡ Some h) (under : IsHeldUnder w holds.opens mask words number h) → IsLeftOpen N (pool_held h under.is.at under.is.rec under.is.who) under.is.before image) where
+  module _ (image : Image) (each : (number : ℕ) (h : Held) (there : held_under held number ≡ Some h) (under : IsHeldUnder w holds.opens mask words number h) → IsLeftOpen N (pool_held h under.is.puddles under.is.rec under.is.who) under.is.before image) where
     pub left_all : AreLeftOpen N holds.opens image
     left_all = record {
       each = λ number o there.
@@ -267,24 +267,24 @@ module _ (w : World) (held : List (Option Held)) (mask : Write) (words : Words) 
   }
 
   -- a word that none has is not masked
-  pub unmasked_by_all : (k : ℕ) → ((number : ℕ) (h : Held) (there : held_under held number ≡ Some h) (is : IsHeld w h mask words) → open_mask N (pool_held h is.at is.rec is.who) is.before k ≡ None) → mask k ≡ None
+  pub unmasked_by_all : (k : ℕ) → ((number : ℕ) (h : Held) (there : held_under held number ≡ Some h) (is : IsHeld w h mask words) → open_mask N (pool_held h is.puddles is.rec is.who) is.before k ≡ None) → mask k ≡ None
   unmasked_by_all k each = nothing_given (mask k) (λ v given.
       let m = holds.masks.each k v given in
       let a = opened_as m.number m.transaction m.there in
       none-some v (sym (each m.number a.one a.there a.under.is) ∙ ap (λ (t : OpenTransaction). open_mask N t.pool t.before k) a.same ∙ m.is))
 
   given_by_one : (k v : ℕ) → ((number : ℕ) (h : Held) (there : held_under held number ≡ Some h)
-      → open_mask N (pool_held h (holds.each number h there).is.at (holds.each number h there).is.rec (holds.each number h there).is.who) (holds.each number h there).is.before k ≡ None)
+      → open_mask N (pool_held h (holds.each number h there).is.puddles (holds.each number h there).is.rec (holds.each number h there).is.who) (holds.each number h there).is.before k ≡ None)
       → (number : ℕ) (o : OpenTransaction) → holds.opens number ≡ Some o → open_mask N o.pool o.before k ≡ Some v → (x : Option Held) → held_under held number ≡ x → ⊥
   given_by_one k v each number o there is None e = none-some o (sym (holds.none number e) ∙ there)
   given_by_one k v each number o there is (Some h) e =
       let under = holds.each number h e in
-      let same = same_Some (open_held h under.is.at under.is.rec under.is.who under.is.before) o (sym under.opened ∙ there) in
+      let same = same_Some (open_held h under.is.puddles under.is.rec under.is.who under.is.before) o (sym under.opened ∙ there) in
       none-some v (sym (each number h e) ∙ ap (λ (t : OpenTransaction). open_mask N t.pool t.before k) same ∙ is)
 
   -- the same, by what is known of each
   pub unmasked_by_each : (k : ℕ) → ((number : ℕ) (h : Held) (there : held_under held number ≡ Some h)
-      → open_mask N (pool_held h (holds.each number h there).is.at (holds.each number h there).is.rec (holds.each number h there).is.who) (holds.each number h there).is.before k ≡ None) → mask k ≡ None
+      → open_mask N (pool_held h (holds.each number h there).is.puddles (holds.each number h there).is.rec (holds.each number h there).is.who) (holds.each number h there).is.before k ≡ None) → mask k ≡ None
   unmasked_by_each k each = nothing_given (mask k) (λ v given.
       let m = holds.masks.each k v given in
       given_by_one k v each m.number m.transaction m.there m.is (held_under held m.number) refl)
@@ -317,30 +317,30 @@ module _ (w : World) (held : List (Option Held)) (mask : Write) (words : Words) 
     others = holds.each other g there
 
     abbrev o : OpenTransaction
-    o = open_held h its.is.at its.is.rec its.is.who its.is.before
+    o = open_held h its.is.puddles its.is.rec its.is.who its.is.before
 
     abbrev q : OpenTransaction
-    q = open_held g others.is.at others.is.rec others.is.who others.is.before
+    q = open_held g others.is.puddles others.is.rec others.is.who others.is.before
 
-    in_its_log : (k : ℕ) → IsInLog h.tx.log.at k → is_in_log (log_number_at N h.log_number) k ≡ true
+    in_its_log : (k : ℕ) → IsInLog h.tx.log.gate_at k → is_in_log (log_number_at N h.log_number) k ≡ true
     in_its_log k inside = in_log (log_number_at N h.log_number) k (subst (λ (n : ℕ). IsInLog n k) its.is.gate inside)
 
-    in_others_log : (k : ℕ) → IsInLog g.tx.log.at k → is_in_log (log_number_at N g.log_number) k ≡ true
+    in_others_log : (k : ℕ) → IsInLog g.tx.log.gate_at k → is_in_log (log_number_at N g.log_number) k ≡ true
     in_others_log k inside = in_log (log_number_at N g.log_number) k (subst (λ (n : ℕ). IsInLog n k) others.is.gate inside)
 
     -- are no words of another
-    pub own_apart : IsApart N g (pool_held g others.is.at others.is.rec others.is.who) (ByTransaction (pool_ground N (finished_of its.is.at)) h.tx.log.at)
+    pub own_apart : IsApart N g (pool_held g others.is.puddles others.is.rec others.is.who) (ByTransaction (pool_ground N (finished_of its.is.puddles)) h.tx.log.gate_at)
     own_apart = record {
       log = λ k v wrote inside. elim wrote [
         | inl log ↦ two_logs N holds.opens (reads words) holds.are records_all number other o q its.opened others.opened apart k (in_its_log k log) (in_others_log k inside)
-        | inr mine ↦ log_or_own N holds.opens (reads words) holds.are records_all other number q o others.opened its.opened (λ same. apart (sym same)) k (in_others_log k inside) (or_left (pool_mine N (finished_of its.is.at) k) _ mine)
+        | inr mine ↦ log_or_own N holds.opens (reads words) holds.are records_all other number q o others.opened its.opened (λ same. apart (sym same)) k (in_others_log k inside) (or_left (pool_mine N (finished_of its.is.puddles) k) _ mine)
       ];
       mine = λ k v wrote also. elim wrote [
-        | inl log ↦ log_or_own N holds.opens (reads words) holds.are records_all number other o q its.opened others.opened apart k (in_its_log k log) (or_left (pool_mine N (finished_of others.is.at) k) _ also)
+        | inl log ↦ log_or_own N holds.opens (reads words) holds.are records_all number other o q its.opened others.opened apart k (in_its_log k log) (or_left (pool_mine N (finished_of others.is.puddles) k) _ also)
         | inr mine ↦ let no : true ≡ false = sym also ∙ (opens_apart N holds.opens (reads words) holds.are records_all).each number other o q its.opened others.opened apart k mine in cc
       ];
       records = λ k v wrote of. elim wrote [
-        | inl log ↦ log_or_own N holds.opens (reads words) holds.are records_all number other o q its.opened others.opened apart k (in_its_log k log) (or_right (pool_mine N (finished_of others.is.at) k) _ of)
+        | inl log ↦ log_or_own N holds.opens (reads words) holds.are records_all number other o q its.opened others.opened apart k (in_its_log k log) (or_right (pool_mine N (finished_of others.is.puddles) k) _ of)
         | inr mine ↦ mine_or_record N holds.opens (reads words) holds.are records_all number other o q its.opened others.opened apart k mine of
       ];
     }
@@ -353,10 +353,10 @@ daemon_log_unmasked w held mask words holds = unmasked_front w held mask words h
 
 -- The words of the puddles that are not finished rest, of each that is held.
 pub record RestBehind (w : World) (held : List (Option Held)) (mask : Write) (words : Words) (holds : Holds w held mask words) (after : Words) : Type 0 where
-  pub each : (number : ℕ) (h : Held) (there : held_under held number ≡ Some h) → RestsAs w.stored.frames (holds.each number h there).is.at (holds.each number h there).is.before after
+  pub each : (number : ℕ) (h : Held) (there : held_under held number ≡ Some h) → RestsAs w.stored.frames (holds.each number h there).is.puddles (holds.each number h there).is.before after
 
 module _ (w next : World) (held : List (Option Held)) (mask : Write) (old new : State) (holds : Holds w held mask old.now.words) (keeps : KeepsHeld w next held) (c : Changes (ByOthers mask) None old new)
-    (rests : (number : ℕ) (h : Held) (there : held_under held number ≡ Some h) → RestsAs w.stored.frames (holds.each number h there).is.at (holds.each number h there).is.before new.now.words) where
+    (rests : (number : ℕ) (h : Held) (there : held_under held number ≡ Some h) → RestsAs w.stored.frames (holds.each number h there).is.puddles (holds.each number h there).is.before new.now.words) where
   abbrev pub under_still : (number : ℕ) (h : Held) → held_under held number ≡ Some h → IsHeldUnder next holds.opens mask new.now.words number h
   under_still number h there =
       let under = holds.each number h there in

@@ -142,10 +142,10 @@ module _ (size : ℕ) (w : World) (memory : Memory) (s : State) (ready : IsReady
   runs_not_closed number h there closed =
       let under = ready.held.each number h there in
       let r = under.is.running.saving.running in
-      let at : log_number_at w.stored.frames number ≡ h.tx.log.at = ap (log_number_at w.stored.frames) (sym under.number_is) ∙ sym under.is.gate in
-      let range = (and_parts (is_closed_range (image h.tx.log.at)) _ (ap (is_closed_log image) (sym at) ∙ closed)).0 in
-      let lo : gate_lo (image h.tx.log.at) ≡ h.tx.log.lo = ap (λ (l : Log). l.lo) r.opened.says in
-      let hi : gate_hi (image h.tx.log.at) ≡ h.tx.log.hi = ap (λ (l : Log). l.hi) r.opened.says in
+      let at : log_number_at w.stored.frames number ≡ h.tx.log.gate_at = ap (log_number_at w.stored.frames) (sym under.number_is) ∙ sym under.is.gate in
+      let range = (and_parts (is_closed_range (image h.tx.log.gate_at)) _ (ap (is_closed_log image) (sym at) ∙ closed)).0 in
+      let lo : gate_lo (image h.tx.log.gate_at) ≡ h.tx.log.lo = ap (λ (l : Log). l.lo) r.opened.says in
+      let hi : gate_hi (image h.tx.log.gate_at) ≡ h.tx.log.hi = ap (λ (l : Log). l.hi) r.opened.says in
       let no : false ≡ true = ap₂ (λ (a b : ℕ). eqb a b && (eqb b 4 || eqb b 0)) (sym (lo ∙ r.lo)) (sym (hi ∙ r.hi)) ∙ range in
       cc
 

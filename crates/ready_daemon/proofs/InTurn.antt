@@ -49,19 +49,19 @@ module _ (size : ℕ) (w : World) (memory : Memory) (s : State) (ready : IsReady
 
   -- a pool on which a transaction is held is known by the puddles on which it is open
   pub held_there_known : (number : ℕ) (held : Held) (there : held_under memory.held number ≡ Some held)
-      → known_in memory.judged held.slot ≡ Some (held_is w memory.held ready.mask s.now.words ready.held number held there).at
+      → known_in memory.judged held.slot ≡ Some (held_is w memory.held ready.mask s.now.words ready.held number held there).puddles
   held_there_known number held there =
       let under = ready.held.each number held there in
-      ready.knows.open_pools number (open_held held under.is.at under.is.rec under.is.who under.is.before) under.opened
+      ready.knows.open_pools number (open_held held under.is.puddles under.is.rec under.is.who under.is.before) under.opened
 
   -- so they are these
   pub held_known : (number : ℕ) (held : Held) (there : held_under memory.held number ≡ Some held) (at : List (ℕ × Puddle)) → known_in memory.judged held.slot ≡ Some at
-      → (held_is w memory.held ready.mask s.now.words ready.held number held there).at ≡ at
+      → (held_is w memory.held ready.mask s.now.words ready.held number held there).puddles ≡ at
   held_known number held there at known =
       let is = held_is w memory.held ready.mask s.now.words ready.held number held there in
-      same_Some is.at at (sym (held_there_known number held there) ∙ known)
+      same_Some is.puddles at (sym (held_there_known number held there) ∙ known)
 
   -- and all that the pool has, in turn
   pub held_in_turn : (number : ℕ) (held : Held) (there : held_under memory.held number ≡ Some held)
-      → puddles_in_turn t held.slot ≡ (held_is w memory.held ready.mask s.now.words ready.held number held there).at
-  held_in_turn number held there = known_in_turn held.slot (held_is w memory.held ready.mask s.now.words ready.held number held there).at (held_there_known number held there)
+      → puddles_in_turn t held.slot ≡ (held_is w memory.held ready.mask s.now.words ready.held number held there).puddles
+  held_in_turn number held there = known_in_turn held.slot (held_is w memory.held ready.mask s.now.words ready.held number held there).puddles (held_there_known number held there)

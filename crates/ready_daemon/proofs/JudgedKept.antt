@@ -87,12 +87,12 @@ graph_kept F slot before after at graphs pool has = record {
 pub record KeepsPools (F : ℕ) (but : Option ℕ) (before after : Image) : Type 0 where
   pub each : (slot : ℕ) (at : List (ℕ × Puddle)) → but ≢ Some slot → HasGraphIn F slot before at → HasGraphIn F slot after at
   pub words : (slot : ℕ) (at : List (ℕ × Puddle)) → but ≢ Some slot → HasGraphIn F slot before at → (k : ℕ) → pool_mine F at k ≡ true → after k ≡ before k
-  pub known : (slot : ℕ) (known : Known) → but ≢ Some slot → HasGraphIn F slot before known.at → IsKnown F before known → IsKnown F after known
+  pub known : (slot : ℕ) (known : Known) → but ≢ Some slot → HasGraphIn F slot before known.puddles → IsKnown F before known → IsKnown F after known
 
 -- what is known of a pool is so where its words stay
-known_kept : (F slot : ℕ) (before after : Image) (known : Known) → KeepsGraphs before after → KeepsPool F slot before after → HasGraphIn F slot before known.at → IsKnown F before known → IsKnown F after known
+known_kept : (F slot : ℕ) (before after : Image) (known : Known) → KeepsGraphs before after → KeepsPool F slot before after → HasGraphIn F slot before known.puddles → IsKnown F before known → IsKnown F after known
 known_kept F slot before after known graphs pool has is =
-    let at = known.at in
+    let at = known.puddles in
     let same = stored_in-mine F at before after (λ k mine. pool.words k (ap (λ puddles. pool_mine F puddles k) has.turn ∙ mine)) in
     IsKnown-kept F known at before after has.graph has.stored (graphs.each (stored_in F at after) has.graph (ap (graph_of (types_of before)) same ∙ has.stored)) (KeepsSerials-stored F at before after same) is
 
@@ -101,7 +101,7 @@ pub KeepsPools-each : (F : ℕ) (but : Option ℕ) (before after : Image) → Ke
 KeepsPools-each F but before after graphs pools = record {
   each = λ slot at apart has. graph_kept F slot before after at graphs (pools slot at apart has) has;
   words = λ slot at apart has k mine. (pools slot at apart has).words k (ap (λ puddles. pool_mine F puddles k) has.turn ∙ mine);
-  known = λ slot known apart has is. known_kept F slot before after known graphs (pools slot known.at apart has) has is;
+  known = λ slot known apart has is. known_kept F slot before after known graphs (pools slot known.puddles apart has) has is;
 }
 
 -- one after the other
@@ -109,7 +109,7 @@ pub KeepsPools-then : (F : ℕ) (but : Option ℕ) (a b c : Image) → KeepsPool
 KeepsPools-then F but a b c first later = record {
   each = λ slot at apart has. later.each slot at apart (first.each slot at apart has);
   words = λ slot at apart has k mine. later.words slot at apart (first.each slot at apart has) k mine ∙ first.words slot at apart has k mine;
-  known = λ slot known apart has is. later.known slot known apart (first.each slot known.at apart has) (first.known slot known apart has is);
+  known = λ slot known apart has is. later.known slot known apart (first.each slot known.puddles apart has) (first.known slot known apart has is);
 }
 
 -- where nothing happened
@@ -122,15 +122,15 @@ AreJudged-but F slot judged before after keeps none are = record {
   each = λ s at known.
       graph_from F s after at (keeps.each s at (λ same. none-some at (sym none ∙ ap (known_in judged) (same_Some slot s same) ∙ known)) (graph_parts F s before at (are.each s at known)));
   known = λ s known is.
-      let puddles : known_in judged s ≡ Some known.at = ap (option_map (λ (k : Known). k.at)) is in
-      keeps.known s known (λ same. none-some known.at (sym none ∙ ap (known_in judged) (same_Some slot s same) ∙ puddles)) (graph_parts F s before known.at (are.each s known.at puddles)) (are.known s known is);
+      let puddles : known_in judged s ≡ Some known.puddles = ap (option_map (λ (k : Known). k.puddles)) is in
+      keeps.known s known (λ same. none-some known.puddles (sym none ∙ ap (known_in judged) (same_Some slot s same) ∙ puddles)) (graph_parts F s before known.puddles (are.each s known.puddles puddles)) (are.known s known is);
 }
 
 pub AreJudged-all : (F : ℕ) (judged : List (Option Known)) (before after : Image) → KeepsPools F None before after → AreJudged F judged before → AreJudged F judged after
 AreJudged-all F judged before after keeps are = record {
   each = λ slot at known. graph_from F slot after at (keeps.each slot at (λ no. none-some slot no) (graph_parts F slot before at (are.each slot at known)));
   known = λ slot known is.
-      keeps.known slot known (λ no. none-some slot no) (graph_parts F slot before known.at (are.each slot known.at (ap (option_map (λ (k : Known). k.at)) is))) (are.known slot known is);
+      keeps.known slot known (λ no. none-some slot no) (graph_parts F slot before known.puddles (are.each slot known.puddles (ap (option_map (λ (k : Known). k.puddles)) is))) (are.known slot known is);
 }
 
 -- ---- the words of its frames

@@ -92,13 +92,13 @@ module _ (F slot log : ℕ) (at : List (ℕ × Puddle)) (old new : State) (besid
 pub known_within : (judged : List (Option Known)) (slot : ℕ) (at : List (ℕ × Puddle)) → known_in judged slot ≡ Some at → slot < length judged
 known_within judged slot at known = elim (cases_lt slot (length judged)) [
   | inl within ↦ within
-  | inr past ↦ absurd (none-some at (sym (ap (option_map (λ (k : Known). k.at)) (get_or_past judged slot None past)) ∙ known))
+  | inr past ↦ absurd (none-some at (sym (ap (option_map (λ (k : Known). k.puddles)) (get_or_past judged slot None past)) ∙ known))
 ]
 
 -- where what is known of a pool has the puddles that were known of it, those of each pool are known that were
-pub known_again : (judged : List (Option Known)) (slot : ℕ) (known : Known) → known_in judged slot ≡ Some known.at → (i : ℕ) → known_in (set judged slot (Some known)) i ≡ known_in judged i
+pub known_again : (judged : List (Option Known)) (slot : ℕ) (known : Known) → known_in judged slot ≡ Some known.puddles → (i : ℕ) → known_in (set judged slot (Some known)) i ≡ known_in judged i
 known_again judged slot known was i = elim (cases_eq i slot) [
-  | inl same ↦ ap (known_in (set judged slot (Some known))) same ∙ known_kept_there judged slot known (known_within judged slot known.at was) ∙ sym was ∙ ap (known_in judged) (sym same)
+  | inl same ↦ ap (known_in (set judged slot (Some known))) same ∙ known_kept_there judged slot known (known_within judged slot known.puddles was) ∙ sym was ∙ ap (known_in judged) (sym same)
   | inr other ↦ known_other judged slot i (Some known) other
 ]
 
@@ -109,7 +109,7 @@ KnowsPools-none F n image = record { judged = AreJudged-none F n image; open_poo
 -- some more are judged
 pub KnowsPools-read : (F : ℕ) (judged next : List (Option Known)) (opens : Opens) (image : Image) → AreJudged F next image
     → ((slot : ℕ) (at : List (ℕ × Puddle)) → known_in judged slot ≡ Some at → known_in next slot ≡ Some at) → KnowsPools F judged opens image → KnowsPools F next opens image
-KnowsPools-read F judged next opens image right kept knows = record { judged = right; open_pools = λ number o there. kept o.pool.slot o.pool.at (knows.open_pools number o there) }
+KnowsPools-read F judged next opens image right kept knows = record { judged = right; open_pools = λ number o there. kept o.pool.slot o.pool.puddles (knows.open_pools number o there) }
 
 -- no transaction is open on the pool in the slot
 abbrev pub IsShut : Opens → (slot : ℕ) → Type 0
@@ -135,17 +135,17 @@ pub KnowsPools-dropped : (F slot : ℕ) (judged : List (Option Known)) (opens : 
     → KnowsPools F judged opens before → KnowsPools F (set judged slot None) opens after
 KnowsPools-dropped F slot judged opens before after shut keeps knows =
     let less = KnowsPools-forgotten F slot judged opens before shut knows in
-    record { judged = AreJudged-but F slot (set judged slot None) before after keeps (ap (option_map (λ (k : Known). k.at)) (nothing_there judged slot)) less.judged; open_pools = less.open_pools }
+    record { judged = AreJudged-but F slot (set judged slot None) before after keeps (ap (option_map (λ (k : Known). k.puddles)) (nothing_there judged slot)) less.judged; open_pools = less.open_pools }
 
 -- ---- a transaction begins, goes on and ends
 
 -- its pool has a graph, and this is known of it then; each other stays
-pub AreJudged-own : (F slot : ℕ) (judged : List (Option Known)) (known : Known) (before after : Image) → KeepsPools F (Some slot) before after → HasGraphIn F slot after known.at → IsKnown F after known
+pub AreJudged-own : (F slot : ℕ) (judged : List (Option Known)) (known : Known) (before after : Image) → KeepsPools F (Some slot) before after → HasGraphIn F slot after known.puddles → IsKnown F after known
     → AreJudged F judged before → AreJudged F (set judged slot (Some known)) after
 AreJudged-own F slot judged known before after keeps has is are =
-    let none = ap (option_map (λ (k : Known). k.at)) (nothing_there judged slot) in
+    let none = ap (option_map (λ (k : Known). k.puddles)) (nothing_there judged slot) in
     let less = AreJudged-but F slot (set judged slot None) before after keeps none (AreJudged-forgotten F judged slot before are) in
-    subst (λ (js : List (Option Known)). AreJudged F js after) (set-set judged slot None (Some known)) (AreJudged-set F (set judged slot None) slot known after (graph_from F slot after known.at has) is less)
+    subst (λ (js : List (Option Known)). AreJudged F js after) (set-set judged slot None (Some known)) (AreJudged-set F (set judged slot None) slot known after (graph_from F slot after known.puddles has) is less)
 
 -- one of those that are open, and the others as they were
 each_opened : (number : ℕ) (one : OpenTransaction) (others opens : Opens) → IsOneMore number one others opens → (P : OpenTransaction → Type 0) → P one
@@ -157,28 +157,28 @@ each_opened number one others opens more P its each m o there = elim (cases_eq m
 
 -- one more is open, on a pool that is known
 pub KnowsPools-begun : (F : ℕ) (judged : List (Option Known)) (number : ℕ) (one : OpenTransaction) (others opens : Opens) (before after : Image) → IsOneMore number one others opens
-    → KeepsPools F None before after → known_in judged one.pool.slot ≡ Some one.pool.at → KnowsPools F judged others before → KnowsPools F judged opens after
+    → KeepsPools F None before after → known_in judged one.pool.slot ≡ Some one.pool.puddles → KnowsPools F judged others before → KnowsPools F judged opens after
 KnowsPools-begun F judged number one others opens before after more keeps known knows = record {
   judged = AreJudged-all F judged before after keeps knows.judged;
-  open_pools = each_opened number one others opens more (λ o. known_in judged o.pool.slot ≡ Some o.pool.at) known knows.open_pools;
+  open_pools = each_opened number one others opens more (λ o. known_in judged o.pool.slot ≡ Some o.pool.puddles) known knows.open_pools;
 }
 
 -- one goes on, on the same puddles or on more, on which no other is open: its pool has a graph, and this is known of it then
 pub KnowsPools-grown : (F : ℕ) (judged : List (Option Known)) (number : ℕ) (one more : OpenTransaction) (others opens then : Opens) (known : Known) (before after : Image) → IsOneMore number one others opens
-    → IsOneMore number more others then → more.pool.slot ≡ one.pool.slot → known.at ≡ more.pool.at → IsShut others one.pool.slot → KeepsPools F (Some one.pool.slot) before after
-    → HasGraphIn F one.pool.slot after more.pool.at → IsKnown F after known → KnowsPools F judged opens before → KnowsPools F (set judged one.pool.slot (Some known)) then after
+    → IsOneMore number more others then → more.pool.slot ≡ one.pool.slot → known.puddles ≡ more.pool.puddles → IsShut others one.pool.slot → KeepsPools F (Some one.pool.slot) before after
+    → HasGraphIn F one.pool.slot after more.pool.puddles → IsKnown F after known → KnowsPools F judged opens before → KnowsPools F (set judged one.pool.slot (Some known)) then after
 KnowsPools-grown F judged number one more others opens then known before after was now same puddles shut keeps has is knows =
     let slot : ℕ = one.pool.slot in
     record {
       judged = AreJudged-own F slot judged known before after keeps (subst (HasGraphIn F slot after) (sym puddles) has) is knows.judged;
-      open_pools = each_opened number more others then now (λ o. known_in (set judged slot (Some known)) o.pool.slot ≡ Some o.pool.at)
-          (ap (known_in (set judged slot (Some known))) same ∙ known_kept_there judged slot known (known_within judged slot one.pool.at (knows.open_pools number one was.here)) ∙ ap (λ (at : List (ℕ × Puddle)). Some at) puddles)
+      open_pools = each_opened number more others then now (λ o. known_in (set judged slot (Some known)) o.pool.slot ≡ Some o.pool.puddles)
+          (ap (known_in (set judged slot (Some known))) same ∙ known_kept_there judged slot known (known_within judged slot one.pool.puddles (knows.open_pools number one was.here)) ∙ ap (λ (at : List (ℕ × Puddle)). Some at) puddles)
           (λ m o there. known_other judged slot o.pool.slot (Some known) (shut m o there) ∙ knows.open_pools m o (was.same m (λ here. none-some o (sym was.none ∙ ap others (sym here) ∙ there)) ∙ there));
     }
 
 -- one of all ends, on the same puddles: its pool has a graph, and this is known of it then
-pub KnowsPools-ended : (F : ℕ) (judged : List (Option Known)) (number : ℕ) (one : OpenTransaction) (others opens : Opens) (known : Known) (before after : Image) → IsOneMore number one others opens → known.at ≡ one.pool.at
-    → KeepsPools F (Some one.pool.slot) before after → HasGraphIn F one.pool.slot after one.pool.at → IsKnown F after known → KnowsPools F judged opens before → KnowsPools F (set judged one.pool.slot (Some known)) others after
+pub KnowsPools-ended : (F : ℕ) (judged : List (Option Known)) (number : ℕ) (one : OpenTransaction) (others opens : Opens) (known : Known) (before after : Image) → IsOneMore number one others opens → known.puddles ≡ one.pool.puddles
+    → KeepsPools F (Some one.pool.slot) before after → HasGraphIn F one.pool.slot after one.pool.puddles → IsKnown F after known → KnowsPools F judged opens before → KnowsPools F (set judged one.pool.slot (Some known)) others after
 KnowsPools-ended F judged number one others opens known before after more puddles keeps has is knows =
     let was = knows.open_pools number one more.here ∙ ap (λ (at : List (ℕ × Puddle)). Some at) (sym puddles) in
     record {
@@ -190,8 +190,8 @@ KnowsPools-ended F judged number one others opens known before after more puddle
     }
 
 -- one goes on, on the same puddles
-pub KnowsPools-later : (F : ℕ) (judged : List (Option Known)) (number : ℕ) (one : OpenTransaction) (opens : Opens) (known : Known) (before after : Image) → opens number ≡ Some one → known.at ≡ one.pool.at
-    → KeepsPools F (Some one.pool.slot) before after → HasGraphIn F one.pool.slot after one.pool.at → IsKnown F after known → KnowsPools F judged opens before → KnowsPools F (set judged one.pool.slot (Some known)) opens after
+pub KnowsPools-later : (F : ℕ) (judged : List (Option Known)) (number : ℕ) (one : OpenTransaction) (opens : Opens) (known : Known) (before after : Image) → opens number ≡ Some one → known.puddles ≡ one.pool.puddles
+    → KeepsPools F (Some one.pool.slot) before after → HasGraphIn F one.pool.slot after one.pool.puddles → IsKnown F after known → KnowsPools F judged opens before → KnowsPools F (set judged one.pool.slot (Some known)) opens after
 KnowsPools-later F judged number one opens known before after there puddles keeps has is knows =
     let was = knows.open_pools number one there ∙ ap (λ (at : List (ℕ × Puddle)). Some at) (sym puddles) in
     record {
@@ -200,10 +200,10 @@ KnowsPools-later F judged number one opens known before after there puddles keep
     }
 
 -- more is known of a pool, or less, and its puddles are known still
-pub KnowsPools-anew : (F slot : ℕ) (judged : List (Option Known)) (opens : Opens) (known : Known) (image : Image) → known_in judged slot ≡ Some known.at → IsKnown F image known → KnowsPools F judged opens image
+pub KnowsPools-anew : (F slot : ℕ) (judged : List (Option Known)) (opens : Opens) (known : Known) (image : Image) → known_in judged slot ≡ Some known.puddles → IsKnown F image known → KnowsPools F judged opens image
     → KnowsPools F (set judged slot (Some known)) opens image
 KnowsPools-anew F slot judged opens known image was is knows = record {
-  judged = AreJudged-set F judged slot known image (knows.judged.each slot known.at was) is knows.judged;
+  judged = AreJudged-set F judged slot known image (knows.judged.each slot known.puddles was) is knows.judged;
   open_pools = λ m o here. known_again judged slot known was o.pool.slot ∙ knows.open_pools m o here;
 }
 
@@ -213,32 +213,32 @@ module _ (w : World) (h : Held) (mask : Write) (old new : State) (is : IsHeld w 
   F = w.stored.frames
 
   -- its log is a client's
-  pub held_log : IsLogBeside F h.tx.log.at
+  pub held_log : IsLogBeside F h.tx.log.gate_at
   held_log = subst (IsLogBeside F) (sym is.gate) (log_beside F h.log_number is.pool.known)
 
-  module _ (c : Changes (ByTransaction (pool_ground F (finished_of is.at)) h.tx.log.at) None old new) where
+  module _ (c : Changes (ByTransaction (pool_ground F (finished_of is.puddles)) h.tx.log.gate_at) None old new) where
     -- words of it are set
     pub KeepsPools-held : KeepsPools F (Some h.slot) (reads old.now.words) (reads new.now.words)
-    KeepsPools-held = KeepsPools-within F h.slot h.tx.log.at (finished_of is.at) old new held_log (puddles_still w h mask old.now.words is).each c
+    KeepsPools-held = KeepsPools-within F h.slot h.tx.log.gate_at (finished_of is.puddles) old new held_log (puddles_still w h mask old.now.words is).each c
 
     -- what its pool has then
-    pub graph_held_in : (g : Graph) → types_of (reads old.now.words) ≡ w.stored.types → puddles_in_turn (tables_of F (reads old.now.words)) h.slot ≡ is.at
-        → graph_of w.stored.types (stored_in F is.at (reads new.now.words)) ≡ Some g → HasGraphIn F h.slot (reads new.now.words) is.at
+    pub graph_held_in : (g : Graph) → types_of (reads old.now.words) ≡ w.stored.types → puddles_in_turn (tables_of F (reads old.now.words)) h.slot ≡ is.puddles
+        → graph_of w.stored.types (stored_in F is.puddles (reads new.now.words)) ≡ Some g → HasGraphIn F h.slot (reads new.now.words) is.puddles
     graph_held_in g types turn stored =
         let members = (puddles_still w h mask old.now.words is).each in
         record {
           graph = g;
-          turn = turn_within F h.slot h.tx.log.at (finished_of is.at) old new held_log members c ∙ turn;
-          stored = ap (λ ts. graph_of ts (stored_in F is.at (reads new.now.words))) (types_within F h.slot h.tx.log.at (finished_of is.at) old new held_log members c ∙ types) ∙ stored;
+          turn = turn_within F h.slot h.tx.log.gate_at (finished_of is.puddles) old new held_log members c ∙ turn;
+          stored = ap (λ ts. graph_of ts (stored_in F is.puddles (reads new.now.words))) (types_within F h.slot h.tx.log.gate_at (finished_of is.puddles) old new held_log members c ∙ types) ∙ stored;
         }
 
     -- and the words that rest of a pool in another slot do so still
     pub rest_held : (slot : ℕ) (at : List (ℕ × Puddle)) (before : Image) → h.slot ≢ slot → HasGraphIn F slot (reads old.now.words) at → RestsAs F at before old.now.words → RestsAs F at before new.now.words
     rest_held slot at before apart has rests = record {
       each = λ k mine other.
-          HasOnly-kept (ByTransaction (pool_ground F (finished_of is.at)) h.tx.log.at) None old new k (before k) c
+          HasOnly-kept (ByTransaction (pool_ground F (finished_of is.puddles)) h.tx.log.gate_at) None old new k (before k) c
           (λ v wrote.
-          others_apart F h.slot h.tx.log.at (finished_of is.at) old new held_log (puddles_still w h mask old.now.words is).each c slot k v apart wrote
+          others_apart F h.slot h.tx.log.gate_at (finished_of is.puddles) old new held_log (puddles_still w h mask old.now.words is).each c slot k v apart wrote
           (own_word F slot (reads old.now.words) k (ap (λ (puddles : List (ℕ × Puddle)). pool_mine F puddles k) has.turn ∙ mine)))
           (rests.each k mine other);
     }

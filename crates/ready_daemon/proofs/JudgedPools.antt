@@ -206,7 +206,7 @@ module _ (F : ℕ) (but : Option ℕ) (old new : State) (puts : List Put) (frame
             then.words slot at (λ same. other slot at apart has (sym (same_Some r.pool slot same))) (filled.each slot at (λ no. none-some slot no) has) k mine
             ∙ filled.words slot at (λ no. none-some slot no) has k mine;
         known = λ slot known apart has is.
-            then.known slot known (λ same. other slot known.at apart has (sym (same_Some r.pool slot same))) (filled.each slot known.at (λ no. none-some slot no) has) (filled.known slot known (λ no. none-some slot no) has is);
+            then.known slot known (λ same. other slot known.puddles apart has (sym (same_Some r.pool slot same))) (filled.each slot known.puddles (λ no. none-some slot no) has) (filled.known slot known (λ no. none-some slot no) has is);
       }
 
   -- a puddle more, of none of the pools that are to stay

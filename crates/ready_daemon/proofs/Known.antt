@@ -19,7 +19,7 @@ none_pool_in n slot = elim (cases_lt slot n) [
 ]
 
 pub none_known_in : (n slot : ℕ) → known_in (replicate n None) slot ≡ None
-none_known_in n slot = ap (option_map (λ (k : Known). k.at)) (none_pool_in n slot)
+none_known_in n slot = ap (option_map (λ (k : Known). k.puddles)) (none_pool_in n slot)
 
 pub none_known : (n slot : ℕ) (here : List (ℕ × Puddle)) → known_in (replicate n None) slot ≡ Some here → ⊥
 none_known n slot here is = none-some here (sym (none_known_in n slot) ∙ is)
@@ -38,11 +38,11 @@ pub pool_other : (judged : List (Option Known)) (slot i : ℕ) (put : Option Kno
 pool_other judged slot i put other = get_or-set_other judged slot i put None other
 
 -- the same of the puddles
-pub known_kept_there : (judged : List (Option Known)) (slot : ℕ) (known : Known) → slot < length judged → known_in (set judged slot (Some known)) slot ≡ Some known.at
-known_kept_there judged slot known within = ap (option_map (λ (k : Known). k.at)) (pool_kept judged slot (Some known) within)
+pub known_kept_there : (judged : List (Option Known)) (slot : ℕ) (known : Known) → slot < length judged → known_in (set judged slot (Some known)) slot ≡ Some known.puddles
+known_kept_there judged slot known within = ap (option_map (λ (k : Known). k.puddles)) (pool_kept judged slot (Some known) within)
 
 pub known_other : (judged : List (Option Known)) (slot i : ℕ) (put : Option Known) → i ≢ slot → known_in (set judged slot put) i ≡ known_in judged i
-known_other judged slot i put other = ap (option_map (λ (k : Known). k.at)) (pool_other judged slot i put other)
+known_other judged slot i put other = ap (option_map (λ (k : Known). k.puddles)) (pool_other judged slot i put other)
 
 -- what was put in the slot, or was known before, where it is known
 pool_from : (judged : List (Option Known)) (slot : ℕ) (put : Option Known) (P : ℕ → Known → Type 0) → ((known : Known) → put ≡ Some known → P slot known) → ((i : ℕ) (known : Known) → pool_in judged i ≡ Some known → P i known)
@@ -56,30 +56,30 @@ pool_from judged slot put P kept before i known is = elim (cases_eq i slot) [
 ]
 
 -- where puddles are known, they are known alone once the rest is forgotten
-alone_by : (o : Option Known) (at : List (ℕ × Puddle)) → option_map (λ (k : Known). k.at) o ≡ Some at → option_map (λ (k : Known). by_puddles k.at) o ≡ Some (by_puddles at)
+alone_by : (o : Option Known) (at : List (ℕ × Puddle)) → option_map (λ (k : Known). k.puddles) o ≡ Some at → option_map (λ (k : Known). by_puddles k.puddles) o ≡ Some (by_puddles at)
 alone_by None at none = absurd (none-some at none)
-alone_by (Some known) at is = ap (λ (ps : List (ℕ × Puddle)). Some (by_puddles ps)) (same_Some known.at at is)
+alone_by (Some known) at is = ap (λ (ps : List (ℕ × Puddle)). Some (by_puddles ps)) (same_Some known.puddles at is)
 
 pub alone_in-known : (judged : List (Option Known)) (slot : ℕ) (at : List (ℕ × Puddle)) → known_in judged slot ≡ Some at → alone_in slot judged ≡ set judged slot (Some (by_puddles at))
 alone_in-known judged slot at is = ap (set judged slot) (alone_by (pool_in judged slot) at is)
 
 -- what is known of a pool's puddles is known of the pool
-pool_of_known : (judged : List (Option Known)) (slot : ℕ) (at : List (ℕ × Puddle)) → known_in judged slot ≡ Some at → (known : Known) × ((pool_in judged slot ≡ Some known) × (known.at ≡ at))
-pool_of_known judged slot at is = let of = option_map_parts (λ (k : Known). k.at) (pool_in judged slot) at is in (of.value, (of.is, of.gives))
+pool_of_known : (judged : List (Option Known)) (slot : ℕ) (at : List (ℕ × Puddle)) → known_in judged slot ≡ Some at → (known : Known) × ((pool_in judged slot ≡ Some known) × (known.puddles ≡ at))
+pool_of_known judged slot at is = let of = option_map_parts (λ (k : Known). k.puddles) (pool_in judged slot) at is in (of.value, (of.is, of.gives))
 
 -- the same of its puddles alone
-known_from : (judged : List (Option Known)) (slot : ℕ) (put : Option Known) (P : ℕ → List (ℕ × Puddle) → Type 0) → ((known : Known) → put ≡ Some known → P slot known.at)
+known_from : (judged : List (Option Known)) (slot : ℕ) (put : Option Known) (P : ℕ → List (ℕ × Puddle) → Type 0) → ((known : Known) → put ≡ Some known → P slot known.puddles)
     → ((i : ℕ) (here : List (ℕ × Puddle)) → known_in judged i ≡ Some here → P i here) → (i : ℕ) (here : List (ℕ × Puddle)) → known_in (set judged slot put) i ≡ Some here → P i here
 known_from judged slot put P kept before i here is =
     let of = pool_of_known (set judged slot put) i here is in
-    subst (P i) of.1.1 (pool_from judged slot put (λ j known. P j known.at) kept (λ j known was. before j known.at (ap (option_map (λ (k : Known). k.at)) was)) i of.0 of.1.0)
+    subst (P i) of.1.1 (pool_from judged slot put (λ j known. P j known.puddles) kept (λ j known was. before j known.puddles (ap (option_map (λ (k : Known). k.puddles)) was)) i of.0 of.1.0)
 
 -- of a pool this is kept, wherever that is
-pub AreOnDevice-put : (F : ℕ) (judged : List (Option Known)) (slot : ℕ) (known : Known) → IsOnDevice F known.at → AreOnDevice F judged → AreOnDevice F (set judged slot (Some known))
+pub AreOnDevice-put : (F : ℕ) (judged : List (Option Known)) (slot : ℕ) (known : Known) → IsOnDevice F known.puddles → AreOnDevice F judged → AreOnDevice F (set judged slot (Some known))
 AreOnDevice-put F judged slot known kept before =
     record { each = known_from judged slot (Some known) (λ i here. IsOnDevice F here) (λ k is. subst (λ (x : Known). IsOnDevice F x.at) (same_Some known k is) kept) before.each }
 
-pub AreJudged-set : (F : ℕ) (judged : List (Option Known)) (slot : ℕ) (known : Known) (image : Image) → puddles_with_graph F image slot ≡ Some known.at → IsKnown F image known → AreJudged F judged image
+pub AreJudged-set : (F : ℕ) (judged : List (Option Known)) (slot : ℕ) (known : Known) (image : Image) → puddles_with_graph F image slot ≡ Some known.puddles → IsKnown F image known → AreJudged F judged image
     → AreJudged F (set judged slot (Some known)) image
 AreJudged-set F judged slot known image has is before = record {
   each = known_from judged slot (Some known) (λ i here. puddles_with_graph F image i ≡ Some here) (λ k same. subst (λ (x : Known). puddles_with_graph F image slot ≡ Some x.at) (same_Some known k same) has) before.each;
@@ -93,7 +93,7 @@ AreOnDevice-forgotten F judged slot before = record { each = known_from judged s
 -- all but its puddles is forgotten
 pub AreOnDevice-alone : (F : ℕ) (judged : List (Option Known)) (slot : ℕ) → AreOnDevice F judged → AreOnDevice F (alone_in slot judged)
 AreOnDevice-alone F judged slot before = record {
-  each = known_from judged slot (option_map (λ (k : Known). by_puddles k.at) (pool_in judged slot)) (λ i here. IsOnDevice F here)
+  each = known_from judged slot (option_map (λ (k : Known). by_puddles k.puddles) (pool_in judged slot)) (λ i here. IsOnDevice F here)
       (λ k is. let of = option_map_parts (λ (x : Known). by_puddles x.at) (pool_in judged slot) k is in
       subst (λ (x : Known). IsOnDevice F x.at) of.gives (before.each slot of.value.at (ap puddles_known of.is)))
       before.each;

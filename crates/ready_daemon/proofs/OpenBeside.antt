@@ -41,7 +41,7 @@ pub record IsOpenHere (w : World) (at : List (ℕ × Puddle)) (image : Image) (n
 
 -- where its own is held
 pub open_here : (w : World) (held : List (Option Held)) (mask : Write) (words : Words) (name : List ℕ) (client number : ℕ) (holds : Holds w held mask words) (own : IsOwn client name number held)
-    → IsOpenHere w (held_is w held mask words holds number own.mine own.is).at (reads words) name client
+    → IsOpenHere w (held_is w held mask words holds number own.mine own.is).puddles (reads words) name client
 open_here w held mask words name client number holds own =
     let is = held_is w held mask words holds number own.mine own.is in
     record {
@@ -73,15 +73,15 @@ module _ (w : World) (held : Held) (mask : Write) (words : Words) (is : IsHeld w
   t = tables_of F now
 
   abbrev p : OpenPool
-  p = pool_held held is.at is.rec is.who
+  p = pool_held held is.puddles is.rec is.who
 
   module _ (slot : ℕ) (r : PoolRec) (used : t.pools slot ≡ Some r) (other : r.name ≢ held.name) where
     -- it does not stand in the slot of the held one
     pub other_slot : slot ≡ held.slot → ⊥
     other_slot same = other (ap (λ (x : PoolRec). x.name) (same_Some r is.rec (sym used ∙ ap t.pools same ∙ used_still w held mask words is)) ∙ is.name)
 
-    not_mine : (k : ℕ) → pool_mine F (puddles_in_turn t slot) k ≡ true → pool_mine F (finished_of is.at) k ≡ false
-    not_mine = puddles_apart F t slot held.slot (puddles_in_turn t slot) (finished_of is.at) (each_in_turn t slot) (puddles_still w held mask words is).each other_slot
+    not_mine : (k : ℕ) → pool_mine F (puddles_in_turn t slot) k ≡ true → pool_mine F (finished_of is.puddles) k ≡ false
+    not_mine = puddles_apart F t slot held.slot (puddles_in_turn t slot) (finished_of is.puddles) (each_in_turn t slot) (puddles_still w held mask words is).each other_slot
 
     not_record : (k : ℕ) (of : Bool) → is_open_record p k ≡ of → pool_mine F (puddles_in_turn t slot) k ≡ true → of ≡ false
     not_record k false e mine = refl

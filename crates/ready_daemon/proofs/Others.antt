@@ -51,9 +51,9 @@ module _ (w : World) (held : Held) (mask : Write) (words : Words) (is : IsHeld w
   F = w.stored.frames
 
   abbrev p : OpenPool
-  p = pool_held held is.at is.rec is.who
+  p = pool_held held is.puddles is.rec is.who
 
-  on_device : IsOnDevice F (finished_of is.at)
+  on_device : IsOnDevice F (finished_of is.puddles)
   on_device = open_on_device F p is.before is.pool
 
   -- its logs are others
@@ -67,14 +67,14 @@ module _ (w : World) (held : Held) (mask : Write) (words : Words) (is : IsHeld w
       let inside : IsInLog (log_number_at F (CLIENT_LOGS * client + gate.0.number)) k = record { low = omega arith; high = omega arith } in
       mask_of_others F p is.before k
       (other_log_apart F held.log_number (CLIENT_LOGS * client + gate.0.number) k (other_number gate.0.number below) inside)
-      (mine_behind F (finished_of is.at) k (omega arith))
+      (mine_behind F (finished_of is.puddles) k (omega arith))
       (false_from_ne_true (is_open_record p k) (λ of. let place = open_record_place F p k is.pool.slot is.pool.known on_device of in let high = place.high in absurd (omega arith)))
 
   -- and so is its record
   record_unmasked : (k : ℕ) → space_record_at client ≤ k → k < space_record_at (client + 1) → is_open_record p k ≡ false
   unfolding is_open_record
   record_unmasked k low high = false_from_ne_true (is_open_record p k) (λ of.
-      elim (or_cases (is_in_pool_record p.slot k || is_in_space_record (client_of_log p.log_number) k) (list_any (is_in_puddle_record k) (finished_of p.at)) of) [
+      elim (or_cases (is_in_pool_record p.slot k || is_in_space_record (client_of_log p.log_number) k) (list_any (is_in_puddle_record k) (finished_of p.puddles)) of) [
         | inl first ↦ elim (or_cases (is_in_pool_record p.slot k) (is_in_space_record (client_of_log p.log_number) k) first) [
           | inl pool ↦
               let slot = is.pool.slot in
@@ -89,7 +89,7 @@ module _ (w : World) (held : Held) (mask : Write) (words : Words) (is : IsHeld w
               absurd (other (omega arith))
         ]
         | inr puddle ↦
-            let found = any_element (is_in_puddle_record k) (finished_of p.at) puddle in
+            let found = any_element (is_in_puddle_record k) (finished_of p.puddles) puddle in
             let parts = and_parts (leb (puddle_record_at found.element.0) k) (ltb k (puddle_record_at (found.element.0 + 1))) found.passes in
             let from = leb-true _ _ parts.0 in
             absurd (omega arith)
@@ -97,7 +97,7 @@ module _ (w : World) (held : Held) (mask : Write) (words : Words) (is : IsHeld w
 
   space_unmasked : (k : ℕ) → space_record_at client ≤ k → k < space_record_at (client + 1) → open_mask F p is.before k ≡ None
   space_unmasked k low high =
-      mask_of_others F p is.before k (outside_log (log_number_at F held.log_number) k (inl (omega arith))) (mine_behind F (finished_of is.at) k (omega arith)) (record_unmasked k low high)
+      mask_of_others F p is.before k (outside_log (log_number_at F held.log_number) k (inl (omega arith))) (mine_behind F (finished_of is.puddles) k (omega arith)) (record_unmasked k low high)
 
   batch_unmasked : (vals : List ℕ) → length vals ≤ SPACE_RECORD_WORDS → (k v : ℕ) → ByBatch DAEMON_LOG (record_batch client vals) k v → open_mask F p is.before k ≡ None
   batch_unmasked vals few k v (inl log) = let high = log.high in mask_below F p is.before is.pool.slot is.pool.known on_device k (omega arith)

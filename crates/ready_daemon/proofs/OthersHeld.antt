@@ -50,7 +50,7 @@ module _ (w : World) (list : List (Option Held)) (mask : Write) (old : State) (h
   its = holds.each number held there
 
   abbrev own : OpenTransaction
-  own = open_held held its.is.at its.is.rec its.is.who its.is.before
+  own = open_held held its.is.puddles its.is.rec its.is.who its.is.before
 
   abbrev others : Opens
   others = with_transaction number None holds.opens
@@ -109,10 +109,10 @@ module _ (w : World) (list : List (Option Held)) (mask : Write) (old : State) (h
       | inr apart ↦ sym (one_of_all.same m apart) ∙ holds.none m (sym (held_there list number None m apart) ∙ e)
     ]
 
-    module _ (new : State) (c : Changes (ByTransaction (pool_ground F (finished_of its.is.at)) held.tx.log.at) None old new)
-        (rests : (m : ℕ) (h : Held) (was : held_under list m ≡ Some h) → m ≢ number → RestsAs F (holds.each m h was).is.at (holds.each m h was).is.before new.now.words) where
+    module _ (new : State) (c : Changes (ByTransaction (pool_ground F (finished_of its.is.puddles)) held.tx.log.gate_at) None old new)
+        (rests : (m : ℕ) (h : Held) (was : held_under list m ≡ Some h) → m ≢ number → RestsAs F (holds.each m h was).is.puddles (holds.each m h was).is.before new.now.words) where
       abbrev may : Footprint
-      may = ByTransaction (pool_ground F (finished_of its.is.at)) held.tx.log.at
+      may = ByTransaction (pool_ground F (finished_of its.is.puddles)) held.tx.log.gate_at
 
       pub under_still : (m : ℕ) (h : Held) → held_under (set list number None) m ≡ Some h → IsHeldUnder next others (open_masks F others) new.now.words m h
       under_still m h e =
@@ -120,7 +120,7 @@ module _ (w : World) (list : List (Option Held)) (mask : Write) (old : State) (h
           let u = holds.each m h a.was in
           let opened = sym (one_of_all.same m a.apart) ∙ u.opened in
           still_under w next h mask (open_masks F others) old new u.is (keeps_other m h a) may (own_apart w list mask old.now.words holds number m held h there a.was (λ same. a.apart (sym same))) c
-          (others_mask.has m (open_held h u.is.at u.is.rec u.is.who u.is.before) opened) (rests m h a.was a.apart) others m u.number_is opened
+          (others_mask.has m (open_held h u.is.puddles u.is.rec u.is.who u.is.before) opened) (rests m h a.was a.apart) others m u.number_is opened
 
       abbrev pub holds_others : Holds next (set list number None) (open_masks F others) new.now.words
       holds_others = record {

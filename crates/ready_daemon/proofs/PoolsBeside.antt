@@ -43,10 +43,10 @@ record IsOfPuddle (at : List (ℕ × Puddle)) (k : ℕ) : Type 0 where
 
 -- a word of a record of a transaction is one of its pool's, of its client's, or of a puddle's
 open_record_of : (p : OpenPool) (k : ℕ) → is_open_record p k ≡ true
-    → IsWithin (pool_record_at p.slot) (pool_record_at (p.slot + 1)) k ⊎ (IsWithin (space_record_at (client_of_log p.log_number)) (space_record_at (client_of_log p.log_number + 1)) k ⊎ IsOfPuddle (finished_of p.at) k)
+    → IsWithin (pool_record_at p.slot) (pool_record_at (p.slot + 1)) k ⊎ (IsWithin (space_record_at (client_of_log p.log_number)) (space_record_at (client_of_log p.log_number + 1)) k ⊎ IsOfPuddle (finished_of p.puddles) k)
 unfolding is_open_record
 open_record_of p k is =
-    elim (or_cases (is_in_pool_record p.slot k || is_in_space_record (client_of_log p.log_number) k) (list_any (is_in_puddle_record k) (finished_of p.at)) is) [
+    elim (or_cases (is_in_pool_record p.slot k || is_in_space_record (client_of_log p.log_number) k) (list_any (is_in_puddle_record k) (finished_of p.puddles)) is) [
       | inl first ↦ elim (or_cases (is_in_pool_record p.slot k) (is_in_space_record (client_of_log p.log_number) k) first) [
         | inl pool ↦
             let parts = and_parts (leb (pool_record_at p.slot) k) (ltb k (pool_record_at (p.slot + 1))) pool in
@@ -56,7 +56,7 @@ open_record_of p k is =
             inr (inl (record { low = leb-true _ _ parts.0; high = ltb-true _ _ parts.1 }))
       ]
       | inr puddle ↦
-          let found = any_element (is_in_puddle_record k) (finished_of p.at) puddle in
+          let found = any_element (is_in_puddle_record k) (finished_of p.puddles) puddle in
           let parts = and_parts (leb (puddle_record_at found.element.0) k) (ltb k (puddle_record_at (found.element.0 + 1))) found.passes in
           inr (inr (record { index = found.index; element = found.element; there = found.there; within = record { low = leb-true _ _ parts.0; high = ltb-true _ _ parts.1 } }))
     ]
@@ -64,21 +64,21 @@ open_record_of p k is =
 of_pool_record : (p : OpenPool) (k : ℕ) → pool_record_at p.slot ≤ k → k < pool_record_at (p.slot + 1) → is_open_record p k ≡ true
 unfolding is_open_record
 of_pool_record p k low high =
-    or_left (is_in_pool_record p.slot k || is_in_space_record (client_of_log p.log_number) k) (list_any (is_in_puddle_record k) (finished_of p.at))
+    or_left (is_in_pool_record p.slot k || is_in_space_record (client_of_log p.log_number) k) (list_any (is_in_puddle_record k) (finished_of p.puddles))
     (or_left (is_in_pool_record p.slot k) (is_in_space_record (client_of_log p.log_number) k) (and_from (leb (pool_record_at p.slot) k) (ltb k (pool_record_at (p.slot + 1))) (le-leb _ _ low) (lt-ltb _ _ high)))
 
-of_puddle_record : (p : OpenPool) (k o : ℕ) (e : ℕ × Puddle) → slice_get (finished_of p.at) o ≡ Some e → puddle_record_at e.0 ≤ k → k < puddle_record_at (e.0 + 1) → is_open_record p k ≡ true
+of_puddle_record : (p : OpenPool) (k o : ℕ) (e : ℕ × Puddle) → slice_get (finished_of p.puddles) o ≡ Some e → puddle_record_at e.0 ≤ k → k < puddle_record_at (e.0 + 1) → is_open_record p k ≡ true
 unfolding is_open_record
 of_puddle_record p k o e there low high =
-    or_right (is_in_pool_record p.slot k || is_in_space_record (client_of_log p.log_number) k) (list_any (is_in_puddle_record k) (finished_of p.at))
-    (element_passes (is_in_puddle_record k) (finished_of p.at) o e there (and_from (leb (puddle_record_at e.0) k) (ltb k (puddle_record_at (e.0 + 1))) (le-leb _ _ low) (lt-ltb _ _ high)))
+    or_right (is_in_pool_record p.slot k || is_in_space_record (client_of_log p.log_number) k) (list_any (is_in_puddle_record k) (finished_of p.puddles))
+    (element_passes (is_in_puddle_record k) (finished_of p.puddles) o e there (and_from (leb (puddle_record_at e.0) k) (ltb k (puddle_record_at (e.0 + 1))) (le-leb _ _ low) (lt-ltb _ _ high)))
 
 module _ (w : World) (held : Held) (mask : Write) (words : Words) (is : IsHeld w held mask words) where
   abbrev F : ℕ
   F = w.stored.frames
 
   abbrev p : OpenPool
-  p = pool_held held is.at is.rec is.who
+  p = pool_held held is.puddles is.rec is.who
 
   abbrev now : Tables
   now = tables_of F (reads words)
@@ -86,7 +86,7 @@ module _ (w : World) (held : Held) (mask : Write) (words : Words) (is : IsHeld w
   -- a word of the tables that is none of its records
   not_record : (k : ℕ) → k < tables_end F → (is_open_record p k ≡ true → ⊥) → open_mask F p is.before k ≡ None
   not_record k below never =
-      mask_of_others F p is.before k (outside_log (log_number_at F held.log_number) k (inl (omega arith))) (mine_behind F (finished_of is.at) k (omega arith)) (false_from_ne_true (is_open_record p k) never)
+      mask_of_others F p is.before k (outside_log (log_number_at F held.log_number) k (inl (omega arith))) (mine_behind F (finished_of is.puddles) k (omega arith)) (false_from_ne_true (is_open_record p k) never)
 
   -- its record is read as it was
   pub used_still : now.pools held.slot ≡ Some is.rec
@@ -95,16 +95,16 @@ module _ (w : World) (held : Held) (mask : Write) (words : Words) (is : IsHeld w
       ∙ sym (pools_below F is.before held.slot is.pool.slot) ∙ is.pool.used
 
   -- and so are those of its finished puddles
-  pub puddles_still : ArePuddlesOf now held.slot (finished_of is.at)
+  pub puddles_still : ArePuddlesOf now held.slot (finished_of is.puddles)
   puddles_still =
-      ArePuddlesOf-same (tables_of F is.before) now held.slot (finished_of is.at) (frames_of_tables F is.before ∙ sym (frames_of_tables F (reads words)))
+      ArePuddlesOf-same (tables_of F is.before) now held.slot (finished_of is.puddles) (frames_of_tables F is.before ∙ sym (frames_of_tables F (reads words)))
       (λ o e there.
-      let below = all_there (λ (d : ℕ × Puddle). d.0 < F) (finished_of is.at) o e (open_on_device F p is.before is.pool).frames there in
+      let below = all_there (λ (d : ℕ × Puddle). d.0 < F) (finished_of is.puddles) o e (open_on_device F p is.before is.pool).frames there in
       puddles_below F (reads words) e.0 below ∙ puddle_at-same (reads words) is.before e.0 (λ k low high. is.records k (of_puddle_record p k o e there low high)) ∙ sym (puddles_below F is.before e.0 below))
       is.pool.puddles
 
   -- a frame that is none of its finished puddles'
-  not_its_own : (frame : ℕ) → is_of_pool held.slot (now.puddles frame) ≡ false → (o : ℕ) (e : ℕ × Puddle) → slice_get (finished_of is.at) o ≡ Some e → frame ≡ e.0 → ⊥
+  not_its_own : (frame : ℕ) → is_of_pool held.slot (now.puddles frame) ≡ false → (o : ℕ) (e : ℕ × Puddle) → slice_get (finished_of is.puddles) o ≡ Some e → frame ≡ e.0 → ⊥
   not_its_own frame other o e there same =
       let m = puddles_still.each o e there in
       let of : is_of_pool held.slot (now.puddles frame) ≡ true = ap (λ n. is_of_pool held.slot (now.puddles n)) same ∙ ap (is_of_pool held.slot) m.used ∙ eq-eqb m.member.pool (held.slot + 1) m.pool in
@@ -121,14 +121,14 @@ module _ (w : World) (held : Held) (mask : Write) (words : Words) (is : IsHeld w
 
   -- no finished puddle of it lies in the frame
   abbrev IsNoneOfIts : (frame : ℕ) → Type 0
-  IsNoneOfIts frame = (o : ℕ) (e : ℕ × Puddle) → slice_get (finished_of is.at) o ≡ Some e → frame ≡ e.0 → ⊥
+  IsNoneOfIts frame = (o : ℕ) (e : ℕ × Puddle) → slice_get (finished_of is.puddles) o ≡ Some e → frame ≡ e.0 → ⊥
 
   -- nor does one lie in that of a puddle in which steps are left
   moving_apart : (frame : ℕ) (m : Member) → now.puddles frame ≡ Some m → (m.puddle.frontier ≡ steps_of m.puddle → ⊥) → IsNoneOfIts frame
   moving_apart frame m used moving o e there same =
       let of = puddles_still.each o e there in
       let one : of.member ≡ m = same_Some of.member m (sym of.used ∙ sym (ap now.puddles same) ∙ used) in
-      let s = stood is_finished is.at o e there in
+      let s = stood is_finished is.puddles o e there in
       let puddle : m.puddle ≡ e.1 = sym (ap (λ (x : Member). x.puddle) one) ∙ of.puddle in
       moving (subst (λ (d : Puddle). d.frontier ≡ steps_of d) (sym puddle) (eqb-true e.1.frontier (steps_of e.1) s.passes))
 
@@ -149,15 +149,15 @@ module _ (w : World) (held : Held) (mask : Write) (words : Words) (is : IsHeld w
       let few = is.pool.known in
       let slot = is.pool.slot in
       mask_of_others F p is.before k (outside_log (log_number_at F held.log_number) k (inr (omega arith)))
-      (false_from_ne_true (pool_mine F (finished_of is.at) k) (λ mine.
-      let m = pool_mine-each F (finished_of is.at) k mine in
+      (false_from_ne_true (pool_mine F (finished_of is.puddles) k) (λ mine.
+      let m = pool_mine-each F (finished_of is.puddles) k mine in
       let from = m.low in let to = m.high in
       other m.ordinal m.puddle m.there (omega arith)))
       (false_from_ne_true (is_open_record p k) (λ of. elim (open_record_of p k of) [
         | inl pool ↦ let to = pool.high in absurd (omega arith)
         | inr (inl space) ↦ let to = space.high in absurd (omega arith)
         | inr (inr puddle) ↦
-            let frames = all_there (λ (d : ℕ × Puddle). d.0 < F) (finished_of is.at) puddle.index puddle.element (open_on_device F p is.before is.pool).frames puddle.there in
+            let frames = all_there (λ (d : ℕ × Puddle). d.0 < F) (finished_of is.puddles) puddle.index puddle.element (open_on_device F p is.before is.pool).frames puddle.there in
             let to = puddle.within.high in absurd (omega arith)
       ]))
 
@@ -205,7 +205,7 @@ pub one_slot : (w : World) (held : List (Option Held)) (mask : Write) (words : W
 one_slot w held mask words holds n m h g here there same =
     let its = holds.each n h here in
     let others = holds.each m g there in
-    holds.are.slots n m (open_held h its.is.at its.is.rec its.is.who its.is.before) (open_held g others.is.at others.is.rec others.is.who others.is.before) its.opened others.opened same
+    holds.are.slots n m (open_held h its.is.puddles its.is.rec its.is.who its.is.before) (open_held g others.is.puddles others.is.rec others.is.who others.is.before) its.opened others.opened same
 
 -- the record of the slot is used, and has the name
 pub record IsHeldPool (t : Tables) (h : Held) : Type 0 where

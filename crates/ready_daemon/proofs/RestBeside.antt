@@ -29,22 +29,22 @@ module _ (size : ℕ) (w : World) (memory : Memory) (old : State) (ready : IsRea
   is_held = held_is w memory.held ready.mask old.now.words ready.held
 
   -- a pool on which one is held has a graph as it is read
-  pub held_graph : (number : ℕ) (h : Held) (there : held_under memory.held number ≡ Some h) → HasGraphIn w.stored.frames h.slot (reads old.now.words) (is_held number h there).at
+  pub held_graph : (number : ℕ) (h : Held) (there : held_under memory.held number ≡ Some h) → HasGraphIn w.stored.frames h.slot (reads old.now.words) (is_held number h there).puddles
   held_graph number h there =
       let under = ready.held.each number h there in
-      let known = ready.knows.open_pools number (open_held h under.is.at under.is.rec under.is.who under.is.before) under.opened in
-      graph_parts w.stored.frames h.slot (reads old.now.words) under.is.at (ready.knows.judged.each h.slot under.is.at known)
+      let known = ready.knows.open_pools number (open_held h under.is.puddles under.is.rec under.is.who under.is.before) under.opened in
+      graph_parts w.stored.frames h.slot (reads old.now.words) under.is.puddles (ready.knows.judged.each h.slot under.is.puddles known)
 
   -- beside calls that write none of their words, and leave each word that has one value with one
   pub rest_by_words : (new : State)
-      → ((number : ℕ) (h : Held) (there : held_under memory.held number ≡ Some h) (k : ℕ) → pool_mine w.stored.frames (is_held number h there).at k ≡ true → reads new.now.words k ≡ reads old.now.words k)
+      → ((number : ℕ) (h : Held) (there : held_under memory.held number ≡ Some h) (k : ℕ) → pool_mine w.stored.frames (is_held number h there).puddles k ≡ true → reads new.now.words k ≡ reads old.now.words k)
       → StaysSingle old new → RestBehind w memory.held ready.mask old.now.words ready.held new.now.words
   rest_by_words new stay single = record {
     each = λ number h there.
         let is = is_held number h there in
         record {
           each = λ k mine other.
-              let m = pool_mine-each w.stored.frames is.at k mine in
+              let m = pool_mine-each w.stored.frames is.puddles k mine in
               let low = m.low in
               let was = is.running.rests.each k mine other in
               let read : reads new.now.words k ≡ is.before k = stay number h there k mine ∙ HasOnly-newest (old.now.words k) (is.before k) was in
@@ -56,32 +56,32 @@ module _ (size : ℕ) (w : World) (memory : Memory) (old : State) (ready : IsRea
   -- so beside those that leave each of these pools as it is
   pub rest_beside : (but : Option ℕ) (new : State) → ((number : ℕ) (h : Held) → held_under memory.held number ≡ Some h → but ≢ Some h.slot)
       → KeepsPools w.stored.frames but (reads old.now.words) (reads new.now.words) → StaysSingle old new → RestBehind w memory.held ready.mask old.now.words ready.held new.now.words
-  rest_beside but new apart keeps = rest_by_words new (λ number h there k mine. keeps.words h.slot (is_held number h there).at (apart number h there) (held_graph number h there) k mine)
+  rest_beside but new apart keeps = rest_by_words new (λ number h there k mine. keeps.words h.slot (is_held number h there).puddles (apart number h there) (held_graph number h there) k mine)
 
   -- where nothing happened
   pub rest_still : RestBehind w memory.held ready.mask old.now.words ready.held old.now.words
   rest_still = record { each = λ number h there. (is_held number h there).running.rests }
 
   -- what rests of one that is held is masked by none
-  module _ (number : ℕ) (held : Held) (there : held_under memory.held number ≡ Some held) (k : ℕ) (mine : pool_mine w.stored.frames (is_held number held there).at k ≡ true)
-      (other : pool_mine w.stored.frames (finished_of (is_held number held there).at) k ≡ false) where
+  module _ (number : ℕ) (held : Held) (there : held_under memory.held number ≡ Some held) (k : ℕ) (mine : pool_mine w.stored.frames (is_held number held there).puddles k ≡ true)
+      (other : pool_mine w.stored.frames (finished_of (is_held number held there).puddles) k ≡ false) where
     abbrev F : ℕ
     F = w.stored.frames
 
     own : IsOwnWord F held.slot (reads old.now.words) k
     own = own_word F held.slot (reads old.now.words) k (ap (λ (puddles : List (ℕ × Puddle)). pool_mine F puddles k) (held_graph number held there).turn ∙ mine)
 
-    not_mine : (m : ℕ) (h : Held) (was : held_under memory.held m ≡ Some h) → pool_mine F (finished_of (is_held m h was).at) k ≡ false
+    not_mine : (m : ℕ) (h : Held) (was : held_under memory.held m ≡ Some h) → pool_mine F (finished_of (is_held m h was).puddles) k ≡ false
     not_mine m h was = elim (cases_eq m number) [
       | inl same ↦
           let one : h ≡ held = same_Some h held (sym was ∙ ap (held_under memory.held) same ∙ there) in
           let a = held_graph m h was in
           let b = held_graph number held there in
-          let lists : (is_held m h was).at ≡ (is_held number held there).at =
+          let lists : (is_held m h was).puddles ≡ (is_held number held there).puddles =
           sym a.turn ∙ ap (λ (g : Held). puddles_in_turn (tables_of F (reads old.now.words)) g.slot) one ∙ b.turn in
           ap (λ (puddles : List (ℕ × Puddle)). pool_mine F (finished_of puddles) k) lists ∙ other
-      | inr apart ↦ false_from_ne_true (pool_mine F (finished_of (is_held m h was).at) k) (λ its.
-          let word = own_by F h.slot (reads old.now.words) (finished_of (is_held m h was).at) k (puddles_still w h ready.mask old.now.words (is_held m h was)).each its in
+      | inr apart ↦ false_from_ne_true (pool_mine F (finished_of (is_held m h was).puddles) k) (λ its.
+          let word = own_by F h.slot (reads old.now.words) (finished_of (is_held m h was).puddles) k (puddles_still w h ready.mask old.now.words (is_held m h was)).each its in
           apart (one_slot w memory.held ready.mask old.now.words ready.held m number h held was there (words_apart F h.slot held.slot (reads old.now.words) k word own)))
     ]
 
@@ -90,7 +90,7 @@ module _ (size : ℕ) (w : World) (memory : Memory) (old : State) (ready : IsRea
         let low = own.low in
         unmasked_by_each w memory.held ready.mask old.now.words ready.held k (λ m h was.
         let is = is_held m h was in
-        let pool = pool_held h is.at is.rec is.who in
+        let pool = pool_held h is.puddles is.rec is.who in
         let few = is.pool.known in
         mask_of_others F pool is.before k (outside_log (log_number_at F h.log_number) k (inr (omega arith))) (not_mine m h was) (false_from_ne_true (is_open_record pool k) (λ of.
         let place = open_record_place F pool k is.pool.slot is.pool.known (open_on_device F pool is.before is.pool) of in

@@ -30,7 +30,7 @@ use Rattle.ready_daemon.specs.Memory.{Held, held_under}
 
 -- where it is open
 abbrev pub pool_held : Held → List (ℕ × Puddle) → PoolRec → Owner → OpenPool
-pool_held held at rec who = record { slot = held.slot; rec = rec; at = at; log_number = held.log_number; who = who }
+pool_held held at rec who = record { slot = held.slot; rec = rec; puddles = at; log_number = held.log_number; who = who }
 
 -- and from which image
 abbrev pub open_held : Held → List (ℕ × Puddle) → PoolRec → Owner → Image → OpenTransaction
@@ -42,7 +42,7 @@ open_held held at rec who before = record { pool = pool_held held at rec who; be
 pub record IsHeld (w : World) (held : Held) (mask : Write) (words : Words) : Type 0 where
   pub rec : PoolRec
   pub who : Owner
-  pub at : List (ℕ × Puddle)
+  pub puddles : List (ℕ × Puddle)
   pub before : Image
   pub undone : Graph
   pub transaction : Transaction
@@ -51,19 +51,19 @@ pub record IsHeld (w : World) (held : Held) (mask : Write) (words : Words) : Typ
   pub units : transaction.units ≡ held.tx.units
   pub present : w.clients held.client ≡ Some who
   pub owner : client_of_log held.log_number ≡ held.client
-  pub gate : held.tx.log.at ≡ log_number_at w.stored.frames held.log_number
+  pub gate : held.tx.log.gate_at ≡ log_number_at w.stored.frames held.log_number
   pub name : rec.name ≡ held.name
   pub stored : graph_in (pool_named held.name w.stored) ≡ Some undone
-  pub pool : IsOpenPool w.stored.frames (pool_held held at rec who) before
-  pub records : (k : ℕ) → is_open_record (pool_held held at rec who) k ≡ true → reads words k ≡ before k
-  pub running : IsOpenOn w.stored.frames at w.stored.types held.tx.log before undone transaction.now transaction.laters words
-  pub masked : (k v : ℕ) → open_mask w.stored.frames (pool_held held at rec who) before k ≡ Some v → mask k ≡ Some v
+  pub pool : IsOpenPool w.stored.frames (pool_held held puddles rec who) before
+  pub records : (k : ℕ) → is_open_record (pool_held held puddles rec who) k ≡ true → reads words k ≡ before k
+  pub running : IsOpenOn w.stored.frames puddles w.stored.types held.tx.log before undone transaction.now transaction.laters words
+  pub masked : (k v : ℕ) → open_mask w.stored.frames (pool_held held puddles rec who) before k ≡ Some v → mask k ≡ Some v
 
 -- It is held under this number, that of its log, and is one of these that are open.
 pub record IsHeldUnder (w : World) (opens : Opens) (mask : Write) (words : Words) (number : ℕ) (held : Held) : Type 0 where
   pub is : IsHeld w held mask words
   pub number_is : held.log_number ≡ number
-  pub opened : opens number ≡ Some (open_held held is.at is.rec is.who is.before)
+  pub opened : opens number ≡ Some (open_held held is.puddles is.rec is.who is.before)
 
 -- one is held on the pool of the name
 pub record IsOpenUnder (held : List (Option Held)) (name : List ℕ) : Type 0 where
@@ -103,7 +103,7 @@ pub record IsHeldWithin (F : ℕ) (held : Held) : Type 0 where
   pub slot : held.slot < POOL_RECORDS
   pub client : held.client < CLIENTS
   pub number : held.log_number < ALL_LOGS
-  pub gate : held.tx.log.at ≡ log_number_at F held.log_number
+  pub gate : held.tx.log.gate_at ≡ log_number_at F held.log_number
   pub units : held.tx.units ≤ LOG_ENTRY_WORDS
 
 -- and so does each that is held

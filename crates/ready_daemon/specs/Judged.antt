@@ -21,7 +21,7 @@ pool_in judged slot = slice_index_or judged slot None
 
 -- the puddles of a pool, by what is known of it
 abbrev pub puddles_known : Option Known → Option (List (ℕ × Puddle))
-puddles_known known = option_map (λ known. known.at) known
+puddles_known known = option_map (λ known. known.puddles) known
 
 -- those of the pool in a slot
 abbrev pub known_in : List (Option Known) → (slot : ℕ) → Option (List (ℕ × Puddle))
@@ -33,7 +33,7 @@ KnowsAlone judged slot at = pool_in judged slot ≡ Some (by_puddles at)
 
 -- of the pool in a slot the puddles are known still, where they were, and nothing else
 abbrev pub alone_in : (slot : ℕ) → List (Option Known) → List (Option Known)
-alone_in slot judged = set judged slot (option_map (λ known. by_puddles known.at) (pool_in judged slot))
+alone_in slot judged = set judged slot (option_map (λ known. by_puddles known.puddles) (pool_in judged slot))
 
 -- all that is known lies in frames of the device
 pub record AreOnDevice (F : ℕ) (judged : List (Option Known)) : Type 0 where

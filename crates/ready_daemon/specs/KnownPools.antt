@@ -8,4 +8,4 @@ use Rattle.ready_daemon.specs.Judged.{known_in, AreJudged}
 -- What is known of the pools that were judged is so, and each pool on which a transaction is open is known by the puddles on which it is.
 pub record KnowsPools (F : ℕ) (known : List (Option Known)) (opens : Opens) (image : Image) : Type 0 where
   pub judged : AreJudged F known image
-  pub open_pools : (number : ℕ) (o : OpenTransaction) → opens number ≡ Some o → known_in known o.pool.slot ≡ Some o.pool.at
+  pub open_pools : (number : ℕ) (o : OpenTransaction) → opens number ≡ Some o → known_in known o.pool.slot ≡ Some o.pool.puddles

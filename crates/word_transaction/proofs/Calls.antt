@@ -39,7 +39,7 @@ marked_still may (Some Failed) old new k c none (inr one) = inr (HasOnly-own (ne
 
 -- a transaction is open still behind calls that give no value to a word of its log or to one of its own
 pub IsRunning-kept : (g : Ground) (log : OpenLog) (es : List Entry) (before : Image) (may : Footprint) (fault : Option HostFault) (old new : State) → Changes may fault old new
-    → ((k v : ℕ) → InLog log.at k v → may k v → ⊥) → ((k v : ℕ) → g.mine k ≡ true → may k v → ⊥) → IsRunning g log es before old.now.words → IsRunning g log es before new.now.words
+    → ((k v : ℕ) → InLog log.gate_at k v → may k v → ⊥) → ((k v : ℕ) → g.mine k ≡ true → may k v → ⊥) → IsRunning g log es before old.now.words → IsRunning g log es before new.now.words
 IsRunning-kept g log es before may fault old new c in_log own r =
     record {
       opened = IsOpen-kept may fault old new log es c in_log r.opened;
@@ -58,14 +58,14 @@ pub Runs-still : (g : Ground) (log : OpenLog) (es : List Entry) (before : Image)
     → IsRunning g log es before old.now.words → Runs g log es before nothing fault old new
 Runs-still g log es before fault old new uncut same r =
     record {
-      changes = Changes-still (ByTransaction g log.at) fault old new uncut same;
-      moments = Leaves-still (Silently (SettlesTo g log.at before)) old new (λ image picked. (refl, IsRunning-settles g log es before image old.now.words r picked)) same;
+      changes = Changes-still (ByTransaction g log.gate_at) fault old new uncut same;
+      moments = Leaves-still (Silently (SettlesTo g log.gate_at before)) old new (λ image picked. (refl, IsRunning-settles g log es before image old.now.words r picked)) same;
       running = λ _. subst (λ (x : State). IsRunning g log es before x.now.words) (sym same) r;
       now = λ _ k out. ap (λ (x : State). reads x.now.words k) same;
     }
 
 -- what failed did not do what was to come behind it
-pub Runs-failed : (g : Ground) (log behind : OpenLog) (es es_behind : List Entry) (before : Image) (write write_behind : Write) (fault : HostFault) (old new : State) → behind.at ≡ log.at
+pub Runs-failed : (g : Ground) (log behind : OpenLog) (es es_behind : List Entry) (before : Image) (write write_behind : Write) (fault : HostFault) (old new : State) → behind.gate_at ≡ log.gate_at
     → Runs g log es before write (Some fault) old new → Runs g behind es_behind before write_behind (Some fault) old new
 Runs-failed g log behind es es_behind before write write_behind fault old new at r =
     record {
@@ -76,21 +76,21 @@ Runs-failed g log behind es es_behind before write write_behind fault old new at
     }
 
 -- a call failed before it did anything
-pub Runs-stopped : (g : Ground) (log behind : OpenLog) (es es_behind : List Entry) (before : Image) (write : Write) (fault : HostFault) (old new : State) → behind.at ≡ log.at
+pub Runs-stopped : (g : Ground) (log behind : OpenLog) (es es_behind : List Entry) (before : Image) (write : Write) (fault : HostFault) (old new : State) → behind.gate_at ≡ log.gate_at
     → (Some fault ≡ Some Cut → ⊥) → new ≡ old → IsRunning g log es before old.now.words → Runs g behind es_behind before write (Some fault) old new
 Runs-stopped g log behind es es_behind before write fault old new at uncut same r =
     Runs-failed g log behind es es_behind before nothing write fault old new at (Runs-still g log es before (Some fault) old new uncut same r)
 
 -- one call and then another: what they write is written in turn
-pub Runs-then : (g : Ground) (log behind : OpenLog) (es es_behind : List Entry) (before : Image) (first later : Write) (fault : Option HostFault) (a b c : State) → behind.at ≡ log.at
+pub Runs-then : (g : Ground) (log behind : OpenLog) (es es_behind : List Entry) (before : Image) (first later : Write) (fault : Option HostFault) (a b c : State) → behind.gate_at ≡ log.gate_at
     → Runs g log es before first None a b → Runs g behind es_behind before later fault b c → Runs g behind es_behind before (over first later) fault a c
 Runs-then g log behind es es_behind before first later fault a b c at p q =
-    let P = Silently (SettlesTo g behind.at before) in
-    let changes : Changes (ByTransaction g behind.at) None a b = subst (λ (k : ℕ). Changes (ByTransaction g k) None a b) (sym at) p.changes in
+    let P = Silently (SettlesTo g behind.gate_at before) in
+    let changes : Changes (ByTransaction g behind.gate_at) None a b = subst (λ (k : ℕ). Changes (ByTransaction g k) None a b) (sym at) p.changes in
     let moments : Leaves P a b = subst (λ (k : ℕ). Leaves (Silently (SettlesTo g k before)) a b) (sym at) p.moments in
-    let said = Changes-said (ByTransaction g behind.at) None a b changes in
+    let said = Changes-said (ByTransaction g behind.gate_at) None a b changes in
     record {
-      changes = Changes-then (ByTransaction g behind.at) fault a b c changes q.changes;
+      changes = Changes-then (ByTransaction g behind.gate_at) fault a b c changes q.changes;
       moments = Leaves-then P P P [] a b c (said ∙ sym (append-nil a.now.said)) (λ front image x. x) (λ more image x. x) moments q.moments;
       running = q.running;
       now = λ none k out.
@@ -111,7 +111,7 @@ Runs-writes g log es before write same fault old new each r =
     }
 
 -- a call behind one that wrote nothing
-pub Runs-behind : (g : Ground) (log behind : OpenLog) (es es_behind : List Entry) (before : Image) (write : Write) (fault : Option HostFault) (a b c : State) → behind.at ≡ log.at
+pub Runs-behind : (g : Ground) (log behind : OpenLog) (es es_behind : List Entry) (before : Image) (write : Write) (fault : Option HostFault) (a b c : State) → behind.gate_at ≡ log.gate_at
     → Runs g log es before nothing None a b → Runs g behind es_behind before write fault b c → Runs g behind es_behind before write fault a c
 Runs-behind g log behind es es_behind before write fault a b c at p q =
     Runs-writes g behind es_behind before (over nothing write) write fault a c (λ k. sym (or_none (write k)))

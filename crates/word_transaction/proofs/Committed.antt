@@ -111,39 +111,39 @@ moved_gate log = gate_word COMMITTING_LO COMMITTING_HI log.used
 -- a fence, and then the range moved
 pub record Moves (log : OpenLog) (fault : Option HostFault) (a b c : State) : Type 0 where
   pub fence : Steps after_fence None a b
-  pub move : Persists (only log.at (moved_gate log)) fault b c
+  pub move : Persists (only log.gate_at (moved_gate log)) fault b c
 
 pub gate_moves : (log : OpenLog) (fault : Option HostFault) (a b c : State) → Moves log fault a b c → Changes (ByCommit log) fault a c
 gate_moves log fault a b c m =
     Changes-then (ByCommit log) fault a b c (Changes-fence (ByCommit log) None a b m.fence)
-    (Changes-wider (written (only log.at (moved_gate log))) (ByCommit log) fault b c (λ k v new. written_gate log.at (moved_gate log) k v new (λ here is. record { gate = here; value = inl is }))
+    (Changes-wider (written (only log.gate_at (moved_gate log))) (ByCommit log) fault b c (λ k v new. written_gate log.gate_at (moved_gate log) k v new (λ here is. record { gate = here; value = inl is }))
     m.move.changes)
 
-pub gate_closes : (log : OpenLog) (fault : Option HostFault) (a b c d : State) → Moves log None a b c → Persists (only log.at CLOSED_GATE) fault c d → Changes (ByCommit log) fault a d
+pub gate_closes : (log : OpenLog) (fault : Option HostFault) (a b c d : State) → Moves log None a b c → Persists (only log.gate_at CLOSED_GATE) fault c d → Changes (ByCommit log) fault a d
 gate_closes log fault a b c d m p =
     Changes-then (ByCommit log) fault a c d (gate_moves log None a b c m)
-    (Changes-wider (written (only log.at CLOSED_GATE)) (ByCommit log) fault c d (λ k v new. written_gate log.at CLOSED_GATE k v new (λ here is. record { gate = here; value = inr is })) p.changes)
+    (Changes-wider (written (only log.gate_at CLOSED_GATE)) (ByCommit log) fault c d (λ k v new. written_gate log.gate_at CLOSED_GATE k v new (λ here is. record { gate = here; value = inr is })) p.changes)
 
 -- ---- the moments of an open transaction
 
-module _ (size : ℕ) (log : OpenLog) (es : List Entry) (g : Ground) (before : Image) (a : State) (ground : IsGround size log.at g) (r : IsRunning g log es before a.now.words) where
+module _ (size : ℕ) (log : OpenLog) (es : List Entry) (g : Ground) (before : Image) (a : State) (ground : IsGround size log.gate_at g) (r : IsRunning g log es before a.now.words) where
   -- what its own words come to hold: what they hold now, and over it what is asked for
   abbrev after : Image
   after = overwritten (pending g.place es) (reads a.now.words)
 
   -- what an image has with the log replayed, at the start or at the end, as its range says
   abbrev ByRange : Image → Type 0
-  ByRange = SettlesByRange g log.at before after
+  ByRange = SettlesByRange g log.gate_at before after
 
   -- with the range that it had it is as at the start
-  unmoved : (image : Image) → log_of image log.at ≡ saying log es → SettlesTo g log.at before image → ByRange image
+  unmoved : (image : Image) → log_of image log.gate_at ≡ saying log es → SettlesTo g log.gate_at before image → ByRange image
   unmoved image says settles = inl (record { range = record { lo_is = ap (λ (l : Log). l.lo) says ∙ r.lo; hi_is = ap (λ (l : Log). l.hi) says ∙ r.hi }; settles = settles })
 
   start_image : (image : Image) → Picks a.now.words image → ByRange image
   start_image image picked = unmoved image (IsOpen-log log es a.now.words image r.opened picked) (IsRunning-settles g log es before image a.now.words r picked)
 
   -- with this gate it has that of a committing log
-  moved_range : (image : Image) → image log.at ≡ moved_gate log → HasRange COMMITTING_LO COMMITTING_HI log.at image
+  moved_range : (image : Image) → image log.gate_at ≡ moved_gate log → HasRange COMMITTING_LO COMMITTING_HI log.gate_at image
   moved_range image is =
       let few = (IsOpen-fits log es a.now.words r.opened).used_within in
       record {
@@ -152,7 +152,7 @@ module _ (size : ℕ) (log : OpenLog) (es : List Entry) (g : Ground) (before : I
       }
 
   -- and settles to the end, as it does with that of a closed one
-  moved : (image : Image) → IsShut g log.at (moved_gate log) after image → ByRange image
+  moved : (image : Image) → IsShut g log.gate_at (moved_gate log) after image → ByRange image
   moved image s = inr (record { range = elim s.gate [ inl gate ↦ inl (moved_range image gate) | inr shut ↦ inr shut ]; settles = s.settles })
 
   fence_image : (was image : Image) → Picks a.now.words was → IsFrom Nowhere was image → ByRange image
@@ -173,15 +173,15 @@ module _ (size : ℕ) (log : OpenLog) (es : List Entry) (g : Ground) (before : I
 
   -- ---- the range is moved
 
-  moved_own : (b c : State) (fault : Option HostFault) (m : Moves log fault a b c) (was image : Image) → Picks b.now.words was → IsFrom (written (only log.at (moved_gate log))) was image
+  moved_own : (b c : State) (fault : Option HostFault) (m : Moves log fault a b c) (was image : Image) → Picks b.now.words was → IsFrom (written (only log.gate_at (moved_gate log))) was image
       → (k : ℕ) → g.mine k ≡ true → image k ≡ reads a.now.words k
   moved_own b c fault m was image picked from k mine = elim (from.each k) [
     | inl same ↦ same ∙ (fence_single b m.fence k mine).each (was k) (picked.each k)
-    | inr new ↦ absurd (mine_apart size log.at g k ground mine (only_at log.at (moved_gate log) k (image k) new))
+    | inr new ↦ absurd (mine_apart size log.gate_at g k ground mine (only_at log.gate_at (moved_gate log) k (image k) new))
   ]
 
   moved_image : (b c : State) (fault : Option HostFault) (m : Moves log fault a b c) (was image : Image) → Picks b.now.words was
-      → IsFrom (written (only log.at (moved_gate log))) was image → ByRange image
+      → IsFrom (written (only log.gate_at (moved_gate log))) was image → ByRange image
   moved_image b c fault m was image picked from =
       let own = moved_own b c fault m was image picked from in
       elim (log_of-moving COMMITTING_LO COMMITTING_HI log es b.now.words was image (omega arith) (omega arith) (fence_open b m.fence) picked from) [
@@ -198,32 +198,32 @@ module _ (size : ℕ) (log : OpenLog) (es : List Entry) (g : Ground) (before : I
       let P = Silently ByRange in
       let said = Changes-said Nowhere None a b (Changes-fence Nowhere None a b m.fence) in
       Leaves-then P P P [] a b c (said ∙ sym (append-nil a.now.said)) (λ front image p. p) (λ more image p. p) (fence_left None b m.fence)
-      (Leaves-changes ByRange (written (only log.at (moved_gate log))) fault b c (moved_image b c fault m) m.move.changes)
+      (Leaves-changes ByRange (written (only log.gate_at (moved_gate log))) fault b c (moved_image b c fault m) m.move.changes)
 
   -- behind it each own word has one value, and the log runs in the range of redo entries
   pub moved_single : (b c : State) (m : Moves log None a b c) → (k : ℕ) → g.mine k ≡ true → HasOnly (c.now.words k) (reads a.now.words k)
   moved_single b c m k mine =
-      HasOnly-kept (written (only log.at (moved_gate log))) None b c k (reads a.now.words k) m.move.changes
-      (λ x new. mine_apart size log.at g k ground mine (only_at log.at (moved_gate log) k x new)) (fence_single b m.fence k mine)
+      HasOnly-kept (written (only log.gate_at (moved_gate log))) None b c k (reads a.now.words k) m.move.changes
+      (λ x new. mine_apart size log.gate_at g k ground mine (only_at log.gate_at (moved_gate log) k x new)) (fence_single b m.fence k mine)
 
   pub moved_open : (b c : State) (m : Moves log None a b c) → IsOpen (committing log) es c.now.words
   moved_open b c m = IsOpen-moved COMMITTING_LO COMMITTING_HI log es b c (omega arith) (omega arith) (fence_open b m.fence) m.move
 
   -- so each image settles to what they come to hold
-  moved_settles : (b c : State) (m : Moves log None a b c) (image : Image) → Picks c.now.words image → SettlesTo g log.at after image
+  moved_settles : (b c : State) (m : Moves log None a b c) (image : Image) → Picks c.now.words image → SettlesTo g log.gate_at after image
   moved_settles b c m image picked =
       SettlesTo-committing g log es (reads a.now.words) image r.own (IsOpen-log (committing log) es c.now.words image (moved_open b c m) picked)
       (λ k mine. (moved_single b c m k mine).each (image k) (picked.each k))
 
   -- ---- the call
 
-  own_gate : (k v : ℕ) → ByCommit log k v → ByTransaction g log.at k v
+  own_gate : (k v : ℕ) → ByCommit log k v → ByTransaction g log.gate_at k v
   own_gate k v by = let here = by.gate in inl (record { low = omega arith; high = omega arith })
 
-  pub Ends-fence : (fault : HostFault) (b : State) → Steps after_fence (Some fault) a b → Ends g log.at before after (Some fault) a b
+  pub Ends-fence : (fault : HostFault) (b : State) → Steps after_fence (Some fault) a b → Ends g log.gate_at before after (Some fault) a b
   Ends-fence fault b step =
       record {
-        changes = Changes-fence (ByTransaction g log.at) (Some fault) a b step;
+        changes = Changes-fence (ByTransaction g log.gate_at) (Some fault) a b step;
         moments = fence_left (Some fault) b step;
         moves = λ e. absurd (some_fault fault e);
         durable = λ e. absurd (some_fault fault e);
@@ -231,10 +231,10 @@ module _ (size : ℕ) (log : OpenLog) (es : List Entry) (g : Ground) (before : I
         stays = λ e. absurd (some_fault fault e);
       }
 
-  pub Ends-move : (fault : HostFault) (b c : State) → Moves log (Some fault) a b c → Ends g log.at before after (Some fault) a c
+  pub Ends-move : (fault : HostFault) (b c : State) → Moves log (Some fault) a b c → Ends g log.gate_at before after (Some fault) a c
   Ends-move fault b c m =
       record {
-        changes = Changes-wider (ByCommit log) (ByTransaction g log.at) (Some fault) a c own_gate (gate_moves log (Some fault) a b c m);
+        changes = Changes-wider (ByCommit log) (ByTransaction g log.gate_at) (Some fault) a c own_gate (gate_moves log (Some fault) a b c m);
         moments = moved_left b c (Some fault) m;
         moves = λ e. absurd (some_fault fault e);
         durable = λ e. absurd (some_fault fault e);
@@ -243,7 +243,7 @@ module _ (size : ℕ) (log : OpenLog) (es : List Entry) (g : Ground) (before : I
       }
 
   -- behind the move the range is that of a committing log, with all that was written durable
-  range_moves : (b c d : State) (fault : Option HostFault) (may : Footprint) → Moves log None a b c → Changes may fault c d → MovesRange g log.at a d
+  range_moves : (b c d : State) (fault : Option HostFault) (may : Footprint) → Moves log None a b c → Changes may fault c d → MovesRange g log.gate_at a d
   range_moves b c d fault may m changes =
       let moves = gate_moves log None a b c m in
       record {
@@ -251,30 +251,30 @@ module _ (size : ℕ) (log : OpenLog) (es : List Entry) (g : Ground) (before : I
         history = changes.history ∙ ap (λ (l : List Moment). changes.added ++ l) moves.history ∙ sym (append_assoc changes.added moves.added (a.now ∷ a.past));
         moment = c.now;
         among = elim (now_among a c moves.added moves.history) [ inl same ↦ inl same | inr h ↦ inr (Has-append_right changes.added moves.added c.now h) ];
-        range = λ image picked. moved_range image ((moved_open b c m).gate.each (image log.at) (picked.each log.at));
+        range = λ image picked. moved_range image ((moved_open b c m).gate.each (image log.gate_at) (picked.each log.gate_at));
         durable = moved_single b c m;
       }
 
   -- its log is closed, with all words as they come to be
-  pub Ends-closes : (fault : Option HostFault) (b c d : State) → Moves log None a b c → Shuts g log.at (moved_gate log) after fault c d → Ends g log.at before after fault a d
+  pub Ends-closes : (fault : Option HostFault) (b c d : State) → Moves log None a b c → Shuts g log.gate_at (moved_gate log) after fault c d → Ends g log.gate_at before after fault a d
   Ends-closes fault b c d m shuts =
       let closes = shuts.closes in
       let moves = gate_moves log None a b c m in
-      let changes = Changes-then (ByTransaction g log.at) fault a c d (Changes-wider (ByCommit log) (ByTransaction g log.at) None a c own_gate moves) closes.changes in
+      let changes = Changes-then (ByTransaction g log.gate_at) fault a c d (Changes-wider (ByCommit log) (ByTransaction g log.gate_at) None a c own_gate moves) closes.changes in
       record {
         changes = changes;
-        moments = Leaves-then (Silently ByRange) (Silently (IsShut g log.at (moved_gate log) after)) (Silently ByRange) [] a c d
+        moments = Leaves-then (Silently ByRange) (Silently (IsShut g log.gate_at (moved_gate log) after)) (Silently ByRange) [] a c d
             (Changes-said (ByCommit log) None a c moves ∙ sym (append-nil a.now.said)) (λ front image p. p) (λ more image p. (p.0, moved image p.1)) (moved_left b c None m) shuts.moments;
-        moves = λ none. range_moves b c d fault (ByTransaction g log.at) m closes.changes;
+        moves = λ none. range_moves b c d fault (ByTransaction g log.gate_at) m closes.changes;
         durable = closes.durable;
         closed = closes.closed;
-        stays = λ e k outside other. reads_beside g log.at fault a d changes (not_cut fault e) k outside other;
+        stays = λ e k outside other. reads_beside g log.gate_at fault a d changes (not_cut fault e) k outside other;
       }
 
   -- at once where nothing is asked for
-  pub Ends-close : (fault : Option HostFault) (b c d : State) → asks es ≡ false → Moves log None a b c → Persists (only log.at CLOSED_GATE) fault c d → Ends g log.at before after fault a d
+  pub Ends-close : (fault : Option HostFault) (b c d : State) → asks es ≡ false → Moves log None a b c → Persists (only log.gate_at CLOSED_GATE) fault c d → Ends g log.gate_at before after fault a d
   Ends-close fault b c d none m p =
       Ends-closes fault b c d m
-      (Shuts-shut size log.at g ground after fault c d (moved_settles b c m)
+      (Shuts-shut size log.gate_at g ground after fault c d (moved_settles b c m)
       (λ k mine. subst (λ (v : ℕ). HasOnly (c.now.words k) v) (sym (overwritten-stays (pending g.place es) (reads a.now.words) k (pending-none g.place es k none))) (moved_single b c m k mine)) p
       (moved_gate log) (moved_open b c m).gate)

@@ -25,12 +25,12 @@ use Rattle.word_transaction.proofs.Images.{SettlesTo-local, IsRunning-settles}
 
 -- each image left by calls that give no value to a word of the log or to an own word settles to the values from the beginning
 pub settles_beside : (g : Ground) (log : OpenLog) (es : List Entry) (before : Image) (may : Footprint) (fault : Option HostFault) (old new : State) → Changes may fault old new
-    → ((k v : ℕ) → InLog log.at k v → may k v → ⊥) → ((k v : ℕ) → g.mine k ≡ true → may k v → ⊥) → IsRunning g log es before old.now.words
-    → Leaves (Silently (SettlesTo g log.at before)) old new
+    → ((k v : ℕ) → InLog log.gate_at k v → may k v → ⊥) → ((k v : ℕ) → g.mine k ≡ true → may k v → ⊥) → IsRunning g log es before old.now.words
+    → Leaves (Silently (SettlesTo g log.gate_at before)) old new
 settles_beside g log es before may fault old new c in_log own r =
-    Leaves-changes (SettlesTo g log.at before) may fault old new
+    Leaves-changes (SettlesTo g log.gate_at before) may fault old new
     (λ was image picked from.
-    SettlesTo-local g log.at before was image
+    SettlesTo-local g log.gate_at before was image
     (λ k inside. (let it : image k ≡ was k = elim (from.each k) [ inl same ↦ same | inr new ↦ absurd (in_log k (image k) inside new) ] in it))
     (λ k mine. (let it : image k ≡ was k = elim (from.each k) [ inl same ↦ same | inr new ↦ absurd (own k (image k) mine new) ] in it))
     (IsRunning-settles g log es before was old.now.words r picked)) c
@@ -38,7 +38,7 @@ settles_beside g log es before may fault old new c in_log own r =
 -- ---- the values from the beginning
 
 -- they count on its own words alone
-pub IsRunning-values : (size : ℕ) (g : Ground) (log : OpenLog) (es : List Entry) (before values : Image) (words : Words) → IsGround size log.at g → ((k : ℕ) → g.mine k ≡ true → before k ≡ values k)
+pub IsRunning-values : (size : ℕ) (g : Ground) (log : OpenLog) (es : List Entry) (before values : Image) (words : Words) → IsGround size log.gate_at g → ((k : ℕ) → g.mine k ≡ true → before k ≡ values k)
     → IsRunning g log es before words → IsRunning g log es values words
 IsRunning-values size g log es before values words ground same r =
     record {
@@ -46,7 +46,7 @@ IsRunning-values size g log es before values words ground same r =
       lo = r.lo;
       hi = r.hi;
       own = r.own;
-      saves = λ k v is. r.saves k v is ∙ same k (saved_is_mine size log.at g es k v ground r.own is);
+      saves = λ k v is. r.saves k v is ∙ same k (saved_is_mine size log.gate_at g es k v ground r.own is);
       single = λ k mine none. subst (λ (v : ℕ). HasOnly (words k) v) (same k mine) (r.single k mine none);
       marked = r.marked;
     }

@@ -39,9 +39,9 @@ unwrapped None x y some none = none refl
 unwrapped (Some v) x y some none = some v refl
 
 -- a word to which the log gives a value has that one, and any other is as it is
-pub SettlesTo-given : (g : Ground) (log : OpenLog) (es : List Entry) (write : ℕ → Option ℕ) (values image : Image) → All (IsOwn g) es → log_of image log.at ≡ saying log es
+pub SettlesTo-given : (g : Ground) (log : OpenLog) (es : List Entry) (write : ℕ → Option ℕ) (values image : Image) → All (IsOwn g) es → log_of image log.gate_at ≡ saying log es
     → ((k : ℕ) → new_value g.place (saying log es) k ≡ write k) → ((k v : ℕ) → g.mine k ≡ true → write k ≡ Some v → v ≡ values k)
-    → ((k : ℕ) → g.mine k ≡ true → write k ≡ None → image k ≡ values k) → SettlesTo g log.at values image
+    → ((k : ℕ) → g.mine k ≡ true → write k ≡ None → image k ≡ values k) → SettlesTo g log.gate_at values image
 SettlesTo-given g log es write values image own says given gives stays =
     record {
       es = es;
@@ -53,13 +53,13 @@ SettlesTo-given g log es write values image own says given gives stays =
     }
 
 -- what is saved has its value of the beginning, and what is not is as it was then
-pub SettlesTo-running : (g : Ground) (log : OpenLog) (es : List Entry) (before image : Image) → log.lo ≡ RUNNING_LO → log.hi ≡ RUNNING_HI → All (IsOwn g) es → log_of image log.at ≡ saying log es
-    → ((k v : ℕ) → g.mine k ≡ true → saved g.place es k ≡ Some v → v ≡ before k) → ((k : ℕ) → g.mine k ≡ true → saved g.place es k ≡ None → image k ≡ before k) → SettlesTo g log.at before image
+pub SettlesTo-running : (g : Ground) (log : OpenLog) (es : List Entry) (before image : Image) → log.lo ≡ RUNNING_LO → log.hi ≡ RUNNING_HI → All (IsOwn g) es → log_of image log.gate_at ≡ saying log es
+    → ((k v : ℕ) → g.mine k ≡ true → saved g.place es k ≡ Some v → v ≡ before k) → ((k : ℕ) → g.mine k ≡ true → saved g.place es k ≡ None → image k ≡ before k) → SettlesTo g log.gate_at before image
 SettlesTo-running g log es before image lo hi own says saves single =
     SettlesTo-given g log es (saved g.place es) before image own says (λ k. new_value-running g g.place (saying log es) es k lo hi refl own) saves single
 
 -- each image that may be left while a transaction is open settles to the values from its beginning
-pub IsRunning-settles : (g : Ground) (log : OpenLog) (es : List Entry) (before image : Image) (words : Words) → IsRunning g log es before words → Picks words image → SettlesTo g log.at before image
+pub IsRunning-settles : (g : Ground) (log : OpenLog) (es : List Entry) (before image : Image) (words : Words) → IsRunning g log es before words → Picks words image → SettlesTo g log.gate_at before image
 IsRunning-settles g log es before image words r picked =
     SettlesTo-running g log es before image r.lo r.hi r.own (IsOpen-log log es words image r.opened picked)
     (λ k v mine is. r.saves k v is) (λ k mine none. (r.single k mine none).each (image k) (picked.each k))

@@ -41,15 +41,15 @@ Keeps-still g log es before which fault old new uncut same r kept =
     record { entries = es; runs = Runs-still g log es before fault old new uncut same r; asks = refl; still = λ k none. none; kept = kept }
 
 -- the log behind a call, whatever it answered
-pub Runs-now : (g : Ground) (log longer now : OpenLog) (es : List Entry) (before : Image) (result : Result (Unit {0}) HostFault) (old new : State) → longer.at ≡ log.at
+pub Runs-now : (g : Ground) (log longer now : OpenLog) (es : List Entry) (before : Image) (result : Result (Unit {0}) HostFault) (old new : State) → longer.gate_at ≡ log.gate_at
     → IfOk result (λ _. now ≡ longer) → OnErr result (now ≡ log) → Runs g longer es before nothing (fault_of result) old new → Runs g now es before nothing (fault_of result) old new
 Runs-now g log longer now es before (Ok x) old new at ok err r = subst (λ (l : OpenLog). Runs g l es before nothing None old new) (sym ok) r
 Runs-now g log longer now es before (Err fault) old new at ok err r =
-    Runs-failed g longer now es es before nothing nothing fault old new (ap (λ (l : OpenLog). l.at) err ∙ sym at) r
+    Runs-failed g longer now es es before nothing nothing fault old new (ap (λ (l : OpenLog). l.gate_at) err ∙ sym at) r
 
 -- entries of what own words hold were read, and then appended
 pub Keeps-appended : (size : ℕ) (g : Ground) (log now : OpenLog) (es : List Entry) (before : Image) (which : ℕ → Type 0) (count : ℕ) (more : List Entry) (result : Result (Unit {0}) HostFault) (s b t : State)
-    → IsGround size log.at g → IsRunning g log es before s.now.words → b ≡ s → All (IsRead g (reads s.now.words)) more → asked more ≡ [] → ((k : ℕ) → which k → saved g.place more k ≡ None → ⊥)
+    → IsGround size log.gate_at g → IsRunning g log es before s.now.words → b ≡ s → All (IsRead g (reads s.now.words)) more → asked more ≡ [] → ((k : ℕ) → which k → saved g.place more k ≡ None → ⊥)
     → IfOk result (λ _. now ≡ with_entries count more log) → OnErr result (now ≡ log)
     → (IsRunning g log es before b.now.words → MayAppend g es before more → Runs g (with_entries count more log) (es ++ more) before nothing (fault_of result) b t)
     → Keeps g now es before which (fault_of result) s t
@@ -109,7 +109,7 @@ covered_by : (g : Ground) (log : OpenLog) (es : List Entry) (before : Image) (wh
 covered_by g log es before which write old new keeps writes = record { mine = writes.mine; kept = λ k v is none. keeps.kept refl k (writes.kept k v is) none }
 
 -- the words were not kept, and so not written
-pub Puts-unkept : (g : Ground) (log now : OpenLog) (es : List Entry) (before : Image) (which : ℕ → Type 0) (write : Write) (fault : HostFault) (old new : State) → now.at ≡ log.at
+pub Puts-unkept : (g : Ground) (log now : OpenLog) (es : List Entry) (before : Image) (which : ℕ → Type 0) (write : Write) (fault : HostFault) (old new : State) → now.gate_at ≡ log.gate_at
     → Keeps g log es before which (Some fault) old new → Puts g now es before write (Some fault) old new
 Puts-unkept g log now es before which write fault old new at keeps =
     record { entries = keeps.entries; runs = Runs-failed g log now keeps.entries keeps.entries before nothing write fault old new at keeps.runs; asks = keeps.asks }

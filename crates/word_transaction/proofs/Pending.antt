@@ -117,8 +117,8 @@ new_value-committing g place log es k lo hi entries own =
     ∙ sym (or_none (pending place es k))
 
 -- over what its own words hold an image settles to what they ask for
-pub SettlesTo-committing : (g : Ground) (log : OpenLog) (es : List Entry) (was image : Image) → All (IsOwn g) es → log_of image log.at ≡ saying (committing log) es
-    → ((k : ℕ) → g.mine k ≡ true → image k ≡ was k) → SettlesTo g log.at (overwritten (pending g.place es) was) image
+pub SettlesTo-committing : (g : Ground) (log : OpenLog) (es : List Entry) (was image : Image) → All (IsOwn g) es → log_of image log.gate_at ≡ saying (committing log) es
+    → ((k : ℕ) → g.mine k ≡ true → image k ≡ was k) → SettlesTo g log.gate_at (overwritten (pending g.place es) was) image
 SettlesTo-committing g log es was image own says same =
     record {
       es = es;

@@ -26,7 +26,7 @@ use Rattle.word_transaction.proofs.Settled.{Gives, replayable, durable_log, Shut
 
 -- ---- the puddle table, while the gate changes
 
-module _ (F : ℕ) (g : Ground) (log : OpenLog) (a c : State) (changes : Changes (ByCommit log) None a c) (can : CanRedo g F log.at a.now.words) where
+module _ (F : ℕ) (g : Ground) (log : OpenLog) (a c : State) (changes : Changes (ByCommit log) None a c) (can : CanRedo g F log.gate_at a.now.words) where
   table_still : (k : ℕ) → IsWithin PUDDLE_TABLE (tables_end F) k → HasOnly (c.now.words k) (reads a.now.words k)
   table_still k within =
       HasOnly-kept (ByCommit log) None a c k (reads a.now.words k) changes
@@ -42,7 +42,7 @@ module _ (F : ℕ) (g : Ground) (log : OpenLog) (a c : State) (changes : Changes
 
 -- ---- the replay
 
-module _ (size : ℕ) (log : OpenLog) (es : List Entry) (g : Ground) (before : Image) (a : State) (ground : IsGround size log.at g) (r : IsRunning g log es before a.now.words) where
+module _ (size : ℕ) (log : OpenLog) (es : List Entry) (g : Ground) (before : Image) (a : State) (ground : IsGround size log.gate_at g) (r : IsRunning g log es before a.now.words) where
   abbrev write : ℕ → Option ℕ
   write = pending g.place es
 
@@ -56,17 +56,17 @@ module _ (size : ℕ) (log : OpenLog) (es : List Entry) (g : Ground) (before : I
         opened = moved_open size log es g before a ground r b c m;
         own = r.own;
         given = λ place same k. new_value-committing g place (saying (committing log) es) es k refl refl refl r.own ∙ redone-places g.place place committing_range es k same;
-        mine = λ k v is. pending_is_mine size log.at g es k v ground r.own is;
+        mine = λ k v is. pending_is_mine size log.gate_at g es k v ground r.own is;
         saves = λ k v is. sym (overwritten-there write (reads a.now.words) k v is);
         single = λ k mine none.
             subst (λ (v : ℕ). HasOnly (c.now.words k) v) (sym (overwritten-stays write (reads a.now.words) k none)) (moved_single size log es g before a ground r b c m k mine);
       }
 
-  pub Ends-redone : (F at : ℕ) (fault : Option HostFault) (b c d : State) → at ≡ log.at → CanRedo g F log.at a.now.words → Moves log None a b c
+  pub Ends-redone : (F at : ℕ) (fault : Option HostFault) (b c d : State) → at ≡ log.gate_at → CanRedo g F log.gate_at a.now.words → Moves log None a b c
       → (IsReplayable (place_of (Puddles F) (reads c.now.words)) size at es (reads c.now.words) → SettlesLog (Puddles F) at fault c d)
       → (IsReplayable (place_of (Puddles F) (reads c.now.words)) size at es (reads c.now.words) → HasDurableLog (Puddles F) at c.now.words
       → Leaves (Silently (IsSettling (Puddles F) at c.now.words)) c d)
-      → Ends g log.at before after fault a d
+      → Ends g log.gate_at before after fault a d
   Ends-redone F at fault b c d here can m settles moments =
       let changes = gate_moves log None a b c m in
       let table = one_table F g log a c changes can in

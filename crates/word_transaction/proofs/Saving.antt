@@ -28,7 +28,7 @@ use Rattle.word_transaction.proofs.Calls.{some_fault, marked_still}
 -- ---- entries that may be appended
 
 module _ (size : ℕ) (g : Ground) (log : OpenLog) (es : List Entry) (before : Image) (count : ℕ) (more : List Entry) (s : State)
-    (ground : IsGround size log.at g) (r : IsRunning g log es before s.now.words) (may : MayAppend g es before more) where
+    (ground : IsGround size log.gate_at g) (r : IsRunning g log es before s.now.words) (may : MayAppend g es before more) where
   abbrev longer_log : OpenLog
   longer_log = with_entries count more log
 
@@ -36,21 +36,21 @@ module _ (size : ℕ) (g : Ground) (log : OpenLog) (es : List Entry) (before : I
   own_more = All-append (IsOwn g) es more r.own may.own
 
   -- with the log as it was, and with the entries last
-  moment : (image : Image) → HasGrown s.now.words log.at more image → SettlesTo g log.at before image
+  moment : (image : Image) → HasGrown s.now.words log.gate_at more image → SettlesTo g log.gate_at before image
   moment image grown =
-      let was : log_of grown.before log.at ≡ saying log es = IsOpen-log log es s.now.words grown.before r.opened grown.picked in
+      let was : log_of grown.before log.gate_at ≡ saying log es = IsOpen-log log es s.now.words grown.before r.opened grown.picked in
       let same : (k : ℕ) → g.mine k ≡ true → saved g.place es k ≡ None → image k ≡ before k = λ k mine none.
-      grown.outside k (not_inside log.at k (ground.apart k mine)) ∙ (r.single k mine none).each (grown.before k) (grown.picked.each k) in
+      grown.outside k (not_inside log.gate_at k (ground.apart k mine)) ∙ (r.single k mine none).each (grown.before k) (grown.picked.each k) in
       elim grown.log [
         | inl still ↦ SettlesTo-running g log es before image r.lo r.hi r.own (still ∙ was) (λ k v mine is. r.saves k v is) same
         | inr grew ↦ SettlesTo-running g log (es ++ more) before image r.lo r.hi own_more (grew ∙ ap (with_last more) was)
             (λ k v mine is. may.saves k v is) (λ k mine none. same k mine (saved-none_first g.place es more k none))
       ]
 
-  outside : (k : ℕ) → g.mine k ≡ true → (v : ℕ) → InLog log.at k v → ⊥
-  outside k mine v inside = not_inside log.at k (ground.apart k mine) inside
+  outside : (k : ℕ) → g.mine k ≡ true → (v : ℕ) → InLog log.gate_at k v → ⊥
+  outside k mine v inside = not_inside log.gate_at k (ground.apart k mine) inside
 
-  running : (t : State) → Changes (InLog log.at) None s t → IsOpen longer_log (es ++ more) t.now.words → IsRunning g longer_log (es ++ more) before t.now.words
+  running : (t : State) → Changes (InLog log.gate_at) None s t → IsOpen longer_log (es ++ more) t.now.words → IsRunning g longer_log (es ++ more) before t.now.words
   running t changes opened =
       record {
         opened = opened;
@@ -58,18 +58,18 @@ module _ (size : ℕ) (g : Ground) (log : OpenLog) (es : List Entry) (before : I
         hi = r.hi;
         own = own_more;
         saves = may.saves;
-        single = λ k mine none. HasOnly-kept (InLog log.at) None s t k (before k) changes (outside k mine) (r.single k mine (saved-none_first g.place es more k none));
-        marked = λ k mine. marked_still (InLog log.at) None s t k changes (outside k mine) (r.marked k mine);
+        single = λ k mine none. HasOnly-kept (InLog log.gate_at) None s t k (before k) changes (outside k mine) (r.single k mine (saved-none_first g.place es more k none));
+        marked = λ k mine. marked_still (InLog log.gate_at) None s t k changes (outside k mine) (r.marked k mine);
       }
 
-  grown_left : (t : State) → Leaves (Silently (HasGrown s.now.words log.at more)) s t → Leaves (Silently (SettlesTo g log.at before)) s t
-  grown_left t moments = Leaves-weaker (Silently (HasGrown s.now.words log.at more)) (Silently (SettlesTo g log.at before)) s t (λ bytes image p. (p.0, moment image p.1)) moments
+  grown_left : (t : State) → Leaves (Silently (HasGrown s.now.words log.gate_at more)) s t → Leaves (Silently (SettlesTo g log.gate_at before)) s t
+  grown_left t moments = Leaves-weaker (Silently (HasGrown s.now.words log.gate_at more)) (Silently (SettlesTo g log.gate_at before)) s t (λ bytes image p. (p.0, moment image p.1)) moments
 
-  by_log : (fault : Option HostFault) (t : State) → Changes (InLog log.at) fault s t → Changes (ByTransaction g log.at) fault s t
-  by_log fault t changes = Changes-wider (InLog log.at) (ByTransaction g log.at) fault s t (λ k v inside. inl inside) changes
+  by_log : (fault : Option HostFault) (t : State) → Changes (InLog log.gate_at) fault s t → Changes (ByTransaction g log.gate_at) fault s t
+  by_log fault t changes = Changes-wider (InLog log.gate_at) (ByTransaction g log.gate_at) fault s t (λ k v inside. inl inside) changes
 
   -- they were not appended
-  pub Runs-unappended : (fault : HostFault) (t : State) → Changes (InLog log.at) (Some fault) s t → Appends log es count more (Err (Host fault)) s t
+  pub Runs-unappended : (fault : HostFault) (t : State) → Changes (InLog log.gate_at) (Some fault) s t → Appends log es count more (Err (Host fault)) s t
       → Runs g longer_log (es ++ more) before nothing (Some fault) s t
   Runs-unappended fault t changes a =
       record {
@@ -80,18 +80,18 @@ module _ (size : ℕ) (g : Ground) (log : OpenLog) (es : List Entry) (before : I
       }
 
   -- they were
-  pub Runs-appended : (t : State) → Changes (InLog log.at) None s t → Appends log es count more (Ok tt) s t → Runs g longer_log (es ++ more) before nothing None s t
+  pub Runs-appended : (t : State) → Changes (InLog log.gate_at) None s t → Appends log es count more (Ok tt) s t → Runs g longer_log (es ++ more) before nothing None s t
   Runs-appended t changes a =
       record {
         changes = by_log None t changes;
         moments = grown_left t a.moments;
         running = λ _. running t changes a.done;
-        now = λ _ k out. (changes.keeps (λ cut. cc) k (λ v inside. not_inside log.at k out inside)).newest;
+        now = λ _ k out. (changes.keeps (λ cut. cc) k (λ v inside. not_inside log.gate_at k out inside)).newest;
       }
 
 pub Runs-append : (size : ℕ) (g : Ground) (log : OpenLog) (es : List Entry) (before : Image) (count : ℕ) (more : List Entry) (result : Result (Unit {0}) AppendFault) (s t : State)
-    → IsGround size log.at g → IsRunning g log es before s.now.words → MayAppend g es before more → (result ≡ Err TooBig → ⊥)
-    → Changes (InLog log.at) (append_fault result) s t → Appends log es count more result s t → Runs g (with_entries count more log) (es ++ more) before nothing (append_fault result) s t
+    → IsGround size log.gate_at g → IsRunning g log es before s.now.words → MayAppend g es before more → (result ≡ Err TooBig → ⊥)
+    → Changes (InLog log.gate_at) (append_fault result) s t → Appends log es count more result s t → Runs g (with_entries count more log) (es ++ more) before nothing (append_fault result) s t
 Runs-append size g log es before count more (Ok tt) s t ground r may room changes a = Runs-appended size g log es before count more s ground r may t changes a
 Runs-append size g log es before count more (Err TooBig) s t ground r may room changes a = absurd (room refl)
 Runs-append size g log es before count more (Err (Host fault)) s t ground r may room changes a = Runs-unappended size g log es before count more s ground r may fault t changes a
@@ -140,7 +140,7 @@ saved-read g image (e ∷ more) k v read is =
     ]
 
 -- a word that is saved only now has its value from the beginning
-pub MayAppend-read : (size : ℕ) (g : Ground) (log : OpenLog) (es more : List Entry) (before : Image) (words : Words) → IsGround size log.at g → IsRunning g log es before words
+pub MayAppend-read : (size : ℕ) (g : Ground) (log : OpenLog) (es more : List Entry) (before : Image) (words : Words) → IsGround size log.gate_at g → IsRunning g log es before words
     → All (IsRead g (reads words)) more → MayAppend g es before more
 MayAppend-read size g log es more before words ground r read =
     let own : All (IsOwn g) more = λ n d below. IsRead-own g (reads words) _ (read n d below) in
@@ -149,7 +149,7 @@ MayAppend-read size g log es more before words ground r read =
       saves = λ k v is. elim (either_some (saved g.place es k) (saved g.place more k) v (sym (saved-append g.place es more k) ∙ is)) [
         | inl first_time ↦ r.saves k v first_time
         | inr here ↦
-            let mine = saved_is_mine size log.at g (es ++ more) k v ground (All-append (IsOwn g) es more r.own own) is in
+            let mine = saved_is_mine size log.gate_at g (es ++ more) k v ground (All-append (IsOwn g) es more r.own own) is in
             saved-read g (reads words) more k v read here.1 ∙ (r.single k mine here.0).each (reads words k) (inl refl)
       ];
     }

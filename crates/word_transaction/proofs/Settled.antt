@@ -63,39 +63,39 @@ durable_by (Some v) c b saves some none = subst (λ (x : ℕ). HasOnly c x) (sav
 
 -- ---- replayed and closed
 
-module _ (size F : ℕ) (g : Ground) (log : OpenLog) (es : List Entry) (write : Write) (values : Image) (a : State) (ground : IsGround size log.at g) (r : Gives g log es write values a.now.words)
+module _ (size F : ℕ) (g : Ground) (log : OpenLog) (es : List Entry) (write : Write) (values : Image) (a : State) (ground : IsGround size log.gate_at g) (r : Gives g log es write values a.now.words)
     (places : HasPlaces g (puddle_word (tables_of F (reads a.now.words)))) (table : HasOneTable F a.now.words) where
   abbrev place : Place
   place = puddle_word (tables_of F (reads a.now.words))
 
   abbrev given_now : Write
-  given_now = new_values (Puddles F) log.at (reads a.now.words)
+  given_now = new_values (Puddles F) log.gate_at (reads a.now.words)
 
-  names_apart : (e : Entry) → IsOwn g e → NamesApart place size log.at e
+  names_apart : (e : Entry) → IsOwn g e → NamesApart place size log.gate_at e
   names_apart e own =
       let s = ground.named e.address (length e.vals) own.may in
       record {
         first = s.first;
         placed = places.each e.address (length e.vals) own.may ∙ s.placed;
         within = s.within;
-        apart = stands_beside s.first (length e.vals) log.at s.some (λ k low high. ground.apart k (s.own k low high));
+        apart = stands_beside s.first (length e.vals) log.gate_at s.some (λ k low high. ground.apart k (s.own k low high));
       }
 
-  pub replayable : IsReplayable (place_of (Puddles F) (reads a.now.words)) size log.at es (reads a.now.words)
+  pub replayable : IsReplayable (place_of (Puddles F) (reads a.now.words)) size log.gate_at es (reads a.now.words)
   replayable =
       record {
         spells = ap (λ (l : Log). l.entries) r.opened.says;
         apart = λ n d below counts. names_apart (get_or es n d) (r.own n d below);
       }
 
-  used : gate_used (reads a.now.words log.at) ≡ log.used
-  used = ap gate_used (HasOnly-newest (a.now.words log.at) _ r.opened.gate) ∙ used_is log (IsOpen-fits log es a.now.words r.opened)
+  used : gate_used (reads a.now.words log.gate_at) ≡ log.used
+  used = ap gate_used (HasOnly-newest (a.now.words log.gate_at) _ r.opened.gate) ∙ used_is log (IsOpen-fits log es a.now.words r.opened)
 
-  pub durable_log : HasDurableLog (Puddles F) log.at a.now.words
+  pub durable_log : HasDurableLog (Puddles F) log.gate_at a.now.words
   durable_log =
       record {
-        gate = HasOnly-own (a.now.words log.at) _ r.opened.gate;
-        counted = λ k low high. r.opened.counted k low (subst (λ (n : ℕ). k < log.at + LOG_HEADER_WORDS + n) used high);
+        gate = HasOnly-own (a.now.words log.gate_at) _ r.opened.gate;
+        counted = λ k low high. r.opened.counted k low (subst (λ (n : ℕ). k < log.gate_at + LOG_HEADER_WORDS + n) used high);
         table = λ k placing. table.each k placing;
       }
 
@@ -106,62 +106,62 @@ module _ (size F : ℕ) (g : Ground) (log : OpenLog) (es : List Entry) (write : 
       ap (λ (l : Log). new_value place l k) r.opened.says
       ∙ r.given place (λ n d below. places.each (get_or es n d).address (length (get_or es n d).vals) (r.own n d below).may) k
 
-  module _ (image : Image) (p : IsSettling (Puddles F) log.at a.now.words image) where
-    gives_before : (k : ℕ) → new_values (Puddles F) log.at p.before k ≡ write k
-    gives_before k = ap (λ (w : ℕ → Option ℕ). w k) (new_values_picked (Puddles F) log.at a.now.words p.before durable_log p.picked) ∙ gives k
+  module _ (image : Image) (p : IsSettling (Puddles F) log.gate_at a.now.words image) where
+    gives_before : (k : ℕ) → new_values (Puddles F) log.gate_at p.before k ≡ write k
+    gives_before k = ap (λ (w : ℕ → Option ℕ). w k) (new_values_picked (Puddles F) log.gate_at a.now.words p.before durable_log p.picked) ∙ gives k
 
     -- a word that is given none is as it was
     not_given : (k : ℕ) → g.mine k ≡ true → write k ≡ None → image k ≡ values k
-    not_given k mine none = p.closing.stays k (mine_apart size log.at g k ground mine) (gives_before k ∙ none) ∙ (r.single k mine none).each (p.before k) (p.picked.each k)
+    not_given k mine none = p.closing.stays k (mine_apart size log.gate_at g k ground mine) (gives_before k ∙ none) ∙ (r.single k mine none).each (p.before k) (p.picked.each k)
 
     -- with its gate as it was the log says what it said
-    says_still : image log.at ≡ p.before log.at → log_of image log.at ≡ saying log es
+    says_still : image log.gate_at ≡ p.before log.gate_at → log_of image log.gate_at ≡ saying log es
     says_still gate =
-        IsOpen-log_by log es a.now.words image r.opened (gate ∙ r.opened.gate.each (p.before log.at) (p.picked.each log.at))
+        IsOpen-log_by log es a.now.words image r.opened (gate ∙ r.opened.gate.each (p.before log.gate_at) (p.picked.each log.gate_at))
         (λ k low high.
         let within = (IsOpen-fits log es a.now.words r.opened).used_within in
-        let inside : IsInLog log.at k = record { low = omega arith; high = omega arith } in
+        let inside : IsInLog log.gate_at k = record { low = omega arith; high = omega arith } in
         p.closing.stays k (λ here. absurd (omega arith))
-        (gives_before k ∙ sym (gives k) ∙ new_values-apart (Puddles F) size log.at es (reads a.now.words) replayable k inside)
+        (gives_before k ∙ sym (gives k) ∙ new_values-apart (Puddles F) size log.gate_at es (reads a.now.words) replayable k inside)
         ∙ (r.opened.counted k low high).each (p.before k) (p.picked.each k))
 
-    settles : SettlesTo g log.at values image
+    settles : SettlesTo g log.gate_at values image
     settles = elim p.closing.gate [
       | inl gate ↦ SettlesTo-given g log es write values image r.own (says_still gate) (r.given g.place (λ n d below. refl)) (λ k v mine is. r.saves k v is) not_given
-      | inr shut ↦ SettlesTo-idle g log.at values image (ap is_idle_gate shut.0)
+      | inr shut ↦ SettlesTo-idle g log.gate_at values image (ap is_idle_gate shut.0)
           (λ k mine. by_given (write k) (image k) (values k) (λ v is. shut.1 k v (gives_before k ∙ is) ∙ r.saves k v is) (not_given k mine))
     ]
 
-    shut : IsShut g log.at (gate_word log.lo log.hi log.used) values image
+    shut : IsShut g log.gate_at (gate_word log.lo log.hi log.used) values image
     shut = record {
       settles = settles;
-      gate = elim p.closing.gate [ inl gate ↦ inl (gate ∙ r.opened.gate.each (p.before log.at) (p.picked.each log.at)) | inr closed ↦ inr closed.0 ];
+      gate = elim p.closing.gate [ inl gate ↦ inl (gate ∙ r.opened.gate.each (p.before log.gate_at) (p.picked.each log.gate_at)) | inr closed ↦ inr closed.0 ];
     }
 
-  pub Closes-settled : (fault : Option HostFault) (b : State) → SettlesLog (Puddles F) log.at fault a b → Leaves (Silently (IsSettling (Puddles F) log.at a.now.words)) a b
-      → Closes g log.at values fault a b
+  pub Closes-settled : (fault : Option HostFault) (b : State) → SettlesLog (Puddles F) log.gate_at fault a b → Leaves (Silently (IsSettling (Puddles F) log.gate_at a.now.words)) a b
+      → Closes g log.gate_at values fault a b
   Closes-settled fault b s moments =
       record {
-        changes = Changes-wider (ByLog log.at given_now) (ByTransaction g log.at) fault a b (λ k v by. elim by [
+        changes = Changes-wider (ByLog log.gate_at given_now) (ByTransaction g log.gate_at) fault a b (λ k v by. elim by [
           | inl here ↦ inl (record { low = omega arith; high = omega arith })
           | inr named ↦ inr (r.mine k named.value (sym (gives k) ∙ named.is))
         ]) s.changes;
-        moments = Leaves-weaker (Silently (IsSettling (Puddles F) log.at a.now.words)) (Silently (SettlesTo g log.at values)) a b (λ bytes image p. (p.0, settles image p.1)) moments;
+        moments = Leaves-weaker (Silently (IsSettling (Puddles F) log.gate_at a.now.words)) (Silently (SettlesTo g log.gate_at values)) a b (λ bytes image p. (p.0, settles image p.1)) moments;
         durable = λ none k mine. durable_by (write k) (b.now.words k) (values k) (r.saves k)
             (λ v is. s.durable none k v (gives k ∙ is))
-            (λ free. HasOnly-kept (ByLog log.at given_now) fault a b k (values k) s.changes
+            (λ free. HasOnly-kept (ByLog log.gate_at given_now) fault a b k (values k) s.changes
             (λ x by. elim by [
-              | inl here ↦ mine_apart size log.at g k ground mine here
+              | inl here ↦ mine_apart size log.gate_at g k ground mine here
               | inr named ↦ absurd (let it : None ≡ Some named.value = sym (gives k ∙ free) ∙ named.is in cc)
             ]) (r.single k mine free));
         closed = s.closed;
       }
 
-  pub Shuts-settled : (fault : Option HostFault) (b : State) → SettlesLog (Puddles F) log.at fault a b → Leaves (Silently (IsSettling (Puddles F) log.at a.now.words)) a b
-      → Shuts g log.at (gate_word log.lo log.hi log.used) values fault a b
+  pub Shuts-settled : (fault : Option HostFault) (b : State) → SettlesLog (Puddles F) log.gate_at fault a b → Leaves (Silently (IsSettling (Puddles F) log.gate_at a.now.words)) a b
+      → Shuts g log.gate_at (gate_word log.lo log.hi log.used) values fault a b
   Shuts-settled fault b s moments =
       record {
         closes = Closes-settled fault b s moments;
-        moments = Leaves-weaker (Silently (IsSettling (Puddles F) log.at a.now.words)) (Silently (IsShut g log.at (gate_word log.lo log.hi log.used) values)) a b
+        moments = Leaves-weaker (Silently (IsSettling (Puddles F) log.gate_at a.now.words)) (Silently (IsShut g log.gate_at (gate_word log.lo log.hi log.used) values)) a b
             (λ bytes image p. (p.0, shut image p.1)) moments;
       }

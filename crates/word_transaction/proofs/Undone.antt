@@ -24,22 +24,22 @@ no_words : (es : List Entry) (image : Image) (at used : ℕ) → used ≡ 0 → 
 no_words es image at used none is = let it : Some [] ≡ Some es = sym (entries_in-nothing (words_from image at used) (words_from-none image at used none)) ∙ is in cc
 
 -- a log without an entry is closed
-pub Closes-empty : (size : ℕ) (log : OpenLog) (es : List Entry) (g : Ground) (before : Image) (fault : Option HostFault) (a b : State) → IsGround size log.at g
-    → IsRunning g log es before a.now.words → log.used ≡ 0 → Persists (only log.at CLOSED_GATE) fault a b → Closes g log.at before fault a b
+pub Closes-empty : (size : ℕ) (log : OpenLog) (es : List Entry) (g : Ground) (before : Image) (fault : Option HostFault) (a b : State) → IsGround size log.gate_at g
+    → IsRunning g log es before a.now.words → log.used ≡ 0 → Persists (only log.gate_at CLOSED_GATE) fault a b → Closes g log.gate_at before fault a b
 Closes-empty size log es g before fault a b ground r none p =
-    let empty = no_words es (reads a.now.words) (log.at + LOG_HEADER_WORDS) log.used none (IsOpen-words log es a.now.words r.opened) in
-    Closes-shut size log.at g ground before fault a b (λ image picked. IsRunning-settles g log es before image a.now.words r picked)
+    let empty = no_words es (reads a.now.words) (log.gate_at + LOG_HEADER_WORDS) log.used none (IsOpen-words log es a.now.words r.opened) in
+    Closes-shut size log.gate_at g ground before fault a b (λ image picked. IsRunning-settles g log es before image a.now.words r picked)
     (λ k mine. r.single k mine (ap (λ (fs : List Entry). saved g.place fs k) empty ∙ undone-none g.place running_range k)) p
 
 -- a running log gives what is saved
-pub Gives-running : (size : ℕ) (g : Ground) (log : OpenLog) (es : List Entry) (before : Image) (words : Words) → IsGround size log.at g → IsRunning g log es before words
+pub Gives-running : (size : ℕ) (g : Ground) (log : OpenLog) (es : List Entry) (before : Image) (words : Words) → IsGround size log.gate_at g → IsRunning g log es before words
     → Gives g log es (saved g.place es) before words
 Gives-running size g log es before words ground r =
     record {
       opened = r.opened;
       own = r.own;
       given = λ place same k. new_value-running g place (saying log es) es k r.lo r.hi refl r.own ∙ undone-places g.place place running_range es k same;
-      mine = λ k v is. saved_is_mine size log.at g es k v ground r.own is;
+      mine = λ k v is. saved_is_mine size log.gate_at g es k v ground r.own is;
       saves = r.saves;
       single = r.single;
     }

@@ -21,21 +21,21 @@ use Rattle.word_transaction.proofs.Calls.{not_cut, marked_still}
 -- ---- words that are covered are written
 
 module _ (size : ℕ) (g : Ground) (log : OpenLog) (es : List Entry) (before : Image) (write : Write) (fault : Option HostFault) (s t : State)
-    (ground : IsGround size log.at g) (r : IsRunning g log es before s.now.words) (covered : IsCovered g es write) (w : Writes write fault s t) where
+    (ground : IsGround size log.gate_at g) (r : IsRunning g log es before s.now.words) (covered : IsCovered g es write) (w : Writes write fault s t) where
   -- none is of the log
-  beside_log : (k v : ℕ) → IsInLog log.at k → written write k v → ⊥
-  beside_log k v inside may = not_inside log.at k (ground.apart k (covered.mine k v may)) inside
+  beside_log : (k v : ℕ) → IsInLog log.gate_at k → written write k v → ⊥
+  beside_log k v inside may = not_inside log.gate_at k (ground.apart k (covered.mine k v may)) inside
 
   none_comes : (k : ℕ) → write k ≡ None → (v : ℕ) → written write k v → ⊥
   none_comes k none v may = some_not_none (write k) v may none
 
-  moment : (was image : Image) → Picks s.now.words was → IsFrom (written write) was image → SettlesTo g log.at before image
+  moment : (was image : Image) → Picks s.now.words was → IsFrom (written write) was image → SettlesTo g log.gate_at before image
   moment was image picked from =
       let used = (IsOpen-fits log es s.now.words r.opened).used_within in
-      let in_log : (k : ℕ) → IsInLog log.at k → image k ≡ was k = λ k inside. elim (from.each k) [ inl same ↦ same | inr new ↦ absurd (beside_log k (image k) inside new) ] in
+      let in_log : (k : ℕ) → IsInLog log.gate_at k → image k ≡ was k = λ k inside. elim (from.each k) [ inl same ↦ same | inr new ↦ absurd (beside_log k (image k) inside new) ] in
       SettlesTo-running g log es before image r.lo r.hi r.own
       (IsOpen-log_by log es s.now.words image r.opened
-      (in_log log.at (record { low = omega arith; high = omega arith }) ∙ r.opened.gate.each (was log.at) (picked.each log.at))
+      (in_log log.gate_at (record { low = omega arith; high = omega arith }) ∙ r.opened.gate.each (was log.gate_at) (picked.each log.gate_at))
       (λ k low high. in_log k (record { low = omega arith; high = omega arith }) ∙ (r.opened.counted k low high).each (was k) (picked.each k)))
       (λ k v mine is. r.saves k v is)
       (λ k mine none. (let it : image k ≡ was k = elim (from.each k) [ inl same ↦ same | inr new ↦ absurd (covered.kept k (image k) new none) ] in it)
@@ -64,8 +64,8 @@ module _ (size : ℕ) (g : Ground) (log : OpenLog) (es : List Entry) (before : I
   pub Runs-written : Runs g log es before write fault s t
   Runs-written =
       record {
-        changes = Changes-wider (written write) (ByTransaction g log.at) fault s t (λ k v may. inr (covered.mine k v may)) w.changes;
-        moments = Leaves-changes (SettlesTo g log.at before) (written write) fault s t moment w.changes;
+        changes = Changes-wider (written write) (ByTransaction g log.gate_at) fault s t (λ k v may. inr (covered.mine k v may)) w.changes;
+        moments = Leaves-changes (SettlesTo g log.gate_at before) (written write) fault s t moment w.changes;
         running = running;
         now = λ none k out. now_by none k (write k) refl;
       }

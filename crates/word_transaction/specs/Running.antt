@@ -55,7 +55,7 @@ nothing k = None
 
 -- the log of a transaction that has just begun
 abbrev pub begun : (at : ℕ) → OpenLog
-begun at = record { at = at; lo = RUNNING_LO; hi = RUNNING_HI; used = 0; asks = false }
+begun at = record { gate_at = at; lo = RUNNING_LO; hi = RUNNING_HI; used = 0; asks = false }
 
 -- ---- what an image has
 
@@ -94,16 +94,16 @@ ByTransaction g at k v = IsInLog at k ⊎ (g.mine k ≡ true)
 
 -- the gate of the log may come to say the range of a committing one, and then that of a closed one
 pub record ByCommit (log : OpenLog) (k v : ℕ) : Type 0 where
-  pub gate : k ≡ log.at
+  pub gate : k ≡ log.gate_at
   pub value : (v ≡ gate_word COMMITTING_LO COMMITTING_HI log.used) ⊎ (v ≡ CLOSED_GATE)
 
 -- A call within the transaction: each image left meanwhile settles to the values from the beginning. Without a fault the transaction is open,
 -- with this log and these entries, and what is read outside the log is as it was but for these words.
 pub record Runs (g : Ground) (log : OpenLog) (es : List Entry) (before : Image) (write : Write) (fault : Option HostFault) (old new : State) : Type 0 where
-  pub changes : Changes (ByTransaction g log.at) fault old new
-  pub moments : Leaves (Silently (SettlesTo g log.at before)) old new
+  pub changes : Changes (ByTransaction g log.gate_at) fault old new
+  pub moments : Leaves (Silently (SettlesTo g log.gate_at before)) old new
   pub running : fault ≡ None → IsRunning g log es before new.now.words
-  pub now : fault ≡ None → (k : ℕ) → is_in_log log.at k ≡ false → reads new.now.words k ≡ overwritten write (reads old.now.words) k
+  pub now : fault ≡ None → (k : ℕ) → is_in_log log.gate_at k ≡ false → reads new.now.words k ≡ overwritten write (reads old.now.words) k
 
 -- A call that keeps words, and writes none: whatever entries there are behind it, they ask for what was asked for, what was saved is so still, and
 -- without a fault these words are saved.

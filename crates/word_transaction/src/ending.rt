@@ -43,7 +43,7 @@ impl WordTransaction {
         ensures cause { H.counts h.new ≡ after_fault (fault_of result) (H.counts h.old) }
     {
         let WordTransaction { mut log } = self;
-        let at = log.at();
+        let at = log.gate_at();
         let asked = log.asks();
         h.fence()?;
         log.to_committing(h)?;
@@ -75,7 +75,7 @@ impl WordTransaction {
         if used == 0 {
             return log.close(h);
         }
-        settle_log(h, log.at(), Target::Puddles(frames))
+        settle_log(h, log.gate_at(), Target::Puddles(frames))
     }
 
     /// Gives the transaction up where power was lost or the host failed. No device is touched.

@@ -28,15 +28,15 @@ impl WordTransaction {
         first: u32,
         count: u32,
     ) -> Result<(), HostFault>
-        requires place { self.old.at + LOG_WORDS ≤ (H.counts h.old).size }
+        requires place { self.old.gate_at + LOG_WORDS ≤ (H.counts h.old).size }
         requires some { 1 ≤ count }
         requires no_more { count ≤ MAX_ENTRY_VALUES }
         requires within { first + count ≤ (H.counts h.old).size }
         requires room { self.old.used + (count + ENTRY_HEADER_WORDS) ≤ LOG_ENTRY_WORDS }
         ensures appended { IfOk result (λ _. self.new ≡ longer (count + ENTRY_HEADER_WORDS) self.old) }
         ensures failed { OnErr result (self.new ≡ self.old) }
-        ensures changes { H.tells → Changes (InLog self.old.at) (fault_of result) (H.state h.old) (H.state h.new) }
-        ensures keeps { H.tells → (size : ℕ) → size ≡ (H.counts h.old).size → (g : Ground) → (es : List Entry) → (before : Image) → IsGround size self.old.at g
+        ensures changes { H.tells → Changes (InLog self.old.gate_at) (fault_of result) (H.state h.old) (H.state h.new) }
+        ensures keeps { H.tells → (size : ℕ) → size ≡ (H.counts h.old).size → (g : Ground) → (es : List Entry) → (before : Image) → IsGround size self.old.gate_at g
             → g.may address count ≡ true → g.place address ≡ Option.Some first → IsRunning g self.old es before (H.state h.old).now.words
             → Keeps g self.new es before (IsOneOf first count) (fault_of result) (H.state h.old) (H.state h.new) }
         ensures cause { H.counts h.new ≡ after_fault (fault_of result) (H.counts h.old) }
@@ -56,7 +56,7 @@ impl WordTransaction {
         address2: u64,
         second: u32,
     ) -> Result<(), HostFault>
-        requires place { self.old.at + LOG_WORDS ≤ (H.counts h.old).size }
+        requires place { self.old.gate_at + LOG_WORDS ≤ (H.counts h.old).size }
         requires some { 1 ≤ count }
         requires no_more { count ≤ MAX_ENTRY_VALUES }
         requires within { first + count ≤ (H.counts h.old).size }
@@ -64,8 +64,8 @@ impl WordTransaction {
         requires room { self.old.used + (count + 5) ≤ LOG_ENTRY_WORDS }
         ensures appended { IfOk result (λ _. self.new ≡ longer (count + 5) self.old) }
         ensures failed { OnErr result (self.new ≡ self.old) }
-        ensures changes { H.tells → Changes (InLog self.old.at) (fault_of result) (H.state h.old) (H.state h.new) }
-        ensures keeps { H.tells → (size : ℕ) → size ≡ (H.counts h.old).size → (g : Ground) → (es : List Entry) → (before : Image) → IsGround size self.old.at g
+        ensures changes { H.tells → Changes (InLog self.old.gate_at) (fault_of result) (H.state h.old) (H.state h.new) }
+        ensures keeps { H.tells → (size : ℕ) → size ≡ (H.counts h.old).size → (g : Ground) → (es : List Entry) → (before : Image) → IsGround size self.old.gate_at g
             → g.may address count ≡ true → g.place address ≡ Option.Some first → g.may address2 1 ≡ true → g.place address2 ≡ Option.Some second
             → IsRunning g self.old es before (H.state h.old).now.words
             → Keeps g self.new es before (λ k. IsOneOf first count k ⊎ (k ≡ second)) (fault_of result) (H.state h.old) (H.state h.new) }
@@ -90,20 +90,20 @@ impl WordTransaction {
         first: u32,
         count: u32,
     ) -> Result<(), HostFault>
-        requires place { self.old.at + LOG_WORDS ≤ (H.counts h.old).size }
+        requires place { self.old.gate_at + LOG_WORDS ≤ (H.counts h.old).size }
         requires some { 1 ≤ count }
         requires no_more { count ≤ MAX_ENTRY_VALUES }
         requires within { first + count ≤ (H.counts h.old).size }
         requires room { self.old.used + (count + ENTRY_HEADER_WORDS) ≤ LOG_ENTRY_WORDS }
-        ensures at { self.new.at ≡ self.old.at }
+        ensures at { self.new.gate_at ≡ self.old.gate_at }
         ensures room { self.new.used ≤ self.old.used + (count + ENTRY_HEADER_WORDS) }
         ensures failed { OnErr result (self.new ≡ self.old) }
-        ensures appended { H.tells → (es : List Entry) → entries_of (reads (H.state h.old).now.words) self.old.at ≡ Option.Some es → address + WORD_BYTES * count ≤ 2 ^ 64
+        ensures appended { H.tells → (es : List Entry) → entries_of (reads (H.state h.old).now.words) self.old.gate_at ≡ Option.Some es → address + WORD_BYTES * count ≤ 2 ^ 64
             → IfOk result (λ _. self.new ≡ longer (words_to_keep es address count) self.old) }
-        ensures covered { H.tells → (es : List Entry) → entries_of (reads (H.state h.old).now.words) self.old.at ≡ Option.Some es → address + WORD_BYTES * count ≤ 2 ^ 64
+        ensures covered { H.tells → (es : List Entry) → entries_of (reads (H.state h.old).now.words) self.old.gate_at ≡ Option.Some es → address + WORD_BYTES * count ≤ 2 ^ 64
             → words_to_keep es address count ≡ 0 → H.state h.new ≡ H.state h.old }
-        ensures changes { H.tells → Changes (InLog self.old.at) (fault_of result) (H.state h.old) (H.state h.new) }
-        ensures keeps { H.tells → (size : ℕ) → size ≡ (H.counts h.old).size → (g : Ground) → (es : List Entry) → (before : Image) → IsGround size self.old.at g
+        ensures changes { H.tells → Changes (InLog self.old.gate_at) (fault_of result) (H.state h.old) (H.state h.new) }
+        ensures keeps { H.tells → (size : ℕ) → size ≡ (H.counts h.old).size → (g : Ground) → (es : List Entry) → (before : Image) → IsGround size self.old.gate_at g
             → g.may address count ≡ true → g.place address ≡ Option.Some first → IsRunning g self.old es before (H.state h.old).now.words
             → Keeps g self.new es before (IsOneOf first count) (fault_of result) (H.state h.old) (H.state h.new) }
         ensures cause { H.counts h.new ≡ after_fault (fault_of result) (H.counts h.old) }
@@ -131,21 +131,21 @@ impl WordTransaction {
         address2: u64,
         second: u32,
     ) -> Result<(), HostFault>
-        requires place { self.old.at + LOG_WORDS ≤ (H.counts h.old).size }
+        requires place { self.old.gate_at + LOG_WORDS ≤ (H.counts h.old).size }
         requires some { 1 ≤ count }
         requires no_more { count ≤ MAX_ENTRY_VALUES }
         requires within { first + count ≤ (H.counts h.old).size }
         requires second_within { second < (H.counts h.old).size }
         requires room { self.old.used + (count + 5) ≤ LOG_ENTRY_WORDS }
-        ensures at { self.new.at ≡ self.old.at }
+        ensures at { self.new.gate_at ≡ self.old.gate_at }
         ensures room { self.new.used ≤ self.old.used + (count + 5) }
         ensures failed { OnErr result (self.new ≡ self.old) }
-        ensures appended { H.tells → (es : List Entry) → entries_of (reads (H.state h.old).now.words) self.old.at ≡ Option.Some es → address + WORD_BYTES * count ≤ 2 ^ 64
+        ensures appended { H.tells → (es : List Entry) → entries_of (reads (H.state h.old).now.words) self.old.gate_at ≡ Option.Some es → address + WORD_BYTES * count ≤ 2 ^ 64
             → address2 + WORD_BYTES ≤ 2 ^ 64 → IfOk result (λ _. self.new ≡ longer (words_to_keep es address count + words_to_keep es address2 1) self.old) }
-        ensures covered { H.tells → (es : List Entry) → entries_of (reads (H.state h.old).now.words) self.old.at ≡ Option.Some es → address + WORD_BYTES * count ≤ 2 ^ 64
+        ensures covered { H.tells → (es : List Entry) → entries_of (reads (H.state h.old).now.words) self.old.gate_at ≡ Option.Some es → address + WORD_BYTES * count ≤ 2 ^ 64
             → address2 + WORD_BYTES ≤ 2 ^ 64 → words_to_keep es address count + words_to_keep es address2 1 ≡ 0 → H.state h.new ≡ H.state h.old }
-        ensures changes { H.tells → Changes (InLog self.old.at) (fault_of result) (H.state h.old) (H.state h.new) }
-        ensures keeps { H.tells → (size : ℕ) → size ≡ (H.counts h.old).size → (g : Ground) → (es : List Entry) → (before : Image) → IsGround size self.old.at g
+        ensures changes { H.tells → Changes (InLog self.old.gate_at) (fault_of result) (H.state h.old) (H.state h.new) }
+        ensures keeps { H.tells → (size : ℕ) → size ≡ (H.counts h.old).size → (g : Ground) → (es : List Entry) → (before : Image) → IsGround size self.old.gate_at g
             → g.may address count ≡ true → g.place address ≡ Option.Some first → g.may address2 1 ≡ true → g.place address2 ≡ Option.Some second
             → IsRunning g self.old es before (H.state h.old).now.words
             → Keeps g self.new es before (λ k. IsOneOf first count k ⊎ (k ≡ second)) (fault_of result) (H.state h.old) (H.state h.new) }

@@ -15,20 +15,20 @@ ghost use Rattle.word_transaction.specs.Running.{IsRunning, SettlesTo};
 /// A transaction stays open, with the same entries, beside calls that give no value to a word of its log or to one of its own.
 pub fn transaction_stays_open_beside_calls()
     ensures { (g : Ground) (log : OpenLog) (es : List Entry) (before : Image) (fault : Option HostFault) (old : State) (new : State)
-        → Changes (λ k _. (is_in_log log.at k ≡ false) × (g.mine k ≡ false)) fault old new → IsRunning g log es before old.now.words → IsRunning g log es before new.now.words }
+        → Changes (λ k _. (is_in_log log.gate_at k ≡ false) × (g.mine k ≡ false)) fault old new → IsRunning g log es before old.now.words → IsRunning g log es before new.now.words }
 {}
 
 /// Each image that may be left while a transaction is open settles to the values from its beginning.
 pub fn image_left_settles_to_the_beginning()
     ensures { (g : Ground) (log : OpenLog) (es : List Entry) (before : Image) (image : Image) (words : Words) → IsRunning g log es before words → Picks words image
-        → SettlesTo g log.at before image }
+        → SettlesTo g log.gate_at before image }
 {}
 
 /// So does each image that is left, at any moment, by calls that give no value to a word of its log or to one of its own.
 pub fn images_left_beside_calls_settle_to_the_beginning()
     ensures { (g : Ground) (log : OpenLog) (es : List Entry) (before : Image) (fault : Option HostFault) (old : State) (new : State)
-        → Changes (λ k _. (is_in_log log.at k ≡ false) × (g.mine k ≡ false)) fault old new → IsRunning g log es before old.now.words
-        → Leaves (Silently (SettlesTo g log.at before)) old new }
+        → Changes (λ k _. (is_in_log log.gate_at k ≡ false) × (g.mine k ≡ false)) fault old new → IsRunning g log es before old.now.words
+        → Leaves (Silently (SettlesTo g log.gate_at before)) old new }
 {}
 
 /// What an image settles to is told by the words of the log and by the transaction's own words alone.
@@ -39,7 +39,7 @@ pub fn image_settles_by_its_words_alone()
 
 /// The values from the beginning count on the transaction's own words alone: it is open by any values that agree there.
 pub fn values_count_on_own_words_alone()
-    ensures { (size : ℕ) (g : Ground) (log : OpenLog) (es : List Entry) (before : Image) (values : Image) (words : Words) → IsGround size log.at g
+    ensures { (size : ℕ) (g : Ground) (log : OpenLog) (es : List Entry) (before : Image) (values : Image) (words : Words) → IsGround size log.gate_at g
         → ((k : ℕ) → g.mine k ≡ true → before k ≡ values k) → IsRunning g log es before words → IsRunning g log es values words }
 {}
 

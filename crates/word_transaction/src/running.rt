@@ -46,7 +46,7 @@ impl WordTransaction {
         order: u32,
         vals: &[u64],
     ) -> Result<(), HostFault>
-        requires place { self.old.at + LOG_WORDS ≤ (H.counts h.old).size }
+        requires place { self.old.gate_at + LOG_WORDS ≤ (H.counts h.old).size }
         requires some { 1 ≤ length vals.now }
         requires no_more { length vals.now ≤ MAX_ENTRY_VALUES }
         requires seq_fits { seq < 2 ^ 16 }
@@ -54,8 +54,8 @@ impl WordTransaction {
         requires room { self.old.used + (length vals.now + ENTRY_HEADER_WORDS) ≤ LOG_ENTRY_WORDS }
         ensures appended { IfOk result (λ _. self.new ≡ with_entry (record { address = address; seq = seq; order = order; vals = vals.now }) self.old) }
         ensures failed { OnErr result (self.new ≡ self.old) }
-        ensures changes { H.tells → Changes (InLog self.old.at) (fault_of result) (H.state h.old) (H.state h.new) }
-        ensures runs { H.tells → (size : ℕ) → size ≡ (H.counts h.old).size → (g : Ground) → (es : List Entry) → (before : Image) → IsGround size self.old.at g
+        ensures changes { H.tells → Changes (InLog self.old.gate_at) (fault_of result) (H.state h.old) (H.state h.new) }
+        ensures runs { H.tells → (size : ℕ) → size ≡ (H.counts h.old).size → (g : Ground) → (es : List Entry) → (before : Image) → IsGround size self.old.gate_at g
             → IsRunning g self.old es before (H.state h.old).now.words → MayAppend g es before (record { address = address; seq = seq; order = order; vals = vals.now } ∷ [])
             → Runs g (with_entry (record { address = address; seq = seq; order = order; vals = vals.now }) self.old) (es ++ record { address = address; seq = seq; order = order; vals = vals.now } ∷ []) before nothing
             (fault_of result) (H.state h.old) (H.state h.new) }
@@ -78,14 +78,14 @@ impl WordTransaction {
         address2: u64,
         word: u64,
     ) -> Result<(), HostFault>
-        requires place { self.old.at + LOG_WORDS ≤ (H.counts h.old).size }
+        requires place { self.old.gate_at + LOG_WORDS ≤ (H.counts h.old).size }
         requires some { 1 ≤ length vals.now }
         requires no_more { length vals.now ≤ MAX_ENTRY_VALUES }
         requires room { self.old.used + (length vals.now + 5) ≤ LOG_ENTRY_WORDS }
         ensures appended { IfOk result (λ _. self.new ≡ longer (length vals.now + 5) self.old) }
         ensures failed { OnErr result (self.new ≡ self.old) }
-        ensures changes { H.tells → Changes (InLog self.old.at) (fault_of result) (H.state h.old) (H.state h.new) }
-        ensures runs { H.tells → (size : ℕ) → size ≡ (H.counts h.old).size → (g : Ground) → (es : List Entry) → (before : Image) → IsGround size self.old.at g
+        ensures changes { H.tells → Changes (InLog self.old.gate_at) (fault_of result) (H.state h.old) (H.state h.new) }
+        ensures runs { H.tells → (size : ℕ) → size ≡ (H.counts h.old).size → (g : Ground) → (es : List Entry) → (before : Image) → IsGround size self.old.gate_at g
             → IsRunning g self.old es before (H.state h.old).now.words → MayAppend g es before (undo_entry address vals.now ∷ undo_entry address2 (word ∷ []) ∷ [])
             → Runs g (longer (length vals.now + 5) self.old) (es ++ undo_entry address vals.now ∷ undo_entry address2 (word ∷ []) ∷ []) before nothing (fault_of result) (H.state h.old) (H.state h.new) }
         ensures cause { H.counts h.new ≡ after_fault (fault_of result) (H.counts h.old) }
@@ -103,14 +103,14 @@ impl WordTransaction {
     /// left has the transaction's words with the log replayed as they were when it began, and so it has before. After an error
     /// `self` is as it was; the only errors are the host's own. Two fences.
     pub fn ask<H: Host>(&mut self, h: &mut H, address: u64, vals: &[u64]) -> Result<(), HostFault>
-        requires place { self.old.at + LOG_WORDS ≤ (H.counts h.old).size }
+        requires place { self.old.gate_at + LOG_WORDS ≤ (H.counts h.old).size }
         requires some { 1 ≤ length vals.now }
         requires no_more { length vals.now ≤ MAX_ENTRY_VALUES }
         requires room { self.old.used + (length vals.now + ENTRY_HEADER_WORDS) ≤ LOG_ENTRY_WORDS }
         ensures asked { IfOk result (λ _. self.new ≡ asking (length vals.now + ENTRY_HEADER_WORDS) self.old) }
         ensures failed { OnErr result (self.new ≡ self.old) }
-        ensures changes { H.tells → Changes (InLog self.old.at) (fault_of result) (H.state h.old) (H.state h.new) }
-        ensures runs { H.tells → (size : ℕ) → size ≡ (H.counts h.old).size → (g : Ground) → (es : List Entry) → (before : Image) → IsGround size self.old.at g
+        ensures changes { H.tells → Changes (InLog self.old.gate_at) (fault_of result) (H.state h.old) (H.state h.new) }
+        ensures runs { H.tells → (size : ℕ) → size ≡ (H.counts h.old).size → (g : Ground) → (es : List Entry) → (before : Image) → IsGround size self.old.gate_at g
             → g.may address (length vals.now) ≡ true → IsRunning g self.old es before (H.state h.old).now.words
             → Runs g (asking (length vals.now + ENTRY_HEADER_WORDS) self.old) (es ++ redo_entry address vals.now ∷ []) before nothing
             (fault_of result) (H.state h.old) (H.state h.new) }
@@ -126,7 +126,7 @@ impl WordTransaction {
     pub fn write<H: Host>(&self, h: &mut H, first: u32, vals: &[u64]) -> Result<(), HostFault>
         requires { first + length vals.now ≤ (H.counts h.old).size }
         ensures writes { H.tells → Writes (placed first vals.now) (fault_of result) (H.state h.old) (H.state h.new) }
-        ensures runs { H.tells → (size : ℕ) → size ≡ (H.counts h.old).size → (g : Ground) → (es : List Entry) → (before : Image) → IsGround size self.now.at g
+        ensures runs { H.tells → (size : ℕ) → size ≡ (H.counts h.old).size → (g : Ground) → (es : List Entry) → (before : Image) → IsGround size self.now.gate_at g
             → IsRunning g self.now es before (H.state h.old).now.words → IsCovered g es (placed first vals.now)
             → Runs g self.now es before (placed first vals.now) (fault_of result) (H.state h.old) (H.state h.new) }
         ensures cause { H.counts h.new ≡ after_fault (fault_of result) (H.counts h.old) }
@@ -136,8 +136,8 @@ impl WordTransaction {
 
     /// The word of its log's gate.
     pub fn at(&self) -> u32
-        ensures { result ≡ self.now.at }
+        ensures { result ≡ self.now.gate_at }
     {
-        self.log.at()
+        self.log.gate_at()
     }
 }

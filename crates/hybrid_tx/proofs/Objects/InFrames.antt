@@ -66,13 +66,13 @@ no_wrap base word legal below =
 -- ---- calls in turn
 
 -- what failed did not do what was to come behind it
-pub Saves-failed : (F : ℕ) (at : List (ℕ × Puddle)) (log behind : OpenLog) (before : Image) (redo : List Entry) (same : behind.at ≡ log.at) (write later : Write) (fault : HostFault) (old new : State)
+pub Saves-failed : (F : ℕ) (at : List (ℕ × Puddle)) (log behind : OpenLog) (before : Image) (redo : List Entry) (same : behind.gate_at ≡ log.gate_at) (write later : Write) (fault : HostFault) (old new : State)
     → Saves F at log before redo write (Some fault) old new → Saves F at behind before redo later (Some fault) old new
 Saves-failed F at log behind before redo same write later fault old new s =
     record { es = s.es; runs = Runs-failed (pool_ground F at) log behind s.es s.es before write later fault old new same s.runs; asks = s.asks }
 
 -- the log behind a call, which at Ok is this
-pub Saves-behind : (F : ℕ) (at : List (ℕ × Puddle)) (long now : OpenLog) (before : Image) (redo : List Entry) (write : Write) (result : Result (Unit {0}) HostFault) (old new : State) → now.at ≡ long.at
+pub Saves-behind : (F : ℕ) (at : List (ℕ × Puddle)) (long now : OpenLog) (before : Image) (redo : List Entry) (write : Write) (result : Result (Unit {0}) HostFault) (old new : State) → now.gate_at ≡ long.gate_at
     → IfOk result (λ _. now ≡ long) → Saves F at long before redo write (fault_of result) old new → Saves F at now before redo write (fault_of result) old new
 Saves-behind F at long now before redo write (Ok done) old new same is s = subst (λ (l : OpenLog). Saves F at l before redo write None old new) (sym is) s
 Saves-behind F at long now before redo write (Err fault) old new same is s = Saves-failed F at long now before redo same write write fault old new s
@@ -92,7 +92,7 @@ module _ (F : ℕ) (at : List (ℕ × Puddle)) (is_placed : IsPlaced F at) (o wo
   place_named = ap (pool_place F at) named ∙ place_of_word F at is_placed o word e there (omega arith)
 
 module _ (F size : ℕ) (at : List (ℕ × Puddle)) (log now : OpenLog) (before : Image) (redo : List Entry) (fault : Option HostFault) (old new : State)
-    (is_placed : IsPlaced F at) (device : device_words F ≤ size) (apart : log.at + LOG_WORDS ≤ frames_at F) (s : IsSaving F at log before redo old.now.words) where
+    (is_placed : IsPlaced F at) (device : device_words F ≤ size) (apart : log.gate_at + LOG_WORDS ≤ frames_at F) (s : IsSaving F at log before redo old.now.words) where
   abbrev g : Ground
   g = pool_ground F at
 
@@ -102,20 +102,20 @@ module _ (F size : ℕ) (at : List (ℕ × Puddle)) (log now : OpenLog) (before 
   -- of one frame
   pub Saves-put : (o word : ℕ) (e : ℕ × Puddle) (address first : ℕ) (vals : List ℕ) → slice_get at o ≡ Some e → 1 ≤ length vals → word + length vals ≤ FRAME_WORDS
       → address ≡ (e.1.base + WORD_BYTES * word) % 2 ^ 64 → first ≡ frame_at F e.0 + word
-      → ((es : List Entry) → IsGround size log.at g → g.may address (length vals) ≡ true → g.place address ≡ Some first → IsRunning g log es before old.now.words
+      → ((es : List Entry) → IsGround size log.gate_at g → g.may address (length vals) ≡ true → g.place address ≡ Some first → IsRunning g log es before old.now.words
       → Puts g now es before (placed first vals) fault old new)
       → Saves F at now before redo (placed (frame_at F e.0 + word) vals) fault old new
   Saves-put o word e address first vals there some few is_address is_first puts =
       Saves-puts (placed (frame_at F e.0 + word) vals)
       (subst (λ (k : ℕ). Puts g now s.es before (placed k vals) fault old new) is_first
-      (puts s.es (is_ground F size log.at at is_placed device apart) (may_name F at is_placed o word e (length vals) address there some few is_address)
+      (puts s.es (is_ground F size log.gate_at at is_placed device apart) (may_name F at is_placed o word e (length vals) address there some few is_address)
       (place_named F at is_placed o word e (length vals) address there some few is_address ∙ ap (λ k. Some k) (sym is_first)) s.running))
 
   -- and one word of another
   pub Saves-put_both : (o word : ℕ) (e : ℕ × Puddle) (address first : ℕ) (vals : List ℕ) (p other : ℕ) (d : ℕ × Puddle) (address2 second value : ℕ)
       → slice_get at o ≡ Some e → 1 ≤ length vals → word + length vals ≤ FRAME_WORDS → address ≡ (e.1.base + WORD_BYTES * word) % 2 ^ 64 → first ≡ frame_at F e.0 + word
       → slice_get at p ≡ Some d → other < FRAME_WORDS → address2 ≡ (d.1.base + WORD_BYTES * other) % 2 ^ 64 → second ≡ frame_at F d.0 + other
-      → ((es : List Entry) → IsGround size log.at g → g.may address (length vals) ≡ true → g.place address ≡ Some first → g.may address2 1 ≡ true → g.place address2 ≡ Some second
+      → ((es : List Entry) → IsGround size log.gate_at g → g.may address (length vals) ≡ true → g.place address ≡ Some first → g.may address2 1 ≡ true → g.place address2 ≡ Some second
       → IsRunning g log es before old.now.words → Puts g now es before (over (placed first vals) (placed second (value ∷ []))) fault old new)
       → Saves F at now before redo (over (placed (frame_at F e.0 + word) vals) (placed (frame_at F d.0 + other) (value ∷ []))) fault old new
   Saves-put_both o word e address first vals p other d address2 second value there some few is_address is_first also below is_other is_second puts =
@@ -124,7 +124,7 @@ module _ (F size : ℕ) (at : List (ℕ × Puddle)) (log now : OpenLog) (before 
       Saves-puts (over (placed (frame_at F e.0 + word) vals) (placed (frame_at F d.0 + other) (value ∷ [])))
       (subst (λ (k : ℕ). Puts g now s.es before (over (placed k vals) (placed (frame_at F d.0 + other) (value ∷ []))) fault old new) is_first
       (subst (λ (k : ℕ). Puts g now s.es before (over (placed first vals) (placed k (value ∷ []))) fault old new) is_second
-      (puts s.es (is_ground F size log.at at is_placed device apart)
+      (puts s.es (is_ground F size log.gate_at at is_placed device apart)
       (may_name F at is_placed o word e (length vals) address there some few is_address)
       (place_named F at is_placed o word e (length vals) address there some few is_address ∙ ap (λ k. Some k) (sym is_first))
       (may_name F at is_placed p other d 1 address2 also one single is_other)
@@ -140,9 +140,9 @@ PutsAt F at o word vals log behind fault old new =
 
 -- by the log behind the call, which at Ok has one entry more
 pub Saves-asked : (F size : ℕ) (at : List (ℕ × Puddle)) (word : ℕ) (e : ℕ × Puddle) (o : ℕ) (log now : OpenLog) (before : Image) (redo : List Entry) (address value : ℕ) (result : Result (Unit {0}) HostFault) (old new : State)
-    → IsPlaced F at → device_words F ≤ size → log.at + LOG_WORDS ≤ frames_at F → slice_get at o ≡ Some e → word < FRAME_WORDS → address ≡ (e.1.base + WORD_BYTES * word) % 2 ^ 64
-    → IsSaving F at log before redo old.now.words → now.at ≡ log.at → IfOk result (λ _. now ≡ asking SET_UNITS log)
-    → ((es : List Entry) → IsGround size log.at (pool_ground F at) → pool_may at address 1 ≡ true → IsRunning (pool_ground F at) log es before old.now.words
+    → IsPlaced F at → device_words F ≤ size → log.gate_at + LOG_WORDS ≤ frames_at F → slice_get at o ≡ Some e → word < FRAME_WORDS → address ≡ (e.1.base + WORD_BYTES * word) % 2 ^ 64
+    → IsSaving F at log before redo old.now.words → now.gate_at ≡ log.gate_at → IfOk result (λ _. now ≡ asking SET_UNITS log)
+    → ((es : List Entry) → IsGround size log.gate_at (pool_ground F at) → pool_may at address 1 ≡ true → IsRunning (pool_ground F at) log es before old.now.words
     → Runs (pool_ground F at) (asking SET_UNITS log) (es ++ redo_entry address (value ∷ []) ∷ []) before nothing (fault_of result) old new)
     → Saves F at now before (redo ++ redo_entry (e.1.base + WORD_BYTES * word) (value ∷ []) ∷ []) nothing (fault_of result) old new
 Saves-asked F size at word e o log now before redo address value result old new is_placed device apart there below is_address s same is runs =
@@ -150,7 +150,7 @@ Saves-asked F size at word e o log now before redo address value result old new 
     let single : word + 1 ≤ FRAME_WORDS = omega arith in
     Saves-behind F at (asking SET_UNITS log) now before (redo ++ redo_entry (e.1.base + WORD_BYTES * word) (value ∷ []) ∷ []) nothing result old new same is (record {
       es = s.es ++ redo_entry address (value ∷ []) ∷ [];
-      runs = runs s.es (is_ground F size log.at at is_placed device apart) (may_name F at is_placed o word e 1 address there one single is_address) s.running;
+      runs = runs s.es (is_ground F size log.gate_at at is_placed device apart) (may_name F at is_placed o word e 1 address there one single is_address) s.running;
       asks = asked-redo s.es address (value ∷ [])
           ∙ ap₂ (λ (es : List Entry) (a : ℕ). es ++ redo_entry a (value ∷ []) ∷ []) s.asks (named F at is_placed o word e 1 address there one single is_address);
     })

@@ -86,7 +86,7 @@ module _ (F : ℕ) (at : List (ℕ × Puddle)) (types : List (ℕ × ℕ)) (log 
     (is_open : IsOpenOn F at types log before undone now laters old.now.words) where
   -- the words of the slot are put, and the next serial, behind a read
   module _ (behind : OpenLog) (first : ℕ × Puddle) (slot : Slot) (serial bumped type_id : ℕ) (words : List ℕ) (fault : Option HostFault) (mid new : State)
-      (same : behind.at ≡ log.at) (stays : mid ≡ old) (head : slice_get at 0 ≡ Some first) (of : IsSlotOf at slot) (read : serial ≡ frame_word F first.0 NEXT_SERIAL_WORD (reads old.now.words))
+      (same : behind.gate_at ≡ log.gate_at) (stays : mid ≡ old) (head : slice_get at 0 ≡ Some first) (of : IsSlotOf at slot) (read : serial ≡ frame_word F first.0 NEXT_SERIAL_WORD (reads old.now.words))
       (room : now.next_serial < NUMBER_LIMIT) (are_words : words ≡ new_words serial type_id) (is_bumped : bumped ≡ (serial + 1) % 2 ^ 64)
       (put : (b : Image) (redo : List Entry) → IsSaving F (finished_of at) log b redo mid.now.words
       → Saves F (finished_of at) behind b redo (over (placed (frame_at F slot.frame + slot_begins slot) words) (placed (frame_at F first.0 + NEXT_SERIAL_WORD) (bumped ∷ []))) fault mid new) where
@@ -108,7 +108,7 @@ module _ (F : ℕ) (at : List (ℕ × Puddle)) (types : List (ℕ × ℕ)) (log 
         (put before is_open.redo saving))
 
     -- only they are
-    pub MakesIn-new : Changes (ByPutBoth log.at (frame_at F slot.frame + slot_begins slot) words (frame_at F first.0 + NEXT_SERIAL_WORD) bumped) fault mid new → MakesIn F at log.at slot type_id fault old new
+    pub MakesIn-new : Changes (ByPutBoth log.gate_at (frame_at F slot.frame + slot_begins slot) words (frame_at F first.0 + NEXT_SERIAL_WORD) bumped) fault mid new → MakesIn F at log.gate_at slot type_id fault old new
     MakesIn-new changes =
         let next_read = next_is F at types image first head serial read in
         let saves = subst (λ (s : State). IsSaving F (finished_of at) log before is_open.redo s.now.words → Saves F (finished_of at) behind before is_open.redo (making F first.0 slot serial type_id) fault s new) stays
@@ -116,13 +116,13 @@ module _ (F : ℕ) (at : List (ℕ × Puddle)) (types : List (ℕ × ℕ)) (log 
         record {
           first = first;
           head = head;
-          changes = Changes-making F at log.at slot of first type_id old serial bumped words fault mid new stays next_read are_words one_more changes;
+          changes = Changes-making F at log.gate_at slot of first type_id old serial bumped words fault mid new stays next_read are_words one_more changes;
           now = λ none k out.
               saves.runs.now none k (subst (λ (l : ℕ). is_in_log l k ≡ false) (sym same) out)
               ∙ ap (λ (n : ℕ). overwritten (making F first.0 slot n type_id) image k) next_read;
         }
 
-    pub RunsOn-new : (size m : ℕ) → IsPlaced F at → device_words F ≤ size → log.at + LOG_WORDS ≤ frames_at F
+    pub RunsOn-new : (size m : ℕ) → IsPlaced F at → device_words F ≤ size → log.gate_at + LOG_WORDS ≤ frames_at F
         → place_word (stored_in F at image) (place_of_slot slot) SLOT_SERIAL_WORD ≡ 0 → map_of type_id types ≡ Some m
         → RunsOn F at types behind before undone (with_new (blank_object type_id m) now) laters fault old new
     RunsOn-new size m is_placed device apart free defined =

@@ -76,7 +76,7 @@ module _ (F size : ℕ) (at : List (ℕ × Puddle)) (types : List (ℕ × ℕ)) 
 
   -- words that are written make the graph that images have over which they are written, and so of what is asked for later
   pub RunsOn-saves : (log behind : OpenLog) (undone now next : Graph) (laters more : List Later) (redo : List Entry) (write : Write) (fault : Option HostFault) (old new : State)
-      → IsGround size behind.at (pool_ground F at) → IsOpenOn F at types log before undone now laters old.now.words → Saves F (finished_of at) behind before redo write fault old new
+      → IsGround size behind.gate_at (pool_ground F at) → IsOpenOn F at types log before undone now laters old.now.words → Saves F (finished_of at) behind before redo write fault old new
       → graph_of types (stored_in F at (overwritten write (reads old.now.words))) ≡ Some next → AreLaters F at types (overwritten write (reads old.now.words)) next more redo
       → RunsOn F at types behind before undone next more fault old new
   RunsOn-saves log behind undone now next laters more redo write fault old new ground is_open saves graph are =
@@ -86,7 +86,7 @@ module _ (F size : ℕ) (at : List (ℕ × Puddle)) (types : List (ℕ × ℕ)) 
         write = write;
         redo = redo;
         saves = saves;
-        rests = λ none. RestsAs-behind F size at behind.at before fault old new ground saves.runs.changes is_open.rests;
+        rests = λ none. RestsAs-behind F size at behind.gate_at before fault old new ground saves.runs.changes is_open.rests;
         was = is_open.was;
         is = λ none. ap (graph_of types) (stored none) ∙ graph;
         are = λ none. AreLaters-stored F at types (overwritten write (reads old.now.words)) (reads new.now.words) next (stored none) more redo are;
@@ -94,10 +94,10 @@ module _ (F size : ℕ) (at : List (ℕ × Puddle)) (types : List (ℕ × ℕ)) 
 
   -- what is saved and written, or asked for, behind calls that only read
   pub RunsOn-write : (log behind : OpenLog) (undone now next : Graph) (laters more : List Later) (redo : List Entry) (write : Write) (fault : Option HostFault) (old mid new : State)
-      → IsPlaced F at → device_words F ≤ size → log.at + LOG_WORDS ≤ frames_at F → behind.at ≡ log.at → mid ≡ old → (is_open : IsOpenOn F at types log before undone now laters old.now.words)
+      → IsPlaced F at → device_words F ≤ size → log.gate_at + LOG_WORDS ≤ frames_at F → behind.gate_at ≡ log.gate_at → mid ≡ old → (is_open : IsOpenOn F at types log before undone now laters old.now.words)
       → (IsSaving F (finished_of at) log before is_open.redo mid.now.words → Saves F (finished_of at) behind before redo write fault mid new)
       → graph_of types (stored_in F at (overwritten write (reads old.now.words))) ≡ Some next → AreLaters F at types (overwritten write (reads old.now.words)) next more redo
       → RunsOn F at types behind before undone next more fault old new
   RunsOn-write log behind undone now next laters more redo write fault old mid new is_placed device apart same stays is_open saves graph are =
-      RunsOn-saves log behind undone now next laters more redo write fault old new (is_ground F size behind.at at is_placed device (omega arith)) is_open
+      RunsOn-saves log behind undone now next laters more redo write fault old new (is_ground F size behind.gate_at at is_placed device (omega arith)) is_open
       (subst (λ (m : State). IsSaving F (finished_of at) log before is_open.redo m.now.words → Saves F (finished_of at) behind before redo write fault m new) stays saves is_open.saving) graph are

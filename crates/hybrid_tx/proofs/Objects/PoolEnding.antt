@@ -37,15 +37,15 @@ off_own None mine own other w = refl
 off_own (Some v) mine own other w = absurd (let it : true ≡ false = sym (own v refl) ∙ other in cc)
 
 module _ (F size : ℕ) (at : List (ℕ × Puddle)) (types : List (ℕ × ℕ)) (log : OpenLog) (before : Image) (undone now : Graph) (laters : List Later) (fault : Option HostFault) (old new : State)
-    (is_placed : IsPlaced F at) (device : device_words F ≤ size) (apart : log.at + LOG_WORDS ≤ frames_at F) (is_open : IsOpenOn F at types log before undone now laters old.now.words) where
+    (is_placed : IsPlaced F at) (device : device_words F ≤ size) (apart : log.gate_at + LOG_WORDS ≤ frames_at F) (is_open : IsOpenOn F at types log before undone now laters old.now.words) where
   abbrev own : Ground
   own = pool_ground F (finished_of at)
 
   abbrev after : Image
   after = overwritten (pending (pool_place F (finished_of at)) is_open.saving.es) (reads old.now.words)
 
-  own_ground : IsGround size log.at own
-  own_ground = is_ground F size log.at (finished_of at) (finished_placed F at is_placed) device apart
+  own_ground : IsGround size log.gate_at own
+  own_ground = is_ground F size log.gate_at (finished_of at) (finished_placed F at is_placed) device apart
 
   -- what is asked for is the redo entries in turn
   in_turn : after ≡ written_in_turn (pool_place F (finished_of at)) is_open.redo (reads old.now.words)
@@ -60,18 +60,18 @@ module _ (F size : ℕ) (at : List (ℕ × Puddle)) (types : List (ℕ × ℕ)) 
       absurd (let it : true ≡ false = sym asked_some ∙ asks-none is_open.saving.es (is_open.saving.asks ∙ empty) in cc)
 
   -- the words of the puddles that are not finished are as they were
-  rests_behind : Changes (ByTransaction own log.at) fault old new → RestsAs F at before new.now.words
-  rests_behind c = RestsAs-behind F size at log.at before fault old new (is_ground F size log.at at is_placed device apart) c is_open.rests
+  rests_behind : Changes (ByTransaction own log.gate_at) fault old new → RestsAs F at before new.now.words
+  rests_behind c = RestsAs-behind F size at log.gate_at before fault old new (is_ground F size log.gate_at at is_placed device apart) c is_open.rests
 
   after_beside : (k : ℕ) → pool_mine F at k ≡ true → pool_mine F (finished_of at) k ≡ false → after k ≡ before k
   after_beside k mine other =
       let s = is_open.saving in
-      off_own (pending (pool_place F (finished_of at)) s.es k) (pool_mine F (finished_of at) k) (λ v is. pending_is_mine size log.at own s.es k v own_ground s.running.own is) other (reads old.now.words k)
+      off_own (pending (pool_place F (finished_of at)) s.es k) (pool_mine F (finished_of at) k) (λ v is. pending_is_mine size log.gate_at own s.es k v own_ground s.running.own is) other (reads old.now.words k)
       ∙ HasOnly-newest (old.now.words k) (before k) (is_open.rests.each k mine other)
 
-  pub EndsOn-ends : (laters ≢ [] → CanRedo (pool_ground F (finished_of at)) F log.at old.now.words)
-      → ((g : Ground) (es : List Entry) (b : Image) → IsGround size log.at g → IsRunning g log es b old.now.words → (asks es ≡ true → CanRedo g F log.at old.now.words)
-      → Ends g log.at b (overwritten (pending g.place es) (reads old.now.words)) fault old new) → EndsOn F at types log.at before undone (with_laters laters now) fault old new
+  pub EndsOn-ends : (laters ≢ [] → CanRedo (pool_ground F (finished_of at)) F log.gate_at old.now.words)
+      → ((g : Ground) (es : List Entry) (b : Image) → IsGround size log.gate_at g → IsRunning g log es b old.now.words → (asks es ≡ true → CanRedo g F log.gate_at old.now.words)
+      → Ends g log.gate_at b (overwritten (pending g.place es) (reads old.now.words)) fault old new) → EndsOn F at types log.gate_at before undone (with_laters laters now) fault old new
   EndsOn-ends can ends =
       let s = is_open.saving in
       let its = ends own s.es before own_ground s.running (λ asked_some. can (some_asked asked_some)) in
@@ -84,8 +84,8 @@ module _ (F size : ℕ) (at : List (ℕ × Puddle)) (types : List (ℕ × ℕ)) 
         is = ap (λ (i : Image). graph_of types (stored_in F at i)) in_turn ∙ laters_applied F at types is_placed laters is_open.redo (reads old.now.words) now is_open.is is_open.are;
       }
 
-  pub ClosesOn-closes : ((es : List Entry) → IsGround size log.at (pool_ground F (finished_of at)) → IsRunning (pool_ground F (finished_of at)) log es before old.now.words
-      → Closes (pool_ground F (finished_of at)) log.at before fault old new) → ClosesOn F at types log.at before undone fault old new
+  pub ClosesOn-closes : ((es : List Entry) → IsGround size log.gate_at (pool_ground F (finished_of at)) → IsRunning (pool_ground F (finished_of at)) log es before old.now.words
+      → Closes (pool_ground F (finished_of at)) log.gate_at before fault old new) → ClosesOn F at types log.gate_at before undone fault old new
   ClosesOn-closes closes =
       let its = closes is_open.saving.es own_ground is_open.saving.running in
       record { closes = its; rests = λ none. rests_behind its.changes; was = is_open.was }

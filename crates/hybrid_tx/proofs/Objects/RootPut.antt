@@ -28,7 +28,7 @@ use Rattle.hybrid_tx.proofs.Objects.Opening.{RunsOn-write}
 
 module _ (F : ℕ) (at : List (ℕ × Puddle)) (types : List (ℕ × ℕ)) (log behind : OpenLog) (before : Image) (undone now : Graph) (laters : List Later) (old : State)
     (is_open : IsOpenOn F at types log before undone now laters old.now.words) where
-  pub RunsOn-root : (size s v : ℕ) (first : ℕ × Puddle) (fault : Option HostFault) (mid new : State) → slice_get at 0 ≡ Some first → IsPlaced F at → IsRewrittenAt at 0 → device_words F ≤ size → log.at + LOG_WORDS ≤ frames_at F → behind.at ≡ log.at → mid ≡ old
+  pub RunsOn-root : (size s v : ℕ) (first : ℕ × Puddle) (fault : Option HostFault) (mid new : State) → slice_get at 0 ≡ Some first → IsPlaced F at → IsRewrittenAt at 0 → device_words F ≤ size → log.gate_at + LOG_WORDS ≤ frames_at F → behind.gate_at ≡ log.gate_at → mid ≡ old
       → word_for F at (reads old.now.words) (Ref s) ≡ Some v → PutsAt F at 0 ROOT_WORD (v ∷ []) log behind fault mid new
       → RunsOn F at types behind before undone (with_root s now) laters fault old new
   RunsOn-root size s v first fault mid new head is_placed rewritten device apart same stays word put =

@@ -55,18 +55,18 @@ module _ (F : ℕ) (at : List (ℕ × Puddle)) (slot : Slot) (of : IsSlotOf at s
 -- ---- kept and cleared
 
 module _ (F size : ℕ) (at : List (ℕ × Puddle)) (slot : Slot) (of : IsSlotOf at slot) (log now : OpenLog) (before : Image) (redo : List Entry) (address first : ℕ) (a : State)
-    (is_placed : IsPlaced F at) (device : device_words F ≤ size) (apart : log.at + LOG_WORDS ≤ frames_at F) (is_address : address ≡ address_at at (place_of_slot slot)) (is_first : first ≡ serial_word_at F slot)
-    (rewritten : IsRewrittenAt at slot.ordinal) (saving : IsSaving F (finished_of at) log before redo a.now.words) (same : now.at ≡ log.at) where
+    (is_placed : IsPlaced F at) (device : device_words F ≤ size) (apart : log.gate_at + LOG_WORDS ≤ frames_at F) (is_address : address ≡ address_at at (place_of_slot slot)) (is_first : first ≡ serial_word_at F slot)
+    (rewritten : IsRewrittenAt at slot.ordinal) (saving : IsSaving F (finished_of at) log before redo a.now.words) (same : now.gate_at ≡ log.gate_at) where
   abbrev g : Ground
   g = pool_ground F (finished_of at)
 
   -- the word of the serial is kept
   abbrev IsKept : (fault : Option HostFault) (b : State) → Type 0
   IsKept fault b =
-      (es : List Entry) → IsGround size log.at g → g.may address 1 ≡ true → g.place address ≡ Some first → IsRunning g log es before a.now.words → Keeps g now es before (IsOneOf first 1) fault a b
+      (es : List Entry) → IsGround size log.gate_at g → g.may address 1 ≡ true → g.place address ≡ Some first → IsRunning g log es before a.now.words → Keeps g now es before (IsOneOf first 1) fault a b
 
   saves : (fault : Option HostFault) (c : State)
-      → ((es : List Entry) → IsGround size log.at g → g.may address 1 ≡ true → g.place address ≡ Some first → IsRunning g log es before a.now.words → Puts g now es before (placed first (0 ∷ [])) fault a c)
+      → ((es : List Entry) → IsGround size log.gate_at g → g.may address 1 ≡ true → g.place address ≡ Some first → IsRunning g log es before a.now.words → Puts g now es before (placed first (0 ∷ [])) fault a c)
       → Saves F (finished_of at) now before redo (placed (serial_word_at F slot) (0 ∷ [])) fault a c
   saves fault c puts =
       let some : 1 ≤ 1 = omega arith in
@@ -84,7 +84,7 @@ module _ (F size : ℕ) (at : List (ℕ × Puddle)) (slot : Slot) (of : IsSlotOf
   pub Saves-freed : (fault : Option HostFault) (b c : State) → IsKept None b → Writes (only (serial_word_at F slot) 0) fault b c → Saves F (finished_of at) now before redo (placed (serial_word_at F slot) (0 ∷ [])) fault a c
   Saves-freed fault b c keeps writes =
       saves fault c (λ es ground may place r.
-      Puts-written g now es before (IsOneOf first 1) (placed first (0 ∷ [])) fault a b c (keeps es ground may place r) (WritesKept-placed size log.at g address first (0 ∷ []) ground may place)
+      Puts-written g now es before (IsOneOf first 1) (placed first (0 ∷ [])) fault a b c (keeps es ground may place r) (WritesKept-placed size log.gate_at g address first (0 ∷ []) ground may place)
       (λ entries running covered.
       Runs-written size g now entries before (placed first (0 ∷ [])) fault b c (subst (λ (k : ℕ). IsGround size k g) (sym same) ground) running covered (cleared F slot first fault b c is_first writes)))
 
@@ -92,8 +92,8 @@ module _ (F size : ℕ) (at : List (ℕ × Puddle)) (slot : Slot) (of : IsSlotOf
 
 module _ (F : ℕ) (at : List (ℕ × Puddle)) (types : List (ℕ × ℕ)) (log behind : OpenLog) (before : Image) (undone now : Graph) (laters : List Later) (old : State)
     (is_open : IsOpenOn F at types log before undone now laters old.now.words) where
-  pub RunsOn-free : (size s : ℕ) (slot : Slot) (fault : Option HostFault) (mid new : State) → MayFree now s → laters_name s laters ≡ false → IsPlaced F at → device_words F ≤ size → log.at + LOG_WORDS ≤ frames_at F
-      → behind.at ≡ log.at → mid ≡ old → IsSlotOf at slot → place_in_pool F at (reads old.now.words) s ≡ Some (place_of_slot slot)
+  pub RunsOn-free : (size s : ℕ) (slot : Slot) (fault : Option HostFault) (mid new : State) → MayFree now s → laters_name s laters ≡ false → IsPlaced F at → device_words F ≤ size → log.gate_at + LOG_WORDS ≤ frames_at F
+      → behind.gate_at ≡ log.gate_at → mid ≡ old → IsSlotOf at slot → place_in_pool F at (reads old.now.words) s ≡ Some (place_of_slot slot)
       → ((redo : List Entry) → IsSaving F (finished_of at) log before redo mid.now.words → Saves F (finished_of at) behind before redo (placed (serial_word_at F slot) (0 ∷ [])) fault mid new)
       → RunsOn F at types behind before undone (without_object s now) laters fault old new
   RunsOn-free size s slot fault mid new may unnamed is_placed device apart same stays of found saves =

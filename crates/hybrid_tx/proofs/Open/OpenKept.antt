@@ -26,7 +26,7 @@ module _ (F : ℕ) (at : List (ℕ × Puddle)) (may : Footprint) (fault : Option
   stored_kept : stored_in F at (reads new.now.words) ≡ stored_in F at (reads old.now.words)
   stored_kept = stored_in-mine F at (reads old.now.words) (reads new.now.words) (λ k mine. (c.keeps uncut k (λ v. own k v mine)).newest)
 
-  pub IsOpenOn-kept : (types more : List (ℕ × ℕ)) (log : OpenLog) (before : Image) (undone now : Graph) (laters : List Later) → ((k v : ℕ) → InLog log.at k v → may k v → ⊥)
+  pub IsOpenOn-kept : (types more : List (ℕ × ℕ)) (log : OpenLog) (before : Image) (undone now : Graph) (laters : List Later) → ((k v : ℕ) → InLog log.gate_at k v → may k v → ⊥)
       → ((id m : ℕ) → map_of id types ≡ Some m → map_of id more ≡ Some m) → ((st : Stored) (g : Graph) → graph_of types st ≡ Some g → graph_of more st ≡ Some g)
       → IsOpenOn F at types log before undone now laters old.now.words → IsOpenOn F at more log before undone now laters new.now.words
   IsOpenOn-kept types more log before undone now laters in_log defined graphs o =

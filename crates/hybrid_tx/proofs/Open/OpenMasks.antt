@@ -37,10 +37,10 @@ pub record IsOpenRecord (F k : ℕ) : Type 0 where
   pub high : k < tables_end F
 
 -- lies in the tables from that of the pools on
-pub open_record_place : (F : ℕ) (p : OpenPool) (k : ℕ) → p.slot < POOL_RECORDS → p.log_number < ALL_LOGS → IsOnDevice F (finished_of p.at) → is_open_record p k ≡ true → IsOpenRecord F k
+pub open_record_place : (F : ℕ) (p : OpenPool) (k : ℕ) → p.slot < POOL_RECORDS → p.log_number < ALL_LOGS → IsOnDevice F (finished_of p.puddles) → is_open_record p k ≡ true → IsOpenRecord F k
 unfolding is_open_record
 open_record_place F p k slot known on_device is =
-    elim (or_cases (is_in_pool_record p.slot k || is_in_space_record (client_of_log p.log_number) k) (list_any (is_in_puddle_record k) (finished_of p.at)) is) [
+    elim (or_cases (is_in_pool_record p.slot k || is_in_space_record (client_of_log p.log_number) k) (list_any (is_in_puddle_record k) (finished_of p.puddles)) is) [
       | inl first ↦ elim (or_cases (is_in_pool_record p.slot k) (is_in_space_record (client_of_log p.log_number) k) first) [
         | inl pool ↦
             let parts = and_parts (leb (pool_record_at p.slot) k) (ltb k (pool_record_at (p.slot + 1))) pool in
@@ -54,8 +54,8 @@ open_record_place F p k slot known on_device is =
             record { low = omega arith; high = omega arith }
       ]
       | inr puddle ↦
-          let found = any_element (is_in_puddle_record k) (finished_of p.at) puddle in
-          let frame = all_there (λ (e : ℕ × Puddle). e.0 < F) (finished_of p.at) found.index found.element on_device.frames found.there in
+          let found = any_element (is_in_puddle_record k) (finished_of p.puddles) puddle in
+          let frame = all_there (λ (e : ℕ × Puddle). e.0 < F) (finished_of p.puddles) found.index found.element on_device.frames found.there in
           let parts = and_parts (leb (puddle_record_at found.element.0) k) (ltb k (puddle_record_at (found.element.0 + 1))) found.passes in
           let low = leb-true _ _ parts.0 in
           let high = ltb-true _ _ parts.1 in
@@ -65,25 +65,25 @@ open_record_place F p k slot known on_device is =
 -- ---- the values of its words
 
 module _ (F : ℕ) (p : OpenPool) (before : Image) where
-  own_same : (after : Image) (k : ℕ) → ((pool_mine F (finished_of p.at) k || is_open_record p k) ≡ true → after k ≡ before k) → (b : Bool) → (pool_mine F (finished_of p.at) k || is_open_record p k) ≡ b
+  own_same : (after : Image) (k : ℕ) → ((pool_mine F (finished_of p.puddles) k || is_open_record p k) ≡ true → after k ≡ before k) → (b : Bool) → (pool_mine F (finished_of p.puddles) k || is_open_record p k) ≡ b
       → cond b (Some (after k)) None ≡ cond b (Some (before k)) None
   own_same after k same true own = ap (λ (v : ℕ). Some v) (same own)
   own_same after k same false own = refl
 
-  pub mask_of_own : (k : ℕ) → is_in_log (log_number_at F p.log_number) k ≡ false → (pool_mine F (finished_of p.at) k || is_open_record p k) ≡ true → open_mask F p before k ≡ Some (before k)
+  pub mask_of_own : (k : ℕ) → is_in_log (log_number_at F p.log_number) k ≡ false → (pool_mine F (finished_of p.puddles) k || is_open_record p k) ≡ true → open_mask F p before k ≡ Some (before k)
   unfolding open_mask
   mask_of_own k outside own = cond-false _ _ _ outside ∙ cond-true _ _ _ own
 
-  pub mask_of_mine : (k : ℕ) → p.log_number < ALL_LOGS → pool_mine F (finished_of p.at) k ≡ true → open_mask F p before k ≡ Some (before k)
+  pub mask_of_mine : (k : ℕ) → p.log_number < ALL_LOGS → pool_mine F (finished_of p.puddles) k ≡ true → open_mask F p before k ≡ Some (before k)
   mask_of_mine k known mine =
-      let m = pool_mine-each F (finished_of p.at) k mine in
+      let m = pool_mine-each F (finished_of p.puddles) k mine in
       let low = m.low in
       mask_of_own k (outside_log (log_number_at F p.log_number) k (inr (omega arith))) (or_left _ _ mine)
 
   pub mask_of_record : (k : ℕ) → k < tables_end F → is_open_record p k ≡ true → open_mask F p before k ≡ Some (before k)
-  mask_of_record k below is = mask_of_own k (outside_log (log_number_at F p.log_number) k (inl (omega arith))) (or_right (pool_mine F (finished_of p.at) k) _ is)
+  mask_of_record k below is = mask_of_own k (outside_log (log_number_at F p.log_number) k (inl (omega arith))) (or_right (pool_mine F (finished_of p.puddles) k) _ is)
 
-  pub mask_of_others : (k : ℕ) → is_in_log (log_number_at F p.log_number) k ≡ false → pool_mine F (finished_of p.at) k ≡ false → is_open_record p k ≡ false → open_mask F p before k ≡ None
+  pub mask_of_others : (k : ℕ) → is_in_log (log_number_at F p.log_number) k ≡ false → pool_mine F (finished_of p.puddles) k ≡ false → is_open_record p k ≡ false → open_mask F p before k ≡ None
   unfolding open_mask
   mask_of_others k outside others beside = cond-false _ _ _ outside ∙ cond-false _ _ _ (ap (λ (b : Bool). b || is_open_record p k) others ∙ beside)
 
@@ -99,26 +99,26 @@ module _ (F : ℕ) (p : OpenPool) (before : Image) where
 
   -- a masked word is one of the log, or one of the frames or of a record with its value of the beginning
   pub mask_cases : (k v : ℕ) → open_mask F p before k ≡ Some v
-      → (is_in_log (log_number_at F p.log_number) k ≡ true) ⊎ (((pool_mine F (finished_of p.at) k || is_open_record p k) ≡ true) × (before k ≡ v))
+      → (is_in_log (log_number_at F p.log_number) k ≡ true) ⊎ (((pool_mine F (finished_of p.puddles) k || is_open_record p k) ≡ true) × (before k ≡ v))
   unfolding open_mask
   mask_cases k v is = elim (cases_Bool (is_in_log (log_number_at F p.log_number) k)) [
     | inl inside ↦ inl inside
-    | inr outside ↦ inr (cond_some (pool_mine F (finished_of p.at) k || is_open_record p k) (before k) v (sym (cond-false _ _ _ outside) ∙ is))
+    | inr outside ↦ inr (cond_some (pool_mine F (finished_of p.puddles) k || is_open_record p k) (before k) v (sym (cond-false _ _ _ outside) ∙ is))
   ]
 
   -- of a word of a frame or a record its value alone counts
-  pub open_mask-same : (after : Image) (k : ℕ) → ((pool_mine F (finished_of p.at) k || is_open_record p k) ≡ true → after k ≡ before k) → open_mask F p after k ≡ open_mask F p before k
+  pub open_mask-same : (after : Image) (k : ℕ) → ((pool_mine F (finished_of p.puddles) k || is_open_record p k) ≡ true → after k ≡ before k) → open_mask F p after k ≡ open_mask F p before k
   unfolding open_mask
   open_mask-same after k same = elim (cases_Bool (is_in_log (log_number_at F p.log_number) k)) [
     | inl inside ↦ cond-true _ _ _ inside ∙ sym (cond-true _ _ _ inside)
-    | inr outside ↦ cond-false _ _ _ outside ∙ own_same after k same (pool_mine F (finished_of p.at) k || is_open_record p k) refl ∙ sym (cond-false _ _ _ outside)
+    | inr outside ↦ cond-false _ _ _ outside ∙ own_same after k same (pool_mine F (finished_of p.puddles) k || is_open_record p k) refl ∙ sym (cond-false _ _ _ outside)
   ]
 
-  module _ (slot : p.slot < POOL_RECORDS) (known : p.log_number < ALL_LOGS) (on_device : IsOnDevice F (finished_of p.at)) where
+  module _ (slot : p.slot < POOL_RECORDS) (known : p.log_number < ALL_LOGS) (on_device : IsOnDevice F (finished_of p.puddles)) where
     -- no word in front of the pool table is one of them
     pub mask_below : (k : ℕ) → k < POOL_TABLE → open_mask F p before k ≡ None
     mask_below k below =
-        mask_of_others k (outside_log (log_number_at F p.log_number) k (inl (omega arith))) (mine_behind F (finished_of p.at) k (omega arith))
+        mask_of_others k (outside_log (log_number_at F p.log_number) k (inl (omega arith))) (mine_behind F (finished_of p.puddles) k (omega arith))
         (not_so (is_open_record p k) (λ is. let place = open_record_place F p k slot known on_device is in let low = place.low in absurd (omega arith)))
 
     -- nor one of the daemon log

@@ -32,36 +32,36 @@ module _ (p : OpenPool) (k : ℕ) where
   of_pool_record : pool_record_at p.slot ≤ k → k < pool_record_at (p.slot + 1) → is_open_record p k ≡ true
   unfolding is_open_record
   of_pool_record low high =
-      or_left (is_in_pool_record p.slot k || is_in_space_record (client_of_log p.log_number) k) (list_any (is_in_puddle_record k) (finished_of p.at))
+      or_left (is_in_pool_record p.slot k || is_in_space_record (client_of_log p.log_number) k) (list_any (is_in_puddle_record k) (finished_of p.puddles))
       (or_left (is_in_pool_record p.slot k) (is_in_space_record (client_of_log p.log_number) k) (and_from (leb (pool_record_at p.slot) k) (ltb k (pool_record_at (p.slot + 1))) (le-leb _ _ low) (lt-ltb _ _ high)))
 
   of_space_record : space_record_at (client_of_log p.log_number) ≤ k → k < space_record_at (client_of_log p.log_number + 1) → is_open_record p k ≡ true
   unfolding is_open_record
   of_space_record low high =
-      or_left (is_in_pool_record p.slot k || is_in_space_record (client_of_log p.log_number) k) (list_any (is_in_puddle_record k) (finished_of p.at))
+      or_left (is_in_pool_record p.slot k || is_in_space_record (client_of_log p.log_number) k) (list_any (is_in_puddle_record k) (finished_of p.puddles))
       (or_right (is_in_pool_record p.slot k) (is_in_space_record (client_of_log p.log_number) k)
       (and_from (leb (space_record_at (client_of_log p.log_number)) k) (ltb k (space_record_at (client_of_log p.log_number + 1))) (le-leb _ _ low) (lt-ltb _ _ high)))
 
-  of_puddle_record : (o : ℕ) (e : ℕ × Puddle) → slice_get (finished_of p.at) o ≡ Some e → puddle_record_at e.0 ≤ k → k < puddle_record_at (e.0 + 1) → is_open_record p k ≡ true
+  of_puddle_record : (o : ℕ) (e : ℕ × Puddle) → slice_get (finished_of p.puddles) o ≡ Some e → puddle_record_at e.0 ≤ k → k < puddle_record_at (e.0 + 1) → is_open_record p k ≡ true
   unfolding is_open_record
   of_puddle_record o e there low high =
-      or_right (is_in_pool_record p.slot k || is_in_space_record (client_of_log p.log_number) k) (list_any (is_in_puddle_record k) (finished_of p.at))
-      (element_passes (is_in_puddle_record k) (finished_of p.at) o e there (and_from (leb (puddle_record_at e.0) k) (ltb k (puddle_record_at (e.0 + 1))) (le-leb _ _ low) (lt-ltb _ _ high)))
+      or_right (is_in_pool_record p.slot k || is_in_space_record (client_of_log p.log_number) k) (list_any (is_in_puddle_record k) (finished_of p.puddles))
+      (element_passes (is_in_puddle_record k) (finished_of p.puddles) o e there (and_from (leb (puddle_record_at e.0) k) (ltb k (puddle_record_at (e.0 + 1))) (le-leb _ _ low) (lt-ltb _ _ high)))
 
 -- ---- what the records say
 
 -- the puddles lie in frames of the device
-pub open_on_device : (F : ℕ) (p : OpenPool) (before : Image) → IsOpenPool F p before → IsOnDevice F (finished_of p.at)
-open_on_device F p before opened = subst (λ (n : ℕ). IsOnDevice n (finished_of p.at)) (frames_of_tables F before) (on_device_of_puddles (tables_of F before) p.slot (finished_of p.at) opened.puddles)
+pub open_on_device : (F : ℕ) (p : OpenPool) (before : Image) → IsOpenPool F p before → IsOnDevice F (finished_of p.puddles)
+open_on_device F p before opened = subst (λ (n : ℕ). IsOnDevice n (finished_of p.puddles)) (frames_of_tables F before) (on_device_of_puddles (tables_of F before) p.slot (finished_of p.puddles) opened.puddles)
 
 -- in any image that has them as they were at the beginning
 module _ (F : ℕ) (p : OpenPool) (before image : Image) (opened : IsOpenPool F p before) (records : (k : ℕ) → is_open_record p k ≡ true → image k ≡ before k) where
   -- its puddles are puddles of the pool
-  pub open_puddles : ArePuddlesOf (tables_of F image) p.slot (finished_of p.at)
+  pub open_puddles : ArePuddlesOf (tables_of F image) p.slot (finished_of p.puddles)
   open_puddles =
-      ArePuddlesOf-same (tables_of F before) (tables_of F image) p.slot (finished_of p.at) (frames_of_tables F before ∙ sym (frames_of_tables F image))
+      ArePuddlesOf-same (tables_of F before) (tables_of F image) p.slot (finished_of p.puddles) (frames_of_tables F before ∙ sym (frames_of_tables F image))
       (λ i e there.
-      let below = all_there (λ (d : ℕ × Puddle). d.0 < F) (finished_of p.at) i e (open_on_device F p before opened).frames there in
+      let below = all_there (λ (d : ℕ × Puddle). d.0 < F) (finished_of p.puddles) i e (open_on_device F p before opened).frames there in
       puddles_below F image e.0 below ∙ puddle_at-same image before e.0 (λ k low high. records k (of_puddle_record p k i e there low high)) ∙ sym (puddles_below F before e.0 below))
       opened.puddles
 
@@ -83,29 +83,29 @@ module _ (F : ℕ) (p : OpenPool) (before image : Image) (opened : IsOpenPool F 
 
   module _ (next : ℕ) (sound : HasSoundTables next (tables_of F image)) where
     -- the puddles lie as those of a ground
-    pub open_placed : IsPlaced F (finished_of p.at)
+    pub open_placed : IsPlaced F (finished_of p.puddles)
     open_placed =
-        subst (λ (n : ℕ). IsPlaced n (finished_of p.at)) (frames_of_tables F image)
-        (placed_of_puddles next (tables_of F image) sound p.slot (finished_of p.at) open_puddles)
+        subst (λ (n : ℕ). IsPlaced n (finished_of p.puddles)) (frames_of_tables F image)
+        (placed_of_puddles next (tables_of F image) sound p.slot (finished_of p.puddles) open_puddles)
 
     -- whose places are those of the tables
-    pub open_places : HasPlaces (pool_ground F (finished_of p.at)) (puddle_word (tables_of F image))
+    pub open_places : HasPlaces (pool_ground F (finished_of p.puddles)) (puddle_word (tables_of F image))
     open_places =
-        subst (λ (n : ℕ). HasPlaces (pool_ground n (finished_of p.at)) (puddle_word (tables_of F image))) (frames_of_tables F image)
-        (places_of_puddles next (tables_of F image) sound p.slot (finished_of p.at) open_puddles)
+        subst (λ (n : ℕ). HasPlaces (pool_ground n (finished_of p.puddles)) (puddle_word (tables_of F image))) (frames_of_tables F image)
+        (places_of_puddles next (tables_of F image) sound p.slot (finished_of p.puddles) open_puddles)
 
-    open_ground : IsGround (device_words F) (log_number_at F p.log_number) (pool_ground F (finished_of p.at))
-    open_ground = let few = opened.known in is_ground F (device_words F) (log_number_at F p.log_number) (finished_of p.at) open_placed (omega arith) (omega arith)
+    open_ground : IsGround (device_words F) (log_number_at F p.log_number) (pool_ground F (finished_of p.puddles))
+    open_ground = let few = opened.known in is_ground F (device_words F) (log_number_at F p.log_number) (finished_of p.puddles) open_placed (omega arith) (omega arith)
 
     -- where it settles to the values from the beginning, its log is allowed and gives them
-    pub gives_own : SettlesTo (pool_ground F (finished_of p.at)) (log_number_at F p.log_number) before image → GivesOwn F p before image
+    pub gives_own : SettlesTo (pool_ground F (finished_of p.puddles)) (log_number_at F p.log_number) before image → GivesOwn F p before image
     gives_own s =
         let log = log_of image (log_number_at F p.log_number) in
-        let same = λ (w : ℕ). new_value_placed (pool_ground F (finished_of p.at)) (puddle_word (tables_of F image)) log open_places s.es w s.spells s.own in
+        let same = λ (w : ℕ). new_value_placed (pool_ground F (finished_of p.puddles)) (puddle_word (tables_of F image)) log open_places s.es w s.spells s.own in
         record {
           owned = open_owned;
-          allowed = own_log_allowed next (tables_of F image) sound p.slot (finished_of p.at) open_puddles p.who open_writable F log s.es s.spells s.own;
-          own = λ w v is. new_value_own (device_words F) (log_number_at F p.log_number) (pool_ground F (finished_of p.at)) log open_ground w v s.es s.spells s.own (sym (same w) ∙ is);
+          allowed = own_log_allowed next (tables_of F image) sound p.slot (finished_of p.puddles) open_puddles p.who open_writable F log s.es s.spells s.own;
+          own = λ w v is. new_value_own (device_words F) (log_number_at F p.log_number) (pool_ground F (finished_of p.puddles)) log open_ground w v s.es s.spells s.own (sym (same w) ∙ is);
           settled = λ w mine. ap (λ (o : Option ℕ). unwrap_or o (image w)) (same w) ∙ s.settled w mine;
         }
 

@@ -25,7 +25,7 @@ use Rattle.hybrid_tx.specs.Grounds.{pool_mine, pool_ground, finished_of}
 pub record OpenPool : Type 0 where
   pub slot : ℕ
   pub rec : PoolRec
-  pub at : List (ℕ × Puddle)
+  pub puddles : List (ℕ × Puddle)
   pub log_number : ℕ
   pub who : Owner
 
@@ -45,7 +45,7 @@ is_in_puddle_record k e = nat_le (puddle_record_at e.0) k && nat_lt k (puddle_re
 
 -- of a record of the pool, of one of its finished puddles, or of the client
 unfoldable pub is_open_record : OpenPool → ℕ → Bool
-is_open_record p k = is_in_pool_record p.slot k || is_in_space_record (client_of_log p.log_number) k || list_any (is_in_puddle_record k) (finished_of p.at)
+is_open_record p k = is_in_pool_record p.slot k || is_in_space_record (client_of_log p.log_number) k || list_any (is_in_puddle_record k) (finished_of p.puddles)
 
 -- ---- all of its words
 
@@ -53,7 +53,7 @@ is_open_record p k = is_in_pool_record p.slot k || is_in_space_record (client_of
 unfoldable pub open_mask : ℕ → OpenPool → Image → Write
 open_mask F p before k =
     cond (is_in_log (log_number_at F p.log_number) k) (Some (cond (k == log_number_at F p.log_number) CLOSED_GATE 0))
-    (cond (pool_mine F (finished_of p.at) k || is_open_record p k) (Some (before k)) None)
+    (cond (pool_mine F (finished_of p.puddles) k || is_open_record p k) (Some (before k)) None)
 
 -- ---- what is known of it
 
@@ -76,7 +76,7 @@ pub record IsOpenPool (F : ℕ) (p : OpenPool) (before : Image) : Type 0 where
   pub known : p.log_number < ALL_LOGS
   pub slot : p.slot < POOL_RECORDS
   pub used : (tables_of F before).pools p.slot ≡ Some p.rec
-  pub puddles : ArePuddlesOf (tables_of F before) p.slot (finished_of p.at)
+  pub puddles : ArePuddlesOf (tables_of F before) p.slot (finished_of p.puddles)
   pub owned : owner_of before (client_of_log p.log_number) ≡ Some p.who
   pub right : may_write p.rec.mode (owner p.rec.uid p.rec.gid) p.who ≡ true
 
@@ -84,4 +84,4 @@ pub record IsOpenPool (F : ℕ) (p : OpenPool) (before : Image) : Type 0 where
 pub record IsLeftOpen (F : ℕ) (p : OpenPool) (before image : Image) : Type 0 where
   pub unnamed : (k v : ℕ) → open_mask F p before k ≡ Some v → new_value device_word (log_of image DAEMON_LOG) k ≡ None
   pub records : (k : ℕ) → is_open_record p k ≡ true → image k ≡ before k
-  pub settles : SettlesTo (pool_ground F (finished_of p.at)) (log_number_at F p.log_number) before image
+  pub settles : SettlesTo (pool_ground F (finished_of p.puddles)) (log_number_at F p.log_number) before image

@@ -18,7 +18,7 @@ returns-in_err-ask-clause-asks g c =
     let same = get_or_from_slice_get c.args.pool.now c.args.ordinal e _ there in
     Saves-asked frames _ own c.args.word e within.0 log _ before redo _ c.args.value (Err _) _ _
     (finished_placed frames c.args.pool.now placed) device apart within.1 c.requires.within (c.word_address-field.ensures ∙ ap (λ (d : ℕ × Puddle). (d.1.base + 8 * c.args.word) % 2 ^ 64) same) s
-    (ap (λ (l : OpenLog). l.at) c.in_err-ask.ensures.failed) tt
+    (ap (λ (l : OpenLog). l.gate_at) c.in_err-ask.ensures.failed) tt
     (λ es ground may running. c.in_err-ask.ensures.runs t _ refl (pool_ground frames own) es before ground may running))
 
 pub returns-clause-asks : goal.returns-clause-asks

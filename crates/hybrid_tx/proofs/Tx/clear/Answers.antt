@@ -24,7 +24,7 @@ returns-in_err-save-clause-saves g c =
     let p = err_from_is_err_and c.from_residual.result c.from_residual.ensures.1 in
     let at = c.args.at in
     let is_first : c.frame_at.result + (c.slot_begins-serial.result + 0) ≡ serial_word_at c.args.frames at = omega (arith, c.frame_at.ensures, c.slot_begins-serial.ensures) in
-    let apart = subst (λ (x : OpenTx). x.log.at + LOG_WORDS ≤ frames_at c.args.frames) (sym c.self.view_is) c.requires.place in
+    let apart = subst (λ (x : OpenTx). x.log.gate_at + LOG_WORDS ≤ frames_at c.args.frames) (sym c.self.view_is) c.requires.place in
     rw (p.1, p.2, ← c.self.view_is) (λ t is_placed rewritten before redo s.
     Saves-unfreed c.args.frames _ c.args.pool.now at c.requires.within _ _ before redo _ _ _ is_placed c.requires.device apart (c.slot_address.ensures.address is_placed.legal) is_first rewritten s c.in_err-save.ensures.at _ _
     (λ es ground may place r. c.in_err-save.ensures.keeps t _ refl (pool_ground c.args.frames (finished_of c.args.pool.now)) es before ground may place r))
@@ -44,7 +44,7 @@ returns-clause-saves g c =
     let pool = c.args.pool.now in
     let at = c.args.at in
     let is_first : c.frame_at.result + (c.slot_begins-serial.result + 0) ≡ serial_word_at F at = omega (arith, c.frame_at.ensures, c.slot_begins-serial.ensures) in
-    let apart = subst (λ (x : OpenTx). x.log.at + LOG_WORDS ≤ frames_at F) (sym c.self.view_is) c.requires.place in
+    let apart = subst (λ (x : OpenTx). x.log.gate_at + LOG_WORDS ≤ frames_at F) (sym c.self.view_is) c.requires.place in
     rw (← c.self.view_is) (λ t is_placed rewritten before redo s.
     Saves-freed F _ pool at c.requires.within _ _ before redo _ _ _ is_placed c.requires.device apart (c.slot_address.ensures.address is_placed.legal) is_first rewritten s c.in_ok-save.ensures.at (fault_of c.free_slot.result) _ _
     (λ es ground may place r. c.in_ok-save.ensures.keeps t _ refl (pool_ground F (finished_of pool)) es before ground may place r)

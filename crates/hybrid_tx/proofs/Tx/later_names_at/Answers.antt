@@ -14,19 +14,19 @@ pub loop-entry-init : goal.loop-entry-init
 loop-entry-init g c =
     let start = c.new-reader.ensures ∙ ap (λ k. record { log_at = k; passed = 0 }) c.at.ensures in
     record {
-      reading = IsReading-start c.args.self.now.log.at c.new-reader.result start;
+      reading = IsReading-start c.args.self.now.log.gate_at c.new-reader.result start;
       only_reads = OnlyReads-none;
       names = λ t image same before undone now laters placed is_open used place.
-          let spells = ap (λ (i : Image). entries_of i c.args.self.now.log.at) (sym same) ∙ ap (λ (l : Log). l.entries) is_open.saving.running.opened.says in
+          let spells = ap (λ (i : Image). entries_of i c.args.self.now.log.gate_at) (sym same) ∙ ap (λ (l : Log). l.entries) is_open.saving.running.opened.says in
           let are = subst (λ (i : Image). AreLaters c.args.frames c.args.pool.now (types_of image) i now laters is_open.redo) same is_open.are in
-          NamesRest-start c.args.frames c.args.pool.now (types_of image) image now c.args.s c.args.self.now.log.at _ is_open.saving.es is_open.redo laters start spells is_open.saving.asks are;
+          NamesRest-start c.args.frames c.args.pool.now (types_of image) image now c.args.s c.args.self.now.log.gate_at _ is_open.saving.es is_open.redo laters start spells is_open.saving.asks are;
     }
 
 pub loop-entry-preserved : goal.loop-entry-preserved
 loop-entry-preserved g c =
     let old = c.loop-entry.invariant in
     record {
-      reading = IsReading-more c.args.self.now.log.at _ c.in-Some.entry _ _ old.reading c.in-Some.is c.in_ok-entry.ensures.passes;
+      reading = IsReading-more c.args.self.now.log.gate_at _ c.in-Some.entry _ _ old.reading c.in-Some.is c.in_ok-entry.ensures.passes;
       only_reads = OnlyReads-then old.only_reads (OnlyReads-then c.in_ok-entry.ensures.only_reads c.in_ok-names.ensures.only_reads);
       names = λ t image same before undone now laters placed is_open used place.
           let here = still_reads old.only_reads t same in

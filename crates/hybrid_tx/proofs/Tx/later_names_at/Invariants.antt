@@ -16,10 +16,10 @@ use Rattle.hybrid_tx.proofs.Tx.later_names_at.Given as goal
 
 abbrev pub invariant-loop-entry : goal.invariant-loop-entry
 invariant-loop-entry g l = record {
-  reading : IsReading l.self.log.at l.reader;
+  reading : IsReading l.self.log.gate_at l.reader;
   only_reads : OnlyReads g.H.Host.tells g.H.Host.state g.H.Host.counts None l.fn.h l.h;
   names : g.H.Host.tells → (image : Image) → reads (g.H.Host.state l.fn.h).now.words ≡ image → (before : Image) (undone now : Graph) (laters : List Later)
-      → IsPlaced l.frames l.pool → IsOpenOn l.frames l.pool (types_of image) l.self.log before undone now laters (g.H.Host.state l.fn.h).now.words → l.s ≢ 0 → place_in_pool l.frames l.pool image l.s ≡ Some (place_of_slot l.at)
+      → IsPlaced l.frames l.pool → IsOpenOn l.frames l.pool (types_of image) l.self.log before undone now laters (g.H.Host.state l.fn.h).now.words → l.s ≢ 0 → place_in_pool l.frames l.pool image l.s ≡ Some (place_of_slot l.gate_at)
       → NamesRest l.frames l.pool (types_of image) image now l.s l.reader (laters_name l.s laters);
 }
 

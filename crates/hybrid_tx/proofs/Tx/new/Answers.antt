@@ -49,8 +49,8 @@ returns-in-Ok-clause-makes g c = λ t types before undone now laters placed is_o
     let new = g.H.Host.state c.new_at.new.h in
     let found = c.in-Ok.ensures.free t (reads old.now.words) refl in
     let same = one_slot pool c.in-Ok.at slot c.in-Ok.ensures.within of (one_lowest (stored_in F pool (reads old.now.words)) (place_of_slot c.in-Ok.at) (place_of_slot slot) found lowest) in
-    subst (λ (s : Slot). MakesIn F pool log.at s c.args.t fault old new) same
-    (subst (λ (s : State). IsOpenOn F pool types log before undone now laters s.now.words → MakesIn F pool log.at c.in-Ok.at c.args.t fault s new) (c.in-Ok.ensures.only_reads.stays t)
+    subst (λ (s : Slot). MakesIn F pool log.gate_at s c.args.t fault old new) same
+    (subst (λ (s : State). IsOpenOn F pool types log before undone now laters s.now.words → MakesIn F pool log.gate_at c.in-Ok.at c.args.t fault s new) (c.in-Ok.ensures.only_reads.stays t)
     (λ still. c.new_at.ensures.makes t types before undone now laters placed still room root (rewritten.each c.in-Ok.at c.in-Ok.ensures.within found)) is_open)
 
 pub returns-in-Err-Full-clause-makes : goal.returns-in-Err-Full-clause-makes
@@ -62,4 +62,4 @@ pub returns-in-Err-Host-clause-makes : goal.returns-in-Err-Host-clause-makes
 returns-in-Err-Host-clause-makes g c = λ t types before undone now laters placed is_open room root rewritten slot of lowest.
     let first = first_there c.args.pool.now slot (slot.frame, of.puddle) of in
     let read = rw c.in-Err-Host.field-0-is at c.in-Err-Host.ensures.only_reads in
-    MakesIn-stopped c.args.frames c.args.pool.now c.args.self.now.log.at slot of first.0 c.args.t _ _ _ first.1 read.never_cut (read.stays t)
+    MakesIn-stopped c.args.frames c.args.pool.now c.args.self.now.log.gate_at slot of first.0 c.args.t _ _ _ first.1 read.never_cut (read.stays t)

@@ -15,7 +15,7 @@ returns-clause-changes g c = λ t.
     let fault = fault_of c.put.result in
     let old = g.H.Host.state c.args.h.now in
     let new = g.H.Host.state c.put.new.h in
-    let log = c.args.self.now.log.at in
+    let log = c.args.self.now.log.gate_at in
     let there = slice_get-get_or c.args.pool.now c.args.ordinal _ c.requires.there in
     ByPut-in_frame c.args.frames c.args.pool.now c.args.ordinal c.args.word log _ c.args.vals.now fault old new there c.requires.within
     (subst (λ (k : ℕ). Changes (ByPut log (k + c.args.word) c.args.vals.now) fault old new) c.frame_at.ensures (c.put.ensures.changes t))

@@ -9,6 +9,6 @@ returns c = λ F p types log before undone now laters words image at is picked r
     record {
       unnamed = unnamed;
       records = λ k of. (records k of).each (image k) (picked.each k);
-      settles = subst (λ (n : ℕ). SettlesTo (pool_ground F (finished_of p.at)) n before image) at
-          (IsRunning-settles (pool_ground F (finished_of p.at)) log is.saving.es before image words is.saving.running picked);
+      settles = subst (λ (n : ℕ). SettlesTo (pool_ground F (finished_of p.puddles)) n before image) at
+          (IsRunning-settles (pool_ground F (finished_of p.puddles)) log is.saving.es before image words is.saving.running picked);
     }

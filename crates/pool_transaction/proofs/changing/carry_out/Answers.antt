@@ -6,4 +6,4 @@ use Rattle.hybrid_tx.specs.Grounds.{pool_ground}
 use Rattle.pool_transaction.proofs.changing.carry_out.Goals as goal
 
 pub returns-then-later-clause-changes : goal.returns-then-later-clause-changes
-returns-then-later-clause-changes g c = λ t. Changes-wider (InLog c.args.tx.now.log.at) (ByTransaction (pool_ground c.args.frames c.args.pool.now) c.args.tx.now.log.at) _ _ _ (λ k v inside. inl inside) (c.later_at.ensures.changes t)
+returns-then-later-clause-changes g c = λ t. Changes-wider (InLog c.args.tx.now.log.gate_at) (ByTransaction (pool_ground c.args.frames c.args.pool.now) c.args.tx.now.log.gate_at) _ _ _ (λ k v inside. inl inside) (c.later_at.ensures.changes t)

@@ -29,7 +29,7 @@ returns-clause-applies g c = λ t size e at known w held sessions ready.
     elim c.match-judged-slot.branch [
       | in-Some b ↦
           let pool : Known = b.in-Some.pool in
-          let here : known_in pools c.args.slot ≡ Some pool.at = ap (option_map (λ (k : Known). k.at)) (read ∙ b.in-Some.is) in
+          let here : known_in pools c.args.slot ≡ Some pool.at = ap (option_map (λ (k : Known). k.puddles)) (read ∙ b.in-Some.is) in
           let same : at ≡ pool.at = same_Some at pool.at (sym known ∙ ap (λ (ps : List (Option Known)). known_in ps c.args.slot) (sym c.judged.view_is) ∙ here) in
           rw (b.result-is, b.judged-inside-is, b.h-is)
           (subst (λ (ps : List (ℕ × Puddle)). AppliesBy (MovesTo (led_in c.args.slot (frontiers_of (steps_from c.args.n ps)))) size w w
@@ -38,7 +38,7 @@ returns-clause-applies g c = λ t size e at known w held sessions ready.
           (record { frames = c.args.frames; held = held; sessions = sessions; judged = set pools c.args.slot (Some k) }) (fault_of b.step_pool.result) s (g.H.Host.state b.step_pool.new.h)) (sym b.step_pool.ensures.rest)
           (Applies-stepped size w c.args.frames held sessions pools s then c.args.slot c.requires.slot pool (read ∙ b.in-Some.is) (frontiers_of (steps_from c.args.n pool.at)) b.step_pool.new.pool.at (fault_of b.step_pool.result)
           (g.H.Host.state b.step_pool.new.h) (λ idle low. b.step_pool.ensures.rewrites t size e idle low))))
-      | in-None b ↦ absurd (none-some at (sym (ap (option_map (λ (k : Known). k.at)) (read ∙ b.in-None.is)) ∙ ap (λ (ps : List (Option Known)). known_in ps c.args.slot) c.judged.view_is ∙ known))
+      | in-None b ↦ absurd (none-some at (sym (ap (option_map (λ (k : Known). k.puddles)) (read ∙ b.in-None.is)) ∙ ap (λ (ps : List (Option Known)). known_in ps c.args.slot) c.judged.view_is ∙ known))
     ]
 
 pub returns-clause-rest : goal.returns-clause-rest
@@ -65,6 +65,6 @@ returns-clause-steps g c =
     elim c.match-judged-slot.branch [
       | in-Some b ↦
           let pool : Known = b.in-Some.pool in
-          rw b.result-is (steps_known b.step_pool.result pools c.args.judged.now c.args.slot c.args.n pool.at c.judged.view_is (ap (option_map (λ (k : Known). k.at)) (read ∙ b.in-Some.is)) b.step_pool.ensures.steps)
-      | in-None b ↦ rw b.result-is (steps_none pools c.args.judged.now c.args.slot c.args.n 0 c.judged.view_is (ap (option_map (λ (k : Known). k.at)) (read ∙ b.in-None.is)))
+          rw b.result-is (steps_known b.step_pool.result pools c.args.judged.now c.args.slot c.args.n pool.at c.judged.view_is (ap (option_map (λ (k : Known). k.puddles)) (read ∙ b.in-Some.is)) b.step_pool.ensures.steps)
+      | in-None b ↦ rw b.result-is (steps_none pools c.args.judged.now c.args.slot c.args.n 0 c.judged.view_is (ap (option_map (λ (k : Known). k.puddles)) (read ∙ b.in-None.is)))
     ]

@@ -83,19 +83,19 @@ returns-clause-ends g c =
     let fault = fault_of c.close.result in
     rw (← c.self.view_is) (λ t size same ground es before is r can.
     let none = sym (c.asks-asked.ensures ∙ r.opened.asked) ∙ c.if-asked.false in
-    let close = subst (λ (l : OpenLog). Persists (only l.at CLOSED_GATE) fault (g.H.Host.state c.to_committing.new.h) (g.H.Host.state c.close.new.h)) c.in_ok-to_committing.ensures.moved (c.close.ensures.persists t) in
+    let close = subst (λ (l : OpenLog). Persists (only l.gate_at CLOSED_GATE) fault (g.H.Host.state c.to_committing.new.h) (g.H.Host.state c.close.new.h)) c.in_ok-to_committing.ensures.moved (c.close.ensures.persists t) in
     Ends-close size _ es ground before _ is r fault _ _ _ none (record { fence = c.in_ok-fence.ensures.state t; move = c.in_ok-to_committing.ensures.persists t }) close)
 
 pub returns-clause-gate : goal.returns-clause-gate
 returns-clause-gate g c =
     let fault = fault_of c.close.result in
     rw (← c.self.view_is) (λ t es opened none.
-    let close = subst (λ (l : OpenLog). Persists (only l.at CLOSED_GATE) fault (g.H.Host.state c.to_committing.new.h) (g.H.Host.state c.close.new.h)) c.in_ok-to_committing.ensures.moved (c.close.ensures.persists t) in
+    let close = subst (λ (l : OpenLog). Persists (only l.gate_at CLOSED_GATE) fault (g.H.Host.state c.to_committing.new.h) (g.H.Host.state c.close.new.h)) c.in_ok-to_committing.ensures.moved (c.close.ensures.persists t) in
     gate_closes _ fault _ _ _ _ (record { fence = c.in_ok-fence.ensures.state t; move = c.in_ok-to_committing.ensures.persists t }) close)
 
 pub returns-clause-any : goal.returns-clause-any
 returns-clause-any g c =
     let fault = fault_of c.close.result in
     λ t.
-    let close = subst (λ (l : OpenLog). Persists (only l.at CLOSED_GATE) fault (g.H.Host.state c.to_committing.new.h) (g.H.Host.state c.close.new.h)) c.in_ok-to_committing.ensures.moved (c.close.ensures.persists t) in
+    let close = subst (λ (l : OpenLog). Persists (only l.gate_at CLOSED_GATE) fault (g.H.Host.state c.to_committing.new.h) (g.H.Host.state c.close.new.h)) c.in_ok-to_committing.ensures.moved (c.close.ensures.persists t) in
     any_wider (ByCommit c.self.inside.log) fault _ _ (gate_closes _ fault _ _ _ _ (record { fence = c.in_ok-fence.ensures.state t; move = c.in_ok-to_committing.ensures.persists t }) close)

@@ -27,7 +27,7 @@ returns-then-branch-clause-keeps g c = λ t size is ground es before stands may 
     let entries = ap (entries_of (reads (g.H.Host.state c.args.h.now).now.words)) c.at.ensures ∙ ap (λ (l : Log). l.entries) running.opened.says in
     let told = sym (c.in_ok-are_covered.ensures.covered t _ (λ _. reads (g.H.Host.state c.args.h.now).now.words) es entries (stands.named c.args.address c.args.count may).fits) ∙ c.if-branch.true in
     Keeps-still ground _ es before (IsOneOf c.args.first c.args.count) _ _ _ reading.never_cut (reading.stays t) running
-    (λ none k one. covered_are_saved size c.args.self.now.at ground es c.args.address c.args.first c.args.count k stands running.own may place told one)
+    (λ none k one. covered_are_saved size c.args.self.now.gate_at ground es c.args.address c.args.first c.args.count k stands running.own may place told one)
 
 pub returns-clause-keeps : goal.returns-clause-keeps
 returns-clause-keeps g c = λ t size is ground es before stands may place running.

@@ -46,8 +46,8 @@ returns-then-other-clause-keeps g c = λ t size is ground es before stands may p
     (stands.named c.args.address2 1 may2).fits) ∙ c.if-other.true in
     Keeps-still ground _ es before (λ k. IsOneOf c.args.first c.args.count k ⊎ (k ≡ c.args.second)) _ _ _ reading.never_cut (reading.stays t) running
     (λ none k which. elim which [
-      | inl here ↦ covered_are_saved size c.args.self.now.at ground es c.args.address c.args.first c.args.count k stands running.own may place one here
-      | inr there ↦ covered_one_is_saved size c.args.self.now.at ground es c.args.address2 c.args.second k stands running.own may2 place2 other there
+      | inl here ↦ covered_are_saved size c.args.self.now.gate_at ground es c.args.address c.args.first c.args.count k stands running.own may place one here
+      | inr there ↦ covered_one_is_saved size c.args.self.now.gate_at ground es c.args.address2 c.args.second k stands running.own may2 place2 other there
     ])
 
 pub returns-then-one-clause-keeps : goal.returns-then-one-clause-keeps
@@ -60,7 +60,7 @@ returns-then-one-clause-keeps g c = λ t size is ground es before stands may pla
     Keeps-from ground _ _ es before all _ _ _ _ (reading.stays t) running
     (λ runs. Keeps-beside ground _ es before (IsOneOf c.args.second 1) (IsOneOf c.args.first c.args.count) all _ _ _
     (λ k which. elim which [ inl here ↦ inr here | inr there ↦ inl (omega arith, omega arith) ])
-    (λ k here. covered_are_saved size c.args.self.now.at ground es c.args.address c.args.first c.args.count k stands running.own may place one here)
+    (λ k here. covered_are_saved size c.args.self.now.gate_at ground es c.args.address c.args.first c.args.count k stands running.own may place one here)
     (c.append_held.ensures.keeps t size (still_size reading is) ground es before stands may2 place2 runs))
 
 pub returns-then-other-2-clause-keeps : goal.returns-then-other-2-clause-keeps
@@ -73,7 +73,7 @@ returns-then-other-2-clause-keeps g c = λ t size is ground es before stands may
     let all = λ (k : ℕ). IsOneOf c.args.first c.args.count k ⊎ (k ≡ c.args.second) in
     Keeps-from ground _ _ es before all _ _ _ _ (reading.stays t) running
     (λ runs. Keeps-beside ground _ es before (IsOneOf c.args.first c.args.count) (λ k. k ≡ c.args.second) all _ _ _ (λ k which. which)
-    (λ k there. covered_one_is_saved size c.args.self.now.at ground es c.args.address2 c.args.second k stands running.own may2 place2 other there)
+    (λ k there. covered_one_is_saved size c.args.self.now.gate_at ground es c.args.address2 c.args.second k stands running.own may2 place2 other there)
     (c.append_held-then-other-2.ensures.keeps t size (still_size reading is) ground es before stands may place runs))
 
 pub returns-clause-keeps : goal.returns-clause-keeps

@@ -5,4 +5,4 @@ use Rattle.word_transaction.proofs.laws.transaction_stays_open_beside_calls.Goal
 
 pub returns : goal.returns
 returns c = λ g log es before fault old new changes running.
-    IsRunning-kept g log es before _ fault old new changes (λ k v inside beside. not_inside log.at k beside.0 inside) (λ k v mine beside. let it : true ≡ false = sym mine ∙ beside.1 in cc) running
+    IsRunning-kept g log es before _ fault old new changes (λ k v inside beside. not_inside log.gate_at k beside.0 inside) (λ k v mine beside. let it : true ≡ false = sym mine ∙ beside.1 in cc) running

@@ -17,10 +17,10 @@ pub returns-in-New-clause-reply : goal.returns-in-New-clause-reply
 returns-in-New-clause-reply g c = λ t size e w memory its ready.
     let held = c.args.self.now in
     let known = c.args.pool.now in
-    let puddles : c.pool.inside.puddles ≡ known.at = ap (λ (k : Known). k.at) (c.pool.view_is ∙ c.forget.ensures) in
+    let puddles : c.pool.inside.puddles ≡ known.puddles = ap (λ (k : Known). k.puddles) (c.pool.view_is ∙ c.forget.ensures) in
     subst (λ (change : Change). IfOk c.new_object.result (λ reply. of_reply reply ≡ answer_by w (Some (line_of change held.client held.name)))) (sym c.in-New.is)
-    (c.new_object.ensures.reply t size e w (memory_alone held.slot known.at memory)
-    (subst (λ (ps : List (ℕ × Puddle)). IsHeldIn c.args.frames held ps (memory_alone held.slot known.at memory)) (sym puddles) (held_alone c.args.frames held known memory its))
+    (c.new_object.ensures.reply t size e w (memory_alone held.slot known.puddles memory)
+    (subst (λ (ps : List (ℕ × Puddle)). IsHeldIn c.args.frames held ps (memory_alone held.slot known.puddles memory)) (sym puddles) (held_alone c.args.frames held known memory its))
     (ready_alone c.args.frames held known memory its size w (g.H.Host.state c.args.h.now) ready))
 
 pub returns-in-New-clause-applies : goal.returns-in-New-clause-applies
@@ -30,20 +30,20 @@ returns-in-New-clause-applies g c = λ t size e w memory its ready.
     let now = c.new_object.new.self in
     let later = c.new_object.new.pool in
     let view = c.pool.view_is ∙ c.forget.ensures in
-    let puddles : c.pool.inside.puddles ≡ known.at = ap (λ (k : Known). k.at) view in
+    let puddles : c.pool.inside.puddles ≡ known.puddles = ap (λ (k : Known). k.puddles) view in
     let old = g.H.Host.state c.args.h.now in
     let new = g.H.Host.state c.new_object.new.h in
-    let behind = memory_alone held.slot known.at memory in
+    let behind = memory_alone held.slot known.puddles memory in
     let line = New held.client held.name c.in-New.t in
     let alone = subst (λ (ps : List (ℕ × Puddle)). IsHeldIn c.args.frames held ps behind) (sym puddles) (held_alone c.args.frames held known memory its) in
     let made = c.new_object.ensures.applies t size e w behind alone (ready_alone c.args.frames held known memory its size w old ready) in
     let on = subst (λ (ps : List (ℕ × Puddle)). AppliesFinishing held.slot (FinishesUnless (refusal_of w line) (FinishesTaken c.args.frames ps (reads old.now.words))) size w (world_by w (Some line))
     (with_opened held.log_number held.slot now later behind) (fault_of c.new_object.result) old new) puddles made in
     let asked = line_of c.args.change held.client held.name in
-    let by_change = subst (λ (change : Change). AppliesFinishing held.slot (FinishesUnless (refusal_of w (line_of change held.client held.name)) (Finishes c.args.frames known.at (reads old.now.words) change)) size w
+    let by_change = subst (λ (change : Change). AppliesFinishing held.slot (FinishesUnless (refusal_of w (line_of change held.client held.name)) (Finishes c.args.frames known.puddles (reads old.now.words) change)) size w
     (world_by w (Some (line_of change held.client held.name))) (with_opened held.log_number held.slot now later behind) (fault_of c.new_object.result) old new) (sym c.in-New.is) on in
-    subst (λ (m : Memory). AppliesFinishing held.slot (FinishesUnless (refusal_of w asked) (Finishes c.args.frames known.at (reads old.now.words) c.args.change)) size w (world_by w (Some asked)) m (fault_of c.new_object.result) old new)
-    (opened_alone held.log_number held.slot now known.at later memory ∙ ap (λ (k : Known). with_known held.log_number held.slot now k memory) (sym (ap (with_puddles later) view))) by_change
+    subst (λ (m : Memory). AppliesFinishing held.slot (FinishesUnless (refusal_of w asked) (Finishes c.args.frames known.puddles (reads old.now.words) c.args.change)) size w (world_by w (Some asked)) m (fault_of c.new_object.result) old new)
+    (opened_alone held.log_number held.slot now known.puddles later memory ∙ ap (λ (k : Known). with_known held.log_number held.slot now k memory) (sym (ap (with_puddles later) view))) by_change
 
 pub returns-in-Update-clause-reply : goal.returns-in-Update-clause-reply
 returns-in-Update-clause-reply g c = λ t size e w memory its ready.
@@ -53,7 +53,7 @@ returns-in-Update-clause-reply g c = λ t size e w memory its ready.
 pub returns-in-Update-clause-applies : goal.returns-in-Update-clause-applies
 returns-in-Update-clause-applies g c = λ t size e w memory its ready.
     let held = c.args.self.now in
-    subst (λ (change : Change). AppliesFinishing held.slot (FinishesUnless (refusal_of w (line_of change held.client held.name)) (Finishes c.args.frames c.args.pool.now.at (reads (g.H.Host.state c.args.h.now).now.words) change)) size w
+    subst (λ (change : Change). AppliesFinishing held.slot (FinishesUnless (refusal_of w (line_of change held.client held.name)) (Finishes c.args.frames c.args.pool.now.puddles (reads (g.H.Host.state c.args.h.now).now.words) change)) size w
     (world_by w (Some (line_of change held.client held.name))) (with_known held.log_number held.slot c.update_or_refuse.new.self c.update_or_refuse.new.pool memory)
     (fault_of c.update_or_refuse.result) (g.H.Host.state c.args.h.now) (g.H.Host.state c.update_or_refuse.new.h)) (sym c.in-Update.is)
     (c.update_or_refuse.ensures.applies t size e w memory its ready)

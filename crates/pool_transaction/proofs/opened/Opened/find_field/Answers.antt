@@ -13,14 +13,14 @@ use Rattle.pool_transaction.proofs.opened.Opened.find_field.Goals as goal
 pub returns-in_default-clause-refusal : goal.returns-in_default-clause-refusal
 returns-in_default-clause-refusal g c = λ t size w memory its ready.
     refused_unfound size w memory _ ready c.args.self.now c.args.self.now.log_number its.there c.args.frames c.as_slice-puddles.result.now (sym its.frames ∙ ready.frames)
-    (c.as_slice-puddles.ensures.puddles ∙ sym (held_known size w memory _ ready c.args.self.now.log_number c.args.self.now its.there c.args.pool.now.at (ap puddles_known its.known)))
+    (c.as_slice-puddles.ensures.puddles ∙ sym (held_known size w memory _ ready c.args.self.now.log_number c.args.self.now its.there c.args.pool.now.puddles (ap puddles_known its.known)))
     c.args.s c.args.f c.args.x (λ placed. c.in_ok-at.ensures.none t placed.legal _ refl c.in_default.is)
 
 pub returns-in-Some-field_refusal-clause-refusal : goal.returns-in-Some-field_refusal-clause-refusal
 returns-in-Some-field_refusal-clause-refusal g c = λ t size w memory its ready.
     sym c.in-Some-field_refusal.is ∙ c.field_refusal.ensures.refusal
     ∙ refused_to_set size w memory _ ready c.args.self.now c.args.self.now.log_number its.there c.args.frames c.as_slice-puddles.result.now (sym its.frames ∙ ready.frames)
-    (c.as_slice-puddles.ensures.puddles ∙ sym (held_known size w memory _ ready c.args.self.now.log_number c.args.self.now its.there c.args.pool.now.at (ap puddles_known its.known)))
+    (c.as_slice-puddles.ensures.puddles ∙ sym (held_known size w memory _ ready c.args.self.now.log_number c.args.self.now its.there c.args.pool.now.puddles (ap puddles_known its.known)))
     c.args.s c.args.f c.units.result c.args.x c.in-Some.at c.in-Some.word c.in_ok-read.read _ c.in-Some.is (λ placed. c.in_ok-at.ensures.found t placed.legal _ refl)
     (c.in_ok-read.ensures.read t _ (still_reads c.in_ok-at.ensures.only_reads t refl)) (c.units.ensures.units ∙ ap (λ (h : Held). h.tx.units) c.self.view_is)
 
@@ -28,7 +28,7 @@ pub returns-in-None-clause-refusal : goal.returns-in-None-clause-refusal
 returns-in-None-clause-refusal g c = λ t size w memory its ready.
     sym c.in-None.is ∙ c.field_refusal.ensures.refusal
     ∙ refused_to_set size w memory _ ready c.args.self.now c.args.self.now.log_number its.there c.args.frames c.as_slice-puddles.result.now (sym its.frames ∙ ready.frames)
-    (c.as_slice-puddles.ensures.puddles ∙ sym (held_known size w memory _ ready c.args.self.now.log_number c.args.self.now its.there c.args.pool.now.at (ap puddles_known its.known)))
+    (c.as_slice-puddles.ensures.puddles ∙ sym (held_known size w memory _ ready c.args.self.now.log_number c.args.self.now its.there c.args.pool.now.puddles (ap puddles_known its.known)))
     c.args.s c.args.f c.units.result c.args.x c.in-Some.at c.in-Some.word c.in_ok-read.read _ c.in-Some.is (λ placed. c.in_ok-at.ensures.found t placed.legal _ refl)
     (c.in_ok-read.ensures.read t _ (still_reads c.in_ok-at.ensures.only_reads t refl)) (c.units.ensures.units ∙ ap (λ (h : Held). h.tx.units) c.self.view_is)
 

@@ -18,8 +18,8 @@ use Rattle.pool_transaction.proofs.opened.Opened.find_free.Goals as goal
 pub returns-in_default-clause-refusal : goal.returns-in_default-clause-refusal
 returns-in_default-clause-refusal g c = λ t size w memory its ready.
     let known = known_so c.args.frames c.args.self.now c.args.pool.now memory its size w (g.H.Host.state c.args.h.now) ready in
-    refused_none_to_free size w memory _ ready c.args.self.now c.args.self.now.log_number its.there c.args.frames c.args.pool.now.at (sym its.frames ∙ ready.frames)
-    (sym (held_known size w memory _ ready c.args.self.now.log_number c.args.self.now its.there c.args.pool.now.at (ap puddles_known its.known)))
+    refused_none_to_free size w memory _ ready c.args.self.now c.args.self.now.log_number its.there c.args.frames c.args.pool.now.puddles (sym its.frames ∙ ready.frames)
+    (sym (held_known size w memory _ ready c.args.self.now.log_number c.args.self.now its.there c.args.pool.now.puddles (ap puddles_known its.known)))
     c.args.s (sym (c.in_ok-at.ensures.found t _ refl known) ∙ ap (option_map place_of_slot) c.in_default.is)
 
 pub returns-in-Some-refusal_to_free-clause-refusal : goal.returns-in-Some-refusal_to_free-clause-refusal
@@ -34,7 +34,7 @@ returns-in-Some-refusal_to_free-clause-refusal g c = λ t size w memory its read
     let place = subst (λ (ps : List (ℕ × Puddle)). place_in_pool F ps now c.args.s ≡ Some (place_of_slot c.in-Some.at)) (sym same) (sym (c.in_ok-at.ensures.found t now refl known) ∙ ap (option_map place_of_slot) c.in-Some.is) in
     sym c.in-Some-refusal_to_free.is ∙ c.refusal_to_free.ensures.refusal
     ∙ refused_to_free size w memory _ ready c.args.self.now c.args.self.now.log_number its.there _ F c.args.s c.units.result _ lent c.self.inside.tx.log c.in_ok-held.held c.in_ok-asked.asked behind
-    (sym its.frames ∙ ready.frames) (same ∙ sym (held_known size w memory _ ready c.args.self.now.log_number c.args.self.now its.there c.args.pool.now.at (ap puddles_known its.known))) (ap (λ (h : Held). h.tx.log) c.self.view_is) place
+    (sym its.frames ∙ ready.frames) (same ∙ sym (held_known size w memory _ ready c.args.self.now.log_number c.args.self.now its.there c.args.pool.now.puddles (ap puddles_known its.known))) (ap (λ (h : Held). h.tx.log) c.self.view_is) place
     (λ graph stored. c.in_ok-held.ensures.held t now (ap (λ (s : State). reads s.now.words) found) known graph (subst (λ (ps : List (ℕ × Puddle)). graph_of (types_of now) (stored_in F ps now) ≡ Some graph) same stored))
     (λ placed opened. c.in_ok-asked.ensures.names t now (ap (λ (s : State). reads s.now.words) behind) _ _ _ _ placed opened (λ zero. let least = c.requires.serial in absurd (omega (arith, zero, least))) place)
     (c.units.ensures.units ∙ ap (λ (h : Held). h.tx.units) c.self.view_is)
@@ -51,7 +51,7 @@ returns-in-None-clause-refusal g c = λ t size w memory its ready.
     let place = subst (λ (ps : List (ℕ × Puddle)). place_in_pool F ps now c.args.s ≡ Some (place_of_slot c.in-Some.at)) (sym same) (sym (c.in_ok-at.ensures.found t now refl known) ∙ ap (option_map place_of_slot) c.in-Some.is) in
     sym c.in-None.is ∙ c.refusal_to_free.ensures.refusal
     ∙ refused_to_free size w memory _ ready c.args.self.now c.args.self.now.log_number its.there _ F c.args.s c.units.result _ lent c.self.inside.tx.log c.in_ok-held.held c.in_ok-asked.asked behind
-    (sym its.frames ∙ ready.frames) (same ∙ sym (held_known size w memory _ ready c.args.self.now.log_number c.args.self.now its.there c.args.pool.now.at (ap puddles_known its.known))) (ap (λ (h : Held). h.tx.log) c.self.view_is) place
+    (sym its.frames ∙ ready.frames) (same ∙ sym (held_known size w memory _ ready c.args.self.now.log_number c.args.self.now its.there c.args.pool.now.puddles (ap puddles_known its.known))) (ap (λ (h : Held). h.tx.log) c.self.view_is) place
     (λ graph stored. c.in_ok-held.ensures.held t now (ap (λ (s : State). reads s.now.words) found) known graph (subst (λ (ps : List (ℕ × Puddle)). graph_of (types_of now) (stored_in F ps now) ≡ Some graph) same stored))
     (λ placed opened. c.in_ok-asked.ensures.names t now (ap (λ (s : State). reads s.now.words) behind) _ _ _ _ placed opened (λ zero. let least = c.requires.serial in absurd (omega (arith, zero, least))) place)
     (c.units.ensures.units ∙ ap (λ (h : Held). h.tx.units) c.self.view_is)

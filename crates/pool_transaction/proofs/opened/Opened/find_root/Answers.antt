@@ -12,21 +12,21 @@ use Rattle.pool_transaction.proofs.opened.Opened.find_root.Goals as goal
 pub returns-in_default-clause-refusal : goal.returns-in_default-clause-refusal
 returns-in_default-clause-refusal g c = λ t size w memory its ready.
     refused_unrooted size w memory _ ready c.args.self.now c.args.self.now.log_number its.there c.args.frames c.as_slice.result.now (sym its.frames ∙ ready.frames)
-    (c.as_slice.ensures.puddles ∙ sym (held_known size w memory _ ready c.args.self.now.log_number c.args.self.now its.there c.args.pool.now.at (ap puddles_known its.known)))
+    (c.as_slice.ensures.puddles ∙ sym (held_known size w memory _ ready c.args.self.now.log_number c.args.self.now its.there c.args.pool.now.puddles (ap puddles_known its.known)))
     c.args.s (λ placed. sym (c.in_ok-word.ensures.word t placed.legal _ refl) ∙ c.in_default.is)
 
 pub returns-in-Some-room_refusal-clause-refusal : goal.returns-in-Some-room_refusal-clause-refusal
 returns-in-Some-room_refusal-clause-refusal g c = λ t size w memory its ready.
     sym c.in-Some-room_refusal.is ∙ c.room_refusal.ensures.refusal
     ∙ refused_to_root size w memory _ ready c.args.self.now c.args.self.now.log_number its.there c.args.frames c.as_slice.result.now (sym its.frames ∙ ready.frames)
-    (c.as_slice.ensures.puddles ∙ sym (held_known size w memory _ ready c.args.self.now.log_number c.args.self.now its.there c.args.pool.now.at (ap puddles_known its.known)))
+    (c.as_slice.ensures.puddles ∙ sym (held_known size w memory _ ready c.args.self.now.log_number c.args.self.now its.there c.args.pool.now.puddles (ap puddles_known its.known)))
     c.args.s c.units.result c.in-Some.word (λ placed. sym (c.in_ok-word.ensures.word t placed.legal _ refl) ∙ c.in-Some.is) (c.units.ensures.units ∙ ap (λ (h : Held). h.tx.units) c.self.view_is)
 
 pub returns-in-None-clause-refusal : goal.returns-in-None-clause-refusal
 returns-in-None-clause-refusal g c = λ t size w memory its ready.
     sym c.in-None.is ∙ c.room_refusal.ensures.refusal
     ∙ refused_to_root size w memory _ ready c.args.self.now c.args.self.now.log_number its.there c.args.frames c.as_slice.result.now (sym its.frames ∙ ready.frames)
-    (c.as_slice.ensures.puddles ∙ sym (held_known size w memory _ ready c.args.self.now.log_number c.args.self.now its.there c.args.pool.now.at (ap puddles_known its.known)))
+    (c.as_slice.ensures.puddles ∙ sym (held_known size w memory _ ready c.args.self.now.log_number c.args.self.now its.there c.args.pool.now.puddles (ap puddles_known its.known)))
     c.args.s c.units.result c.in-Some.word (λ placed. sym (c.in_ok-word.ensures.word t placed.legal _ refl) ∙ c.in-Some.is) (c.units.ensures.units ∙ ap (λ (h : Held). h.tx.units) c.self.view_is)
 
 pub returns-in-None-clause-found : goal.returns-in-None-clause-found

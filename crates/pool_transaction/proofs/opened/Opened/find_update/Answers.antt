@@ -13,7 +13,7 @@ returns-in-Set-clause-refusal g c = λ t size w memory its ready.
 
 pub returns-in-Set-clause-found : goal.returns-in-Set-clause-found
 returns-in-Set-clause-found g c = λ t image same known placed.
-    subst (λ (update : Update). IfOk c.find_field.result (λ found. IfOk found (IsFoundBy c.args.frames c.args.pool.now.at image update))) (sym c.in-Set.is) (c.find_field.ensures.found t image same known placed)
+    subst (λ (update : Update). IfOk c.find_field.result (λ found. IfOk found (IsFoundBy c.args.frames c.args.pool.now.puddles image update))) (sym c.in-Set.is) (c.find_field.ensures.found t image same known placed)
 
 pub returns-in-Later-clause-refusal : goal.returns-in-Later-clause-refusal
 returns-in-Later-clause-refusal g c = λ t size w memory its ready.
@@ -23,7 +23,7 @@ returns-in-Later-clause-refusal g c = λ t size w memory its ready.
 
 pub returns-in-Later-clause-found : goal.returns-in-Later-clause-found
 returns-in-Later-clause-found g c = λ t image same known placed.
-    subst (λ (update : Update). IfOk c.find_field-in-Later.result (λ found. IfOk found (IsFoundBy c.args.frames c.args.pool.now.at image update))) (sym c.in-Later.is) (c.find_field-in-Later.ensures.found t image same known placed)
+    subst (λ (update : Update). IfOk c.find_field-in-Later.result (λ found. IfOk found (IsFoundBy c.args.frames c.args.pool.now.puddles image update))) (sym c.in-Later.is) (c.find_field-in-Later.ensures.found t image same known placed)
 
 pub returns-in-Root-clause-refusal : goal.returns-in-Root-clause-refusal
 returns-in-Root-clause-refusal g c = λ t size w memory its ready.
@@ -32,7 +32,7 @@ returns-in-Root-clause-refusal g c = λ t size w memory its ready.
 
 pub returns-in-Root-clause-found : goal.returns-in-Root-clause-found
 returns-in-Root-clause-found g c = λ t image same known placed.
-    subst (λ (update : Update). IfOk c.find_root.result (λ found. IfOk found (IsFoundBy c.args.frames c.args.pool.now.at image update))) (sym c.in-Root.is) (c.find_root.ensures.found t image same known placed)
+    subst (λ (update : Update). IfOk c.find_root.result (λ found. IfOk found (IsFoundBy c.args.frames c.args.pool.now.puddles image update))) (sym c.in-Root.is) (c.find_root.ensures.found t image same known placed)
 
 pub returns-in-Free-clause-refusal : goal.returns-in-Free-clause-refusal
 returns-in-Free-clause-refusal g c = λ t size w memory its ready.
@@ -41,4 +41,4 @@ returns-in-Free-clause-refusal g c = λ t size w memory its ready.
 
 pub returns-in-Free-clause-found : goal.returns-in-Free-clause-found
 returns-in-Free-clause-found g c = λ t image same known placed.
-    subst (λ (update : Update). IfOk c.find_free.result (λ found. IfOk found (IsFoundBy c.args.frames c.args.pool.now.at image update))) (sym c.in-Free.is) (c.find_free.ensures.found t image same known placed)
+    subst (λ (update : Update). IfOk c.find_free.result (λ found. IfOk found (IsFoundBy c.args.frames c.args.pool.now.puddles image update))) (sym c.in-Free.is) (c.find_free.ensures.found t image same known placed)

@@ -83,7 +83,7 @@ returns-in-Err-Host-clause-lowest g c = λ t size w memory its ready none slot o
       mid = g.H.Host.state c.args.h.now;
       first = None;
       finishes = record { batches = 0; in_turn = (refl, (refl, refl)) };
-      makes = inr (MakesIn-stopped c.args.frames c.args.pool.now c.args.self.now.tx.log.at slot of first.0 c.args.t _ _ _ first.1 read.never_cut (read.stays t));
+      makes = inr (MakesIn-stopped c.args.frames c.args.pool.now c.args.self.now.tx.log.gate_at slot of first.0 c.args.t _ _ _ first.1 read.never_cut (read.stays t));
     }
 
 -- ---- its puddles were not finished
@@ -139,8 +139,8 @@ returns-in_err-finish_both-clause-lowest g c =
     let within = subst (λ (ds : List (ℕ × Puddle)). IsSlotOf ds made) c.as_slice.ensures.puddles c.in-Ok.ensures.within in
     let it = one_slot at made slot within of (one_lowest (stored_in F at image) (place_of_slot made) (place_of_slot slot) found lowest) in
     let finishes = c.in_err-finish_both.ensures.rewrites t (ready_gate size w memory start then) (low_of_placed F at (its_placed size w memory held start held.log_number its.there then F same at its.known)) in
-    subst (λ (s : Slot). MakesBehind F at later held.tx.log.at s c.args.t (Some fault) old mid) it
-    (subst (λ (s : State). MakesBehind F at later held.tx.log.at made c.args.t (Some fault) s mid) still
+    subst (λ (s : Slot). MakesBehind F at later held.tx.log.gate_at s c.args.t (Some fault) old mid) it
+    (subst (λ (s : State). MakesBehind F at later held.tx.log.gate_at made c.args.t (Some fault) s mid) still
     (record { mid = mid; first = Some fault; finishes = finishes; makes = inl (refl, (λ no. none-some fault (sym no), refl)) })))
 
 -- ---- the object was made
@@ -252,9 +252,9 @@ returns-clause-lowest g c = λ t size w memory its ready none slot of lowest.
     let goal = frontiers_of (both_finished made.ordinal at) in
     let owes = c.in_ok-finish_both.ensures.rewrites t in
     let lowest_then = subst (λ (im : Image). IsLowestFreeSlot (stored_in F at im) (place_of_slot made)) (ap (λ (s : State). reads s.now.words) (sym still)) found in
-    subst (λ (s : Slot). MakesBehind F at later c.args.self.now.tx.log.at s c.args.t fault old new) it
-    (subst (λ (s : State). MakesBehind F at later c.args.self.now.tx.log.at made c.args.t fault s new) still
-    (subst (λ (o : Held). held_under memory.held o.log_number ≡ Some o → KnowsAlone memory.judged o.slot at → refusal_by_world w o c.args.t ≡ None → MakesBehind F at later o.tx.log.at made c.args.t fault start new)
+    subst (λ (s : Slot). MakesBehind F at later c.args.self.now.tx.log.gate_at s c.args.t fault old new) it
+    (subst (λ (s : State). MakesBehind F at later c.args.self.now.tx.log.gate_at made c.args.t fault s new) still
+    (subst (λ (o : Held). held_under memory.held o.log_number ≡ Some o → KnowsAlone memory.judged o.slot at → refusal_by_world w o c.args.t ≡ None → MakesBehind F at later o.tx.log.gate_at made c.args.t fault start new)
     c.self.view_is
     (λ there known none.
     let behind = memory_finished size w memory held start held.log_number there then F same at known goal later in
@@ -266,7 +266,7 @@ returns-clause-lowest g c = λ t size w memory its ready none slot of lowest.
       mid = mid;
       first = None;
       finishes = owes (ready_gate size w memory start then) (low_of_placed F at (its_placed size w memory held start held.log_number there then F same at known));
-      makes = inr (subst (λ (ds : List (ℕ × Puddle)). MakesIn F ds held.tx.log.at made c.args.t fault mid new) c.as_slice-2.ensures.puddles
+      makes = inr (subst (λ (ds : List (ℕ × Puddle)). MakesIn F ds held.tx.log.gate_at made c.args.t fault mid new) c.as_slice-2.ensures.puddles
           (made_there size w behind held mid held.log_number there ready_then F lent same (c.as_slice-2.ensures.puddles ∙ its_puddles size w behind held mid held.log_number there ready_then F same later known_then) c.args.t none fault new made
           (λ placed running left. c.new_at-made.ensures.makes t _ _ _ _ _ placed running left may.first may.its)));
     })

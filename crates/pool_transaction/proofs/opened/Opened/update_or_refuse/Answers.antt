@@ -26,7 +26,7 @@ returns-in_err-found-clause-applies g c =
     rw (p.1, p.2) (λ t size e w memory its ready.
     let held = c.args.self.now in
     let k = c.in_err-found.ensures.only_reads in
-    finishing_failed held.slot (FinishesUnless (refusal_of w (update_line c.args.update held.client held.name)) (FinishesFor c.args.frames c.args.pool.now.at (reads (g.H.Host.state c.args.h.now).now.words) c.args.update)) size w _ _ _ _ _ k.never_cut
+    finishing_failed held.slot (FinishesUnless (refusal_of w (update_line c.args.update held.client held.name)) (FinishesFor c.args.frames c.args.pool.now.puddles (reads (g.H.Host.state c.args.h.now).now.words) c.args.update)) size w _ _ _ _ _ k.never_cut
     (Applies-stopped size w (world_by w (Some (update_line c.args.update held.client held.name))) memory (with_known held.log_number held.slot held c.args.pool.now memory) c.in_err-found.field-0.0 _ _
     ready (k.stays t) (λ cut. absurd (k.never_cut cut))))
 
@@ -39,14 +39,14 @@ pub returns-in-Err-clause-applies : goal.returns-in-Err-clause-applies
 returns-in-Err-clause-applies g c = λ t size e w memory its ready.
     let held = c.args.self.now in
     let refused = sym (c.in_ok-found.ensures.refusal t size w memory its ready) ∙ ap refusal_in c.in-Err.is in
-    finishing_refused held.slot (FinishesFor c.args.frames c.args.pool.now.at (reads (g.H.Host.state c.args.h.now).now.words) c.args.update) (refusal_of w (update_line c.args.update held.client held.name)) c.in-Err.refusal refused size w _ _ _ _ _
+    finishing_refused held.slot (FinishesFor c.args.frames c.args.pool.now.puddles (reads (g.H.Host.state c.args.h.now).now.words) c.args.update) (refusal_of w (update_line c.args.update held.client held.name)) c.in-Err.refusal refused size w _ _ _ _ _
     (Applies-refused size w (with_known held.log_number held.slot held c.args.pool.now memory) (update_line c.args.update held.client held.name) c.in-Err.refusal _ _
     (subst (λ (m : Memory). IsReady size w m (g.H.Host.state c.args.h.now)) (sym (known_on c.args.frames held c.args.pool.now memory its)) ready)
     refused (c.in_ok-found.ensures.only_reads.stays t))
 
 pub update-requires-clause-found : goal.update-requires-clause-found
 update-requires-clause-found g c =
-    let puddles : c.pool.inside.puddles ≡ c.args.pool.now.at = ap (λ (k : Known). k.at) (c.pool.view_is ∙ c.forget.ensures) in
+    let puddles : c.pool.inside.puddles ≡ c.args.pool.now.puddles = ap (λ (k : Known). k.puddles) (c.pool.view_is ∙ c.forget.ensures) in
     subst (λ (at : List (ℕ × Puddle)). IsFoundWithin at c.in-Ok.found) (sym puddles) (rw c.in-Ok.is at c.in_ok-found.ensures.within)
 
 pub returns-clause-reply : goal.returns-clause-reply
