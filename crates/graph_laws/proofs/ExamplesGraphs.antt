@@ -7,7 +7,7 @@ use Rattle.pud_defs.specs.TypeMap.{map_word}
 use Rattle.pud_defs.specs.Spaces.{all_below}
 use Rattle.pud_defs.specs.Keyed.{keyed, first_from, are_distinct}
 use Rattle.pud_defs.specs.Stored.{Stored}
-use Rattle.pud_defs.specs.Graph.{place_in, target, is_graph, headers_fit, graph_of, is_held, Graph}
+use Rattle.pud_defs.specs.Graph.{place_in, target, is_graph, headers_fit, graph_of, is_referenced, Graph}
 use Rattle.pud_defs.specs.GraphChanges.{with_field, with_root, without_object, with_new, blank_object}
 use Rattle.graph_laws.specs.Changes.{with_field_word, with_serial_word, with_root_word}
 use Rattle.graph_laws.specs.Rewriting.{rewritten}
@@ -70,8 +70,8 @@ first_freed : graph_of types (with_serial_word 0 0 pool) ≡ Some (without_objec
 unfolding opened
 first_freed = refl
 
-first_is_not_held : is_held 1 graph ≡ false
-unfolding is_held
+first_is_not_held : is_referenced 1 graph ≡ false
+unfolding is_referenced
 first_is_not_held = refl
 
 new_object_comes_last : (with_new (blank_object 1 (map_word 2 (1 ∷ []))) graph).objects ≡ (1, record { type_id = 1; fields = Num 5 ∷ Ref 2 ∷ [] }) ∷ (2, record { type_id = 1; fields = Num 0 ∷ Ref 0 ∷ [] }) ∷ (3, record { type_id = 1; fields = Num 0 ∷ Ref 0 ∷ [] }) ∷ []

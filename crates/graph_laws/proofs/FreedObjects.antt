@@ -8,7 +8,7 @@ use Rattle.std.proofs.lemmas.Option.{none-some, same_Some}
 use Rattle.pud_defs.specs.declared.space.TheConstants.{FRAME_HEADER_WORDS, SLOT_SERIAL_WORD}
 use Rattle.pud_defs.specs.Geometry.{ordinal_of}
 use Rattle.pud_defs.specs.Stored.{Stored, places_of, place_begins}
-use Rattle.pud_defs.specs.Graph.{Table, table_of, contents_or_none, pointee_at, place_of, object_at, names_serial, Object, Graph, next_serial_of, root_of, graph_stored, graph_of, is_held}
+use Rattle.pud_defs.specs.Graph.{Table, table_of, contents_or_none, pointee_at, place_of, object_at, names_serial, Object, Graph, next_serial_of, root_of, graph_stored, graph_of, is_referenced}
 use Rattle.pud_defs.proofs.Graphs.{IsGraph, HasGraph, graph_of-each}
 use Rattle.pud_defs.specs.GraphChanges.{without_object}
 use Rattle.graph_laws.specs.Changes.{with_word, with_words, with_serial_word}
@@ -27,9 +27,9 @@ none_of_found {X = X} test (e ∷ es) k x none found =
     (cases_Bool (eq_by_cmp nat_cmp k e.0))
 
 -- a place whose serial nothing names is named by nothing
-unnamed_if_not_held : (types : List (ℕ × ℕ)) (st : Stored) (p : ℕ) → IsGraph (next_serial_of st) (root_of st) (table_of types st) (places_of st) → is_held ((table_of types st).serial p) (graph_stored types st) ≡ false
+unnamed_if_not_held : (types : List (ℕ × ℕ)) (st : Stored) (p : ℕ) → IsGraph (next_serial_of st) (root_of st) (table_of types st) (places_of st) → is_referenced ((table_of types st).serial p) (graph_stored types st) ≡ false
     → IsUnnamed (root_of st) (table_of types st) (places_of st) p
-unfolding is_held
+unfolding is_referenced
 unnamed_if_not_held types st p h apart =
     let t = table_of types st in
     let g = graph_stored types st in
@@ -56,7 +56,7 @@ module _ (types : List (ℕ × ℕ)) (st : Stored) (p : ℕ) where
   header_kept : (o k : ℕ) → k < FRAME_HEADER_WORDS → later o k ≡ st.word o k
   header_kept o k low = slot_word-header p SLOT_SERIAL_WORD 0 st (omega arith) o k low
 
-  graph_after : (g : Graph) → HasGraph types st g → IsLive before (places_of st) (before.serial p) p → is_held (before.serial p) (graph_stored types st) ≡ false → graph_of types (with_words later st) ≡ Some (without_object (before.serial p) g)
+  graph_after : (g : Graph) → HasGraph types st g → IsLive before (places_of st) (before.serial p) p → is_referenced (before.serial p) (graph_stored types st) ≡ false → graph_of types (with_words later st) ≡ Some (without_object (before.serial p) g)
   graph_after g h is_live apart =
       let n = places_of st in
       let next = next_serial_of st in
@@ -73,11 +73,11 @@ module _ (types : List (ℕ × ℕ)) (st : Stored) (p : ℕ) where
       (λ i. record { next_serial = next; root = root i; objects = objects i })
       ∙ ap (λ (k : Graph). Some (without_object (before.serial p) k)) h.is
 
-pub graph_of-freed : (types : List (ℕ × ℕ)) (st : Stored) (g : Graph) (s p : ℕ) → graph_of types st ≡ Some g → place_of s (table_of types st) (places_of st) ≡ Some p → is_held s g ≡ false
+pub graph_of-freed : (types : List (ℕ × ℕ)) (st : Stored) (g : Graph) (s p : ℕ) → graph_of types st ≡ Some g → place_of s (table_of types st) (places_of st) ≡ Some p → is_referenced s g ≡ false
     → graph_of types (with_serial_word p 0 st) ≡ Some (without_object s g)
 graph_of-freed types st g s p is found apart =
     let t = table_of types st in
     let there = place_of-some t (places_of st) s p found in
     let h = graph_of-each types st g is in
-    let alone : is_held (t.serial p) (graph_stored types st) ≡ false = ap₂ is_held there.is h.is ∙ apart in
+    let alone : is_referenced (t.serial p) (graph_stored types st) ≡ false = ap₂ is_referenced there.is h.is ∙ apart in
     graph_after types st p g h (record { within = there.within; is = refl; used = there.used }) alone ∙ ap (λ k. Some (without_object k g)) there.is

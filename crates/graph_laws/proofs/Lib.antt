@@ -28,4 +28,4 @@ pub mod Plain
 pub mod Law
 pub mod Placed
 pub mod KeyedSums
-pub mod Holders
+pub mod ReferenceCounts

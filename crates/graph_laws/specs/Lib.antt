@@ -1,5 +1,5 @@
 pub mod Changes
-pub mod Holders
+pub mod ReferenceCounts
 pub mod Reads
 pub mod Slots
 pub mod Rewriting

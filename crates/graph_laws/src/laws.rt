@@ -17,14 +17,14 @@ ghost use Rattle.pud_defs.specs.Image.{Image, written};
 ghost use Rattle.pud_defs.specs.Frames.{frame_at, frame_word, fresh_frame};
 ghost use Rattle.pud_defs.specs.Replay.{overwritten};
 ghost use Rattle.pud_defs.specs.Stored.{Stored, stored_in, places_of, place_word, place_words, IsFreePlace};
-ghost use Rattle.pud_defs.specs.Graph.{Object, Graph, table_of, place_of, object_at, field_count, object_in, next_serial_of, is_held, pointee_at, graph_of, empty_graph};
+ghost use Rattle.pud_defs.specs.Graph.{Object, Graph, table_of, place_of, object_at, field_count, object_in, next_serial_of, is_referenced, pointee_at, graph_of, empty_graph};
 ghost use Rattle.pud_defs.specs.GraphChanges.{blank_object, with_field, with_new, without_object, with_root};
 ghost use Rattle.std.specs.List.{list_any, range_with_len};
 ghost use Rattle.pud_defs.specs.ExportFile.{words_in, is_type_used, types_used, contents_of, file_graph};
 ghost use Rattle.pud_defs.specs.Exported.{exported_words, IsExportable};
 ghost use Rattle.graph_laws.specs.Changes.{with_word, with_words, with_slot_word, with_field_word, with_serial_word, with_root_word, AreBases, IsAddress, IsField, IsMade};
 ghost use Rattle.graph_laws.specs.Reads.{ReadsSame, with_puddle, alone, IsGrown, AgreeOnFrames, HasDistinctFrames};
-ghost use Rattle.graph_laws.specs.Holders.{times_named, pointers_to, holders};
+ghost use Rattle.graph_laws.specs.ReferenceCounts.{times_named_by, pointers_to, reference_count};
 ghost use Rattle.graph_laws.specs.Slots.{AreAllLive, is_of_type};
 ghost use Rattle.graph_laws.specs.Rewriting.{advanced, RewritesSteps, LeadSomewhere};
 ghost use Rattle.graph_laws.specs.Steps.{steps_in, with_steps};
@@ -74,7 +74,7 @@ pub fn filled_slot_is_a_new_object()
 
 /// A slot whose serial is cleared is no object any more, where nothing named it.
 pub fn cleared_serial_frees_the_object()
-    ensures { (types : List (ℕ × ℕ)) (st : Stored) (g : Graph) (s : ℕ) (p : ℕ) → graph_of types st ≡ Option.Some g → place_of s (table_of types st) (places_of st) ≡ Option.Some p → is_held s g ≡ false
+    ensures { (types : List (ℕ × ℕ)) (st : Stored) (g : Graph) (s : ℕ) (p : ℕ) → graph_of types st ≡ Option.Some g → place_of s (table_of types st) (places_of st) ≡ Option.Some p → is_referenced s g ≡ false
         → graph_of types (with_serial_word p 0 st) ≡ Option.Some (without_object s g) }
 {}
 
@@ -92,30 +92,30 @@ pub fn stored_address_is_the_root()
 
 /// Where a field of an object is set, the object that the field named has a holder fewer, and the one that it names now has
 /// one more.
-pub fn set_field_moves_one_holder()
+pub fn set_field_moves_one_reference()
     ensures { (types : List (ℕ × ℕ)) (st : Stored) (g : Graph) (q : ℕ) (s : ℕ) (f : ℕ) (x : Val) (was : Val) (o : Object) → graph_of types st ≡ Option.Some g → object_in s g ≡ Option.Some o → slice_get o.fields f ≡ Option.Some was
-        → holders q (with_field s f x g) + times_named q was ≡ holders q g + times_named q x }
+        → reference_count q (with_field s f x g) + times_named_by q was ≡ reference_count q g + times_named_by q x }
 {}
 
 /// Where the root is set, the object that it named has a holder fewer, and the one that it names now has one more.
-pub fn set_root_moves_one_holder()
-    ensures { (q : ℕ) (r : ℕ) (g : Graph) → holders q (with_root r g) + times_named q (Ref g.root) ≡ holders q g + times_named q (Ref r) }
+pub fn set_root_moves_one_reference()
+    ensures { (q : ℕ) (r : ℕ) (g : Graph) → reference_count q (with_root r g) + times_named_by q (Ref g.root) ≡ reference_count q g + times_named_by q (Ref r) }
 {}
 
 /// A new object holds none.
-pub fn new_object_holds_none()
-    ensures { (types : List (ℕ × ℕ)) (st : Stored) (g : Graph) (q : ℕ) (id : ℕ) (m : ℕ) → graph_of types st ≡ Option.Some g → q ≢ 0 → holders q (with_new (blank_object id m) g) ≡ holders q g }
+pub fn new_object_references_none()
+    ensures { (types : List (ℕ × ℕ)) (st : Stored) (g : Graph) (q : ℕ) (id : ℕ) (m : ℕ) → graph_of types st ≡ Option.Some g → q ≢ 0 → reference_count q (with_new (blank_object id m) g) ≡ reference_count q g }
 {}
 
 /// Where an object is freed, each has as many holders fewer as fields of it named it.
-pub fn freed_object_holds_no_more()
+pub fn freed_object_references_no_more()
     ensures { (types : List (ℕ × ℕ)) (st : Stored) (g : Graph) (q : ℕ) (s : ℕ) (o : Object) → graph_of types st ≡ Option.Some g → object_in s g ≡ Option.Some o
-        → holders q (without_object s g) + pointers_to q o ≡ holders q g }
+        → reference_count q (without_object s g) + pointers_to q o ≡ reference_count q g }
 {}
 
 /// An object is held exactly where it has a holder.
-pub fn held_object_has_holders()
-    ensures { (s : ℕ) (g : Graph) → is_held s g ≡ nat_lt 0 (holders s g) }
+pub fn referenced_object_is_counted()
+    ensures { (s : ℕ) (g : Graph) → is_referenced s g ≡ nat_lt 0 (reference_count s g) }
 {}
 
 /// Words that are the same wherever they are read have the same graph, or have none either.

@@ -20,13 +20,13 @@ use Rattle.pud_defs.proofs.Keyed.{first_from_step}
 use Rattle.pud_defs.proofs.TypeLists.{same_test}
 use Rattle.pud_defs.proofs.Graphs.{under_serial-free, under_serial-used, graph_of-each, distinct_live}
 use Rattle.pud_defs.proofs.PoolsCounted.{sum_places-same, worth, sum-keyed}
-use Rattle.graph_laws.specs.Holders.{times_named, pointers_to, holders}
+use Rattle.graph_laws.specs.ReferenceCounts.{times_named_by, pointers_to, reference_count}
 use Rattle.graph_laws.proofs.Words.{place_of-some}
 use Rattle.puddle_header.specs.Places.{places_in}
 use Rattle.graph_read.specs.declared.index.Kept.{Kept}
 use Rattle.graph_read.specs.declared.index.Index.{Index}
 use Rattle.graph_read.specs.Asking.{serials_in, with_serials}
-use Rattle.graph_read.specs.Index.{kept_under, HasRoom, with_more, names_one, after_hold}
+use Rattle.graph_read.specs.Index.{kept_under, HasRoom, with_more_references, names_one, after_retain}
 use Rattle.graph_read.specs.Indexed.{kept_of, IsIndexOf, serial_named, after_list, Gains, HasAtMost, contents_name, place_names, places_name}
 use Rattle.graph_read.specs.Reading.{table_in, place_in_pool}
 use Rattle.graph_read.proofs.Judging.{same_places}
@@ -70,48 +70,48 @@ listed_more f p n q old new some within so_far is =
 
 -- ---- counts
 
-more_none : (k : Kept) → with_more 0 k ≡ k
-more_none k = let same : k.holders + 0 ≡ k.holders = omega arith in λ i. record { ordinal = k.ordinal; slot = k.slot; holders = same i }
+more_none : (k : Kept) → with_more_references 0 k ≡ k
+more_none k = let same : k.references + 0 ≡ k.references = omega arith in λ i. record { ordinal = k.ordinal; slot = k.slot; references = same i }
 
-more_twice : (a b : ℕ) (k : Kept) → with_more b (with_more a k) ≡ with_more (a + b) k
-more_twice a b k = let same : k.holders + a + b ≡ k.holders + (a + b) = omega arith in λ i. record { ordinal = k.ordinal; slot = k.slot; holders = same i }
+more_twice : (a b : ℕ) (k : Kept) → with_more_references b (with_more_references a k) ≡ with_more_references (a + b) k
+more_twice a b k = let same : k.references + a + b ≡ k.references + (a + b) = omega arith in λ i. record { ordinal = k.ordinal; slot = k.slot; references = same i }
 
-option_none : (o : Option Kept) → o ≡ option_map (with_more 0) o
+option_none : (o : Option Kept) → o ≡ option_map (with_more_references 0) o
 option_none None = refl
 option_none (Some k) = ap (λ (j : Kept). Some j) (sym (more_none k))
 
-option_twice : (a b : ℕ) (o : Option Kept) → option_map (with_more b) (option_map (with_more a) o) ≡ option_map (with_more (a + b)) o
+option_twice : (a b : ℕ) (o : Option Kept) → option_map (with_more_references b) (option_map (with_more_references a) o) ≡ option_map (with_more_references (a + b)) o
 option_twice a b None = refl
 option_twice a b (Some k) = ap (λ (j : Kept). Some j) (more_twice a b k)
 
 pub Gains-none : (more : ℕ → ℕ) (x : Index) → ((q : ℕ) → more q ≡ 0) → Gains more x x
-Gains-none more x none = record { each = λ q. option_none (kept_under x q) ∙ ap (λ n. option_map (with_more n) (kept_under x q)) (sym (none q)) }
+Gains-none more x none = record { each = λ q. option_none (kept_under x q) ∙ ap (λ n. option_map (with_more_references n) (kept_under x q)) (sym (none q)) }
 
 pub Gains-then : (a b all : ℕ → ℕ) (x y z : Index) → Gains a x y → Gains b y z → ((q : ℕ) → a q + b q ≡ all q) → Gains all x z
 Gains-then a b all x y z first then_ sum = record {
-  each = λ q. then_.each q ∙ ap (option_map (with_more (b q))) (first.each q) ∙ option_twice (a q) (b q) (kept_under x q) ∙ ap (λ n. option_map (with_more n) (kept_under x q)) (sum q);
+  each = λ q. then_.each q ∙ ap (option_map (with_more_references (b q))) (first.each q) ∙ option_twice (a q) (b q) (kept_under x q) ∙ ap (λ n. option_map (with_more_references n) (kept_under x q)) (sum q);
 }
 
 -- at most so many
 once_at_most : (to q : ℕ) → names_one to q ≤ 1
 once_at_most to q = elim (eqb to q && not (eqb q 0)) as (λ b. cond b 1 0 ≤ 1) [ true ↦ omega arith | false ↦ omega arith ]
 
-held_at_most : (to q n : ℕ) (old : Option Kept) → IfSome old (λ k. k.holders ≤ n) → IfSome (after_hold to q old) (λ k. k.holders ≤ n + 1)
+held_at_most : (to q n : ℕ) (old : Option Kept) → IfSome old (λ k. k.references ≤ n) → IfSome (after_retain to q old) (λ k. k.references ≤ n + 1)
 held_at_most to q n None few = few
 held_at_most to q n (Some k) few = let one = once_at_most to q in omega arith
 
-pub HasAtMost-held : (to n m : ℕ) (x y : Index) → HasAtMost n x → ((q : ℕ) → kept_under y q ≡ after_hold to q (kept_under x q)) → n + 1 ≡ m → HasAtMost m y
+pub HasAtMost-held : (to n m : ℕ) (x y : Index) → HasAtMost n x → ((q : ℕ) → kept_under y q ≡ after_retain to q (kept_under x q)) → n + 1 ≡ m → HasAtMost m y
 HasAtMost-held to n m x y few held next =
-    subst (λ (j : ℕ). HasAtMost j y) next (record { each = λ q. subst (λ (o : Option Kept). IfSome o (λ k. k.holders ≤ n + 1)) (sym (held q)) (held_at_most to q n (kept_under x q) (few.each q)) })
+    subst (λ (j : ℕ). HasAtMost j y) next (record { each = λ q. subst (λ (o : Option Kept). IfSome o (λ k. k.references ≤ n + 1)) (sym (held q)) (held_at_most to q n (kept_under x q) (few.each q)) })
 
-fewer : (n m : ℕ) (o : Option Kept) → n ≤ m → IfSome o (λ k. k.holders ≤ n) → IfSome o (λ k. k.holders ≤ m)
+fewer : (n m : ℕ) (o : Option Kept) → n ≤ m → IfSome o (λ k. k.references ≤ n) → IfSome o (λ k. k.references ≤ m)
 fewer n m None le few = few
 fewer n m (Some k) le few = omega arith
 
 pub HasAtMost-more : (n m : ℕ) (x : Index) → n ≤ m → HasAtMost n x → HasAtMost m x
 HasAtMost-more n m x le few = record { each = λ q. fewer n m (kept_under x q) le (few.each q) }
 
-room_for : (n : ℕ) (o : Option Kept) → n + 1 < 2 ^ 32 → IfSome o (λ k. k.holders ≤ n) → IfSome o HasRoom
+room_for : (n : ℕ) (o : Option Kept) → n + 1 < 2 ^ 32 → IfSome o (λ k. k.references ≤ n) → IfSome o HasRoom
 room_for n None low few = few
 room_for n (Some k) low few = omega arith
 
@@ -119,12 +119,12 @@ pub has_room : (n : ℕ) (x : Index) → HasAtMost n x → n + 1 < 2 ^ 32 → (s
 has_room n x few low s = room_for n (kept_under x s) low (few.each s)
 
 -- what is listed is held by none
-none_held_of : (o : Option ℕ) → IfSome (option_map (kept_of 0) o) (λ k. k.holders ≤ 0)
+none_held_of : (o : Option ℕ) → IfSome (option_map (kept_of 0) o) (λ k. k.references ≤ 0)
 none_held_of None = tt
 none_held_of (Some p) = omega arith
 
 pub HasAtMost-listed : (place : ℕ → Option ℕ) (x : Index) → ((q : ℕ) → kept_under x q ≡ option_map (kept_of 0) (place q)) → HasAtMost 0 x
-HasAtMost-listed place x listed = record { each = λ q. subst (λ (o : Option Kept). IfSome o (λ k. k.holders ≤ 0)) (sym (listed q)) (none_held_of (place q)) }
+HasAtMost-listed place x listed = record { each = λ q. subst (λ (o : Option Kept). IfSome o (λ k. k.references ≤ 0)) (sym (listed q)) (none_held_of (place q)) }
 
 -- ---- fields
 
@@ -157,12 +157,12 @@ abbrev once : Bool → ℕ
 once b = cond b 1 0
 
 -- a value names once what its serial says
-pub named_once : (q : ℕ) (v : Val) → (q ≡ 0 → ⊥) → times_named q v ≡ names_one (serial_named v) q
+pub named_once : (q : ℕ) (v : Val) → (q ≡ 0 → ⊥) → times_named_by q v ≡ names_one (serial_named v) q
 named_once q (Num n) some = sym (cond-false _ _ _ (ap (λ b. b && not (eqb q 0)) (ne_eqb 0 q (λ none. some (sym none)))))
 named_once q (Ref r) some =
     elim (eqb r q) as (λ a. once a ≡ once (a && not (eqb q 0))) [ true ↦ ap (λ b. once (not b)) (sym (ne_eqb q 0 some)) | false ↦ refl ]
 
-content_once : (q : ℕ) (serial : ℕ → ℕ) (c : Content) → (q ≡ 0 → ⊥) → times_named q (value_of serial c) ≡ names_one (named_by serial c) q
+content_once : (q : ℕ) (serial : ℕ → ℕ) (c : Content) → (q ≡ 0 → ⊥) → times_named_by q (value_of serial c) ≡ names_one (named_by serial c) q
 content_once q serial (Number v) some = named_once q (Num v) some
 content_once q serial Null some = named_once q (Ref 0) some
 content_once q serial (At p) some = named_once q (Ref (serial p)) some
@@ -171,7 +171,7 @@ content_once q serial Nowhere some = named_once q (Ref 0) some
 values_counted : (q : ℕ) (serial : ℕ → ℕ) (contents : List Content) → (q ≡ 0 → ⊥) → count_by (names_serial q) (map (value_of serial) contents) ≡ sum_by (λ c. names_one (named_by serial c) q) contents
 values_counted q serial [] some = refl
 values_counted q serial (c ∷ contents) some =
-    sum_by-cons (times_named q) (value_of serial c) (map (value_of serial) contents)
+    sum_by-cons (times_named_by q) (value_of serial c) (map (value_of serial) contents)
     ∙ ap₂ (λ (a b : ℕ). a + b) (content_once q serial c some) (values_counted q serial contents some)
     ∙ sym (sum_by-cons (λ d. names_one (named_by serial d) q) c contents)
 
@@ -189,10 +189,10 @@ worth_named q t p some = elim (cases_eq (t.serial p) 0) [
 ]
 
 -- the holders in a graph are those that the slots of its pool and the root name
-holders-places : (types : List (ℕ × ℕ)) (st : Stored) (g : Graph) (q : ℕ) → graph_of types st ≡ Some g → (q ≡ 0 → ⊥)
-    → places_name (table_of types st) (places_of st) q + names_one (named_by (serials_in st) (root_of st)) q ≡ holders q g
-unfolding holders
-holders-places types st g q is some =
+reference_count-places : (types : List (ℕ × ℕ)) (st : Stored) (g : Graph) (q : ℕ) → graph_of types st ≡ Some g → (q ≡ 0 → ⊥)
+    → places_name (table_of types st) (places_of st) q + names_one (named_by (serials_in st) (root_of st)) q ≡ reference_count q g
+unfolding reference_count
+reference_count-places types st g q is some =
     let h = graph_of-each types st g is in
     let t = table_of types st in
     let n = places_of st in
@@ -200,9 +200,9 @@ holders-places types st g q is some =
     let objects = sum-keyed nat_cmp (λ (e : ℕ × Object). pointers_to q e.1) nat_cmp_total (live t) 0 n (distinct_live t n h.graph.distinct)
     ∙ sum_places-same _ (λ p. place_names t p q) 0 n (λ j low high. worth_named q t j some)
     ∙ sum_places-listed (λ p. place_names t p q) 0 n in
-    sym (ap (holders q) (sym h.is) ∙ ap₂ (λ (a b : ℕ). a + b) root objects ∙ add_comm _ _)
+    sym (ap (reference_count q) (sym h.is) ∙ ap₂ (λ (a b : ℕ). a + b) root objects ∙ add_comm _ _)
 
-counted_kept : (m r total : ℕ) (o : Option ℕ) → ((p : ℕ) → o ≡ Some p → m + r ≡ total) → option_map (with_more r) (option_map (with_more m) (option_map (kept_of 0) o)) ≡ option_map (kept_of total) o
+counted_kept : (m r total : ℕ) (o : Option ℕ) → ((p : ℕ) → o ≡ Some p → m + r ≡ total) → option_map (with_more_references r) (option_map (with_more_references m) (option_map (kept_of 0) o)) ≡ option_map (kept_of total) o
 counted_kept m r total None sums = refl
 counted_kept m r total (Some p) sums =
     let sum = sums p refl in
@@ -217,27 +217,27 @@ placed_used F at image q p there none = let live = place_of-some (table_in F at 
 pub index_built : (F : ℕ) (at : List (ℕ × Puddle)) (types : List (ℕ × ℕ)) (image : Image) (g : Graph) (serial : ℕ → ℕ) (n root : ℕ) (listed counted x : Index) → graph_of types (stored_in F at image) ≡ Some g
     → serial ≡ serials_in (stored_in F at image) → n ≡ places_in at → root ≡ named_by serial (root_of (stored_in F at image))
     → ((q : ℕ) → kept_under listed q ≡ option_map (kept_of 0) (first_from nat_cmp q (under_serial serial (λ p. p)) 0 n))
-    → Gains (places_name (with_serials serial (table_of types (stored_in F at image))) (places_in at)) listed counted → ((q : ℕ) → kept_under x q ≡ after_hold root q (kept_under counted q)) → IsIndexOf F at types image x
+    → Gains (places_name (with_serials serial (table_of types (stored_in F at image))) (places_in at)) listed counted → ((q : ℕ) → kept_under x q ≡ after_retain root q (kept_under counted q)) → IsIndexOf F at types image x
 index_built F at types image g serial n root listed counted x stored is_serial is_n is_root is_listed gains held =
     let st = stored_in F at image in
     let t = table_of types st in
     let place : (q : ℕ) → first_from nat_cmp q (under_serial serial (λ p. p)) 0 n ≡ place_in_pool F at image q =
     λ q. ap₂ (λ (f : ℕ → ℕ) (m : ℕ). first_from nat_cmp q (under_serial f (λ p. p)) 0 m) is_serial is_n in
-    let sums : (q : ℕ) → (q ≡ 0 → ⊥) → places_name (with_serials serial t) (places_in at) q + names_one root q ≡ holders q g =
+    let sums : (q : ℕ) → (q ≡ 0 → ⊥) → places_name (with_serials serial t) (places_in at) q + names_one root q ≡ reference_count q g =
     λ q some.
     ap₂ (λ (a b : ℕ). a + b)
     (ap₂ (λ (f : ℕ → ℕ) (m : ℕ). places_name (with_serials f t) m q) is_serial (same_places F at image))
     (ap (λ (r : ℕ). names_one r q) (is_root ∙ ap (λ (f : ℕ → ℕ). named_by f (root_of st)) is_serial))
-    ∙ holders-places types st g q stored some in
+    ∙ reference_count-places types st g q stored some in
     record {
       graph = g;
       is = stored;
       index = record {
         each = λ q.
             held q
-            ∙ ap (option_map (with_more (names_one root q))) (gains.each q ∙ ap (option_map (with_more (places_name (with_serials serial t) (places_in at) q))) (is_listed q))
-            ∙ counted_kept (places_name (with_serials serial t) (places_in at) q) (names_one root q) (holders q g) (first_from nat_cmp q (under_serial serial (λ p. p)) 0 n)
+            ∙ ap (option_map (with_more_references (names_one root q))) (gains.each q ∙ ap (option_map (with_more_references (places_name (with_serials serial t) (places_in at) q))) (is_listed q))
+            ∙ counted_kept (places_name (with_serials serial t) (places_in at) q) (names_one root q) (reference_count q g) (first_from nat_cmp q (under_serial serial (λ p. p)) 0 n)
             (λ p there. sums q (placed_used F at image q p (sym (place q) ∙ there)))
-            ∙ ap (option_map (kept_of (holders q g))) (place q);
+            ∙ ap (option_map (kept_of (reference_count q g))) (place q);
       };
     }

@@ -9,13 +9,13 @@ use Rattle.pud_defs.specs.declared.objects.Val.{Val}
 use Rattle.pud_defs.specs.declared.objects.Val.TheVariants.{Num, Ref}
 use Rattle.pud_defs.specs.Image.{Image}
 use Rattle.pud_defs.specs.Stored.{stored_in}
-use Rattle.pud_defs.specs.Graph.{Object, Graph, object_in, is_held, graph_of}
+use Rattle.pud_defs.specs.Graph.{Object, Graph, object_in, is_referenced, graph_of}
 use Rattle.pud_defs.specs.GraphChanges.{blank_object, with_field, with_new, without_object, with_root}
-use Rattle.graph_laws.specs.Holders.{times_named, holders}
-use Rattle.graph_laws.proofs.Holders.{objects_sorted, next_unused, holders-field, holders-root, holders-new, holders-freed, held-holders}
+use Rattle.graph_laws.specs.ReferenceCounts.{times_named_by, reference_count}
+use Rattle.graph_laws.proofs.ReferenceCounts.{objects_sorted, next_unused, reference_count-field, reference_count-root, reference_count-new, reference_count-freed, held-reference_count}
 use Rattle.graph_read.specs.declared.index.Index.{Index}
-use Rattle.graph_read.specs.Index.{kept_under, KeepsBut, fresh, place_kept, holders_kept, HasHolder, MayBeHeld, names_one, after_retarget}
-use Rattle.graph_read.specs.Indexed.{slot_at_place, kept_of, IsIndexBy, IsIndexOf, serial_named, holders_left}
+use Rattle.graph_read.specs.Index.{kept_under, KeepsBut, unreferenced_at, place_kept, references_kept, HasReference, MayBeReferenced, names_one, after_retarget}
+use Rattle.graph_read.specs.Indexed.{slot_at_place, kept_of, IsIndexBy, IsIndexOf, serial_named, references_left}
 use Rattle.graph_read.specs.Reading.{place_in_pool}
 use Rattle.graph_read.proofs.IndexBuilt.{named_once, placed_used}
 
@@ -34,15 +34,15 @@ module _ (place : ℕ → Option ℕ) (count : ℕ → ℕ) (x : Index) (is : Is
   kept_by s p there = is.each s ∙ ap (option_map (kept_of (count s))) there
 
   -- how many hold it
-  pub counted_by : (s p : ℕ) → place s ≡ Some p → holders_kept (kept_under x s) ≡ count s
-  counted_by s p there = ap holders_kept (kept_by s p there)
+  pub counted_by : (s p : ℕ) → place s ≡ Some p → references_kept (kept_under x s) ≡ count s
+  counted_by s p there = ap references_kept (kept_by s p there)
 
   -- a pointer that names it may be let go, and one more may name it
-  pub has_holder : (s p : ℕ) → place s ≡ Some p → 1 ≤ count s → HasHolder (kept_under x s)
-  has_holder s p there some = subst HasHolder (sym (kept_by s p there)) some
+  pub has_holder : (s p : ℕ) → place s ≡ Some p → 1 ≤ count s → HasReference (kept_under x s)
+  has_holder s p there some = subst HasReference (sym (kept_by s p there)) some
 
-  pub may_be_held : (s p : ℕ) → place s ≡ Some p → count s + 1 < 2 ^ 32 → MayBeHeld (kept_under x s)
-  may_be_held s p there room = subst MayBeHeld (sym (kept_by s p there)) room
+  pub may_be_held : (s p : ℕ) → place s ≡ Some p → count s + 1 < 2 ^ 32 → MayBeReferenced (kept_under x s)
+  may_be_held s p there room = subst MayBeReferenced (sym (kept_by s p there)) room
 
 -- ---- places and counts
 
@@ -77,7 +77,7 @@ module _ (place later : ℕ → Option ℕ) (count after : ℕ → ℕ) (s : ℕ
   other_kept q other = is.each q ∙ recounted (count q) (after q) (place q) (λ p there. counts q p other there) ∙ ap (option_map (kept_of (after q))) (sym (others q other))
 
   -- an object more, which none holds
-  pub IsIndexBy-inserted : (p : ℕ) → KeepsBut x y s (Some (fresh (slot_at_place p))) → later s ≡ Some p → after s ≡ 0 → IsIndexBy later after y
+  pub IsIndexBy-inserted : (p : ℕ) → KeepsBut x y s (Some (unreferenced_at (slot_at_place p))) → later s ≡ Some p → after s ≡ 0 → IsIndexBy later after y
   IsIndexBy-inserted p kept there none = record {
     each = λ q. kept q ∙ elim (cases_eq q s) [
       | inl here ↦ cond-true _ _ _ (eq-eqb s q (sym here)) ∙ sym (ap₂ (λ (n : ℕ) (o : Option ℕ). option_map (kept_of n) o) (ap after here ∙ none) (ap later here ∙ there))
@@ -100,12 +100,12 @@ module _ (F : ℕ) (at : List (ℕ × Puddle)) (types : List (ℕ × ℕ)) (imag
   abbrev place : ℕ → Option ℕ
   place = place_in_pool F at image
 
-  pub by_graph : IsIndexBy place (λ q. holders q g) x
-  by_graph = subst (λ (k : Graph). IsIndexBy place (λ q. holders q k) x) (same_Some is.graph g (sym is.is ∙ stored)) is.index
+  pub by_graph : IsIndexBy place (λ q. reference_count q g) x
+  by_graph = subst (λ (k : Graph). IsIndexBy place (λ q. reference_count q k) x) (same_Some is.graph g (sym is.is ∙ stored)) is.index
 
   -- an object is held where its count is not 0
-  pub held_by_index : (s p : ℕ) → place s ≡ Some p → is_held s g ≡ ltb 0 (holders_kept (kept_under x s))
-  held_by_index s p there = held-holders s g ∙ ap (ltb 0) (sym (counted_by place (λ q. holders q g) x by_graph s p there))
+  pub held_by_index : (s p : ℕ) → place s ≡ Some p → is_referenced s g ≡ ltb 0 (references_kept (kept_under x s))
+  held_by_index s p there = held-reference_count s g ∙ ap (ltb 0) (sym (counted_by place (λ q. reference_count q g) x by_graph s p there))
 
   module _ (later : Image) (h : Graph) (after : graph_of types (stored_in F at later) ≡ Some h) where
     -- where the graph and the places stay
@@ -113,17 +113,17 @@ module _ (F : ℕ) (at : List (ℕ × Puddle)) (types : List (ℕ × ℕ)) (imag
     index_same same stay = record {
       graph = h;
       is = after;
-      index = IsIndexBy-same place (place_in_pool F at later) (λ q. holders q g) (λ q. holders q h) x stay (λ q p there. ap (holders q) same) by_graph;
+      index = IsIndexBy-same place (place_in_pool F at later) (λ q. reference_count q g) (λ q. reference_count q h) x stay (λ q p there. ap (reference_count q) same) by_graph;
     }
 
     -- where a value names another serial, and the places stay
     moved_index : (was now : Val) (y : Index) → ((q : ℕ) → place_in_pool F at later q ≡ place q) → ((q : ℕ) → kept_under y q ≡ after_retarget (serial_named was) (serial_named now) q (kept_under x q))
-        → ((q : ℕ) → times_named q was ≤ holders q g) → ((q : ℕ) → holders q h + times_named q was ≡ holders q g + times_named q now) → IsIndexOf F at types later y
+        → ((q : ℕ) → times_named_by q was ≤ reference_count q g) → ((q : ℕ) → reference_count q h + times_named_by q was ≡ reference_count q g + times_named_by q now) → IsIndexOf F at types later y
     moved_index was now y stay moved had counts = record {
       graph = h;
       is = after;
-      index = IsIndexBy-same place (place_in_pool F at later) (λ q. holders q h) (λ q. holders q h) y stay (λ q p there. refl)
-          (IsIndexBy-moved place (λ q. holders q g) (λ q. holders q h) (serial_named was) (serial_named now) x y moved
+      index = IsIndexBy-same place (place_in_pool F at later) (λ q. reference_count q h) (λ q. reference_count q h) y stay (λ q p there. refl)
+          (IsIndexBy-moved place (λ q. reference_count q g) (λ q. reference_count q h) (serial_named was) (serial_named now) x y moved
           (λ q p there. let low = had q in let once = named_once q was (placed_used F at image q p there) in omega (arith, low, once))
           (λ q p there.
           let sum = counts q in
@@ -140,21 +140,21 @@ module _ (F : ℕ) (at : List (ℕ × Puddle)) (types : List (ℕ × ℕ)) (imag
   index_set later s f now was o y there field after stay moved =
       let sorted = objects_sorted types (stored_in F at image) g stored in
       moved_index later (with_field s f now g) after was now y stay moved
-      (λ q. let emptied = holders-field q s f (Num 0) was o g sorted there field in omega (arith, emptied))
-      (λ q. holders-field q s f now was o g sorted there field)
+      (λ q. let emptied = reference_count-field q s f (Num 0) was o g sorted there field in omega (arith, emptied))
+      (λ q. reference_count-field q s f now was o g sorted there field)
 
-  root_counted : (q : ℕ) → times_named q (Ref g.root) ≤ holders q g
-  unfolding holders
+  root_counted : (q : ℕ) → times_named_by q (Ref g.root) ≤ reference_count q g
+  unfolding reference_count
   root_counted q = omega arith
 
   -- the root is set
   pub index_rooted : (later : Image) (r : ℕ) (y : Index) → graph_of types (stored_in F at later) ≡ Some (with_root r g) → ((q : ℕ) → place_in_pool F at later q ≡ place q)
       → ((q : ℕ) → kept_under y q ≡ after_retarget g.root r q (kept_under x q)) → IsIndexOf F at types later y
-  index_rooted later r y after stay moved = moved_index later (with_root r g) after (Ref g.root) (Ref r) y stay moved root_counted (λ q. holders-root q r g)
+  index_rooted later r y after stay moved = moved_index later (with_root r g) after (Ref g.root) (Ref r) y stay moved root_counted (λ q. reference_count-root q r g)
 
   -- an object is made that nothing names
-  pub index_made : (later : Image) (type_id m p : ℕ) (y : Index) → graph_of types (stored_in F at later) ≡ Some (with_new (blank_object type_id m) g) → holders g.next_serial g ≡ 0
-      → place_in_pool F at later g.next_serial ≡ Some p → ((q : ℕ) → (q ≡ g.next_serial → ⊥) → place_in_pool F at later q ≡ place q) → KeepsBut x y g.next_serial (Some (fresh (slot_at_place p)))
+  pub index_made : (later : Image) (type_id m p : ℕ) (y : Index) → graph_of types (stored_in F at later) ≡ Some (with_new (blank_object type_id m) g) → reference_count g.next_serial g ≡ 0
+      → place_in_pool F at later g.next_serial ≡ Some p → ((q : ℕ) → (q ≡ g.next_serial → ⊥) → place_in_pool F at later q ≡ place q) → KeepsBut x y g.next_serial (Some (unreferenced_at (slot_at_place p)))
       → IsIndexOf F at types later y
   index_made later type_id m p y after unnamed there others kept =
       let unused = next_unused types (stored_in F at image) g stored in
@@ -162,35 +162,35 @@ module _ (F : ℕ) (at : List (ℕ × Puddle)) (types : List (ℕ × ℕ)) (imag
       record {
         graph = with_new blank g;
         is = after;
-        index = IsIndexBy-inserted place (place_in_pool F at later) (λ q. holders q g) (λ q. holders q (with_new blank g)) g.next_serial x y others
-            (λ q k other before. holders-new q type_id m g (placed_used F at image q k before) unused) by_graph p kept there
-            (holders-new g.next_serial type_id m g (placed_used F at later g.next_serial p there) unused ∙ unnamed);
+        index = IsIndexBy-inserted place (place_in_pool F at later) (λ q. reference_count q g) (λ q. reference_count q (with_new blank g)) g.next_serial x y others
+            (λ q k other before. reference_count-new q type_id m g (placed_used F at image q k before) unused) by_graph p kept there
+            (reference_count-new g.next_serial type_id m g (placed_used F at later g.next_serial p there) unused ∙ unnamed);
       }
 
   -- ---- an object is freed: its fields are let go one after the other, and then its serial
 
-  pub index_begins_to_free : (s : ℕ) (o : Object) → object_in s g ≡ Some o → IsIndexBy place (holders_left g s o.fields) x
+  pub index_begins_to_free : (s : ℕ) (o : Object) → object_in s g ≡ Some o → IsIndexBy place (references_left g s o.fields) x
   index_begins_to_free s o there =
-      IsIndexBy-same place place (λ q. holders q g) (holders_left g s o.fields) x (λ q. refl) (λ q p known. holders-freed q s o g (objects_sorted types (stored_in F at image) g stored) there) by_graph
+      IsIndexBy-same place place (λ q. reference_count q g) (references_left g s o.fields) x (λ q. refl) (λ q p known. reference_count-freed q s o g (objects_sorted types (stored_in F at image) g stored) there) by_graph
 
 pub index_lets_go : (F : ℕ) (at : List (ℕ × Puddle)) (image : Image) (g : Graph) (s : ℕ) (v : Val) (left : List Val) (x y : Index) → ((q : ℕ) → kept_under y q ≡ after_retarget (serial_named v) 0 q (kept_under x q))
-    → IsIndexBy (place_in_pool F at image) (holders_left g s (v ∷ left)) x → IsIndexBy (place_in_pool F at image) (holders_left g s left) y
+    → IsIndexBy (place_in_pool F at image) (references_left g s (v ∷ left)) x → IsIndexBy (place_in_pool F at image) (references_left g s left) y
 index_lets_go F at image g s v left x y moved is =
-    IsIndexBy-moved (place_in_pool F at image) (holders_left g s (v ∷ left)) (holders_left g s left) (serial_named v) 0 x y moved
-    (λ q p there. let once = named_once q v (placed_used F at image q p there) in let sum = sum_by-cons (times_named q) v left in omega (arith, once, sum))
+    IsIndexBy-moved (place_in_pool F at image) (references_left g s (v ∷ left)) (references_left g s left) (serial_named v) 0 x y moved
+    (λ q p there. let once = named_once q v (placed_used F at image q p there) in let sum = sum_by-cons (times_named_by q) v left in omega (arith, once, sum))
     (λ q p there.
     let used = placed_used F at image q p there in
     let once = named_once q v used in
     let null : names_one 0 q ≡ 0 = sym (named_once q (Num 0) used) in
-    let sum = sum_by-cons (times_named q) v left in
+    let sum = sum_by-cons (times_named_by q) v left in
     omega (arith, once, null, sum))
     is
 
 pub index_freed : (F : ℕ) (at : List (ℕ × Puddle)) (types : List (ℕ × ℕ)) (image later : Image) (g : Graph) (s : ℕ) (x y : Index) → graph_of types (stored_in F at later) ≡ Some (without_object s g)
     → place_in_pool F at later s ≡ None → ((q : ℕ) → (q ≡ s → ⊥) → place_in_pool F at later q ≡ place_in_pool F at image q) → KeepsBut x y s None
-    → IsIndexBy (place_in_pool F at image) (holders_left g s []) x → IsIndexOf F at types later y
+    → IsIndexBy (place_in_pool F at image) (references_left g s []) x → IsIndexOf F at types later y
 index_freed F at types image later g s x y after gone others kept is = record {
   graph = without_object s g;
   is = after;
-  index = IsIndexBy-removed (place_in_pool F at image) (place_in_pool F at later) (holders_left g s []) (λ q. holders q (without_object s g)) s x y others (λ q p other there. omega arith) is kept gone;
+  index = IsIndexBy-removed (place_in_pool F at image) (place_in_pool F at later) (references_left g s []) (λ q. reference_count q (without_object s g)) s x y others (λ q p other there. omega arith) is kept gone;
 }

@@ -2,7 +2,7 @@ pub mod Counted
 pub mod ExamplesNumbers
 pub mod Fielded
 pub mod Found
-pub mod Held
+pub mod Referenced
 pub mod IndexBuilt
 pub mod IndexKept
 pub mod Judging

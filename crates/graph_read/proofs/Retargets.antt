@@ -1,12 +1,12 @@
 -- What is kept of a serial behind a retarget.
 use Rattle.std.proofs.Common.{◌≡◌, ℕ, Option, Some, None, IfSome, sym, subst, arith}
 use Rattle.graph_read.specs.declared.index.Kept.{Kept}
-use Rattle.graph_read.specs.Index.{HasRoom, MayBeHeld, after_release}
+use Rattle.graph_read.specs.Index.{HasRoom, MayBeReferenced, after_release}
 
 -- a holder fewer leaves room for one more
-room_kept : (from to : ℕ) (old : Option Kept) → MayBeHeld old → IfSome (after_release from to old) HasRoom
+room_kept : (from to : ℕ) (old : Option Kept) → MayBeReferenced old → IfSome (after_release from to old) HasRoom
 room_kept from to None none = absurd none
 room_kept from to (Some k) room = omega arith
 
-pub room_behind : (from to : ℕ) (old new : Option Kept) → new ≡ after_release from to old → MayBeHeld old → IfSome new HasRoom
+pub room_behind : (from to : ℕ) (old new : Option Kept) → new ≡ after_release from to old → MayBeReferenced old → IfSome new HasRoom
 room_behind from to old new is room = subst (λ (o : Option Kept). IfSome o HasRoom) (sym is) (room_kept from to old room)

@@ -15,35 +15,35 @@ KeepsBut old new s now = (q : ℕ) → kept_under new q ≡ cond (nat_eq s q) no
 -- ---- what is kept of one serial
 
 -- an object at this place that none holds yet
-abbrev pub fresh : ℕ × ℕ → Kept
-fresh place = record { ordinal = place.0; slot = place.1; holders = 0 }
+abbrev pub unreferenced_at : ℕ × ℕ → Kept
+unreferenced_at place = record { ordinal = place.0; slot = place.1; references = 0 }
 
 -- the ordinal and the slot
 abbrev pub place_kept : Kept → ℕ × ℕ
 place_kept k = (k.ordinal, k.slot)
 
 -- how many hold it, 0 where nothing is kept
-abbrev pub holders_kept : Option Kept → ℕ
-holders_kept None = 0
-holders_kept (Some k) = k.holders
+abbrev pub references_kept : Option Kept → ℕ
+references_kept None = 0
+references_kept (Some k) = k.references
 
 -- the same at its place, with so many holders
-abbrev pub with_holders : ℕ → Kept → Kept
-with_holders n k = record { ordinal = k.ordinal; slot = k.slot; holders = n }
+abbrev pub with_references : ℕ → Kept → Kept
+with_references n k = record { ordinal = k.ordinal; slot = k.slot; references = n }
 
 -- it has a holder
-abbrev pub HasHolder : Option Kept → Type 0
-HasHolder None = ⊥
-HasHolder (Some k) = 1 ≤ k.holders
+abbrev pub HasReference : Option Kept → Type 0
+HasReference None = ⊥
+HasReference (Some k) = 1 ≤ k.references
 
 -- a holder more can be counted
 abbrev pub HasRoom : Kept → Type 0
-HasRoom k = k.holders + 1 < 2 ^ 32
+HasRoom k = k.references + 1 < 2 ^ 32
 
 -- it is kept, and a holder more can be counted
-abbrev pub MayBeHeld : Option Kept → Type 0
-MayBeHeld None = ⊥
-MayBeHeld (Some k) = HasRoom k
+abbrev pub MayBeReferenced : Option Kept → Type 0
+MayBeReferenced None = ⊥
+MayBeReferenced (Some k) = HasRoom k
 
 -- ---- retargets
 
@@ -52,20 +52,20 @@ abbrev pub names_one : (named s : ℕ) → ℕ
 names_one named s = cond (named == s && not (s == 0)) 1 0
 
 -- the same with so many holders more, and with so many fewer
-abbrev pub with_more : ℕ → Kept → Kept
-with_more n k = with_holders (k.holders + n) k
+abbrev pub with_more_references : ℕ → Kept → Kept
+with_more_references n k = with_references (k.references + n) k
 
-abbrev pub with_fewer : ℕ → Kept → Kept
-with_fewer n k = with_holders (k.holders - n) k
+abbrev pub with_fewer_references : ℕ → Kept → Kept
+with_fewer_references n k = with_references (k.references - n) k
 
 -- what is kept of a serial when a pointer names `from` no more
 abbrev pub after_release : (from s : ℕ) → Option Kept → Option Kept
-after_release from s kept = option_map (with_fewer (names_one from s)) kept
+after_release from s kept = option_map (with_fewer_references (names_one from s)) kept
 
 -- what is kept of it when a pointer more names `to`
-abbrev pub after_hold : (to s : ℕ) → Option Kept → Option Kept
-after_hold to s kept = option_map (with_more (names_one to s)) kept
+abbrev pub after_retain : (to s : ℕ) → Option Kept → Option Kept
+after_retain to s kept = option_map (with_more_references (names_one to s)) kept
 
 -- what is kept of it when a pointer names `to` and no more `from`
 abbrev pub after_retarget : (from to s : ℕ) → Option Kept → Option Kept
-after_retarget from to s kept = after_hold to s (after_release from s kept)
+after_retarget from to s kept = after_retain to s (after_release from s kept)

@@ -9,10 +9,10 @@ use Rattle.pud_defs.specs.Image.{Image}
 use Rattle.pud_defs.specs.Stored.{stored_in}
 use Rattle.pud_defs.specs.Graph.{Content, Table, Graph, named_by, names_serial, graph_of}
 use Rattle.pud_defs.specs.GraphChanges.{without_object}
-use Rattle.graph_laws.specs.Holders.{holders}
+use Rattle.graph_laws.specs.ReferenceCounts.{reference_count}
 use Rattle.graph_read.specs.declared.index.Kept.{Kept}
 use Rattle.graph_read.specs.declared.index.Index.{Index}
-use Rattle.graph_read.specs.Index.{kept_under, with_more, names_one}
+use Rattle.graph_read.specs.Index.{kept_under, with_more_references, names_one}
 use Rattle.graph_read.specs.Reading.{place_in_pool}
 
 -- the ordinal and the slot of a place
@@ -21,7 +21,7 @@ slot_at_place p = (ordinal_of p, slot_of p)
 
 -- what is kept of an object at a place with so many holders
 abbrev pub kept_of : (n p : ℕ) → Kept
-kept_of n p = record { ordinal = ordinal_of p; slot = slot_of p; holders = n }
+kept_of n p = record { ordinal = ordinal_of p; slot = slot_of p; references = n }
 
 -- The index has each serial that has a place, with that place and with its count.
 pub record IsIndexBy (place : ℕ → Option ℕ) (count : ℕ → ℕ) (x : Index) : Type 0 where
@@ -31,7 +31,7 @@ pub record IsIndexBy (place : ℕ → Option ℕ) (count : ℕ → ℕ) (x : Ind
 pub record IsIndexOf (F : ℕ) (at : List (ℕ × Puddle)) (types : List (ℕ × ℕ)) (image : Image) (x : Index) : Type 0 where
   pub graph : Graph
   pub is : graph_of types (stored_in F at image) ≡ Some graph
-  pub index : IsIndexBy (place_in_pool F at image) (λ q. holders q graph) x
+  pub index : IsIndexBy (place_in_pool F at image) (λ q. reference_count q graph) x
 
 -- ---- an object that is freed
 
@@ -41,8 +41,8 @@ serial_named (Num v) = 0
 serial_named (Ref s) = s
 
 -- how many hold an object while one is freed, of whose fields these are still to be let go
-abbrev pub holders_left : Graph → (freed : ℕ) → List Val → ℕ → ℕ
-holders_left g freed left q = holders q (without_object freed g) + count_by (names_serial q) left
+abbrev pub references_left : Graph → (freed : ℕ) → List Val → ℕ → ℕ
+references_left g freed left q = reference_count q (without_object freed g) + count_by (names_serial q) left
 
 -- ---- how it is built
 
@@ -52,11 +52,11 @@ after_list serial place s kept = cond (serial == s && not (s == 0)) (Some (kept_
 
 -- Each serial that is kept has so many holders more.
 pub record Gains (more : ℕ → ℕ) (old new : Index) : Type 0 where
-  pub each : (q : ℕ) → kept_under new q ≡ option_map (with_more (more q)) (kept_under old q)
+  pub each : (q : ℕ) → kept_under new q ≡ option_map (with_more_references (more q)) (kept_under old q)
 
 -- Each has at most so many holders.
 pub record HasAtMost (n : ℕ) (x : Index) : Type 0 where
-  pub each : (q : ℕ) → IfSome (kept_under x q) (λ k. k.holders ≤ n)
+  pub each : (q : ℕ) → IfSome (kept_under x q) (λ k. k.references ≤ n)
 
 -- how often these contents name a serial
 abbrev pub contents_name : (ℕ → ℕ) → Option (List Content) → (s : ℕ) → ℕ

@@ -1,7 +1,7 @@
 //! An index of a pool, kept in memory: where each live object stands, and how many hold it.
 
 ghost use Rattle.std.specs.Prelude.{◌≡◌, ◌≢◌, ℕ, true, false, Option, option_map, IfSome};
-ghost use Rattle.graph_read.specs.Index.{kept_under, KeepsBut, fresh, place_kept, holders_kept, HasHolder, HasRoom, MayBeHeld, after_release, after_hold, after_retarget};
+ghost use Rattle.graph_read.specs.Index.{kept_under, KeepsBut, unreferenced_at, place_kept, references_kept, HasReference, HasRoom, MayBeReferenced, after_release, after_retain, after_retarget};
 
 use indexmap::IndexMap;
 use std::alloc::Global;
@@ -14,7 +14,7 @@ pub struct Kept {
     /// Its slot of that puddle, from 0 to 61.
     slot: u32,
     /// How many pointers name it, the root among them.
-    holders: u32,
+    references: u32,
 }
 
 /// An index of a pool: for each live object, by its serial, the ordinal and the slot where it stands, and how many pointers
@@ -43,11 +43,11 @@ impl Index {
 
     /// How many hold the object of serial `s`: the pointers of live objects and the root that name it; 0 where the index does
     /// not have it.
-    pub fn holders(&self, s: u64) -> u32
-        ensures { result ≡ holders_kept (kept_under self.now s) }
+    pub fn references(&self, s: u64) -> u32
+        ensures { result ≡ references_kept (kept_under self.now s) }
     {
         match self.map.get(&s) {
-            Some(kept) => kept.holders,
+            Some(kept) => kept.references,
             None => 0,
         }
     }
@@ -55,14 +55,14 @@ impl Index {
     /// Keeps an object that none holds yet, of serial `s`, at this ordinal and slot, in place of what was kept of the serial.
     /// False is want of memory, and then nothing changes.
     pub fn insert(&mut self, s: u64, place: (u32, u32)) -> bool
-        ensures kept { result ≡ true → KeepsBut self.old self.new s (Option.Some (fresh place)) }
+        ensures kept { result ≡ true → KeepsBut self.old self.new s (Option.Some (unreferenced_at place)) }
         ensures unchanged { result ≡ false → (q : ℕ) → kept_under self.new q ≡ kept_under self.old q }
     {
         let (ordinal, slot) = place;
         let kept = Kept {
             ordinal,
             slot,
-            holders: 0,
+            references: 0,
         };
         self.map.insert(s, kept).is_ok()
     }
@@ -76,38 +76,38 @@ impl Index {
 
     /// Counts a holder fewer of serial `s`, unless it is 0.
     fn release(&mut self, s: u64)
-        requires held { s ≢ 0 → HasHolder (kept_under self.old s) }
+        requires held { s ≢ 0 → HasReference (kept_under self.old s) }
         ensures { (q : ℕ) → kept_under self.new q ≡ after_release s q (kept_under self.old q) }
     {
         if s == 0 {
             return;
         }
         if let Some(kept) = self.map.get_mut(&s) {
-            kept.holders -= 1;
+            kept.references -= 1;
         }
     }
 
     /// Counts a holder more of serial `s`, unless it is 0 or not kept.
-    pub(crate) fn hold(&mut self, s: u64)
+    pub(crate) fn retain(&mut self, s: u64)
         requires room { s ≢ 0 → IfSome (kept_under self.old s) HasRoom }
-        ensures { (q : ℕ) → kept_under self.new q ≡ after_hold s q (kept_under self.old q) }
+        ensures { (q : ℕ) → kept_under self.new q ≡ after_retain s q (kept_under self.old q) }
     {
         if s == 0 {
             return;
         }
         if let Some(kept) = self.map.get_mut(&s) {
-            kept.holders += 1;
+            kept.references += 1;
         }
     }
 
     /// Counts that a pointer which named serial `from` names `to` instead; 0 is null, and names none. Each of the two that is
     /// not 0 is in the index: `from` has a holder, and `to` fewer than 2^32 - 1. No memory is taken.
     pub fn retarget(&mut self, from: u64, to: u64)
-        requires held { from ≢ 0 → HasHolder (kept_under self.old from) }
-        requires room { to ≢ 0 → MayBeHeld (kept_under self.old to) }
+        requires held { from ≢ 0 → HasReference (kept_under self.old from) }
+        requires room { to ≢ 0 → MayBeReferenced (kept_under self.old to) }
         ensures { (q : ℕ) → kept_under self.new q ≡ after_retarget from to q (kept_under self.old q) }
     {
         self.release(from);
-        self.hold(to);
+        self.retain(to);
     }
 }

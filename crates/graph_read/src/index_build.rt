@@ -97,7 +97,7 @@ impl Index {
     {
         for f in 0..map_fields(type_map).min(MAX_FIELDS) {
             let v = field_word(h, frames, pool, place, f)?;
-            self.hold(serial_in_field(pool, serials, place, type_map, f, v));
+            self.retain(serial_in_field(pool, serials, place, type_map, f, v));
         }
         Ok(())
     }
@@ -183,7 +183,7 @@ impl Index {
             return Ok(None);
         };
         index.hold_all(h, frames, pool, &serials)?;
-        index.hold(named(&serials, read_pointer(pool, 0, 0, root)));
+        index.retain(named(&serials, read_pointer(pool, 0, 0, root)));
         Ok(Some(index))
     }
 }

@@ -8,7 +8,7 @@
 
 mod asking;
 mod fields;
-mod holders;
+mod references;
 mod index;
 mod index_build;
 mod judge;
@@ -18,7 +18,7 @@ mod serials;
 
 pub use asking::{field_word, type_at};
 pub use fields::{FieldRead, field_at, read_field, serial_behind, value_at};
-pub use holders::is_held;
+pub use references::is_referenced;
 pub use index::{Index, Kept};
 pub use judge::{Totals, pool_is_sound, pool_totals};
 pub use places::{find_place, find_serial};

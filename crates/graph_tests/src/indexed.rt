@@ -35,9 +35,9 @@ fn a_pair_that_holds_each_other(rt: HostRuntime) {
     assert!(rt; index.find(1) == Some((0, 0)));
     assert!(rt; index.find(2) == Some((0, 1)));
     assert!(rt; index.find(3) == None);
-    assert!(rt; index.holders(1) == 2);
-    assert!(rt; index.holders(2) == 1);
-    assert!(rt; index.holders(3) == 0);
+    assert!(rt; index.references(1) == 2);
+    assert!(rt; index.references(2) == 1);
+    assert!(rt; index.references(3) == 0);
     assert!(rt; index.insert(3, (0, 2)));
     assert!(rt; index.find(3) == Some((0, 2)));
     index.remove(2);
@@ -48,7 +48,7 @@ fn a_pair_that_holds_each_other(rt: HostRuntime) {
 fn an_object_that_all_name(rt: HostRuntime) {
     let index = index_of(&rt, rt.alloc(), &moved(63, 63), &words(NEW));
     assert!(rt; index.find(3) == Some((1, 0)));
-    assert!(rt; index.holders(3) == 4);
-    assert!(rt; index.holders(1) == 0);
-    assert!(rt; index.holders(0) == 0);
+    assert!(rt; index.references(3) == 4);
+    assert!(rt; index.references(1) == 0);
+    assert!(rt; index.references(0) == 0);
 }

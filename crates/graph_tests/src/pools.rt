@@ -2,7 +2,7 @@
 ghost use Rattle.std.specs.Prelude.{IsTrue};
 ghost use Rattle.pud_defs.specs.Stored.{IsOnDevice};
 
-use graph_read::{FieldRead, Index, is_held, pool_is_sound, read_field};
+use graph_read::{FieldRead, Index, is_referenced, pool_is_sound, read_field};
 use pm_mem::{MemHost, Plan};
 use pm_model::{Host, HostFault};
 use pud_defs::layout::{MAX_FIELDS, MAX_FRAMES, MIN_FRAMES, device_words};
@@ -111,7 +111,7 @@ fn ask<H: Host>(
     assert!(rt; is_on_device(frames, pool));
     match asked {
         Asked::Sound => judged(pool_is_sound(host, frames, pool)),
-        Asked::Held(serial) => judged(is_held(host, frames, pool, serial)),
+        Asked::Held(serial) => judged(is_referenced(host, frames, pool, serial)),
         Asked::Field(serial, f) => {
             assert!(rt; f < MAX_FIELDS);
             field(read_field(host, frames, pool, serial, f))

@@ -16,7 +16,7 @@ ghost use Rattle.pud_defs.specs.Entries.{Entry, log_of};
 ghost use Rattle.pud_defs.specs.Frames.{frame_at};
 ghost use Rattle.pud_defs.specs.Replay.{overwritten, replayed};
 ghost use Rattle.pud_defs.specs.Stored.{stored_in, IsFreePlace};
-ghost use Rattle.pud_defs.specs.Graph.{Graph, graph_of, is_held, next_serial_of};
+ghost use Rattle.pud_defs.specs.Graph.{Graph, graph_of, is_referenced, next_serial_of};
 ghost use Rattle.pud_defs.specs.GraphChanges.{with_field, with_new, blank_object, without_object, with_root};
 ghost use Rattle.pud_defs.specs.Laters.{Later, with_laters};
 ghost use Rattle.puddle_header.specs.Places.{place_of_slot, IsSlotOf};
@@ -62,7 +62,7 @@ pub fn stored_word_is_the_root()
 /// A slot whose serial is cleared is no object any more, where nothing held it.
 pub fn cleared_serial_frees_the_object()
     ensures { (types : List (ℕ × ℕ)) (frames : ℕ) (at : List (ℕ × Puddle)) (image : Image) (g : Graph) → graph_of types (stored_in frames at image) ≡ Option.Some g
-        → IsPlaced frames at → (s : ℕ) (slot : Slot) → IsSlotOf at slot → place_in_pool frames at image s ≡ Option.Some (place_of_slot slot) → is_held s g ≡ false
+        → IsPlaced frames at → (s : ℕ) (slot : Slot) → IsSlotOf at slot → place_in_pool frames at image s ≡ Option.Some (place_of_slot slot) → is_referenced s g ≡ false
         → graph_of types (stored_in frames at (overwritten (placed (serial_word_at frames slot) (0 ∷ [])) image)) ≡ Option.Some (without_object s g) }
 {}
 

@@ -5,12 +5,12 @@ use Rattle.pud_defs.specs.declared.objects.Val.{Val}
 use Rattle.pud_defs.specs.Image.{Image}
 use Rattle.pud_defs.specs.Stored.{stored_in}
 use Rattle.pud_defs.specs.Types.{types_of}
-use Rattle.pud_defs.specs.Graph.{Graph, graph_of, is_held}
-use Rattle.graph_laws.specs.Holders.{holders}
+use Rattle.pud_defs.specs.Graph.{Graph, graph_of, is_referenced}
+use Rattle.graph_laws.specs.ReferenceCounts.{reference_count}
 use Rattle.graph_laws.proofs.Words.{place_of-some}
 use Rattle.puddle_header.specs.Places.{places_in}
 use Rattle.graph_read.specs.declared.index.Index.{Index}
-use Rattle.graph_read.specs.Index.{kept_under, place_kept, holders_kept, HasHolder, MayBeHeld}
+use Rattle.graph_read.specs.Index.{kept_under, place_kept, references_kept, HasReference, MayBeReferenced}
 use Rattle.graph_read.specs.Indexed.{slot_at_place, IsIndexOf, serial_named}
 use Rattle.graph_read.specs.Reading.{table_in, place_in_pool}
 use Rattle.graph_read.proofs.IndexKept.{found_by, held_by_index}
@@ -35,8 +35,8 @@ some_mapped (Some x) some = refl
 -- what may be counted in one that has the same entries may be counted in it
 pub MayMove-entries : (was now : Val) (x y : Index) → entries_of y ≡ entries_of x → MayMove was now x → MayMove was now y
 MayMove-entries was now x y same may = record {
-  held = λ some. subst HasHolder (sym (same_kept x y same (serial_named was))) (may.held some);
-  room = λ some. subst MayBeHeld (sym (same_kept x y same (serial_named now))) (may.room some);
+  held = λ some. subst HasReference (sym (same_kept x y same (serial_named was))) (may.held some);
+  room = λ some. subst MayBeReferenced (sym (same_kept x y same (serial_named now))) (may.room some);
 }
 
 module _ (F : ℕ) (image : Image) (known : Known) (k : IsKnown F image known) (s : ℕ) where
@@ -55,12 +55,12 @@ module _ (F : ℕ) (image : Image) (known : Known) (k : IsKnown F image known) (
     index_is = k.indexed x is
 
     pub found_place : option_map place_kept (kept_under x s) ≡ option_map slot_at_place place
-    found_place = found_by (place_in_pool F known.puddles image) (λ q. holders q index_is.graph) x index_is.index s
+    found_place = found_by (place_in_pool F known.puddles image) (λ q. reference_count q index_is.graph) x index_is.index s
 
-    held_by : (g : Graph) → graph_of (types_of image) (stored_in F known.puddles image) ≡ Some g → (o : Option ℕ) → place ≡ o → is_some (option_map slot_at_place o) ≡ true → ltb 0 (holders_kept (kept_under x s)) ≡ is_held s g
+    held_by : (g : Graph) → graph_of (types_of image) (stored_in F known.puddles image) ≡ Some g → (o : Option ℕ) → place ≡ o → is_some (option_map slot_at_place o) ≡ true → ltb 0 (references_kept (kept_under x s)) ≡ is_referenced s g
     held_by g stored None none some = absurd (true≢false (sym some))
     held_by g stored (Some p) there some = sym (held_by_index F known.puddles (types_of image) image g stored x index_is s p there)
 
     -- of an object that it has it knows whether it is held
-    pub held_there : (g : Graph) → graph_of (types_of image) (stored_in F known.puddles image) ≡ Some g → is_some (option_map place_kept (kept_under x s)) ≡ true → ltb 0 (holders_kept (kept_under x s)) ≡ is_held s g
+    pub held_there : (g : Graph) → graph_of (types_of image) (stored_in F known.puddles image) ≡ Some g → is_some (option_map place_kept (kept_under x s)) ≡ true → ltb 0 (references_kept (kept_under x s)) ≡ is_referenced s g
     held_there g stored some = held_by g stored place refl (sym (ap is_some found_place) ∙ some)

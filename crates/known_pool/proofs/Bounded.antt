@@ -19,12 +19,12 @@ use Rattle.pud_defs.proofs.Graphs.{graph_of-each, length-live}
 use Rattle.pud_defs.proofs.Keyed.{count_used_most}
 use Rattle.pud_defs.proofs.KeyedEach.{each-keyed}
 use Rattle.pud_defs.proofs.TypeLists.{same_number}
-use Rattle.graph_laws.specs.Holders.{times_named, pointers_to, holders}
+use Rattle.graph_laws.specs.ReferenceCounts.{times_named_by, pointers_to, reference_count}
 use Rattle.graph_laws.proofs.Words.{few_fields}
 use Rattle.puddle_header.specs.Places.{place_of_slot}
 use Rattle.puddle_header.proofs.Placed.{place_ordinal, place_slot}
 use Rattle.graph_read.specs.declared.index.Index.{Index}
-use Rattle.graph_read.specs.Index.{kept_under, KeepsBut, fresh}
+use Rattle.graph_read.specs.Index.{kept_under, KeepsBut, unreferenced_at}
 use Rattle.graph_read.specs.Indexed.{slot_at_place}
 use Rattle.known_pool.specs.Indexes.{after_made}
 
@@ -56,9 +56,9 @@ module _ (types : List (ℕ × ℕ)) (st : Stored) (q : ℕ) where
       let few = few_contents p (map_of (place_word st p SLOT_TYPE_WORD) types) in
       omega (arith, most, length-map (contents_or_none (t.contents p)) (value_of t.serial), few)
 
-pub holders-most : (types : List (ℕ × ℕ)) (st : Stored) (g : Graph) (q : ℕ) → graph_of types st ≡ Some g → holders q g ≤ 1 + MAX_FIELDS * places_of st
-unfolding holders
-holders-most types st g q is =
+pub reference_count-most : (types : List (ℕ × ℕ)) (st : Stored) (g : Graph) (q : ℕ) → graph_of types st ≡ Some g → reference_count q g ≤ 1 + MAX_FIELDS * places_of st
+unfolding reference_count
+reference_count-most types st g q is =
     let h = graph_of-each types st g is in
     let t = table_of types st in
     let n = places_of st in
@@ -93,7 +93,7 @@ module _ (types : List (ℕ × ℕ)) (st : Stored) (g : Graph) (is : graph_of ty
   named_below (At p) stand within = ((graph_of-each types st g is).graph.sound p (ltb-true p n within) (λ free. absurd (true≢false (sym stand ∙ ap (λ (k : ℕ). not (eqb k 0)) free)))).below
   named_below Nowhere stand within = absurd (true≢false (sym stand))
 
-  value_unnamed : (c : Content) → stands serial c ≡ true → names_only (λ p. ltb p n) c ≡ true → times_named next (value_of serial c) ≡ 0
+  value_unnamed : (c : Content) → stands serial c ≡ true → names_only (λ p. ltb p n) c ≡ true → times_named_by next (value_of serial c) ≡ 0
   value_unnamed (Number v) stand within = refl
   value_unnamed Null stand within = let some = next_positive in cond-false _ _ _ (ne_eqb 0 next (λ e. absurd (omega (arith, some, e))))
   value_unnamed (At p) stand within = let below = named_below (At p) stand within in cond-false _ _ _ (ne_eqb (serial p) next (λ e. absurd (omega (arith, below, e))))
@@ -106,7 +106,7 @@ module _ (types : List (ℕ × ℕ)) (st : Stored) (g : Graph) (is : graph_of ty
       let b = and_parts _ _ within in
       let one = value_unnamed c a.0 b.0 in
       let rest = values_unnamed cs a.1 b.1 in
-      omega (arith, sum_by-cons (times_named next) (value_of serial c) (map (value_of serial) cs), one, rest)
+      omega (arith, sum_by-cons (times_named_by next) (value_of serial c) (map (value_of serial) cs), one, rest)
 
   contents_unnamed : (contents : Option (List Content)) → all_stand serial contents ≡ true → name_only (λ p. ltb p n) contents ≡ true → count_by (names_serial next) (map (value_of serial) (contents_or_none contents)) ≤ 0
   contents_unnamed None stand within = omega arith
@@ -118,8 +118,8 @@ module _ (types : List (ℕ × ℕ)) (st : Stored) (g : Graph) (is : graph_of ty
       ((graph_of-each types st g is).graph.sound p below (λ free. absurd (true≢false (sym used ∙ ap (λ (k : ℕ). not (eqb k 0)) free)))).stand
       (contents_by_within st p (map_of (place_word st p SLOT_TYPE_WORD) types))
 
-  pub next_unnamed : holders g.next_serial g ≡ 0
-  unfolding holders
+  pub next_unnamed : reference_count g.next_serial g ≡ 0
+  unfolding reference_count
   next_unnamed =
       let h = graph_of-each types st g is in
       let t = table_of types st in
@@ -132,11 +132,11 @@ module _ (types : List (ℕ × ℕ)) (st : Stored) (g : Graph) (is : graph_of ty
       let zero_ : ℕ = 0 in
       let root : cond (eqb (named_by serial (root_of st)) next) one zero_ ≡ zero_ = cond-false _ _ _ (ne_eqb (named_by serial (root_of st)) next (λ e. absurd (omega (arith, below, e)))) in
       let none : sum_by (λ (e : ℕ × Object). pointers_to next e.1) objects ≡ 0 = omega (arith, sum) in
-      ap (λ (k : Graph). holders k.next_serial k) (sym h.is) ∙ omega (arith, root, none)
+      ap (λ (k : Graph). reference_count k.next_serial k) (sym h.is) ∙ omega (arith, root, none)
 
 -- ---- slots
 
 -- what is kept of an object in a slot is what is kept of one at the slot's place
-pub slot_at_slot : (x y : Index) (s : ℕ) (slot : Slot) → slot.slot < puddle_slots → ((q : ℕ) → kept_under y q ≡ after_made s slot q (kept_under x q)) → KeepsBut x y s (Some (fresh (slot_at_place (place_of_slot slot))))
+pub slot_at_slot : (x y : Index) (s : ℕ) (slot : Slot) → slot.slot < puddle_slots → ((q : ℕ) → kept_under y q ≡ after_made s slot q (kept_under x q)) → KeepsBut x y s (Some (unreferenced_at (slot_at_place (place_of_slot slot))))
 slot_at_slot x y s slot below each =
-    subst (λ (place : ℕ × ℕ). KeepsBut x y s (Some (fresh place))) (sym (ap₂ (λ (o n : ℕ). (o, n)) (place_ordinal slot.ordinal slot.slot below) (place_slot slot.ordinal slot.slot below))) each
+    subst (λ (place : ℕ × ℕ). KeepsBut x y s (Some (unreferenced_at place))) (sym (ap₂ (λ (o n : ℕ). (o, n)) (place_ordinal slot.ordinal slot.slot below) (place_slot slot.ordinal slot.slot below))) each

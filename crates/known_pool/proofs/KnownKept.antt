@@ -12,7 +12,7 @@ use Rattle.pud_defs.specs.Stored.{Stored, stored_in, place_word, place_begins, w
 use Rattle.pud_defs.specs.Types.{types_of}
 use Rattle.pud_defs.specs.Graph.{Graph, under_serial, graph_of}
 use Rattle.pud_defs.proofs.Keyed.{first_from_same}
-use Rattle.graph_laws.specs.Holders.{holders}
+use Rattle.graph_laws.specs.ReferenceCounts.{reference_count}
 use Rattle.puddle_header.specs.Places.{places_in}
 use Rattle.graph_read.specs.Indexed.{IsIndexOf}
 use Rattle.graph_read.specs.Reading.{place_in_pool}
@@ -75,7 +75,7 @@ module _ (F : ℕ) (known : Known) (later : List (ℕ × Puddle)) (before after 
     indexed = λ x kept. record {
       graph = g;
       is = is;
-      index = IsIndexBy-same (place_in_pool F known.puddles before) (place_in_pool F later after) (λ q. holders q g) (λ q. holders q g) x places (λ q p there. refl)
+      index = IsIndexBy-same (place_in_pool F known.puddles before) (place_in_pool F later after) (λ q. reference_count q g) (λ q. reference_count q g) x places (λ q p there. refl)
           (by_graph F known.puddles (types_of before) before g was x (k.indexed x kept));
     };
     full = record { each = λ p below. live p below (k.full.each p below) };

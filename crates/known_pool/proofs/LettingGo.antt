@@ -12,7 +12,7 @@ use Rattle.pud_defs.specs.Types.{types_of, map_of}
 use Rattle.pud_defs.specs.Graph.{Graph, graph_of, value_of, contents_by, contents_or_none, field_count, object_at}
 use Rattle.graph_read.specs.declared.index.Index.{Index}
 use Rattle.graph_read.specs.declared.index.Kept.{Kept}
-use Rattle.graph_read.specs.Indexed.{IsIndexBy, IsIndexOf, holders_left}
+use Rattle.graph_read.specs.Indexed.{IsIndexBy, IsIndexOf, references_left}
 use Rattle.graph_read.specs.Reading.{table_in, place_in_pool}
 use Rattle.graph_read.proofs.Found.{object_in-place}
 use Rattle.graph_read.proofs.IndexKept.{index_begins_to_free, index_lets_go}
@@ -38,7 +38,7 @@ module _ (F : ℕ) (at : List (ℕ × Puddle)) (image : Image) (p : ℕ) where
 
   -- Each index that is kept has let go what the fields before this one name, of whatever object stands there.
   pub record LetsFirst (m f : ℕ) (index : Option (List (ℕ × Kept))) : Type 0 where
-    pub each : (g : Graph) (s : ℕ) → graph_of (types_of image) (stored_in F at image) ≡ Some g → place s ≡ Some p → (x : Index) → index ≡ Some (entries_of x) → IsIndexBy place (holders_left g s (left_from m f)) x
+    pub each : (g : Graph) (s : ℕ) → graph_of (types_of image) (stored_in F at image) ≡ Some g → place s ≡ Some p → (x : Index) → index ≡ Some (entries_of x) → IsIndexBy place (references_left g s (left_from m f)) x
 
   -- before the first one
   module _ (index : Option Index) (is : (x : Index) → index ≡ Some x → IsIndexOf F at (types_of image) image x) where
@@ -48,7 +48,7 @@ module _ (F : ℕ) (at : List (ℕ × Puddle)) (image : Image) (p : ℕ) where
     same_index (Some y) x kept same = IsIndexOf-entries F at (types_of image) image y x (sym (same_Some (entries_of y) (entries_of x) same)) (is y kept)
 
     begins : (g : Graph) (s : ℕ) → graph_of (types_of image) (stored_in F at image) ≡ Some g → place s ≡ Some p → (x : Index) → option_map entries_of index ≡ Some (entries_of x)
-        → IsIndexBy place (holders_left g s (object_at (table_in F at image) p).fields) x
+        → IsIndexBy place (references_left g s (object_at (table_in F at image) p).fields) x
     begins g s stored there x kept =
         index_begins_to_free F at (types_of image) image g stored x (same_index index x refl kept) s (object_at (table_in F at image) p)
         (object_in-place F at image g s stored ∙ ap (option_map (object_at (table_in F at image))) there)
@@ -61,13 +61,13 @@ module _ (F : ℕ) (at : List (ℕ × Puddle)) (image : Image) (p : ℕ) where
     LetsFirst-start m is_type = record {
       each = λ g s stored there x kept.
           let all : field_count m ≡ field_count m - 0 = omega arith in
-          subst (λ (vals : List Val). IsIndexBy place (holders_left g s vals) x) (fields_by (Some m) is_type ∙ ap (λ (n : ℕ). fields_from m 0 n) all) (begins g s stored there x kept);
+          subst (λ (vals : List Val). IsIndexBy place (references_left g s vals) x) (fields_by (Some m) is_type ∙ ap (λ (n : ℕ). fields_from m 0 n) all) (begins g s stored there x kept);
     }
 
     -- where the type is not defined there is none
     pub lets_none : map_of (place_word (stored_in F at image) p SLOT_TYPE_WORD) (types_of image) ≡ None → (g : Graph) (s : ℕ) → graph_of (types_of image) (stored_in F at image) ≡ Some g → place s ≡ Some p
         → HasLetGo place g s (option_map entries_of index)
-    lets_none none g s stored there = record { each = λ x kept. subst (λ (vals : List Val). IsIndexBy place (holders_left g s vals) x) (fields_by None none) (begins g s stored there x kept) }
+    lets_none none g s stored there = record { each = λ x kept. subst (λ (vals : List Val). IsIndexBy place (references_left g s vals) x) (fields_by None none) (begins g s stored there x kept) }
 
   -- one more
   pub LetsFirst-more : (m f : ℕ) (was : Val) (old new : Option (List (ℕ × Kept))) → f < field_count m → was ≡ value_of serial (field_content (stored_in F at image) p m f) → Follows (after_move was (Num 0)) old new → LetsFirst m f old
@@ -77,11 +77,11 @@ module _ (F : ℕ) (at : List (ℕ × Puddle)) (image : Image) (p : ℕ) where
         let from = follows.each y kept in
         let one : field_count m - f ≡ suc (field_count m - (f + 1)) = omega (arith, below) in
         index_lets_go F at image g s was (left_from m (f + 1)) from.before y from.each
-        (subst (λ (vals : List Val). IsIndexBy place (holders_left g s vals) from.before) (ap (fields_from m f) one ∙ ap (λ (v : Val). v ∷ left_from m (f + 1)) (sym is)) (lets.each g s stored there from.before from.was));
+        (subst (λ (vals : List Val). IsIndexBy place (references_left g s vals) from.before) (ap (fields_from m f) one ∙ ap (λ (v : Val). v ∷ left_from m (f + 1)) (sym is)) (lets.each g s stored there from.before from.was));
   }
 
   -- and all
   pub LetsFirst-end : (m f : ℕ) (index : Option (List (ℕ × Kept))) → field_count m ≤ f → LetsFirst m f index → (g : Graph) (s : ℕ) → graph_of (types_of image) (stored_in F at image) ≡ Some g → place s ≡ Some p → HasLetGo place g s index
   LetsFirst-end m f index past lets g s stored there =
       let none : field_count m - f ≡ 0 = omega (arith, past) in
-      record { each = λ x kept. subst (λ (vals : List Val). IsIndexBy place (holders_left g s vals) x) (ap (fields_from m f) none) (lets.each g s stored there x kept) }
+      record { each = λ x kept. subst (λ (vals : List Val). IsIndexBy place (references_left g s vals) x) (ap (fields_from m f) none) (lets.each g s stored there x kept) }

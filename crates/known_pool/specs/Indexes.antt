@@ -5,9 +5,9 @@ use Rattle.pud_defs.specs.declared.records.Slot.{Slot}
 use Rattle.pud_defs.specs.Graph.{Graph}
 use Rattle.graph_read.specs.declared.index.Index.{Index}
 use Rattle.graph_read.specs.declared.index.Kept.{Kept}
-use Rattle.graph_read.specs.Index.{kept_under, KeepsBut, fresh, after_retarget, HasHolder, MayBeHeld}
+use Rattle.graph_read.specs.Index.{kept_under, KeepsBut, unreferenced_at, after_retarget, HasReference, MayBeReferenced}
 use Rattle.known_pool.specs.Known.{entries_of}
-use Rattle.graph_read.specs.Indexed.{IsIndexBy, serial_named, holders_left}
+use Rattle.graph_read.specs.Indexed.{IsIndexBy, serial_named, references_left}
 
 -- It comes from the one that was kept: of each serial it has what this makes of what that one had.
 pub record ComesFrom (change : ℕ → Option Kept → Option Kept) (old : Option (List (ℕ × Kept))) (now : Index) : Type 0 where
@@ -25,19 +25,19 @@ after_move was now q kept = after_retarget (serial_named was) (serial_named now)
 
 -- an object of this serial is kept in a slot, and none holds it
 abbrev pub after_made : (s : ℕ) → Slot → (q : ℕ) → Option Kept → Option Kept
-after_made s slot q kept = cond (nat_eq s q) (Some (fresh (slot.ordinal, slot.slot))) kept
+after_made s slot q kept = cond (nat_eq s q) (Some (unreferenced_at (slot.ordinal, slot.slot))) kept
 
 -- the index can count that a pointer which named the one value names the other
 pub record MayMove (was now : Val) (x : Index) : Type 0 where
-  pub held : serial_named was ≢ 0 → HasHolder (kept_under x (serial_named was))
-  pub room : serial_named now ≢ 0 → MayBeHeld (kept_under x (serial_named now))
+  pub held : serial_named was ≢ 0 → HasReference (kept_under x (serial_named was))
+  pub room : serial_named now ≢ 0 → MayBeReferenced (kept_under x (serial_named now))
 
 -- Each that is kept has let go what the object of this serial names.
 pub record HasLetGo (place : ℕ → Option ℕ) (g : Graph) (s : ℕ) (index : Option (List (ℕ × Kept))) : Type 0 where
-  pub each : (x : Index) → index ≡ Some (entries_of x) → IsIndexBy place (holders_left g s []) x
+  pub each : (x : Index) → index ≡ Some (entries_of x) → IsIndexBy place (references_left g s []) x
 
 -- It has let go what the object of this serial names, and then the object: what it had before that is the places, and the holders without the object.
 pub record LetsGo (place : ℕ → Option ℕ) (g : Graph) (s : ℕ) (now : Index) : Type 0 where
   pub before : Index
-  pub left : IsIndexBy place (holders_left g s []) before
+  pub left : IsIndexBy place (references_left g s []) before
   pub gone : KeepsBut before now s None

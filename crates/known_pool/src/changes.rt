@@ -13,7 +13,7 @@ ghost use Rattle.pud_defs.specs.Stored.{IsOnDevice, stored_in};
 ghost use Rattle.pud_defs.specs.Types.{types_of};
 ghost use Rattle.puddle_header.specs.Places.{place_of_slot, IsSlotOf};
 ghost use Rattle.graph_read.specs.declared.index.Index.{Index};
-ghost use Rattle.graph_read.specs.Index.{HasHolder, MayBeHeld, kept_under};
+ghost use Rattle.graph_read.specs.Index.{HasReference, MayBeReferenced, kept_under};
 ghost use Rattle.graph_read.specs.Indexed.{IsIndexOf, serial_named};
 ghost use Rattle.graph_read.specs.Reading.{place_in_pool};
 ghost use Rattle.known_pool.specs.Known.{IsKnown, entries_of};
@@ -51,18 +51,18 @@ fn place_of(pool: &[(u32, Puddle)], at: &Slot) -> u32
 
 /// Whether the index has the serial with a holder, unless it is 0.
 fn may_release(index: &Index, s: u64) -> bool
-    ensures only { result ≡ true → s ≢ 0 → HasHolder (kept_under index.now s) }
-    ensures may { (s ≢ 0 → HasHolder (kept_under index.now s)) → result ≡ true }
+    ensures only { result ≡ true → s ≢ 0 → HasReference (kept_under index.now s) }
+    ensures may { (s ≢ 0 → HasReference (kept_under index.now s)) → result ≡ true }
 {
-    s == 0 || index.holders(s) > 0
+    s == 0 || index.references(s) > 0
 }
 
 /// Whether the index has the serial and can count a holder more of it, unless it is 0.
 fn may_hold(index: &Index, s: u64) -> bool
-    ensures only { result ≡ true → s ≢ 0 → MayBeHeld (kept_under index.now s) }
-    ensures may { (s ≢ 0 → MayBeHeld (kept_under index.now s)) → result ≡ true }
+    ensures only { result ≡ true → s ≢ 0 → MayBeReferenced (kept_under index.now s) }
+    ensures may { (s ≢ 0 → MayBeReferenced (kept_under index.now s)) → result ≡ true }
 {
-    s == 0 || (index.find(s).is_some() && index.holders(s) < u32::MAX)
+    s == 0 || (index.find(s).is_some() && index.references(s) < u32::MAX)
 }
 
 /// Counts that a pointer which had one value has the other, where an index is kept. It goes where that cannot be: where what the

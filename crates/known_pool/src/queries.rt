@@ -6,7 +6,7 @@ ghost use Rattle.pm_model.specs.Counts.{fault_of};
 ghost use Rattle.pm_model.specs.Reads.{OnlyReads};
 ghost use Rattle.pud_defs.specs.declared.layout.TheConstants.{MAX_FIELDS, MAX_FRAMES};
 ghost use Rattle.pud_defs.specs.declared.records.TheConstants.{MAX_PUDDLES};
-ghost use Rattle.pud_defs.specs.Graph.{Graph, graph_of, object_in, is_held};
+ghost use Rattle.pud_defs.specs.Graph.{Graph, graph_of, object_in, is_referenced};
 ghost use Rattle.pud_defs.specs.Image.{Image};
 ghost use Rattle.pud_defs.specs.Layout.{device_words};
 ghost use Rattle.pud_defs.specs.Stored.{IsOnDevice, stored_in};
@@ -18,7 +18,7 @@ ghost use Rattle.graph_read.specs.Reading.{place_in_pool, field_in, read_by};
 ghost use Rattle.known_pool.specs.Known.{IsKnown, entries_of};
 
 use crate::{KnownPool, SCANS_BETWEEN};
-use graph_read::{FieldRead, Index, field_at, find_serial, is_held};
+use graph_read::{FieldRead, Index, field_at, find_serial, is_referenced};
 use pm_model::{HostFault, Loads};
 use pud_defs::records::{Puddle, Slot};
 use pud_defs::space::{FRAME_SLOTS, place_at, places_among};
@@ -97,20 +97,20 @@ impl KnownPool {
     /// Whether the root or a pointer of a live object names the object of serial `s`, where the pool stores a graph and what is
     /// kept is so of the device: with 0 for `s`, whether one of them is null. Nothing is read where an index is kept that has
     /// the object, and else each serial and each field once.
-    pub fn is_held<H: Loads>(&self, h: &mut H, frames: u32, s: u64) -> Result<bool, HostFault>
+    pub fn is_referenced<H: Loads>(&self, h: &mut H, frames: u32, s: u64) -> Result<bool, HostFault>
         requires few { frames ≤ MAX_FRAMES }
         requires room { device_words frames ≤ (H.counts h.old).size }
         requires known { IsOnDevice frames self.now.puddles }
         ensures held { H.tells → (image : Image) → reads (H.state h.old).now.words ≡ image → IsKnown frames image self.now → (g : Graph)
-            → graph_of (types_of image) (stored_in frames self.now.puddles image) ≡ Option.Some g → IfOk result (λ held. held ≡ is_held s g) }
+            → graph_of (types_of image) (stored_in frames self.now.puddles image) ≡ Option.Some g → IfOk result (λ held. held ≡ is_referenced s g) }
         ensures only_reads { OnlyReads H.tells H.state H.counts (fault_of result) h.old h.new }
     {
         if let Some(index) = &self.index {
             if index.find(s).is_some() {
-                return Ok(index.holders(s) > 0);
+                return Ok(index.references(s) > 0);
             }
         }
-        is_held(h, frames, self.puddles.as_slice(), s)
+        is_referenced(h, frames, self.puddles.as_slice(), s)
     }
 
     /// What is read of field `f`, 0 to 29, of the object of serial `s`: `NoObject` exactly where the pool's graph has no object of

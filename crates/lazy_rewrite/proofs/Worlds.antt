@@ -28,7 +28,7 @@ use Rattle.pud_defs.specs.Stored.{stored_in}
 use Rattle.pud_defs.specs.Graph.{Graph, graph_of}
 use Rattle.pud_defs.specs.World.{StoredWorld, pools_in, idle_registry, idle_world_of}
 use Rattle.pud_defs.proofs.SoundChanged.{sound_from, sound_test}
-use Rattle.pud_defs.proofs.Held.{IsFrameOf, HasSameFrame, frames_listed, stored_in-same}
+use Rattle.pud_defs.proofs.Holdings.{IsFrameOf, HasSameFrame, frames_listed, stored_in-same}
 use Rattle.pud_defs.proofs.KeyedEach.{each-weaker}
 use Rattle.pud_defs.proofs.PuddlesListed.{puddles_in_turn-listed}
 use Rattle.pud_defs.proofs.PoolMembers.{IsMemberOf}

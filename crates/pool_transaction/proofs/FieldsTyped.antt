@@ -19,7 +19,7 @@ use Rattle.pud_defs.specs.Geometry.{ordinal_of, slot_of}
 use Rattle.pud_defs.specs.Types.{map_of}
 use Rattle.pud_defs.specs.Keyed.{keyed, under}
 use Rattle.pud_defs.specs.Stored.{Stored, places_of, place_word}
-use Rattle.pud_defs.specs.Graph.{Content, Number, Null, at_place, place_in, target, puddles_by, content, field_count, Table, table_of, contents_by, contents_or_none, value_of, object_at, live, all_stand, Graph, Object, object_in, is_held, graph_of}
+use Rattle.pud_defs.specs.Graph.{Content, Number, Null, at_place, place_in, target, puddles_by, content, field_count, Table, table_of, contents_by, contents_or_none, value_of, object_at, live, all_stand, Graph, Object, object_in, is_referenced, graph_of}
 use Rattle.pud_defs.specs.Laters.{laters_name}
 use Rattle.pud_defs.specs.Step.{misses, are_of_two_kinds, refusal_of}
 use Rattle.pud_defs.specs.World.{Transaction, World, open_on}
@@ -153,8 +153,8 @@ may_set types st g units s f x is settable =
 may_free : (t : Transaction) (s : ℕ) → freeing_refusal (Some t.now) t.laters t.units s ≡ None → MayFree t.now s × (laters_name s t.laters ≡ false)
 may_free t s none =
     let object = unless (is_none (object_in s t.now)) refusals.Object _ none in
-    let held = unless (is_held s t.now || laters_name s t.laters) refusals.Held _ object.1 in
-    let spared = or_parts (is_held s t.now) (laters_name s t.laters) held.0 in
+    let held = unless (is_referenced s t.now || laters_name s t.laters) refusals.Held _ object.1 in
+    let spared = or_parts (is_referenced s t.now) (laters_name s t.laters) held.0 in
     let o = some_there (object_in s t.now) object.0 in
     (record { object = o.0; live = o.1; spared = spared.0 }, spared.1)
 

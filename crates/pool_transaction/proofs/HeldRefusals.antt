@@ -15,7 +15,7 @@ use Rattle.pud_defs.specs.declared.machine.Refusal.TheVariants as refusals
 use Rattle.pud_defs.specs.Image.{Image}
 use Rattle.pud_defs.specs.Types.{types_of}
 use Rattle.pud_defs.specs.Stored.{stored_in}
-use Rattle.pud_defs.specs.Graph.{Graph, Object, object_at, object_in, is_held, graph_of}
+use Rattle.pud_defs.specs.Graph.{Graph, Object, object_at, object_in, is_referenced, graph_of}
 use Rattle.pud_defs.specs.Laters.{laters_name}
 use Rattle.pud_defs.specs.PoolChanges.{pool_named}
 use Rattle.pud_defs.specs.World.{Transaction, World, open_on}
@@ -157,7 +157,7 @@ module _ (size : ℕ) (w : World) (memory : Memory) (s : State) (ready : IsReady
     -- why an object is not freed: there is none
     pub refused_none_to_free : (serial : ℕ) → place_in_pool frames at image serial ≡ None → Some refusals.Object ≡ refusal_of w (Free held.client held.name serial)
     refused_none_to_free serial none =
-        ap (λ (o : Option Object). cond (is_none o) (Some refusals.Object) (refusal_to_free (is_held serial now) (laters_name serial is.transaction.laters) is.transaction.units))
+        ap (λ (o : Option Object). cond (is_none o) (Some refusals.Object) (refusal_to_free (is_referenced serial now) (laters_name serial is.transaction.laters) is.transaction.units))
         (sym (object_is serial ∙ ap (option_map (object_at (table_in frames at image))) none))
         ∙ refused_by (changes.Free serial)
 
@@ -177,7 +177,7 @@ module _ (size : ℕ) (w : World) (memory : Memory) (s : State) (ready : IsReady
   -- or by what names one that is there
   pub refused_to_free : (then : State) (frames serial units place : ℕ) (at : List (ℕ × Puddle)) (log : OpenLog) (named asked : Bool) → then ≡ s → (on : frames ≡ w.stored.frames) (same : at ≡ is.puddles) → log ≡ held.tx.log
       → place_in_pool frames at image serial ≡ Some place
-      → ((g : Graph) → graph_of (types_of image) (stored_in frames at image) ≡ Some g → named ≡ is_held serial g)
+      → ((g : Graph) → graph_of (types_of image) (stored_in frames at image) ≡ Some g → named ≡ is_referenced serial g)
       → (IsPlaced frames at → IsOpenIn then frames at (types_of image) log → asked ≡ laters_name serial is.transaction.laters) → units ≡ held.tx.units
       → refusal_to_free named asked units ≡ refusal_of w (Free held.client held.name serial)
   refused_to_free then frames serial units place at log named asked still on same logged found names laters used =

@@ -21,7 +21,7 @@ use Rattle.pud_defs.specs.Tables.{Pool}
 use Rattle.pud_defs.specs.PoolChanges.{pool_named, lacks_frames}
 use Rattle.pud_defs.specs.World.{Transaction, World, open_on}
 use Rattle.pud_defs.specs.Transactions.{is_own, is_others, units_of, laters_of}
-use Rattle.pud_defs.specs.Step.{graph_in, graph_seen, object_of, field_of, misses, are_of_two_kinds, is_held_in, grows, lacks_room, holds, refusal_of}
+use Rattle.pud_defs.specs.Step.{graph_in, graph_seen, object_of, field_of, misses, are_of_two_kinds, is_referenced_in, grows, lacks_room, holds, refusal_of}
 use Rattle.pool_transaction.specs.declared.changing.Update.{Update}
 use Rattle.pool_transaction.specs.declared.changing.Update.TheVariants as changes
 use Rattle.pool_transaction.specs.Changing.{update_line}
@@ -57,7 +57,7 @@ rooting_refusal g units s = cond (misses g (Ref s)) (Some refusals.Object) (cond
 abbrev pub freeing_refusal : Option Graph → List Later → (units s : ℕ) → Option Refusal
 freeing_refusal g laters units s =
     cond (is_none (object_of s g)) (Some refusals.Object)
-    (cond (is_held_in s g || laters_name s laters) (Some refusals.Held)
+    (cond (is_referenced_in s g || laters_name s laters) (Some refusals.Held)
     (cond (ltb LOG_ENTRY_WORDS (units + SET_UNITS)) (Some refusals.TooBig) None))
 
 -- of any such line

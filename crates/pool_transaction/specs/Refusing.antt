@@ -23,5 +23,5 @@ field_refusal NoField x units = Some refusals.Field
 field_refusal (Value was) x units = cond (are_of_two_kinds (Some was) x) (Some refusals.Kind) (room_refusal units)
 
 -- why an object that is there is not freed, by whether the root or a field names it, and whether what is asked for later does
-abbrev pub refusal_to_free : (held asked : Bool) → (units : ℕ) → Option Refusal
-refusal_to_free held asked units = cond (held || asked) (Some refusals.Held) (room_refusal units)
+abbrev pub refusal_to_free : (referenced asked : Bool) → (units : ℕ) → Option Refusal
+refusal_to_free referenced asked units = cond (referenced || asked) (Some refusals.Held) (room_refusal units)

@@ -72,12 +72,12 @@ fn field_refusal(read: FieldRead, x: Val, units: u32) -> Option<Refusal>
 
 /// Why an object that is there is not freed, by whether the root or a field names it, whether what is asked for later does, and by how many units
 /// are used.
-fn refusal_to_free(held: bool, asked: bool, units: u32) -> Option<Refusal>
+fn refusal_to_free(referenced: bool, asked: bool, units: u32) -> Option<Refusal>
     requires { units ≤ LOG_ENTRY_WORDS }
-    ensures refusal { result ≡ refusal_to_free held asked units }
+    ensures refusal { result ≡ refusal_to_free referenced asked units }
     ensures fits { IfNone result (units + SET_UNITS ≤ LOG_ENTRY_WORDS) }
 {
-    if held || asked {
+    if referenced || asked {
         return Some(Refusal::Held);
     }
     room_refusal(units)
@@ -181,9 +181,9 @@ impl Opened {
         let Some(at) = pool.find(h, frames, s)? else {
             return Ok(Err(Refusal::Object));
         };
-        let held = pool.is_held(h, frames, s)?;
+        let referenced = pool.is_referenced(h, frames, s)?;
         let asked = self.tx.later_names_at(h, frames, pool.as_slice(), s, &at)?;
-        match refusal_to_free(held, asked, self.tx.units()) {
+        match refusal_to_free(referenced, asked, self.tx.units()) {
             Some(refusal) => Ok(Err(refusal)),
             None => Ok(Ok(Found::Object { at })),
         }

@@ -16,7 +16,7 @@ use Rattle.pud_defs.proofs.Keyed.{keyed-same}
 use Rattle.pud_defs.proofs.TypeTable.{type_at-map_written, are_legal_types-fewer, types_of-written, are_legal_types-written}
 use Rattle.pud_defs.proofs.Parts.{StandsFor, HasTypes, standing_with_types}
 use Rattle.pud_defs.proofs.Parts.Part.{Types, Pools}
-use Rattle.pud_defs.proofs.Held.{pools_in-more}
+use Rattle.pud_defs.proofs.Holdings.{pools_in-more}
 use Rattle.pud_defs.proofs.IdleWorlds.{idle_registry_standing, standing_idle, idle_world_of-beside, map_of_world}
 
 -- a word of the type table is written: what else is read stays

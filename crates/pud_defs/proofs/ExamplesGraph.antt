@@ -8,7 +8,7 @@ use Rattle.pud_defs.specs.Bases.{base_at}
 use Rattle.pud_defs.specs.Geometry.{puddle_slot_at}
 use Rattle.pud_defs.specs.Frames.{first_serial}
 use Rattle.pud_defs.specs.Stored.{Stored}
-use Rattle.pud_defs.specs.Graph.{Object, Graph, slot_address, graph_of, is_held, empty_graph}
+use Rattle.pud_defs.specs.Graph.{Object, Graph, slot_address, graph_of, is_referenced, empty_graph}
 use Rattle.pud_defs.specs.Holdings.{Sound, Wild, held_by, read_anew}
 use Rattle.pud_defs.proofs.Opened.{opened}
 
@@ -77,7 +77,7 @@ ring_of_two : graph_of types ring ≡ Some ring_graph
 unfolding opened
 ring_of_two = refl
 
-holders : (is_held 2 ring_graph ≡ true) × (is_held 1 ring_graph ≡ true) × (is_held 3 ring_graph ≡ false) × (is_held 1 (one_graph 2 0) ≡ false) × (is_held 1 (one_graph 2 1) ≡ true)
+holders : (is_referenced 2 ring_graph ≡ true) × (is_referenced 1 ring_graph ≡ true) × (is_referenced 3 ring_graph ≡ false) × (is_referenced 1 (one_graph 2 0) ≡ false) × (is_referenced 1 (one_graph 2 1) ≡ true)
 unfolding opened
 holders = (refl, refl, refl, refl, refl)
 

@@ -11,7 +11,7 @@ use Rattle.pud_defs.specs.Types.{type_at, types_of, free_type, used_types, map_o
 use Rattle.pud_defs.specs.Registry.{frames_of, has_closed_logs, is_registry, is_idle_registry, has_legal_log, are_allowed}
 use Rattle.pud_defs.specs.World.{StoredWorld, stored_by, idle_registry, idle_world_of}
 use Rattle.pud_defs.specs.PoolChanges.{pools_read}
-use Rattle.pud_defs.proofs.Held.{pools_in-anew}
+use Rattle.pud_defs.proofs.Holdings.{pools_in-anew}
 use Rattle.pud_defs.specs.Entries.{is_idle_gate, log_of}
 use Rattle.pud_defs.specs.Replay.{settled_by, beside_log}
 use Rattle.pud_defs.specs.Spaces.{are_closed_logs}

@@ -5,7 +5,7 @@ pub mod KeyedMaps
 pub mod Graphs
 pub mod TypeMore
 pub mod FreshGraph
-pub mod Held
+pub mod Holdings
 pub mod KeyedEach
 pub mod KeyedPlaces
 pub mod TablesOf

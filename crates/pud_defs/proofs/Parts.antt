@@ -13,7 +13,7 @@ use Rattle.pud_defs.proofs.Spaces.{are_legal_spaces-same, are_closed_logs-same}
 use Rattle.pud_defs.proofs.Keyed.{keyed-same}
 use Rattle.pud_defs.proofs.TypeTable.{type_at-same, are_legal_types-fewer}
 use Rattle.pud_defs.proofs.TablesOf.{tables_of-same}
-use Rattle.pud_defs.proofs.Held.{HasSameFrame, pools_in-same, frame_among}
+use Rattle.pud_defs.proofs.Holdings.{HasSameFrame, pools_in-same, frame_among}
 
 -- the words that describe the device; the types; the pools, with their puddles; the log spaces, with the clients' logs
 pub data Part : Type 0 where

@@ -211,8 +211,8 @@ names_serial s (Num v) = false
 names_serial s (Ref r) = r == s
 
 -- the root or a field of an object names the serial
-unfoldable pub is_held : ℕ → Graph → Bool
-is_held s g = g.root == s || list_any (λ e. list_any (names_serial s) e.1.fields) g.objects
+unfoldable pub is_referenced : ℕ → Graph → Bool
+is_referenced s g = g.root == s || list_any (λ e. list_any (names_serial s) e.1.fields) g.objects
 
 -- the graph of a pool in which nothing was made yet
 abbrev pub empty_graph : Graph

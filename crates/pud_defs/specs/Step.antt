@@ -16,7 +16,7 @@ use Rattle.pud_defs.specs.Spaces.{Owner, owner, with_owner}
 use Rattle.pud_defs.specs.declared.objects.Val.{Val}
 use Rattle.pud_defs.specs.declared.objects.Val.TheVariants.{Num, Ref}
 use Rattle.pud_defs.specs.Rights.{may_read, may_write}
-use Rattle.pud_defs.specs.Graph.{Graph, Object, object_in, is_held, empty_graph}
+use Rattle.pud_defs.specs.Graph.{Graph, Object, object_in, is_referenced, empty_graph}
 use Rattle.pud_defs.specs.GraphChanges.{blank_object, with_field, with_root, without_object, with_new}
 use Rattle.pud_defs.specs.Laters.{laters_name}
 use Rattle.pud_defs.specs.Holdings.{graph_held}
@@ -278,14 +278,14 @@ mixes_kinds w (Later client name s f x) = are_of_two_kinds (field_of f (object_o
 mixes_kinds w c = false
 
 -- the root or a field names the serial, where there is a graph
-abbrev pub is_held_in : ℕ → Option Graph → Bool
-is_held_in s None = false
-is_held_in s (Some g) = is_held s g
+abbrev pub is_referenced_in : ℕ → Option Graph → Bool
+is_referenced_in s None = false
+is_referenced_in s (Some g) = is_referenced s g
 
 -- the object that a command frees is named by the root, by a field, also its own, or by what was asked for and is to come
-abbrev pub frees_held : World → Command → Bool
-frees_held w (Free client name s) = is_held_in s (graph_for w (Free client name s)) || laters_name s (laters_of (open_for w (Free client name s)))
-frees_held w c = false
+abbrev pub frees_referenced : World → Command → Bool
+frees_referenced w (Free client name s) = is_referenced_in s (graph_for w (Free client name s)) || laters_name s (laters_of (open_for w (Free client name s)))
+frees_referenced w c = false
 
 -- ---- room for one object more
 
@@ -385,7 +385,7 @@ holds w c refusals.NoType = is_none (map_of (type_named c) w.stored.types)
 holds w c refusals.Object = lacks_object c (graph_for w c)
 holds w c refusals.Field = is_none (field_for w c)
 holds w c refusals.Kind = mixes_kinds w c
-holds w c refusals.Held = frees_held w c
+holds w c refusals.Held = frees_referenced w c
 holds w c refusals.Deep = is_deep w c
 holds w c refusals.Logs = lacks_logs w c
 holds w c refusals.TooBig = nat_lt LOG_ENTRY_WORDS (units_of (open_for w c) + charge c)

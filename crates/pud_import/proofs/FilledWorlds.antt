@@ -18,7 +18,7 @@ use Rattle.pud_defs.specs.Replay.{is_in_log, beside_log}
 use Rattle.pud_defs.specs.SoundTables.{are_sound_tables}
 use Rattle.pud_defs.specs.Tables.{Tables, tables_of}
 use Rattle.pud_defs.specs.World.{StoredWorld, idle_world_of}
-use Rattle.pud_defs.proofs.Held.{HasSameFrame, pools_in-same}
+use Rattle.pud_defs.proofs.Holdings.{HasSameFrame, pools_in-same}
 use Rattle.pud_defs.proofs.IdleWorlds.{idle_registry_standing, idle_world_of-beside, standing_idle}
 use Rattle.pud_defs.proofs.Parts.{Header, Types, Pools, Spaces, Part, IsReadBy, Holds, Holds-same, part_place, StandsFor}
 use Rattle.pud_defs.proofs.Replay.{settled_by-beside}

@@ -25,7 +25,7 @@ use Rattle.pud_defs.proofs.Replay.{outside_log}
 use Rattle.pud_defs.proofs.Keyed.{keyed-same}
 use Rattle.pud_defs.proofs.TypeTable.{type_at-same}
 use Rattle.pud_defs.proofs.TablesOf.{tables_of-same}
-use Rattle.pud_defs.proofs.Held.{pools_in-same, frame_among}
+use Rattle.pud_defs.proofs.Holdings.{pools_in-same, frame_among}
 use Rattle.pud_defs.proofs.SoundChanged.{sound_from}
 use Rattle.pud_defs.proofs.Parts.{HoldsWorld}
 use Rattle.pud_defs.proofs.Worlds.{holding_of_world, frames_of_world}

@@ -26,7 +26,7 @@ use Rattle.pud_defs.specs.Stored.{stored_in}
 use Rattle.pud_defs.specs.Tables.{Tables, Pool, Reader, tables_of, puddles_of, puddles_in_turn, listed, pool_of, entries, pools_of}
 use Rattle.pud_defs.specs.Transactions.{holding_graph}
 use Rattle.pud_defs.specs.World.{StoredWorld, idle_world_of}
-use Rattle.pud_defs.proofs.Held.{IsFrameOf, HasSameFrame, frames_listed, stored_in-same}
+use Rattle.pud_defs.proofs.Holdings.{IsFrameOf, HasSameFrame, frames_listed, stored_in-same}
 use Rattle.pud_defs.proofs.IdleWorlds.{standing_idle, idle_world_of-beside, idle_registry_standing}
 use Rattle.pud_defs.proofs.Keyed.{keyed-put, alone_there, is_free_for}
 use Rattle.pud_defs.proofs.KeyedEach.{each-weaker}

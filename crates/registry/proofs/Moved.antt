@@ -20,7 +20,7 @@ use Rattle.pud_defs.specs.World.{StoredWorld, pools_in, idle_registry}
 use Rattle.pud_defs.proofs.Replay.{settled_by-idle, outside_log}
 use Rattle.pud_defs.proofs.TablesOf.{tables_of-same, frames_of_tables}
 use Rattle.pud_defs.proofs.SoundChanged.{sound_from, sound_test}
-use Rattle.pud_defs.proofs.Held.{HasSameFrame, frame_among, pools_of-held, pools_in-same}
+use Rattle.pud_defs.proofs.Holdings.{HasSameFrame, frame_among, pools_of-held, pools_in-same}
 use Rattle.pud_defs.proofs.Parts.{StandsFor, HasPools, standing_with_pools}
 use Rattle.pud_defs.proofs.Parts.Part.{Header, Pools}
 use Rattle.pud_defs.proofs.IdleWorlds.{standing_of_idle_world, idle_registry_standing}

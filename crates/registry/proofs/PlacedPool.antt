@@ -39,7 +39,7 @@ use Rattle.pud_defs.specs.Stored.{stored_in}
 use Rattle.pud_defs.specs.Tables.{Tables, Pool, tables_of, listed, pool_of}
 use Rattle.pud_defs.specs.Types.{type_record_at, type_at, types_of}
 use Rattle.pud_defs.specs.World.{StoredWorld, idle_registry}
-use Rattle.pud_defs.proofs.Held.{HasSameFrame, stored_in-same}
+use Rattle.pud_defs.proofs.Holdings.{HasSameFrame, stored_in-same}
 use Rattle.pud_defs.proofs.IdleWorlds.{standing_of_idle_world, idle_registry_standing}
 use Rattle.pud_defs.proofs.Keyed.{first_free_some, keyed-same}
 use Rattle.pud_defs.proofs.Parts.{StandsFor}

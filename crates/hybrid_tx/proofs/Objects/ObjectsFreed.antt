@@ -9,7 +9,7 @@ use Rattle.pud_defs.specs.Geometry.{puddle_slot_at, slot_begins}
 use Rattle.pud_defs.specs.Image.{Image}
 use Rattle.pud_defs.specs.Replay.{overwritten}
 use Rattle.pud_defs.specs.Stored.{Stored, stored_in}
-use Rattle.pud_defs.specs.Graph.{Graph, graph_of, is_held}
+use Rattle.pud_defs.specs.Graph.{Graph, graph_of, is_referenced}
 use Rattle.pud_defs.specs.GraphChanges.{without_object}
 use Rattle.graph_laws.specs.Changes.{with_word, with_words, with_serial_word}
 use Rattle.graph_laws.specs.Reads.{HasDistinctFrames}
@@ -32,7 +32,7 @@ stored_in-cleared F at image distinct slot of =
     ∙ ap₂ (λ (i j : ℕ). with_words (with_word i (puddle_slot_at j + SLOT_SERIAL_WORD) 0 st.word) st) (sym (place_ordinal slot.ordinal slot.slot of.below)) (sym (place_slot slot.ordinal slot.slot of.below))
 
 module _ (types : List (ℕ × ℕ)) (F : ℕ) (at : List (ℕ × Puddle)) (image : Image) (g : Graph) (is : graph_of types (stored_in F at image) ≡ Some g) where
-  pub free_stored : IsPlaced F at → (s : ℕ) (slot : Slot) → IsSlotOf at slot → place_in_pool F at image s ≡ Some (place_of_slot slot) → is_held s g ≡ false
+  pub free_stored : IsPlaced F at → (s : ℕ) (slot : Slot) → IsSlotOf at slot → place_in_pool F at image s ≡ Some (place_of_slot slot) → is_referenced s g ≡ false
       → graph_of types (stored_in F at (overwritten (placed (serial_word_at F slot) (0 ∷ [])) image)) ≡ Some (without_object s g)
   free_stored is_placed s slot of found spared =
       ap (graph_of types) (stored_in-cleared F at image is_placed.frames slot of)

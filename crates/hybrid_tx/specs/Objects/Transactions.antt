@@ -17,7 +17,7 @@ use Rattle.pud_defs.specs.Image.{Image}
 use Rattle.pud_defs.specs.Entries.{Entry}
 use Rattle.pud_defs.specs.Replay.{overwritten, is_in_log}
 use Rattle.pud_defs.specs.Stored.{stored_in}
-use Rattle.pud_defs.specs.Graph.{Object, Graph, object_in, field_count, is_held, next_serial_of, graph_of}
+use Rattle.pud_defs.specs.Graph.{Object, Graph, object_in, field_count, is_referenced, next_serial_of, graph_of}
 use Rattle.pud_defs.specs.Laters.{Later}
 use Rattle.graph_laws.specs.Slots.{IsLowestFreeSlot}
 use Rattle.puddle_header.specs.Places.{place_of_slot, IsSlotOf}
@@ -71,7 +71,7 @@ pub record IsRewrittenAtLowest (F : ℕ) (at : List (ℕ × Puddle)) (image : Im
 pub record MayFree (g : Graph) (s : ℕ) : Type 0 where
   pub object : Object
   pub live : object_in s g ≡ Some object
-  pub spared : is_held s g ≡ false
+  pub spared : is_referenced s g ≡ false
 
 -- ---- what is asked for later
 

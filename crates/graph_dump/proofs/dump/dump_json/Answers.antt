@@ -3,7 +3,7 @@ use Rattle.pud_defs.specs.declared.space.TheConstants.{NEXT_SERIAL_WORD, ROOT_WO
 use Rattle.pud_defs.specs.Types.{types_of}
 use Rattle.pud_defs.specs.Graph.{pointee_at, named_by}
 use Rattle.graph_read.specs.Reading.{table_in}
-use Rattle.graph_read.proofs.Held.{none_held}
+use Rattle.graph_read.proofs.Referenced.{none_held}
 use Rattle.graph_read.proofs.Judging.{first_word, positive_length}
 use Rattle.graph_dump.proofs.Dumped.{dumped}
 use Rattle.pm_model.proofs.Reading.{still_reads}

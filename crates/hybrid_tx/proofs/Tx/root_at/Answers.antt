@@ -2,7 +2,7 @@ use Rattle.std.proofs.Common.{◌<◌, length, sym, refl, ◌∙◌}
 use Rattle.std.proofs.lemmas.Option.{slice_get-get_or}
 use Rattle.pm_model.specs.Words.{reads}
 use Rattle.pm_model.specs.Counts.{fault_of}
-use Rattle.graph_read.proofs.Held.{none_held}
+use Rattle.graph_read.proofs.Referenced.{none_held}
 use Rattle.graph_read.proofs.Judging.{entry, positive_length}
 use Rattle.hybrid_tx.proofs.Objects.RootPut.{RunsOn-root}
 use Rattle.hybrid_tx.proofs.Tx.root_at.Goals as goal

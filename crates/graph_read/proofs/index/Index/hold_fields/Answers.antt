@@ -14,7 +14,7 @@ pub loop-f-preserved : goal.loop-f-preserved
 loop-f-preserved g c = record {
   only_reads = OnlyReads-then c.loop-f.invariant.only_reads c.in_ok-v.ensures.only_reads;
   most =
-      HasAtMost-held c.serial_in_field.result (MAX_FIELDS * c.args.place + c.loop-f.f) (MAX_FIELDS * c.args.place + (c.loop-f.f + 1)) c.loop-f.self c.hold.new.self c.loop-f.invariant.most c.hold.ensures (omega arith);
+      HasAtMost-held c.serial_in_field.result (MAX_FIELDS * c.args.place + c.loop-f.f) (MAX_FIELDS * c.args.place + (c.loop-f.f + 1)) c.loop-f.self c.retain.new.self c.loop-f.invariant.most c.retain.ensures (omega arith);
   held = λ t image same.
       let st = stored_in c.args.frames c.args.pool.now image in
       let serial = slice_index c.args.serials.now in
@@ -22,8 +22,8 @@ loop-f-preserved g c = record {
       let before = still_reads c.loop-f.invariant.only_reads t same in
       let named : c.serial_in_field.result ≡ named_by serial (field_content st c.args.place m c.loop-f.f) =
       c.serial_in_field.ensures ∙ ap (λ (v : ℕ). named_by serial (content st.puddles m c.args.place c.loop-f.f v)) (c.in_ok-v.ensures.word t image before) in
-      Gains-then (fields_name serial st c.args.place m c.loop-f.f) (names_one c.serial_in_field.result) (fields_name serial st c.args.place m (c.loop-f.f + 1)) c.args.self.now c.loop-f.self c.hold.new.self
-      (c.loop-f.invariant.held t image same) (record { each = c.hold.ensures }) (λ q. fields_name-more serial st c.args.place m c.loop-f.f c.serial_in_field.result q named);
+      Gains-then (fields_name serial st c.args.place m c.loop-f.f) (names_one c.serial_in_field.result) (fields_name serial st c.args.place m (c.loop-f.f + 1)) c.args.self.now c.loop-f.self c.retain.new.self
+      (c.loop-f.invariant.held t image same) (record { each = c.retain.ensures }) (λ q. fields_name-more serial st c.args.place m c.loop-f.f c.serial_in_field.result q named);
 }
 
 pub returns-clause-holds : goal.returns-clause-holds

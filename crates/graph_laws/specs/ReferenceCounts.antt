@@ -4,13 +4,13 @@ use Rattle.pud_defs.specs.declared.objects.Val.{Val}
 use Rattle.pud_defs.specs.Graph.{Object, Graph, names_serial}
 
 -- how often a value names the serial, once or not at all
-abbrev pub times_named : ℕ → Val → ℕ
-times_named s v = cond (names_serial s v) 1 0
+abbrev pub times_named_by : ℕ → Val → ℕ
+times_named_by s v = cond (names_serial s v) 1 0
 
 -- how many fields of an object name it
 abbrev pub pointers_to : ℕ → Object → ℕ
 pointers_to s o = count_by (names_serial s) o.fields
 
 -- how many hold the object of a serial
-unfoldable pub holders : ℕ → Graph → ℕ
-holders s g = cond (g.root == s) 1 0 + sum_by (λ e. pointers_to s e.1) g.objects
+unfoldable pub reference_count : ℕ → Graph → ℕ
+reference_count s g = cond (g.root == s) 1 0 + sum_by (λ e. pointers_to s e.1) g.objects

@@ -4,7 +4,7 @@ use Rattle.std.specs.List.{list_any, list_all}
 use Rattle.std.proofs.lemmas.Bool.{and_parts}
 use Rattle.std.proofs.lemmas.Cmp.{nat_cmp_total}
 use Rattle.std.proofs.lemmas.Option.{cond_some, none-some}
-use Rattle.pud_defs.specs.Graph.{Content, Table, Object, Graph, stands, names_serial, named_by, value_of, contents_or_none, object_at, live, placed, headers_fit, is_graph, is_next_serial, is_sound_place, graph_of, graph_stored, has_graph, is_held, table_of, next_serial_of, root_of}
+use Rattle.pud_defs.specs.Graph.{Content, Table, Object, Graph, stands, names_serial, named_by, value_of, contents_or_none, object_at, live, placed, headers_fit, is_graph, is_next_serial, is_sound_place, graph_of, graph_stored, has_graph, is_referenced, table_of, next_serial_of, root_of}
 use Rattle.pud_defs.specs.Keyed.{keyed, are_distinct}
 use Rattle.pud_defs.specs.Spaces.{all_below}
 use Rattle.pud_defs.specs.Stored.{Stored, stored_in, places_of}
@@ -57,14 +57,14 @@ has_distinct types st has =
 
 -- what was read of a pool that stores a graph tells who holds an object
 pub held : (types : List (ℕ × ℕ)) (st : Stored) (g : Graph) (s : ℕ) (serial : ℕ → ℕ) (root : ℕ) (slots : Bool) → graph_of types st ≡ Some g → serial ≡ serials_in st → root ≡ named_by serial (root_of st)
-    → slots ≡ all_below (places_of st) (place_passes (Spares s) (with_serials serial (table_of types st))) → (eqb root s || not slots) ≡ is_held s g
-unfolding graph_of is_held
+    → slots ≡ all_below (places_of st) (place_passes (Spares s) (with_serials serial (table_of types st))) → (eqb root s || not slots) ≡ is_referenced s g
+unfolding graph_of is_referenced
 held types st g s serial root slots stored is_serial is_root is_slots =
     let parts = cond_some (has_graph types st) (graph_stored types st) g stored in
     ap₂ (λ (r : ℕ) (b : Bool). eqb r s || b) (is_root ∙ ap (λ (f : ℕ → ℕ). named_by f (root_of st)) is_serial)
     (ap not (is_slots ∙ ap (λ (f : ℕ → ℕ). all_below (places_of st) (place_passes (Spares s) (with_serials f (table_of types st)))) is_serial)
     ∙ any_names s (table_of types st) (places_of st) (has_distinct types st parts.0))
-    ∙ ap (λ (x : Graph). is_held s x) parts.1
+    ∙ ap (λ (x : Graph). is_referenced s x) parts.1
 
 -- a pool without puddles stores no graph
 pub none_held : (types : List (ℕ × ℕ)) (F : ℕ) (at : List (ℕ × Puddle)) (image : Image) (g : Graph) → eqb (length at) 0 ≡ true → graph_of types (stored_in F at image) ≡ Some g → ⊥

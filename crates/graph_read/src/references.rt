@@ -4,7 +4,7 @@ ghost use Rattle.std.specs.Prelude.{◌≡◌, ◌≤◌, ◌==◌, ◌||◌, no
 ghost use Rattle.pm_model.specs.Words.{reads};
 ghost use Rattle.pm_model.specs.Counts.{fault_of};
 ghost use Rattle.pm_model.specs.Reads.{OnlyReads};
-ghost use Rattle.pud_defs.specs.Graph.{Graph, graph_of, is_held};
+ghost use Rattle.pud_defs.specs.Graph.{Graph, graph_of, is_referenced};
 ghost use Rattle.pud_defs.specs.Image.{Image};
 ghost use Rattle.pud_defs.specs.Layout.{device_words};
 ghost use Rattle.pud_defs.specs.Stored.{IsOnDevice, stored_in};
@@ -19,7 +19,7 @@ use pud_defs::records::Puddle;
 use puddle_header::root_value;
 
 /// Whether the root is the object with serial `s`, or the slots do not spare it.
-fn holds(root: u64, s: u64, spared: bool) -> bool
+fn is_referenced_by(root: u64, s: u64, spared: bool) -> bool
     ensures { result ≡ (root == s || not spared) }
 {
     root == s || !spared
@@ -28,7 +28,7 @@ fn holds(root: u64, s: u64, spared: bool) -> bool
 /// Whether the root or a pointer of a live slot leads to the object with serial `s`, where the pool stores a graph: with 0 for
 /// `s`, whether one of them is null. Where the pool stores none the answer says nothing. Each serial and each field is read
 /// once.
-pub fn is_held<H: Loads>(
+pub fn is_referenced<H: Loads>(
     h: &mut H,
     frames: u32,
     pool: &[(u32, Puddle)],
@@ -38,7 +38,7 @@ pub fn is_held<H: Loads>(
     requires room { device_words frames ≤ (H.counts h.old).size }
     requires known { IsOnDevice frames pool.now }
     ensures held { H.tells → (image : Image) → reads (H.state h.old).now.words ≡ image → (g : Graph)
-        → graph_of (types_of image) (stored_in frames pool.now image) ≡ Option.Some g → IfOk result (λ held. held ≡ is_held s g) }
+        → graph_of (types_of image) (stored_in frames pool.now image) ≡ Option.Some g → IfOk result (λ held. held ≡ is_referenced s g) }
     ensures only_reads { OnlyReads H.tells H.state H.counts (fault_of result) h.old h.new }
 {
     if pool.is_empty() {
@@ -49,5 +49,5 @@ pub fn is_held<H: Loads>(
     let serials = read_serials(h, frames, pool)?;
     let spared = places_sum(h, frames, pool, &serials, Asked::Spares(s))?.is_some();
     let root = named(&serials, read_pointer(pool, 0, 0, root));
-    Ok(holds(root, s, spared))
+    Ok(is_referenced_by(root, s, spared))
 }

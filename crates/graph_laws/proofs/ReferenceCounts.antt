@@ -11,11 +11,11 @@ use Rattle.pud_defs.specs.declared.objects.Val.{Val}
 use Rattle.pud_defs.specs.declared.objects.Val.TheVariants.{Num, Ref}
 use Rattle.pud_defs.specs.TypeMap.{is_pointer}
 use Rattle.pud_defs.specs.Stored.{Stored, places_of}
-use Rattle.pud_defs.specs.Graph.{Object, Graph, table_of, place_of, object_at, live, field_count, names_serial, object_in, is_held, next_serial_of, graph_of}
+use Rattle.pud_defs.specs.Graph.{Object, Graph, table_of, place_of, object_at, live, field_count, names_serial, object_in, is_referenced, next_serial_of, graph_of}
 use Rattle.pud_defs.specs.GraphChanges.{blank_value, blank_object, object_with, with_object, with_some_object, with_field, with_new, without_object, with_root}
 use Rattle.pud_defs.proofs.Keyed.{is_sorted-keyed}
 use Rattle.pud_defs.proofs.Graphs.{graph_of-each}
-use Rattle.graph_laws.specs.Holders.{times_named, pointers_to, holders}
+use Rattle.graph_laws.specs.ReferenceCounts.{times_named_by, pointers_to, reference_count}
 use Rattle.graph_laws.proofs.KeyedSums.{sum-put_new, sum-without, sum-put_there}
 use Rattle.graph_laws.proofs.Places.{object_in-place}
 use Rattle.graph_laws.proofs.Words.{place_of-some}
@@ -44,50 +44,50 @@ module _ (types : List (ℕ × ℕ)) (st : Stored) (g : Graph) (is : graph_of ty
 -- ---- one change
 
 -- a field of another value
-pub holders-field : (q s f : ℕ) (x was : Val) (o : Object) (g : Graph) → T (is_sorted nat_cmp g.objects) → object_in s g ≡ Some o → slice_get o.fields f ≡ Some was
-    → holders q (with_field s f x g) + times_named q was ≡ holders q g + times_named q x
-unfolding holders
-holders-field q s f x was o g sorted there field =
+pub reference_count-field : (q s f : ℕ) (x was : Val) (o : Object) (g : Graph) → T (is_sorted nat_cmp g.objects) → object_in s g ≡ Some o → slice_get o.fields f ≡ Some was
+    → reference_count q (with_field s f x g) + times_named_by q was ≡ reference_count q g + times_named_by q x
+unfolding reference_count
+reference_count-field q s f x was o g sorted there field =
     let after = object_with f x o in
     let named : with_field s f x g ≡ with_object s after g = ap (λ (d : Option Object). with_some_object s (option_map (object_with f x) d) g) there in
     let sums = sum-put_there (pointers_to q) s o g.objects sorted there after in
     let fields = fields_set o.fields f field in
-    ap (λ (k : Graph). holders q k + times_named q was) named ∙ omega (arith, sums, fields)
+    ap (λ (k : Graph). reference_count q k + times_named_by q was) named ∙ omega (arith, sums, fields)
   where
-    fields_set : (vals : List Val) (i : ℕ) → slice_get vals i ≡ Some was → count_by (names_serial q) (set vals i x) + times_named q was ≡ count_by (names_serial q) vals + times_named q x
+    fields_set : (vals : List Val) (i : ℕ) → slice_get vals i ≡ Some was → count_by (names_serial q) (set vals i x) + times_named_by q was ≡ count_by (names_serial q) vals + times_named_by q x
     fields_set [] i none = absurd (none-some was none)
     fields_set (v ∷ vals) zero here =
         let is = same_Some v was here in
-        ap (λ (n : ℕ). n + times_named q was) (sum_by-cons (times_named q) x vals) ∙ omega (arith, ap (times_named q) is) ∙ ap (λ (n : ℕ). n + times_named q x) (sym (sum_by-cons (times_named q) v vals))
+        ap (λ (n : ℕ). n + times_named_by q was) (sum_by-cons (times_named_by q) x vals) ∙ omega (arith, ap (times_named_by q) is) ∙ ap (λ (n : ℕ). n + times_named_by q x) (sym (sum_by-cons (times_named_by q) v vals))
     fields_set (v ∷ vals) (suc i) later =
         let rest = fields_set vals i later in
-        ap (λ (n : ℕ). n + times_named q was) (sum_by-cons (times_named q) v (set vals i x)) ∙ omega (arith, rest) ∙ ap (λ (n : ℕ). n + times_named q x) (sym (sum_by-cons (times_named q) v vals))
+        ap (λ (n : ℕ). n + times_named_by q was) (sum_by-cons (times_named_by q) v (set vals i x)) ∙ omega (arith, rest) ∙ ap (λ (n : ℕ). n + times_named_by q x) (sym (sum_by-cons (times_named_by q) v vals))
 
 -- another root
-pub holders-root : (q r : ℕ) (g : Graph) → holders q (with_root r g) + times_named q (Ref g.root) ≡ holders q g + times_named q (Ref r)
-unfolding holders
-holders-root q r g = omega arith
+pub reference_count-root : (q r : ℕ) (g : Graph) → reference_count q (with_root r g) + times_named_by q (Ref g.root) ≡ reference_count q g + times_named_by q (Ref r)
+unfolding reference_count
+reference_count-root q r g = omega arith
 
 -- a blank object names none
-blank_names : (q m f : ℕ) → (q ≡ 0 → ⊥) → times_named q (blank_value m f) ≡ 0
+blank_names : (q m f : ℕ) → (q ≡ 0 → ⊥) → times_named_by q (blank_value m f) ≡ 0
 blank_names q m f some =
-    elim (is_pointer m f) as (λ b. times_named q (cond b (Ref 0) (Num 0)) ≡ 0) [ true ↦ cond-false _ _ _ (ne_eqb 0 q (λ none. some (sym none))) | false ↦ refl ]
+    elim (is_pointer m f) as (λ b. times_named_by q (cond b (Ref 0) (Num 0)) ≡ 0) [ true ↦ cond-false _ _ _ (ne_eqb 0 q (λ none. some (sym none))) | false ↦ refl ]
 
 blanks_name : (q m : ℕ) (fs : List ℕ) → (q ≡ 0 → ⊥) → count_by (names_serial q) (map (blank_value m) fs) ≡ 0
 blanks_name q m [] some = refl
-blanks_name q m (f ∷ fs) some = sum_by-cons (times_named q) (blank_value m f) (map (blank_value m) fs) ∙ ap₂ (λ (a b : ℕ). a + b) (blank_names q m f some) (blanks_name q m fs some)
+blanks_name q m (f ∷ fs) some = sum_by-cons (times_named_by q) (blank_value m f) (map (blank_value m) fs) ∙ ap₂ (λ (a b : ℕ). a + b) (blank_names q m f some) (blanks_name q m fs some)
 
-pub holders-new : (q type_id m : ℕ) (g : Graph) → (q ≡ 0 → ⊥) → object_in g.next_serial g ≡ None → holders q (with_new (blank_object type_id m) g) ≡ holders q g
-unfolding holders
-holders-new q type_id m g some none =
+pub reference_count-new : (q type_id m : ℕ) (g : Graph) → (q ≡ 0 → ⊥) → object_in g.next_serial g ≡ None → reference_count q (with_new (blank_object type_id m) g) ≡ reference_count q g
+unfolding reference_count
+reference_count-new q type_id m g some none =
     let sums = sum-put_new (pointers_to q) g.next_serial (blank_object type_id m) g.objects none in
     let blank = blanks_name q m (range_with_len 0 (field_count m)) some in
     omega (arith, sums, blank)
 
 -- an object is freed
-pub holders-freed : (q s : ℕ) (o : Object) (g : Graph) → T (is_sorted nat_cmp g.objects) → object_in s g ≡ Some o → holders q (without_object s g) + pointers_to q o ≡ holders q g
-unfolding holders
-holders-freed q s o g sorted there = omega (arith, sum-without (pointers_to q) s o g.objects sorted there)
+pub reference_count-freed : (q s : ℕ) (o : Object) (g : Graph) → T (is_sorted nat_cmp g.objects) → object_in s g ≡ Some o → reference_count q (without_object s g) + pointers_to q o ≡ reference_count q g
+unfolding reference_count
+reference_count-freed q s o g sorted there = omega (arith, sum-without (pointers_to q) s o g.objects sorted there)
 
 -- ---- held or not
 
@@ -105,9 +105,9 @@ once_positive true = refl
 once_positive false = refl
 
 -- an object is held where it has holders
-pub held-holders : (s : ℕ) (g : Graph) → is_held s g ≡ ltb 0 (holders s g)
-unfolding holders is_held
-held-holders s g =
+pub held-reference_count : (s : ℕ) (g : Graph) → is_referenced s g ≡ ltb 0 (reference_count s g)
+unfolding reference_count is_referenced
+held-reference_count s g =
     ap₂ (λ a b. a || b) (once_positive (eqb g.root s))
-    (any_counted (λ (e : ℕ × Object). list_any (names_serial s) e.1.fields) (λ (e : ℕ × Object). pointers_to s e.1) (λ e. any_counted (names_serial s) (times_named s) (λ v. once_positive (names_serial s v)) e.1.fields) g.objects)
+    (any_counted (λ (e : ℕ × Object). list_any (names_serial s) e.1.fields) (λ (e : ℕ × Object). pointers_to s e.1) (λ e. any_counted (names_serial s) (times_named_by s) (λ v. once_positive (names_serial s v)) e.1.fields) g.objects)
     ∙ positive_sum (cond (eqb g.root s) 1 0) (sum_by (λ (e : ℕ × Object). pointers_to s e.1) g.objects)

@@ -1,0 +1,5 @@
+use Rattle.graph_laws.proofs.ReferenceCounts.{held-reference_count}
+use Rattle.graph_laws.proofs.laws.referenced_object_is_counted.Goals as goal
+
+pub returns : goal.returns
+returns c = held-reference_count
