@@ -56,8 +56,8 @@ use Rattle.hybrid_tx.proofs.Open.ManyIdle.{idle_world_begun, left_more, masks_el
 use Rattle.hybrid_tx.proofs.Open.ManyMasks.{masks_below, masks_beside_log, masks_of_gate, masks_same, open_masks_all}
 use Rattle.hybrid_tx.proofs.Open.OpenSettled.{nothing_given}
 use Rattle.hybrid_tx.proofs.FinishedPuddles.{finished_placed, mine_of_finished, finished_puddles}
-use Rattle.ready_daemon.specs.Memory.{Held, Memory, held_under}
-use Rattle.ready_daemon.specs.Held.{IsHeld, Holds, HasDurableFrames, HasIdleLogs, HasSessions, IsHeldUnder, open_held, pool_held}
+use Rattle.ready_daemon.specs.Memory.{ActiveTransaction, Memory, active_under}
+use Rattle.ready_daemon.specs.ActiveTransactions.{IsActive, AreActive, HasDurableFrames, HasIdleLogs, HasSessions, IsActiveUnder, open_transaction_of, open_pool_of}
 use Rattle.ready_daemon.specs.Beginning.{MayBegin, begins_as}
 use Rattle.ready_daemon.specs.Judged.{known_in}
 use Rattle.ready_daemon.specs.KnownPools.{KnowsPools}
@@ -71,10 +71,10 @@ use Rattle.ready_daemon.proofs.InTurn.{pool_in_slot}
 use Rattle.ready_daemon.proofs.JudgedKept.{KeepsPools}
 use Rattle.ready_daemon.proofs.JudgedOpen.{KeepsPools-begun, KnowsPools-begun}
 use Rattle.ready_daemon.proofs.TablesBeside.{header_read, types_read, sound_read, owner_under}
-use Rattle.ready_daemon.proofs.HeldMore.{HasSessions-more, Holds-more, keeps_others, other_number}
+use Rattle.ready_daemon.proofs.ActiveMore.{HasSessions-more, Holds-more, keeps_others, other_number}
 use Rattle.ready_daemon.proofs.OpenBeside.{not_named, pool_unmasked, unmasked_frames}
 use Rattle.ready_daemon.proofs.OpenNames.{open_there}
-use Rattle.ready_daemon.proofs.Sessions.{none_held, session_shut}
+use Rattle.ready_daemon.proofs.Sessions.{none_active, session_shut}
 use Rattle.log_space.specs.FreeLogs.{IsLogOf}
 use Rattle.nesting.specs.Sessions.{entered, session_in}
 use Rattle.pool_transaction.specs.Lifetime.{MayBeginIn, with_begun}
@@ -89,8 +89,8 @@ values_under P (Some y) before after still each = each
 
 -- ---- the pool on which it begins
 
-graph_held-sound : (st : Stored) (o : Option Graph) (g : Graph) → o ≡ Some g → graph_held (held_as st o) ≡ Some g
-graph_held-sound st o g is = ap (λ (x : Option Graph). graph_held (held_as st x)) is
+graph_active-sound : (st : Stored) (o : Option Graph) (g : Graph) → o ≡ Some g → graph_held (held_as st o) ≡ Some g
+graph_active-sound st o g is = ap (λ (x : Option Graph). graph_held (held_as st x)) is
 
 gate_inside : (F number k : ℕ) → k ≡ log_number_at F number → is_in_log (log_number_at F number) k ≡ true
 gate_inside F number k here = and_from (leb (log_number_at F number) k) (ltb k (log_number_at F number + LOG_WORDS)) (le-leb _ _ (omega arith)) (lt-ltb _ _ (omega arith))
@@ -102,7 +102,7 @@ pub record IsVacant (w : World) (memory : Memory) (client : ℕ) (name : List �
   pub known : number < ALL_LOGS
   pub whose : client_of_log number ≡ client
   pub fits : slot < length memory.sessions
-  pub free : held_under memory.held number ≡ None
+  pub free : active_under memory.active number ≡ None
   pub unheld : session_in memory.sessions slot ≡ None
   pub shut : open_on name w ≡ None
   pub is_known : known_in memory.judged slot ≡ Some at
@@ -162,7 +162,7 @@ module _ (size : ℕ) (w : World) (memory : Memory) (old : State) (ready : IsRea
   -- ---- beside those that are open
 
   abbrev opens : Opens
-  opens = ready.held.opens
+  opens = ready.active.opens
 
   abbrev opens_then : Opens
   opens_then = with_transaction number (Some o) opens
@@ -171,18 +171,18 @@ module _ (size : ℕ) (w : World) (memory : Memory) (old : State) (ready : IsRea
   mask_then = open_masks n opens_then
 
   more : IsOneMore number o opens opens_then
-  more = one_begun number o opens (ready.held.none number vacant.free)
+  more = one_begun number o opens (ready.active.none number vacant.free)
 
   records_before : HasRecords opens now
-  records_before = records_all w memory.held ready.mask old.now.words ready.held
+  records_before = records_all w memory.active ready.mask old.now.words ready.active
 
   other_pool : (m : ℕ) (q : OpenTransaction) → opens m ≡ Some q → q.pool.slot ≡ slot → ⊥
   other_pool m q there same =
-      let a = opened_as w memory.held ready.mask old.now.words ready.held m q there in
-      none_held w memory.held ready.mask old.now.words ready.held memory.sessions ready.sessions slot vacant.unheld m a.one a.there (ap (λ (x : OpenTransaction). x.pool.slot) a.same ∙ same)
+      let a = opened_as w memory.active ready.mask old.now.words ready.active m q there in
+      none_active w memory.active ready.mask old.now.words ready.active memory.sessions ready.sessions slot vacant.unheld m a.one a.there (ap (λ (x : OpenTransaction). x.pool.slot) a.same ∙ same)
 
   are_then : AreOpenPools n opens_then
-  are_then = opens_more number o opens opens_then more n ready.held.are refl opened other_pool
+  are_then = opens_more number o opens opens_then more n ready.active.are refl opened other_pool
 
   records_then : HasRecords opens_then now
   records_then = records_more number o opens opens_then more now records_before (λ k of. refl)
@@ -191,23 +191,23 @@ module _ (size : ℕ) (w : World) (memory : Memory) (old : State) (ready : IsRea
   masks_then = open_masks_all n opens_then now are_then records_then
 
   mask_was : ready.mask ≡ open_masks n opens
-  mask_was = masks_same n opens ready.mask (open_masks n opens) ready.held.masks (open_masks_all n opens now ready.held.are records_before)
+  mask_was = masks_same n opens ready.mask (open_masks n opens) ready.active.masks (open_masks_all n opens now ready.active.are records_before)
 
   -- what was masked is masked still
   masked_still : (k : ℕ) → mask_then k ≡ None → ready.mask k ≡ None
   masked_still k none = nothing_given (ready.mask k) (λ v is.
-      let m = ready.held.masks.each k v is in
-      let apart : m.number ≢ number = λ same. none-some m.transaction (sym (ready.held.none number vacant.free) ∙ ap opens (sym same) ∙ m.there) in
+      let m = ready.active.masks.each k v is in
+      let apart : m.number ≢ number = λ same. none-some m.transaction (sym (ready.active.none number vacant.free) ∙ ap opens (sym same) ∙ m.there) in
       none-some v (sym none ∙ masks_then.has m.number m.transaction (more.same m.number apart ∙ m.there) k v m.is))
 
   gate_unmasked : ready.mask gate ≡ None
-  gate_unmasked = masks_beside_log n opens ready.mask ready.held.are ready.held.masks number gate (ready.held.none number vacant.free) known (within_log gate gate (gate_inside n number gate refl))
+  gate_unmasked = masks_beside_log n opens ready.mask ready.active.are ready.active.masks number gate (ready.active.none number vacant.free) known (within_log gate gate (gate_inside n number gate refl))
 
   mine_unmasked : (k : ℕ) → pool_mine n at k ≡ true → ready.mask k ≡ None
   mine_unmasked k mine =
-      unmasked_by_all w memory.held ready.mask old.now.words ready.held k (λ m h there is.
+      unmasked_by_all w memory.active ready.mask old.now.words ready.active k (λ m h there is.
       unmasked_frames w h ready.mask old.now.words is slot may.rec may.used
-      (λ same. not_named w memory.held ready.mask old.now.words name ready.held vacant.shut m h there (sym same ∙ may.name_is)) k (ap (λ (puddles : List (ℕ × Puddle)). pool_mine n puddles k) may.puddles ∙ mine))
+      (λ same. not_named w memory.active ready.mask old.now.words name ready.active vacant.shut m h there (sym same ∙ may.name_is)) k (ap (λ (puddles : List (ℕ × Puddle)). pool_mine n puddles k) may.puddles ∙ mine))
 
   -- its log is closed in each image, as those of the clients are where the words of the open ones are masked
   log_closed : (i : Image) → Picks old.now.words i → is_closed_log i gate ≡ true
@@ -220,7 +220,7 @@ module _ (size : ℕ) (w : World) (memory : Memory) (old : State) (ready : IsRea
       ap (unwrap_or (ready.mask k)) ((ready.tables.each k (inr (omega arith)) (omega arith)).each (i k) (picked.each k)) ∙ sym (ap (λ (j : Image). j k) (reads-masked ready.mask old.now.words))) in
       let owned : owner_of under (client_of_log number) ≡ Some may.who = ap (owner_of under) vacant.whose ∙ records ∙ owner_under size w memory old ready client low_client ∙ may.owned in
       is_closed_log-same i under gate (λ k inside.
-      sym (masked_image-elsewhere ready.mask i k (masks_beside_log n opens ready.mask ready.held.are ready.held.masks number k (ready.held.none number vacant.free) known inside)))
+      sym (masked_image-elsewhere ready.mask i k (masks_beside_log n opens ready.mask ready.active.are ready.active.masks number k (ready.active.none number vacant.free) known inside)))
       ∙ registered_is_closed n under number may.who (stands.holds Spaces).logs known owned
 
   -- and each word of its frames has one value
@@ -245,10 +245,10 @@ module _ (size : ℕ) (w : World) (memory : Memory) (old : State) (ready : IsRea
       let under = reads (masked ready.mask old.now.words) in
       let read : stored_in n (puddles_in_turn (tables_of n now) slot) under ≡ stored_in n (puddles_in_turn (tables_of n now) slot) now =
       ap (stored_in n (puddles_in_turn (tables_of n now) slot)) (reads-masked ready.mask old.now.words)
-      ∙ pool_unmasked w memory.held ready.mask old.now.words name slot may.rec ready.held (not_named w memory.held ready.mask old.now.words name ready.held vacant.shut) may.used may.name_is in
+      ∙ pool_unmasked w memory.active ready.mask old.now.words name slot may.rec ready.active (not_named w memory.active ready.mask old.now.words name ready.active vacant.shut) may.used may.name_is in
       ap (λ (x : List ℕ). graph_in (pool_named x w.stored)) (sym may.name_is)
       ∙ ap graph_in pool.named
-      ∙ graph_held-sound (stored_in n (listed (puddles_of (tables_of n now) slot)) under) (graph_of w.stored.types (stored_in n (listed (puddles_of (tables_of n now) slot)) under)) may.graph
+      ∙ graph_active-sound (stored_in n (listed (puddles_of (tables_of n now) slot)) under) (graph_of w.stored.types (stored_in n (listed (puddles_of (tables_of n now) slot)) under)) may.graph
       (ap (λ (puddles : List (ℕ × Puddle)). graph_of w.stored.types (stored_in n puddles under)) (sym pool.in_turn) ∙ ap (graph_of w.stored.types) read
       ∙ ap (λ (puddles : List (ℕ × Puddle)). graph_of w.stored.types (stored_in n puddles now)) may.puddles ∙ graph_now)
 
@@ -289,12 +289,12 @@ module _ (size : ℕ) (w : World) (memory : Memory) (old : State) (ready : IsRea
   off : (k v : ℕ) → By k v → ready.mask k ≡ None
   off k v wrote = ap ready.mask (only_at gate RUNNING_GATE k v wrote) ∙ gate_unmasked
 
-  begun_apart : (h : Held) (is : IsHeld w h ready.mask old.now.words) → IsApart n h (pool_held h is.puddles is.rec is.who) By
+  begun_apart : (h : ActiveTransaction) (is : IsActive w h ready.mask old.now.words) → IsApart n h (open_pool_of h is.puddles is.rec is.who) By
   begun_apart h is =
       let a = others_apart w h ready.mask old.now.words is in
       record {
         log = λ k v wrote inside. a.log k v (off k v wrote) inside;
-        mine = λ k v wrote mine. a.mine k v (off k v wrote) mine;
+        mine = λ k v wrote mine. a.active k v (off k v wrote) mine;
         records = λ k v wrote of. a.records k v (off k v wrote) of;
       }
 
@@ -321,7 +321,7 @@ module _ (size : ℕ) (w : World) (memory : Memory) (old : State) (ready : IsRea
     left_open j settles from =
         let gate_idle = idle_of j from in
         left_more number o opens opens_then more n j
-        (left_all w memory.held ready.mask old.now.words ready.held j (λ m h there under.
+        (left_all w memory.active ready.mask old.now.words ready.active j (λ m h there under.
         left_apart w h ready.mask old.now.words under.is By (begun_apart h under.is) ready.tables j from (names_none_idle ready.mask j gate_idle)))
         (record {
           unnamed = λ k v is. unnamed_idle j k gate_idle;
@@ -341,7 +341,7 @@ module _ (size : ℕ) (w : World) (memory : Memory) (old : State) (ready : IsRea
         (λ bytes image m. (m.0, let both = image_stands image m.1.0 m.1.1 in (inl both.0, both.1)))
         (Leaves-from (SettlesTo g gate now) By fault old new c runs.moments)
 
-    module _ (done : fault ≡ None) (placed_there : number < length memory.held) where
+    module _ (done : fault ≡ None) (placed_there : number < length memory.active) where
       changed : Changes By None old new
       changed = subst (λ (f : Option HostFault). Changes By f old new) done c
 
@@ -381,7 +381,7 @@ module _ (size : ℕ) (w : World) (memory : Memory) (old : State) (ready : IsRea
         each = λ v had.
             values_under (λ (x : ℕ). is_idle_gate x ≡ true) (ready.mask other) (old.now.words other) (new.now.words other)
             (λ was. (idle_kept other By fault old new c (λ x wrote. absurd (not_gate other x outside wrote)) (record { each = was })).each) idle_was.each v
-            (subst (λ (x : Option ℕ). Has (values (masked_cell x (new.now.words other))) v) (masks_elsewhere number o opens opens_then more n mask_then ready.mask masks_then ready.held.masks other none) had);
+            (subst (λ (x : Option ℕ). Has (values (masked_cell x (new.now.words other))) v) (masks_elsewhere number o opens opens_then more n mask_then ready.mask masks_then ready.active.masks other none) had);
       }
 
       logs_begun : HasIdleLogs n w.clients (masked mask_then new.now.words)
@@ -417,17 +417,17 @@ module _ (size : ℕ) (w : World) (memory : Memory) (old : State) (ready : IsRea
 
       -- ---- what is held then
 
-      abbrev begun_held : Held
-      begun_held = begins_as client name slot n number
+      abbrev begun_active : ActiveTransaction
+      begun_active = begins_as client name slot n number
 
-      abbrev all : List (Option Held)
-      all = set memory.held number (Some begun_held)
+      abbrev all : List (Option ActiveTransaction)
+      all = set memory.active number (Some begun_active)
 
       abbrev next : World
       next = record w { transactions = with_open name (Some begun_transaction) w.transactions }
 
-      abbrev held_begun : IsHeld next begun_held mask_then new.now.words
-      held_begun = record {
+      abbrev active_begun : IsActive next begun_active mask_then new.now.words
+      active_begun = record {
         rec = may.rec;
         who = may.who;
         puddles = at;
@@ -448,13 +448,13 @@ module _ (size : ℕ) (w : World) (memory : Memory) (old : State) (ready : IsRea
         masked = masks_then.has number o more.here;
       }
 
-      other_held : (m : ℕ) (h : Held) → held_under memory.held m ≡ Some h → IsHeldUnder next opens_then mask_then new.now.words m h
-      other_held m h there =
-          let under = ready.held.each m h there in
-          let opened_then = more.same m (other_number w memory.held ready.mask old.now.words ready.held number begun_held begun_transaction placed_there vacant.free vacant.shut m h there) ∙ under.opened in
+      other_active : (m : ℕ) (h : ActiveTransaction) → active_under memory.active m ≡ Some h → IsActiveUnder next opens_then mask_then new.now.words m h
+      other_active m h there =
+          let under = ready.active.each m h there in
+          let opened_then = more.same m (other_number w memory.active ready.mask old.now.words ready.active number begun_active begun_transaction placed_there vacant.free vacant.shut m h there) ∙ under.opened in
           still_under w next h ready.mask mask_then old new under.is
-          (keeps_others w memory.held ready.mask old.now.words ready.held number begun_held begun_transaction placed_there vacant.free vacant.shut m h there)
-          By (begun_apart h under.is) changed (masks_then.has m (open_held h under.is.puddles under.is.rec under.is.who under.is.before) opened_then)
+          (keeps_others w memory.active ready.mask old.now.words ready.active number begun_active begun_transaction placed_there vacant.free vacant.shut m h there)
+          By (begun_apart h under.is) changed (masks_then.has m (open_transaction_of h under.is.puddles under.is.rec under.is.who under.is.before) opened_then)
           (record {
             each = λ k mine other.
                 let word = pool_mine-each n under.is.puddles k mine in
@@ -462,17 +462,17 @@ module _ (size : ℕ) (w : World) (memory : Memory) (old : State) (ready : IsRea
                 HasOnly-kept By None old new k (under.is.before k) changed (λ v. not_gate k v (in_frames k (omega arith))) (under.is.running.rests.each k mine other);
           }) opens_then m under.number_is opened_then
 
-      abbrev holds_begun : Holds next all mask_then new.now.words
+      abbrev holds_begun : AreActive next all mask_then new.now.words
       holds_begun =
-          Holds-more w memory.held ready.mask old.now.words ready.held number begun_held begun_transaction placed_there vacant.free vacant.shut mask_then new.now.words opens_then are_then masks_then
-          (record { is = held_begun; number_is = refl; opened = more.here }) other_held (λ m apart none. more.same m apart ∙ none)
+          Holds-more w memory.active ready.mask old.now.words ready.active number begun_active begun_transaction placed_there vacant.free vacant.shut mask_then new.now.words opens_then are_then masks_then
+          (record { is = active_begun; number_is = refl; opened = more.here }) other_active (λ m apart none. more.same m apart ∙ none)
 
       sessions_begun : HasSessions next all (entered client slot number memory.sessions)
       sessions_begun =
-          HasSessions-more w memory.held ready.mask old.now.words ready.held number begun_held begun_transaction placed_there vacant.free vacant.shut memory.sessions ready.sessions vacant.fits vacant.unheld
+          HasSessions-more w memory.active ready.mask old.now.words ready.active number begun_active begun_transaction placed_there vacant.free vacant.shut memory.sessions ready.sessions vacant.fits vacant.unheld
           client refl refl
 
-      ready_begun : IsReady size next (with_begun begun_held memory) new
+      ready_begun : IsReady size next (with_begun begun_active memory) new
       ready_begun = record {
         mask = mask_then;
         settled = settled_begun;
@@ -480,7 +480,7 @@ module _ (size : ℕ) (w : World) (memory : Memory) (old : State) (ready : IsRea
         clients = λ whose low. owner_of-same (reads new.now.words) now whose low (λ k from to. kept k (before_logs k (omega arith))) ∙ ready.clients whose low;
         frames = ready.frames;
         shelf = c.shelf ∙ ready.shelf;
-        held = holds_begun;
+        active = holds_begun;
         sessions = sessions_begun;
         rest = rest_begun;
         logs = logs_begun;
@@ -493,7 +493,7 @@ module _ (size : ℕ) (w : World) (memory : Memory) (old : State) (ready : IsRea
         let graph : graph_at_begin w name ≡ may.graph = ap (λ (o : Option Graph). unwrap_or o empty_graph) pool_graph in
         ap₂ (λ (x : Graph) (o : Option Transaction). record w { transactions = with_open name (transactions.begun client x o) w.transactions }) graph vacant.shut
 
-    pub Applies-begun : (fault ≡ None → number < length memory.held) → Applies size w (after w (commands.Begin client name)) (with_begun (begins_as client name slot n number) memory) fault old new
+    pub Applies-begun : (fault ≡ None → number < length memory.active) → Applies size w (after w (commands.Begin client name)) (with_begun (begins_as client name slot n number) memory) fault old new
     Applies-begun placed_there =
         subst (λ (v : World). Applies size w v (with_begun (begins_as client name slot n number) memory) fault old new) (sym begun_world)
         (record {
@@ -508,7 +508,7 @@ module _ (size : ℕ) (w : World) (memory : Memory) (old : State) (ready : IsRea
 -- ---- in the lowest closed log, on as many frames as the daemon holds
 
 pub Applies-begins : (size : ℕ) (w : World) (memory : Memory) (F client : ℕ) (name : List ℕ) (slot number : ℕ) (fault : Option HostFault) (old new : State) → memory.frames ≡ F → slot < POOL_RECORDS → client < CLIENTS
-    → IsLogOf client number → MayBeginIn memory (reads old.now.words) client name slot number → (fault ≡ None → number < length memory.held) → IsReady size w memory old
+    → IsLogOf client number → MayBeginIn memory (reads old.now.words) client name slot number → (fault ≡ None → number < length memory.active) → IsReady size w memory old
     → Persists (only (log_number_at F number) RUNNING_GATE) fault old new
     → ((pool : List (ℕ × Puddle)) (before : Image) → IsPlaced F pool → IsIdle (pool_ground F pool) (log_number_at F number) before old.now.words
     → Runs (pool_ground F (finished_of pool)) (begun (log_number_at F number)) [] before nothing fault old new)

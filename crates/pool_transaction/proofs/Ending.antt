@@ -49,9 +49,9 @@ use Rattle.hybrid_tx.proofs.Open.OpenWorlds.{world_with_many, none_refused_with_
 use Rattle.hybrid_tx.proofs.PoolGrounds.{pool_mine-each}
 use Rattle.hybrid_tx.specs.Objects.Transactions.{RestsAs}
 use Rattle.ready_daemon.proofs.PoolsBeside.{one_slot}
-use Rattle.ready_daemon.proofs.RestBeside.{held_graph}
-use Rattle.ready_daemon.specs.Memory.{Held, Memory, held_under}
-use Rattle.ready_daemon.specs.Held.{pool_held, open_held, IsHeld, IsHeldUnder, HasIdleLogs}
+use Rattle.ready_daemon.proofs.RestBeside.{active_graph}
+use Rattle.ready_daemon.specs.Memory.{ActiveTransaction, Memory, active_under}
+use Rattle.ready_daemon.specs.ActiveTransactions.{open_pool_of, open_transaction_of, IsActive, IsActiveUnder, HasIdleLogs}
 use Rattle.known_pool.specs.Known.{Known, by_puddles}
 use Rattle.known_pool.proofs.KnownKept.{IsKnown-puddles}
 use Rattle.ready_daemon.specs.Judged.{alone_in}
@@ -62,11 +62,11 @@ use Rattle.ready_daemon.proofs.Beside.{Leaves-from, names_none_idle, records_all
 use Rattle.ready_daemon.proofs.Beneath.{ready_gate, gate_kept, idle_kept}
 use Rattle.ready_daemon.proofs.PuddlesLeft.{LeavesPuddles-behind}
 use Rattle.pool_transaction.specs.Lifetime.{with_ended}
-use Rattle.pool_transaction.proofs.HeldRuns.{stands_within}
-use Rattle.ready_daemon.proofs.InTurn.{held_in_turn, held_there_known}
+use Rattle.pool_transaction.proofs.ActiveRuns.{stands_within}
+use Rattle.ready_daemon.proofs.InTurn.{active_in_turn, active_there_known}
 use Rattle.ready_daemon.proofs.JudgedKept.{HasGraphIn}
-use Rattle.ready_daemon.proofs.JudgedOpen.{KnowsPools-ended, KeepsPools-held, graph_held_in, rest_held}
-use Rattle.ready_daemon.proofs.OthersHeld.{one_of_all, others_are, others_mask, holds_others, sessions_others}
+use Rattle.ready_daemon.proofs.JudgedOpen.{KnowsPools-ended, KeepsPools-active, graph_active_in, rest_active}
+use Rattle.ready_daemon.proofs.OthersActive.{one_of_all, others_are, others_mask, holds_others, sessions_others}
 use Rattle.ready_daemon.proofs.TablesBeside.{types_read}
 
 -- ---- one image
@@ -169,27 +169,27 @@ pub record IsOpenElsewhere (number : ℕ) (opens : Opens) (m : ℕ) (r : OpenTra
   pub apart : m ≢ number
   pub was : opens m ≡ Some r
 
-module _ (size : ℕ) (w : World) (memory : Memory) (number : ℕ) (held : Held) (old : State) (ready : IsReady size w memory old) (there : held_under memory.held number ≡ Some held) where
+module _ (size : ℕ) (w : World) (memory : Memory) (number : ℕ) (active : ActiveTransaction) (old : State) (ready : IsReady size w memory old) (there : active_under memory.active number ≡ Some active) where
   abbrev n : ℕ
   n = w.stored.frames
 
   abbrev opens : Opens
-  opens = ready.held.opens
+  opens = ready.active.opens
 
-  abbrev under : IsHeldUnder w opens ready.mask old.now.words number held
-  under = ready.held.each number held there
+  abbrev under : IsActiveUnder w opens ready.mask old.now.words number active
+  under = ready.active.each number active there
 
-  abbrev pub is_held : IsHeld w held ready.mask old.now.words
-  is_held = under.is
+  abbrev pub is_active : IsActive w active ready.mask old.now.words
+  is_active = under.is
 
   abbrev pool : OpenPool
-  pool = pool_held held is_held.puddles is_held.rec is_held.who
+  pool = open_pool_of active is_active.puddles is_active.rec is_active.who
 
   abbrev before : Image
-  before = is_held.before
+  before = is_active.before
 
   abbrev pub own : OpenTransaction
-  own = open_held held is_held.puddles is_held.rec is_held.who before
+  own = open_transaction_of active is_active.puddles is_active.rec is_active.who before
 
   abbrev others : Opens
   others = with_transaction number None opens
@@ -198,31 +198,31 @@ module _ (size : ℕ) (w : World) (memory : Memory) (number : ℕ) (held : Held)
   rest = open_masks n others
 
   abbrev g : Ground
-  g = pool_ground n (finished_of is_held.puddles)
+  g = pool_ground n (finished_of is_active.puddles)
 
   abbrev may : Footprint
-  may = ByTransaction g held.tx.log.gate_at
+  may = ByTransaction g active.tx.log.gate_at
 
-  gate_is : held.tx.log.gate_at ≡ log_number_at n number
-  gate_is = is_held.gate ∙ ap (log_number_at n) under.number_is
+  gate_is : active.tx.log.gate_at ≡ log_number_at n number
+  gate_is = is_active.gate ∙ ap (log_number_at n) under.number_is
 
   pub more : IsOneMore number own others opens
-  more = one_of_all w memory.held ready.mask old ready.held number held there
+  more = one_of_all w memory.active ready.mask old ready.active number active there
 
   rest_are : AreOpenPools n others
-  rest_are = others_are w memory.held ready.mask old ready.held number held there
+  rest_are = others_are w memory.active ready.mask old ready.active number active there
 
   pub rest_masks : MasksAll n others rest
-  rest_masks = others_mask w memory.held ready.mask old ready.held number held there
+  rest_masks = others_mask w memory.active ready.mask old ready.active number active there
 
   records_read : HasRecords opens (reads old.now.words)
-  records_read = records_all w memory.held ready.mask old.now.words ready.held
+  records_read = records_all w memory.active ready.mask old.now.words ready.active
 
   -- the records of all are in each image as they were at the beginning of each
   pub records_there : (i : Image) → Picks old.now.words i → HasRecords opens i
   records_there i picked = record {
     each = λ m r has k of.
-        let opened = ready.held.are.pool m r has in
+        let opened = ready.active.are.pool m r has in
         let place = open_record_place n r.pool k opened.slot opened.known (open_on_device n r.pool r.before opened) of in
         let low = place.low in
         (ready.tables.each k (inr (omega arith)) place.high).each (i k) (picked.each k) ∙ records_read.each m r has k of;
@@ -233,32 +233,32 @@ module _ (size : ℕ) (w : World) (memory : Memory) (number : ℕ) (held : Held)
 
   -- with the words of all masked, each stands for the world
   pub mask_is : ready.mask ≡ open_masks n opens
-  mask_is = masks_same n opens ready.mask (open_masks n opens) ready.held.masks (open_masks_all n opens (reads old.now.words) ready.held.are records_read)
+  mask_is = masks_same n opens ready.mask (open_masks n opens) ready.active.masks (open_masks_all n opens (reads old.now.words) ready.active.are records_read)
 
   pub world_there : (i : Image) → Picks old.now.words i → idle_world_of size (masked_image (open_masks n opens) i) ≡ Some (closed w)
   world_there i picked =
       ap (λ (m : Write). idle_world_of size (masked_image m i)) (sym mask_is) ∙ ready.settled.stands (masked_image ready.mask i) (Picks-masked ready.mask old.now.words i picked)
 
-  below_mine : (k : ℕ) → k < tables_end n → pool_mine n (finished_of is_held.puddles) k ≡ false
-  below_mine k below = mine_behind n (finished_of is_held.puddles) k (omega arith)
+  below_mine : (k : ℕ) → k < tables_end n → pool_mine n (finished_of is_active.puddles) k ≡ false
+  below_mine k below = mine_behind n (finished_of is_active.puddles) k (omega arith)
 
-  below_log : (k : ℕ) → k < tables_end n → is_in_log held.tx.log.gate_at k ≡ false
-  below_log k below = let gate = is_held.gate in outside_log held.tx.log.gate_at k (inl (omega arith))
+  below_log : (k : ℕ) → k < tables_end n → is_in_log active.tx.log.gate_at k ≡ false
+  below_log k below = let gate = is_active.gate in outside_log active.tx.log.gate_at k (inl (omega arith))
 
-  above_log : (k : ℕ) → frames_at n ≤ k → is_in_log held.tx.log.gate_at k ≡ false
-  above_log k above = let gate = is_held.gate in let few = is_held.pool.known in outside_log held.tx.log.gate_at k (inr (omega arith))
+  above_log : (k : ℕ) → frames_at n ≤ k → is_in_log active.tx.log.gate_at k ≡ false
+  above_log k above = let gate = is_active.gate in let few = is_active.pool.known in outside_log active.tx.log.gate_at k (inr (omega arith))
 
   not_below : (k v : ℕ) → k < tables_end n → may k v → ⊥
-  not_below k v below wrote = beside_transaction g held.tx.log.gate_at k v (below_log k below) (below_mine k below) wrote
+  not_below k v below wrote = beside_transaction g active.tx.log.gate_at k v (below_log k below) (below_mine k below) wrote
 
   record_below : (k : ℕ) → is_open_record pool k ≡ true → k < tables_end n
-  record_below k of = (open_record_place n pool k is_held.pool.slot is_held.pool.known (open_on_device n pool before is_held.pool) of).high
+  record_below k of = (open_record_place n pool k is_active.pool.slot is_active.pool.known (open_on_device n pool before is_active.pool) of).high
 
   -- a word behind the tables that is none of its own is masked as it is with the words of the others alone
-  rest_same : (k : ℕ) → is_in_log held.tx.log.gate_at k ≡ false → pool_mine n (finished_of is_held.puddles) k ≡ false → tables_end n ≤ k → ready.mask k ≡ rest k
+  rest_same : (k : ℕ) → is_in_log active.tx.log.gate_at k ≡ false → pool_mine n (finished_of is_active.puddles) k ≡ false → tables_end n ≤ k → ready.mask k ≡ rest k
   rest_same k outside other above =
-      masks_elsewhere number own others opens more n ready.mask rest ready.held.masks rest_masks k
-      (mask_of_others n pool before k (ap (λ (at : ℕ). is_in_log at k) (sym is_held.gate) ∙ outside) other
+      masks_elsewhere number own others opens more n ready.mask rest ready.active.masks rest_masks k
+      (mask_of_others n pool before k (ap (λ (at : ℕ). is_in_log at k) (sym is_active.gate) ∙ outside) other
       (false_from_ne_true (is_open_record pool k) (λ of. let high = record_below k of in absurd (omega arith))))
 
   open_elsewhere : (m : ℕ) (r : OpenTransaction) → others m ≡ Some r → IsOpenElsewhere number opens m r
@@ -269,10 +269,10 @@ module _ (size : ℕ) (w : World) (memory : Memory) (number : ℕ) (held : Held)
   -- ---- an image that is left by its calls
 
   module _ (j : Image) (f : HasOrigin may old.now.words j) where
-    from_same : (k : ℕ) → is_in_log held.tx.log.gate_at k ≡ false → pool_mine n (finished_of is_held.puddles) k ≡ false → j k ≡ f.before k
-    from_same k outside other = elim (f.from.each k) [ inl same ↦ same | inr wrote ↦ absurd (beside_transaction g held.tx.log.gate_at k (j k) outside other wrote) ]
+    from_same : (k : ℕ) → is_in_log active.tx.log.gate_at k ≡ false → pool_mine n (finished_of is_active.puddles) k ≡ false → j k ≡ f.before k
+    from_same k outside other = elim (f.from.each k) [ inl same ↦ same | inr wrote ↦ absurd (beside_transaction g active.tx.log.gate_at k (j k) outside other wrote) ]
 
-    from_number : (k : ℕ) → is_in_log (log_number_at n number) k ≡ false → pool_mine n (finished_of is_held.puddles) k ≡ false → j k ≡ f.before k
+    from_number : (k : ℕ) → is_in_log (log_number_at n number) k ≡ false → pool_mine n (finished_of is_active.puddles) k ≡ false → j k ≡ f.before k
     from_number k outside other = from_same k (ap (λ (at : ℕ). is_in_log at k) gate_is ∙ outside) other
 
     idle_left : is_idle_gate (j DAEMON_LOG) ≡ true
@@ -288,19 +288,19 @@ module _ (size : ℕ) (w : World) (memory : Memory) (number : ℕ) (held : Held)
     others_left = record {
       each = λ m r has.
           let x = open_elsewhere m r has in
-          let a = opened_as w memory.held ready.mask old.now.words ready.held m r x.was in
-          let u = ready.held.each m a.one a.there in
-          subst (λ (t : OpenTransaction). IsLeftOpen n t.pool t.before j) (same_Some (open_held a.one u.is.puddles u.is.rec u.is.who u.is.before) r (sym u.opened ∙ x.was))
-          (left_apart w a.one ready.mask old.now.words u.is may (own_apart w memory.held ready.mask old.now.words ready.held number m held a.one there a.there (λ same. x.apart (sym same))) ready.tables j f
+          let a = opened_as w memory.active ready.mask old.now.words ready.active m r x.was in
+          let u = ready.active.each m a.one a.there in
+          subst (λ (t : OpenTransaction). IsLeftOpen n t.pool t.before j) (same_Some (open_transaction_of a.one u.is.puddles u.is.rec u.is.who u.is.before) r (sym u.opened ∙ x.was))
+          (left_apart w a.one ready.mask old.now.words u.is may (own_apart w memory.active ready.mask old.now.words ready.active number m active a.one there a.there (λ same. x.apart (sym same))) ready.tables j f
           (names_none_idle ready.mask j idle_left));
     }
 
     -- and this one is, as if it had begun with the values to which it settles
-    own_left : (values : Image) → ((k : ℕ) → is_open_record pool k ≡ true → j k ≡ values k) → SettlesTo g held.tx.log.gate_at values j → IsLeftOpen n pool values j
+    own_left : (values : Image) → ((k : ℕ) → is_open_record pool k ≡ true → j k ≡ values k) → SettlesTo g active.tx.log.gate_at values j → IsLeftOpen n pool values j
     own_left values records settles = record {
       unnamed = λ k v is. unnamed_idle j k idle_left;
       records = records;
-      settles = subst (λ (at : ℕ). SettlesTo g at values j) is_held.gate settles;
+      settles = subst (λ (at : ℕ). SettlesTo g at values j) is_active.gate settles;
     }
 
   -- all, with this one as it is
@@ -318,7 +318,7 @@ module _ (size : ℕ) (w : World) (memory : Memory) (number : ℕ) (held : Held)
 
   -- ---- other values of its frames
 
-  module _ (after : Image) (agrees : (k : ℕ) → pool_mine n (finished_of is_held.puddles) k ≡ false → after k ≡ before k) where
+  module _ (after : Image) (agrees : (k : ℕ) → pool_mine n (finished_of is_active.puddles) k ≡ false → after k ≡ before k) where
     abbrev pub later : OpenTransaction
     later = record { pool = pool; before = after }
 
@@ -330,12 +330,12 @@ module _ (size : ℕ) (w : World) (memory : Memory) (number : ℕ) (held : Held)
     later_more = one_put number later opens
 
     later_pool : IsOpenPool n pool after
-    later_pool = IsOpenPool-same n pool before after (λ k low high. agrees k (below_mine k high)) is_held.pool
+    later_pool = IsOpenPool-same n pool before after (λ k low high. agrees k (below_mine k high)) is_active.pool
 
     later_are : AreOpenPools n all_later
     later_are = opens_more number later others all_later later_more n rest_are under.number_is later_pool (λ m r has same.
         let x = open_elsewhere m r has in
-        absurd (x.apart (ready.held.are.slots m number r own x.was under.opened same)))
+        absurd (x.apart (ready.active.are.slots m number r own x.was under.opened same)))
 
     later_records : (i : Image) → Picks old.now.words i → HasRecords all_later i
     later_records i picked =
@@ -347,27 +347,27 @@ module _ (size : ℕ) (w : World) (memory : Memory) (number : ℕ) (held : Held)
     later_masks i picked = open_masks_all n all_later i later_are (later_records i picked)
 
     module _ (ps : List (List ℕ × Pool)) (stands : (i : Image) → Picks old.now.words i → idle_world_of size (masked_image (open_masks n all_later) i) ≡ Some (record w.stored { pools = ps }))
-        (kept : (name : List ℕ) → name ≢ held.name → pool_named name (record w.stored { pools = ps }) ≡ pool_named name w.stored)
-        (left : Graph) (graph : graph_of w.stored.types (stored_in n is_held.puddles after) ≡ Some left) (fault : Option HostFault) (new : State) (e : EndsBy g held.tx.log.gate_at before after fault old new) where
+        (kept : (name : List ℕ) → name ≢ active.name → pool_named name (record w.stored { pools = ps }) ≡ pool_named name w.stored)
+        (left : Graph) (graph : graph_of w.stored.types (stored_in n is_active.puddles after) ≡ Some left) (fault : Option HostFault) (new : State) (e : EndsBy g active.tx.log.gate_at before after fault old new) where
       abbrev s : StoredWorld
       s = record w.stored { pools = ps }
 
       abbrev next : World
-      next = record w { stored = s; transactions = with_open held.name None w.transactions }
+      next = record w { stored = s; transactions = with_open active.name None w.transactions }
 
       -- an image that settles to them stands for the next world
-      stands_after : (j : Image) → HasOrigin may old.now.words j → SettlesTo g held.tx.log.gate_at after j → (world_of size j ≡ Some s) × RefusesNone j
+      stands_after : (j : Image) → HasOrigin may old.now.words j → SettlesTo g active.tx.log.gate_at after j → (world_of size j ≡ Some s) × RefusesNone j
       stands_after j f settles =
           left_stands size s number later others all_later later_more later_are f.before j (idle_there f.before f.picked) (from_number j f) (later_records f.before f.picked) (stands f.before f.picked)
           (left_more number later others all_later later_more n j (others_left j f) (own_left j f after (λ k of. record_left j f k of ∙ sym (agrees k (below_mine k (record_below k of)))) settles))
 
-      image_stands : (j : Image) → SettlesTo g held.tx.log.gate_at before j ⊎ SettlesTo g held.tx.log.gate_at after j → HasOrigin may old.now.words j → StandsBetween size w next j
-      image_stands j (inl settles) f = let both = stands_within size w memory held old number there ready j f settles in (inl both.0, both.1)
+      image_stands : (j : Image) → SettlesTo g active.tx.log.gate_at before j ⊎ SettlesTo g active.tx.log.gate_at after j → HasOrigin may old.now.words j → StandsBetween size w next j
+      image_stands j (inl settles) f = let both = stands_within size w memory active old number there ready j f settles in (inl both.0, both.1)
       image_stands j (inr settles) f = let both = stands_after j f settles in (inr both.0, both.1)
 
       all_moments : Leaves (Silently (StandsBetween size w next)) old new
       all_moments =
-          let P = λ (image : Image). SettlesTo g held.tx.log.gate_at before image ⊎ SettlesTo g held.tx.log.gate_at after image in
+          let P = λ (image : Image). SettlesTo g active.tx.log.gate_at before image ⊎ SettlesTo g active.tx.log.gate_at after image in
           Leaves-weaker (Silently (λ image. P image × HasOrigin may old.now.words image)) (Silently (StandsBetween size w next)) old new
           (λ bytes image m. (m.0, image_stands image m.1.0 m.1.1)) (Leaves-from P may fault old new e.changes e.moments)
 
@@ -383,7 +383,7 @@ module _ (size : ℕ) (w : World) (memory : Memory) (number : ℕ) (held : Held)
         ended_world j picked =
             let f = origin may old.now.words new.now.words j (Changes-now may None old new changed) picked in
             ended_stands size s number later others all_later later_more later_are f.before j (idle_there f.before f.picked) (from_number j f) (later_records f.before f.picked) (stands f.before f.picked)
-            (closed_by_gate j (log_number_at n number) (ap j (sym gate_is) ∙ (e.closed done).each (j held.tx.log.gate_at) (picked.each held.tx.log.gate_at)))
+            (closed_by_gate j (log_number_at n number) (ap j (sym gate_is) ∙ (e.closed done).each (j active.tx.log.gate_at) (picked.each active.tx.log.gate_at)))
             (λ k mine. (e.durable done k mine).each (j k) (picked.each k))
 
         gate_idle : HasIdleGate DAEMON_LOG new.now.words
@@ -396,17 +396,17 @@ module _ (size : ℕ) (w : World) (memory : Memory) (number : ℕ) (held : Held)
         }
 
         frames_single : (k : ℕ) → frames_at n ≤ k → HasOnly (masked rest new.now.words k) (masked rest new.now.words k).newest
-        frames_single k above = elim (cases_Bool (pool_mine n (finished_of is_held.puddles) k)) [
+        frames_single k above = elim (cases_Bool (pool_mine n (finished_of is_active.puddles) k)) [
           | inl mine ↦ HasOnly-own_masked rest new.now.words k (HasOnly-own (new.now.words k) (after k) (e.durable done k mine))
           | inr other ↦
               let outside = above_log k above in
               let was = subst (λ (x : Option ℕ). HasOnly (masked_cell x (old.now.words k)) (masked_cell x (old.now.words k)).newest) (rest_same k outside other (omega arith)) (ready.rest.each k above) in
               HasOnly-own (masked rest new.now.words k) (masked rest old.now.words k).newest
-              (HasOnly-kept may None (masked_state rest old) (masked_state rest new) k (masked rest old.now.words k).newest changed_under (λ v. beside_transaction g held.tx.log.gate_at k v outside other) was)
+              (HasOnly-kept may None (masked_state rest old) (masked_state rest new) k (masked rest old.now.words k).newest changed_under (λ v. beside_transaction g active.tx.log.gate_at k v outside other) was)
         ]
 
         -- its own log is closed, and each other as it was
-        own_idle : (at : ℕ) → held.tx.log.gate_at ≡ at → rest at ≡ None → HasIdleGate at (masked rest new.now.words)
+        own_idle : (at : ℕ) → active.tx.log.gate_at ≡ at → rest at ≡ None → HasIdleGate at (masked rest new.now.words)
         own_idle at here none = record {
           each = λ v had. ap is_idle_gate ((subst (λ (k : ℕ). HasOnly (new.now.words k) CLOSED_GATE) here (e.closed done)).each v (subst (λ (c : Cell). Has (values c) v) (masked-elsewhere rest new.now.words at none) had));
         }
@@ -418,15 +418,15 @@ module _ (size : ℕ) (w : World) (memory : Memory) (number : ℕ) (held : Held)
               let at : log_number_at n (CLIENT_LOGS * client + number_of) ≡ gate = omega arith in
               elim (cases_eq (CLIENT_LOGS * client + number_of) number) [
                 | inl same ↦
-                    let known = is_held.pool.known in
+                    let known = is_active.pool.known in
                     let here : log_number_at n number ≡ gate = ap (log_number_at n) (sym same) ∙ at in
                     own_idle gate (gate_is ∙ here)
                     (masks_beside_log n others rest rest_are rest_masks number gate more.none (omega (arith, known, under.number_is)) (record { low = omega (arith, here); high = omega (arith, here) }))
                 | inr apart ↦
                     let its = gate_is in
-                    let outside : is_in_log held.tx.log.gate_at gate ≡ false = outside_log held.tx.log.gate_at gate (elim (cases_lt gate held.tx.log.gate_at) [ inl low ↦ inl low | inr high ↦ inr (omega arith) ]) in
-                    let other : pool_mine n (finished_of is_held.puddles) gate ≡ false = mine_behind n (finished_of is_held.puddles) gate (omega arith) in
-                    idle_kept gate may None (masked_state rest old) (masked_state rest new) changed_under (λ v wrote. absurd (beside_transaction g held.tx.log.gate_at gate v outside other wrote))
+                    let outside : is_in_log active.tx.log.gate_at gate ≡ false = outside_log active.tx.log.gate_at gate (elim (cases_lt gate active.tx.log.gate_at) [ inl low ↦ inl low | inr high ↦ inr (omega arith) ]) in
+                    let other : pool_mine n (finished_of is_active.puddles) gate ≡ false = mine_behind n (finished_of is_active.puddles) gate (omega arith) in
+                    idle_kept gate may None (masked_state rest old) (masked_state rest new) changed_under (λ v wrote. absurd (beside_transaction g active.tx.log.gate_at gate v outside other wrote))
                     (record {
                       each = λ v had. (ready.logs.each client number_of low few present).each v (subst (λ (x : Option ℕ). Has (values (masked_cell x (old.now.words gate))) v) (sym (rest_same gate outside other (omega arith))) had);
                     })
@@ -434,39 +434,39 @@ module _ (size : ℕ) (w : World) (memory : Memory) (number : ℕ) (held : Held)
         }
 
         -- each word of its pool has the value that is left
-        left_read : (k : ℕ) → pool_mine n is_held.puddles k ≡ true → reads new.now.words k ≡ after k
-        left_read k mine = elim (cases_Bool (pool_mine n (finished_of is_held.puddles) k)) [
+        left_read : (k : ℕ) → pool_mine n is_active.puddles k ≡ true → reads new.now.words k ≡ after k
+        left_read k mine = elim (cases_Bool (pool_mine n (finished_of is_active.puddles) k)) [
           | inl own ↦ HasOnly-newest (new.now.words k) (after k) (e.durable done k own)
           | inr other ↦
-              let m = pool_mine-each n is_held.puddles k mine in
+              let m = pool_mine-each n is_active.puddles k mine in
               let low = m.low in
               let outside = above_log k (omega arith) in
               HasOnly-newest (new.now.words k) (before k)
-              (HasOnly-kept may None old new k (before k) changed (λ v. beside_transaction g held.tx.log.gate_at k v outside other) (is_held.running.rests.each k mine other))
+              (HasOnly-kept may None old new k (before k) changed (λ v. beside_transaction g active.tx.log.gate_at k v outside other) (is_active.running.rests.each k mine other))
               ∙ sym (agrees k other)
         ]
 
         -- the words that rest of another pool do so still
-        others_rest : (m : ℕ) (h : Held) (was : held_under memory.held m ≡ Some h) → m ≢ number → RestsAs n (ready.held.each m h was).is.puddles (ready.held.each m h was).is.before new.now.words
+        others_rest : (m : ℕ) (h : ActiveTransaction) (was : active_under memory.active m ≡ Some h) → m ≢ number → RestsAs n (ready.active.each m h was).is.puddles (ready.active.each m h was).is.before new.now.words
         others_rest m h was apart =
-            let its = ready.held.each m h was in
-            rest_held w held ready.mask old new is_held changed h.slot its.is.puddles its.is.before
-            (λ same. apart (one_slot w memory.held ready.mask old.now.words ready.held m number h held was there (sym same))) (held_graph size w memory old ready m h was) its.is.running.rests
+            let its = ready.active.each m h was in
+            rest_active w active ready.mask old new is_active changed h.slot its.is.puddles its.is.before
+            (λ same. apart (one_slot w memory.active ready.mask old.now.words ready.active m number h active was there (sym same))) (active_graph size w memory old ready m h was) its.is.running.rests
 
         -- its pool has a graph
-        graph_ended : HasGraphIn n held.slot (reads new.now.words) is_held.puddles
+        graph_ended : HasGraphIn n active.slot (reads new.now.words) is_active.puddles
         graph_ended =
-            graph_held_in w held ready.mask old new is_held changed left (types_read size w memory old ready).types (held_in_turn size w memory old ready number held there)
-            (ap (graph_of w.stored.types) (stored_in-mine n is_held.puddles after (reads new.now.words) left_read) ∙ graph)
+            graph_active_in w active ready.mask old new is_active changed left (types_read size w memory old ready).types (active_in_turn size w memory old ready number active there)
+            (ap (graph_of w.stored.types) (stored_in-mine n is_active.puddles after (reads new.now.words) left_read) ∙ graph)
 
         -- and its puddles are known as they were
-        knows_ended : KnowsPools n (alone_in held.slot memory.judged) others (reads new.now.words)
+        knows_ended : KnowsPools n (alone_in active.slot memory.judged) others (reads new.now.words)
         knows_ended =
-            subst (λ (js : List (Option Known)). KnowsPools n js others (reads new.now.words)) (sym (alone_in-known memory.judged held.slot is_held.puddles (held_there_known size w memory old ready number held there)))
-            (KnowsPools-ended n memory.judged number own others opens (by_puddles is_held.puddles) (reads old.now.words) (reads new.now.words) more refl (KeepsPools-held w held ready.mask old new is_held changed) graph_ended
-            (IsKnown-puddles n is_held.puddles (reads new.now.words)) ready.knows)
+            subst (λ (js : List (Option Known)). KnowsPools n js others (reads new.now.words)) (sym (alone_in-known memory.judged active.slot is_active.puddles (active_there_known size w memory old ready number active there)))
+            (KnowsPools-ended n memory.judged number own others opens (by_puddles is_active.puddles) (reads old.now.words) (reads new.now.words) more refl (KeepsPools-active w active ready.mask old new is_active changed) graph_ended
+            (IsKnown-puddles n is_active.puddles (reads new.now.words)) ready.knows)
 
-        ready_ended : IsReady size next (with_ended number held memory) new
+        ready_ended : IsReady size next (with_ended number active memory) new
         ready_ended = record {
           mask = rest;
           settled = settled_ended;
@@ -475,14 +475,14 @@ module _ (size : ℕ) (w : World) (memory : Memory) (number : ℕ) (held : Held)
               owner_of-same (reads new.now.words) (reads old.now.words) client low (λ k from to. reads_kept may old new k changed (λ v. not_below k v (omega arith))) ∙ ready.clients client low;
           frames = ready.frames;
           shelf = e.changes.shelf ∙ ready.shelf;
-          held = holds_others w memory.held ready.mask old ready.held number held there ps kept new changed others_rest;
-          sessions = sessions_others w memory.held ready.mask old ready.held number held there ps kept memory.sessions ready.sessions;
+          active = holds_others w memory.active ready.mask old ready.active number active there ps kept new changed others_rest;
+          sessions = sessions_others w memory.active ready.mask old ready.active number active there ps kept memory.sessions ready.sessions;
           rest = record { each = frames_single };
           logs = logs_ended;
           knows = knows_ended;
         }
 
-      pub Applies-ended : Applies size w next (with_ended number held memory) fault old new
+      pub Applies-ended : Applies size w next (with_ended number active memory) fault old new
       Applies-ended = record {
         moments = all_moments;
         puddles = LeavesPuddles-behind n may fault old new e.changes not_below ready.tables (ready_gate size w memory old ready);

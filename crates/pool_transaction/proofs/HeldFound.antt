@@ -13,7 +13,7 @@ use Rattle.pud_defs.specs.World.{World}
 use Rattle.hybrid_tx.specs.Grounds.{IsPlaced}
 use Rattle.known_pool.specs.Known.{Known, IsKnown, by_puddles}
 use Rattle.ready_daemon.specs.Judged.{puddles_known}
-use Rattle.ready_daemon.specs.Memory.{Held, Memory}
+use Rattle.ready_daemon.specs.Memory.{ActiveTransaction, Memory}
 use Rattle.ready_daemon.specs.Moves.{led_in}
 use Rattle.ready_daemon.specs.Ready.{IsReady}
 use Rattle.ready_daemon.proofs.Applying.{IsReady-anew}
@@ -21,42 +21,42 @@ use Rattle.ready_daemon.proofs.JudgedOpen.{known_within}
 use Rattle.ready_daemon.proofs.Known.{known_kept_there}
 use Rattle.pool_transaction.specs.declared.changing.Found.{Found}
 use Rattle.pool_transaction.specs.declared.changing.Update.{Update}
-use Rattle.pool_transaction.specs.Changing.{IsHeldIn, IsHeldOn, with_known, with_opened, update_line, IsFoundBy, IsFoundWithin, ordinal_written}
+use Rattle.pool_transaction.specs.Changing.{IsActiveIn, IsActiveWith, with_known, with_opened, update_line, IsFoundBy, IsFoundWithin, ordinal_written}
 use Rattle.pool_transaction.specs.Finishing.{end_of, FinishesFor, FinishesUnless, AppliesTo, AppliesFinishing}
-use Rattle.pool_transaction.proofs.HeldAlone.{memory_alone, held_alone, ready_alone, opened_alone}
-use Rattle.pool_transaction.proofs.HeldFinishes.{its_placed}
+use Rattle.pool_transaction.proofs.ActiveAlone.{memory_alone, active_alone, ready_alone, opened_alone}
+use Rattle.pool_transaction.proofs.ActiveFinishes.{its_placed}
 use Rattle.pool_transaction.proofs.Leading.{AppliesTo-behind_reads, finishes_found, finishing_free}
 
 -- what the call owes that makes the update which was found, on the puddles that it is lent
-abbrev pub Updates : (F : ℕ) → (held now : Held) → (at later : List (ℕ × Puddle)) → Update → Found → (size : ℕ) → World → Option HostFault → (old new : State) → Type 0
-Updates F held now at later update found size w fault old new =
-    (memory : Memory) → IsHeldIn F held at memory → IsReady size w memory old → refusal_of w (update_line update held.client held.name) ≡ None → IsFoundBy F at (reads old.now.words) update found
-    → AppliesTo (led_in held.slot (end_of (ordinal_written found))) size w (after w (update_line update held.client held.name)) (with_opened held.log_number held.slot now later memory) fault old new
+abbrev pub Updates : (F : ℕ) → (active now : ActiveTransaction) → (at later : List (ℕ × Puddle)) → Update → Found → (size : ℕ) → World → Option HostFault → (old new : State) → Type 0
+Updates F active now at later update found size w fault old new =
+    (memory : Memory) → IsActiveIn F active at memory → IsReady size w memory old → refusal_of w (update_line update active.client active.name) ≡ None → IsFoundBy F at (reads old.now.words) update found
+    → AppliesTo (led_in active.slot (end_of (ordinal_written found))) size w (after w (update_line update active.client active.name)) (with_opened active.log_number active.slot now later memory) fault old new
 
-module _ (F : ℕ) (held : Held) (known : Known) (memory : Memory) (its : IsHeldOn F held known memory) (size : ℕ) (w : World) (old : State) (ready : IsReady size w memory old) where
+module _ (F : ℕ) (active : ActiveTransaction) (known : Known) (memory : Memory) (its : IsActiveWith F active known memory) (size : ℕ) (w : World) (old : State) (ready : IsReady size w memory old) where
   -- its puddles lie as those of a ground
   pub placed_on : IsPlaced F known.puddles
   placed_on =
-      let alone = held_alone F held known memory its in
-      let then = ready_alone F held known memory its size w old ready in
-      its_placed size w (memory_alone held.slot known.puddles memory) held old held.log_number alone.there then F (sym alone.frames ∙ then.frames) known.puddles alone.known
+      let alone = active_alone F active known memory its in
+      let then = ready_alone F active known memory its size w old ready in
+      its_placed size w (memory_alone active.slot known.puddles memory) active old active.log_number alone.there then F (sym alone.frames ∙ then.frames) known.puddles alone.known
 
   -- what is known behind the calls may be kept, where that is so of the device
-  module _ (goal : Member → Option ℕ) (next : World) (now : Held) (later : List (ℕ × Puddle)) (more : Known) (puddles : more.at ≡ later) (fault : Option HostFault) (from new : State) where
+  module _ (goal : Member → Option ℕ) (next : World) (now : ActiveTransaction) (later : List (ℕ × Puddle)) (more : Known) (puddles : more.at ≡ later) (fault : Option HostFault) (from new : State) where
     abbrev alone : Memory
-    alone = with_opened held.log_number held.slot now later memory
+    alone = with_opened active.log_number active.slot now later memory
 
-    slot_within : held.slot < length memory.judged
-    slot_within = known_within memory.judged held.slot known.puddles (ap puddles_known its.known)
+    slot_within : active.slot < length memory.judged
+    slot_within = known_within memory.judged active.slot known.puddles (ap puddles_known its.known)
 
-    ready_more : IsReady size next alone new → IsKnown F (reads new.now.words) more → IsReady size next (with_known held.log_number held.slot now more memory) new
+    ready_more : IsReady size next alone new → IsKnown F (reads new.now.words) more → IsReady size next (with_known active.log_number active.slot now more memory) new
     ready_more then so =
         let on : F ≡ next.stored.frames = sym its.frames ∙ then.frames in
-        subst (λ (js : List (Option Known)). IsReady size next (record alone { judged = js }) new) (set-set memory.judged held.slot (Some (by_puddles later)) (Some more))
-        (IsReady-anew size next alone new held.slot more then (known_kept_there memory.judged held.slot (by_puddles later) slot_within ∙ ap (λ (ps : List (ℕ × Puddle)). Some ps) (sym puddles))
+        subst (λ (js : List (Option Known)). IsReady size next (record alone { judged = js }) new) (set-set memory.judged active.slot (Some (by_puddles later)) (Some more))
+        (IsReady-anew size next alone new active.slot more then (known_kept_there memory.judged active.slot (by_puddles later) slot_within ∙ ap (λ (ps : List (ℕ × Puddle)). Some ps) (sym puddles))
         (subst (λ (n : ℕ). IsKnown n (reads new.now.words) more) on so))
 
-    AppliesTo-more : (fault ≡ None → IsKnown F (reads new.now.words) more) → AppliesTo goal size w next alone fault from new → AppliesTo goal size w next (with_known held.log_number held.slot now more memory) fault from new
+    AppliesTo-more : (fault ≡ None → IsKnown F (reads new.now.words) more) → AppliesTo goal size w next alone fault from new → AppliesTo goal size w next (with_known active.log_number active.slot now more memory) fault from new
     AppliesTo-more so a = record {
       applies = record {
         moments = a.applies.moments;
@@ -70,22 +70,22 @@ module _ (F : ℕ) (held : Held) (known : Known) (memory : Memory) (its : IsHeld
     }
 
   -- the line is carried out
-  module _ (update : Update) (found : Found) (free : refusal_of w (update_line update held.client held.name) ≡ None) (within : IsFoundWithin known.puddles found) (by : IsFoundBy F known.puddles (reads old.now.words) update found) where
+  module _ (update : Update) (found : Found) (free : refusal_of w (update_line update active.client active.name) ≡ None) (within : IsFoundWithin known.puddles found) (by : IsFoundBy F known.puddles (reads old.now.words) update found) where
     abbrev line : Command
-    line = update_line update held.client held.name
+    line = update_line update active.client active.name
 
     abbrev led : ℕ → ℕ
     led = end_of (ordinal_written found)
 
-    pub Applies-found : (lent later : List (ℕ × Puddle)) (now : Held) (more : Known) (fault : Option HostFault) (mid new : State) → lent ≡ known.puddles → more.at ≡ later → mid ≡ old
-        → Updates F held now lent later update found size w fault mid new → (fault ≡ None → IsKnown F (reads new.now.words) more)
-        → AppliesFinishing held.slot (FinishesUnless (refusal_of w line) (FinishesFor F known.puddles (reads old.now.words) update)) size w (world_by w (Some line)) (with_known held.log_number held.slot now more memory) fault old new
+    pub Applies-found : (lent later : List (ℕ × Puddle)) (now : ActiveTransaction) (more : Known) (fault : Option HostFault) (mid new : State) → lent ≡ known.puddles → more.at ≡ later → mid ≡ old
+        → Updates F active now lent later update found size w fault mid new → (fault ≡ None → IsKnown F (reads new.now.words) more)
+        → AppliesFinishing active.slot (FinishesUnless (refusal_of w line) (FinishesFor F known.puddles (reads old.now.words) update)) size w (world_by w (Some line)) (with_known active.log_number active.slot now more memory) fault old new
     Applies-found lent later now more fault mid new same puddles still updates so =
-        let behind = memory_alone held.slot known.puddles memory in
-        let its_alone = subst (λ (ps : List (ℕ × Puddle)). IsHeldIn F held ps behind) (sym same) (held_alone F held known memory its) in
-        let then = subst (λ (s : State). IsReady size w behind s) (sym still) (ready_alone F held known memory its size w old ready) in
+        let behind = memory_alone active.slot known.puddles memory in
+        let its_alone = subst (λ (ps : List (ℕ × Puddle)). IsActiveIn F active ps behind) (sym same) (active_alone F active known memory its) in
+        let then = subst (λ (s : State). IsReady size w behind s) (sym still) (ready_alone F active known memory its size w old ready) in
         let by_lent = subst (λ (ps : List (ℕ × Puddle)). IsFoundBy F ps (reads mid.now.words) update found) (sym same) (subst (λ (s : State). IsFoundBy F known.puddles (reads s.now.words) update found) (sym still) by) in
-        finishing_free held.slot (FinishesFor F known.puddles (reads old.now.words) update) (refusal_of w line) free led (finishes_found F known.puddles (reads old.now.words) update found within by) size w _ _ _ _ _
-        (AppliesTo-behind_reads held.slot led size w _ line fault old mid new free still
-        (AppliesTo-more (led_in held.slot led) (after w line) now later more puddles fault mid new so
-        (subst (λ (m : Memory). AppliesTo (led_in held.slot led) size w (after w line) m fault mid new) (opened_alone held.log_number held.slot now known.puddles later memory) (updates behind its_alone then free by_lent))))
+        finishing_free active.slot (FinishesFor F known.puddles (reads old.now.words) update) (refusal_of w line) free led (finishes_found F known.puddles (reads old.now.words) update found within by) size w _ _ _ _ _
+        (AppliesTo-behind_reads active.slot led size w _ line fault old mid new free still
+        (AppliesTo-more (led_in active.slot led) (after w line) now later more puddles fault mid new so
+        (subst (λ (m : Memory). AppliesTo (led_in active.slot led) size w (after w line) m fault mid new) (opened_alone active.log_number active.slot now known.puddles later memory) (updates behind its_alone then free by_lent))))

@@ -28,8 +28,8 @@ use Rattle.hybrid_tx.proofs.PoolGrounds.{any_element, element_passes, pool_mine-
 use Rattle.hybrid_tx.proofs.Open.OpenMasks.{mine_behind, open_record_place, mask_of_own, mask_of_mine, mask_of_record, mask_of_others}
 use Rattle.hybrid_tx.proofs.Open.OpenPools.{open_on_device}
 use Rattle.hybrid_tx.proofs.Open.PoolPlaces.{are_puddles_in_turn}
-use Rattle.ready_daemon.specs.Memory.{Held}
-use Rattle.ready_daemon.specs.Held.{pool_held, open_held, IsHeld}
+use Rattle.ready_daemon.specs.Memory.{ActiveTransaction}
+use Rattle.ready_daemon.specs.ActiveTransactions.{open_pool_of, open_transaction_of, IsActive}
 use Rattle.ready_daemon.proofs.Beside.{record_masked}
 use Rattle.ready_daemon.proofs.PoolsBeside.{used_still}
 
@@ -116,7 +116,7 @@ module _ (F : ℕ) (own at : List (ℕ × Puddle)) (later : FinishesMore own at)
 
 -- ---- it is open so
 
-module _ (w : World) (held : Held) (mask : Write) (were words : Words) (is : IsHeld w held mask were) (kept : (k : ℕ) → (mask k ≡ None → ⊥) → reads words k ≡ reads were k)
+module _ (w : World) (active : ActiveTransaction) (mask : Write) (were words : Words) (is : IsActive w active mask were) (kept : (k : ℕ) → (mask k ≡ None → ⊥) → reads words k ≡ reads were k)
     (at : List (ℕ × Puddle)) (later : FinishesMore is.puddles at) where
   abbrev F : ℕ
   F = w.stored.frames
@@ -125,21 +125,21 @@ module _ (w : World) (held : Held) (mask : Write) (were words : Words) (is : IsH
   now = reads words
 
   abbrev p : OpenPool
-  p = pool_held held is.puddles is.rec is.who
+  p = open_pool_of active is.puddles is.rec is.who
 
   abbrev q : OpenPool
-  q = pool_held held at is.rec is.who
+  q = open_pool_of active at is.rec is.who
 
   abbrev before : Image
   before = begun F is.puddles is.before now
 
-  module _ (number : ℕ) (sound : HasSoundTables number (tables_of F now)) (same_pools : (tables_of F now).pools held.slot ≡ (tables_of F (reads were)).pools held.slot)
-      (owners : owner_of now held.client ≡ w.clients held.client) (listed : puddles_in_turn (tables_of F now) held.slot ≡ at) where
-    owner_there : owner_of before (client_of_log held.log_number) ≡ Some is.who
+  module _ (number : ℕ) (sound : HasSoundTables number (tables_of F now)) (same_pools : (tables_of F now).pools active.slot ≡ (tables_of F (reads were)).pools active.slot)
+      (owners : owner_of now active.client ≡ w.clients active.client) (listed : puddles_in_turn (tables_of F now) active.slot ≡ at) where
+    owner_there : owner_of before (client_of_log active.log_number) ≡ Some is.who
     owner_there =
         let whose = is.owner in
         let known = is.pool.known in
-        owner_of-same before now (client_of_log held.log_number) (omega arith) (λ k low high. table_begun F is.puddles is.before now k (omega arith))
+        owner_of-same before now (client_of_log active.log_number) (omega arith) (λ k low high. table_begun F is.puddles is.before now k (omega arith))
         ∙ ap (owner_of now) whose
         ∙ owners
         ∙ is.present
@@ -148,9 +148,9 @@ module _ (w : World) (held : Held) (mask : Write) (were words : Words) (is : IsH
     its_pool = record {
       known = is.pool.known;
       slot = is.pool.slot;
-      used = ap (λ (t : Tables). t.pools held.slot) (tables_begun F is.puddles is.before now) ∙ same_pools ∙ used_still w held mask were is;
-      puddles = subst (λ (t : Tables). ArePuddlesOf t held.slot (finished_of at)) (sym (tables_begun F is.puddles is.before now))
-          (finished_puddles (tables_of F now) held.slot at (subst (λ (ps : List (ℕ × Puddle)). ArePuddlesOf (tables_of F now) held.slot ps) listed (are_puddles_in_turn number (tables_of F now) held.slot sound)));
+      used = ap (λ (t : Tables). t.pools active.slot) (tables_begun F is.puddles is.before now) ∙ same_pools ∙ used_still w active mask were is;
+      puddles = subst (λ (t : Tables). ArePuddlesOf t active.slot (finished_of at)) (sym (tables_begun F is.puddles is.before now))
+          (finished_puddles (tables_of F now) active.slot at (subst (λ (ps : List (ℕ × Puddle)). ArePuddlesOf (tables_of F now) active.slot ps) listed (are_puddles_in_turn number (tables_of F now) active.slot sound)));
       owned = owner_there;
       right = is.pool.right;
     }
@@ -158,29 +158,29 @@ module _ (w : World) (held : Held) (mask : Write) (were words : Words) (is : IsH
     record_there : (k : ℕ) → is_open_record q k ≡ true → k < tables_end F
     record_there k of = (open_record_place F q k is.pool.slot is.pool.known (open_on_device F q before its_pool) of).high
 
-    mask_outside : (k : ℕ) → is_in_log (log_number_at F held.log_number) k ≡ false → before k ≡ now k → open_mask F p is.before k ≡ None → IsMaskedMore (open_mask F p is.before) (open_mask F q before) words k
+    mask_outside : (k : ℕ) → is_in_log (log_number_at F active.log_number) k ≡ false → before k ≡ now k → open_mask F p is.before k ≡ None → IsMaskedMore (open_mask F p is.before) (open_mask F q before) words k
     mask_outside k outside other none = elim (cases_Bool (pool_mine F (finished_of at) k || is_open_record q k)) [
       | inl own ↦ inr (none, mask_of_own F q before k outside own ∙ ap (λ (v : ℕ). Some v) other)
       | inr not ↦ let parts = or_parts (pool_mine F (finished_of at) k) (is_open_record q k) not in inl (mask_of_others F q before k outside parts.0 parts.1 ∙ sym none)
     ]
 
-    mask_in_log : (k : ℕ) → is_in_log (log_number_at F held.log_number) k ≡ true → open_mask F q before k ≡ open_mask F p is.before k
+    mask_in_log : (k : ℕ) → is_in_log (log_number_at F active.log_number) k ≡ true → open_mask F q before k ≡ open_mask F p is.before k
     unfolding open_mask
     mask_in_log k inside = cond-true _ _ _ inside ∙ sym (cond-true _ _ _ inside)
 
     -- a record that it rested on is one still
     record_before : (k : ℕ) → is_open_record p k ≡ true → is_open_record q k ≡ true
     unfolding is_open_record
-    record_before k of = elim (or_cases (is_in_pool_record held.slot k || is_in_space_record (client_of_log held.log_number) k) (list_any (is_in_puddle_record k) (finished_of is.puddles)) of) [
+    record_before k of = elim (or_cases (is_in_pool_record active.slot k || is_in_space_record (client_of_log active.log_number) k) (list_any (is_in_puddle_record k) (finished_of is.puddles)) of) [
       | inl first ↦ or_left _ _ first
       | inr puddle ↦
           let found = any_element (is_in_puddle_record k) (finished_of is.puddles) puddle in
           let to = later.each found.index found.element found.there in
-          or_right (is_in_pool_record held.slot k || is_in_space_record (client_of_log held.log_number) k) _ (element_passes (is_in_puddle_record k) (finished_of at) to.0 found.element to.1 found.passes)
+          or_right (is_in_pool_record active.slot k || is_in_space_record (client_of_log active.log_number) k) _ (element_passes (is_in_puddle_record k) (finished_of at) to.0 found.element to.1 found.passes)
     ]
 
     mask_then : (k : ℕ) → IsMaskedMore (open_mask F p is.before) (open_mask F q before) words k
-    mask_then k = elim (cases_Bool (is_in_log (log_number_at F held.log_number) k)) [
+    mask_then k = elim (cases_Bool (is_in_log (log_number_at F active.log_number) k)) [
       | inl inside ↦ inl (mask_in_log k inside)
       | inr outside ↦ elim (cases_Bool (pool_mine F (finished_of is.puddles) k)) [
         | inl own ↦
@@ -189,14 +189,14 @@ module _ (w : World) (held : Held) (mask : Write) (were words : Words) (is : IsH
           | inl of ↦
               let below = record_there k (record_before k of) in
               inl (mask_of_record F q before k below (record_before k of)
-              ∙ ap (λ (v : ℕ). Some v) (table_begun F is.puddles is.before now k (omega (arith, below)) ∙ kept k (record_masked w held mask were is k of) ∙ is.records k of)
+              ∙ ap (λ (v : ℕ). Some v) (table_begun F is.puddles is.before now k (omega (arith, below)) ∙ kept k (record_masked w active mask were is k of) ∙ is.records k of)
               ∙ sym (mask_of_record F p is.before k below of))
           | inr not ↦ mask_outside k outside (other_begun F is.puddles is.before now k other) (mask_of_others F p is.before k outside other not)
         ]
       ]
     ]
 
-    pub comes_open : OpensAnew F (open_held held is.puddles is.rec is.who is.before) (open_held held at is.rec is.who before) words
+    pub comes_open : OpensAnew F (open_transaction_of active is.puddles is.rec is.who is.before) (open_transaction_of active at is.rec is.who before) words
     comes_open = record {
       pool = its_pool;
       records = λ k of. let below = record_there k of in sym (table_begun F is.puddles is.before now k (omega (arith, below)));

@@ -33,23 +33,23 @@ use Rattle.hybrid_tx.proofs.PoolGrounds.{pool_mine-each}
 use Rattle.known_pool.specs.Known.{Known, with_puddles}
 use Rattle.ready_daemon.specs.Judged.{puddles_known, pool_in, known_in}
 use Rattle.ready_daemon.specs.KnownPools.{KnowsPools}
-use Rattle.ready_daemon.specs.Memory.{Held, Memory, held_under}
-use Rattle.ready_daemon.specs.Held.{pool_held, open_held, IsHeld, KeepsHeld, ByOthers}
+use Rattle.ready_daemon.specs.Memory.{ActiveTransaction, Memory, active_under}
+use Rattle.ready_daemon.specs.ActiveTransactions.{open_pool_of, open_transaction_of, IsActive, KeepsActive, ByOthers}
 use Rattle.ready_daemon.specs.Moves.{Stays, MovesTo, led_in}
 use Rattle.ready_daemon.specs.Ready.{IsReady, AppliesMasked, AppliesBy}
 use Rattle.ready_daemon.proofs.Applying.{Applies-still, Applies-stopped, AppliesBy-then, AppliesBy-weaker, Applies-known}
 use Rattle.ready_daemon.proofs.Goals.{led_stays, Joins-led}
-use Rattle.ready_daemon.proofs.Beside.{held_is, opens_apart_from, moments_beside, durable_frames_still, Applies-beside}
-use Rattle.ready_daemon.proofs.InTurn.{held_there_known, known_in_turn, held_known}
+use Rattle.ready_daemon.proofs.Beside.{active_is, opens_apart_from, moments_beside, durable_frames_still, Applies-beside}
+use Rattle.ready_daemon.proofs.InTurn.{active_there_known, known_in_turn, active_known}
 use Rattle.ready_daemon.proofs.JudgedKept.{HasGraphIn, KeepsPools}
 use Rattle.ready_daemon.proofs.JudgedOpen.{IsShut, known_within, AreJudged-own, KnowsPools-grown}
 use Rattle.ready_daemon.proofs.Known.{pool_kept, known_other}
 use Rattle.ready_daemon.proofs.PoolsBeside.{one_slot, used_still}
-use Rattle.ready_daemon.proofs.RestBeside.{held_graph, rest_beside}
+use Rattle.ready_daemon.proofs.RestBeside.{active_graph, rest_beside}
 use Rattle.ready_daemon.proofs.TablesBeside.{types_read, sound_read}
-use Rattle.pool_transaction.proofs.HeldAnew.{opens_anew, was_one, then_one, wide, holds_anew, settled_anew, rest_anew, logs_anew}
-use Rattle.pool_transaction.proofs.HeldStepped.{before, comes_stepped, held_stepped}
-use Rattle.pool_transaction.proofs.StepsBeside.{IsShutIn, cases_held, known_placed, steps_apply}
+use Rattle.pool_transaction.proofs.ActiveAnew.{opens_anew, was_one, then_one, wide, holds_anew, settled_anew, rest_anew, logs_anew}
+use Rattle.pool_transaction.proofs.ActiveStepped.{before, comes_stepped, active_stepped}
+use Rattle.pool_transaction.proofs.StepsBeside.{IsShutIn, cases_active, known_placed, steps_apply}
 use Rattle.pool_transaction.proofs.OwnMore.{OpensAnew}
 use Rattle.pool_transaction.proofs.Arriving.{pool_used}
 use Rattle.pool_transaction.proofs.StepsMoved.{upto, LeavesPuddles-steps}
@@ -60,8 +60,8 @@ set-known : (judged : List (Option Known)) (slot : ℕ) (known : Known) → pool
 set-known judged slot known is = ap (set judged slot) (sym is) ∙ set-get_or judged slot None
 
 -- what is held is so of the same world
-keeps_world : (w : World) (held : List (Option Held)) → KeepsHeld w w held
-keeps_world w held = record { frames = refl; transactions = refl; present = λ n h there. refl; stored = λ n h there. refl; types = λ id m is. is; graphs = λ st g is. is }
+keeps_world : (w : World) (active : List (Option ActiveTransaction)) → KeepsActive w w active
+keeps_world w active = record { frames = refl; transactions = refl; present = λ n h there. refl; stored = λ n h there. refl; types = λ id m is. is; graphs = λ st g is. is }
 
 -- ---- one batch
 
@@ -111,29 +111,29 @@ module _ (size : ℕ) (w : World) (memory : Memory) (slot : ℕ) (kept : Known) 
 
     -- ---- none is held on the pool
 
-    Applies-shut : IsShutIn memory.held slot → AppliesBy (MovesTo (led_in slot (upto goal))) size w w behind None old new
+    Applies-shut : IsShutIn memory.active slot → AppliesBy (MovesTo (led_in slot (upto goal))) size w w behind None old new
     Applies-shut shut =
         let keeps = KeepsPools-steps size w memory slot at old new ready known goal o m e next c in
-        Applies-beside size w w memory None old new ready (keeps_world w memory.held) done (MovesTo (led_in slot (upto goal)))
+        Applies-beside size w w memory None old new ready (keeps_world w memory.active) done (MovesTo (led_in slot (upto goal)))
         (LeavesPuddles-steps size w memory slot at old new ready known goal o m e next None c) behind refl refl refl
         (λ _. record {
           judged = AreJudged-own F slot memory.judged (with_puddles with_them kept) image now keeps graph_then_is
               (known_then size w memory slot at old new ready known goal o m e next c kept refl (ready.knows.judged.known slot kept is_kept)) ready.knows.judged;
           open_pools = λ number x there.
-              known_other memory.judged slot x.pool.slot (Some (with_puddles with_them kept)) (opens_apart_from w memory.held ready.mask old.now.words ready.held slot shut.each number x there)
+              known_other memory.judged slot x.pool.slot (Some (with_puddles with_them kept)) (opens_apart_from w memory.active ready.mask old.now.words ready.active slot shut.each number x there)
               ∙ ready.knows.open_pools number x there;
         })
         (λ _. rest_beside size w memory old ready (Some slot) new (λ number h there same. shut.each number h there (sym (same_Some slot h.slot same))) keeps (done.beside.single refl))
 
 -- ---- one batch, with a transaction held on the pool
 
-module _ (size : ℕ) (w : World) (memory : Memory) (old new : State) (ready : IsReady size w memory old) (number : ℕ) (held : Held) (there : held_under memory.held number ≡ Some held) (kept : Known)
-    (is_kept : pool_in memory.judged held.slot ≡ Some kept) where
-  abbrev its : IsHeld w held ready.mask old.now.words
-  its = held_is w memory.held ready.mask old.now.words ready.held number held there
+module _ (size : ℕ) (w : World) (memory : Memory) (old new : State) (ready : IsReady size w memory old) (number : ℕ) (active : ActiveTransaction) (there : active_under memory.active number ≡ Some active) (kept : Known)
+    (is_kept : pool_in memory.judged active.slot ≡ Some kept) where
+  abbrev its : IsActive w active ready.mask old.now.words
+  its = active_is w memory.active ready.mask old.now.words ready.active number active there
 
-  abbrev known_its : known_in memory.judged held.slot ≡ Some its.puddles
-  known_its = held_there_known size w memory old ready number held there
+  abbrev known_its : known_in memory.judged active.slot ≡ Some its.puddles
+  known_its = active_there_known size w memory old ready number active there
 
   same_puddles : kept.puddles ≡ its.puddles
   same_puddles = same_Some kept.puddles its.puddles (sym (ap puddles_known is_kept) ∙ known_its)
@@ -147,21 +147,21 @@ module _ (size : ℕ) (w : World) (memory : Memory) (old new : State) (ready : I
 
     applied : AppliesMasked size w w ready.mask None old new
     applied =
-        steps_apply size w memory held.slot its.puddles old ready known_its goal o m e next its.rec its.pool.slot (used_still w held ready.mask old.now.words its) None new c
+        steps_apply size w memory active.slot its.puddles old ready known_its goal o m e next its.rec its.pool.slot (used_still w active ready.mask old.now.words its) None new c
 
-    keeps_others : KeepsPools n (Some held.slot) (reads old.now.words) (reads new.now.words)
-    keeps_others = KeepsPools-steps size w memory held.slot its.puddles old new ready known_its goal o m e next c
+    keeps_others : KeepsPools n (Some active.slot) (reads old.now.words) (reads new.now.words)
+    keeps_others = KeepsPools-steps size w memory active.slot its.puddles old new ready known_its goal o m e next c
 
     -- the words of others that rest do so still
-    rest_others : (i : ℕ) (h : Held) (has : held_under memory.held i ≡ Some h) → i ≢ number → RestsAs n (ready.held.each i h has).is.puddles (ready.held.each i h has).is.before new.now.words
+    rest_others : (i : ℕ) (h : ActiveTransaction) (has : active_under memory.active i ≡ Some h) → i ≢ number → RestsAs n (ready.active.each i h has).is.puddles (ready.active.each i h has).is.before new.now.words
     rest_others i h has apart =
-        let other = held_is w memory.held ready.mask old.now.words ready.held i h has in
+        let other = active_is w memory.active ready.mask old.now.words ready.active i h has in
         record {
           each = λ k mine none.
               let from = (pool_mine-each n other.at k mine).low in
               let was = other.running.rests.each k mine none in
               let same = keeps_others.words h.slot other.at
-              (λ it. apart (one_slot w memory.held ready.mask old.now.words ready.held i number h held has there (sym (same_Some held.slot h.slot it)))) (held_graph size w memory old ready i h has) k mine in
+              (λ it. apart (one_slot w memory.active ready.mask old.now.words ready.active i number h active has there (sym (same_Some active.slot h.slot it)))) (active_graph size w memory old ready i h has) k mine in
               subst (λ (v : ℕ). HasOnly (new.now.words k) v) (same ∙ HasOnly-newest (old.now.words k) (other.before k) was)
               ((applied.beside.single refl).each k (outside_log DAEMON_LOG k (inr (omega arith))) (HasOnly-own (old.now.words k) (other.before k) was));
         }
@@ -169,69 +169,69 @@ module _ (size : ℕ) (w : World) (memory : Memory) (old new : State) (ready : I
     types_were : types_of (reads old.now.words) ≡ w.stored.types
     types_were = (types_read size w memory old ready).types
 
-    owner_then : owner_of (reads new.now.words) held.client ≡ w.clients held.client
-    owner_then = let whose = its.owner in let few = its.pool.known in applied.clients refl held.client (omega (arith, whose, few))
+    owner_then : owner_of (reads new.now.words) active.client ≡ w.clients active.client
+    owner_then = let whose = its.owner in let few = its.pool.known in applied.clients refl active.client (omega (arith, whose, few))
 
     sound_after : HasSoundTables w.stored.next_number (tables_of n (reads new.now.words))
-    sound_after = sound_then size w memory held.slot its.puddles old new ready known_its goal o m e next c
+    sound_after = sound_then size w memory active.slot its.puddles old new ready known_its goal o m e next c
 
-    same_pools : (tables_of n (reads new.now.words)).pools held.slot ≡ (tables_of n (reads old.now.words)).pools held.slot
-    same_pools = ap (λ (t : Tables). t.pools held.slot) (tables_then size w memory held.slot its.puddles old new ready known_its goal o m e next c)
+    same_pools : (tables_of n (reads new.now.words)).pools active.slot ≡ (tables_of n (reads old.now.words)).pools active.slot
+    same_pools = ap (λ (t : Tables). t.pools active.slot) (tables_then size w memory active.slot its.puddles old new ready known_its goal o m e next c)
 
     placed_its : IsPlaced n its.puddles
-    placed_its = known_placed size w memory held.slot its.puddles old ready known_its
+    placed_its = known_placed size w memory active.slot its.puddles old ready known_its
 
-    listed_its : puddles_in_turn (tables_of n (reads new.now.words)) held.slot ≡ stepped_its
-    listed_its = listed_then size w memory held.slot its.puddles old new ready known_its goal o m e next c
+    listed_its : puddles_in_turn (tables_of n (reads new.now.words)) active.slot ≡ stepped_its
+    listed_its = listed_then size w memory active.slot its.puddles old new ready known_its goal o m e next c
 
     abbrev was_before : Image
-    was_before = before w held ready.mask old new its goal o m e next c types_were applied.beside.changes (applied.beside.single refl)
+    was_before = before w active ready.mask old new its goal o m e next c types_were applied.beside.changes (applied.beside.single refl)
 
-    its_opened : OpensAnew n (open_held held its.puddles its.rec its.who its.before) (open_held held stepped_its its.rec its.who was_before) new.now.words
-    its_opened = comes_stepped w held ready.mask old new its goal o m e next c types_were applied.beside.changes (applied.beside.single refl) w.stored.next_number sound_after same_pools owner_then placed_its listed_its
+    its_opened : OpensAnew n (open_transaction_of active its.puddles its.rec its.who its.before) (open_transaction_of active stepped_its its.rec its.who was_before) new.now.words
+    its_opened = comes_stepped w active ready.mask old new its goal o m e next c types_were applied.beside.changes (applied.beside.single refl) w.stored.next_number sound_after same_pools owner_then placed_its listed_its
 
-    abbrev its_anew : (anew : Write) → ((k v : ℕ) → open_mask n (pool_held held stepped_its its.rec its.who) was_before k ≡ Some v → anew k ≡ Some v)
-        → (h : IsHeld w held anew new.now.words) × (open_held held h.at h.rec h.who h.before ≡ open_held held stepped_its its.rec its.who was_before)
+    abbrev its_anew : (anew : Write) → ((k v : ℕ) → open_mask n (open_pool_of active stepped_its its.rec its.who) was_before k ≡ Some v → anew k ≡ Some v)
+        → (h : IsActive w active anew new.now.words) × (open_transaction_of active h.at h.rec h.who h.before ≡ open_transaction_of active stepped_its its.rec its.who was_before)
     its_anew anew masks =
-        (held_stepped w held ready.mask old new its goal o m e next c types_were applied.beside.changes (applied.beside.single refl) w.stored.next_number sound_after same_pools owner_then placed_its listed_its anew masks, refl)
+        (active_stepped w active ready.mask old new its goal o m e next c types_were applied.beside.changes (applied.beside.single refl) w.stored.next_number sound_after same_pools owner_then placed_its listed_its anew masks, refl)
 
     -- no other is open on its pool
-    shut_others : IsShut (with_transaction number None ready.held.opens) held.slot
+    shut_others : IsShut (with_transaction number None ready.active.opens) active.slot
     shut_others i x here same =
-        let it = open_held held its.puddles its.rec its.who its.before in
-        let was = was_one w memory.held ready.mask old new ready.held held number there applied.beside.changes its_opened in
-        let elsewhere : i ≢ number = λ at_it. none-some x (sym was.none ∙ ap (with_transaction number None ready.held.opens) (sym at_it) ∙ here) in
-        elsewhere (ready.held.are.slots i number x it (was.same i elsewhere ∙ here) (ready.held.each number held there).opened same)
+        let it = open_transaction_of active its.puddles its.rec its.who its.before in
+        let was = was_one w memory.active ready.mask old new ready.active active number there applied.beside.changes its_opened in
+        let elsewhere : i ≢ number = λ at_it. none-some x (sym was.none ∙ ap (with_transaction number None ready.active.opens) (sym at_it) ∙ here) in
+        elsewhere (ready.active.are.slots i number x it (was.same i elsewhere ∙ here) (ready.active.each number active there).opened same)
 
-    knows_then : KnowsPools n (set memory.judged held.slot (Some (with_puddles stepped_its kept)))
-        (opens_anew w memory.held ready.mask old new ready.held held number there applied.beside.changes its_opened) (reads new.now.words)
+    knows_then : KnowsPools n (set memory.judged active.slot (Some (with_puddles stepped_its kept)))
+        (opens_anew w memory.active ready.mask old new ready.active active number there applied.beside.changes its_opened) (reads new.now.words)
     knows_then =
-        KnowsPools-grown n memory.judged number (open_held held its.puddles its.rec its.who its.before) (open_held held stepped_its its.rec its.who was_before) (with_transaction number None ready.held.opens) ready.held.opens
-        (opens_anew w memory.held ready.mask old new ready.held held number there applied.beside.changes its_opened) (with_puddles stepped_its kept) (reads old.now.words) (reads new.now.words)
-        (was_one w memory.held ready.mask old new ready.held held number there applied.beside.changes its_opened)
-        (then_one w memory.held ready.mask old new ready.held held number there applied.beside.changes its_opened) refl refl shut_others keeps_others
-        (graph_then size w memory held.slot its.puddles old new ready known_its goal o m e next c) (known_then size w memory held.slot its.puddles old new ready known_its goal o m e next c kept same_puddles (ready.knows.judged.known held.slot kept is_kept)) ready.knows
+        KnowsPools-grown n memory.judged number (open_transaction_of active its.puddles its.rec its.who its.before) (open_transaction_of active stepped_its its.rec its.who was_before) (with_transaction number None ready.active.opens) ready.active.opens
+        (opens_anew w memory.active ready.mask old new ready.active active number there applied.beside.changes its_opened) (with_puddles stepped_its kept) (reads old.now.words) (reads new.now.words)
+        (was_one w memory.active ready.mask old new ready.active active number there applied.beside.changes its_opened)
+        (then_one w memory.active ready.mask old new ready.active active number there applied.beside.changes its_opened) refl refl shut_others keeps_others
+        (graph_then size w memory active.slot its.puddles old new ready known_its goal o m e next c) (known_then size w memory active.slot its.puddles old new ready known_its goal o m e next c kept same_puddles (ready.knows.judged.known active.slot kept is_kept)) ready.knows
 
-    ready_then : IsReady size w (record memory { judged = set memory.judged held.slot (Some (with_puddles stepped_its kept)) }) new
+    ready_then : IsReady size w (record memory { judged = set memory.judged active.slot (Some (with_puddles stepped_its kept)) }) new
     ready_then = record {
-      mask = wide w memory.held ready.mask old new ready.held held number there applied.beside.changes its_opened;
-      settled = settled_anew w memory.held ready.mask old new ready.held held number there applied.beside.changes its_opened size (closed w) (applied.settled refl);
+      mask = wide w memory.active ready.mask old new ready.active active number there applied.beside.changes its_opened;
+      settled = settled_anew w memory.active ready.mask old new ready.active active number there applied.beside.changes its_opened size (closed w) (applied.settled refl);
       tables = applied.tables refl;
       clients = applied.clients refl;
       frames = ready.frames;
       shelf = applied.beside.changes.shelf ∙ ready.shelf;
-      held = holds_anew w memory.held ready.mask old new ready.held held number there applied.beside.changes its_opened its_anew rest_others;
+      active = holds_anew w memory.active ready.mask old new ready.active active number there applied.beside.changes its_opened its_anew rest_others;
       sessions = ready.sessions;
-      rest = rest_anew w memory.held ready.mask old new ready.held held number there applied.beside.changes its_opened
+      rest = rest_anew w memory.active ready.mask old new ready.active active number there applied.beside.changes its_opened
           (durable_frames_still n ready.mask old new (applied.beside.single refl) ready.rest);
-      logs = logs_anew w memory.held ready.mask old new ready.held held number there applied.beside.changes its_opened n w.clients (applied.logs refl);
+      logs = logs_anew w memory.active ready.mask old new ready.active active number there applied.beside.changes its_opened n w.clients (applied.logs refl);
       knows = knows_then;
     }
 
-    pub Applies-held : AppliesBy (MovesTo (led_in held.slot (upto goal))) size w w (record memory { judged = set memory.judged held.slot (Some (with_puddles stepped_its kept)) }) None old new
-    Applies-held = record {
+    pub Applies-active : AppliesBy (MovesTo (led_in active.slot (upto goal))) size w w (record memory { judged = set memory.judged active.slot (Some (with_puddles stepped_its kept)) }) None old new
+    Applies-active = record {
       moments = moments_beside size w w memory None old new ready refl applied;
-      puddles = LeavesPuddles-steps size w memory held.slot its.puddles old new ready known_its goal o m e next None c;
+      puddles = LeavesPuddles-steps size w memory active.slot its.puddles old new ready known_its goal o m e next None c;
       quiet = Changes-said (ByOthers ready.mask) None old new applied.beside.changes;
       ready = λ _. ready_then;
       rests = applied.beside.changes.rests;
@@ -259,18 +259,18 @@ module _ (size : ℕ) (w : World) (slot : ℕ) (low : slot < POOL_RECORDS) (goal
   -- whichever transaction is held on it, or none
   Applies-batch : (memory : Memory) (kept : Known) (o m : ℕ) (e : ℕ × Puddle) (old new : State) (ready : IsReady size w memory old) → pool_in memory.judged slot ≡ Some kept → AreNextSteps kept.puddles goal o m e
       → CommitsSteps w.stored.frames kept.puddles o m e None old new → AppliesBy Led size w w (knowing memory (with_puddles (with_steps o m e kept.puddles) kept)) None old new
-  Applies-batch memory kept o m e old new ready is_kept next c = elim (cases_held size w memory slot kept.puddles old ready (ap puddles_known is_kept)) [
+  Applies-batch memory kept o m e old new ready is_kept next c = elim (cases_active size w memory slot kept.puddles old ready (ap puddles_known is_kept)) [
     | inr shut ↦
         let used = used_of memory kept.puddles o m e old ready (ap puddles_known is_kept) next in
         Applies-shut size w memory slot kept old new ready is_kept goal o m e next used.0 low used.1 c shut
     | inl on ↦
-        let held = on.1 in
-        let is = held_is w memory.held ready.mask old.now.words ready.held on.0.number held.mine held.is in
-        let here : pool_in memory.judged held.mine.slot ≡ Some kept = ap (pool_in memory.judged) held.slot_is ∙ is_kept in
-        let same : kept.puddles ≡ is.puddles = sym (held_known size w memory old ready on.0.number held.mine held.is kept.puddles (ap puddles_known here)) in
+        let active = on.1 in
+        let is = active_is w memory.active ready.mask old.now.words ready.active on.0.number active.active active.is in
+        let here : pool_in memory.judged active.active.slot ≡ Some kept = ap (pool_in memory.judged) active.slot_is ∙ is_kept in
+        let same : kept.puddles ≡ is.puddles = sym (active_known size w memory old ready on.0.number active.active active.is kept.puddles (ap puddles_known here)) in
         subst (λ (ps : List (ℕ × Puddle)). AppliesBy Led size w w (knowing memory (with_puddles (with_steps o m e ps) kept)) None old new) (sym same)
-        (subst (λ (i : ℕ). AppliesBy (MovesTo (led_in i (upto goal))) size w w (record memory { judged = set memory.judged i (Some (with_puddles (with_steps o m e is.puddles) kept)) }) None old new) held.slot_is
-        (Applies-held size w memory old new ready on.0.number held.mine held.is kept here goal o m e
+        (subst (λ (i : ℕ). AppliesBy (MovesTo (led_in i (upto goal))) size w w (record memory { judged = set memory.judged i (Some (with_puddles (with_steps o m e is.puddles) kept)) }) None old new) active.slot_is
+        (Applies-active size w memory old new ready on.0.number active.active active.is kept here goal o m e
         (subst (λ (ps : List (ℕ × Puddle)). AreNextSteps ps goal o m e) same next) (subst (λ (ps : List (ℕ × Puddle)). CommitsSteps w.stored.frames ps o m e None old new) same c)))
   ]
 

@@ -44,21 +44,21 @@ use Rattle.hybrid_tx.proofs.Objects.Opening.{stored_in-mine}
 use Rattle.hybrid_tx.proofs.Open.OpenMasks.{mask_of_mine}
 use Rattle.hybrid_tx.proofs.Open.OpenPools.{placed_by_tables}
 use Rattle.hybrid_tx.proofs.PoolGrounds.{pool_mine-each}
-use Rattle.ready_daemon.specs.Memory.{Held, Memory, held_under}
-use Rattle.ready_daemon.specs.Held.{pool_held, IsHeldOn, IsBeside}
+use Rattle.ready_daemon.specs.Memory.{ActiveTransaction, Memory, active_under}
+use Rattle.ready_daemon.specs.ActiveTransactions.{open_pool_of, IsActiveOn, LeavesMasked}
 use Rattle.ready_daemon.specs.Judged.{known_in}
 use Rattle.ready_daemon.specs.Ready.{IsReady, AppliesMasked}
-use Rattle.ready_daemon.proofs.Beneath.{IsOff-each, IsBeside-commits, logs_kept, ready_gate}
-use Rattle.ready_daemon.proofs.Beside.{held_is, unmasked_front}
-use Rattle.ready_daemon.proofs.InTurn.{known_in_turn, held_known}
+use Rattle.ready_daemon.proofs.Beneath.{IsOff-each, LeavesMasked-commits, logs_kept, ready_gate}
+use Rattle.ready_daemon.proofs.Beside.{active_is, unmasked_front}
+use Rattle.ready_daemon.proofs.InTurn.{known_in_turn, active_known}
 use Rattle.ready_daemon.proofs.JudgedKept.{HasGraphIn, graph_parts}
 use Rattle.ready_daemon.proofs.PoolsBeside.{unmasked_frame, unmasked_moving_record, unmasked_moving_frame}
 use Rattle.ready_daemon.proofs.RestBeside.{rest_unmasked}
 use Rattle.ready_daemon.proofs.TablesBeside.{tables_read, read_beside, under_durable, types_read, sound_read}
 
 -- none is held on the pool in the slot
-pub record IsShutIn (held : List (Option Held)) (slot : ℕ) : Type 0 where
-  pub each : (number : ℕ) (h : Held) → held_under held number ≡ Some h → h.slot ≢ slot
+pub record IsShutIn (active : List (Option ActiveTransaction)) (slot : ℕ) : Type 0 where
+  pub each : (number : ℕ) (h : ActiveTransaction) → active_under active number ≡ Some h → h.slot ≢ slot
 
 -- the goal of these steps alone
 abbrev its_goal : (o m : ℕ) → ℕ → ℕ
@@ -98,17 +98,17 @@ module _ (size : ℕ) (w : World) (memory : Memory) (slot : ℕ) (at : List (ℕ
   member o e there = member_of_pool F slot at image turn o e there
 
   -- whether one is held on it
-  held_or_shut : (session : Option Session) → session_in memory.sessions slot ≡ session → ((s : Session) × IsHeldOn memory.held slot s.log_number) ⊎ IsShutIn memory.held slot
-  held_or_shut None none = inr (record {
+  active_or_shut : (session : Option Session) → session_in memory.sessions slot ≡ session → ((s : Session) × IsActiveOn memory.active slot s.log_number) ⊎ IsShutIn memory.active slot
+  active_or_shut None none = inr (record {
     each = λ number h there same.
-        let is = held_is w memory.held mask old.now.words ready.held number h there in
+        let is = active_is w memory.active mask old.now.words ready.active number h there in
         let session = ready.sessions.each number h is.transaction there is.is in
         none-some (record { client = is.transaction.client; log_number = number; depth = is.transaction.depth }) (sym none ∙ sym (ap (session_in memory.sessions) same) ∙ session);
   })
-  held_or_shut (Some s) some = inl (s, ready.sessions.only slot s some)
+  active_or_shut (Some s) some = inl (s, ready.sessions.only slot s some)
 
-  pub cases_held : ((s : Session) × IsHeldOn memory.held slot s.log_number) ⊎ IsShutIn memory.held slot
-  cases_held = held_or_shut (session_in memory.sessions slot) refl
+  pub cases_active : ((s : Session) × IsActiveOn memory.active slot s.log_number) ⊎ IsShutIn memory.active slot
+  cases_active = active_or_shut (session_in memory.sessions slot) refl
 
   -- ---- its graph, masked
 
@@ -116,7 +116,7 @@ module _ (size : ℕ) (w : World) (memory : Memory) (slot : ℕ) (at : List (ℕ
   types_masked = types_of-same image (reads under) (λ k low high. read_beside size w memory old ready k (omega arith))
 
   -- where none is held on it, each word of its frames is read as it is
-  shut_word : IsShutIn memory.held slot → (k : ℕ) → pool_mine F at k ≡ true → reads under k ≡ image k
+  shut_word : IsShutIn memory.active slot → (k : ℕ) → pool_mine F at k ≡ true → reads under k ≡ image k
   shut_word shut k mine =
       let own = pool_mine-each F at k mine in
       let from = own.low in
@@ -124,7 +124,7 @@ module _ (size : ℕ) (w : World) (memory : Memory) (slot : ℕ) (at : List (ℕ
       let of = member own.ordinal own.puddle own.there in
       let below : own.puddle.0 < F = let low = of.below in omega (arith, low, frames_of_tables F image) in
       let none : mask k ≡ None =
-      unmasked_frame w memory.held mask old.now.words ready.held own.puddle.0 k below
+      unmasked_frame w memory.active mask old.now.words ready.active own.puddle.0 k below
       (λ number h there.
       ap (is_of_pool h.slot) of.used
       ∙ ne_eqb of.member.pool (h.slot + 1) (λ same. shut.each number h there (let pool = of.pool in omega (arith, pool, same))))
@@ -132,13 +132,13 @@ module _ (size : ℕ) (w : World) (memory : Memory) (slot : ℕ) (at : List (ℕ
       ap (λ (c : Cell). c.newest) (masked-elsewhere mask old.now.words k none)
 
   -- where one is, those that are its own have the values of its beginning, and the others that value alone
-  held_word : (number : ℕ) (h : Held) (there : held_under memory.held number ≡ Some h) (k : ℕ) → pool_mine F (held_is w memory.held mask old.now.words ready.held number h there).puddles k ≡ true
-      → reads under k ≡ (held_is w memory.held mask old.now.words ready.held number h there).before k
-  held_word number h there k mine =
-      let is = held_is w memory.held mask old.now.words ready.held number h there in
+  active_word : (number : ℕ) (h : ActiveTransaction) (there : active_under memory.active number ≡ Some h) (k : ℕ) → pool_mine F (active_is w memory.active mask old.now.words ready.active number h there).puddles k ≡ true
+      → reads under k ≡ (active_is w memory.active mask old.now.words ready.active number h there).before k
+  active_word number h there k mine =
+      let is = active_is w memory.active mask old.now.words ready.active number h there in
       elim (cases_Bool (pool_mine F (finished_of is.puddles) k)) [
         | inl own ↦
-            ap (λ (c : Cell). c.newest) (masked-there mask old.now.words k (is.before k) (is.masked k (is.before k) (mask_of_mine F (pool_held h is.puddles is.rec is.who) is.before k is.pool.known own)))
+            ap (λ (c : Cell). c.newest) (masked-there mask old.now.words k (is.before k) (is.masked k (is.before k) (mask_of_mine F (open_pool_of h is.puddles is.rec is.who) is.before k is.pool.known own)))
         | inr other ↦
             ap (λ (c : Cell). c.newest) (masked-elsewhere mask old.now.words k (rest_unmasked size w memory old ready number h there k mine other))
             ∙ HasOnly-newest (old.now.words k) (is.before k) (is.running.rests.each k mine other)
@@ -146,17 +146,17 @@ module _ (size : ℕ) (w : World) (memory : Memory) (slot : ℕ) (at : List (ℕ
 
   -- so it has a graph
   pub graph_masked : (g : Graph) × (graph_of (types_of (reads under)) (stored_in F at (reads under)) ≡ Some g)
-  graph_masked = elim cases_held [
+  graph_masked = elim cases_active [
     | inr shut ↦
         (known_graph.graph, ap (λ (ts : List (ℕ × ℕ)). graph_of ts (stored_in F at (reads under))) types_masked ∙ ap (graph_of (types_of image)) (stored_in-mine F at image (reads under) (shut_word shut)) ∙ known_graph.stored)
     | inl on ↦
-        let held = on.1 in
-        let is = held_is w memory.held mask old.now.words ready.held on.0.number held.mine held.is in
-        let same : is.puddles ≡ at = held_known size w memory old ready on.0.number held.mine held.is at (ap (known_in memory.judged) held.slot_is ∙ known) in (
+        let active = on.1 in
+        let is = active_is w memory.active mask old.now.words ready.active on.0.number active.active active.is in
+        let same : is.puddles ≡ at = active_known size w memory old ready on.0.number active.active active.is at (ap (known_in memory.judged) active.slot_is ∙ known) in (
           is.undone,
           ap (λ (ts : List (ℕ × ℕ)). graph_of ts (stored_in F at (reads under))) (types_masked ∙ (types_read size w memory old ready).types)
               ∙ ap (λ (ps : List (ℕ × Puddle)). graph_of w.stored.types (stored_in F ps (reads under))) (sym same)
-              ∙ ap (graph_of w.stored.types) (stored_in-mine F is.puddles is.before (reads under) (held_word on.0.number held.mine held.is))
+              ∙ ap (graph_of w.stored.types) (stored_in-mine F is.puddles is.before (reads under) (active_word on.0.number active.active active.is))
               ∙ is.running.was,
         )
   ]
@@ -206,28 +206,28 @@ module _ (size : ℕ) (w : World) (memory : Memory) (slot : ℕ) (at : List (ℕ
             | inl inside ↦
                 let from = inside.low in
                 let to = inside.high in
-                unmasked_moving_frame w memory.held mask old.now.words ready.held e.0 k of.member below of.used moving (omega (arith, from, frame)) (omega (arith, to, frame))
-            | inr frontier ↦ unmasked_moving_record w memory.held mask old.now.words ready.held e.0 k of.member below of.used moving (omega (arith, frontier, frame)) (omega (arith, frontier, frame))
+                unmasked_moving_frame w memory.active mask old.now.words ready.active e.0 k of.member below of.used moving (omega (arith, from, frame)) (omega (arith, to, frame))
+            | inr frontier ↦ unmasked_moving_record w memory.active mask old.now.words ready.active e.0 k of.member below of.used moving (omega (arith, frontier, frame)) (omega (arith, frontier, frame))
           ]
     ]
 
     by_rewriting : (k v : ℕ) → ByRewriting F at (its_goal o m) k v → mask k ≡ None
-    by_rewriting k v (inl log) = let high = log.high in unmasked_front w memory.held mask old.now.words ready.held k (omega arith)
+    by_rewriting k v (inl log) = let high = log.high in unmasked_front w memory.active mask old.now.words ready.active k (omega arith)
     by_rewriting k v (inr r) = rewritten_unmasked k r
 
     off : IsOff mask (ByRewriting F at (its_goal o m))
     off = IsOff-each mask (ByRewriting F at (its_goal o m)) by_rewriting
 
     module _ (fault : Option HostFault) (new : State) (c : CommitsSteps F at o m e fault old new) where
-      pub steps_beside : IsBeside mask fault old new
+      pub steps_beside : LeavesMasked mask fault old new
       steps_beside =
-          IsBeside-commits mask c.es fault old new
+          LeavesMasked-commits mask c.es fault old new
           (IsOff-each mask (ByBatch DAEMON_LOG c.es) (λ k v may. by_rewriting k v (by_batch F (its_goal o m) at o m e fault old new k v next_its c may))) c.batched c.commits
 
       -- the batch, masked
       c_masked : CommitsSteps F at o m e fault (masked_state mask old) (masked_state mask new)
       c_masked =
-          steps_masked F (its_goal o m) mask (record { each = λ k from to. unmasked_front w memory.held mask old.now.words ready.held k to }) at off o m e fault old new next_its
+          steps_masked F (its_goal o m) mask (record { each = λ k from to. unmasked_front w memory.active mask old.now.words ready.active k to }) at off o m e fault old new next_its
           (ready_gate size w memory old ready) c
 
       -- a word that no batch of steps writes

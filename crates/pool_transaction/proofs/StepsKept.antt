@@ -86,7 +86,7 @@ module _ (size : ℕ) (w : World) (memory : Memory) (slot : ℕ) (at : List (ℕ
   single i d there left k below =
       let of = member i d there in
       let frame : d.0 < F = let low = of.below in omega (arith, low, frames_of_tables F image) in
-      let none = unmasked_moving_frame w memory.held ready.mask old.now.words ready.held d.0 (frame_at F d.0 + k) of.member frame of.used
+      let none = unmasked_moving_frame w memory.active ready.mask old.now.words ready.active d.0 (frame_at F d.0 + k) of.member frame of.used
       (λ finished. let puddle = of.puddle in absurd (omega (arith, left, finished, ap (λ (x : Puddle). x.frontier) puddle))) (omega arith) (omega arith) in
       subst (λ (x : Cell). HasOnly x x.newest) (masked-elsewhere ready.mask old.now.words (frame_at F d.0 + k) none) (ready.rest.each (frame_at F d.0 + k) (omega arith))
 

@@ -25,10 +25,10 @@ use Rattle.pud_defs.specs.Step.{graph_in, graph_seen, object_of, field_of, misse
 use Rattle.pool_transaction.specs.declared.changing.Update.{Update}
 use Rattle.pool_transaction.specs.declared.changing.Update.TheVariants as changes
 use Rattle.pool_transaction.specs.Changing.{update_line}
-use Rattle.ready_daemon.specs.Memory.{Held}
-use Rattle.ready_daemon.specs.Held.{Holds, IsHeld, IsOwn}
+use Rattle.ready_daemon.specs.Memory.{ActiveTransaction}
+use Rattle.ready_daemon.specs.ActiveTransactions.{AreActive, IsActive, IsOwnTransaction}
 use Rattle.pool_transaction.specs.Refusing.{busy_unless}
-use Rattle.ready_daemon.proofs.Beside.{held_is}
+use Rattle.ready_daemon.proofs.Beside.{active_is}
 
 -- ---- by their parts
 
@@ -161,17 +161,17 @@ own_refusal-open who (Some pool) g client t stored =
     ∙ by_own (eqb t.client client)
 
 -- no line on the pool on which it is held is refused before what it asks is looked at
-own_by : (w : World) (held : Held) (mask : Write) (words : Words) → IsHeld w held mask words → refusal_of w (Commit held.client held.name) ≡ None
-own_by w held mask words is =
-    refusal_of-commit w held.client held.name
-    ∙ ap₂ (λ (acts : Option Owner) (opened : Option Transaction). own_refusal acts (pool_named held.name w.stored) held.client opened) is.present is.is
-    ∙ own_refusal-open is.who (pool_named held.name w.stored) is.undone held.client is.transaction is.stored
-    ∙ ap busy_unless (eq-eqb is.transaction.client held.client is.client)
+own_by : (w : World) (active : ActiveTransaction) (mask : Write) (words : Words) → IsActive w active mask words → refusal_of w (Commit active.client active.name) ≡ None
+own_by w active mask words is =
+    refusal_of-commit w active.client active.name
+    ∙ ap₂ (λ (acts : Option Owner) (opened : Option Transaction). own_refusal acts (pool_named active.name w.stored) active.client opened) is.present is.is
+    ∙ own_refusal-open is.who (pool_named active.name w.stored) is.undone active.client is.transaction is.stored
+    ∙ ap busy_unless (eq-eqb is.transaction.client active.client is.client)
 
-pub own_is_open : (w : World) (held : List (Option Held)) (mask : Write) (words : Words) (client : ℕ) (name : List ℕ) (number : ℕ) → Holds w held mask words → IsOwn client name number held
+pub own_is_open : (w : World) (active : List (Option ActiveTransaction)) (mask : Write) (words : Words) (client : ℕ) (name : List ℕ) (number : ℕ) → AreActive w active mask words → IsOwnTransaction client name number active
     → refusal_of w (Commit client name) ≡ None
-own_is_open w held mask words client name number holds own =
-    ap₂ (λ (c : ℕ) (n : List ℕ). refusal_of w (Commit c n)) (sym own.whose) (sym own.pool) ∙ own_by w own.mine mask words (held_is w held mask words holds number own.mine own.is)
+own_is_open w active mask words client name number holds own =
+    ap₂ (λ (c : ℕ) (n : List ℕ). refusal_of w (Commit c n)) (sym own.whose) (sym own.pool) ∙ own_by w own.active mask words (active_is w active mask words holds number own.active own.is)
 
 -- ---- what a line that is not refused has
 

@@ -47,27 +47,27 @@ use Rattle.pool_transaction.specs.Changing.{StaysOpen}
 use Rattle.hybrid_tx.proofs.FinishedPuddles.{finished_placed, mine_of_finished, finished_last, none_of_finished}
 use Rattle.pm_model.proofs.Words.{HasOnly-newest}
 use Rattle.pud_defs.specs.Geometry.{steps_of}
-use Rattle.ready_daemon.specs.Memory.{Held, held_under}
+use Rattle.ready_daemon.specs.Memory.{ActiveTransaction, active_under}
 use Rattle.pool_transaction.proofs.OwnMore.{OpensAnew, begun, own_begun, other_begun, FinishesMore, mine_later, wider_ground, comes_open}
-use Rattle.pool_transaction.proofs.HeldAnew.{opens_anew, then_one, other_is, are_anew, records_opened, masks_anew, wide as words_anew, settled_anew, rest_anew, logs_anew}
-use Rattle.ready_daemon.specs.Held.{pool_held, open_held, IsHeld, IsHeldUnder, Holds, HasSessions, HasDurableFrames, HasIdleLogs, ByOthers}
-use Rattle.ready_daemon.proofs.Beside.{KeepsOne, others_apart, held_still}
+use Rattle.pool_transaction.proofs.ActiveAnew.{opens_anew, then_one, other_is, are_anew, records_opened, masks_anew, wide as words_anew, settled_anew, rest_anew, logs_anew}
+use Rattle.ready_daemon.specs.ActiveTransactions.{open_pool_of, open_transaction_of, IsActive, IsActiveUnder, AreActive, HasSessions, HasDurableFrames, HasIdleLogs, ByOthers}
+use Rattle.ready_daemon.proofs.Beside.{KeepsOne, others_apart, active_still}
 use Rattle.ready_daemon.proofs.GraphLonger.{graph_longer, places_longer}
-use Rattle.pool_transaction.proofs.HeldChanged.{Holds-later, HasSessions-later}
+use Rattle.pool_transaction.proofs.ActiveChanged.{Holds-later, HasSessions-later}
 use Rattle.ready_daemon.proofs.OpenNames.{WereOpen, WereOpen-same}
 use Rattle.ready_daemon.proofs.PoolsBeside.{puddles_still}
 
 -- ---- what is held
 
 -- The next world has the same of what is held, while its pool has one puddle more.
-pub record GrowsHeld (w next : World) (held : Held) : Type 0 where
+pub record GrowsHeld (w next : World) (active : ActiveTransaction) : Type 0 where
   pub frames : next.stored.frames ≡ w.stored.frames
   pub types : next.stored.types ≡ w.stored.types
   pub transactions : next.transactions ≡ w.transactions
   pub clients : next.clients ≡ w.clients
-  pub stored : graph_in (pool_named held.name next.stored) ≡ graph_in (pool_named held.name w.stored)
+  pub stored : graph_in (pool_named active.name next.stored) ≡ graph_in (pool_named active.name w.stored)
 
-module _ (w : World) (held : Held) (mask : Write) (words : Words) (is : IsHeld w held mask words) (e : ℕ × Puddle) (finished : e.1.frontier ≡ steps_of e.1) where
+module _ (w : World) (active : ActiveTransaction) (mask : Write) (words : Words) (is : IsActive w active mask words) (e : ℕ × Puddle) (finished : e.1.frontier ≡ steps_of e.1) where
   abbrev F : ℕ
   F = w.stored.frames
 
@@ -79,14 +79,14 @@ module _ (w : World) (held : Held) (mask : Write) (words : Words) (is : IsHeld w
   at = is.puddles ++ e ∷ []
 
   abbrev q : OpenPool
-  q = pool_held held at is.rec is.who
+  q = open_pool_of active at is.rec is.who
 
   -- its own words keep the values of its beginning, and the others begin as they are read
   abbrev pub before : Image
   before = begun F is.puddles is.before now
 
   abbrev pub opened_more : OpenTransaction
-  opened_more = open_held held at is.rec is.who before
+  opened_more = open_transaction_of active at is.rec is.who before
 
   -- so does each word of its pool
   pool_word : (k : ℕ) → pool_mine F is.puddles k ≡ true → before k ≡ is.before k
@@ -127,16 +127,16 @@ module _ (w : World) (held : Held) (mask : Write) (words : Words) (is : IsHeld w
       ∙ mine_split (finished_of is.puddles) k
       ∙ or_right (pool_mine F (finished_of is.puddles) k) _ (or_left (is_in_frame F k e) false (in_frame k own other))
 
-  module _ (number : ℕ) (sound : HasSoundTables number (tables_of F now)) (owners : owner_of now held.client ≡ w.clients held.client)
-      (listed : puddles_in_turn (tables_of F now) held.slot ≡ at) where
+  module _ (number : ℕ) (sound : HasSoundTables number (tables_of F now)) (owners : owner_of now active.client ≡ w.clients active.client)
+      (listed : puddles_in_turn (tables_of F now) active.slot ≡ at) where
     placed : IsPlaced F at
-    placed = placed_by_tables number F now held.slot at sound listed
+    placed = placed_by_tables number F now active.slot at sound listed
 
     placed_before : IsPlaced F (finished_of is.puddles)
     placed_before =
         let frames = frames_of_tables F now in
         subst (λ (n : ℕ). IsPlaced n (finished_of is.puddles)) frames
-        (placed_of_puddles number (tables_of F now) sound held.slot (finished_of is.puddles) (puddles_still w held mask words is))
+        (placed_of_puddles number (tables_of F now) sound active.slot (finished_of is.puddles) (puddles_still w active mask words is))
 
     -- no word of its frame was the transaction's own
     apart : (k : ℕ) → k < FRAME_WORDS → pool_mine F is.puddles (frame_at F e.0 + k) ≡ false
@@ -152,8 +152,8 @@ module _ (w : World) (held : Held) (mask : Write) (words : Words) (is : IsHeld w
           absurd (omega (arith, within, same))
     ]
 
-    pub comes_more : OpensAnew F (open_held held is.puddles is.rec is.who is.before) opened_more words
-    comes_more = comes_open w held mask words words is (λ k masked. refl) at later number sound refl owners listed
+    pub comes_more : OpensAnew F (open_transaction_of active is.puddles is.rec is.who is.before) opened_more words
+    comes_more = comes_open w active mask words words is (λ k masked. refl) at later number sound refl owners listed
 
     -- ---- what is open
 
@@ -181,13 +181,13 @@ module _ (w : World) (held : Held) (mask : Write) (words : Words) (is : IsHeld w
         ];
       }
 
-      ground : IsGround (device_words F) held.tx.log.gate_at (pool_ground F (finished_of is.puddles))
+      ground : IsGround (device_words F) active.tx.log.gate_at (pool_ground F (finished_of is.puddles))
       ground =
           let gate = is.gate in
           let known = is.pool.known in
-          is_ground F (device_words F) held.tx.log.gate_at (finished_of is.puddles) placed_before (omega arith) (omega arith)
+          is_ground F (device_words F) active.tx.log.gate_at (finished_of is.puddles) placed_before (omega arith) (omega arith)
 
-      pub running_more : IsOpenOn F at w.stored.types held.tx.log before is.undone is.transaction.now is.transaction.laters words
+      pub running_more : IsOpenOn F at w.stored.types active.tx.log before is.undone is.transaction.now is.transaction.laters words
       running_more =
           let r = is.running in
           let g = pool_ground F (finished_of is.puddles) in
@@ -196,8 +196,8 @@ module _ (w : World) (held : Held) (mask : Write) (words : Words) (is : IsHeld w
             redo = r.redo;
             saving = record {
               es = r.saving.es;
-              running = IsRunning-wider g (pool_ground F (finished_of at)) held.tx.log r.saving.es before words wider fresh_word
-                  (IsRunning-values (device_words F) g held.tx.log r.saving.es is.before before words ground (λ k own. sym (own_begun F is.puddles is.before now k own)) r.saving.running);
+              running = IsRunning-wider g (pool_ground F (finished_of at)) active.tx.log r.saving.es before words wider fresh_word
+                  (IsRunning-values (device_words F) g active.tx.log r.saving.es is.before before words ground (λ k own. sym (own_begun F is.puddles is.before now k own)) r.saving.running);
               asks = r.saving.asks;
             };
             rests = rests_more;
@@ -208,8 +208,8 @@ module _ (w : World) (held : Held) (mask : Write) (words : Words) (is : IsHeld w
           }
 
       -- The next world holds it with that puddle, where its words are masked.
-      abbrev pub held_more : (next : World) → GrowsHeld w next held → (anew : Write) → ((k v : ℕ) → open_mask F q before k ≡ Some v → anew k ≡ Some v) → IsHeld next held anew words
-      held_more next grows anew masks =
+      abbrev pub active_more : (next : World) → GrowsHeld w next active → (anew : Write) → ((k v : ℕ) → open_mask F q before k ≡ Some v → anew k ≡ Some v) → IsActive next active anew words
+      active_more next grows anew masks =
           let back = sym grows.frames in
           record {
             rec = is.rec;
@@ -218,69 +218,69 @@ module _ (w : World) (held : Held) (mask : Write) (words : Words) (is : IsHeld w
             before = before;
             undone = is.undone;
             transaction = is.transaction;
-            is = ap (λ (o : List ℕ → Option Transaction). o held.name) grows.transactions ∙ is.is;
+            is = ap (λ (o : List ℕ → Option Transaction). o active.name) grows.transactions ∙ is.is;
             client = is.client;
             units = is.units;
-            present = ap (λ clients. clients held.client) grows.clients ∙ is.present;
+            present = ap (λ clients. clients active.client) grows.clients ∙ is.present;
             owner = is.owner;
-            gate = is.gate ∙ ap (λ (m : ℕ). log_number_at m held.log_number) back;
+            gate = is.gate ∙ ap (λ (m : ℕ). log_number_at m active.log_number) back;
             name = is.name;
             stored = grows.stored ∙ is.stored;
             pool = subst (λ (m : ℕ). IsOpenPool m q before) back comes_more.pool;
             records = comes_more.records;
-            running = subst (λ (m : ℕ). IsOpenOn m at next.stored.types held.tx.log before is.undone is.transaction.now is.transaction.laters words) back
-                (subst (λ (types : List (ℕ × ℕ)). IsOpenOn F at types held.tx.log before is.undone is.transaction.now is.transaction.laters words) (sym grows.types) running_more);
+            running = subst (λ (m : ℕ). IsOpenOn m at next.stored.types active.tx.log before is.undone is.transaction.now is.transaction.laters words) back
+                (subst (λ (types : List (ℕ × ℕ)). IsOpenOn F at types active.tx.log before is.undone is.transaction.now is.transaction.laters words) (sym grows.types) running_more);
             masked = subst (λ (m : ℕ). (k v : ℕ) → open_mask m q before k ≡ Some v → anew k ≡ Some v) back masks;
           }
 
 -- ---- all that is held
 
-module _ (w : World) (all : List (Option Held)) (mask : Write) (s : State) (holds : Holds w all mask s.now.words) (held : Held) (number : ℕ) (there : held_under all number ≡ Some held) (e : ℕ × Puddle)
-    (next_number : ℕ) (sound : HasSoundTables next_number (tables_of w.stored.frames (reads s.now.words))) (owners : owner_of (reads s.now.words) held.client ≡ w.clients held.client)
-    (listed : puddles_in_turn (tables_of w.stored.frames (reads s.now.words)) held.slot ≡ (holds.each number held there).is.puddles ++ e ∷ []) (rest : HasDurableFrames w.stored.frames (masked mask s.now.words)) (finished : e.1.frontier ≡ steps_of e.1) where
+module _ (w : World) (all : List (Option ActiveTransaction)) (mask : Write) (s : State) (holds : AreActive w all mask s.now.words) (active : ActiveTransaction) (number : ℕ) (there : active_under all number ≡ Some active) (e : ℕ × Puddle)
+    (next_number : ℕ) (sound : HasSoundTables next_number (tables_of w.stored.frames (reads s.now.words))) (owners : owner_of (reads s.now.words) active.client ≡ w.clients active.client)
+    (listed : puddles_in_turn (tables_of w.stored.frames (reads s.now.words)) active.slot ≡ (holds.each number active there).is.puddles ++ e ∷ []) (rest : HasDurableFrames w.stored.frames (masked mask s.now.words)) (finished : e.1.frontier ≡ steps_of e.1) where
   abbrev n : ℕ
   n = w.stored.frames
 
   abbrev image : Image
   image = reads s.now.words
 
-  abbrev under : IsHeldUnder w holds.opens mask s.now.words number held
-  under = holds.each number held there
+  abbrev under : IsActiveUnder w holds.opens mask s.now.words number active
+  under = holds.each number active there
 
   abbrev o : OpenTransaction
-  o = open_held held under.is.puddles under.is.rec under.is.who under.is.before
+  o = open_transaction_of active under.is.puddles under.is.rec under.is.who under.is.before
 
   abbrev more : OpenTransaction
-  more = opened_more w held mask s.now.words under.is e finished
+  more = opened_more w active mask s.now.words under.is e finished
 
   pub still : Changes (ByOthers mask) None s s
   still = Changes-still (ByOthers mask) None s s (λ cut. none-some Cut cut) refl
 
   -- it comes to be open so
   pub anew : OpensAnew n o more s.now.words
-  anew = comes_more w held mask s.now.words under.is e finished next_number sound owners listed
+  anew = comes_more w active mask s.now.words under.is e finished next_number sound owners listed
 
   abbrev opens : Opens
-  opens = opens_anew w all mask s s holds held number there still anew
+  opens = opens_anew w all mask s s holds active number there still anew
 
   -- all their words
   abbrev pub wide : Write
-  wide = words_anew w all mask s s holds held number there still anew
+  wide = words_anew w all mask s s holds active number there still anew
 
   abbrev others : Opens
   others = with_transaction number None holds.opens
 
   pub one_then : IsOneMore number more others opens
-  one_then = then_one w all mask s s holds held number there still anew
+  one_then = then_one w all mask s s holds active number there still anew
 
   pub others_then : (m : ℕ) → m ≢ number → opens m ≡ holds.opens m
-  others_then = other_is w all mask s s holds held number there still anew
+  others_then = other_is w all mask s s holds active number there still anew
 
   pub are_then : AreOpenPools n opens
-  are_then = are_anew w all mask s s holds held number there still anew
+  are_then = are_anew w all mask s s holds active number there still anew
 
   pub masks_then : MasksAll n opens wide
-  masks_then = masks_anew w all mask s s holds held number there still anew
+  masks_then = masks_anew w all mask s s holds active number there still anew
 
   -- ---- the fresh words
 
@@ -298,7 +298,7 @@ module _ (w : World) (all : List (Option Held)) (mask : Write) (s : State) (hold
     | inl same ↦
         let one : o ≡ q = same_Some o q (sym under.opened ∙ ap holds.opens (sym same) ∙ has) in
         subst (λ (t : OpenTransaction). pool_mine n (finished_of t.pool.puddles) k ≡ false) one (none_of_finished n under.is.puddles k other)
-    | inr apart ↦ (opens_apart n opens image are_then (records_opened w all mask s s holds held number there still anew)).each number m more q one_then.here (others_then m apart ∙ has) (λ same. apart (sym same)) k (fresh_own w held mask s.now.words under.is e finished k own other)
+    | inr apart ↦ (opens_apart n opens image are_then (records_opened w all mask s s holds active number there still anew)).each number m more q one_then.here (others_then m apart ∙ has) (λ same. apart (sym same)) k (fresh_own w active mask s.now.words under.is e finished k own other)
   ]
 
   no_log : (k : ℕ) → frames_at n ≤ k → (m : ℕ) (q : OpenTransaction) → holds.opens m ≡ Some q → is_in_log (log_number_at n m) k ≡ false
@@ -316,44 +316,44 @@ module _ (w : World) (all : List (Option Held)) (mask : Write) (s : State) (hold
 
   -- ---- the next world
 
-  module _ (some : 1 ≤ length under.is.puddles) (fresh : IsFreshFrame n e.0 e.1.number (length under.is.puddles) image) (next : World) (grows : GrowsHeld w next held)
-      (keeps : (m : ℕ) (g : Held) → m ≢ number → held_under all m ≡ Some g → KeepsOne w next g) where
-    pub same_pool : StaysOpen held held
+  module _ (some : 1 ≤ length under.is.puddles) (fresh : IsFreshFrame n e.0 e.1.number (length under.is.puddles) image) (next : World) (grows : GrowsHeld w next active)
+      (keeps : (m : ℕ) (g : ActiveTransaction) → m ≢ number → active_under all m ≡ Some g → KeepsOne w next g) where
+    pub same_pool : StaysOpen active active
     same_pool = record { client = refl; name = refl; slot = refl; number = refl; gate = refl }
 
-    abbrev pub it_has_more : IsHeld next held wide s.now.words
+    abbrev pub it_has_more : IsActive next active wide s.now.words
     it_has_more =
-        held_more w held mask s.now.words under.is e finished next_number sound owners listed some fresh one_value next grows wide (λ k v is. masks_then.has number more one_then.here k v is)
+        active_more w active mask s.now.words under.is e finished next_number sound owners listed some fresh one_value next grows wide (λ k v is. masks_then.has number more one_then.here k v is)
 
-    pub other_stays : (m : ℕ) (g : Held) → m ≢ number → held_under all m ≡ Some g → IsHeldUnder next opens wide s.now.words m g
+    pub other_stays : (m : ℕ) (g : ActiveTransaction) → m ≢ number → active_under all m ≡ Some g → IsActiveUnder next opens wide s.now.words m g
     other_stays m g apart has =
         let other = holds.each m g has in
         let opened = others_then m apart ∙ other.opened in
         record {
-          is = held_still w next g mask wide s s other.is (keeps m g apart has) (ByOthers mask) (others_apart w g mask s.now.words other.is) still
-              (λ k v is. masks_then.has m (open_held g other.is.puddles other.is.rec other.is.who other.is.before) opened k v is) other.is.running.rests;
+          is = active_still w next g mask wide s s other.is (keeps m g apart has) (ByOthers mask) (others_apart w g mask s.now.words other.is) still
+              (λ k v is. masks_then.has m (open_transaction_of g other.is.puddles other.is.rec other.is.who other.is.before) opened k v is) other.is.running.rests;
           number_is = other.number_is;
           opened = opened;
         }
 
     -- The next world holds it with that puddle, and the others as they are.
-    abbrev pub holds_more : Holds next (set all number (Some held)) wide s.now.words
+    abbrev pub holds_more : AreActive next (set all number (Some active)) wide s.now.words
     holds_more =
         let back = sym grows.frames in
-        Holds-later all number held held there same_pool w next (subst (λ (t : List ℕ → Option Transaction). WereOpen w.transactions t) (sym grows.transactions) (WereOpen-same w.transactions))
+        Holds-later all number active active there same_pool w next (subst (λ (t : List ℕ → Option Transaction). WereOpen w.transactions t) (sym grows.transactions) (WereOpen-same w.transactions))
         mask wide s.now.words s.now.words holds opens (subst (λ (m : ℕ). AreOpenPools m opens) back are_then) (subst (λ (m : ℕ). MasksAll m opens wide) back masks_then)
         (record { is = it_has_more; number_is = under.number_is; opened = one_then.here }) other_stays (λ m apart free. others_then m apart ∙ free)
 
-    pub sessions_more : (sessions : List (Option Session)) → HasSessions w all sessions → HasSessions next (set all number (Some held)) sessions
+    pub sessions_more : (sessions : List (Option Session)) → HasSessions w all sessions → HasSessions next (set all number (Some active)) sessions
     sessions_more sessions =
-        HasSessions-later all number held held there same_pool w next (subst (λ (t : List ℕ → Option Transaction). WereOpen w.transactions t) (sym grows.transactions) (WereOpen-same w.transactions)) sessions
+        HasSessions-later all number active active there same_pool w next (subst (λ (t : List ℕ → Option Transaction). WereOpen w.transactions t) (sym grows.transactions) (WereOpen-same w.transactions)) sessions
 
   -- What was so with the words masked is so with those of that puddle masked too.
   pub settled_more : (size : ℕ) (next : StoredWorld) → IsSettled size next (masked mask s.now.words) → IsSettled size next (masked wide s.now.words)
-  settled_more = settled_anew w all mask s s holds held number there still anew
+  settled_more = settled_anew w all mask s s holds active number there still anew
 
   pub rest_more : HasDurableFrames n (masked wide s.now.words)
-  rest_more = rest_anew w all mask s s holds held number there still anew rest
+  rest_more = rest_anew w all mask s s holds active number there still anew rest
 
   pub logs_more : (m : ℕ) (clients : ℕ → Option Owner) → HasIdleLogs m clients (masked mask s.now.words) → HasIdleLogs m clients (masked wide s.now.words)
-  logs_more = logs_anew w all mask s s holds held number there still anew
+  logs_more = logs_anew w all mask s s holds active number there still anew

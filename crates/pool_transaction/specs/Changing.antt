@@ -36,29 +36,29 @@ use Rattle.pool_transaction.specs.declared.changing.Found.{Found}
 use Rattle.pool_transaction.specs.declared.changing.Found.TheVariants as founds
 use Rattle.known_pool.specs.Known.{Known, by_puddles}
 use Rattle.ready_daemon.specs.Judged.{pool_in, KnowsAlone}
-use Rattle.ready_daemon.specs.Memory.{Held, Memory, held_under}
+use Rattle.ready_daemon.specs.Memory.{ActiveTransaction, Memory, active_under}
 
 -- ---- where it is held
 
 -- The memory of a device of so many frames holds the transaction under its number, and knows its pool by these puddles alone.
-pub record IsHeldIn (F : ℕ) (held : Held) (at : List (ℕ × Puddle)) (memory : Memory) : Type 0 where
+pub record IsActiveIn (F : ℕ) (active : ActiveTransaction) (at : List (ℕ × Puddle)) (memory : Memory) : Type 0 where
   pub frames : memory.frames ≡ F
-  pub there : held_under memory.held held.log_number ≡ Some held
-  pub known : KnowsAlone memory.judged held.slot at
+  pub there : active_under memory.active active.log_number ≡ Some active
+  pub known : KnowsAlone memory.judged active.slot at
 
 -- The memory holds it so, and this is known of its pool.
-pub record IsHeldOn (F : ℕ) (held : Held) (kept : Known) (memory : Memory) : Type 0 where
+pub record IsActiveWith (F : ℕ) (active : ActiveTransaction) (kept : Known) (memory : Memory) : Type 0 where
   pub frames : memory.frames ≡ F
-  pub there : held_under memory.held held.log_number ≡ Some held
-  pub known : pool_in memory.judged held.slot ≡ Some kept
+  pub there : active_under memory.active active.log_number ≡ Some active
+  pub known : pool_in memory.judged active.slot ≡ Some kept
 
 -- the memory that holds this one under the number, and knows this of the pool in the slot
-abbrev pub with_known : (number slot : ℕ) → Held → Known → Memory → Memory
-with_known number slot held known memory = record memory { held = set memory.held number (Some held); judged = set memory.judged slot (Some known) }
+abbrev pub with_known : (number slot : ℕ) → ActiveTransaction → Known → Memory → Memory
+with_known number slot active known memory = record memory { active = set memory.active number (Some active); judged = set memory.judged slot (Some known) }
 
 -- the memory that holds this one under the number, and knows the pool in the slot by these puddles alone
-abbrev pub with_opened : (number slot : ℕ) → Held → List (ℕ × Puddle) → Memory → Memory
-with_opened number slot held at memory = with_known number slot held (by_puddles at) memory
+abbrev pub with_opened : (number slot : ℕ) → ActiveTransaction → List (ℕ × Puddle) → Memory → Memory
+with_opened number slot active at memory = with_known number slot active (by_puddles at) memory
 
 -- ---- a line of three units
 
@@ -145,7 +145,7 @@ IsFoundWithin at (founds.Object slot) = IsSlotOf at slot
 -- ---- a transaction goes on
 
 -- It is the same client's, on the pool of the same name in the same slot, and has the same log.
-pub record StaysOpen (old new : Held) : Type 0 where
+pub record StaysOpen (old new : ActiveTransaction) : Type 0 where
   pub client : new.client ≡ old.client
   pub name : new.name ≡ old.name
   pub slot : new.slot ≡ old.slot
@@ -168,8 +168,8 @@ abbrev pub GrowsBy : ℕ → (slot : ℕ) → List (ℕ × Puddle) → Image →
 GrowsBy F slot at image a = IsGrowthFor (tables_of F image) (image NEXT_NUMBER_WORD) slot (length at) a
 
 -- by the world, of an object of this type
-abbrev pub refusal_by_world : World → Held → ℕ → Option Refusal
-refusal_by_world w held id = refusal_to_make (map_of id w.stored.types) held.tx.units (next_in (graph_seen (open_on held.name w) (pool_named held.name w.stored)))
+abbrev pub refusal_by_world : World → ActiveTransaction → ℕ → Option Refusal
+refusal_by_world w active id = refusal_to_make (map_of id w.stored.types) active.tx.units (next_in (graph_seen (open_on active.name w) (pool_named active.name w.stored)))
 
 -- the world with a puddle more in the pool of the name
 abbrev pub with_more : List ℕ → World → World

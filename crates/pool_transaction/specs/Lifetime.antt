@@ -6,7 +6,7 @@ use Rattle.log_space.specs.FreeLogs.{first_closed}
 use Rattle.nesting.specs.Sessions.{session_in, entered}
 use Rattle.ready_daemon.specs.Beginning.{MayBegin}
 use Rattle.ready_daemon.specs.Judged.{known_in, alone_in}
-use Rattle.ready_daemon.specs.Memory.{Held, Memory}
+use Rattle.ready_daemon.specs.Memory.{ActiveTransaction, Memory}
 
 -- The client may begin a transaction on the pool of the name, whose record has this slot, and which is known and has no session: in the log of this
 -- number, the lowest of its own that is closed. Memory has a place for its session.
@@ -19,10 +19,10 @@ pub record MayBeginIn (memory : Memory) (image : Image) (client : ℕ) (name : L
   pub fits : slot < length memory.sessions
 
 -- the memory in which this one has begun: it is held under its number, and has its session
-abbrev pub with_begun : Held → Memory → Memory
-with_begun held memory = record memory { held = set memory.held held.log_number (Some held); sessions = entered held.client held.slot held.log_number memory.sessions }
+abbrev pub with_begun : ActiveTransaction → Memory → Memory
+with_begun active memory = record memory { active = set memory.active active.log_number (Some active); sessions = entered active.client active.slot active.log_number memory.sessions }
 
 -- the memory in which this one, which was held under the number, has ended: it is held no more, its session has ended, and of its pool the puddles alone
 -- are known
-abbrev pub with_ended : (number : ℕ) → Held → Memory → Memory
-with_ended number held memory = record memory { held = set memory.held number None; sessions = set memory.sessions held.slot None; judged = alone_in held.slot memory.judged }
+abbrev pub with_ended : (number : ℕ) → ActiveTransaction → Memory → Memory
+with_ended number active memory = record memory { active = set memory.active number None; sessions = set memory.sessions active.slot None; judged = alone_in active.slot memory.judged }

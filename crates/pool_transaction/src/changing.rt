@@ -27,15 +27,15 @@ ghost use Rattle.word_transaction.specs.Running.{ByTransaction};
 ghost use Rattle.hybrid_tx.specs.Grounds.{pool_ground, IsPlaced, IsRewrittenAt};
 ghost use Rattle.hybrid_tx.specs.Objects.Transactions.{IsOpenOn, RunsOn};
 ghost use Rattle.ready_daemon.specs.Memory.{Memory};
-ghost use Rattle.ready_daemon.specs.Held.{IsHeldWithin};
+ghost use Rattle.ready_daemon.specs.ActiveTransactions.{IsActiveWithin};
 ghost use Rattle.registry.specs.Adding.{IsAddedWithin};
 ghost use Rattle.registry.specs.Places.{refusal_in};
-ghost use Rattle.pool_transaction.specs.Changing.{IsHeldIn, IsHeldOn, with_opened, with_known, line_of, update_line, changed_by, IsLegalChange, IsLegalUpdate, ordinal_written, IsFoundWithin, IsFoundBy, MayChange, StaysOpen, refusal_to_make, refusal_by_tables, GrowsBy, refusal_by_world, with_more, with_made, both_finished, MakesBehind};
+ghost use Rattle.pool_transaction.specs.Changing.{IsActiveIn, IsActiveWith, with_opened, with_known, line_of, update_line, changed_by, IsLegalChange, IsLegalUpdate, ordinal_written, IsFoundWithin, IsFoundBy, MayChange, StaysOpen, refusal_to_make, refusal_by_tables, GrowsBy, refusal_by_world, with_more, with_made, both_finished, MakesBehind};
 ghost use Rattle.pool_transaction.specs.Finishing.{end_of, FinishesFor, FinishesLowest, FinishesTaken, Finishes, FinishesUnless, IsLonger, AppliesTo, AppliesFinishing};
 ghost use Rattle.ready_daemon.specs.Moves.{led_in};
 ghost use Rattle.ready_daemon.specs.Ready.{KeepsRest, IsReady, Applies};
 
-use crate::opened::Opened;
+use crate::transaction::PoolTransaction;
 use hybrid_tx::Tx;
 use known_pool::KnownPool;
 use lazy_rewrite::finish;
@@ -194,7 +194,7 @@ fn finish_both<H: Host>(
     finish(h, frames, pool, ordinal)
 }
 
-impl Opened {
+impl PoolTransaction {
     /// Makes the update that was found, where the line that asks for it is not refused. The puddle that it writes is rewritten to its end first.
     ///
     /// The device has so many frames, and three units are left. At most two fences, and four for each batch of steps that are left of the puddle.
@@ -207,16 +207,16 @@ impl Opened {
     ) -> Result<(), HostFault>
         requires few { frames ≤ MAX_FRAMES }
         requires room { device_words frames ≤ (H.counts h.old).size }
-        requires within { IsHeldWithin frames self.old }
+        requires within { IsActiveWithin frames self.old }
         requires known { IsOnDevice frames pool.old }
         requires found { IsFoundWithin pool.old found }
         requires units { (self.old).tx.units + SET_UNITS ≤ LOG_ENTRY_WORDS }
-        ensures applies { H.tells → (update : Update) → (size : ℕ) → size ≡ (H.counts h.old).size → (w : World) → (memory : Memory) → IsHeldIn frames self.old pool.old memory
+        ensures applies { H.tells → (update : Update) → (size : ℕ) → size ≡ (H.counts h.old).size → (w : World) → (memory : Memory) → IsActiveIn frames self.old pool.old memory
             → IsReady size w memory (H.state h.old) → refusal_of w (update_line update (self.old).client (self.old).name) ≡ Option.None
             → IsFoundBy frames pool.old (reads (H.state h.old).now.words) update found
             → AppliesTo (led_in (self.old).slot (end_of (ordinal_written found))) size w (after w (update_line update (self.old).client (self.old).name)) (with_opened (self.old).log_number (self.old).slot self.new pool.new memory) (fault_of result) (H.state h.old) (H.state h.new) }
         ensures pool { IfOk result (λ _. pool.new ≡ finished_at (ordinal_written found) pool.old) }
-        ensures within { IsHeldWithin frames self.new }
+        ensures within { IsActiveWithin frames self.new }
         ensures known { IsOnDevice frames pool.new }
         ensures stays { StaysOpen self.old self.new }
         ensures rest { H.tells → KeepsRest (H.state h.old) (H.state h.new) }
@@ -243,16 +243,16 @@ impl Opened {
     ) -> Result<Reply, HostFault>
         requires few { frames ≤ MAX_FRAMES }
         requires room { device_words frames ≤ (H.counts h.old).size }
-        requires within { IsHeldWithin frames self.old }
+        requires within { IsActiveWithin frames self.old }
         requires known { IsOnDevice frames pool.old.puddles }
         requires legal { IsLegalUpdate update }
-        ensures reply { H.tells → (size : ℕ) → (w : World) → (memory : Memory) → IsHeldOn frames self.old pool.old memory → IsReady size w memory (H.state h.old)
+        ensures reply { H.tells → (size : ℕ) → (w : World) → (memory : Memory) → IsActiveWith frames self.old pool.old memory → IsReady size w memory (H.state h.old)
             → IfOk result (λ reply. of_reply reply ≡ answer_by w (Option.Some (update_line update (self.old).client (self.old).name))) }
-        ensures applies { H.tells → (size : ℕ) → size ≡ (H.counts h.old).size → (w : World) → (memory : Memory) → IsHeldOn frames self.old pool.old memory → IsReady size w memory (H.state h.old)
+        ensures applies { H.tells → (size : ℕ) → size ≡ (H.counts h.old).size → (w : World) → (memory : Memory) → IsActiveWith frames self.old pool.old memory → IsReady size w memory (H.state h.old)
             → AppliesFinishing (self.old).slot (FinishesUnless (refusal_of w (update_line update (self.old).client (self.old).name)) (FinishesFor frames pool.old.puddles (reads (H.state h.old).now.words) update)) size w (world_by w (Option.Some (update_line update (self.old).client (self.old).name))) (with_known (self.old).log_number (self.old).slot self.new pool.new memory)
             (fault_of result) (H.state h.old) (H.state h.new) }
         ensures refused { IfOk result (λ reply. (why : Refusal) → reply ≡ Reply.No why → pool.new ≡ pool.old) }
-        ensures within { IsHeldWithin frames self.new }
+        ensures within { IsActiveWithin frames self.new }
         ensures known { IsOnDevice frames pool.new.puddles }
         ensures stays { StaysOpen self.old self.new }
         ensures rest { H.tells → KeepsRest (H.state h.old) (H.state h.new) }
@@ -278,7 +278,7 @@ impl Opened {
     ) -> Result<Option<Refusal>, HostFault>
         requires few { frames ≤ MAX_FRAMES }
         requires room { device_words frames ≤ (H.counts h.old).size }
-        requires within { IsHeldWithin frames self.now }
+        requires within { IsActiveWithin frames self.now }
         requires known { IsOnDevice frames pool.now }
         ensures refusal { H.tells → (image : Image) → reads (H.state h.old).now.words ≡ image
             → IfOk result (λ refusal. refusal ≡ refusal_to_make (map_of t (types_of image)) (self.now).tx.units (next_serial_of (stored_in frames pool.now image))) }
@@ -300,7 +300,7 @@ impl Opened {
     ) -> Result<Result<Added, Refusal>, HostFault>
         requires few { frames ≤ MAX_FRAMES }
         requires room { device_words frames ≤ (H.counts h.old).size }
-        requires held { IsHeldWithin frames self.now }
+        requires held { IsActiveWithin frames self.now }
         requires known { IsOnDevice frames pool.now }
         ensures refusal { H.tells → (image : Image) → reads (H.state h.old).now.words ≡ image → (self.now).tx.units + NEW_UNITS ≤ LOG_ENTRY_WORDS
             → IfOk result (λ found. refusal_in found ≡ refusal_by_tables frames pool.now image) }
@@ -329,20 +329,20 @@ impl Opened {
     ) -> Result<u64, HostFault>
         requires few { frames ≤ MAX_FRAMES }
         requires room { device_words frames ≤ (H.counts h.old).size }
-        requires within { IsHeldWithin frames self.old }
+        requires within { IsActiveWithin frames self.old }
         requires known { IsOnDevice frames pool.old }
         requires units { (self.old).tx.units + NEW_UNITS ≤ LOG_ENTRY_WORDS }
-        ensures makes { H.tells → (size : ℕ) → (w : World) → (memory : Memory) → IsHeldIn frames self.old pool.old memory → IsReady size w memory (H.state h.old) → refusal_by_world w self.old t ≡ Option.None → grows w (self.old).name ≡ false
+        ensures makes { H.tells → (size : ℕ) → (w : World) → (memory : Memory) → IsActiveIn frames self.old pool.old memory → IsReady size w memory (H.state h.old) → refusal_by_world w self.old t ≡ Option.None → grows w (self.old).name ≡ false
             → AppliesFinishing (self.old).slot (FinishesLowest frames pool.old (reads (H.state h.old).now.words)) size w (with_made (self.old).name t w) (with_opened (self.old).log_number (self.old).slot self.new pool.new memory) (fault_of result) (H.state h.old) (H.state h.new) }
-        ensures serial { H.tells → (size : ℕ) → (w : World) → (memory : Memory) → IsHeldIn frames self.old pool.old memory → IsReady size w memory (H.state h.old) → grows w (self.old).name ≡ false
+        ensures serial { H.tells → (size : ℕ) → (w : World) → (memory : Memory) → IsActiveIn frames self.old pool.old memory → IsReady size w memory (H.state h.old) → grows w (self.old).name ≡ false
             → IfOk result (λ serial. serial ≡ next_in (graph_seen (open_on (self.old).name w) (pool_named (self.old).name w.stored))) }
-        ensures full { H.tells → (size : ℕ) → (w : World) → (memory : Memory) → IsHeldIn frames self.old pool.old memory → IsReady size w memory (H.state h.old) → grows w (self.old).name ≡ true
+        ensures full { H.tells → (size : ℕ) → (w : World) → (memory : Memory) → IsActiveIn frames self.old pool.old memory → IsReady size w memory (H.state h.old) → grows w (self.old).name ≡ true
             → IfOk result (λ serial. serial ≡ 0) × (H.state h.new ≡ H.state h.old) × (self.new ≡ self.old) × (pool.new ≡ pool.old) }
         // In the lowest free slot, whatever the frontiers are.
-        ensures lowest { H.tells → (size : ℕ) → (w : World) → (memory : Memory) → IsHeldIn frames self.old pool.old memory → IsReady size w memory (H.state h.old) → refusal_by_world w self.old t ≡ Option.None
+        ensures lowest { H.tells → (size : ℕ) → (w : World) → (memory : Memory) → IsActiveIn frames self.old pool.old memory → IsReady size w memory (H.state h.old) → refusal_by_world w self.old t ≡ Option.None
             → (slot : Slot) → IsSlotOf pool.old slot → IsLowestFreeSlot (stored_in frames pool.old (reads (H.state h.old).now.words)) (place_of_slot slot)
             → MakesBehind frames pool.old pool.new (self.old).tx.log.gate_at slot t (fault_of result) (H.state h.old) (H.state h.new) }
-        ensures within { IsHeldWithin frames self.new }
+        ensures within { IsActiveWithin frames self.new }
         ensures known { IsOnDevice frames pool.new }
         ensures stays { StaysOpen self.old self.new }
         ensures rest { H.tells → KeepsRest (H.state h.old) (H.state h.new) }
@@ -371,12 +371,12 @@ impl Opened {
     ) -> Result<(), HostFault>
         requires few { frames ≤ MAX_FRAMES }
         requires room { device_words frames ≤ (H.counts h.old).size }
-        requires within { IsHeldWithin frames self.now }
+        requires within { IsActiveWithin frames self.now }
         requires known { IsOnDevice frames pool.old }
         requires puddle { IsAddedWithin frames added }
-        ensures grows { H.tells → (size : ℕ) → size ≡ (H.counts h.old).size → (w : World) → (memory : Memory) → IsHeldIn frames self.now pool.old memory → IsReady size w memory (H.state h.old) → GrowsBy frames (self.now).slot pool.old (reads (H.state h.old).now.words) added
+        ensures grows { H.tells → (size : ℕ) → size ≡ (H.counts h.old).size → (w : World) → (memory : Memory) → IsActiveIn frames self.now pool.old memory → IsReady size w memory (H.state h.old) → GrowsBy frames (self.now).slot pool.old (reads (H.state h.old).now.words) added
             → Applies size w (with_more (self.now).name w) (with_opened (self.now).log_number (self.now).slot self.now pool.new memory) (fault_of result) (H.state h.old) (H.state h.new) }
-        ensures longer { H.tells → (size : ℕ) → size ≡ (H.counts h.old).size → (w : World) → (memory : Memory) → IsHeldIn frames self.now pool.old memory → IsReady size w memory (H.state h.old) → GrowsBy frames (self.now).slot pool.old (reads (H.state h.old).now.words) added
+        ensures longer { H.tells → (size : ℕ) → size ≡ (H.counts h.old).size → (w : World) → (memory : Memory) → IsActiveIn frames self.now pool.old memory → IsReady size w memory (H.state h.old) → GrowsBy frames (self.now).slot pool.old (reads (H.state h.old).now.words) added
             → IfOk result (λ _. IsLonger frames pool.old pool.new (reads (H.state h.old).now.words) (reads (H.state h.new).now.words)) }
         ensures known { IsOnDevice frames pool.new }
         ensures rest { H.tells → KeepsRest (H.state h.old) (H.state h.new) }
@@ -398,14 +398,14 @@ impl Opened {
     ) -> Result<Reply, HostFault>
         requires few { frames ≤ MAX_FRAMES }
         requires room { device_words frames ≤ (H.counts h.old).size }
-        requires within { IsHeldWithin frames self.old }
+        requires within { IsActiveWithin frames self.old }
         requires known { IsOnDevice frames pool.old }
-        ensures reply { H.tells → (size : ℕ) → size ≡ (H.counts h.old).size → (w : World) → (memory : Memory) → IsHeldIn frames self.old pool.old memory → IsReady size w memory (H.state h.old) → refusal_by_world w self.old t ≡ Option.None → grows w (self.old).name ≡ true
+        ensures reply { H.tells → (size : ℕ) → size ≡ (H.counts h.old).size → (w : World) → (memory : Memory) → IsActiveIn frames self.old pool.old memory → IsReady size w memory (H.state h.old) → refusal_by_world w self.old t ≡ Option.None → grows w (self.old).name ≡ true
             → IfOk result (λ reply. of_reply reply ≡ answer_by w (Option.Some (commands.New (self.old).client (self.old).name t))) }
-        ensures applies { H.tells → (size : ℕ) → size ≡ (H.counts h.old).size → (w : World) → (memory : Memory) → IsHeldIn frames self.old pool.old memory → IsReady size w memory (H.state h.old) → refusal_by_world w self.old t ≡ Option.None → grows w (self.old).name ≡ true
+        ensures applies { H.tells → (size : ℕ) → size ≡ (H.counts h.old).size → (w : World) → (memory : Memory) → IsActiveIn frames self.old pool.old memory → IsReady size w memory (H.state h.old) → refusal_by_world w self.old t ≡ Option.None → grows w (self.old).name ≡ true
             → AppliesFinishing (self.old).slot (FinishesUnless (refusal_of w (commands.New (self.old).client (self.old).name t)) (FinishesTaken frames pool.old (reads (H.state h.old).now.words))) size w (world_by w (Option.Some (commands.New (self.old).client (self.old).name t))) (with_opened (self.old).log_number (self.old).slot self.new pool.new memory) (fault_of result)
             (H.state h.old) (H.state h.new) }
-        ensures within { IsHeldWithin frames self.new }
+        ensures within { IsActiveWithin frames self.new }
         ensures known { IsOnDevice frames pool.new }
         ensures stays { StaysOpen self.old self.new }
         ensures rest { H.tells → KeepsRest (H.state h.old) (H.state h.new) }
@@ -434,13 +434,13 @@ impl Opened {
     ) -> Result<Reply, HostFault>
         requires few { frames ≤ MAX_FRAMES }
         requires room { device_words frames ≤ (H.counts h.old).size }
-        requires within { IsHeldWithin frames self.old }
+        requires within { IsActiveWithin frames self.old }
         requires known { IsOnDevice frames pool.old }
-        ensures reply { H.tells → (size : ℕ) → size ≡ (H.counts h.old).size → (w : World) → (memory : Memory) → IsHeldIn frames self.old pool.old memory → IsReady size w memory (H.state h.old) → IfOk result (λ reply. of_reply reply ≡ answer_by w (Option.Some (commands.New (self.old).client (self.old).name t))) }
-        ensures applies { H.tells → (size : ℕ) → size ≡ (H.counts h.old).size → (w : World) → (memory : Memory) → IsHeldIn frames self.old pool.old memory → IsReady size w memory (H.state h.old)
+        ensures reply { H.tells → (size : ℕ) → size ≡ (H.counts h.old).size → (w : World) → (memory : Memory) → IsActiveIn frames self.old pool.old memory → IsReady size w memory (H.state h.old) → IfOk result (λ reply. of_reply reply ≡ answer_by w (Option.Some (commands.New (self.old).client (self.old).name t))) }
+        ensures applies { H.tells → (size : ℕ) → size ≡ (H.counts h.old).size → (w : World) → (memory : Memory) → IsActiveIn frames self.old pool.old memory → IsReady size w memory (H.state h.old)
             → AppliesFinishing (self.old).slot (FinishesUnless (refusal_of w (commands.New (self.old).client (self.old).name t)) (FinishesTaken frames pool.old (reads (H.state h.old).now.words))) size w (world_by w (Option.Some (commands.New (self.old).client (self.old).name t))) (with_opened (self.old).log_number (self.old).slot self.new pool.new memory) (fault_of result)
             (H.state h.old) (H.state h.new) }
-        ensures within { IsHeldWithin frames self.new }
+        ensures within { IsActiveWithin frames self.new }
         ensures known { IsOnDevice frames pool.new }
         ensures stays { StaysOpen self.old self.new }
         ensures rest { H.tells → KeepsRest (H.state h.old) (H.state h.new) }
@@ -472,15 +472,15 @@ impl Opened {
     ) -> Result<Reply, HostFault>
         requires few { frames ≤ MAX_FRAMES }
         requires room { device_words frames ≤ (H.counts h.old).size }
-        requires within { IsHeldWithin frames self.old }
+        requires within { IsActiveWithin frames self.old }
         requires known { IsOnDevice frames pool.old.puddles }
         requires legal { IsLegalChange change }
-        ensures reply { H.tells → (size : ℕ) → size ≡ (H.counts h.old).size → (w : World) → (memory : Memory) → IsHeldOn frames self.old pool.old memory → IsReady size w memory (H.state h.old)
+        ensures reply { H.tells → (size : ℕ) → size ≡ (H.counts h.old).size → (w : World) → (memory : Memory) → IsActiveWith frames self.old pool.old memory → IsReady size w memory (H.state h.old)
             → IfOk result (λ reply. of_reply reply ≡ answer_by w (Option.Some (line_of change (self.old).client (self.old).name))) }
-        ensures applies { H.tells → (size : ℕ) → size ≡ (H.counts h.old).size → (w : World) → (memory : Memory) → IsHeldOn frames self.old pool.old memory → IsReady size w memory (H.state h.old)
+        ensures applies { H.tells → (size : ℕ) → size ≡ (H.counts h.old).size → (w : World) → (memory : Memory) → IsActiveWith frames self.old pool.old memory → IsReady size w memory (H.state h.old)
             → AppliesFinishing (self.old).slot (FinishesUnless (refusal_of w (line_of change (self.old).client (self.old).name)) (Finishes frames pool.old.puddles (reads (H.state h.old).now.words) change)) size w (world_by w (Option.Some (line_of change (self.old).client (self.old).name))) (with_known (self.old).log_number (self.old).slot self.new pool.new memory) (fault_of result)
             (H.state h.old) (H.state h.new) }
-        ensures within { IsHeldWithin frames self.new }
+        ensures within { IsActiveWithin frames self.new }
         ensures known { IsOnDevice frames pool.new.puddles }
         ensures stays { StaysOpen self.old self.new }
         ensures rest { H.tells → KeepsRest (H.state h.old) (H.state h.new) }

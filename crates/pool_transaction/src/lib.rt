@@ -3,8 +3,8 @@
 
 mod changing;
 mod lifetime;
-mod opened;
+mod transaction;
 mod refusals;
 
 pub use changing::{Change, Update};
-pub use opened::{AllOpened, Opened, lose, lose_all, none_opened};
+pub use transaction::{PoolTransactions, PoolTransaction, lose, lose_all, no_transactions};

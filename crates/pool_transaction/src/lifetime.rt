@@ -13,17 +13,17 @@ ghost use Rattle.log_space.specs.FreeLogs.{IsLogOf};
 ghost use Rattle.nesting.specs.Sessions.{depth_in};
 ghost use Rattle.pool_transaction.specs.Lifetime.{MayBeginIn, with_begun, with_ended};
 ghost use Rattle.ready_daemon.specs.Beginning.{begins_as};
-ghost use Rattle.ready_daemon.specs.Held.{IsHeldWithin};
+ghost use Rattle.ready_daemon.specs.ActiveTransactions.{IsActiveWithin};
 ghost use Rattle.ready_daemon.specs.Leaving.{BehindTables, world_without_log};
-ghost use Rattle.ready_daemon.specs.Memory.{Memory, held_under};
+ghost use Rattle.ready_daemon.specs.Memory.{Memory, active_under};
 ghost use Rattle.ready_daemon.specs.Ready.{KeepsRest, IsReady, Applies};
 
-use crate::opened::Opened;
+use crate::transaction::PoolTransaction;
 use hybrid_tx::Tx;
 use pm_model::{Host, HostFault};
 use pud_defs::records::Name;
 
-impl Opened {
+impl PoolTransaction {
     /// Begins a transaction of the client, 0 to 7, on the pool of this name, whose record has this slot, 0 to 31, in its log of this number, 0 to 31
     /// among those of all clients.
     ///
@@ -35,7 +35,7 @@ impl Opened {
         name: Name,
         slot: u32,
         number: u32,
-    ) -> Result<Opened, HostFault>
+    ) -> Result<PoolTransaction, HostFault>
         requires few { frames ≤ MAX_FRAMES }
         requires room { device_words frames ≤ (H.counts h.old).size }
         requires client { client < CLIENTS }
@@ -43,15 +43,15 @@ impl Opened {
         requires number { IsLogOf client number }
         ensures opened { IfOk result (λ opened. opened ≡ begins_as client name slot frames number) }
         ensures applies { H.tells → (size : ℕ) → size ≡ (H.counts h.old).size → (w : World) → (memory : Memory) → memory.frames ≡ frames → IsReady size w memory (H.state h.old)
-            → MayBeginIn memory (reads (H.state h.old).now.words) client name slot number → (fault_of result ≡ Option.None → number < length memory.held)
+            → MayBeginIn memory (reads (H.state h.old).now.words) client name slot number → (fault_of result ≡ Option.None → number < length memory.active)
             → Applies size w (after w (commands.Begin client name)) (with_begun (begins_as client name slot frames number) memory) (fault_of result) (H.state h.old) (H.state h.new) }
-        ensures within { IfOk result (IsHeldWithin frames) }
+        ensures within { IfOk result (IsActiveWithin frames) }
         ensures rest { H.tells → KeepsRest (H.state h.old) (H.state h.new) }
         ensures rests { H.tells → fault_of result ≡ Option.Some HostFault.Cut → IsRested (H.state h.new).now.words }
         ensures cause { H.counts h.new ≡ after_fault (fault_of result) (H.counts h.old) }
     {
         let tx = Tx::begin(h, frames, number)?;
-        Ok(Opened {
+        Ok(PoolTransaction {
             client,
             name,
             slot,
@@ -66,15 +66,15 @@ impl Opened {
     pub fn commit<H: Host>(self, h: &mut H, frames: u32) -> Result<(), HostFault>
         requires few { frames ≤ MAX_FRAMES }
         requires room { device_words frames ≤ (H.counts h.old).size }
-        requires within { IsHeldWithin frames self }
-        ensures applies { H.tells → (size : ℕ) → size ≡ (H.counts h.old).size → (w : World) → (memory : Memory) → (number : ℕ) → memory.frames ≡ frames → held_under memory.held number ≡ Option.Some self
+        requires within { IsActiveWithin frames self }
+        ensures applies { H.tells → (size : ℕ) → size ≡ (H.counts h.old).size → (w : World) → (memory : Memory) → (number : ℕ) → memory.frames ≡ frames → active_under memory.active number ≡ Option.Some self
             → IsReady size w memory (H.state h.old) → depth_in memory.sessions self.slot ≤ 1
             → Applies size w (after w (commands.Commit self.client self.name)) (with_ended number self memory) (fault_of result) (H.state h.old) (H.state h.new) }
         ensures rest { H.tells → KeepsRest (H.state h.old) (H.state h.new) }
         ensures rests { H.tells → fault_of result ≡ Option.Some HostFault.Cut → IsRested (H.state h.new).now.words }
         ensures cause { H.counts h.new ≡ after_fault (fault_of result) (H.counts h.old) }
     {
-        let Opened {
+        let PoolTransaction {
             client: _client,
             name: _name,
             slot: _slot,
@@ -90,19 +90,19 @@ impl Opened {
     pub fn abort<H: Host>(self, h: &mut H, frames: u32) -> Result<(), HostFault>
         requires few { frames ≤ MAX_FRAMES }
         requires room { device_words frames ≤ (H.counts h.old).size }
-        requires within { IsHeldWithin frames self }
-        ensures applies { H.tells → (size : ℕ) → size ≡ (H.counts h.old).size → (w : World) → (memory : Memory) → (number : ℕ) → memory.frames ≡ frames → held_under memory.held number ≡ Option.Some self
+        requires within { IsActiveWithin frames self }
+        ensures applies { H.tells → (size : ℕ) → size ≡ (H.counts h.old).size → (w : World) → (memory : Memory) → (number : ℕ) → memory.frames ≡ frames → active_under memory.active number ≡ Option.Some self
             → IsReady size w memory (H.state h.old)
             → Applies size w (world_without_log (Option.Some self) w) (with_ended number self memory) (fault_of result) (H.state h.old) (H.state h.new) }
         // No word in front of the clients' logs changes.
-        ensures behind { H.tells → (size : ℕ) → size ≡ (H.counts h.old).size → (w : World) → (memory : Memory) → (number : ℕ) → memory.frames ≡ frames → held_under memory.held number ≡ Option.Some self
+        ensures behind { H.tells → (size : ℕ) → size ≡ (H.counts h.old).size → (w : World) → (memory : Memory) → (number : ℕ) → memory.frames ≡ frames → active_under memory.active number ≡ Option.Some self
             → IsReady size w memory (H.state h.old)
             → Changes (BehindTables w.stored.frames) (fault_of result) (H.state h.old) (H.state h.new) }
         ensures rest { H.tells → KeepsRest (H.state h.old) (H.state h.new) }
         ensures rests { H.tells → fault_of result ≡ Option.Some HostFault.Cut → IsRested (H.state h.new).now.words }
         ensures cause { H.counts h.new ≡ after_fault (fault_of result) (H.counts h.old) }
     {
-        let Opened {
+        let PoolTransaction {
             client: _client,
             name: _name,
             slot: _slot,

@@ -11,16 +11,16 @@ ghost use Rattle.pud_defs.specs.Stored.{IsOnDevice};
 ghost use Rattle.pud_defs.specs.World.{World};
 ghost use Rattle.pud_defs.specs.Step.{are_of_two_kinds, refusal_of};
 ghost use Rattle.ready_daemon.specs.Memory.{Memory};
-ghost use Rattle.ready_daemon.specs.Held.{IsHeldWithin};
+ghost use Rattle.ready_daemon.specs.ActiveTransactions.{IsActiveWithin};
 ghost use Rattle.hybrid_tx.specs.Grounds.{IsPlaced};
 ghost use Rattle.known_pool.specs.Known.{IsKnown};
 ghost use Rattle.registry.specs.Places.{refusal_in};
-ghost use Rattle.pool_transaction.specs.Changing.{IsHeldOn, update_line, field_change, IsLegalUpdate, IsFoundWithin, IsFoundBy};
+ghost use Rattle.pool_transaction.specs.Changing.{IsActiveWith, update_line, field_change, IsLegalUpdate, IsFoundWithin, IsFoundBy};
 ghost use Rattle.pool_transaction.specs.Refusing.{room_refusal, field_refusal, refusal_to_free};
 ghost use Rattle.ready_daemon.specs.Ready.{IsReady};
 
 use crate::changing::{Found, Update};
-use crate::opened::Opened;
+use crate::transaction::PoolTransaction;
 use graph_read::{FieldRead, field_at};
 use hybrid_tx::{place_and_word, word_for};
 use known_pool::KnownPool;
@@ -83,7 +83,7 @@ fn refusal_to_free(referenced: bool, asked: bool, units: u32) -> Option<Refusal>
     room_refusal(units)
 }
 
-impl Opened {
+impl PoolTransaction {
     /// The slot of the object of serial `s` and the word of the value, by which its field `f`, 0 to 29, is set, or its value asked for later; or why
     /// it may not be. The device has so many frames. Each object is looked up once.
     ///
@@ -100,10 +100,10 @@ impl Opened {
     ) -> Result<Result<Found, Refusal>, HostFault>
         requires few { frames ≤ MAX_FRAMES }
         requires device { device_words frames ≤ (H.counts h.old).size }
-        requires within { IsHeldWithin frames self.now }
+        requires within { IsActiveWithin frames self.now }
         requires known { IsOnDevice frames pool.now.puddles }
         requires field { f < MAX_FIELDS }
-        ensures refusal { H.tells → (size : ℕ) → (w : World) → (memory : Memory) → IsHeldOn frames self.now pool.now memory → IsReady size w memory (H.state h.old)
+        ensures refusal { H.tells → (size : ℕ) → (w : World) → (memory : Memory) → IsActiveWith frames self.now pool.now memory → IsReady size w memory (H.state h.old)
             → IfOk result (λ found. refusal_in found ≡ refusal_of w (commands.Set (self.now).client (self.now).name s f x)) }
         ensures found { H.tells → (image : Image) → reads (H.state h.old).now.words ≡ image → IsKnown frames image pool.now → IsPlaced frames pool.now.puddles
             → IfOk result (λ found. IfOk found (IsFoundBy frames pool.now.puddles image (field_change later s f x))) }
@@ -135,9 +135,9 @@ impl Opened {
     ) -> Result<Result<Found, Refusal>, HostFault>
         requires few { frames ≤ MAX_FRAMES }
         requires device { device_words frames ≤ (H.counts h.old).size }
-        requires within { IsHeldWithin frames self.now }
+        requires within { IsActiveWithin frames self.now }
         requires known { IsOnDevice frames pool.now.puddles }
-        ensures refusal { H.tells → (size : ℕ) → (w : World) → (memory : Memory) → IsHeldOn frames self.now pool.now memory → IsReady size w memory (H.state h.old)
+        ensures refusal { H.tells → (size : ℕ) → (w : World) → (memory : Memory) → IsActiveWith frames self.now pool.now memory → IsReady size w memory (H.state h.old)
             → IfOk result (λ found. refusal_in found ≡ refusal_of w (commands.Root (self.now).client (self.now).name s)) }
         ensures found { H.tells → (image : Image) → reads (H.state h.old).now.words ≡ image → IsKnown frames image pool.now → IsPlaced frames pool.now.puddles
             → IfOk result (λ found. IfOk found (IsFoundBy frames pool.now.puddles image (Update.Root s))) }
@@ -167,10 +167,10 @@ impl Opened {
     ) -> Result<Result<Found, Refusal>, HostFault>
         requires few { frames ≤ MAX_FRAMES }
         requires device { device_words frames ≤ (H.counts h.old).size }
-        requires within { IsHeldWithin frames self.now }
+        requires within { IsActiveWithin frames self.now }
         requires known { IsOnDevice frames pool.now.puddles }
         requires serial { 1 ≤ s }
-        ensures refusal { H.tells → (size : ℕ) → (w : World) → (memory : Memory) → IsHeldOn frames self.now pool.now memory → IsReady size w memory (H.state h.old)
+        ensures refusal { H.tells → (size : ℕ) → (w : World) → (memory : Memory) → IsActiveWith frames self.now pool.now memory → IsReady size w memory (H.state h.old)
             → IfOk result (λ found. refusal_in found ≡ refusal_of w (commands.Free (self.now).client (self.now).name s)) }
         ensures found { H.tells → (image : Image) → reads (H.state h.old).now.words ≡ image → IsKnown frames image pool.now → IsPlaced frames pool.now.puddles
             → IfOk result (λ found. IfOk found (IsFoundBy frames pool.now.puddles image (Update.Free s))) }
@@ -201,10 +201,10 @@ impl Opened {
     ) -> Result<Result<Found, Refusal>, HostFault>
         requires few { frames ≤ MAX_FRAMES }
         requires device { device_words frames ≤ (H.counts h.old).size }
-        requires within { IsHeldWithin frames self.now }
+        requires within { IsActiveWithin frames self.now }
         requires known { IsOnDevice frames pool.now.puddles }
         requires legal { IsLegalUpdate update }
-        ensures refusal { H.tells → (size : ℕ) → (w : World) → (memory : Memory) → IsHeldOn frames self.now pool.now memory → IsReady size w memory (H.state h.old)
+        ensures refusal { H.tells → (size : ℕ) → (w : World) → (memory : Memory) → IsActiveWith frames self.now pool.now memory → IsReady size w memory (H.state h.old)
             → IfOk result (λ found. refusal_in found ≡ refusal_of w (update_line update (self.now).client (self.now).name)) }
         ensures found { H.tells → (image : Image) → reads (H.state h.old).now.words ≡ image → IsKnown frames image pool.now → IsPlaced frames pool.now.puddles
             → IfOk result (λ found. IfOk found (IsFoundBy frames pool.now.puddles image update)) }

@@ -8,8 +8,8 @@ use Rattle.pud_defs.specs.PoolChanges.{changed_pool}
 use Rattle.pud_defs.specs.World.{Transaction}
 
 -- which transactions are open, by the names of their pools
-abbrev pub Opened : Type 0
-Opened = List ℕ → Option Transaction
+abbrev pub OpenTransactions : Type 0
+OpenTransactions = List ℕ → Option Transaction
 
 -- it is this client's
 abbrev pub is_own : ℕ → Option Transaction → Bool
@@ -37,15 +37,15 @@ laters_of None = []
 laters_of (Some t) = t.laters
 
 -- this is open on the pool of the name, and all else as before
-abbrev pub with_open : List ℕ → Option Transaction → Opened → Opened
+abbrev pub with_open : List ℕ → Option Transaction → OpenTransactions → OpenTransactions
 with_open name now opened other = cond (bytes_eq other name) now (opened other)
 
 -- the one on the pool of the name changed, where there is one
-abbrev pub with_changed : List ℕ → (Transaction → Transaction) → Opened → Opened
+abbrev pub with_changed : List ℕ → (Transaction → Transaction) → OpenTransactions → OpenTransactions
 with_changed name change opened = with_open name (option_map change (opened name)) opened
 
 -- none of the client's is open
-abbrev pub without_client : ℕ → Opened → Opened
+abbrev pub without_client : ℕ → OpenTransactions → OpenTransactions
 without_client client opened name = cond (is_own client (opened name)) None (opened name)
 
 -- ---- a transaction begins, and is used

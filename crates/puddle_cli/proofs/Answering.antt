@@ -210,7 +210,7 @@ Leaves-script : (P : List ℕ → Image → Type 0) (bytes : List ℕ) (start no
 Leaves-script P bytes start now l = record { added = l.added; history = l.history; start = l.start; later = l.later }
 
 IsReady-script : (size : ℕ) (w : World) (memory : Memory) (bytes : List ℕ) (s : State) → IsReady size w memory s → IsReady size w memory (with_script bytes s)
-IsReady-script size w memory bytes s r = record { mask = r.mask; settled = r.settled; tables = r.tables; clients = r.clients; frames = r.frames; shelf = r.shelf; held = r.held; sessions = r.sessions; rest = r.rest; logs = r.logs; knows = r.knows }
+IsReady-script size w memory bytes s r = record { mask = r.mask; settled = r.settled; tables = r.tables; clients = r.clients; frames = r.frames; shelf = r.shelf; active = r.active; sessions = r.sessions; rest = r.rest; logs = r.logs; knows = r.knows }
 
 -- ready where the bytes taken left the daemon, after a byte more was read
 pub ready_read : (size : ℕ) (w : World) (aloud : Bool) (all : List ℕ) (before : Counts) (start : State) (counts : Counts) (memory : Memory) (now after : State) (left behind piece : List ℕ) (refused : ℕ) (byte : ℕ)

@@ -178,13 +178,13 @@ module _ (F id : ℕ) where
         blank = λ e image picked.
             let w = image_after_one MAGIC_WORD DEVICE_MAGIC u v image (subst (λ (f : Option HostFault). Persists (only MAGIC_WORD DEVICE_MAGIC) f u v) e third) picked in
             subst (λ (f : Image). IsBlank F id f) (sym w.is) (blank_with_magic u.now.words w.before ready w.picked);
-        rested = λ e held. record {
+        rested = λ e active. record {
           each = λ k. ⊎_elim
               (λ below. ⊎_elim
               (λ first_word. HasOnly-own (v.now.words k) DEVICE_MAGIC (third.durable e k DEVICE_MAGIC (ap (λ (n : ℕ). only MAGIC_WORD DEVICE_MAGIC n) first_word)))
               (λ apart. below_frames u v ready still k apart below)
               (cases_eq k MAGIC_WORD))
-              (λ beyond. HasOnly-own (v.now.words k) (s.now.words k).newest (HasOnly-kept (BelowFrames F) fault s v k (s.now.words k).newest changes (λ x may. absurd (omega arith)) (held.each k)))
+              (λ beyond. HasOnly-own (v.now.words k) (s.now.words k).newest (HasOnly-kept (BelowFrames F) fault s v k (s.now.words k).newest changes (λ x may. absurd (omega arith)) (active.each k)))
               (cases_lt k (frames_at F));
         };
       }

@@ -51,11 +51,11 @@ module _ (size : ℕ) (s : StoredWorld) (before now : Image) (world : world_of s
   abbrev after : Image
   after = settled (frames_of before) before
 
-  held : HoldsWorld size after s
-  held = holding_of_world size before s world
+  active : HoldsWorld size after s
+  active = holding_of_world size before s world
 
   frames_after : after FRAMES_WORD ≡ frames_of before
-  frames_after = held.header.frames ∙ sym (frames_of_world size before s world)
+  frames_after = active.header.frames ∙ sym (frames_of_world size before s world)
 
   read : (k : ℕ) → (k < DAEMON_LOG) ⊎ (TYPE_TABLE ≤ k) → (k < SPACE_TABLE) ⊎ (PUDDLE_TABLE ≤ k) → (k < tables_end (after FRAMES_WORD)) ⊎ (frames_at (after FRAMES_WORD) ≤ k) → now k ≡ after k
   read k beside spaces logs =
@@ -99,8 +99,8 @@ module _ (size : ℕ) (s : StoredWorld) (before now : Image) (world : world_of s
   -- and its tables are sound
   pub sound_replayed : HasSoundTables s.next_number (tables_of (now FRAMES_WORD) now)
   sound_replayed =
-      let same : tables_of (now FRAMES_WORD) now ≡ tables_of s.frames after = tables_replayed ∙ ap (λ (F : ℕ). tables_of F after) held.header.frames in
-      sound_from s.next_number (tables_of (now FRAMES_WORD) now) (ap (are_sound_tables s.next_number) same ∙ held.pools.sound)
+      let same : tables_of (now FRAMES_WORD) now ≡ tables_of s.frames after = tables_replayed ∙ ap (λ (F : ℕ). tables_of F after) active.header.frames in
+      sound_from s.next_number (tables_of (now FRAMES_WORD) now) (ap (are_sound_tables s.next_number) same ∙ active.pools.sound)
 
 -- a device stands for a world, if it does not stand for none
 world_there : (size : ℕ) (image : Image) (o : Option StoredWorld) → world_of size image ≡ o → (o ≡ None → ⊥) → (s : StoredWorld) × (world_of size image ≡ Some s)

@@ -11,7 +11,7 @@ use Rattle.pud_defs.specs.Grammar.{command_of}
 use Rattle.pud_defs.specs.Run.{Turn, IsTurn, IsRun, last_world}
 use Rattle.pud_defs.specs.Step.{Answer}
 use Rattle.pud_defs.specs.World.{World, pools_in, stored_by, closed, nothing_open}
-use Rattle.ready_daemon.specs.Memory.{Memory, Held, held_under}
+use Rattle.ready_daemon.specs.Memory.{Memory, ActiveTransaction, active_under}
 use Rattle.ready_daemon.specs.Ready.{IsReady}
 use Rattle.puddled.proofs.Settling.{frames_by}
 use Rattle.ready_daemon.proofs.TablesBeside.{header_read, types_read, world_under}
@@ -39,17 +39,17 @@ frames_kept w (t ∷ turns) run = frames_kept t.next turns run.1 ∙ frames_turn
 -- ---- a daemon that is ready, with nothing open
 
 module _ (size : ℕ) (w : World) (memory : Memory) (s : State) (ready : IsReady size w memory s) (idle : w.transactions ≡ nothing_open) where
-  none_open : (number : ℕ) (held : Option Held) → held_under memory.held number ≡ held → ready.held.opens number ≡ None
-  none_open number None is = ready.held.none number is
+  none_open : (number : ℕ) (active : Option ActiveTransaction) → active_under memory.active number ≡ active → ready.active.opens number ≡ None
+  none_open number None is = ready.active.none number is
   none_open number (Some h) is =
-      let there = ready.held.each number h is in
+      let there = ready.active.each number h is in
       absurd (none-some there.is.transaction (sym (ap (λ opened. opened h.name) idle) ∙ there.is.is))
 
   none_masked : (k : ℕ) (o : Option ℕ) → ready.mask k ≡ o → ready.mask k ≡ None
   none_masked k None is = is
   none_masked k (Some v) is =
-      let by = ready.held.masks.each k v is in
-      absurd (none-some by.transaction (sym (none_open by.number (held_under memory.held by.number) refl) ∙ by.there))
+      let by = ready.active.masks.each k v is in
+      absurd (none-some by.transaction (sym (none_open by.number (active_under memory.active by.number) refl) ∙ by.there))
 
   -- nothing is masked
   read_plain : reads (masked ready.mask s.now.words) ≡ reads s.now.words

@@ -20,24 +20,24 @@ use Rattle.pud_defs.specs.World.{World}
 use Rattle.nesting.specs.declared.Session.{Session}
 use Rattle.pool_transaction.specs.declared.changing.Change.{Change}
 use Rattle.pool_transaction.specs.declared.changing.Change.TheVariants as changes
-use Rattle.pool_transaction.specs.Changing.{IsHeldOn, with_known, line_of}
+use Rattle.pool_transaction.specs.Changing.{IsActiveWith, with_known, line_of}
 use Rattle.known_pool.specs.Known.{Known, IsKnown}
 use Rattle.ready_daemon.specs.Judged.{puddles_known, pool_in, known_in, AreOnDevice, AreJudged}
 use Rattle.ready_daemon.proofs.JudgedKept.{graph_parts}
 use Rattle.ready_daemon.proofs.JudgedOpen.{known_again}
 use Rattle.ready_daemon.proofs.Known.{AreJudged-set}
-use Rattle.ready_daemon.specs.Memory.{Held, Memory, held_under}
-use Rattle.ready_daemon.specs.Holding.{IsOwnOn}
+use Rattle.ready_daemon.specs.Memory.{ActiveTransaction, Memory, active_under}
+use Rattle.ready_daemon.specs.OwnOnPool.{IsOwnTransactionOn}
 use Rattle.ready_daemon.specs.Owning.{IsSlotOf}
 use Rattle.ready_daemon.specs.Ready.{IsReady}
-use Rattle.ready_daemon.proofs.Beside.{held_is}
+use Rattle.ready_daemon.proofs.Beside.{active_is}
 use Rattle.ready_daemon.proofs.PoolsBeside.{used_still}
 use Rattle.pool_transaction.specs.Finishing.{Finishes, FinishesUnless, AppliesFinishing}
 use Rattle.ready_daemon.proofs.InTurn.{known_in_turn}
 use Rattle.puddled.specs.Frontiers.{AppliesAs}
 use Rattle.puddled.proofs.Frontiers.{AppliesAs-change}
 use Rattle.pool_transaction.proofs.TransactionRefusals.{refused_change, refused_new}
-use Rattle.ready_daemon.proofs.InTurn.{held_there_known}
+use Rattle.ready_daemon.proofs.InTurn.{active_there_known}
 
 -- what was read in a slot of the list is what is known there
 pub known_there : (judged : List (Option Known)) (slot : ℕ) (read any : Option Known) → slot < length judged → read ≡ slice_index_or judged slot any → pool_in judged slot ≡ read
@@ -64,49 +64,49 @@ module _ (judged : List (Option Known)) (slot : ℕ) (known more : Known) (is : 
 
 -- ---- the client's own
 
-module _ (size : ℕ) (w : World) (F : ℕ) (all : List (Option Held)) (sessions : List (Option Session)) (judged : List (Option Known)) (s : State)
-    (ready : IsReady size w (record { frames = F; held = all; sessions = sessions; judged = judged }) s) (client : ℕ) (name : List ℕ) (slot number : ℕ) (own : IsOwnOn client name slot number all) where
+module _ (size : ℕ) (w : World) (F : ℕ) (all : List (Option ActiveTransaction)) (sessions : List (Option Session)) (judged : List (Option Known)) (s : State)
+    (ready : IsReady size w (record { frames = F; active = all; sessions = sessions; judged = judged }) s) (client : ℕ) (name : List ℕ) (slot number : ℕ) (own : IsOwnTransactionOn client name slot number all) where
   abbrev memory : Memory
-  memory = record { frames = F; held = all; sessions = sessions; judged = judged }
+  memory = record { frames = F; active = all; sessions = sessions; judged = judged }
 
   -- its pool is known
   pub is_known : pool_in judged slot ≡ None → ⊥
-  is_known none = none-some _ (sym (ap (option_map (λ (k : Known). k.puddles)) none) ∙ ap (known_in judged) (sym own.slot_is) ∙ held_there_known size w memory s ready number own.own.mine own.own.is)
+  is_known none = none-some _ (sym (ap (option_map (λ (k : Known). k.puddles)) none) ∙ ap (known_in judged) (sym own.slot_is) ∙ active_there_known size w memory s ready number own.own.active own.own.is)
 
-  module _ (mine : Held) (there : held_under all number ≡ Some mine) (pool_is : Known) (known : pool_in judged slot ≡ Some pool_is) where
+  module _ (mine : ActiveTransaction) (there : active_under all number ≡ Some mine) (pool_is : Known) (known : pool_in judged slot ≡ Some pool_is) where
     abbrev at : List (ℕ × Puddle)
     at = pool_is.at
 
-    same : mine ≡ own.own.mine
-    same = same_Some mine own.own.mine (sym there ∙ own.own.is)
+    same : mine ≡ own.own.active
+    same = same_Some mine own.own.active (sym there ∙ own.own.is)
 
     slot_is : mine.slot ≡ slot
-    slot_is = ap (λ (h : Held). h.slot) same ∙ own.slot_is
+    slot_is = ap (λ (h : ActiveTransaction). h.slot) same ∙ own.slot_is
 
     number_is : mine.log_number ≡ number
-    number_is = (ready.held.each number mine there).number_is
+    number_is = (ready.active.each number mine there).number_is
 
-    pub held_in : IsHeldOn F mine pool_is memory
-    held_in = record { frames = refl; there = ap (held_under all) number_is ∙ there; known = ap (pool_in judged) slot_is ∙ known }
+    pub active_in : IsActiveWith F mine pool_is memory
+    active_in = record { frames = refl; there = ap (active_under all) number_is ∙ there; known = ap (pool_in judged) slot_is ∙ known }
 
     -- it is asked for by the client's line
     pub asked : (change : Change) → line_of change mine.client mine.name ≡ line_of change client name
-    asked change = ap₂ (line_of change) (ap (λ (h : Held). h.client) same ∙ own.own.whose) (ap (λ (h : Held). h.name) same ∙ own.own.pool)
+    asked change = ap₂ (line_of change) (ap (λ (h : ActiveTransaction). h.client) same ∙ own.own.whose) (ap (λ (h : ActiveTransaction). h.name) same ∙ own.own.pool)
 
     -- its pool is that of the name
     at_slot : IsSlotOf w.stored.frames name (reads s.now.words) slot
     at_slot =
-        let is = held_is w memory.held ready.mask s.now.words ready.held number own.own.mine own.own.is in
+        let is = active_is w memory.active ready.mask s.now.words ready.active number own.own.active own.own.is in
         record {
           rec = is.rec;
-          used = ap (tables_of w.stored.frames (reads s.now.words)).pools (sym own.slot_is) ∙ used_still w own.own.mine ready.mask s.now.words is;
+          used = ap (tables_of w.stored.frames (reads s.now.words)).pools (sym own.slot_is) ∙ used_still w own.own.active ready.mask s.now.words is;
           name_is = is.name ∙ own.own.pool;
         }
 
-    pub Applies-changed : (change : Change) (now : Held) (pool : Known) (fault : Option HostFault) (new : State)
+    pub Applies-changed : (change : Change) (now : ActiveTransaction) (pool : Known) (fault : Option HostFault) (new : State)
         → AppliesFinishing mine.slot (FinishesUnless (refusal_of w (line_of change mine.client mine.name)) (Finishes F at (reads s.now.words) change)) size w (world_by w (Some (line_of change mine.client mine.name)))
         (with_known mine.log_number mine.slot now pool memory) fault s new
-        → AppliesAs size w (world_by w (Some (line_of change client name))) (Some (line_of change client name)) (record { frames = F; held = set all number (Some now); sessions = sessions; judged = set judged slot (Some pool) }) fault s new
+        → AppliesAs size w (world_by w (Some (line_of change client name))) (Some (line_of change client name)) (record { frames = F; active = set all number (Some now); sessions = sessions; judged = set judged slot (Some pool) }) fault s new
     Applies-changed change now pool fault new applies =
         let line = line_of change mine.client mine.name in
         let finishes : (ℕ → ℕ) → Type 0 = Finishes w.stored.frames (puddles_in_turn (tables_of w.stored.frames (reads s.now.words)) slot) (reads s.now.words) change in

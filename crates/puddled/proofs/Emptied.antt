@@ -142,8 +142,8 @@ module _ (size : ℕ) (s : StoredWorld) (i : Image) (world : world_of size i ≡
       (ap (λ (c : ℕ). settled_by DAEMON_LOG i (space_record_at c)) of_client ∙ used) (none number (omega arith)) in
       ap (is_closed_log n) at ∙ closed_by_gate n (log_number_at F number) (behind.closed number (omega arith) accepted))
 
-  held_i : HoldsWorld size (settled F i) s
-  held_i = subst (λ (n : ℕ). HoldsWorld size (settled n i) s) (frames_of_world size i s world) (holding_of_world size i s world)
+  active_i : HoldsWorld size (settled F i) s
+  active_i = subst (λ (n : ℕ). HoldsWorld size (settled n i) s) (frames_of_world size i s world) (holding_of_world size i s world)
 
   module _ (image : Image) (batched : IsBatched c.now.words DAEMON_LOG emptied image) where
     before_c : batched.before ≡ n
@@ -174,7 +174,7 @@ module _ (size : ℕ) (s : StoredWorld) (i : Image) (world : world_of size i ≡
         let settles_so : (k : ℕ) → settled F image k ≡ settled F i k = λ k. ap (λ (x : Image). settled_over F x k) is ∙ behind.still.settles k in
         record {
           stands = world_again size s i image world legal_j (λ k read. settles_so k)
-              (are_legal_spaces-same (settled F image) (settled F i) (λ k low high. settles_so k) ∙ held_i.spaces);
+              (are_legal_spaces-same (settled F image) (settled F i) (λ k low high. settles_so k) ∙ active_i.spaces);
           tables = settled_tables F i image (λ k read. settles_so k);
           refused = λ number few not_refused. ap (λ (x : Image). is_refused_log F x number) is ∙ behind.still.refused.each number few ∙ not_refused;
           closed = logs_j;

@@ -21,8 +21,8 @@ use Rattle.nesting.specs.declared.EnterFault.TheVariants.{Deep, Logs}
 use Rattle.nesting.specs.Sessions.{session_in, session_depth, depth_in, count_of, AreSessions}
 use Rattle.pool_transaction.specs.Lifetime.{MayBeginIn}
 use Rattle.ready_daemon.specs.Beginning.{MayBegin}
-use Rattle.ready_daemon.specs.Held.{session_of}
-use Rattle.ready_daemon.specs.Holding.{IsOwnOn}
+use Rattle.ready_daemon.specs.ActiveTransactions.{session_of}
+use Rattle.ready_daemon.specs.OwnOnPool.{IsOwnTransactionOn}
 use Rattle.ready_daemon.specs.Judged.{known_in}
 use Rattle.ready_daemon.specs.Memory.{Memory}
 use Rattle.ready_daemon.specs.Ready.{IsReady}
@@ -49,18 +49,18 @@ module _ (size : ℕ) (w : World) (memory : Memory) (s : State) (ready : IsReady
 
   -- ---- it is open, and the client's own
 
-  module _ (slot number : ℕ) (own : IsOwnOn client name slot number memory.held) where
+  module _ (slot number : ℕ) (own : IsOwnTransactionOn client name slot number memory.active) where
     abbrev running : Transaction
-    running = (ready.held.each number own.own.mine own.own.is).is.transaction
+    running = (ready.active.each number own.own.active own.own.is).is.transaction
 
     there : open_on name w ≡ Some running
-    there = ap w.transactions (sym own.own.pool) ∙ (ready.held.each number own.own.mine own.own.is).is.is
+    there = ap w.transactions (sym own.own.pool) ∙ (ready.active.each number own.own.active own.own.is).is.is
 
     whose : running.client ≡ client
-    whose = (ready.held.each number own.own.mine own.own.is).is.client ∙ own.own.whose
+    whose = (ready.active.each number own.own.active own.own.is).is.client ∙ own.own.whose
 
     session_is : session_in memory.sessions slot ≡ Some (session_of number running)
-    session_is = ap (session_in memory.sessions) (sym own.slot_is) ∙ its_session size w memory s ready number own.own.mine own.own.is
+    session_is = ap (session_in memory.sessions) (sym own.slot_is) ∙ its_session size w memory s ready number own.own.active own.own.is
 
     begun : depth_in memory.sessions slot ≡ running.depth
     begun = ap session_depth session_is

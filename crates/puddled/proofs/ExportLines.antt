@@ -28,7 +28,7 @@ use Rattle.puddled.proofs.Found.{Finds, stored_pool}
 use Rattle.puddled.specs.Daemon.{CarriesOut}
 use Rattle.puddled.specs.Files.{file_answer, HoldsPool, IsStoredPool, HoldsOneOf}
 use Rattle.ready_daemon.specs.Memory.{Memory}
-use Rattle.ready_daemon.specs.Held.{IsOwn}
+use Rattle.ready_daemon.specs.ActiveTransactions.{IsOwnTransaction}
 use Rattle.ready_daemon.specs.Judged.{known_in}
 use Rattle.ready_daemon.specs.Ready.{IsReady, Applies}
 use Rattle.ready_daemon.proofs.OpenBeside.{open_here}
@@ -36,9 +36,9 @@ use Rattle.puddled.proofs.FileLines.{memory_of-export, memory_step, some_step, e
 
 -- ---- the client's own transaction is open on the pool
 
-pub own_is_open : (size : ℕ) (w : World) (memory : Memory) (s : State) → IsReady size w memory s → (client : ℕ) (name : List ℕ) → (number : ℕ) → IsOwn client name number memory.held → is_own client (open_on name w) ≡ true
+pub own_is_open : (size : ℕ) (w : World) (memory : Memory) (s : State) → IsReady size w memory s → (client : ℕ) (name : List ℕ) → (number : ℕ) → IsOwnTransaction client name number memory.active → is_own client (open_on name w) ≡ true
 own_is_open size w memory s ready client name number own =
-    let here = open_here w memory.held ready.mask s.now.words name client number ready.held own in
+    let here = open_here w memory.active ready.mask s.now.words name client number ready.active own in
     ap (is_own client) here.is ∙ eq-eqb here.transaction.client client here.whose
 
 -- ---- none is

@@ -55,7 +55,7 @@ use Rattle.puddled.specs.Reading.{HoldsGraph}
 use Rattle.puddled.specs.Daemon.{CarriesOut}
 use Rattle.puddled.specs.Files.{HoldsPool, IsStoredPool}
 use Rattle.ready_daemon.specs.Memory.{Memory}
-use Rattle.ready_daemon.specs.Held.{KeepsHeld}
+use Rattle.ready_daemon.specs.ActiveTransactions.{KeepsActive}
 use Rattle.ready_daemon.specs.Moves.{Stays, MovesTo, LeavesPuddles, still}
 use Rattle.ready_daemon.specs.Ready.{IsReady, StandsBetween, Applies}
 use Rattle.ready_daemon.proofs.Beside.{ready_stands, holds_still, sessions_still}
@@ -218,7 +218,7 @@ module _ (size : ℕ) (w : World) (memory : Memory) (shelf : Shelf) (s : State) 
   abbrev beside : World
   beside = record w { shelf = shelf }
 
-  keeps : KeepsHeld w beside memory.held
+  keeps : KeepsActive w beside memory.active
   keeps = record { frames = refl; transactions = refl; present = λ number h is. refl; stored = λ number h is. refl; types = λ id m is. is; graphs = λ st g is. is }
 
   -- the daemon is ready in the world that has it
@@ -230,9 +230,9 @@ module _ (size : ℕ) (w : World) (memory : Memory) (shelf : Shelf) (s : State) 
     clients = ready.clients;
     frames = ready.frames;
     shelf = refl;
-    held = holds_still w beside memory.held ready.mask s s ready.held keeps (Changes-still _ None s s (λ no. let it : None ≡ Some hosts.Cut = no in cc) refl)
-        (λ number h there. (ready.held.each number h there).is.running.rests);
-    sessions = sessions_still w beside memory.held memory.sessions refl ready.sessions;
+    active = holds_still w beside memory.active ready.mask s s ready.active keeps (Changes-still _ None s s (λ no. let it : None ≡ Some hosts.Cut = no in cc) refl)
+        (λ number h there. (ready.active.each number h there).is.running.rests);
+    sessions = sessions_still w beside memory.active memory.sessions refl ready.sessions;
     rest = ready.rest;
     logs = ready.logs;
     knows = ready.knows;
@@ -287,9 +287,9 @@ module _ (w : World) (client : ℕ) (name file : List ℕ) where
 
   pub exported_step : (contents : FileContents) (bytes : List ℕ) → refusal_of w exports ≡ None → contents_held w.stored.types (pool_named name w.stored) ≡ Some contents → file_graph bytes ≡ Some contents
       → StepBy w (Some exports) (of_reply replies.Ok) (record w { shelf = with_file (name_text file) bytes w.shelf })
-  exported_step contents bytes free held holds =
+  exported_step contents bytes free active holds =
       let shelf = with_file (name_text file) bytes w.shelf in
-      let given : Exports w name (name_text file) shelf = record { contents = contents; held = held; bytes = bytes; holds = holds; given = refl } in
+      let given : Exports w name (name_text file) shelf = record { contents = contents; active = active; bytes = bytes; holds = holds; given = refl } in
       inl (record {
         answered = sym (answer_is_ok w exports refl refl free);
         gives = record {

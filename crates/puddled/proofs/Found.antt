@@ -38,17 +38,17 @@ use Rattle.pud_defs.proofs.SoundChanged.{legal_pool}
 use Rattle.nesting.specs.declared.Session.{Session}
 use Rattle.nesting.specs.Sessions.{client_in, session_in, session_depth, IsSession}
 use Rattle.ready_daemon.specs.Memory.{Memory}
-use Rattle.ready_daemon.specs.Held.{IsHeld}
-use Rattle.ready_daemon.specs.Holding.{IsOwnOn}
+use Rattle.ready_daemon.specs.ActiveTransactions.{IsActive}
+use Rattle.ready_daemon.specs.OwnOnPool.{IsOwnTransactionOn}
 use Rattle.known_pool.specs.Known.{Known}
 use Rattle.ready_daemon.specs.Judged.{known_in, AreJudged, puddles_with_graph}
 use Rattle.ready_daemon.specs.Owning.{refusal_found, IsSlotOf}
 use Rattle.ready_daemon.specs.Beginning.{MayBegin}
 use Rattle.ready_daemon.specs.Ready.{IsReady}
 use Rattle.ready_daemon.proofs.Applying.{IsReady-beside}
-use Rattle.ready_daemon.proofs.Beside.{held_is}
+use Rattle.ready_daemon.proofs.Beside.{active_is}
 use Rattle.ready_daemon.proofs.Known.{judged_puddles}
-use Rattle.ready_daemon.proofs.InTurn.{held_there_known}
+use Rattle.ready_daemon.proofs.InTurn.{active_there_known}
 use Rattle.ready_daemon.proofs.JudgedOpen.{KnowsPools-read}
 use Rattle.ready_daemon.proofs.OpenBeside.{not_named, pool_unmasked}
 use Rattle.ready_daemon.proofs.Sessions.{IsSessionOf, own_on, session_open, session_shut}
@@ -270,7 +270,7 @@ module _ (size : ℕ) (w : World) (memory : Memory) (s : State) (ready : IsReady
       stored_read =
           let at = found_record t name slot found.r found.found in
           ap (stored_in F (puddles_in_turn t slot)) (reads-masked ready.mask s.now.words)
-          ∙ pool_unmasked w memory.held ready.mask s.now.words name slot found.r ready.held (not_named w memory.held ready.mask s.now.words name ready.held shut) at.used at.name_is
+          ∙ pool_unmasked w memory.active ready.mask s.now.words name slot found.r ready.active (not_named w memory.active ready.mask s.now.words name ready.active shut) at.used at.name_is
 
       -- so it has the graph that these puddles have
       graph_read : graph_in (pool_named name w.stored) ≡ graph_of (types_of image) (stored_in F (puddles_in_turn t slot) image)
@@ -331,14 +331,14 @@ module _ (size : ℕ) (w : World) (memory : Memory) (s : State) (ready : IsReady
     -- ---- one is open on it
 
     module _ (session : Session) (at : session_in memory.sessions slot ≡ Some session) where
-      abbrev pub of_session : IsSessionOf w memory.held name slot session
+      abbrev pub of_session : IsSessionOf w memory.active name slot session
       of_session = session_open size w memory s ready name slot slot_is session at
 
       pub its_client : of_session.transaction.client ≡ session.client
       its_client = sym (ap client_in of_session.session_is)
 
-      abbrev pub its : IsHeld w of_session.mine ready.mask s.now.words
-      its = held_is w memory.held ready.mask s.now.words ready.held session.log_number of_session.mine of_session.is
+      abbrev pub its : IsActive w of_session.active ready.mask s.now.words
+      its = active_is w memory.active ready.mask s.now.words ready.active session.log_number of_session.active of_session.is
 
       pub its_graph : graph_in (pool_named name w.stored) ≡ Some its.undone
       its_graph = ap (λ (n : List ℕ). graph_in (pool_named n w.stored)) (sym of_session.name_is) ∙ its.stored
@@ -347,7 +347,7 @@ module _ (size : ℕ) (w : World) (memory : Memory) (s : State) (ready : IsReady
       pub its_puddles : puddles_with_graph F image slot ≡ Some its.puddles
       its_puddles =
           subst (λ (i : ℕ). puddles_with_graph F image i ≡ Some its.puddles) of_session.slot_is
-          (ready.knows.judged.each of_session.mine.slot its.puddles (held_there_known size w memory s ready session.log_number of_session.mine of_session.is))
+          (ready.knows.judged.each of_session.active.slot its.puddles (active_there_known size w memory s ready session.log_number of_session.active of_session.is))
 
     -- ---- by whose it is
 
@@ -399,8 +399,8 @@ module _ (size : ℕ) (w : World) (memory : Memory) (s : State) (ready : IsReady
             is = is;
             number_is = refl;
             own = λ number own.
-                subst (λ (n : ℕ). IsOwnOn client name slot n memory.held) (same_Some session.log_number number own)
-                (own_on w memory.held client name slot session (of_session session at) (eqb-true session.client client e));
+                subst (λ (n : ℕ). IsOwnTransactionOn client name slot n memory.active) (same_Some session.log_number number own)
+                (own_on w memory.active client name slot session (of_session session at) (eqb-true session.client client e));
             none = λ shut. absurd (none-some session.log_number (sym shut));
             known = known_here;
           }
@@ -444,7 +444,7 @@ pub judged_more : (size : ℕ) (w : World) (memory : Memory) (judged : List (Opt
     → ((i : ℕ) (at : List (ℕ × Puddle)) → known_in memory.judged i ≡ Some at → known_in judged i ≡ Some at) → IsReady size w (record memory { judged = judged }) old
 judged_more size w memory judged old ready right kept =
     IsReady-beside size w memory (record memory { judged = judged }) old refl refl refl ready
-    (KnowsPools-read w.stored.frames memory.judged judged ready.held.opens (reads old.now.words) (subst (λ (n : ℕ). AreJudged n judged (reads old.now.words)) ready.frames right) kept ready.knows)
+    (KnowsPools-read w.stored.frames memory.judged judged ready.active.opens (reads old.now.words) (subst (λ (n : ℕ). AreJudged n judged (reads old.now.words)) ready.frames right) kept ready.knows)
 
 -- ---- behind the call that finds a pool
 

@@ -39,7 +39,7 @@ use Rattle.ready_daemon.specs.Ready.{KeepsRest, IsReady, Applies}
 use Rattle.ready_daemon.proofs.Applying.{Applies-still}
 use Rattle.ready_daemon.proofs.Beneath.{ready_gate, keeps_tables}
 use Rattle.ready_daemon.proofs.JudgedKept.{KeepsGraphs, KeepsPools}
-use Rattle.ready_daemon.proofs.PlacedPools.{KeepsHeld-imported, KeepsGraphs-then, imported_frames, imported_types, type_beside, Applies-wider}
+use Rattle.ready_daemon.proofs.PlacedPools.{KeepsActive-imported, KeepsGraphs-then, imported_frames, imported_types, type_beside, Applies-wider}
 use Rattle.ready_daemon.proofs.Pooling.{ChangesBeside, absent_apart}
 use Rattle.ready_daemon.proofs.TablesBeside.{HasDurableTables-masked, sound_read}
 use Rattle.puddled.specs.Answered.{as_answered}
@@ -61,7 +61,7 @@ import_moves_none client name file mode = record { none = λ F before. refl }
 -- ---- the file is placed
 
 module _ (size : ℕ) (w : World) (memory : Memory) (old new : State) (ready : IsReady size w memory old) (client uid gid mode : ℕ) (name file : List ℕ) (legal : IsLegalCommand (Import client name file mode))
-    (may : MayName w client name uid gid) (bytes : List ℕ) (there : w.shelf (name_text file) ≡ Some bytes) (contents : FileContents) (held : file_graph bytes ≡ Some contents) (stored : Stored)
+    (may : MayName w client name uid gid) (bytes : List ℕ) (there : w.shelf (name_text file) ≡ Some bytes) (contents : FileContents) (active : file_graph bytes ≡ Some contents) (stored : Stored)
     (done : Result (Unit {0}) PlaceFault) where
   abbrev line : Command
   line = Import client name file mode
@@ -79,7 +79,7 @@ module _ (size : ℕ) (w : World) (memory : Memory) (old new : State) (ready : I
   refused = refusal_by F image contents
 
   refusal_is : refusal_of w line ≡ as_refusal refused
-  refusal_is = import_placed w client mode name file uid gid may bytes there contents held ∙ refused_by_tables size w memory old ready contents
+  refusal_is = import_placed w client mode name file uid gid may bytes there contents active ∙ refused_by_tables size w memory old ready contents
 
   -- what the call does, on so many frames
   abbrev Commits : ℕ → Type 0
@@ -98,13 +98,13 @@ module _ (size : ℕ) (w : World) (memory : Memory) (old new : State) (ready : I
   module _ (rests : place_fault done ≡ Some hosts.Cut → IsRested new.now.words) where
     changes_beside : refused ≡ None → Commits F → Places F → ChangesBeside size w.stored next (λ _. ⊤) ready.mask (place_fault done) old new
     changes_beside none commits places =
-        let off = off_placing w memory.held ready.mask old.now.words ready.held stored contents.types name uid gid mode in
+        let off = off_placing w memory.active ready.mask old.now.words ready.active stored contents.types name uid gid mode in
         let idle = ready_gate size w memory old ready in
         record {
           beside = IsBeside-places F image stored contents.types name uid gid mode ready.mask (place_fault done) old new off idle rests (commits idle none_there none);
           pools = places (record {
             frames = refl;
-            keeps = keeps_tables w memory.held ready.mask old.now.words ready.held;
+            keeps = keeps_tables w memory.active ready.mask old.now.words ready.active;
             types = record { each = type_beside size w memory old ready };
             off = off;
             settled = ready.settled;
@@ -133,8 +133,8 @@ module _ (size : ℕ) (w : World) (memory : Memory) (old new : State) (ready : I
         let idle = ready_gate size w memory old ready in
         Applies-wider size w memory line next (λ _. ⊤) (place_fault done) old new ready
         (LeavesPuddles-places F (place_fault done) old new ready.tables idle rests stored contents.types name uid gid mode (commits idle none_there is)) (refusal_is ∙ ap as_refusal is)
-        (import_gives w client mode name file uid gid may bytes there contents held) (imported_frames name (owner uid gid) mode contents w.stored)
-        (KeepsHeld-imported w memory.held ready.mask old.now.words name (owner uid gid) mode contents ready.held (absent_apart w memory.held ready.mask old.now.words name ready.held may.absent))
+        (import_gives w client mode name file uid gid may bytes there contents active) (imported_frames name (owner uid gid) mode contents w.stored)
+        (KeepsActive-imported w memory.active ready.mask old.now.words name (owner uid gid) mode contents ready.active (absent_apart w memory.active ready.mask old.now.words name ready.active may.absent))
         (changes_beside is commits places) (λ ended. keeps_pools is commits places (place_fault done) refl ended)
     placed_by (Some (faults.Host f)) is commits places stays = absurd (no_host_by _ _ _ f is)
     placed_by (Some faults.Clash) is commits places stays = refused_by refusals.Clash (refusal_is ∙ ap as_refusal is) (stays none_there (λ none. none-some faults.Clash (sym none ∙ is)))
@@ -184,16 +184,16 @@ module _ (size : ℕ) (w : World) (memory : Memory) (old new : State) (ready : I
   same_file : file_graph given.whole ≡ file_graph bytes
   same_file = sym (ap file_graph given.front ∙ file_graph-limit given.whole)
 
-  none_held : (o : Option FileContents) → is_some o ≡ false → o ≡ None
-  none_held None is = refl
-  none_held (Some x) is = absurd (let no : true ≡ false = is in cc)
+  none_active : (o : Option FileContents) → is_some o ≡ false → o ≡ None
+  none_active None is = refl
+  none_active (Some x) is = absurd (let no : true ≡ false = is in cc)
 
   -- they are no export file
   pub CarriesOut-bad_file : is_some (file_graph bytes) ≡ false → new ≡ old → (first last : Counts) → last ≡ first
       → CarriesOut size w memory (Some asks) (as_answered (Ok (replies.No refusals.BadFile))) first last old new
   CarriesOut-bad_file none same first last cause =
       CarriesOut-refused size w memory first last old new asks (import_is_plain client name file mode) same (subst (λ (s : State). IsReady size w memory s) (sym same) ready) refusals.BadFile
-      (import_bad w client mode name file uid gid may given.whole given.there (same_file ∙ none_held (file_graph bytes) none)) cause
+      (import_bad w client mode name file uid gid may given.whole given.there (same_file ∙ none_active (file_graph bytes) none)) cause
 
   -- they are one, and it was placed, or not
   module _ (legal : IsLegalCommand (Import client name file mode)) (is : is_some (file_graph bytes) ≡ true) (view : List ℕ) (same : view ≡ bytes) (stored : Stored) (done : Result (Unit {0}) PlaceFault) (n : ℕ) (on : n ≡ w.stored.frames) where

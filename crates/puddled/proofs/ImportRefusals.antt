@@ -71,7 +71,7 @@ module _ (w : World) (client mode : ℕ) (name file : List ℕ) where
 
   module _ (uid gid : ℕ) (may : MayName w client name uid gid) where
     by_file : (bytes : Option (List ℕ)) (contents : Option FileContents) → w.shelf (name_text file) ≡ bytes → contents_in bytes ≡ contents → refusal_of w line ≡ refused (Some (owner uid gid)) None bytes contents
-    by_file bytes contents is held = refusal_of-import w client mode name file bytes contents is held ∙ (λ p. refused (may.acts p) (may.absent p) bytes contents)
+    by_file bytes contents is active = refusal_of-import w client mode name file bytes contents is active ∙ (λ p. refused (may.acts p) (may.absent p) bytes contents)
 
     pub import_no_file : w.shelf (name_text file) ≡ None → refusal_of w line ≡ Some refusals.File
     import_no_file none = by_file None None none refl
@@ -93,8 +93,8 @@ module _ (w : World) (client mode : ℕ) (name file : List ℕ) where
       pub import_gives : (contents : FileContents) → file_graph bytes ≡ Some contents → after w line ≡ record w { stored = with_imported_pool name (owner uid gid) mode contents w.stored }
       unfolding after
       import_gives contents is =
-          let held : contents_in (w.shelf (name_text file)) ≡ Some contents = ap contents_in there ∙ is in
-          (λ p. record w { stored = with_pool_of (held p) name (unwrap_or (may.acts p) (owner 0 0)) mode w.stored })
+          let active : contents_in (w.shelf (name_text file)) ≡ Some contents = ap contents_in there ∙ is in
+          (λ p. record w { stored = with_pool_of (active p) name (unwrap_or (may.acts p) (owner 0 0)) mode w.stored })
 
 -- ---- the tables
 

@@ -32,14 +32,14 @@ use Rattle.registry.specs.Placing.{placing, IsPlacedFor}
 use Rattle.registry.proofs.PutBatches.{puts_batched}
 use Rattle.pud_import.specs.Filling.{IsFrameWord, ByFrames, filled_value, AreFilled}
 use Rattle.pud_import.specs.Placing.{Placement, PlacesSomewhere, IsOffPlacing}
-use Rattle.ready_daemon.specs.Memory.{Held}
-use Rattle.ready_daemon.specs.Held.{Holds, IsBeside}
-use Rattle.ready_daemon.proofs.Beneath.{IsOff-each, IsBeside-changes, IsBeside-commits, IsBeside-then}
+use Rattle.ready_daemon.specs.Memory.{ActiveTransaction}
+use Rattle.ready_daemon.specs.ActiveTransactions.{AreActive, LeavesMasked}
+use Rattle.ready_daemon.proofs.Beneath.{IsOff-each, LeavesMasked-changes, LeavesMasked-commits, LeavesMasked-then}
 use Rattle.ready_daemon.proofs.JudgedKept.{KeepsGraphs, KeepsPools, KeepsPools-then, KeepsPools-still, KeepsPools-changes, types_same}
 use Rattle.ready_daemon.proofs.PlacedPools.{KeepsPools-placing}
 use Rattle.ready_daemon.proofs.PlacedWords.{IsFreeFrameWord, placed_frame, placing_words, free_unmasked, free_frame_unmasked, free_not_used, free_frame_not_record}
 use Rattle.ready_daemon.specs.Moves.{Stays, LeavesPuddles}
-use Rattle.ready_daemon.proofs.PoolsApart.{IsBeside-still}
+use Rattle.ready_daemon.proofs.PoolsApart.{LeavesMasked-still}
 use Rattle.ready_daemon.proofs.PuddlesLeft.{record_mask, masked_record, used_below, LeavesPuddles-beside}
 
 -- ---- the frames that are filled
@@ -99,17 +99,17 @@ module _ (F : ℕ) (image : Image) (file : List (ℕ × ℕ)) (wanted : List ℕ
 -- ---- no masked word is written
 
 -- whatever is held, and wherever the pool is placed
-pub off_placing : (w : World) (held : List (Option Held)) (mask : Write) (words : Words) → Holds w held mask words → (file : Stored) (types : List (ℕ × ℕ)) (name : List ℕ) (uid gid mode : ℕ)
+pub off_placing : (w : World) (active : List (Option ActiveTransaction)) (mask : Write) (words : Words) → AreActive w active mask words → (file : Stored) (types : List (ℕ × ℕ)) (name : List ℕ) (uid gid mode : ℕ)
     → IsOffPlacing mask w.stored.frames (reads words) file types name uid gid mode
-off_placing w held mask words holds file types name uid gid mode = record {
+off_placing w active mask words holds file types name uid gid mode = record {
   each = λ p is.
       let F = w.stored.frames in
       let image = reads words in
       let r = new_record name uid gid mode (image NEXT_NUMBER_WORD) in
       let wanted = map (λ d. d.base) file.puddles in (
-        IsOff-each mask (ByFrames F p.puddles) (λ k v may. free_frame_unmasked w held mask words holds k (frame_words F image types wanted p.slot r p is k v may)),
+        IsOff-each mask (ByFrames F p.puddles) (λ k v may. free_frame_unmasked w active mask words holds k (frame_words F image types wanted p.slot r p is k v may)),
         IsOff-each mask (ByBatch DAEMON_LOG (puts_batch (placing p.slot r p.types p.puddles)))
-            (λ k v may. free_unmasked w held mask words holds k (placing_words F image types wanted p.slot r p.types p.puddles is k v may)),
+            (λ k v may. free_unmasked w active mask words holds k (placing_words F image types wanted p.slot r p.types p.puddles is k v may)),
       );
 }
 
@@ -137,22 +137,22 @@ off_used F frame image m below used mask record_words file types name uid gid mo
 module _ (F : ℕ) (image : Image) (file : Stored) (types : List (ℕ × ℕ)) (name : List ℕ) (uid gid mode : ℕ) where
   -- a pool was placed somewhere, off any mask that it is off wherever it is placed
   places_beside : (mask : Write) (fault : Option HostFault) (old new : State) → IsOffPlacing mask F image file types name uid gid mode → HasIdleGate DAEMON_LOG old.now.words
-      → PlacesSomewhere F image file types name uid gid mode fault old new → IsBeside mask fault old new
+      → PlacesSomewhere F image file types name uid gid mode fault old new → LeavesMasked mask fault old new
   places_beside mask fault old new off idle d =
       let p = d.placement in
       let apart = off.each p d.is in
       let puts = placing p.slot (new_record name uid gid mode (image NEXT_NUMBER_WORD)) p.types p.puddles in
-      let first : IsBeside mask d.first old d.mid =
-      IsBeside-changes mask (ByFrames F p.puddles) d.first old d.mid apart.0
+      let first : LeavesMasked mask d.first old d.mid =
+      LeavesMasked-changes mask (ByFrames F p.puddles) d.first old d.mid apart.0
       (λ v word. let low = word.word.low in absurd (omega arith)) idle (λ none k. filled_single F file p.puddles d.mid (d.filled none) k) d.fills in
       elim d.then [
-        | inl end ↦ subst (λ (s : State). IsBeside mask fault old s) (sym end.0) (subst (λ (f : Option HostFault). IsBeside mask f old d.mid) (sym end.1) first)
-        | inr on ↦ IsBeside-then mask fault old d.mid new (subst (λ (f : Option HostFault). IsBeside mask f old d.mid) on.0 first) (IsBeside-commits mask (puts_batch puts) fault d.mid new apart.1 (puts_batched puts) on.1)
+        | inl end ↦ subst (λ (s : State). LeavesMasked mask fault old s) (sym end.0) (subst (λ (f : Option HostFault). LeavesMasked mask f old d.mid) (sym end.1) first)
+        | inr on ↦ LeavesMasked-then mask fault old d.mid new (subst (λ (f : Option HostFault). LeavesMasked mask f old d.mid) on.0 first) (LeavesMasked-commits mask (puts_batch puts) fault d.mid new apart.1 (puts_batched puts) on.1)
       ]
 
   pub IsBeside-places : (mask : Write) (fault : Option HostFault) (old new : State) → IsOffPlacing mask F image file types name uid gid mode → HasIdleGate DAEMON_LOG old.now.words → (fault ≡ Some Cut → IsRested new.now.words)
-      → OrStill (PlacesSomewhere F image file types name uid gid mode) fault old new → IsBeside mask fault old new
-  IsBeside-places mask fault old new off idle rests (inl still) = IsBeside-still mask fault old new idle rests still.0
+      → OrStill (PlacesSomewhere F image file types name uid gid mode) fault old new → LeavesMasked mask fault old new
+  IsBeside-places mask fault old new off idle rests (inl still) = LeavesMasked-still mask fault old new idle rests still.0
   IsBeside-places mask fault old new off idle rests (inr places) = places_beside mask fault old new off idle places
 
 -- ---- what is left of records of puddles

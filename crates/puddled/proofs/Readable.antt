@@ -24,12 +24,12 @@ use Rattle.pud_defs.specs.Step.Answer.{of_reply}
 use Rattle.graph_read.specs.declared.fields.FieldRead.{FieldRead}
 use Rattle.graph_read.specs.Reading.{read_value, read_by}
 use Rattle.ready_daemon.specs.Memory.{Memory}
-use Rattle.ready_daemon.specs.Holding.{IsOwnOn}
+use Rattle.ready_daemon.specs.OwnOnPool.{IsOwnTransactionOn}
 use Rattle.known_pool.specs.Known.{Known}
 use Rattle.ready_daemon.specs.Judged.{known_in, AreJudged}
 use Rattle.ready_daemon.specs.Ready.{IsReady, Applies}
 use Rattle.ready_daemon.proofs.Applying.{Applies-still}
-use Rattle.ready_daemon.proofs.InTurn.{held_there_known}
+use Rattle.ready_daemon.proofs.InTurn.{active_there_known}
 use Rattle.ready_daemon.proofs.OpenBeside.{open_here}
 use Rattle.ready_daemon.proofs.TablesBeside.{types_read}
 use Rattle.puddled.specs.declared.finding.Need.TheVariants as needs
@@ -43,11 +43,11 @@ use Rattle.puddled.proofs.Needs.{refusal_of-get as refusal_by_need}
 
 module _ (size : ℕ) (w : World) (memory : Memory) (s : State) (ready : IsReady size w memory s) (client : ℕ) (name : List ℕ) where
   -- the client's own transaction has the graph that is read of the puddles that are known
-  holds_own : (slot number : ℕ) (at : List (ℕ × Puddle)) → at ≡ unwrap_or (known_in memory.judged slot) [] → IsOwnOn client name slot number memory.held → HoldsGraph w w.stored.frames name (reads s.now.words) at
+  holds_own : (slot number : ℕ) (at : List (ℕ × Puddle)) → at ≡ unwrap_or (known_in memory.judged slot) [] → IsOwnTransactionOn client name slot number memory.active → HoldsGraph w w.stored.frames name (reads s.now.words) at
   holds_own slot number at is own =
-      let mine = own.own.mine in
-      let here = open_here w memory.held ready.mask s.now.words name client number ready.held own.own in
-      let known = sym (ap (known_in memory.judged) own.slot_is) ∙ held_there_known size w memory s ready number mine own.own.is in
+      let mine = own.own.active in
+      let here = open_here w memory.active ready.mask s.now.words name client number ready.active own.own in
+      let known = sym (ap (known_in memory.judged) own.slot_is) ∙ active_there_known size w memory s ready number mine own.own.is in
       let has = is ∙ ap (λ (o : Option (List (ℕ × Puddle))). unwrap_or o []) known in
       record {
         graph = here.transaction.now;

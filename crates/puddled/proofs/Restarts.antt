@@ -37,7 +37,7 @@ use Rattle.puddled.specs.Faults.{start_fault, of_recover}
 use Rattle.ready_daemon.specs.Memory.{Memory}
 use Rattle.ready_daemon.specs.Ready.{IsReady, IsUsedAlone, IsClosedIfFree, IsClosedIfNamed, RefusesNone}
 use Rattle.ready_daemon.proofs.JudgedOpen.{KnowsPools-none}
-use Rattle.ready_daemon.proofs.NoneHeld.{Holds-none, HasSessions-none}
+use Rattle.ready_daemon.proofs.NoneActive.{AreActive-none, HasSessions-none}
 use Rattle.puddled.specs.Starting.{first_memory, ByStart, DiffersByStart, IsReplayed, Recovers}
 use Rattle.puddled.proofs.Emptied.{settled_tables, IsBehindRecovery, IsEmptying, behind_recovery, idle_gate, used_closed, batched_still, third_may, single_d, cleared_d, reads_d, settled_d}
 
@@ -204,7 +204,7 @@ ready_behind size w i world b c behind empties frames counted shelf =
       clients = λ client few. nobody_there _ _ _ (cleared_d size (closed w) i world b behind c empties client few);
       frames = counted ∙ frames_of_world size i (closed w) world;
       shelf = shelf;
-      held = Holds-none (restart w) ALL_LOGS c.now.words refl;
+      active = AreActive-none (restart w) ALL_LOGS c.now.words refl;
       sessions = HasSessions-none (restart w) ALL_LOGS POOL_RECORDS;
       logs = record { each = λ client number low few present. absurd (let it : false ≡ true = present in cc) };
       rest = record { each = λ k above. single k (outside_log DAEMON_LOG k (inr (omega arith))) };

@@ -24,7 +24,7 @@ use Rattle.known_pool.specs.Known.{Known, with_puddles}
 use Rattle.ready_daemon.specs.Judged.{puddles_known, pool_in, known_in}
 use Rattle.ready_daemon.proofs.JudgedOpen.{known_within}
 use Rattle.ready_daemon.proofs.Known.{known_kept_there}
-use Rattle.ready_daemon.specs.Memory.{Held, Memory}
+use Rattle.ready_daemon.specs.Memory.{ActiveTransaction, Memory}
 use Rattle.ready_daemon.specs.Owning.{IsSlotOf}
 use Rattle.ready_daemon.specs.Moves.{MovesTo, led_in}
 use Rattle.ready_daemon.specs.Ready.{IsReady, AppliesBy}
@@ -36,7 +36,7 @@ use Rattle.puddled.specs.declared.answers.Answered.{Answered}
 use Rattle.puddled.specs.Answered.{as_answered}
 use Rattle.puddled.specs.Rewriting.{DoesSteps}
 use Rattle.ready_daemon.proofs.Beneath.{ready_gate}
-use Rattle.pool_transaction.proofs.HeldFinishes.{low_of_placed}
+use Rattle.pool_transaction.proofs.ActiveFinishes.{low_of_placed}
 use Rattle.pool_transaction.proofs.Rewriting.{Applies-rewrites}
 use Rattle.pool_transaction.proofs.StepsBeside.{known_placed}
 use Rattle.pool_transaction.proofs.StepsMoved.{upto}
@@ -95,10 +95,10 @@ steps_none judged now slot n done same none here is = absurd (none-some here (sy
 pub stepped_known : (judged now : List (Option Known)) (slot : ℕ) (at : List (ℕ × Puddle)) (later : Known) → known_in judged slot ≡ Some at → now ≡ set judged slot (Some later) → known_in now slot ≡ Some later.puddles
 stepped_known judged now slot at later known moves = ap (λ (js : List (Option Known)). known_in js slot) moves ∙ known_kept_there judged slot later (known_within judged slot at known)
 
-module _ (size : ℕ) (w : World) (F : ℕ) (held : List (Option Held)) (sessions : List (Option Session)) (judged : List (Option Known)) (old : State)
-    (ready : IsReady size w (record { frames = F; held = held; sessions = sessions; judged = judged }) old) (slot : ℕ) (low : slot < POOL_RECORDS) (kept : Known) (is_kept : pool_in judged slot ≡ Some kept) where
+module _ (size : ℕ) (w : World) (F : ℕ) (active : List (Option ActiveTransaction)) (sessions : List (Option Session)) (judged : List (Option Known)) (old : State)
+    (ready : IsReady size w (record { frames = F; active = active; sessions = sessions; judged = judged }) old) (slot : ℕ) (low : slot < POOL_RECORDS) (kept : Known) (is_kept : pool_in judged slot ≡ Some kept) where
   abbrev memory : Memory
-  memory = record { frames = F; held = held; sessions = sessions; judged = judged }
+  memory = record { frames = F; active = active; sessions = sessions; judged = judged }
 
   abbrev at : List (ℕ × Puddle)
   at = kept.puddles
@@ -108,7 +108,7 @@ module _ (size : ℕ) (w : World) (F : ℕ) (held : List (Option Held)) (session
 
   -- the daemon is ready behind them
   pub Applies-stepped : (goal : ℕ → ℕ) (later : List (ℕ × Puddle)) (fault : Option HostFault) (new : State) → (HasIdleGate DAEMON_LOG old.now.words → HasLowBases at → Rewrites F goal at later fault old new)
-      → AppliesBy (MovesTo (led_in slot goal)) size w w (record { frames = F; held = held; sessions = sessions; judged = set judged slot (Some (with_puddles later kept)) }) fault old new
+      → AppliesBy (MovesTo (led_in slot goal)) size w w (record { frames = F; active = active; sessions = sessions; judged = set judged slot (Some (with_puddles later kept)) }) fault old new
   Applies-stepped goal later fault new does =
       let placed = known_placed size w memory slot at old ready known in
       AppliesBy-weaker (MovesTo (led_in slot (upto goal))) (MovesTo (led_in slot goal)) (led_further slot (upto goal) goal (λ o. omega arith)) size w w (record memory { judged = set judged slot (Some (with_puddles later kept)) }) fault old new
@@ -117,7 +117,7 @@ module _ (size : ℕ) (w : World) (F : ℕ) (held : List (Option Held)) (session
 
   -- its puddles are those before them, moved
   pub DoesSteps-stepped : (name : List ℕ) (n : ℕ) (now : List (Option Known)) (new : State) → IsSlotOf w.stored.frames name (reads old.now.words) slot → now ≡ set judged slot (Some (with_puddles (steps_from n at) kept))
-      → IsReady size w (record { frames = F; held = held; sessions = sessions; judged = now }) new → DoesSteps w.stored.frames name n (reads old.now.words) (reads new.now.words)
+      → IsReady size w (record { frames = F; active = active; sessions = sessions; judged = now }) new → DoesSteps w.stored.frames name n (reads old.now.words) (reads new.now.words)
   DoesSteps-stepped name n now new is moves then = record {
     slot = slot;
     is = is;

@@ -22,7 +22,7 @@ use Rattle.puddled.specs.declared.finding.Need.{Need}
 use Rattle.puddled.specs.declared.finding.Need.TheVariants as needs
 use Rattle.puddled.specs.declared.finding.Found.{Found}
 use Rattle.ready_daemon.specs.Memory.{Memory}
-use Rattle.ready_daemon.specs.Holding.{IsOwnOn}
+use Rattle.ready_daemon.specs.OwnOnPool.{IsOwnTransactionOn}
 use Rattle.ready_daemon.specs.Judged.{known_in, puddles_with_graph}
 
 -- ---- what is needed
@@ -91,7 +91,7 @@ pub record IsFound (w : World) (need : Need) (client : ℕ) (name : List ℕ) (i
   pub rec : PoolRec
   pub is : IsRecordOf w.stored.frames name image found.slot rec
   pub number_is : found.number ≡ rec.number
-  pub own : (number : ℕ) → found.own ≡ Some number → IsOwnOn client name found.slot number memory.held
+  pub own : (number : ℕ) → found.own ≡ Some number → IsOwnTransactionOn client name found.slot number memory.active
   pub none : found.own ≡ None → open_on name w ≡ None
   pub known : needs_graph need ≡ true → Some (unwrap_or (known_in memory.judged found.slot) []) ≡ puddles_with_graph w.stored.frames image found.slot
 

@@ -26,7 +26,7 @@ use Rattle.puddled.specs.Saying.{IsPart, SaysPart}
 
 -- what the daemon holds in memory behind a start: no transaction is open, and no pool was judged
 abbrev pub first_memory : (frames : ℕ) → Memory
-first_memory frames = record { frames = frames; held = replicate ALL_LOGS None; sessions = replicate POOL_RECORDS None; judged = replicate POOL_RECORDS None }
+first_memory frames = record { frames = frames; active = replicate ALL_LOGS None; sessions = replicate POOL_RECORDS None; judged = replicate POOL_RECORDS None }
 
 -- Rights at a start: it writes what a recovery may write, and the log-space table.
 abbrev pub ByStart : ℕ → Image → Footprint

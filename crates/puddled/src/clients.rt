@@ -9,7 +9,7 @@ ghost use Rattle.pud_defs.specs.Step.{answer_by, after, world_by};
 ghost use Rattle.pud_defs.specs.Step.Answer.{of_reply};
 ghost use Rattle.pud_defs.specs.declared.machine.Command.TheVariants as commands;
 ghost use Rattle.ready_daemon.specs.Memory.{Memory};
-ghost use Rattle.ready_daemon.specs.Held.{IsOthers};
+ghost use Rattle.ready_daemon.specs.ActiveTransactions.{AreOfOtherClients};
 ghost use Rattle.ready_daemon.specs.Ready.{KeepsRest, IsReady, Applies, ClosesBefore};
 
 use crate::daemon::Daemon;
@@ -24,7 +24,7 @@ fn admit<H: Host>(h: &mut H, frames: u32, client: u32, uid: u32, gid: u32) -> Re
     requires gid_fits { gid ≤ MAX_OWNER_ID }
     requires few { frames ≤ MAX_FRAMES }
     requires room { device_words frames ≤ (H.counts h.old).size }
-    ensures applies { H.tells → (size : ℕ) → size ≡ (H.counts h.old).size → (w : World) → (memory : Memory) → memory.frames ≡ frames → IsReady size w memory (H.state h.old) → IsOthers client memory.held
+    ensures applies { H.tells → (size : ℕ) → size ≡ (H.counts h.old).size → (w : World) → (memory : Memory) → memory.frames ≡ frames → IsReady size w memory (H.state h.old) → AreOfOtherClients client memory.active
         → Applies size w (after w (commands.Client client uid gid)) memory (fault_of result) (H.state h.old) (H.state h.new) }
     ensures rest { H.tells → KeepsRest (H.state h.old) (H.state h.new) }
     ensures rests { H.tells → fault_of result ≡ Option.Some HostFault.Cut → IsRested (H.state h.new).now.words }
@@ -68,7 +68,7 @@ fn dismiss<H: Host>(h: &mut H, frames: u32, slot: u32) -> Result<(), HostFault>
     requires known { slot < CLIENTS }
     requires few { frames ≤ MAX_FRAMES }
     requires room { device_words frames ≤ (H.counts h.old).size }
-    ensures applies { H.tells → (size : ℕ) → size ≡ (H.counts h.old).size → (w : World) → (memory : Memory) → memory.frames ≡ frames → IsReady size w memory (H.state h.old) → IsOthers slot memory.held
+    ensures applies { H.tells → (size : ℕ) → size ≡ (H.counts h.old).size → (w : World) → (memory : Memory) → memory.frames ≡ frames → IsReady size w memory (H.state h.old) → AreOfOtherClients slot memory.active
         → Applies size w (after w (commands.Leave slot)) memory (fault_of result) (H.state h.old) (H.state h.new) }
     // Its logs are closed in each image in which its record is free, or the daemon log gives it a value.
     ensures closes_first { H.tells → (size : ℕ) → size ≡ (H.counts h.old).size → (w : World) → (memory : Memory) → memory.frames ≡ frames → IsReady size w memory (H.state h.old)

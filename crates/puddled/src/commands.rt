@@ -14,8 +14,8 @@ ghost use Rattle.pud_defs.specs.World.{Transaction, World, open_on};
 ghost use Rattle.nesting.specs.declared.Session.{Session};
 ghost use Rattle.puddled.specs.Answered.{as_answered};
 ghost use Rattle.pool_transaction.specs.Changing.{line_of, IsLegalChange};
-ghost use Rattle.ready_daemon.specs.Held.{AreHeldWithin};
-ghost use Rattle.ready_daemon.specs.Holding.{IsOwnOn};
+ghost use Rattle.ready_daemon.specs.ActiveTransactions.{AreActiveWithin};
+ghost use Rattle.ready_daemon.specs.OwnOnPool.{IsOwnTransactionOn};
 ghost use Rattle.ready_daemon.specs.Judged.{AreOnDevice};
 ghost use Rattle.ready_daemon.specs.Ready.{KeepsRest, IsReady};
 ghost use Rattle.puddled.specs.Frontiers.{AppliesAs};
@@ -25,7 +25,7 @@ use crate::daemon::Daemon;
 use crate::finding::{Need, Own};
 use crate::judged::Judged;
 use pm_model::{Host, HostFault};
-use pool_transaction::{AllOpened, Change};
+use pool_transaction::{PoolTransactions, Change};
 use pud_defs::machine::{Refusal, Reply};
 use pud_defs::records::Name;
 
@@ -35,7 +35,7 @@ use pud_defs::records::Name;
 fn change_in<H: Host>(
     h: &mut H,
     frames: u32,
-    all: &mut AllOpened,
+    all: &mut PoolTransactions,
     judged: &mut Judged,
     own: Own,
     change: Change,
@@ -44,17 +44,17 @@ fn change_in<H: Host>(
     requires room { device_words frames ≤ (H.counts h.old).size }
     requires slot { own.slot < POOL_RECORDS }
     requires number { own.log_number < ALL_LOGS }
-    requires within { AreHeldWithin frames all.old }
+    requires within { AreActiveWithin frames all.old }
     requires known { AreOnDevice frames judged.old }
     requires legal { IsLegalChange change }
     ensures reply { H.tells → (size : ℕ) → size ≡ (H.counts h.old).size → (w : World) → (sessions : List (Option Session)) → (client : ℕ) → (name : List ℕ)
-        → IsReady size w (record { frames = frames; held = all.old; sessions = sessions; judged = judged.old }) (H.state h.old) → IsOwnOn client name own.slot own.log_number all.old
+        → IsReady size w (record { frames = frames; active = all.old; sessions = sessions; judged = judged.old }) (H.state h.old) → IsOwnTransactionOn client name own.slot own.log_number all.old
         → IfOk result (λ reply. of_reply reply ≡ answer_by w (Option.Some (line_of change client name))) }
     ensures applies { H.tells → (size : ℕ) → size ≡ (H.counts h.old).size → (w : World) → (sessions : List (Option Session)) → (client : ℕ) → (name : List ℕ)
-        → IsReady size w (record { frames = frames; held = all.old; sessions = sessions; judged = judged.old }) (H.state h.old) → IsOwnOn client name own.slot own.log_number all.old
-        → AppliesAs size w (world_by w (Option.Some (line_of change client name))) (Option.Some (line_of change client name)) (record { frames = frames; held = all.new; sessions = sessions; judged = judged.new }) (fault_of result)
+        → IsReady size w (record { frames = frames; active = all.old; sessions = sessions; judged = judged.old }) (H.state h.old) → IsOwnTransactionOn client name own.slot own.log_number all.old
+        → AppliesAs size w (world_by w (Option.Some (line_of change client name))) (Option.Some (line_of change client name)) (record { frames = frames; active = all.new; sessions = sessions; judged = judged.new }) (fault_of result)
         (H.state h.old) (H.state h.new) }
-    ensures within { AreHeldWithin frames all.new }
+    ensures within { AreActiveWithin frames all.new }
     ensures known { AreOnDevice frames judged.new }
     ensures rest { H.tells → KeepsRest (H.state h.old) (H.state h.new) }
     ensures rests { H.tells → fault_of result ≡ Option.Some HostFault.Cut → IsRested (H.state h.new).now.words }
@@ -176,7 +176,7 @@ impl Daemon {
     /// transaction's log has no room for 37 units more; `Full`, the pool has no serial left, or as many objects as it may have, or is to grow where no
     /// UUID is left; `Space`, it is to grow and no frame is free; and of an update: `Object`, there is no object of the serial that is named, or of that
     /// which is to be the value; `Field`, the object has no such field; `Kind`, the field holds a number and the value is a reference, or the other way
-    /// round; `Held`, the object is to be freed and the root is it, or a pointer of an object, itself included, leads to it, or a value that was asked for
+    /// round; `ActiveTransaction`, the object is to be freed and the root is it, or a pointer of an object, itself included, leads to it, or a value that was asked for
     /// later is one of its fields or leads to it; `TooBig`, the transaction's log has no room for three units more.
     ///
     /// The only errors are the host's own: `Failed` where a call of it failed, `Cut` where power was lost. At either the device stands for what it

@@ -29,7 +29,7 @@ use crate::types::define_type;
 use log_space::clear_spaces;
 use nesting::Sessions;
 use pm_model::{Host, HostFault};
-use pool_transaction::{AllOpened, Change, Update, lose_all, none_opened};
+use pool_transaction::{PoolTransactions, Change, Update, lose_all, no_transactions};
 use pud_defs::machine::{Command, Refusal, Reply};
 use recover::{RecoverFault, recover};
 use script::parse_line;
@@ -103,7 +103,7 @@ pub struct Daemon {
     /// How many frames the device has, 4 to 1,024.
     pub(crate) frames: u32,
     /// The transactions that are open, by the numbers of their logs.
-    pub(crate) opened: AllOpened,
+    pub(crate) opened: PoolTransactions,
     /// Whose transactions they are, with which logs, and how often each was begun, by the slots of their pools' records.
     pub(crate) sessions: Sessions,
     /// Which pools were judged since the start, those on which a transaction is open among them, and their puddles.
@@ -114,14 +114,14 @@ impl Model for Daemon {
     ghost use Rattle.std.specs.Prelude.{◌≤◌};
     ghost use Rattle.pud_defs.specs.declared.layout.TheConstants.{MIN_FRAMES, MAX_FRAMES};
     ghost use Rattle.ready_daemon.specs.Memory.{Memory};
-    ghost use Rattle.ready_daemon.specs.Held.{AreHeldWithin};
+    ghost use Rattle.ready_daemon.specs.ActiveTransactions.{AreActiveWithin};
     ghost use Rattle.ready_daemon.specs.Judged.{AreOnDevice};
 
     ghost Value = { Memory };
 
-    ghost view = { λ d. record { frames = d.frames; held = d.opened; sessions = d.sessions; judged = d.judged } };
+    ghost view = { λ d. record { frames = d.frames; active = d.opened; sessions = d.sessions; judged = d.judged } };
 
-    ghost invariant = { λ d. (MIN_FRAMES ≤ d.frames) × (d.frames ≤ MAX_FRAMES) × AreHeldWithin d.frames d.opened × AreOnDevice d.frames d.judged };
+    ghost invariant = { λ d. (MIN_FRAMES ≤ d.frames) × (d.frames ≤ MAX_FRAMES) × AreActiveWithin d.frames d.opened × AreOnDevice d.frames d.judged };
 }
 
 impl From<RecoverFault> for StartFault {
@@ -376,7 +376,7 @@ impl Daemon {
     {
         Daemon {
             frames,
-            opened: none_opened(),
+            opened: no_transactions(),
             sessions: Sessions::new(),
             judged: Judged::none(),
         }

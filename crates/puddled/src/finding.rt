@@ -15,7 +15,7 @@ ghost use Rattle.pud_defs.specs.Spaces.{owner as owner_and};
 ghost use Rattle.pud_defs.specs.Step.{refusal_of};
 ghost use Rattle.pud_defs.specs.World.{World};
 ghost use Rattle.nesting.specs.Sessions.{session_in, AreSessions};
-ghost use Rattle.ready_daemon.specs.Holding.{IsOwnOn};
+ghost use Rattle.ready_daemon.specs.OwnOnPool.{IsOwnTransactionOn};
 ghost use Rattle.ready_daemon.specs.Judged.{known_in, AreJudged};
 ghost use Rattle.ready_daemon.specs.Owning.{refusal_found};
 ghost use Rattle.ready_daemon.specs.Ready.{IsReady};
@@ -138,7 +138,7 @@ impl Daemon {
         ensures judged { H.tells → (image : Image) → reads (H.state h.old).now.words ≡ image → AreJudged (self.old).frames (self.old).judged image → AreJudged (self.old).frames (self.new).judged image }
         ensures unjudged { needs_graph need ≡ false → (self.new).judged ≡ (self.old).judged }
         ensures frames { (self.new).frames ≡ (self.old).frames }
-        ensures held { (self.new).held ≡ (self.old).held }
+        ensures held { (self.new).active ≡ (self.old).active }
         ensures sessions { (self.new).sessions ≡ (self.old).sessions }
         ensures only_reads { OnlyReads H.tells H.state H.counts (fault_of result) h.old h.new }
     {
@@ -178,7 +178,7 @@ impl Daemon {
         ensures judged { H.tells → (image : Image) → reads (H.state h.old).now.words ≡ image → AreJudged (self.old).frames (self.old).judged image → AreJudged (self.old).frames (self.new).judged image }
         ensures unjudged { needs_graph need ≡ false → (self.new).judged ≡ (self.old).judged }
         ensures frames { (self.new).frames ≡ (self.old).frames }
-        ensures held { (self.new).held ≡ (self.old).held }
+        ensures held { (self.new).active ≡ (self.old).active }
         ensures sessions { (self.new).sessions ≡ (self.old).sessions }
         ensures only_reads { OnlyReads H.tells H.state H.counts (fault_of result) h.old h.new }
     {
@@ -211,11 +211,11 @@ impl Daemon {
         ensures refusal { H.tells → (size : ℕ) → (w : World) → IsReady size w self.old (H.state h.old)
             → IfOk result (λ found. refusal_found found ≡ refusal_of w (commands.Commit client name)) }
         ensures own { H.tells → (size : ℕ) → (w : World) → IsReady size w self.old (H.state h.old)
-            → IfOk result (λ found. IfOk found (λ own. IsOwnOn client name own.slot own.log_number (self.old).held)) }
+            → IfOk result (λ found. IfOk found (λ own. IsOwnTransactionOn client name own.slot own.log_number (self.old).active)) }
         ensures finds { IfOk result (λ found. IfOk found (FindsOwn client self.old)) }
         ensures ready { H.tells → (size : ℕ) → (w : World) → IsReady size w self.old (H.state h.old) → IsReady size w self.new (H.state h.old) }
         ensures frames { (self.new).frames ≡ (self.old).frames }
-        ensures held { (self.new).held ≡ (self.old).held }
+        ensures held { (self.new).active ≡ (self.old).active }
         ensures sessions { (self.new).sessions ≡ (self.old).sessions }
         ensures only_reads { OnlyReads H.tells H.state H.counts (fault_of result) h.old h.new }
     {

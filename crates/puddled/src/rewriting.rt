@@ -19,7 +19,7 @@ ghost use Rattle.lazy_rewrite.specs.Entries.{HasLowBases};
 ghost use Rattle.lazy_rewrite.specs.Batches.{Rewrites};
 ghost use Rattle.lazy_rewrite.specs.Frontiers.{steps_from, left_among, frontiers_of};
 ghost use Rattle.nesting.specs.declared.Session.{Session};
-ghost use Rattle.ready_daemon.specs.Memory.{Held};
+ghost use Rattle.ready_daemon.specs.Memory.{ActiveTransaction};
 ghost use Rattle.ready_daemon.specs.Judged.{AreOnDevice, pool_in, known_in};
 ghost use Rattle.ready_daemon.specs.Moves.{MovesTo, led_in};
 ghost use Rattle.ready_daemon.specs.Ready.{KeepsRest, IsReady, AppliesBy};
@@ -75,9 +75,9 @@ fn step_in<H: Host>(
     requires room { device_words frames ≤ (H.counts h.old).size }
     requires slot { slot < POOL_RECORDS }
     requires known { AreOnDevice frames judged.old }
-    ensures applies { H.tells → (size : ℕ) → size ≡ (H.counts h.old).size → (at : List (ℕ × Puddle)) → known_in judged.old slot ≡ Option.Some at → (w : World) → (held : List (Option Held)) → (sessions : List (Option Session))
-        → IsReady size w (record { frames = frames; held = held; sessions = sessions; judged = judged.old }) (H.state h.old)
-        → AppliesBy (MovesTo (led_in slot (frontiers_of (steps_from n at)))) size w w (record { frames = frames; held = held; sessions = sessions; judged = judged.new }) (fault_of result) (H.state h.old) (H.state h.new) }
+    ensures applies { H.tells → (size : ℕ) → size ≡ (H.counts h.old).size → (at : List (ℕ × Puddle)) → known_in judged.old slot ≡ Option.Some at → (w : World) → (active : List (Option ActiveTransaction)) → (sessions : List (Option Session))
+        → IsReady size w (record { frames = frames; active = active; sessions = sessions; judged = judged.old }) (H.state h.old)
+        → AppliesBy (MovesTo (led_in slot (frontiers_of (steps_from n at)))) size w w (record { frames = frames; active = active; sessions = sessions; judged = judged.new }) (fault_of result) (H.state h.old) (H.state h.new) }
     ensures steps { IfOk result (λ done. (at : List (ℕ × Puddle)) → known_in judged.old slot ≡ Option.Some at → done ≡ min n (left_among at)) }
     ensures moves { IfOk result (λ _. (kept : Known) → pool_in judged.old slot ≡ Option.Some kept → judged.new ≡ set judged.old slot (Option.Some (with_puddles (steps_from n kept.puddles) kept))) }
     ensures known { AreOnDevice frames judged.new }
@@ -110,7 +110,7 @@ impl Daemon {
             → AppliesAs size w (world_by w (Option.Some (commands.Rewrite name n))) (Option.Some (commands.Rewrite name n)) self.new (fault_of result) (H.state h.old) (H.state h.new) }
         ensures moves { H.tells → (size : ℕ) → size ≡ (H.counts h.old).size → (w : World) → IsReady size w self.old (H.state h.old) → refusal_of w (commands.Rewrite name n) ≡ Option.None
             → IfOk result (λ _. DoesSteps w.stored.frames name n (reads (H.state h.old).now.words) (reads (H.state h.new).now.words)) }
-        ensures held { (self.new).held ≡ (self.old).held }
+        ensures held { (self.new).active ≡ (self.old).active }
         ensures sessions { (self.new).sessions ≡ (self.old).sessions }
         ensures frames { (self.new).frames ≡ (self.old).frames }
         ensures rest { H.tells → KeepsRest (H.state h.old) (H.state h.new) }

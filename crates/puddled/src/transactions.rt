@@ -14,11 +14,11 @@ ghost use Rattle.pud_defs.specs.World.{World};
 ghost use Rattle.pud_defs.specs.Step.{after, answer_by, world_by};
 ghost use Rattle.pud_defs.specs.Step.Answer.{of_reply};
 ghost use Rattle.nesting.specs.Sessions.{session_in, depth_in, AreSessions};
-ghost use Rattle.ready_daemon.specs.Memory.{held_under};
-ghost use Rattle.ready_daemon.specs.Holding.{IsOwnOn};
+ghost use Rattle.ready_daemon.specs.Memory.{active_under};
+ghost use Rattle.ready_daemon.specs.OwnOnPool.{IsOwnTransactionOn};
 ghost use Rattle.ready_daemon.specs.Judged.{known_in};
 ghost use Rattle.ready_daemon.specs.Beginning.{MayBegin};
-ghost use Rattle.ready_daemon.specs.Held.{IsHeldWithin};
+ghost use Rattle.ready_daemon.specs.ActiveTransactions.{IsActiveWithin};
 ghost use Rattle.ready_daemon.specs.Leaving.{BehindTables, sessions_behind, judged_behind, world_without, world_without_log};
 ghost use Rattle.ready_daemon.specs.Ready.{KeepsRest, IsReady, Applies};
 ghost use Rattle.puddled.specs.declared.finding.Need.TheVariants as needs;
@@ -28,14 +28,14 @@ use crate::daemon::Daemon;
 use crate::finding::{Own, refusal_to_enter};
 use log_space::free_log;
 use pm_model::{Host, HostFault};
-use pool_transaction::{AllOpened, Opened, lose};
+use pool_transaction::{PoolTransactions, PoolTransaction, lose};
 use pud_defs::layout::CLIENT_LOGS;
 use pud_defs::machine::{Refusal, Reply};
 use pud_defs::records::Name;
 use std::mem;
 
 /// Holds a transaction under the number. What was held there, if anything, is given up.
-fn hold(all: &mut AllOpened, number: u32, opened: Opened)
+fn hold(all: &mut PoolTransactions, number: u32, opened: PoolTransaction)
     requires { number < ALL_LOGS }
     ensures held { all.new ≡ set all.old number (Option.Some opened) }
     ensures within { number < length all.old }
@@ -52,11 +52,11 @@ impl Daemon {
         requires number { number < ALL_LOGS }
         requires within { AreSessions (self.old).sessions }
         requires own { session_in (self.old).sessions slot ≡ Option.Some (record { client = client; log_number = number; depth = depth_in (self.old).sessions slot }) }
-        ensures reply { (size : ℕ) → (w : World) → (name : List ℕ) → (s : State) → IsReady size w self.old s → IsOwnOn client name slot number (self.old).held
+        ensures reply { (size : ℕ) → (w : World) → (name : List ℕ) → (s : State) → IsReady size w self.old s → IsOwnTransactionOn client name slot number (self.old).active
             → refusal_to w needs.Write client name ≡ Option.None → of_reply result ≡ answer_by w (Option.Some (commands.Begin client name)) }
-        ensures ready { (size : ℕ) → (w : World) → (name : List ℕ) → (s : State) → IsReady size w self.old s → IsOwnOn client name slot number (self.old).held
+        ensures ready { (size : ℕ) → (w : World) → (name : List ℕ) → (s : State) → IsReady size w self.old s → IsOwnTransactionOn client name slot number (self.old).active
             → refusal_to w needs.Write client name ≡ Option.None → IsReady size (world_by w (Option.Some (commands.Begin client name))) self.new s }
-        ensures held { (self.new).held ≡ (self.old).held }
+        ensures held { (self.new).active ≡ (self.old).active }
         ensures judged { (self.new).judged ≡ (self.old).judged }
         ensures frames { (self.new).frames ≡ (self.old).frames }
     {
@@ -97,19 +97,19 @@ impl Daemon {
         if let Err(fault) = self.sessions.enter(client, slot, number) {
             return Ok(Reply::No(refusal_to_enter(fault)));
         }
-        let opened = Opened::begin(h, self.frames, client, name, slot, number)?;
+        let opened = PoolTransaction::begin(h, self.frames, client, name, slot, number)?;
         hold(&mut self.opened, number, opened);
         Ok(Reply::Ok)
     }
 
     /// Lets go of what is held under the number: its session ends. Of its pool the puddles alone are known still.
-    fn release(&mut self, number: u32) -> Option<Opened>
+    fn release(&mut self, number: u32) -> Option<PoolTransaction>
         requires { number < ALL_LOGS }
-        ensures opened { result ≡ held_under (self.old).held number }
-        ensures within { IfSome result (IsHeldWithin (self.old).frames) }
-        ensures held { (self.new).held ≡ set (self.old).held number Option.None }
-        ensures sessions { (self.new).sessions ≡ sessions_behind (held_under (self.old).held number) (self.old).sessions }
-        ensures judged { (self.new).judged ≡ judged_behind (held_under (self.old).held number) (self.old).judged }
+        ensures opened { result ≡ active_under (self.old).active number }
+        ensures within { IfSome result (IsActiveWithin (self.old).frames) }
+        ensures held { (self.new).active ≡ set (self.old).active number Option.None }
+        ensures sessions { (self.new).sessions ≡ sessions_behind (active_under (self.old).active number) (self.old).sessions }
+        ensures judged { (self.new).judged ≡ judged_behind (active_under (self.old).active number) (self.old).judged }
         ensures frames { (self.new).frames ≡ (self.old).frames }
     {
         let opened = self.opened[number as usize].take();
@@ -133,7 +133,7 @@ impl Daemon {
         requires slot { own.slot < POOL_RECORDS }
         requires whose { session_in (self.old).sessions own.slot ≡ Option.Some (record { client = client; log_number = own.log_number; depth = depth_in (self.old).sessions own.slot }) }
         ensures applies { H.tells → (size : ℕ) → size ≡ (H.counts h.old).size → (w : World) → (name : List ℕ) → IsReady size w self.old (H.state h.old)
-            → IsOwnOn client name own.slot own.log_number (self.old).held
+            → IsOwnTransactionOn client name own.slot own.log_number (self.old).active
             → Applies size w (after w (commands.Commit client name)) self.new (fault_of result) (H.state h.old) (H.state h.new) }
         // Where it was begun more often than once, no call of the device is made.
         ensures nested { 1 < depth_in (self.old).sessions own.slot → h.new ≡ h.old }
@@ -158,11 +158,11 @@ impl Daemon {
         requires room { device_words (self.old).frames ≤ (H.counts h.old).size }
         requires number { number < ALL_LOGS }
         ensures applies { H.tells → (size : ℕ) → size ≡ (H.counts h.old).size → (w : World) → IsReady size w self.old (H.state h.old)
-            → Applies size w (world_without_log (held_under (self.old).held number) w) self.new (fault_of result) (H.state h.old) (H.state h.new) }
+            → Applies size w (world_without_log (active_under (self.old).active number) w) self.new (fault_of result) (H.state h.old) (H.state h.new) }
         // No word in front of the clients' logs changes.
         ensures behind { H.tells → (size : ℕ) → size ≡ (H.counts h.old).size → (w : World) → IsReady size w self.old (H.state h.old)
             → Changes (BehindTables w.stored.frames) (fault_of result) (H.state h.old) (H.state h.new) }
-        ensures held { (self.new).held ≡ set (self.old).held number Option.None }
+        ensures held { (self.new).active ≡ set (self.old).active number Option.None }
         ensures frames { (self.new).frames ≡ (self.old).frames }
         ensures rest { H.tells → KeepsRest (H.state h.old) (H.state h.new) }
         ensures rests { H.tells → fault_of result ≡ Option.Some HostFault.Cut → IsRested (H.state h.new).now.words }

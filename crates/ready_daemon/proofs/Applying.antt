@@ -136,16 +136,16 @@ AppliesBy-weaker early becomes weaker size w next memory fault old new a = recor
 }
 
 -- What is known of pools alone changes.
-pub IsReady-beside : (size : ℕ) (w : World) (memory next : Memory) (s : State) → next.frames ≡ memory.frames → next.held ≡ memory.held → next.sessions ≡ memory.sessions → (ready : IsReady size w memory s)
-    → KnowsPools w.stored.frames next.judged ready.held.opens (reads s.now.words) → IsReady size w next s
-IsReady-beside size w memory next s frames held same ready knows = subst (λ (m : Memory). IsReady size w m s) (λ i. record { frames = sym frames i; held = sym held i; sessions = sym same i; judged = next.judged }) (record {
+pub IsReady-beside : (size : ℕ) (w : World) (memory next : Memory) (s : State) → next.frames ≡ memory.frames → next.active ≡ memory.active → next.sessions ≡ memory.sessions → (ready : IsReady size w memory s)
+    → KnowsPools w.stored.frames next.judged ready.active.opens (reads s.now.words) → IsReady size w next s
+IsReady-beside size w memory next s frames active same ready knows = subst (λ (m : Memory). IsReady size w m s) (λ i. record { frames = sym frames i; active = sym active i; sessions = sym same i; judged = next.judged }) (record {
   mask = ready.mask;
   settled = ready.settled;
   tables = ready.tables;
   clients = ready.clients;
   frames = ready.frames;
   shelf = ready.shelf;
-  held = ready.held;
+  active = ready.active;
   sessions = ready.sessions;
   rest = ready.rest;
   logs = ready.logs;
@@ -157,7 +157,7 @@ pub IsReady-anew : (size : ℕ) (w : World) (memory : Memory) (s : State) (slot 
     → IsReady size w (record memory { judged = set memory.judged slot (Some known) }) s
 IsReady-anew size w memory s slot known ready was is =
     IsReady-beside size w memory (record memory { judged = set memory.judged slot (Some known) }) s refl refl refl ready
-    (KnowsPools-anew w.stored.frames slot memory.judged ready.held.opens known (reads s.now.words) was is ready.knows)
+    (KnowsPools-anew w.stored.frames slot memory.judged ready.active.opens known (reads s.now.words) was is ready.knows)
 
 -- what is known may be given by what it equals
 pub Applies-known : {becomes : Member → Option Member → Type 0} (size : ℕ) (w next : World) (memory : Memory) (fault : Option HostFault) (old new : State) (judged known : List (Option Known)) → judged ≡ known

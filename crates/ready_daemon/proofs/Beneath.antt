@@ -29,8 +29,8 @@ use Rattle.registry.specs.Pools.{KeepsTables}
 use Rattle.hybrid_tx.specs.Grounds.{pool_mine, finished_of}
 use Rattle.hybrid_tx.specs.Open.Masks.{is_open_record}
 use Rattle.hybrid_tx.proofs.Open.OpenMasks.{mine_behind, mask_cases}
-use Rattle.ready_daemon.specs.Memory.{Held, Memory}
-use Rattle.ready_daemon.specs.Held.{Holds, HasIdleLogs, ByOthers, NamesNone, StaysSingle, IsBeside}
+use Rattle.ready_daemon.specs.Memory.{ActiveTransaction, Memory}
+use Rattle.ready_daemon.specs.ActiveTransactions.{AreActive, HasIdleLogs, ByOthers, NamesNone, StaysSingle, LeavesMasked}
 use Rattle.ready_daemon.specs.Ready.{IsReady}
 use Rattle.ready_daemon.proofs.Beside.{records_all, daemon_log_unmasked, names_none_idle}
 
@@ -39,7 +39,7 @@ use Rattle.ready_daemon.proofs.Beside.{records_all, daemon_log_unmasked, names_n
 -- it does on a device that is ready
 pub ready_gate : (size : ℕ) (w : World) (memory : Memory) (s : State) → IsReady size w memory s → HasIdleGate DAEMON_LOG s.now.words
 ready_gate size w memory s ready =
-    let none : ready.mask DAEMON_LOG ≡ None = daemon_log_unmasked w memory.held ready.mask s.now.words ready.held in
+    let none : ready.mask DAEMON_LOG ≡ None = daemon_log_unmasked w memory.active ready.mask s.now.words ready.active in
     record { each = λ v had. ready.settled.idle v (subst (λ (c : Cell). Has (values c) v) (sym (masked-elsewhere ready.mask s.now.words DAEMON_LOG none)) had) }
 
 -- a log that counts nothing still does where its gate got no other value
@@ -113,9 +113,9 @@ single_changes may fault old new c told = record {
 }
 
 -- words were written beside the daemon log
-pub IsBeside-changes : (mask : Write) (may : Footprint) (fault : Option HostFault) (old new : State) → IsOff mask may → ((v : ℕ) → may DAEMON_LOG v → ⊥) → HasIdleGate DAEMON_LOG old.now.words
-    → (fault ≡ None → (k : ℕ) → StaysDurable may new k) → Changes may fault old new → IsBeside mask fault old new
-IsBeside-changes mask may fault old new off apart idle told c = record {
+pub LeavesMasked-changes : (mask : Write) (may : Footprint) (fault : Option HostFault) (old new : State) → IsOff mask may → ((v : ℕ) → may DAEMON_LOG v → ⊥) → HasIdleGate DAEMON_LOG old.now.words
+    → (fault ≡ None → (k : ℕ) → StaysDurable may new k) → Changes may fault old new → LeavesMasked mask fault old new
+LeavesMasked-changes mask may fault old new off apart idle told c = record {
   changes = by_others mask may fault old new off c;
   names = names_none-changes mask may fault old new apart idle c;
   single = λ none. single_changes may fault old new c (λ k outside. told none k);
@@ -136,17 +136,17 @@ committed_single es new k None none outside done = inl (λ v may. elim may [ inl
 committed_single es new k (Some v) is outside done = inr (HasOnly-own (new.now.words k) v (done v is))
 
 -- a batch was committed
-pub IsBeside-commits : (mask : Write) (es : List Entry) (fault : Option HostFault) (old new : State) → IsOff mask (ByBatch DAEMON_LOG es) → AreBatched es → Commits DAEMON_LOG es fault old new
-    → IsBeside mask fault old new
-IsBeside-commits mask es fault old new off batched c = record {
+pub LeavesMasked-commits : (mask : Write) (es : List Entry) (fault : Option HostFault) (old new : State) → IsOff mask (ByBatch DAEMON_LOG es) → AreBatched es → Commits DAEMON_LOG es fault old new
+    → LeavesMasked mask fault old new
+LeavesMasked-commits mask es fault old new off batched c = record {
   changes = by_others mask (ByBatch DAEMON_LOG es) fault old new off c.changes;
   names = names_none-commits mask es fault old new off batched c;
   single = λ none. single_changes (ByBatch DAEMON_LOG es) fault old new c.changes (λ k outside. committed_single es new k (batch_write es k) refl outside (c.durable none k));
 }
 
 -- these calls and then those
-pub IsBeside-then : (mask : Write) (fault : Option HostFault) (a b c : State) → IsBeside mask None a b → IsBeside mask fault b c → IsBeside mask fault a c
-IsBeside-then mask fault a b c p q =
+pub LeavesMasked-then : (mask : Write) (fault : Option HostFault) (a b c : State) → LeavesMasked mask None a b → LeavesMasked mask fault b c → LeavesMasked mask fault a c
+LeavesMasked-then mask fault a b c p q =
     let P = Silently (NamesNone mask) in
     record {
       changes = Changes-then (ByOthers mask) fault a b c p.changes q.changes;
@@ -157,7 +157,7 @@ IsBeside-then mask fault a b c p q =
 -- ---- what is read of the tables
 
 -- a word before the clients' logs that is masked is one of a record, which is read as it was
-module _ (w : World) (held : List (Option Held)) (mask : Write) (words : Words) (holds : Holds w held mask words) (k : ℕ) (below : k < tables_end w.stored.frames) where
+module _ (w : World) (active : List (Option ActiveTransaction)) (mask : Write) (words : Words) (holds : AreActive w active mask words) (k : ℕ) (below : k < tables_end w.stored.frames) where
   abbrev F : ℕ
   F = w.stored.frames
 
@@ -169,7 +169,7 @@ module _ (w : World) (held : List (Option Held)) (mask : Write) (words : Words) 
         | inl inside ↦ absurd (let it : true ≡ false = sym inside ∙ outside_log (log_number_at F o.pool.log_number) k (inl (omega arith)) in cc)
         | inr own ↦ elim (or_cases (pool_mine F (finished_of o.pool.puddles) k) (is_open_record o.pool k) own.0) [
           | inl mine ↦ absurd (let it : true ≡ false = sym mine ∙ mine_behind F (finished_of o.pool.puddles) k (omega arith) in cc)
-          | inr of ↦ (records_all w held mask words holds).each m.number o m.there k of ∙ own.1
+          | inr of ↦ (records_all w active mask words holds).each m.number o m.there k of ∙ own.1
         ]
       ]
 
@@ -178,11 +178,11 @@ module _ (w : World) (held : List (Option Held)) (mask : Write) (words : Words) 
   reads_by (Some v) is = masked_image-there mask (reads words) k v is ∙ sym (masked_reads v is)
 
 -- so masked or not these words read the same
-pub table_reads : (w : World) (held : List (Option Held)) (mask : Write) (words : Words) → Holds w held mask words → (k : ℕ) → k < tables_end w.stored.frames → masked_image mask (reads words) k ≡ reads words k
-table_reads w held mask words holds k below = reads_by w held mask words holds k below (mask k) refl
+pub table_reads : (w : World) (active : List (Option ActiveTransaction)) (mask : Write) (words : Words) → AreActive w active mask words → (k : ℕ) → k < tables_end w.stored.frames → masked_image mask (reads words) k ≡ reads words k
+table_reads w active mask words holds k below = reads_by w active mask words holds k below (mask k) refl
 
-pub read_masked : (w : World) (held : List (Option Held)) (mask : Write) (words : Words) → Holds w held mask words → (k : ℕ) → k < tables_end w.stored.frames → reads (masked mask words) k ≡ reads words k
-read_masked w held mask words holds k below = ap (λ (image : Image). image k) (reads-masked mask words) ∙ table_reads w held mask words holds k below
+pub read_masked : (w : World) (active : List (Option ActiveTransaction)) (mask : Write) (words : Words) → AreActive w active mask words → (k : ℕ) → k < tables_end w.stored.frames → reads (masked mask words) k ≡ reads words k
+read_masked w active mask words holds k below = ap (λ (image : Image). image k) (reads-masked mask words) ∙ table_reads w active mask words holds k below
 
 -- so also behind calls that write none of the masked ones
 kept_reads : (mask : Write) (old new : State) (k : ℕ) (o : Option ℕ) → mask k ≡ o → Changes (ByOthers mask) None old new → masked_image mask (reads old.now.words) k ≡ reads old.now.words k
@@ -194,19 +194,19 @@ kept_reads mask old new k (Some v) is c was =
     ∙ was
     ∙ sym (reads_kept (ByOthers mask) old new k c (λ x none. absurd (let no : Some v ≡ None = sym is ∙ none in cc)))
 
-pub table_reads-kept : (w : World) (held : List (Option Held)) (mask : Write) (old new : State) → Holds w held mask old.now.words → Changes (ByOthers mask) None old new → (k : ℕ) → k < tables_end w.stored.frames
+pub table_reads-kept : (w : World) (active : List (Option ActiveTransaction)) (mask : Write) (old new : State) → AreActive w active mask old.now.words → Changes (ByOthers mask) None old new → (k : ℕ) → k < tables_end w.stored.frames
     → masked_image mask (reads new.now.words) k ≡ reads new.now.words k
-table_reads-kept w held mask old new holds c k below = kept_reads mask old new k (mask k) refl c (table_reads w held mask old.now.words holds k below)
+table_reads-kept w active mask old new holds c k below = kept_reads mask old new k (mask k) refl c (table_reads w active mask old.now.words holds k below)
 
-pub read_masked-kept : (w : World) (held : List (Option Held)) (mask : Write) (old new : State) → Holds w held mask old.now.words → Changes (ByOthers mask) None old new → (k : ℕ) → k < tables_end w.stored.frames
+pub read_masked-kept : (w : World) (active : List (Option ActiveTransaction)) (mask : Write) (old new : State) → AreActive w active mask old.now.words → Changes (ByOthers mask) None old new → (k : ℕ) → k < tables_end w.stored.frames
     → reads (masked mask new.now.words) k ≡ reads new.now.words k
-read_masked-kept w held mask old new holds c k below = ap (λ (image : Image). image k) (reads-masked mask new.now.words) ∙ table_reads-kept w held mask old new holds c k below
+read_masked-kept w active mask old new holds c k below = ap (λ (image : Image). image k) (reads-masked mask new.now.words) ∙ table_reads-kept w active mask old new holds c k below
 
 -- the tables are as they are read
-pub keeps_tables : (w : World) (held : List (Option Held)) (mask : Write) (words : Words) → Holds w held mask words → KeepsTables w.stored.frames mask (reads words)
-keeps_tables w held mask words holds = record {
+pub keeps_tables : (w : World) (active : List (Option ActiveTransaction)) (mask : Write) (words : Words) → AreActive w active mask words → KeepsTables w.stored.frames mask (reads words)
+keeps_tables w active mask words holds = record {
   tables = tables_of-same w.stored.frames (masked_image mask (reads words)) (reads words)
-      (λ k low high. table_reads w held mask words holds k (omega arith))
-      (λ k low high. table_reads w held mask words holds k high);
-  number = table_reads w held mask words holds NEXT_NUMBER_WORD (omega arith);
+      (λ k low high. table_reads w active mask words holds k (omega arith))
+      (λ k low high. table_reads w active mask words holds k high);
+  number = table_reads w active mask words holds NEXT_NUMBER_WORD (omega arith);
 }

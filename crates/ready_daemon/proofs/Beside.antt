@@ -40,8 +40,8 @@ use Rattle.word_transaction.specs.Running.{SettlesTo, ByTransaction}
 use Rattle.word_transaction.proofs.Calls.{IsRunning-kept}
 use Rattle.word_transaction.proofs.Images.{SettlesTo-local, IsRunning-settles}
 use Rattle.pm_model.proofs.Words.{HasOnly-newest}
-use Rattle.ready_daemon.specs.Memory.{Held, Memory, held_under}
-use Rattle.ready_daemon.specs.Held.{pool_held, open_held, IsHeld, IsHeldUnder, Holds, HasSessions, HasDurableFrames, ByOthers, NamesNone, StaysSingle, KeepsHeld}
+use Rattle.ready_daemon.specs.Memory.{ActiveTransaction, Memory, active_under}
+use Rattle.ready_daemon.specs.ActiveTransactions.{open_pool_of, open_transaction_of, IsActive, IsActiveUnder, AreActive, HasSessions, HasDurableFrames, ByOthers, NamesNone, StaysSingle, KeepsActive}
 use Rattle.ready_daemon.specs.KnownPools.{KnowsPools}
 use Rattle.ready_daemon.specs.Moves.{LeavesPuddles}
 use Rattle.ready_daemon.specs.Ready.{IsReady, RefusesNone, StandsBetween, AppliesMasked, AppliesBy}
@@ -67,22 +67,22 @@ in_log : (at k : ℕ) → IsInLog at k → is_in_log at k ≡ true
 in_log at k inside = and_from _ _ (le-leb at k inside.low) (lt-ltb k (at + LOG_WORDS) inside.high)
 
 -- no word that may be written is one of its log, of the frames of its finished puddles, or of the records that it rests on
-pub record IsApart (F : ℕ) (held : Held) (p : OpenPool) (may : Footprint) : Type 0 where
-  pub log : (k v : ℕ) → may k v → IsInLog held.tx.log.gate_at k → ⊥
+pub record IsApart (F : ℕ) (active : ActiveTransaction) (p : OpenPool) (may : Footprint) : Type 0 where
+  pub log : (k v : ℕ) → may k v → IsInLog active.tx.log.gate_at k → ⊥
   pub mine : (k v : ℕ) → may k v → pool_mine F (finished_of p.puddles) k ≡ true → ⊥
   pub records : (k v : ℕ) → may k v → is_open_record p k ≡ true → ⊥
 
 -- The next world has the same of one transaction that is held.
-pub record KeepsOne (w next : World) (held : Held) : Type 0 where
+pub record KeepsOne (w next : World) (active : ActiveTransaction) : Type 0 where
   pub frames : next.stored.frames ≡ w.stored.frames
-  pub transaction : open_on held.name next ≡ open_on held.name w
-  pub present : next.clients held.client ≡ w.clients held.client
-  pub stored : graph_in (pool_named held.name next.stored) ≡ graph_in (pool_named held.name w.stored)
+  pub transaction : open_on active.name next ≡ open_on active.name w
+  pub present : next.clients active.client ≡ w.clients active.client
+  pub stored : graph_in (pool_named active.name next.stored) ≡ graph_in (pool_named active.name w.stored)
   pub types : (id m : ℕ) → map_of id w.stored.types ≡ Some m → map_of id next.stored.types ≡ Some m
   pub graphs : (st : Stored) (g : Graph) → graph_of w.stored.types st ≡ Some g → graph_of next.stored.types st ≡ Some g
 
-pub keeps_one : (w next : World) (held : List (Option Held)) → KeepsHeld w next held → (number : ℕ) (h : Held) → held_under held number ≡ Some h → KeepsOne w next h
-keeps_one w next held keeps number h there = record {
+pub keeps_one : (w next : World) (active : List (Option ActiveTransaction)) → KeepsActive w next active → (number : ℕ) (h : ActiveTransaction) → active_under active number ≡ Some h → KeepsOne w next h
+keeps_one w next active keeps number h there = record {
   frames = keeps.frames;
   transaction = ap (λ (o : List ℕ → Option Transaction). o h.name) keeps.transactions;
   present = keeps.present number h there;
@@ -91,21 +91,21 @@ keeps_one w next held keeps number h there = record {
   graphs = keeps.graphs;
 }
 
-module _ (w : World) (held : Held) (mask : Write) (words : Words) (is : IsHeld w held mask words) where
+module _ (w : World) (active : ActiveTransaction) (mask : Write) (words : Words) (is : IsActive w active mask words) where
   abbrev F : ℕ
   F = w.stored.frames
 
   abbrev p : OpenPool
-  p = pool_held held is.puddles is.rec is.who
+  p = open_pool_of active is.puddles is.rec is.who
 
   on_device : IsOnDevice F (finished_of is.puddles)
   on_device = open_on_device F p is.before is.pool
 
   -- every word of the log, of the frames of the pool's finished puddles and of its records is masked
-  pub log_masked : (k : ℕ) → IsInLog held.tx.log.gate_at k → mask k ≡ None → ⊥
+  pub log_masked : (k : ℕ) → IsInLog active.tx.log.gate_at k → mask k ≡ None → ⊥
   log_masked k inside none =
       let there = subst (λ (n : ℕ). IsInLog n k) is.gate inside in
-      let m = mask_of_log F p is.before k (in_log (log_number_at F held.log_number) k there) in
+      let m = mask_of_log F p is.before k (in_log (log_number_at F active.log_number) k there) in
       none-some m.0 (sym none ∙ is.masked k m.0 m.1)
 
   pub own_masked : (k : ℕ) → pool_mine F (finished_of is.puddles) k ≡ true → mask k ≡ None → ⊥
@@ -117,7 +117,7 @@ module _ (w : World) (held : Held) (mask : Write) (words : Words) (is : IsHeld w
       none-some (is.before k) (sym none ∙ is.masked k (is.before k) (mask_of_record F p is.before k place.high of))
 
   -- so what others write is apart from it
-  pub others_apart : IsApart F held p (ByOthers mask)
+  pub others_apart : IsApart F active p (ByOthers mask)
   others_apart = record {
     log = λ k v none inside. log_masked k inside none;
     mine = λ k v none mine. own_masked k mine none;
@@ -131,7 +131,7 @@ module _ (w : World) (held : Held) (mask : Write) (words : Words) (is : IsHeld w
       let low = place.low in
       (tables.each k (inr (omega arith)) place.high).each (image k) (picked.each k) ∙ is.records k of
 
-  module _ (may : Footprint) (apart : IsApart F held p may) where
+  module _ (may : Footprint) (apart : IsApart F active p may) where
     -- one that is left by calls that write none of its words is left with it open
     module _ (tables : HasDurableTables F words) (image : Image) (o : HasOrigin may words image) (names : NamesNone mask image) where
       same : (k : ℕ) → ((v : ℕ) → may k v → ⊥) → image k ≡ o.before k
@@ -145,16 +145,16 @@ module _ (w : World) (held : Held) (mask : Write) (words : Words) (is : IsHeld w
         unnamed = λ k v e. names.each k v (is.masked k v e);
         records = λ k of. same k (λ v wrote. apart.records k v wrote of) ∙ was_record k of;
         settles = subst (λ (n : ℕ). SettlesTo (pool_ground F (finished_of is.puddles)) n is.before image) is.gate
-            (SettlesTo-local (pool_ground F (finished_of is.puddles)) held.tx.log.gate_at is.before o.before image
+            (SettlesTo-local (pool_ground F (finished_of is.puddles)) active.tx.log.gate_at is.before o.before image
             (λ k inside. same k (λ v wrote. apart.log k v wrote inside)) (λ k mine. same k (λ v wrote. apart.mine k v wrote mine))
-            (IsRunning-settles (pool_ground F (finished_of is.puddles)) held.tx.log is.running.saving.es is.before o.before words is.running.saving.running o.picked));
+            (IsRunning-settles (pool_ground F (finished_of is.puddles)) active.tx.log is.running.saving.es is.before o.before words is.running.saving.running o.picked));
       }
 
 -- ---- what is held stays
 
-module _ (w next : World) (held : Held) (mask anew : Write) (old new : State) (is : IsHeld w held mask old.now.words) (keeps : KeepsOne w next held) (may : Footprint)
-    (apart : IsApart w.stored.frames held (pool_held held is.puddles is.rec is.who) may) (c : Changes may None old new)
-    (masked_so : (k v : ℕ) → open_mask w.stored.frames (pool_held held is.puddles is.rec is.who) is.before k ≡ Some v → anew k ≡ Some v)
+module _ (w next : World) (active : ActiveTransaction) (mask anew : Write) (old new : State) (is : IsActive w active mask old.now.words) (keeps : KeepsOne w next active) (may : Footprint)
+    (apart : IsApart w.stored.frames active (open_pool_of active is.puddles is.rec is.who) may) (c : Changes may None old new)
+    (masked_so : (k v : ℕ) → open_mask w.stored.frames (open_pool_of active is.puddles is.rec is.who) is.before k ≡ Some v → anew k ≡ Some v)
     (rests : RestsAs w.stored.frames is.puddles is.before new.now.words) where
   abbrev n : ℕ
   n = w.stored.frames
@@ -168,14 +168,14 @@ module _ (w next : World) (held : Held) (mask anew : Write) (old new : State) (i
             HasOnly-newest (new.now.words k) (is.before k) (rests.each k mine other) ∙ sym (HasOnly-newest (old.now.words k) (is.before k) (is.running.rests.each k mine other))
       ])
 
-  pub still_running : IsOpenOn n is.puddles next.stored.types held.tx.log is.before is.undone is.transaction.now is.transaction.laters new.now.words
+  pub still_running : IsOpenOn n is.puddles next.stored.types active.tx.log is.before is.undone is.transaction.now is.transaction.laters new.now.words
   still_running =
       let r = is.running in
       record {
         redo = r.redo;
         saving = record {
           es = r.saving.es;
-          running = IsRunning-kept (pool_ground n (finished_of is.puddles)) held.tx.log r.saving.es is.before may None old new c
+          running = IsRunning-kept (pool_ground n (finished_of is.puddles)) active.tx.log r.saving.es is.before may None old new c
               (λ k v inside wrote. apart.log k v wrote inside) (λ k v mine wrote. apart.mine k v wrote mine) r.saving.running;
           asks = r.saving.asks;
         };
@@ -189,8 +189,8 @@ module _ (w next : World) (held : Held) (mask anew : Write) (old new : State) (i
       }
 
   -- with these words masked behind calls that write none of its own
-  abbrev pub held_still : IsHeld next held anew new.now.words
-  held_still =
+  abbrev pub active_still : IsActive next active anew new.now.words
+  active_still =
       let back = sym keeps.frames in
       record {
         rec = is.rec;
@@ -204,53 +204,53 @@ module _ (w next : World) (held : Held) (mask anew : Write) (old new : State) (i
         units = is.units;
         present = keeps.present ∙ is.present;
         owner = is.owner;
-        gate = is.gate ∙ ap (λ (m : ℕ). log_number_at m held.log_number) back;
+        gate = is.gate ∙ ap (λ (m : ℕ). log_number_at m active.log_number) back;
         name = is.name;
         stored = keeps.stored ∙ is.stored;
-        pool = subst (λ (m : ℕ). IsOpenPool m (pool_held held is.puddles is.rec is.who) is.before) back is.pool;
+        pool = subst (λ (m : ℕ). IsOpenPool m (open_pool_of active is.puddles is.rec is.who) is.before) back is.pool;
         records = λ k of. reads_kept may old new k c (λ v wrote. apart.records k v wrote of) ∙ is.records k of;
-        running = subst (λ (m : ℕ). IsOpenOn m is.puddles next.stored.types held.tx.log is.before is.undone is.transaction.now is.transaction.laters new.now.words) back still_running;
-        masked = subst (λ (m : ℕ). (k v : ℕ) → open_mask m (pool_held held is.puddles is.rec is.who) is.before k ≡ Some v → anew k ≡ Some v) back masked_so;
+        running = subst (λ (m : ℕ). IsOpenOn m is.puddles next.stored.types active.tx.log is.before is.undone is.transaction.now is.transaction.laters new.now.words) back still_running;
+        masked = subst (λ (m : ℕ). (k v : ℕ) → open_mask m (open_pool_of active is.puddles is.rec is.who) is.before k ≡ Some v → anew k ≡ Some v) back masked_so;
       }
 
   -- and it is held so under its number, where it is open under that
-  abbrev pub still_under : (opens : Opens) (number : ℕ) → held.log_number ≡ number → opens number ≡ Some (open_held held is.puddles is.rec is.who is.before) → IsHeldUnder next opens anew new.now.words number held
-  still_under opens number its opened = record { is = held_still; number_is = its; opened = opened }
+  abbrev pub still_under : (opens : Opens) (number : ℕ) → active.log_number ≡ number → opens number ≡ Some (open_transaction_of active is.puddles is.rec is.who is.before) → IsActiveUnder next opens anew new.now.words number active
+  still_under opens number its opened = record { is = active_still; number_is = its; opened = opened }
 
 -- ---- all that is held
 
 -- what is open under a number is what is held there
-pub record IsOpenAs (w : World) (opens : Opens) (held : List (Option Held)) (mask : Write) (words : Words) (number : ℕ) (o : OpenTransaction) : Type 0 where
-  pub one : Held
-  pub there : held_under held number ≡ Some one
-  pub under : IsHeldUnder w opens mask words number one
-  pub same : open_held one under.is.puddles under.is.rec under.is.who under.is.before ≡ o
+pub record IsOpenAs (w : World) (opens : Opens) (active : List (Option ActiveTransaction)) (mask : Write) (words : Words) (number : ℕ) (o : OpenTransaction) : Type 0 where
+  pub one : ActiveTransaction
+  pub there : active_under active number ≡ Some one
+  pub under : IsActiveUnder w opens mask words number one
+  pub same : open_transaction_of one under.is.puddles under.is.rec under.is.who under.is.before ≡ o
 
-module _ (w : World) (held : List (Option Held)) (mask : Write) (words : Words) (holds : Holds w held mask words) where
+module _ (w : World) (active : List (Option ActiveTransaction)) (mask : Write) (words : Words) (holds : AreActive w active mask words) where
   abbrev N : ℕ
   N = w.stored.frames
 
   -- each is open so
-  abbrev pub held_is : (number : ℕ) (h : Held) → held_under held number ≡ Some h → IsHeld w h mask words
-  held_is number h there = (holds.each number h there).is
+  abbrev pub active_is : (number : ℕ) (h : ActiveTransaction) → active_under active number ≡ Some h → IsActive w h mask words
+  active_is number h there = (holds.each number h there).is
 
-  opened_by : (number : ℕ) (o : OpenTransaction) (x : Option Held) → held_under held number ≡ x → holds.opens number ≡ Some o → IsOpenAs w holds.opens held mask words number o
+  opened_by : (number : ℕ) (o : OpenTransaction) (x : Option ActiveTransaction) → active_under active number ≡ x → holds.opens number ≡ Some o → IsOpenAs w holds.opens active mask words number o
   opened_by number o None e there = absurd (none-some o (sym (holds.none number e) ∙ there))
   opened_by number o (Some h) e there =
       let under = holds.each number h e in
-      record { one = h; there = e; under = under; same = same_Some (open_held h under.is.puddles under.is.rec under.is.who under.is.before) o (sym under.opened ∙ there) }
+      record { one = h; there = e; under = under; same = same_Some (open_transaction_of h under.is.puddles under.is.rec under.is.who under.is.before) o (sym under.opened ∙ there) }
 
-  pub opened_as : (number : ℕ) (o : OpenTransaction) → holds.opens number ≡ Some o → IsOpenAs w holds.opens held mask words number o
-  opened_as number o there = opened_by number o (held_under held number) refl there
+  pub opened_as : (number : ℕ) (o : OpenTransaction) → holds.opens number ≡ Some o → IsOpenAs w holds.opens active mask words number o
+  opened_as number o there = opened_by number o (active_under active number) refl there
 
   -- none is open on a pool on which none is held
-  pub opens_apart_from : (slot : ℕ) → ((number : ℕ) (h : Held) → held_under held number ≡ Some h → h.slot ≢ slot) → (number : ℕ) (o : OpenTransaction) → holds.opens number ≡ Some o → o.pool.slot ≢ slot
+  pub opens_apart_from : (slot : ℕ) → ((number : ℕ) (h : ActiveTransaction) → active_under active number ≡ Some h → h.slot ≢ slot) → (number : ℕ) (o : OpenTransaction) → holds.opens number ≡ Some o → o.pool.slot ≢ slot
   opens_apart_from slot apart number o there same =
       let a = opened_as number o there in
       apart number a.one a.there (ap (λ (t : OpenTransaction). t.pool.slot) a.same ∙ same)
 
   -- each is open in the image, where each that is held is
-  module _ (image : Image) (each : (number : ℕ) (h : Held) (there : held_under held number ≡ Some h) (under : IsHeldUnder w holds.opens mask words number h) → IsLeftOpen N (pool_held h under.is.puddles under.is.rec under.is.who) under.is.before image) where
+  module _ (image : Image) (each : (number : ℕ) (h : ActiveTransaction) (there : active_under active number ≡ Some h) (under : IsActiveUnder w holds.opens mask words number h) → IsLeftOpen N (open_pool_of h under.is.puddles under.is.rec under.is.who) under.is.before image) where
     pub left_all : AreLeftOpen N holds.opens image
     left_all = record {
       each = λ number o there.
@@ -267,27 +267,27 @@ module _ (w : World) (held : List (Option Held)) (mask : Write) (words : Words) 
   }
 
   -- a word that none has is not masked
-  pub unmasked_by_all : (k : ℕ) → ((number : ℕ) (h : Held) (there : held_under held number ≡ Some h) (is : IsHeld w h mask words) → open_mask N (pool_held h is.puddles is.rec is.who) is.before k ≡ None) → mask k ≡ None
+  pub unmasked_by_all : (k : ℕ) → ((number : ℕ) (h : ActiveTransaction) (there : active_under active number ≡ Some h) (is : IsActive w h mask words) → open_mask N (open_pool_of h is.puddles is.rec is.who) is.before k ≡ None) → mask k ≡ None
   unmasked_by_all k each = nothing_given (mask k) (λ v given.
       let m = holds.masks.each k v given in
       let a = opened_as m.number m.transaction m.there in
       none-some v (sym (each m.number a.one a.there a.under.is) ∙ ap (λ (t : OpenTransaction). open_mask N t.pool t.before k) a.same ∙ m.is))
 
-  given_by_one : (k v : ℕ) → ((number : ℕ) (h : Held) (there : held_under held number ≡ Some h)
-      → open_mask N (pool_held h (holds.each number h there).is.puddles (holds.each number h there).is.rec (holds.each number h there).is.who) (holds.each number h there).is.before k ≡ None)
-      → (number : ℕ) (o : OpenTransaction) → holds.opens number ≡ Some o → open_mask N o.pool o.before k ≡ Some v → (x : Option Held) → held_under held number ≡ x → ⊥
+  given_by_one : (k v : ℕ) → ((number : ℕ) (h : ActiveTransaction) (there : active_under active number ≡ Some h)
+      → open_mask N (open_pool_of h (holds.each number h there).is.puddles (holds.each number h there).is.rec (holds.each number h there).is.who) (holds.each number h there).is.before k ≡ None)
+      → (number : ℕ) (o : OpenTransaction) → holds.opens number ≡ Some o → open_mask N o.pool o.before k ≡ Some v → (x : Option ActiveTransaction) → active_under active number ≡ x → ⊥
   given_by_one k v each number o there is None e = none-some o (sym (holds.none number e) ∙ there)
   given_by_one k v each number o there is (Some h) e =
       let under = holds.each number h e in
-      let same = same_Some (open_held h under.is.puddles under.is.rec under.is.who under.is.before) o (sym under.opened ∙ there) in
+      let same = same_Some (open_transaction_of h under.is.puddles under.is.rec under.is.who under.is.before) o (sym under.opened ∙ there) in
       none-some v (sym (each number h e) ∙ ap (λ (t : OpenTransaction). open_mask N t.pool t.before k) same ∙ is)
 
   -- the same, by what is known of each
-  pub unmasked_by_each : (k : ℕ) → ((number : ℕ) (h : Held) (there : held_under held number ≡ Some h)
-      → open_mask N (pool_held h (holds.each number h there).is.puddles (holds.each number h there).is.rec (holds.each number h there).is.who) (holds.each number h there).is.before k ≡ None) → mask k ≡ None
+  pub unmasked_by_each : (k : ℕ) → ((number : ℕ) (h : ActiveTransaction) (there : active_under active number ≡ Some h)
+      → open_mask N (open_pool_of h (holds.each number h there).is.puddles (holds.each number h there).is.rec (holds.each number h there).is.who) (holds.each number h there).is.before k ≡ None) → mask k ≡ None
   unmasked_by_each k each = nothing_given (mask k) (λ v given.
       let m = holds.masks.each k v given in
-      given_by_one k v each m.number m.transaction m.there m.is (held_under held m.number) refl)
+      given_by_one k v each m.number m.transaction m.there m.is (active_under active m.number) refl)
 
   -- no word in front of the pool table is masked
   pub unmasked_front : (k : ℕ) → k < POOL_TABLE → mask k ≡ None
@@ -309,18 +309,18 @@ module _ (w : World) (held : List (Option Held)) (mask : Write) (words : Words) 
 
   -- ---- the words that one of them may write
 
-  module _ (number other : ℕ) (h g : Held) (here : held_under held number ≡ Some h) (there : held_under held other ≡ Some g) (apart : number ≢ other) where
-    abbrev its : IsHeldUnder w holds.opens mask words number h
+  module _ (number other : ℕ) (h g : ActiveTransaction) (here : active_under active number ≡ Some h) (there : active_under active other ≡ Some g) (apart : number ≢ other) where
+    abbrev its : IsActiveUnder w holds.opens mask words number h
     its = holds.each number h here
 
-    abbrev others : IsHeldUnder w holds.opens mask words other g
+    abbrev others : IsActiveUnder w holds.opens mask words other g
     others = holds.each other g there
 
     abbrev o : OpenTransaction
-    o = open_held h its.is.puddles its.is.rec its.is.who its.is.before
+    o = open_transaction_of h its.is.puddles its.is.rec its.is.who its.is.before
 
     abbrev q : OpenTransaction
-    q = open_held g others.is.puddles others.is.rec others.is.who others.is.before
+    q = open_transaction_of g others.is.puddles others.is.rec others.is.who others.is.before
 
     in_its_log : (k : ℕ) → IsInLog h.tx.log.gate_at k → is_in_log (log_number_at N h.log_number) k ≡ true
     in_its_log k inside = in_log (log_number_at N h.log_number) k (subst (λ (n : ℕ). IsInLog n k) its.is.gate inside)
@@ -329,7 +329,7 @@ module _ (w : World) (held : List (Option Held)) (mask : Write) (words : Words) 
     in_others_log k inside = in_log (log_number_at N g.log_number) k (subst (λ (n : ℕ). IsInLog n k) others.is.gate inside)
 
     -- are no words of another
-    pub own_apart : IsApart N g (pool_held g others.is.puddles others.is.rec others.is.who) (ByTransaction (pool_ground N (finished_of its.is.puddles)) h.tx.log.gate_at)
+    pub own_apart : IsApart N g (open_pool_of g others.is.puddles others.is.rec others.is.who) (ByTransaction (pool_ground N (finished_of its.is.puddles)) h.tx.log.gate_at)
     own_apart = record {
       log = λ k v wrote inside. elim wrote [
         | inl log ↦ two_logs N holds.opens (reads words) holds.are records_all number other o q its.opened others.opened apart k (in_its_log k log) (in_others_log k inside)
@@ -346,24 +346,24 @@ module _ (w : World) (held : List (Option Held)) (mask : Write) (words : Words) 
     }
 
 -- no word of the daemon log is masked
-pub daemon_log_unmasked : (w : World) (held : List (Option Held)) (mask : Write) (words : Words) → Holds w held mask words → mask DAEMON_LOG ≡ None
-daemon_log_unmasked w held mask words holds = unmasked_front w held mask words holds DAEMON_LOG (omega arith)
+pub daemon_log_unmasked : (w : World) (active : List (Option ActiveTransaction)) (mask : Write) (words : Words) → AreActive w active mask words → mask DAEMON_LOG ≡ None
+daemon_log_unmasked w active mask words holds = unmasked_front w active mask words holds DAEMON_LOG (omega arith)
 
 -- ---- what is held stays beside others
 
 -- The words of the puddles that are not finished rest, of each that is held.
-pub record RestBehind (w : World) (held : List (Option Held)) (mask : Write) (words : Words) (holds : Holds w held mask words) (after : Words) : Type 0 where
-  pub each : (number : ℕ) (h : Held) (there : held_under held number ≡ Some h) → RestsAs w.stored.frames (holds.each number h there).is.puddles (holds.each number h there).is.before after
+pub record RestBehind (w : World) (active : List (Option ActiveTransaction)) (mask : Write) (words : Words) (holds : AreActive w active mask words) (after : Words) : Type 0 where
+  pub each : (number : ℕ) (h : ActiveTransaction) (there : active_under active number ≡ Some h) → RestsAs w.stored.frames (holds.each number h there).is.puddles (holds.each number h there).is.before after
 
-module _ (w next : World) (held : List (Option Held)) (mask : Write) (old new : State) (holds : Holds w held mask old.now.words) (keeps : KeepsHeld w next held) (c : Changes (ByOthers mask) None old new)
-    (rests : (number : ℕ) (h : Held) (there : held_under held number ≡ Some h) → RestsAs w.stored.frames (holds.each number h there).is.puddles (holds.each number h there).is.before new.now.words) where
-  abbrev pub under_still : (number : ℕ) (h : Held) → held_under held number ≡ Some h → IsHeldUnder next holds.opens mask new.now.words number h
+module _ (w next : World) (active : List (Option ActiveTransaction)) (mask : Write) (old new : State) (holds : AreActive w active mask old.now.words) (keeps : KeepsActive w next active) (c : Changes (ByOthers mask) None old new)
+    (rests : (number : ℕ) (h : ActiveTransaction) (there : active_under active number ≡ Some h) → RestsAs w.stored.frames (holds.each number h there).is.puddles (holds.each number h there).is.before new.now.words) where
+  abbrev pub under_still : (number : ℕ) (h : ActiveTransaction) → active_under active number ≡ Some h → IsActiveUnder next holds.opens mask new.now.words number h
   under_still number h there =
       let under = holds.each number h there in
-      still_under w next h mask mask old new under.is (keeps_one w next held keeps number h there) (ByOthers mask) (others_apart w h mask old.now.words under.is) c under.is.masked (rests number h there) holds.opens number
+      still_under w next h mask mask old new under.is (keeps_one w next active keeps number h there) (ByOthers mask) (others_apart w h mask old.now.words under.is) c under.is.masked (rests number h there) holds.opens number
       under.number_is under.opened
 
-  abbrev pub holds_still : Holds next held mask new.now.words
+  abbrev pub holds_still : AreActive next active mask new.now.words
   holds_still =
       let back = sym keeps.frames in
       record {
@@ -377,8 +377,8 @@ module _ (w next : World) (held : List (Option Held)) (mask : Write) (old new : 
       }
 
 -- and so do its sessions
-pub sessions_still : (w next : World) (held : List (Option Held)) (sessions : List (Option Session)) → next.transactions ≡ w.transactions → HasSessions w held sessions → HasSessions next held sessions
-sessions_still w next held sessions same has = record {
+pub sessions_still : (w next : World) (active : List (Option ActiveTransaction)) (sessions : List (Option Session)) → next.transactions ≡ w.transactions → HasSessions w active sessions → HasSessions next active sessions
+sessions_still w next active sessions same has = record {
   each = λ number h t there is. has.each number h t there (ap (λ (o : List ℕ → Option Transaction). o h.name) (sym same) ∙ is);
   only = has.only;
 }
@@ -405,10 +405,10 @@ module _ (size : ℕ) (w next : World) (memory : Memory) (fault : Option HostFau
 
   stands_between : (image : Image) → MaskedBetween image → NamesNone ready.mask image → HasOrigin (ByOthers ready.mask) old.now.words image → StandsBetween size w next image
   stands_between image (inl before) names origin =
-      let under = under_mask w memory.held ready.mask old.now.words ready.held size ready.tables image origin names in
+      let under = under_mask w memory.active ready.mask old.now.words ready.active size ready.tables image origin names in
       (inl (under.stands (closed w) refl before), under.none (closed w) refl before)
   stands_between image (inr after) names origin =
-      let under = under_mask w memory.held ready.mask old.now.words ready.held size ready.tables image origin names in
+      let under = under_mask w memory.active ready.mask old.now.words ready.active size ready.tables image origin names in
       (inr (under.stands (closed next) (sym frames) after), under.none (closed next) (sym frames) after)
 
   -- at every moment each image stands for one of the worlds
@@ -420,30 +420,30 @@ module _ (size : ℕ) (w next : World) (memory : Memory) (fault : Option HostFau
       Leaves-weaker (Silently (λ image. (MaskedBetween image × NamesNone ready.mask image) × HasOrigin (ByOthers ready.mask) old.now.words image)) (Silently (StandsBetween size w next)) old new
       (λ bytes image m. (m.0, stands_between image m.1.0.0 m.1.0.1 m.1.1)) from
 
-module _ (size : ℕ) (w next : World) (memory : Memory) (fault : Option HostFault) (old new : State) (ready : IsReady size w memory old) (keeps : KeepsHeld w next memory.held)
+module _ (size : ℕ) (w next : World) (memory : Memory) (fault : Option HostFault) (old new : State) (ready : IsReady size w memory old) (keeps : KeepsActive w next memory.active)
     (a : AppliesMasked size w next ready.mask fault old new) where
   -- with this memory behind it, which holds the same
-  pub Applies-beside : (becomes : Member → Option Member → Type 0) → LeavesPuddles w.stored.frames becomes old new → (behind : Memory) → behind.frames ≡ memory.frames → behind.held ≡ memory.held → behind.sessions ≡ memory.sessions
-      → (fault ≡ None → KnowsPools w.stored.frames behind.judged ready.held.opens (reads new.now.words))
-      → (fault ≡ None → RestBehind w memory.held ready.mask old.now.words ready.held new.now.words)
+  pub Applies-beside : (becomes : Member → Option Member → Type 0) → LeavesPuddles w.stored.frames becomes old new → (behind : Memory) → behind.frames ≡ memory.frames → behind.active ≡ memory.active → behind.sessions ≡ memory.sessions
+      → (fault ≡ None → KnowsPools w.stored.frames behind.judged ready.active.opens (reads new.now.words))
+      → (fault ≡ None → RestBehind w memory.active ready.mask old.now.words ready.active new.now.words)
       → AppliesBy becomes size w next behind fault old new
   Applies-beside becomes puddles behind frames holds same_sessions knows rest = record {
     moments = moments_beside size w next memory fault old new ready keeps.frames a;
     puddles = puddles;
     quiet = Changes-said (ByOthers ready.mask) fault old new a.beside.changes;
-    ready = λ none. subst (λ (m : Memory). IsReady size next m new) (λ i. record { frames = behind.frames; held = sym holds i; sessions = sym same_sessions i; judged = behind.judged }) (record {
+    ready = λ none. subst (λ (m : Memory). IsReady size next m new) (λ i. record { frames = behind.frames; active = sym holds i; sessions = sym same_sessions i; judged = behind.judged }) (record {
       mask = ready.mask;
       settled = a.settled none;
       tables = a.tables none;
       clients = a.clients none;
       frames = frames ∙ ready.frames ∙ sym keeps.frames;
       shelf = a.beside.changes.shelf ∙ ready.shelf ∙ sym a.shelf;
-      held = holds_still w next memory.held ready.mask old new ready.held keeps (subst (λ (f : Option HostFault). Changes (ByOthers ready.mask) f old new) none a.beside.changes)
+      active = holds_still w next memory.active ready.mask old new ready.active keeps (subst (λ (f : Option HostFault). Changes (ByOthers ready.mask) f old new) none a.beside.changes)
           (rest none).each;
-      sessions = sessions_still w next memory.held memory.sessions keeps.transactions ready.sessions;
+      sessions = sessions_still w next memory.active memory.sessions keeps.transactions ready.sessions;
       rest = subst (λ (n : ℕ). HasDurableFrames n (masked ready.mask new.now.words)) (sym keeps.frames) (durable_frames_still w.stored.frames ready.mask old new (a.beside.single none) ready.rest);
       logs = a.logs none;
-      knows = subst (λ (n : ℕ). KnowsPools n behind.judged ready.held.opens (reads new.now.words)) (sym keeps.frames) (knows none);
+      knows = subst (λ (n : ℕ). KnowsPools n behind.judged ready.active.opens (reads new.now.words)) (sym keeps.frames) (knows none);
     });
     rests = a.beside.changes.rests;
     script = a.beside.changes.script;
@@ -458,7 +458,7 @@ names_none_idle mask image idle = record { each = λ k v is. new_value-closed de
 -- the daemon log counts nothing in any image
 pub ready_idle : (size : ℕ) (w : World) (memory : Memory) (s : State) → IsReady size w memory s → (image : Image) → Picks s.now.words image → is_idle_gate (image DAEMON_LOG) ≡ true
 ready_idle size w memory s ready image picked =
-    let none : ready.mask DAEMON_LOG ≡ None = daemon_log_unmasked w memory.held ready.mask s.now.words ready.held in
+    let none : ready.mask DAEMON_LOG ≡ None = daemon_log_unmasked w memory.active ready.mask s.now.words ready.active in
     ready.settled.idle (image DAEMON_LOG) (subst (λ (c : Cell). Has (values c) (image DAEMON_LOG)) (sym (masked-elsewhere ready.mask s.now.words DAEMON_LOG none)) (picked.each DAEMON_LOG))
 
 -- each image that may be left stands for the world, and none of its logs is refused
@@ -466,5 +466,5 @@ pub ready_stands : (size : ℕ) (w : World) (memory : Memory) (s : State) → Is
 ready_stands size w memory s ready image picked =
     let idle = ready.settled.stands (masked_image ready.mask image) (Picks-masked ready.mask s.now.words image picked) in
     let origin : HasOrigin (ByOthers ready.mask) s.now.words image = record { before = image; picked = picked; from = record { each = λ k. inl refl } } in
-    let under = under_mask w memory.held ready.mask s.now.words ready.held size ready.tables image origin (names_none_idle ready.mask image (ready_idle size w memory s ready image picked)) in
+    let under = under_mask w memory.active ready.mask s.now.words ready.active size ready.tables image origin (names_none_idle ready.mask image (ready_idle size w memory s ready image picked)) in
     (under.stands (closed w) refl idle, under.none (closed w) refl idle)

@@ -39,14 +39,14 @@ use Rattle.log_space.proofs.Writing.{writes_elsewhere}
 use Rattle.std.proofs.lemmas.Option.{none-some}
 use Rattle.ready_daemon.proofs.RestBeside.{rest_beside}
 use Rattle.ready_daemon.specs.Memory.{Memory}
-use Rattle.ready_daemon.specs.Held.{HasIdleLogs, ByOthers, IsOthers, IsBeside}
+use Rattle.ready_daemon.specs.ActiveTransactions.{HasIdleLogs, ByOthers, AreOfOtherClients, LeavesMasked}
 use Rattle.ready_daemon.specs.KnownPools.{KnowsPools}
 use Rattle.ready_daemon.specs.Moves.{Stays}
 use Rattle.ready_daemon.specs.Ready.{IsReady, Applies, IsUsedAlone, IsClosedIfNamed, ClosesBefore}
 use Rattle.ready_daemon.proofs.Beside.{ready_idle, Applies-beside, RestBehind}
-use Rattle.ready_daemon.proofs.Beneath.{ready_gate, gate_kept, idle_kept, logs_kept, IsBeside-changes, IsBeside-commits, IsBeside-then, read_masked-kept}
+use Rattle.ready_daemon.proofs.Beneath.{ready_gate, gate_kept, idle_kept, logs_kept, LeavesMasked-changes, LeavesMasked-commits, LeavesMasked-then, read_masked-kept}
 use Rattle.ready_daemon.proofs.PuddlesLeft.{record_mask, used_below, IsOff-record, LeavesPuddles-beside}
-use Rattle.ready_daemon.proofs.Others.{off_gates, off_record, keeps_held, gone}
+use Rattle.ready_daemon.proofs.Others.{off_gates, off_record, keeps_active, gone}
 use Rattle.ready_daemon.proofs.JudgedKept.{KeepsPools}
 use Rattle.ready_daemon.proofs.JudgedLines.{KeepsPools-client}
 use Rattle.ready_daemon.proofs.JudgedOpen.{KnowsPools-all}
@@ -100,28 +100,28 @@ record_batched slot vals = All-cons IsBatchEntry (batch_entry (space_record_at s
 abbrev pub after_this : World → ℕ → Option Owner → World
 after_this w slot now = record w { clients = with_owner slot now w.clients }
 
-module _ (size : ℕ) (w : World) (memory : Memory) (slot : ℕ) (known : slot < CLIENTS) (others : IsOthers slot memory.held) (a : State) (ready : IsReady size w memory a) where
+module _ (size : ℕ) (w : World) (memory : Memory) (slot : ℕ) (known : slot < CLIENTS) (others : AreOfOtherClients slot memory.active) (a : State) (ready : IsReady size w memory a) where
   abbrev may_stand : World → Image → Type 0
   may_stand next image = (idle_world_of size image ≡ Some (closed w)) ⊎ (idle_world_of size image ≡ Some (closed next))
 
   -- the gates are none of the words that are masked
   pub gates_apart : (F : ℕ) → F ≡ w.stored.frames → IsOff ready.mask (ByClosing F slot)
-  gates_apart F is = subst (λ (n : ℕ). IsOff ready.mask (ByClosing n slot)) (sym is) (off_gates w memory.held ready.mask a.now.words slot ready.held known others)
+  gates_apart F is = subst (λ (n : ℕ). IsOff ready.mask (ByClosing n slot)) (sym is) (off_gates w memory.active ready.mask a.now.words slot ready.active known others)
 
   -- nor is the record
   pub record_apart : (vals : List ℕ) → length vals ≤ SPACE_RECORD_WORDS → IsOff ready.mask (ByBatch DAEMON_LOG (record_batch slot vals))
-  record_apart vals few = off_record w memory.held ready.mask a.now.words slot ready.held known vals few others
+  record_apart vals few = off_record w memory.active ready.mask a.now.words slot ready.active known vals few others
 
-  beside_closing : (F : ℕ) (fault : Option HostFault) (b : State) → F ≡ w.stored.frames → ClosesGates F slot fault a b → IsBeside ready.mask fault a b
+  beside_closing : (F : ℕ) (fault : Option HostFault) (b : State) → F ≡ w.stored.frames → ClosesGates F slot fault a b → LeavesMasked ready.mask fault a b
   beside_closing F fault b is p =
-      IsBeside-changes ready.mask (ByClosing F slot) fault a b (gates_apart F is) (λ v gate. no_gate F slot DAEMON_LOG v (omega arith) gate) (ready_gate size w memory a ready) (closed_single F slot fault a b p) p.changes
+      LeavesMasked-changes ready.mask (ByClosing F slot) fault a b (gates_apart F is) (λ v gate. no_gate F slot DAEMON_LOG v (omega arith) gate) (ready_gate size w memory a ready) (closed_single F slot fault a b p) p.changes
 
   -- no gate is a word of the record of a puddle
   apart_closing : (F : ℕ) (fault : Option HostFault) (b : State) → F ≡ w.stored.frames → ClosesGates F slot fault a b → (frame : ℕ) (m : Member)
-      → (tables_of w.stored.frames (reads a.now.words)).puddles frame ≡ Some m → IsBeside (record_mask frame (reads a.now.words)) fault a b
+      → (tables_of w.stored.frames (reads a.now.words)).puddles frame ≡ Some m → LeavesMasked (record_mask frame (reads a.now.words)) fault a b
   apart_closing F fault b is p frame m used =
       let below = used_below w.stored.frames (reads a.now.words) frame m used in
-      IsBeside-changes (record_mask frame (reads a.now.words)) (ByClosing F slot) fault a b
+      LeavesMasked-changes (record_mask frame (reads a.now.words)) (ByClosing F slot) fault a b
       (IsOff-record frame (reads a.now.words) (ByClosing F slot) (λ k v low high. no_gate F slot k v (omega (arith, is)))) (λ v gate. no_gate F slot DAEMON_LOG v (omega arith) gate)
       (ready_gate size w memory a ready) (closed_single F slot fault a b p) p.changes
 
@@ -130,7 +130,7 @@ module _ (size : ℕ) (w : World) (memory : Memory) (slot : ℕ) (known : slot <
       → Closes size (closed w) slot (Some fault) (masked_state ready.mask a) (masked_state ready.mask b) → Applies size w (after_this w slot now) memory (Some fault) a b
   unclosed F now fault b is gates p =
       let none : Some fault ≡ None → ⊥ = λ no. let it : None ≡ Some fault = sym no in cc in
-      Applies-beside size w (after_this w slot now) memory (Some fault) a b ready (keeps_held w memory.held slot now others) (record {
+      Applies-beside size w (after_this w slot now) memory (Some fault) a b ready (keeps_active w memory.active slot now others) (record {
         beside = beside_closing F (Some fault) b is gates;
         moments = Leaves-weaker (Silently (λ (image : Image). idle_world_of size image ≡ Some (closed w))) (Silently (may_stand (after_this w slot now))) (masked_state ready.mask a) (masked_state ready.mask b)
             (λ bytes image m. (m.0, inl m.1)) p.moments;
@@ -160,27 +160,27 @@ module _ (size : ℕ) (w : World) (memory : Memory) (slot : ℕ) (known : slot <
         ∙ ready.clients client low
 
     module _ (fault : Option HostFault) (k : Commits DAEMON_LOG es fault b c) (q : ChangesOwner size (closed w) slot now es fault (masked_state ready.mask b) (masked_state ready.mask c)) where
-      beside_changed : IsBeside ready.mask fault a c
+      beside_changed : LeavesMasked ready.mask fault a c
       beside_changed =
-          IsBeside-then ready.mask fault a b c (beside_closing F None b is gates)
-          (IsBeside-commits ready.mask es fault b c (record_apart vals few) (record_batched slot vals) k)
+          LeavesMasked-then ready.mask fault a b c (beside_closing F None b is gates)
+          (LeavesMasked-commits ready.mask es fault b c (record_apart vals few) (record_batched slot vals) k)
 
       -- the client's record lies in front of those of puddles
       not_named : (k v : ℕ) → PUDDLE_TABLE ≤ k → ByBatch DAEMON_LOG es k v → ⊥
       not_named k v low (inl log) = let to = log.high in absurd (omega arith)
       not_named k v low (inr named) = absurd (let it : None ≡ Some named.value = sym (writes_elsewhere slot k vals (inr (omega arith))) ∙ named.is in cc)
 
-      apart_changed : (frame : ℕ) (m : Member) → (tables_of w.stored.frames (reads a.now.words)).puddles frame ≡ Some m → IsBeside (record_mask frame (reads a.now.words)) fault a c
+      apart_changed : (frame : ℕ) (m : Member) → (tables_of w.stored.frames (reads a.now.words)).puddles frame ≡ Some m → LeavesMasked (record_mask frame (reads a.now.words)) fault a c
       apart_changed frame m used =
           let mask = record_mask frame (reads a.now.words) in
-          IsBeside-then mask fault a b c (apart_closing F None b is gates frame m used)
-          (IsBeside-commits mask es fault b c (IsOff-record frame (reads a.now.words) (ByBatch DAEMON_LOG es) (λ n v low high. not_named n v (omega arith))) (record_batched slot vals) k)
+          LeavesMasked-then mask fault a b c (apart_closing F None b is gates frame m used)
+          (LeavesMasked-commits mask es fault b c (IsOff-record frame (reads a.now.words) (ByBatch DAEMON_LOG es) (λ n v low high. not_named n v (omega arith))) (record_batched slot vals) k)
 
       -- what is read of the table, masked or not
       masked_owner : (s : State) (client : ℕ) → client < CLIENTS → Changes (ByOthers ready.mask) None a s → owner_of (reads s.now.words) client ≡ owner_of (reads (masked ready.mask s.now.words)) client
       masked_owner s client low changes =
           owner_of-same (reads s.now.words) (reads (masked ready.mask s.now.words)) client low
-          (λ n from to. sym (read_masked-kept w memory.held ready.mask a s ready.held changes n (omega arith)))
+          (λ n from to. sym (read_masked-kept w memory.active ready.mask a s ready.active changes n (omega arith)))
 
       clients_changed : fault ≡ None → (client : ℕ) → client < CLIENTS → owner_of (reads c.now.words) client ≡ with_owner slot now w.clients client
       clients_changed none client low =
@@ -224,15 +224,15 @@ module _ (size : ℕ) (w : World) (memory : Memory) (slot : ℕ) (known : slot <
           subst (λ (n : ℕ). KeepsPools n None (reads a.now.words) (reads c.now.words)) is (KeepsPools-client F slot vals a b c known few gates committed)
 
       -- each pool that was judged stays
-      knows_changed : fault ≡ None → KnowsPools w.stored.frames memory.judged ready.held.opens (reads c.now.words)
-      knows_changed none = KnowsPools-all w.stored.frames memory.judged ready.held.opens (reads a.now.words) (reads c.now.words) (pools_changed none) ready.knows
+      knows_changed : fault ≡ None → KnowsPools w.stored.frames memory.judged ready.active.opens (reads c.now.words)
+      knows_changed none = KnowsPools-all w.stored.frames memory.judged ready.active.opens (reads a.now.words) (reads c.now.words) (pools_changed none) ready.knows
 
-      rest_changed : fault ≡ None → RestBehind w memory.held ready.mask a.now.words ready.held c.now.words
+      rest_changed : fault ≡ None → RestBehind w memory.active ready.mask a.now.words ready.active c.now.words
       rest_changed none = rest_beside size w memory a ready None c (λ number h there no. none-some h.slot no) (pools_changed none) (beside_changed.single none)
 
       -- the record was changed, or not, for a fault
       changed : Applies size w (after_this w slot now) memory fault a c
-      changed = Applies-beside size w (after_this w slot now) memory fault a c ready (keeps_held w memory.held slot now others) (record {
+      changed = Applies-beside size w (after_this w slot now) memory fault a c ready (keeps_active w memory.active slot now others) (record {
         beside = beside_changed;
         moments = changed_moments;
         settled = q.settled;
@@ -256,7 +256,7 @@ module _ (size : ℕ) (w : World) (memory : Memory) (slot : ℕ) (known : slot <
 
   -- a client went
   to_gone : (fault : Option HostFault) (c : State) → Applies size w (after_this w slot None) memory fault a c → Applies size w (after w (Leave slot)) memory fault a c
-  to_gone fault c applies = subst (λ (v : World). Applies size w v memory fault a c) (sym (gone w memory.held ready.mask a.now.words slot ready.held others)) applies
+  to_gone fault c applies = subst (λ (v : World). Applies size w v memory fault a c) (sym (gone w memory.active ready.mask a.now.words slot ready.active others)) applies
 
   pub Applies-undismissed : (F : ℕ) (fault : HostFault) (b : State) → F ≡ w.stored.frames → ClosesGates F slot (Some fault) a b
       → Closes size (closed w) slot (Some fault) (masked_state ready.mask a) (masked_state ready.mask b) → Applies size w (after w (Leave slot)) memory (Some fault) a b

@@ -104,15 +104,15 @@ module _ (size : ℕ) (s : StoredWorld) (i j : Image) (slot : ℕ) (r : PoolRec)
       apart (omega (arith, pool, first, second)))
 
   -- another pool holds the same
-  others_held : (other : ℕ) → (other ≡ slot → ⊥) → now (listed (puddles_of t other)) ≡ before (listed (puddles_of t other))
-  others_held other apart =
+  others_active : (other : ℕ) → (other ≡ slot → ⊥) → now (listed (puddles_of t other)) ≡ before (listed (puddles_of t other))
+  others_active other apart =
       ap (λ st. held_as st (graph_of s.types st)) (stored_in-same F i j (listed (puddles_of t other))
       (each-weaker (λ e. IsFrameOf t other e.0) (λ e. HasSameFrame F i j e.0) (listed (puddles_of t other))
       (λ e of. record { each = λ k high. same (frame_at F e.0 + k) (not_its_own other e.0 (frame_at F e.0 + k) apart of (omega arith) (omega arith)) }) (frames_listed t other)))
 
   -- this one the graph
-  own_held : now (listed (puddles_of t slot)) ≡ Sound g
-  own_held =
+  own_active : now (listed (puddles_of t slot)) ≡ Sound g
+  own_active =
       let turned = puddles_in_turn-listed s.next_number t slot r sound within used in
       ap now (sym turned) ∙ ap (held_as (stored_in F at j)) graph
 
@@ -125,12 +125,12 @@ module _ (size : ℕ) (s : StoredWorld) (i j : Image) (slot : ℕ) (r : PoolRec)
       keyed-put name_cmp nat_list_cmp_total same_name (entries before t) (entries now t) 0 POOL_RECORDS slot r.name (pool_of now r (puddles_of t slot)) (record {
         low = omega arith;
         high = omega arith;
-        others = λ other apart. entry_read now before t other (t.pools other) (others_held other apart);
+        others = λ other apart. entry_read now before t other (t.pools other) (others_active other apart);
         is = ap (entry_of now (puddles_of t slot)) used;
         was = ap (is_free_for name_cmp r.name) there ∙ ap is_eq (tied_itself nat_list_cmp_total r.name);
         alone = alone_there name_cmp nat_list_cmp_total (entries before t) 0 POOL_RECORDS slot (r.name, pool_of before r (puddles_of t slot)) distinct (omega arith) (omega arith) there;
       })
-      ∙ ap₂ (λ (p : Pool) (ps : List (List ℕ × Pool)). put name_cmp r.name p ps) (pool_with_graph now before r t slot g own_held) was
+      ∙ ap₂ (λ (p : Pool) (ps : List (List ℕ × Pool)). put name_cmp r.name p ps) (pool_with_graph now before r t slot g own_active) was
       ∙ sym (changed_there r.name (holding_graph g) s.pools (pool_of before r (puddles_of t slot)) (ap (find name_cmp r.name) (sym was) ∙ found_pool before s.next_number t slot r sound within used))
 
   -- stands for the world with this graph in that pool

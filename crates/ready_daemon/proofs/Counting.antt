@@ -36,11 +36,11 @@ use Rattle.log_space.proofs.FirstFrom.{first_from-found, first_from-each}
 use Rattle.nesting.specs.declared.Session.{Session}
 use Rattle.nesting.specs.Sessions.{client_in, session_in, is_of, count_of}
 use Rattle.nesting.proofs.Counts.{count_of-set_fewer}
-use Rattle.ready_daemon.specs.Memory.{Held, Memory, held_under}
+use Rattle.ready_daemon.specs.Memory.{ActiveTransaction, Memory, active_under}
 use Rattle.ready_daemon.specs.Ready.{IsReady}
-use Rattle.ready_daemon.proofs.Beside.{held_is}
-use Rattle.ready_daemon.proofs.PoolsBeside.{one_slot, held_pool}
-use Rattle.ready_daemon.proofs.Sessions.{session_held, holder_is}
+use Rattle.ready_daemon.proofs.Beside.{active_is}
+use Rattle.ready_daemon.proofs.PoolsBeside.{one_slot, active_pool}
+use Rattle.ready_daemon.proofs.Sessions.{session_active, holder_is}
 use Rattle.ready_daemon.proofs.TablesBeside.{standing, pools_read, sound_read, owner_under}
 
 -- ---- a list and its places
@@ -90,7 +90,7 @@ module _ (size : ℕ) (w : World) (memory : Memory) (s : State) (ready : IsReady
   free_slot slot None free e = refl
   free_slot slot (Some x) free e =
       let on = ready.sessions.only slot x e in
-      let pool = held_pool w memory.held ready.mask s.now.words ready.held x.number on.mine on.is in
+      let pool = active_pool w memory.active ready.mask s.now.words ready.active x.number on.active on.is in
       absurd (none-some pool.rec (sym free ∙ ap t.pools (sym on.slot_is) ∙ pool.used))
 
   each_slot : (slot : ℕ) (r : Option PoolRec) → t.pools slot ≡ r → worth name_cmp counts (entry_of hold (puddles_of t slot) r) ≡ number_of (is_of client (session slot))
@@ -126,7 +126,7 @@ each_counted client (suc n) at sessions own apart =
     (λ i j low high same. apart i j (omega arith) (omega arith) same) in
     omega (arith, rest, count_of-set_fewer client sessions (at n) None within here refl)
 
-abbrev slot_of : Option Held → ℕ
+abbrev slot_of : Option ActiveTransaction → ℕ
 slot_of None = 0
 slot_of (Some h) = h.slot
 
@@ -138,9 +138,9 @@ module _ (size : ℕ) (w : World) (memory : Memory) (s : State) (ready : IsReady
   image = reads words
 
   -- a log in which a transaction is open is not closed
-  runs_not_closed : (number : ℕ) (h : Held) → held_under memory.held number ≡ Some h → is_closed_log image (log_number_at w.stored.frames number) ≡ true → ⊥
+  runs_not_closed : (number : ℕ) (h : ActiveTransaction) → active_under memory.active number ≡ Some h → is_closed_log image (log_number_at w.stored.frames number) ≡ true → ⊥
   runs_not_closed number h there closed =
-      let under = ready.held.each number h there in
+      let under = ready.active.each number h there in
       let r = under.is.running.saving.running in
       let at : log_number_at w.stored.frames number ≡ h.tx.log.gate_at = ap (log_number_at w.stored.frames) (sym under.number_is) ∙ sym under.is.gate in
       let range = (and_parts (is_closed_range (image h.tx.log.gate_at)) _ (ap (is_closed_log image) (sym at) ∙ closed)).0 in
@@ -151,7 +151,7 @@ module _ (size : ℕ) (w : World) (memory : Memory) (s : State) (ready : IsReady
 
   module _ (client : ℕ) (who : Owner) (known : client < CLIENTS) (present : w.clients client ≡ Some who) where
     -- each other log of a client that is present is
-    closed_unless : (number : ℕ) → number < ALL_LOGS → client_of_log number ≡ client → held_under memory.held number ≡ None → is_closed_log image (log_number_at w.stored.frames number) ≡ true
+    closed_unless : (number : ℕ) → number < ALL_LOGS → client_of_log number ≡ client → active_under memory.active number ≡ None → is_closed_log image (log_number_at w.stored.frames number) ≡ true
     closed_unless number few whose free =
         let F = w.stored.frames in
         let under = reads (masked ready.mask words) in
@@ -159,29 +159,29 @@ module _ (size : ℕ) (w : World) (memory : Memory) (s : State) (ready : IsReady
         let owned : owner_of under (client_of_log number) ≡ Some who = ap (owner_of under) whose ∙ owner_under size w memory s ready client known ∙ ready.clients client known ∙ present in
         is_closed_log-same image under (log_number_at F number) (λ k inside.
         sym (ap (λ (i : Image). i k) (reads-masked ready.mask words)
-        ∙ masked_image-elsewhere ready.mask image k (masks_beside_log F ready.held.opens ready.mask ready.held.are ready.held.masks number k (ready.held.none number free) few inside)))
+        ∙ masked_image-elsewhere ready.mask image k (masks_beside_log F ready.active.opens ready.mask ready.active.are ready.active.masks number k (ready.active.none number free) few inside)))
         ∙ registered_is_closed F under number who logs few owned
 
     -- where each log has an open transaction the client has as many sessions as logs
-    module _ (each : (j : ℕ) → j < CLIENT_LOGS → (h : Held) × (held_under memory.held (CLIENT_LOGS * client + j) ≡ Some h)) where
+    module _ (each : (j : ℕ) → j < CLIENT_LOGS → (h : ActiveTransaction) × (active_under memory.active (CLIENT_LOGS * client + j) ≡ Some h)) where
       abbrev its_slot : ℕ → ℕ
-      its_slot j = slot_of (held_under memory.held (CLIENT_LOGS * client + j))
+      its_slot j = slot_of (active_under memory.active (CLIENT_LOGS * client + j))
 
       its_session : (j : ℕ) → j < CLIENT_LOGS → is_of client (session_in memory.sessions (its_slot j)) ≡ true
       its_session j low =
           let one = each j low in
-          let is = held_is w memory.held ready.mask words ready.held (CLIENT_LOGS * client + j) one.0 one.1 in
+          let is = active_is w memory.active ready.mask words ready.active (CLIENT_LOGS * client + j) one.0 one.1 in
           let whose : client_of_log (CLIENT_LOGS * client + j) ≡ client = omega arith in
-          ap (λ (o : Option Held). is_of client (session_in memory.sessions (slot_of o))) one.1
-          ∙ ap (is_of client) (session_held w memory.held ready.mask words ready.held memory.sessions ready.sessions (CLIENT_LOGS * client + j) one.0 one.1)
-          ∙ eq-eqb is.transaction.client client (is.client ∙ sym is.owner ∙ ap client_of_log (ready.held.each (CLIENT_LOGS * client + j) one.0 one.1).number_is ∙ whose)
+          ap (λ (o : Option ActiveTransaction). is_of client (session_in memory.sessions (slot_of o))) one.1
+          ∙ ap (is_of client) (session_active w memory.active ready.mask words ready.active memory.sessions ready.sessions (CLIENT_LOGS * client + j) one.0 one.1)
+          ∙ eq-eqb is.transaction.client client (is.client ∙ sym is.owner ∙ ap client_of_log (ready.active.each (CLIENT_LOGS * client + j) one.0 one.1).number_is ∙ whose)
 
       its_own : (i j : ℕ) → i < CLIENT_LOGS → j < CLIENT_LOGS → its_slot i ≡ its_slot j → i ≡ j
       its_own i j low high same =
           let one = each i low in
           let other = each j high in
           let number =
-          one_slot w memory.held ready.mask words ready.held (CLIENT_LOGS * client + i) (CLIENT_LOGS * client + j) one.0 other.0 one.1 other.1 (sym (ap slot_of one.1) ∙ same ∙ ap slot_of other.1) in
+          one_slot w memory.active ready.mask words ready.active (CLIENT_LOGS * client + i) (CLIENT_LOGS * client + j) one.0 other.0 one.1 other.1 (sym (ap slot_of one.1) ∙ same ∙ ap slot_of other.1) in
           omega arith
 
       all_counted : CLIENT_LOGS ≤ count_of client memory.sessions
@@ -194,13 +194,13 @@ module _ (size : ℕ) (w : World) (memory : Memory) (s : State) (ready : IsReady
           (λ p. log_at (on p) client j)
           ∙ ap₂ (λ (c k : ℕ). log_at w.stored.frames c k) (let e : client ≡ (CLIENT_LOGS * client + j) / CLIENT_LOGS = omega arith in e) (let e : j ≡ (CLIENT_LOGS * client + j) % CLIENT_LOGS = omega arith in e)
 
-      held_by : (j : ℕ) → j < CLIENT_LOGS → first_from 0 CLIENT_LOGS (λ k. is_closed_log image (log_at frames client k)) ≡ None → (o : Option Held) → held_under memory.held (CLIENT_LOGS * client + j) ≡ o
-          → (h : Held) × (held_under memory.held (CLIENT_LOGS * client + j) ≡ Some h)
-      held_by j low missed None free = absurd (
+      active_by : (j : ℕ) → j < CLIENT_LOGS → first_from 0 CLIENT_LOGS (λ k. is_closed_log image (log_at frames client k)) ≡ None → (o : Option ActiveTransaction) → active_under memory.active (CLIENT_LOGS * client + j) ≡ o
+          → (h : ActiveTransaction) × (active_under memory.active (CLIENT_LOGS * client + j) ≡ Some h)
+      active_by j low missed None free = absurd (
           let shut = closed_unless (CLIENT_LOGS * client + j) (omega arith) (let e : (CLIENT_LOGS * client + j) / CLIENT_LOGS ≡ client = omega arith in e) free in
           let it : false ≡ true = sym (first_from-each 0 CLIENT_LOGS (λ k. is_closed_log image (log_at frames client k)) missed j (omega arith) (omega arith)) ∙ ap (is_closed_log image) (log_place j low) ∙ shut in
           cc)
-      held_by j low missed (Some h) there = (h, there)
+      active_by j low missed (Some h) there = (h, there)
 
       missed_by : (o : Option ℕ) → None ≡ option_map (log_number client) o → o ≡ None
       missed_by None none = refl
@@ -209,7 +209,7 @@ module _ (size : ℕ) (w : World) (memory : Memory) (s : State) (ready : IsReady
       pub log_found : count_of client memory.sessions < CLIENT_LOGS → None ≡ first_closed image frames client → ⊥
       log_found few none =
           let missed = missed_by (first_from 0 CLIENT_LOGS (λ k. is_closed_log image (log_at frames client k))) none in
-          let all = all_counted (λ j low. held_by j low missed (held_under memory.held (CLIENT_LOGS * client + j)) refl) in
+          let all = all_counted (λ j low. active_by j low missed (active_under memory.active (CLIENT_LOGS * client + j)) refl) in
           omega (arith, few, all)
 
   -- a log that is found closed has no transaction
@@ -225,10 +225,10 @@ module _ (size : ℕ) (w : World) (memory : Memory) (s : State) (ready : IsReady
         ap₂ (λ (c j : ℕ). log_at w.stored.frames c j) (let e : number / CLIENT_LOGS ≡ client = omega arith in e) (let e : number % CLIENT_LOGS ≡ k = omega arith in e) ∙ ap (λ (n : ℕ). log_at n client k) (sym on) in
         ap (is_closed_log image) place ∙ first_from-found 0 CLIENT_LOGS (λ k. is_closed_log image (log_at frames client k)) k (sym e)
 
-    free_by : is_closed_log image (log_number_at w.stored.frames number) ≡ true → (o : Option Held) → held_under memory.held number ≡ o → o ≡ None
+    free_by : is_closed_log image (log_number_at w.stored.frames number) ≡ true → (o : Option ActiveTransaction) → active_under memory.active number ≡ o → o ≡ None
     free_by closed None e = refl
     free_by closed (Some h) e = absurd (runs_not_closed number h e closed)
 
-    pub log_free : Some number ≡ first_closed image frames client → held_under memory.held number ≡ None
+    pub log_free : Some number ≡ first_closed image frames client → active_under memory.active number ≡ None
     log_free found =
-        free_by (found_by (first_from 0 CLIENT_LOGS (λ k. is_closed_log image (log_at frames client k))) refl found) (held_under memory.held number) refl
+        free_by (found_by (first_from 0 CLIENT_LOGS (λ k. is_closed_log image (log_at frames client k))) refl found) (active_under memory.active number) refl

@@ -50,8 +50,8 @@ use Rattle.batch.specs.Tables.{HasDurableTables}
 use Rattle.batch.specs.Worlds.{IsSettled}
 use Rattle.batch.proofs.Tables.{reads_kept, HasDurableTables-persisted}
 use Rattle.ready_daemon.proofs.RestBeside.{rest_beside}
-use Rattle.ready_daemon.specs.Memory.{Held, Memory}
-use Rattle.ready_daemon.specs.Held.{HasIdleLogs, Holds, ByOthers, NamesNone, KeepsHeld}
+use Rattle.ready_daemon.specs.Memory.{ActiveTransaction, Memory}
+use Rattle.ready_daemon.specs.ActiveTransactions.{HasIdleLogs, AreActive, ByOthers, NamesNone, KeepsActive}
 use Rattle.ready_daemon.proofs.Beneath.{ready_gate, single_changes, persisted_single, logs_kept}
 use Rattle.ready_daemon.proofs.PuddlesLeft.{LeavesPuddles-changes}
 use Rattle.ready_daemon.specs.Defined.{reply_of}
@@ -59,7 +59,7 @@ use Rattle.ready_daemon.specs.Moves.{Stays, LeavesPuddles}
 use Rattle.ready_daemon.specs.Ready.{KeepsRest, IsReady, AppliesMasked, Applies}
 use Rattle.ready_daemon.proofs.Keeping.{KeepsRest-changes, KeepsRest-still}
 use Rattle.ready_daemon.specs.KnownPools.{KnowsPools}
-use Rattle.ready_daemon.proofs.Beside.{held_is, ready_idle, names_none_idle, Applies-beside, RestBehind}
+use Rattle.ready_daemon.proofs.Beside.{active_is, ready_idle, names_none_idle, Applies-beside, RestBehind}
 use Rattle.ready_daemon.proofs.JudgedLines.{KeepsPools-defined}
 use Rattle.ready_daemon.proofs.JudgedOpen.{KnowsPools-all}
 use Rattle.ready_daemon.proofs.TablesBeside.{ready_beside, read_beside, under_durable, standing}
@@ -237,13 +237,13 @@ module _ (size : ℕ) (w : World) (id map r : ℕ) (old : State) (settled : IsSe
 
 -- ---- what is held stays
 
-held_kept : (more : List (ℕ × ℕ)) (h : Holding) (g : Graph) → graph_held h ≡ Some g → graph_held (read_anew more h) ≡ Some g
-held_kept more (Sound other) g is = is
-held_kept more (Wild st) g is = absurd (none-some g is)
+active_kept : (more : List (ℕ × ℕ)) (h : Holding) (g : Graph) → graph_held h ≡ Some g → graph_held (read_anew more h) ≡ Some g
+active_kept more (Sound other) g is = is
+active_kept more (Wild st) g is = absurd (none-some g is)
 
 graph_kept : (more : List (ℕ × ℕ)) (o : Option Pool) (g : Graph) → graph_in o ≡ Some g → graph_in (option_map (read_by more) o) ≡ Some g
 graph_kept more None g is = absurd (none-some g is)
-graph_kept more (Some p) g is = held_kept more p.holding g is
+graph_kept more (Some p) g is = active_kept more p.holding g is
 
 -- a pool that has a graph has it under one type more
 pub pool_kept : (id map : ℕ) (s : StoredWorld) (name : List ℕ) (g : Graph) → graph_in (pool_named name s) ≡ Some g → graph_in (pool_named name (with_type_defined id map s)) ≡ Some g
@@ -264,14 +264,14 @@ frames_kept : (id map : ℕ) (s : StoredWorld) → (with_type_defined id map s).
 unfolding with_type_defined
 frames_kept id map s = refl
 
-KeepsHeld-define : (w : World) (held : List (Option Held)) (mask : Write) (words : Words) (id map : ℕ) → Holds w held mask words → map_of id w.stored.types ≡ None → KeepsHeld w (after w (Define id map)) held
+KeepsActive-define : (w : World) (active : List (Option ActiveTransaction)) (mask : Write) (words : Words) (id map : ℕ) → AreActive w active mask words → map_of id w.stored.types ≡ None → KeepsActive w (after w (Define id map)) active
 unfolding after
-KeepsHeld-define w held mask words id map holds none = record {
+KeepsActive-define w active mask words id map holds none = record {
   frames = frames_kept id map w.stored;
   transactions = refl;
   present = λ number h there. refl;
   stored = λ number h there.
-      let is = held_is w held mask words holds number h there in
+      let is = active_is w active mask words holds number h there in
       pool_kept id map w.stored h.name is.undone is.stored ∙ sym is.stored;
   types = types_kept id map w.stored none;
   graphs = graphs_kept id map w.stored none;
@@ -353,11 +353,11 @@ module _ (size : ℕ) (w : World) (memory : Memory) (id map r : ℕ) (old : Stat
       shelf = shelf_next;
     }
 
-    knows_now : place_for (reads old.now.words) id ≡ Some r → fault ≡ None → KnowsPools F memory.judged ready.held.opens (reads new.now.words)
+    knows_now : place_for (reads old.now.words) id ≡ Some r → fault ≡ None → KnowsPools F memory.judged ready.active.opens (reads new.now.words)
     knows_now place none =
-        KnowsPools-all F memory.judged ready.held.opens (reads old.now.words) (reads new.now.words) (KeepsPools-defined r id map old new place legal_id (now_done none) F) ready.knows
+        KnowsPools-all F memory.judged ready.active.opens (reads old.now.words) (reads new.now.words) (KeepsPools-defined r id map old new place legal_id (now_done none) F) ready.knows
 
-    rest_now : place_for (reads old.now.words) id ≡ Some r → fault ≡ None → RestBehind w memory.held m old.now.words ready.held new.now.words
+    rest_now : place_for (reads old.now.words) id ≡ Some r → fault ≡ None → RestBehind w memory.active m old.now.words ready.active new.now.words
     rest_now place none =
         rest_beside size w memory old ready None new (λ number h there no. none-some h.slot no) (KeepsPools-defined r id map old new place legal_id (now_done none) F) (applies_masked.beside.single none)
 
@@ -369,7 +369,7 @@ module _ (size : ℕ) (w : World) (memory : Memory) (id map r : ℕ) (old : Stat
 
     new_applies : place_for (reads old.now.words) id ≡ Some r → Applies size w (world_by w (Some (Define id map))) memory fault old new
     new_applies place = subst (λ (v : World). Applies size w v memory fault old new) (sym is_new.world)
-        (Applies-beside size w next memory fault old new ready (KeepsHeld-define w memory.held m old.now.words id map ready.held is_new.missing) applies_masked Stays puddles_now memory refl refl refl (knows_now place) (rest_now place))
+        (Applies-beside size w next memory fault old new ready (KeepsActive-define w memory.active m old.now.words id map ready.active is_new.missing) applies_masked Stays puddles_now memory refl refl refl (knows_now place) (rest_now place))
 
 -- ---- the table as it is read
 

@@ -15,11 +15,11 @@ use Rattle.pud_defs.specs.Tables.{Tables, Reader, tables_of, puddles_of, puddles
 use Rattle.pud_defs.specs.World.{World}
 use Rattle.pud_defs.proofs.PuddlesListed.{puddles_in_turn-listed}
 use Rattle.registry.proofs.Changed.{found_pool}
-use Rattle.ready_daemon.specs.Memory.{Held, Memory, held_under}
-use Rattle.ready_daemon.specs.Held.{open_held}
+use Rattle.ready_daemon.specs.Memory.{ActiveTransaction, Memory, active_under}
+use Rattle.ready_daemon.specs.ActiveTransactions.{open_transaction_of}
 use Rattle.ready_daemon.specs.Judged.{known_in}
 use Rattle.ready_daemon.specs.Ready.{IsReady}
-use Rattle.ready_daemon.proofs.Beside.{held_is}
+use Rattle.ready_daemon.proofs.Beside.{active_is}
 use Rattle.ready_daemon.proofs.JudgedKept.{graph_parts}
 use Rattle.ready_daemon.proofs.TablesBeside.{sound_read, pools_read}
 
@@ -48,20 +48,20 @@ module _ (size : ℕ) (w : World) (memory : Memory) (s : State) (ready : IsReady
   known_in_turn slot at known = (graph_parts w.stored.frames slot (reads s.now.words) at (ready.knows.judged.each slot at known)).turn
 
   -- a pool on which a transaction is held is known by the puddles on which it is open
-  pub held_there_known : (number : ℕ) (held : Held) (there : held_under memory.held number ≡ Some held)
-      → known_in memory.judged held.slot ≡ Some (held_is w memory.held ready.mask s.now.words ready.held number held there).puddles
-  held_there_known number held there =
-      let under = ready.held.each number held there in
-      ready.knows.open_pools number (open_held held under.is.puddles under.is.rec under.is.who under.is.before) under.opened
+  pub active_there_known : (number : ℕ) (active : ActiveTransaction) (there : active_under memory.active number ≡ Some active)
+      → known_in memory.judged active.slot ≡ Some (active_is w memory.active ready.mask s.now.words ready.active number active there).puddles
+  active_there_known number active there =
+      let under = ready.active.each number active there in
+      ready.knows.open_pools number (open_transaction_of active under.is.puddles under.is.rec under.is.who under.is.before) under.opened
 
   -- so they are these
-  pub held_known : (number : ℕ) (held : Held) (there : held_under memory.held number ≡ Some held) (at : List (ℕ × Puddle)) → known_in memory.judged held.slot ≡ Some at
-      → (held_is w memory.held ready.mask s.now.words ready.held number held there).puddles ≡ at
-  held_known number held there at known =
-      let is = held_is w memory.held ready.mask s.now.words ready.held number held there in
-      same_Some is.puddles at (sym (held_there_known number held there) ∙ known)
+  pub active_known : (number : ℕ) (active : ActiveTransaction) (there : active_under memory.active number ≡ Some active) (at : List (ℕ × Puddle)) → known_in memory.judged active.slot ≡ Some at
+      → (active_is w memory.active ready.mask s.now.words ready.active number active there).puddles ≡ at
+  active_known number active there at known =
+      let is = active_is w memory.active ready.mask s.now.words ready.active number active there in
+      same_Some is.puddles at (sym (active_there_known number active there) ∙ known)
 
   -- and all that the pool has, in turn
-  pub held_in_turn : (number : ℕ) (held : Held) (there : held_under memory.held number ≡ Some held)
-      → puddles_in_turn t held.slot ≡ (held_is w memory.held ready.mask s.now.words ready.held number held there).puddles
-  held_in_turn number held there = known_in_turn held.slot (held_is w memory.held ready.mask s.now.words ready.held number held there).puddles (held_there_known number held there)
+  pub active_in_turn : (number : ℕ) (active : ActiveTransaction) (there : active_under memory.active number ≡ Some active)
+      → puddles_in_turn t active.slot ≡ (active_is w memory.active ready.mask s.now.words ready.active number active there).puddles
+  active_in_turn number active there = known_in_turn active.slot (active_is w memory.active ready.mask s.now.words ready.active number active there).puddles (active_there_known number active there)

@@ -25,13 +25,13 @@ use Rattle.hybrid_tx.proofs.Open.PoolPlaces.{EachIsOf}
 use Rattle.hybrid_tx.specs.Objects.Transactions.{RestsAs}
 use Rattle.pm_model.proofs.Changes.{HasOnly-kept}
 use Rattle.known_pool.specs.Known.{Known, IsKnown}
-use Rattle.ready_daemon.specs.Memory.{Held}
-use Rattle.ready_daemon.specs.Held.{IsHeld}
+use Rattle.ready_daemon.specs.Memory.{ActiveTransaction}
+use Rattle.ready_daemon.specs.ActiveTransactions.{IsActive}
 use Rattle.ready_daemon.specs.Judged.{known_in, AreJudged}
 use Rattle.ready_daemon.specs.KnownPools.{KnowsPools}
 use Rattle.ready_daemon.proofs.JudgedKept.{HasGraphIn, graph_from, KeepsPools, KeepsPools-changes, KeepsPools-apart, SparesTables, AreJudged-all, AreJudged-but, in_turn_kept, types_same, puddles_same, own_by, words_apart, IsOwnWord, own_word}
 use Rattle.ready_daemon.proofs.Known.{AreJudged-none, AreJudged-set, AreJudged-forgotten, known_kept_there, known_other}
-use Rattle.ready_daemon.proofs.HeldUnder.{nothing_there}
+use Rattle.ready_daemon.proofs.ActiveUnder.{nothing_there}
 use Rattle.ready_daemon.proofs.PoolsBeside.{puddles_still}
 
 -- ---- words of one transaction
@@ -208,37 +208,37 @@ KnowsPools-anew F slot judged opens known image was is knows = record {
 }
 
 -- what its calls do
-module _ (w : World) (h : Held) (mask : Write) (old new : State) (is : IsHeld w h mask old.now.words) where
+module _ (w : World) (h : ActiveTransaction) (mask : Write) (old new : State) (is : IsActive w h mask old.now.words) where
   abbrev F : ℕ
   F = w.stored.frames
 
   -- its log is a client's
-  pub held_log : IsLogBeside F h.tx.log.gate_at
-  held_log = subst (IsLogBeside F) (sym is.gate) (log_beside F h.log_number is.pool.known)
+  pub active_log : IsLogBeside F h.tx.log.gate_at
+  active_log = subst (IsLogBeside F) (sym is.gate) (log_beside F h.log_number is.pool.known)
 
   module _ (c : Changes (ByTransaction (pool_ground F (finished_of is.puddles)) h.tx.log.gate_at) None old new) where
     -- words of it are set
-    pub KeepsPools-held : KeepsPools F (Some h.slot) (reads old.now.words) (reads new.now.words)
-    KeepsPools-held = KeepsPools-within F h.slot h.tx.log.gate_at (finished_of is.puddles) old new held_log (puddles_still w h mask old.now.words is).each c
+    pub KeepsPools-active : KeepsPools F (Some h.slot) (reads old.now.words) (reads new.now.words)
+    KeepsPools-active = KeepsPools-within F h.slot h.tx.log.gate_at (finished_of is.puddles) old new active_log (puddles_still w h mask old.now.words is).each c
 
     -- what its pool has then
-    pub graph_held_in : (g : Graph) → types_of (reads old.now.words) ≡ w.stored.types → puddles_in_turn (tables_of F (reads old.now.words)) h.slot ≡ is.puddles
+    pub graph_active_in : (g : Graph) → types_of (reads old.now.words) ≡ w.stored.types → puddles_in_turn (tables_of F (reads old.now.words)) h.slot ≡ is.puddles
         → graph_of w.stored.types (stored_in F is.puddles (reads new.now.words)) ≡ Some g → HasGraphIn F h.slot (reads new.now.words) is.puddles
-    graph_held_in g types turn stored =
+    graph_active_in g types turn stored =
         let members = (puddles_still w h mask old.now.words is).each in
         record {
           graph = g;
-          turn = turn_within F h.slot h.tx.log.gate_at (finished_of is.puddles) old new held_log members c ∙ turn;
-          stored = ap (λ ts. graph_of ts (stored_in F is.puddles (reads new.now.words))) (types_within F h.slot h.tx.log.gate_at (finished_of is.puddles) old new held_log members c ∙ types) ∙ stored;
+          turn = turn_within F h.slot h.tx.log.gate_at (finished_of is.puddles) old new active_log members c ∙ turn;
+          stored = ap (λ ts. graph_of ts (stored_in F is.puddles (reads new.now.words))) (types_within F h.slot h.tx.log.gate_at (finished_of is.puddles) old new active_log members c ∙ types) ∙ stored;
         }
 
     -- and the words that rest of a pool in another slot do so still
-    pub rest_held : (slot : ℕ) (at : List (ℕ × Puddle)) (before : Image) → h.slot ≢ slot → HasGraphIn F slot (reads old.now.words) at → RestsAs F at before old.now.words → RestsAs F at before new.now.words
-    rest_held slot at before apart has rests = record {
+    pub rest_active : (slot : ℕ) (at : List (ℕ × Puddle)) (before : Image) → h.slot ≢ slot → HasGraphIn F slot (reads old.now.words) at → RestsAs F at before old.now.words → RestsAs F at before new.now.words
+    rest_active slot at before apart has rests = record {
       each = λ k mine other.
           HasOnly-kept (ByTransaction (pool_ground F (finished_of is.puddles)) h.tx.log.gate_at) None old new k (before k) c
           (λ v wrote.
-          others_apart F h.slot h.tx.log.gate_at (finished_of is.puddles) old new held_log (puddles_still w h mask old.now.words is).each c slot k v apart wrote
+          others_apart F h.slot h.tx.log.gate_at (finished_of is.puddles) old new active_log (puddles_still w h mask old.now.words is).each c slot k v apart wrote
           (own_word F slot (reads old.now.words) k (ap (λ (puddles : List (ℕ × Puddle)). pool_mine F puddles k) has.turn ∙ mine)))
           (rests.each k mine other);
     }

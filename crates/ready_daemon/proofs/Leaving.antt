@@ -19,18 +19,18 @@ use Rattle.pud_defs.specs.declared.machine.Command.{Command}
 use Rattle.pud_defs.specs.Settled.{client_of_log}
 use Rattle.pud_defs.specs.Spaces.{owner_of}
 use Rattle.pud_defs.specs.Step.{after, refusal_of, unless_refused, world_by}
-use Rattle.pud_defs.specs.Transactions.{Opened, is_own, with_open, without_client}
+use Rattle.pud_defs.specs.Transactions.{OpenTransactions, is_own, with_open, without_client}
 use Rattle.pud_defs.specs.World.{Transaction, World, closed, open_on}
-use Rattle.ready_daemon.specs.Memory.{Held, Memory, held_under}
-use Rattle.ready_daemon.specs.Held.{IsHeld, IsOthers}
+use Rattle.ready_daemon.specs.Memory.{ActiveTransaction, Memory, active_under}
+use Rattle.ready_daemon.specs.ActiveTransactions.{IsActive, AreOfOtherClients}
 use Rattle.ready_daemon.specs.Leaving.{world_without, world_without_log, BehindTables}
 use Rattle.ready_daemon.specs.Moves.{Stays}
 use Rattle.ready_daemon.specs.Ready.{IsReady, StandsBetween, Applies, IsClosedIfNamed, ClosesBefore}
 use Rattle.ready_daemon.proofs.Applying.{Applies-idle, Applies-closed}
-use Rattle.ready_daemon.proofs.Beside.{held_is}
+use Rattle.ready_daemon.proofs.Beside.{active_is}
 use Rattle.ready_daemon.proofs.Coming.{presence_read, ClosesBefore-changes}
 use Rattle.ready_daemon.proofs.PuddlesLeft.{Joins-stays, LeavesPuddles-then, settled_ready}
-use Rattle.ready_daemon.proofs.HeldUnder.{nothing_there, held_there}
+use Rattle.ready_daemon.proofs.ActiveUnder.{nothing_there, active_there}
 use Rattle.ready_daemon.proofs.Others.{without_others}
 
 -- ---- the client's own
@@ -44,7 +44,7 @@ closed_by client true o own = sym (none_is_own client o (own refl))
 closed_by client false o own = refl
 
 -- one of them that is closed leaves the same of the others
-closed_one : (client : ℕ) (name : List ℕ) (t : Transaction) (opened : Opened) → opened name ≡ Some t → t.client ≡ client → without_client client (with_open name None opened) ≡ without_client client opened
+closed_one : (client : ℕ) (name : List ℕ) (t : Transaction) (opened : OpenTransactions) → opened name ≡ Some t → t.client ≡ client → without_client client (with_open name None opened) ≡ without_client client opened
 closed_one client name t opened is own =
     let each : (other : List ℕ) → without_client client (with_open name None opened) other ≡ without_client client opened other = λ other. closed_by client (bytes_eq other name) (opened other)
     (λ here. ap (is_own client) (ap opened ((bytes_eq-Decides other name).0 here) ∙ is) ∙ eq-eqb t.client client own) in
@@ -60,17 +60,17 @@ left_by client o t is = λ own. elim (cases_Bool (is_own client o)) [
 ]
 
 -- whoever is held in the world without them is another client's
-pub others_left : (size : ℕ) (w : World) (client : ℕ) (memory : Memory) (s : State) → IsReady size (world_without client w) memory s → IsOthers client memory.held
+pub others_left : (size : ℕ) (w : World) (client : ℕ) (memory : Memory) (s : State) → IsReady size (world_without client w) memory s → AreOfOtherClients client memory.active
 others_left size w client memory s ready = record {
   each = λ number h there own.
-      let is : IsHeld (world_without client w) h ready.mask s.now.words = held_is (world_without client w) memory.held ready.mask s.now.words ready.held number h there in
+      let is : IsActive (world_without client w) h ready.mask s.now.words = active_is (world_without client w) memory.active ready.mask s.now.words ready.active number h there in
       left_by client (open_on h.name w) is.transaction is.is (is.client ∙ own);
 }
 
 -- ---- one call behind another
 
 -- where the first left the stored world as it was
-pub Applies-then : (size : ℕ) (w next : World) (ts : Opened) (first behind : Memory) (fault : Option HostFault) (a b c : State) → Applies size w (record w { transactions = ts }) first None a b
+pub Applies-then : (size : ℕ) (w next : World) (ts : OpenTransactions) (first behind : Memory) (fault : Option HostFault) (a b c : State) → Applies size w (record w { transactions = ts }) first None a b
     → (IsReady size (record w { transactions = ts }) first b → Applies size (record w { transactions = ts }) next behind fault b c) → Applies size w next behind fault a c
 Applies-then size w next ts first behind fault a b c p then =
     let q = then (p.ready refl) in
@@ -86,7 +86,7 @@ Applies-then size w next ts first behind fault a b c p then =
     }
 
 -- where the first failed
-pub Applies-cut_short : (size : ℕ) (w next : World) (ts : Opened) (behind : Memory) (fault : HostFault) (a b : State) → Applies size w (record w { transactions = ts }) behind (Some fault) a b
+pub Applies-cut_short : (size : ℕ) (w next : World) (ts : OpenTransactions) (behind : Memory) (fault : HostFault) (a b : State) → Applies size w (record w { transactions = ts }) behind (Some fault) a b
     → Applies size w next behind (Some fault) a b
 Applies-cut_short size w next ts behind fault a b p = record {
   moments = Leaves-weaker (Silently (StandsBetween size w (record w { transactions = ts }))) (Silently (StandsBetween size w next)) a b
@@ -102,7 +102,7 @@ Applies-cut_short size w next ts behind fault a b p = record {
 
 -- The client's transactions are undone that are held under some of its numbers: without its own, what is open is what was.
 pub record IsUndone (size : ℕ) (w : World) (client : ℕ) (memory : Memory) (old new : State) : Type 0 where
-  pub left : Opened
+  pub left : OpenTransactions
   pub same : without_client client left ≡ without_client client w.transactions
   pub applies : Applies size w (record w { transactions = left }) memory None old new
   pub behind : Changes (BehindTables w.stored.frames) None old new
@@ -117,15 +117,15 @@ IsUndone-start size w client memory s ready = record {
 }
 
 -- nothing is held under the client's numbers in front of this one
-pub record AreUndone (client upto : ℕ) (held : List (Option Held)) : Type 0 where
-  pub each : (number : ℕ) → CLIENT_LOGS * client ≤ number → number < upto → held_under held number ≡ None
+pub record AreUndone (client upto : ℕ) (active : List (Option ActiveTransaction)) : Type 0 where
+  pub each : (number : ℕ) → CLIENT_LOGS * client ≤ number → number < upto → active_under active number ≡ None
 
 -- nor under this one, once it is undone
-pub AreUndone-more : (client number : ℕ) (held next : List (Option Held)) → next ≡ set held number None → AreUndone client number held → AreUndone client (number + 1) next
-AreUndone-more client number held next is none = record {
-  each = λ other low high. ap (λ (l : List (Option Held)). held_under l other) is ∙ elim (cases_eq other number) [
-    | inl same ↦ ap (held_under (set held number None)) same ∙ nothing_there held number
-    | inr apart ↦ held_there held number None other apart ∙ none.each other low (omega arith)
+pub AreUndone-more : (client number : ℕ) (active next : List (Option ActiveTransaction)) → next ≡ set active number None → AreUndone client number active → AreUndone client (number + 1) next
+AreUndone-more client number active next is none = record {
+  each = λ other low high. ap (λ (l : List (Option ActiveTransaction)). active_under l other) is ∙ elim (cases_eq other number) [
+    | inl same ↦ ap (active_under (set active number None)) same ∙ nothing_there active number
+    | inr apart ↦ active_there active number None other apart ∙ none.each other low (omega arith)
   ];
 }
 
@@ -137,7 +137,7 @@ module _ (size : ℕ) (w : World) (client number : ℕ) (memory behind : Memory)
   mid_ready = u.applies.ready refl
 
   -- one more is
-  left_then : client_of_log number ≡ client → (o : Option Held) → held_under memory.held number ≡ o → Applies size mid (world_without_log o mid) behind None b c → Changes (BehindTables w.stored.frames) None b c
+  left_then : client_of_log number ≡ client → (o : Option ActiveTransaction) → active_under memory.active number ≡ o → Applies size mid (world_without_log o mid) behind None b c → Changes (BehindTables w.stored.frames) None b c
       → IsUndone size w client behind a c
   left_then own None e applies changes = record {
     left = u.left;
@@ -146,7 +146,7 @@ module _ (size : ℕ) (w : World) (client number : ℕ) (memory behind : Memory)
     behind = Changes-then (BehindTables w.stored.frames) None a b c u.behind changes;
   }
   left_then own (Some h) e applies changes =
-      let under = mid_ready.held.each number h e in
+      let under = mid_ready.active.each number h e in
       let its : under.is.transaction.client ≡ client = under.is.client ∙ sym under.is.owner ∙ ap client_of_log under.number_is ∙ own in
       record {
         left = with_open h.name None u.left;
@@ -155,33 +155,33 @@ module _ (size : ℕ) (w : World) (client number : ℕ) (memory behind : Memory)
         behind = Changes-then (BehindTables w.stored.frames) None a b c u.behind changes;
       }
 
-  pub IsUndone-more : client_of_log number ≡ client → Applies size mid (world_without_log (held_under memory.held number) mid) behind None b c → Changes (BehindTables w.stored.frames) None b c
+  pub IsUndone-more : client_of_log number ≡ client → Applies size mid (world_without_log (active_under memory.active number) mid) behind None b c → Changes (BehindTables w.stored.frames) None b c
       → IsUndone size w client behind a c
-  IsUndone-more own applies changes = left_then own (held_under memory.held number) refl applies changes
+  IsUndone-more own applies changes = left_then own (active_under memory.active number) refl applies changes
 
-  same_stored : (o : Option Held) → closed (world_without_log o mid) ≡ closed (world_without client w)
+  same_stored : (o : Option ActiveTransaction) → closed (world_without_log o mid) ≡ closed (world_without client w)
   same_stored None = refl
   same_stored (Some h) = refl
 
   -- a call that undoes one failed
-  pub Applies-interrupted : (stop : HostFault) → Applies size mid (world_without_log (held_under memory.held number) mid) behind (Some stop) b c → Applies size w (world_without client w) behind (Some stop) a c
+  pub Applies-interrupted : (stop : HostFault) → Applies size mid (world_without_log (active_under memory.active number) mid) behind (Some stop) b c → Applies size w (world_without client w) behind (Some stop) a c
   Applies-interrupted stop applies =
       Applies-then size w (world_without client w) u.left memory behind (Some stop) a b c u.applies
-      (λ ready. Applies-closed size mid (world_without_log (held_under memory.held number) mid) (world_without client w) behind behind stop b c (same_stored (held_under memory.held number)) applies)
+      (λ ready. Applies-closed size mid (world_without_log (active_under memory.active number) mid) (world_without client w) behind behind stop b c (same_stored (active_under memory.active number)) applies)
 
 -- all are
-pub Applies-all : (size : ℕ) (w : World) (client : ℕ) (memory : Memory) (a b : State) → IsUndone size w client memory a b → AreUndone client (CLIENT_LOGS * client + CLIENT_LOGS) memory.held
+pub Applies-all : (size : ℕ) (w : World) (client : ℕ) (memory : Memory) (a b : State) → IsUndone size w client memory a b → AreUndone client (CLIENT_LOGS * client + CLIENT_LOGS) memory.active
     → Applies size w (world_without client w) memory None a b
 Applies-all size w client memory a b u none =
     let mid : World = record w { transactions = u.left } in
     let ready = u.applies.ready refl in
-    let others : IsOthers client memory.held = record {
+    let others : AreOfOtherClients client memory.active = record {
       each = λ number h there own.
-          let under = ready.held.each number h there in
+          let under = ready.active.each number h there in
           let whose : client_of_log number ≡ client = ap client_of_log (sym under.number_is) ∙ under.is.owner ∙ own in
           none-some h (sym (none.each number (omega arith) (omega arith)) ∙ there);
     } in
-    subst (λ (ts : Opened). Applies size w (record w { transactions = ts }) memory None a b) (sym (without_others mid memory.held ready.mask b.now.words client ready.held others) ∙ u.same) u.applies
+    subst (λ (ts : OpenTransactions). Applies size w (record w { transactions = ts }) memory None a b) (sym (without_others mid memory.active ready.mask b.now.words client ready.active others) ∙ u.same) u.applies
 
 -- ---- the world that it leaves
 
@@ -198,7 +198,7 @@ pub gone_world : (w : World) (client : ℕ) → after (world_without client w) (
 unfolding after
 gone_world w client =
     let each : (name : List ℕ) → without_client client (without_client client w.transactions) name ≡ without_client client w.transactions name = λ name. once_more client (open_on name w) in
-    ap (λ (o : Opened). record (after w (Leave client)) { transactions = o }) (λ p name. each name p)
+    ap (λ (o : OpenTransactions). record (after w (Leave client)) { transactions = o }) (λ p name. each name p)
 
 -- ---- the client goes
 

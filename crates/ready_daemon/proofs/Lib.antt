@@ -1,5 +1,5 @@
 pub mod Keeping
-pub mod HeldUnder
+pub mod ActiveUnder
 pub mod OpenNames
 pub mod Beside
 pub mod Beneath
@@ -12,7 +12,7 @@ pub mod Others
 pub mod TablesBeside
 pub mod OpenBeside
 pub mod Sessions
-pub mod NoneHeld
+pub mod NoneActive
 pub mod JudgedKept
 pub mod RestBeside
 pub mod JudgedLines
@@ -22,8 +22,8 @@ pub mod InTurn
 pub mod GraphLonger
 pub mod PoolsGrown
 pub mod Committing
-pub mod HeldMore
-pub mod OthersHeld
+pub mod ActiveMore
+pub mod OthersActive
 pub mod AtDepth
 pub mod Leaving
 pub mod Applying

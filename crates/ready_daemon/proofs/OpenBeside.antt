@@ -23,9 +23,9 @@ use Rattle.hybrid_tx.proofs.Objects.Opening.{stored_in-mine}
 use Rattle.hybrid_tx.proofs.Open.OpenPools.{open_on_device}
 use Rattle.hybrid_tx.proofs.PoolGrounds.{pool_mine-each}
 use Rattle.hybrid_tx.proofs.Open.PoolPlaces.{each_in_turn, puddles_apart}
-use Rattle.ready_daemon.specs.Memory.{Held, held_under}
-use Rattle.ready_daemon.specs.Held.{pool_held, IsHeld, Holds, IsOwn}
-use Rattle.ready_daemon.proofs.Beside.{held_is, unmasked_by_all}
+use Rattle.ready_daemon.specs.Memory.{ActiveTransaction, active_under}
+use Rattle.ready_daemon.specs.ActiveTransactions.{open_pool_of, IsActive, AreActive, IsOwnTransaction}
+use Rattle.ready_daemon.proofs.Beside.{active_is, unmasked_by_all}
 use Rattle.ready_daemon.proofs.PoolsBeside.{used_still, puddles_still}
 
 -- ---- which pool it is
@@ -40,10 +40,10 @@ pub record IsOpenHere (w : World) (at : List (ℕ × Puddle)) (image : Image) (n
   pub now : graph_of w.stored.types (stored_in w.stored.frames at image) ≡ Some transaction.now
 
 -- where its own is held
-pub open_here : (w : World) (held : List (Option Held)) (mask : Write) (words : Words) (name : List ℕ) (client number : ℕ) (holds : Holds w held mask words) (own : IsOwn client name number held)
-    → IsOpenHere w (held_is w held mask words holds number own.mine own.is).puddles (reads words) name client
-open_here w held mask words name client number holds own =
-    let is = held_is w held mask words holds number own.mine own.is in
+pub open_here : (w : World) (active : List (Option ActiveTransaction)) (mask : Write) (words : Words) (name : List ℕ) (client number : ℕ) (holds : AreActive w active mask words) (own : IsOwnTransaction client name number active)
+    → IsOpenHere w (active_is w active mask words holds number own.active own.is).puddles (reads words) name client
+open_here w active mask words name client number holds own =
+    let is = active_is w active mask words holds number own.active own.is in
     record {
       transaction = is.transaction;
       is = ap w.transactions (sym own.pool) ∙ is.is;
@@ -54,15 +54,15 @@ open_here w held mask words name client number holds own =
     }
 
 -- none is held on a name under which none is open
-pub not_named : (w : World) (held : List (Option Held)) (mask : Write) (words : Words) (name : List ℕ) → Holds w held mask words → open_on name w ≡ None
-    → (number : ℕ) (h : Held) → held_under held number ≡ Some h → h.name ≢ name
-not_named w held mask words name holds none number h there same =
-    let is = held_is w held mask words holds number h there in
+pub not_named : (w : World) (active : List (Option ActiveTransaction)) (mask : Write) (words : Words) (name : List ℕ) → AreActive w active mask words → open_on name w ≡ None
+    → (number : ℕ) (h : ActiveTransaction) → active_under active number ≡ Some h → h.name ≢ name
+not_named w active mask words name holds none number h there same =
+    let is = active_is w active mask words holds number h there in
     none-some is.transaction (sym none ∙ ap w.transactions (sym same) ∙ is.is)
 
 -- ---- frames of other pools
 
-module _ (w : World) (held : Held) (mask : Write) (words : Words) (is : IsHeld w held mask words) where
+module _ (w : World) (active : ActiveTransaction) (mask : Write) (words : Words) (is : IsActive w active mask words) where
   abbrev F : ℕ
   F = w.stored.frames
 
@@ -73,15 +73,15 @@ module _ (w : World) (held : Held) (mask : Write) (words : Words) (is : IsHeld w
   t = tables_of F now
 
   abbrev p : OpenPool
-  p = pool_held held is.puddles is.rec is.who
+  p = open_pool_of active is.puddles is.rec is.who
 
-  module _ (slot : ℕ) (r : PoolRec) (used : t.pools slot ≡ Some r) (other : r.name ≢ held.name) where
+  module _ (slot : ℕ) (r : PoolRec) (used : t.pools slot ≡ Some r) (other : r.name ≢ active.name) where
     -- it does not stand in the slot of the held one
-    pub other_slot : slot ≡ held.slot → ⊥
-    other_slot same = other (ap (λ (x : PoolRec). x.name) (same_Some r is.rec (sym used ∙ ap t.pools same ∙ used_still w held mask words is)) ∙ is.name)
+    pub other_slot : slot ≡ active.slot → ⊥
+    other_slot same = other (ap (λ (x : PoolRec). x.name) (same_Some r is.rec (sym used ∙ ap t.pools same ∙ used_still w active mask words is)) ∙ is.name)
 
     not_mine : (k : ℕ) → pool_mine F (puddles_in_turn t slot) k ≡ true → pool_mine F (finished_of is.puddles) k ≡ false
-    not_mine = puddles_apart F t slot held.slot (puddles_in_turn t slot) (finished_of is.puddles) (each_in_turn t slot) (puddles_still w held mask words is).each other_slot
+    not_mine = puddles_apart F t slot active.slot (puddles_in_turn t slot) (finished_of is.puddles) (each_in_turn t slot) (puddles_still w active mask words is).each other_slot
 
     not_record : (k : ℕ) (of : Bool) → is_open_record p k ≡ of → pool_mine F (puddles_in_turn t slot) k ≡ true → of ≡ false
     not_record k false e mine = refl
@@ -97,14 +97,14 @@ module _ (w : World) (held : Held) (mask : Write) (words : Words) (is : IsHeld w
         let here = pool_mine-each F (puddles_in_turn t slot) k mine in
         let low = here.low in
         let few = is.pool.known in
-        mask_of_others F p is.before k (outside_log (log_number_at F held.log_number) k (inr (omega arith))) (not_mine k mine) (not_record k (is_open_record p k) refl mine)
+        mask_of_others F p is.before k (outside_log (log_number_at F active.log_number) k (inr (omega arith))) (not_mine k mine) (not_record k (is_open_record p k) refl mine)
 
 -- what a pool stores on which none is held is read as it is
-pub pool_unmasked : (w : World) (held : List (Option Held)) (mask : Write) (words : Words) (name : List ℕ) (slot : ℕ) (r : PoolRec) → Holds w held mask words
-    → ((number : ℕ) (h : Held) → held_under held number ≡ Some h → h.name ≢ name) → (tables_of w.stored.frames (reads words)).pools slot ≡ Some r → r.name ≡ name
+pub pool_unmasked : (w : World) (active : List (Option ActiveTransaction)) (mask : Write) (words : Words) (name : List ℕ) (slot : ℕ) (r : PoolRec) → AreActive w active mask words
+    → ((number : ℕ) (h : ActiveTransaction) → active_under active number ≡ Some h → h.name ≢ name) → (tables_of w.stored.frames (reads words)).pools slot ≡ Some r → r.name ≡ name
     → stored_in w.stored.frames (puddles_in_turn (tables_of w.stored.frames (reads words)) slot) (masked_image mask (reads words))
     ≡ stored_in w.stored.frames (puddles_in_turn (tables_of w.stored.frames (reads words)) slot) (reads words)
-pool_unmasked w held mask words name slot r holds shut used named =
+pool_unmasked w active mask words name slot r holds shut used named =
     stored_in-mine w.stored.frames (puddles_in_turn (tables_of w.stored.frames (reads words)) slot) (reads words) (masked_image mask (reads words))
     (λ k mine. masked_image-elsewhere mask (reads words) k
-    (unmasked_by_all w held mask words holds k (λ number h there is. unmasked_frames w h mask words is slot r used (λ same. shut number h there (sym same ∙ named)) k mine)))
+    (unmasked_by_all w active mask words holds k (λ number h there is. unmasked_frames w h mask words is slot r used (λ same. shut number h there (sym same ∙ named)) k mine)))

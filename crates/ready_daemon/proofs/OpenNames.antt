@@ -5,7 +5,7 @@ use Rattle.std.proofs.lemmas.Option.{none-some, same_Some}
 use Rattle.std.proofs.lemmas.Slice.Eq.{bytes_eq-Decides}
 use Rattle.pud_defs.specs.Graph.{Graph}
 use Rattle.pud_defs.specs.Laters.{Later}
-use Rattle.pud_defs.specs.Transactions.{Opened, with_open, with_changed, charged, asked}
+use Rattle.pud_defs.specs.Transactions.{OpenTransactions, with_open, with_changed, charged, asked}
 use Rattle.pud_defs.specs.World.{Transaction}
 
 other_name : (name other : List ℕ) → other ≢ name → bytes_eq other name ≡ false
@@ -14,7 +14,7 @@ other_name name other apart = elim (cases_Bool (bytes_eq other name)) [
   | inr differs ↦ differs
 ]
 
-module _ (name : List ℕ) (opened : Opened) where
+module _ (name : List ℕ) (opened : OpenTransactions) where
   -- on the pool of the name it is this one
   pub open_there : (now : Option Transaction) → with_open name now opened name ≡ now
   open_there now = cond-true (bytes_eq name name) now (opened name) ((bytes_eq-Decides name name).1 refl)
@@ -32,20 +32,20 @@ module _ (name : List ℕ) (opened : Opened) where
 -- ---- the same are open
 
 -- The transaction was open on the pool of the name, of the same client, and begun as often.
-pub record WasOpen (opened : Opened) (name : List ℕ) (t : Transaction) : Type 0 where
+pub record WasOpen (opened : OpenTransactions) (name : List ℕ) (t : Transaction) : Type 0 where
   pub was : Transaction
   pub is : opened name ≡ Some was
   pub client : was.client ≡ t.client
   pub depth : was.depth ≡ t.depth
 
 -- Each that is open then was open, of the same client, and begun as often.
-pub record WereOpen (opened next : Opened) : Type 0 where
+pub record WereOpen (opened next : OpenTransactions) : Type 0 where
   pub each : (name : List ℕ) (t : Transaction) → next name ≡ Some t → WasOpen opened name t
 
-pub WereOpen-same : (opened : Opened) → WereOpen opened opened
+pub WereOpen-same : (opened : OpenTransactions) → WereOpen opened opened
 WereOpen-same opened = record { each = λ name t is. record { was = t; is = is; client = refl; depth = refl } }
 
-module _ (name : List ℕ) (change : Transaction → Transaction) (opened : Opened) (client : (t : Transaction) → t.client ≡ (change t).client) (depth : (t : Transaction) → t.depth ≡ (change t).depth) where
+module _ (name : List ℕ) (change : Transaction → Transaction) (opened : OpenTransactions) (client : (t : Transaction) → t.client ≡ (change t).client) (depth : (t : Transaction) → t.depth ≡ (change t).depth) where
   changed_from : (o : Option Transaction) (t : Transaction) → opened name ≡ o → option_map change o ≡ Some t → WasOpen opened name t
   changed_from None t is now = absurd (none-some t now)
   changed_from (Some was) t is now =

@@ -14,7 +14,7 @@ use Rattle.pud_defs.specs.Pools.{pool_record_at}
 use Rattle.pud_defs.specs.Spaces.{Owner, space_record_at, with_owner}
 use Rattle.pud_defs.specs.Settled.{client_of_log, log_number_at}
 use Rattle.pud_defs.specs.Stored.{IsOnDevice}
-use Rattle.pud_defs.specs.Transactions.{Opened, is_own, without_client}
+use Rattle.pud_defs.specs.Transactions.{OpenTransactions, is_own, without_client}
 use Rattle.pud_defs.specs.World.{Transaction, World, open_on}
 use Rattle.pud_defs.specs.declared.machine.Command.TheVariants.{Leave}
 use Rattle.pud_defs.specs.Step.{after}
@@ -29,35 +29,35 @@ use Rattle.log_space.specs.Closed.{ByClosing}
 use Rattle.log_space.specs.Records.{record_batch}
 use Rattle.log_space.proofs.Writing.{writes_elsewhere}
 use Rattle.hybrid_tx.specs.Grounds.{finished_of}
-use Rattle.ready_daemon.specs.Memory.{Held}
-use Rattle.ready_daemon.specs.Held.{pool_held, IsHeld, Holds, IsOthers, KeepsHeld}
-use Rattle.ready_daemon.proofs.Beside.{held_is, unmasked_by_all}
+use Rattle.ready_daemon.specs.Memory.{ActiveTransaction}
+use Rattle.ready_daemon.specs.ActiveTransactions.{open_pool_of, IsActive, AreActive, AreOfOtherClients, KeepsActive}
+use Rattle.ready_daemon.proofs.Beside.{active_is, unmasked_by_all}
 use Rattle.ready_daemon.proofs.Beneath.{IsOff-each}
 
 -- ---- whose they are
 
 -- a client that is not there holds none
-pub others_absent : (w : World) (held : List (Option Held)) (mask : Write) (words : Words) (client : ℕ) → Holds w held mask words → false ≡ is_some (w.clients client) → IsOthers client held
-others_absent w held mask words client holds absent = record {
+pub others_absent : (w : World) (active : List (Option ActiveTransaction)) (mask : Write) (words : Words) (client : ℕ) → AreActive w active mask words → false ≡ is_some (w.clients client) → AreOfOtherClients client active
+others_absent w active mask words client holds absent = record {
   each = λ number h there own.
-      let is = held_is w held mask words holds number h there in
+      let is = active_is w active mask words holds number h there in
       absurd (let it : false ≡ true = absent ∙ ap (λ (c : ℕ). is_some (w.clients c)) (sym own) ∙ ap is_some is.present in cc);
 }
 
 -- ---- its words
 
-module _ (w : World) (held : Held) (mask : Write) (words : Words) (is : IsHeld w held mask words) (client : ℕ) (known : client < CLIENTS) (other : held.client ≡ client → ⊥) where
+module _ (w : World) (active : ActiveTransaction) (mask : Write) (words : Words) (is : IsActive w active mask words) (client : ℕ) (known : client < CLIENTS) (other : active.client ≡ client → ⊥) where
   abbrev F : ℕ
   F = w.stored.frames
 
   abbrev p : OpenPool
-  p = pool_held held is.puddles is.rec is.who
+  p = open_pool_of active is.puddles is.rec is.who
 
   on_device : IsOnDevice F (finished_of is.puddles)
   on_device = open_on_device F p is.before is.pool
 
   -- its logs are others
-  other_number : (number : ℕ) → number < CLIENT_LOGS → CLIENT_LOGS * client + number ≡ held.log_number → ⊥
+  other_number : (number : ℕ) → number < CLIENT_LOGS → CLIENT_LOGS * client + number ≡ active.log_number → ⊥
   other_number number below here = let by = is.owner in other (omega arith)
 
   gate_unmasked : (k v : ℕ) → ByClosing F client k v → open_mask F p is.before k ≡ None
@@ -66,7 +66,7 @@ module _ (w : World) (held : Held) (mask : Write) (words : Words) (is : IsHeld w
       let at = gate.0.is in
       let inside : IsInLog (log_number_at F (CLIENT_LOGS * client + gate.0.number)) k = record { low = omega arith; high = omega arith } in
       mask_of_others F p is.before k
-      (other_log_apart F held.log_number (CLIENT_LOGS * client + gate.0.number) k (other_number gate.0.number below) inside)
+      (other_log_apart F active.log_number (CLIENT_LOGS * client + gate.0.number) k (other_number gate.0.number below) inside)
       (mine_behind F (finished_of is.puddles) k (omega arith))
       (false_from_ne_true (is_open_record p k) (λ of. let place = open_record_place F p k is.pool.slot is.pool.known on_device of in let high = place.high in absurd (omega arith)))
 
@@ -97,7 +97,7 @@ module _ (w : World) (held : Held) (mask : Write) (words : Words) (is : IsHeld w
 
   space_unmasked : (k : ℕ) → space_record_at client ≤ k → k < space_record_at (client + 1) → open_mask F p is.before k ≡ None
   space_unmasked k low high =
-      mask_of_others F p is.before k (outside_log (log_number_at F held.log_number) k (inl (omega arith))) (mine_behind F (finished_of is.puddles) k (omega arith)) (record_unmasked k low high)
+      mask_of_others F p is.before k (outside_log (log_number_at F active.log_number) k (inl (omega arith))) (mine_behind F (finished_of is.puddles) k (omega arith)) (record_unmasked k low high)
 
   batch_unmasked : (vals : List ℕ) → length vals ≤ SPACE_RECORD_WORDS → (k v : ℕ) → ByBatch DAEMON_LOG (record_batch client vals) k v → open_mask F p is.before k ≡ None
   batch_unmasked vals few k v (inl log) = let high = log.high in mask_below F p is.before is.pool.slot is.pool.known on_device k (omega arith)
@@ -112,22 +112,22 @@ module _ (w : World) (held : Held) (mask : Write) (words : Words) (is : IsHeld w
       ]
 
 -- none of these words is masked by any that is held
-module _ (w : World) (held : List (Option Held)) (mask : Write) (words : Words) (client : ℕ) (holds : Holds w held mask words) (known : client < CLIENTS) where
-  pub off_gates : IsOthers client held → IsOff mask (ByClosing w.stored.frames client)
+module _ (w : World) (active : List (Option ActiveTransaction)) (mask : Write) (words : Words) (client : ℕ) (holds : AreActive w active mask words) (known : client < CLIENTS) where
+  pub off_gates : AreOfOtherClients client active → IsOff mask (ByClosing w.stored.frames client)
   off_gates others =
       IsOff-each mask (ByClosing w.stored.frames client)
-      (λ k v gate. unmasked_by_all w held mask words holds k (λ number h there is. gate_unmasked w h mask words is client known (others.each number h there) k v gate))
+      (λ k v gate. unmasked_by_all w active mask words holds k (λ number h there is. gate_unmasked w h mask words is client known (others.each number h there) k v gate))
 
-  pub off_record : (vals : List ℕ) → length vals ≤ SPACE_RECORD_WORDS → IsOthers client held → IsOff mask (ByBatch DAEMON_LOG (record_batch client vals))
+  pub off_record : (vals : List ℕ) → length vals ≤ SPACE_RECORD_WORDS → AreOfOtherClients client active → IsOff mask (ByBatch DAEMON_LOG (record_batch client vals))
   off_record vals few others =
       IsOff-each mask (ByBatch DAEMON_LOG (record_batch client vals))
-      (λ k v named. unmasked_by_all w held mask words holds k (λ number h there is. batch_unmasked w h mask words is client known (others.each number h there) vals few k v named))
+      (λ k v named. unmasked_by_all w active mask words holds k (λ number h there is. batch_unmasked w h mask words is client known (others.each number h there) vals few k v named))
 
 -- ---- the world
 
 -- what is held stays as it comes or goes
-pub keeps_held : (w : World) (held : List (Option Held)) (client : ℕ) (now : Option Owner) → IsOthers client held → KeepsHeld w (record w { clients = with_owner client now w.clients }) held
-keeps_held w held client now others = record {
+pub keeps_active : (w : World) (active : List (Option ActiveTransaction)) (client : ℕ) (now : Option Owner) → AreOfOtherClients client active → KeepsActive w (record w { clients = with_owner client now w.clients }) active
+keeps_active w active client now others = record {
   frames = refl;
   transactions = refl;
   present = λ number h there. cond-false _ _ _ (ne_eqb h.client client (others.each number h there));
@@ -140,14 +140,14 @@ keeps_held w held client now others = record {
 still_open : (client : ℕ) (o : Option Transaction) → is_own client o ≡ false → cond (is_own client o) None o ≡ o
 still_open client o others = cond-false _ _ _ others
 
-module _ (w : World) (held : List (Option Held)) (mask : Write) (words : Words) (client : ℕ) (holds : Holds w held mask words) (others : IsOthers client held) where
+module _ (w : World) (active : List (Option ActiveTransaction)) (mask : Write) (words : Words) (client : ℕ) (holds : AreActive w active mask words) (others : AreOfOtherClients client active) where
   not_own : (name : List ℕ) (o : Option Transaction) → open_on name w ≡ o → is_own client o ≡ false
   not_own name None e = refl
   not_own name (Some t) e =
       let known = holds.known name t e in
-      let is = held_is w held mask words holds known.number known.mine known.is in
+      let is = active_is w active mask words holds known.number known.active known.is in
       let same : is.transaction ≡ t = same_Some is.transaction t (sym is.is ∙ ap w.transactions known.name_is ∙ e) in
-      ne_eqb t.client client (λ own. others.each known.number known.mine known.is (sym is.client ∙ ap (λ (x : Transaction). x.client) same ∙ own))
+      ne_eqb t.client client (λ own. others.each known.number known.active known.is (sym is.client ∙ ap (λ (x : Transaction). x.client) same ∙ own))
 
   pub without_others : without_client client w.transactions ≡ w.transactions
   without_others = λ i name. still_open client (open_on name w) (not_own name (open_on name w) refl) i
@@ -157,4 +157,4 @@ module _ (w : World) (held : List (Option Held)) (mask : Write) (words : Words) 
   unfolding after
   gone =
       let left = record w { clients = with_owner client None w.clients } in
-      ap (λ (opened : Opened). record left { transactions = opened }) without_others
+      ap (λ (opened : OpenTransactions). record left { transactions = opened }) without_others

@@ -33,9 +33,9 @@ use Rattle.pud_defs.proofs.PoolsChanged.{changed_here, changed_elsewhere}
 use Rattle.pud_defs.proofs.TablesOf.{frames_of_tables}
 use Rattle.pud_defs.proofs.TypeLists.{same_test}
 use Rattle.pud_defs.proofs.TypeMore.{graph_of-wider}
-use Rattle.ready_daemon.specs.Memory.{Held, Memory}
-use Rattle.ready_daemon.specs.Held.{Holds, KeepsHeld}
-use Rattle.ready_daemon.proofs.Beside.{held_is}
+use Rattle.ready_daemon.specs.Memory.{ActiveTransaction, Memory}
+use Rattle.ready_daemon.specs.ActiveTransactions.{AreActive, KeepsActive}
+use Rattle.ready_daemon.proofs.Beside.{active_is}
 use Rattle.ready_daemon.proofs.Defining.{pool_kept}
 use Rattle.ready_daemon.proofs.PoolsApart.{found_beside_put}
 use Rattle.ready_daemon.proofs.Pooling.{IsNotNamed}
@@ -148,14 +148,14 @@ module _ (name : List ℕ) (who : Owner) (mode : ℕ) (file : FileContents) (s :
       ap graph_in (found_beside_put name other (imported_pool who mode s.next_number file) typed.pools apart) ∙ pools_still (types_missing s.types file.types) s other g is
 
 -- has what is held
-pub KeepsHeld-imported : (w : World) (held : List (Option Held)) (mask : Write) (words : Words) (name : List ℕ) (who : Owner) (mode : ℕ) (file : FileContents) → Holds w held mask words → IsNotNamed name held
-    → KeepsHeld w (record w { stored = with_imported_pool name who mode file w.stored }) held
-KeepsHeld-imported w held mask words name who mode file holds apart = record {
+pub KeepsActive-imported : (w : World) (active : List (Option ActiveTransaction)) (mask : Write) (words : Words) (name : List ℕ) (who : Owner) (mode : ℕ) (file : FileContents) → AreActive w active mask words → IsNotNamed name active
+    → KeepsActive w (record w { stored = with_imported_pool name who mode file w.stored }) active
+KeepsActive-imported w active mask words name who mode file holds apart = record {
   frames = imported_frames name who mode file w.stored;
   transactions = refl;
   present = λ number h there. refl;
   stored = λ number h there.
-      let is = held_is w held mask words holds number h there in
+      let is = active_is w active mask words holds number h there in
       imported_pools name who mode file w.stored h.name is.undone (apart number h there) is.stored ∙ sym is.stored;
   types = (imported_types name who mode file w.stored).each;
   graphs = λ st g is. graphs_defined w.stored.types (with_imported_pool name who mode file w.stored).types (imported_types name who mode file w.stored) st g is;
@@ -325,14 +325,14 @@ module _ (F : ℕ) (image : Image) (file : List (ℕ × ℕ)) (wanted : List ℕ
 
 -- it is carried out beside what is held: the next world has all that is held, and each pool that has a graph keeps it
 pub Applies-wider : (size : ℕ) (w : World) (memory : Memory) (c : Command) (next : StoredWorld) (also : Image → Type 0) (fault : Option HostFault) (old new : State) (ready : IsReady size w memory old)
-    → LeavesPuddles w.stored.frames Stays old new → refusal_of w c ≡ None → after w c ≡ record w { stored = next } → next.frames ≡ w.stored.frames → KeepsHeld w (record w { stored = next }) memory.held
+    → LeavesPuddles w.stored.frames Stays old new → refusal_of w c ≡ None → after w c ≡ record w { stored = next } → next.frames ≡ w.stored.frames → KeepsActive w (record w { stored = next }) memory.active
     → ChangesBeside size w.stored next also ready.mask fault old new → (fault ≡ None → KeepsPools w.stored.frames None (reads old.now.words) (reads new.now.words))
     → Applies size w (world_by w (Some c)) memory fault old new
 Applies-wider size w memory c next also fault old new ready puddles free gives frames keeps b stay =
     subst (λ (v : World). Applies size w v memory fault old new) (sym (done_world w c free ∙ gives))
     (Applies-beside size w (record w { stored = next }) memory fault old new ready keeps (AppliesMasked-pools size w memory next also fault old new ready b.beside b.pools frames)
     Stays puddles memory refl refl refl
-    (λ none. KnowsPools-all w.stored.frames memory.judged ready.held.opens (reads old.now.words) (reads new.now.words) (stay none) ready.knows)
+    (λ none. KnowsPools-all w.stored.frames memory.judged ready.active.opens (reads old.now.words) (reads new.now.words) (stay none) ready.knows)
     (λ none. rest_beside size w memory old ready None new (λ number h there no. none-some h.slot no) (stay none) (b.beside.single none)))
 
 -- ---- the types that are read behind it
@@ -353,7 +353,7 @@ module _ (size : ℕ) (w : World) (memory : Memory) (next : StoredWorld) (also :
   pub types_then : types_of (reads new.now.words) ≡ next.types
   types_then =
       (Holds-same Types size next (reads under) (reads new.now.words)
-      (λ k of. let high = of.high in sym (read_masked-kept w memory.held ready.mask old new ready.held b.beside.changes k (omega arith))) (stands_then.holds Types)).types
+      (λ k of. let high = of.high in sym (read_masked-kept w memory.active ready.mask old new ready.active b.beside.changes k (omega arith))) (stands_then.holds Types)).types
 
   -- what has a graph before has it then
   pub KeepsGraphs-then : Defines w.stored.types next.types → KeepsGraphs (reads old.now.words) (reads new.now.words)

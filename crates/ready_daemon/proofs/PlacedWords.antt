@@ -30,8 +30,8 @@ use Rattle.registry.proofs.PutBatches.{either_some}
 use Rattle.pm_model.specs.Words.{Words, reads}
 use Rattle.pm_model.specs.Changes.{Write}
 use Rattle.pud_defs.specs.World.{World}
-use Rattle.ready_daemon.specs.Memory.{Held}
-use Rattle.ready_daemon.specs.Held.{Holds}
+use Rattle.ready_daemon.specs.Memory.{ActiveTransaction}
+use Rattle.ready_daemon.specs.ActiveTransactions.{AreActive}
 use Rattle.ready_daemon.proofs.Beside.{unmasked_front}
 use Rattle.ready_daemon.proofs.PoolsBeside.{unmasked_pool, unmasked_puddle, unmasked_frame}
 use Rattle.ready_daemon.proofs.PoolsApart.{free_apart, free_others}
@@ -164,17 +164,17 @@ module _ (F : ℕ) (image : Image) (file : List (ℕ × ℕ)) (wanted : List ℕ
 -- ---- beside what is held
 
 -- no word that is free is masked
-module _ (w : World) (held : List (Option Held)) (mask : Write) (words : Words) (holds : Holds w held mask words) where
+module _ (w : World) (active : List (Option ActiveTransaction)) (mask : Write) (words : Words) (holds : AreActive w active mask words) where
   abbrev now : Tables
   now = tables_of w.stored.frames (reads words)
 
   pub free_unmasked : (k : ℕ) → IsFreeWord w.stored.frames now k → mask k ≡ None
-  free_unmasked k (inl front) = unmasked_front w held mask words holds k front
-  free_unmasked k (inr (inl of)) = unmasked_pool w held mask words holds of.slot k of.below (free_apart w held mask words holds of.slot of.free) of.within.low of.within.high
-  free_unmasked k (inr (inr of)) = unmasked_puddle w held mask words holds of.frame k of.below (free_others w held mask words holds of.frame of.free) of.within.low of.within.high
+  free_unmasked k (inl front) = unmasked_front w active mask words holds k front
+  free_unmasked k (inr (inl of)) = unmasked_pool w active mask words holds of.slot k of.below (free_apart w active mask words holds of.slot of.free) of.within.low of.within.high
+  free_unmasked k (inr (inr of)) = unmasked_puddle w active mask words holds of.frame k of.below (free_others w active mask words holds of.frame of.free) of.within.low of.within.high
 
   pub free_frame_unmasked : (k : ℕ) → IsFreeFrameWord w.stored.frames now k → mask k ≡ None
-  free_frame_unmasked k of = unmasked_frame w held mask words holds of.frame k of.below (free_others w held mask words holds of.frame of.free) of.within.low of.within.high
+  free_frame_unmasked k of = unmasked_frame w active mask words holds of.frame k of.below (free_others w active mask words holds of.frame of.free) of.within.low of.within.high
 
 -- ---- records that are used
 

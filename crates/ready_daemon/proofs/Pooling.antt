@@ -54,17 +54,17 @@ use Rattle.registry.proofs.Joined.{few_puddles}
 use Rattle.nesting.specs.Sessions.{holder_in}
 use Rattle.ready_daemon.proofs.RestBeside.{rest_beside}
 use Rattle.known_pool.specs.Known.{Known}
-use Rattle.ready_daemon.specs.Memory.{Held, Memory, held_under}
-use Rattle.ready_daemon.specs.Held.{Holds, IsBeside}
+use Rattle.ready_daemon.specs.Memory.{ActiveTransaction, Memory, active_under}
+use Rattle.ready_daemon.specs.ActiveTransactions.{AreActive, LeavesMasked}
 use Rattle.ready_daemon.specs.KnownPools.{KnowsPools}
 use Rattle.ready_daemon.specs.Owning.{reply_of_making, refusal_beside, IsSlotOf}
 use Rattle.ready_daemon.specs.Moves.{Stays, MovesTo, LeavesPuddles, freed_in}
 use Rattle.ready_daemon.specs.Ready.{IsReady, AppliesBy, Applies}
 use Rattle.ready_daemon.proofs.Applying.{Applies-still}
-use Rattle.ready_daemon.proofs.Beside.{held_is, opens_apart_from, Applies-beside}
+use Rattle.ready_daemon.proofs.Beside.{active_is, opens_apart_from, Applies-beside}
 use Rattle.ready_daemon.proofs.Beneath.{ready_gate, keeps_tables}
-use Rattle.ready_daemon.proofs.PoolsBeside.{held_pool}
-use Rattle.ready_daemon.proofs.PoolsApart.{off_making, off_changing, off_dropping, IsBeside-makes, IsBeside-puts, AppliesMasked-pools, KeepsHeld-stored, found_beside_put, found_beside_without}
+use Rattle.ready_daemon.proofs.PoolsBeside.{active_pool}
+use Rattle.ready_daemon.proofs.PoolsApart.{off_making, off_changing, off_dropping, LeavesMasked-makes, LeavesMasked-puts, AppliesMasked-pools, KeepsActive-stored, found_beside_put, found_beside_without}
 use Rattle.ready_daemon.proofs.RecordsApart.{LeavesPuddles-makes, LeavesPuddles-mode, LeavesPuddles-drops}
 use Rattle.ready_daemon.proofs.OpenBeside.{not_named}
 use Rattle.ready_daemon.proofs.Sessions.{slot_within, holder_is}
@@ -198,37 +198,37 @@ module _ (size : ℕ) (w : World) (memory : Memory) (s : State) (ready : IsReady
 
 -- pools are changed beside what is held
 pub record ChangesBeside (size : ℕ) (s next : StoredWorld) (also : Image → Type 0) (mask : Write) (fault : Option HostFault) (old new : State) : Type 0 where
-  pub beside : IsBeside mask fault old new
+  pub beside : LeavesMasked mask fault old new
   pub pools : ChangesPools size s next also fault (masked_state mask old) (masked_state mask new)
 
 -- the next world has the same frames and types, and each pool on which a transaction is held as it was
-pub record KeepsPool (s next : StoredWorld) (held : List (Option Held)) : Type 0 where
+pub record KeepsPool (s next : StoredWorld) (active : List (Option ActiveTransaction)) : Type 0 where
   pub frames : next.frames ≡ s.frames
   pub types : next.types ≡ s.types
-  pub pool : (number : ℕ) (h : Held) → held_under held number ≡ Some h → pool_named h.name next ≡ pool_named h.name s
+  pub pool : (number : ℕ) (h : ActiveTransaction) → active_under active number ≡ Some h → pool_named h.name next ≡ pool_named h.name s
 
 -- no transaction is held on a pool of this name
-abbrev pub IsNotNamed : List ℕ → List (Option Held) → Type 0
-IsNotNamed name held = (number : ℕ) (h : Held) → held_under held number ≡ Some h → h.name ≢ name
+abbrev pub IsNotNamed : List ℕ → List (Option ActiveTransaction) → Type 0
+IsNotNamed name active = (number : ℕ) (h : ActiveTransaction) → active_under active number ≡ Some h → h.name ≢ name
 
 -- pools were changed: the command gives the world with the next stored one
 pub Applies-pools : (becomes : Member → Option Member → Type 0) (size : ℕ) (w : World) (memory : Memory) (c : Command) (next : StoredWorld) (also : Image → Type 0) (fault : Option HostFault) (old new : State) (ready : IsReady size w memory old)
-    → LeavesPuddles w.stored.frames becomes old new → refusal_of w c ≡ None → after w c ≡ record w { stored = next } → KeepsPool w.stored next memory.held → ChangesBeside size w.stored next also ready.mask fault old new
-    → (judged : List (Option Known)) → (fault ≡ None → KnowsPools w.stored.frames judged ready.held.opens (reads new.now.words))
-    → (but : Option ℕ) → ((number : ℕ) (h : Held) → held_under memory.held number ≡ Some h → but ≢ Some h.slot)
+    → LeavesPuddles w.stored.frames becomes old new → refusal_of w c ≡ None → after w c ≡ record w { stored = next } → KeepsPool w.stored next memory.active → ChangesBeside size w.stored next also ready.mask fault old new
+    → (judged : List (Option Known)) → (fault ≡ None → KnowsPools w.stored.frames judged ready.active.opens (reads new.now.words))
+    → (but : Option ℕ) → ((number : ℕ) (h : ActiveTransaction) → active_under memory.active number ≡ Some h → but ≢ Some h.slot)
     → (fault ≡ None → KeepsPools w.stored.frames but (reads old.now.words) (reads new.now.words)) → AppliesBy becomes size w (world_by w (Some c)) (record memory { judged = judged }) fault old new
 Applies-pools becomes size w memory c next also fault old new ready puddles free gives keeps b judged knows but apart stay =
     let behind : Memory = record memory { judged = judged } in
     subst (λ (v : World). AppliesBy becomes size w v behind fault old new) (sym (done_world w c free ∙ gives))
     (Applies-beside size w (record w { stored = next }) memory fault old new ready
-    (KeepsHeld-stored w next memory.held keeps.frames keeps.types keeps.pool)
+    (KeepsActive-stored w next memory.active keeps.frames keeps.types keeps.pool)
     (AppliesMasked-pools size w memory next also fault old new ready b.beside b.pools keeps.frames)
     becomes puddles behind refl refl refl knows (λ none. rest_beside size w memory old ready but new apart (stay none) (b.beside.single none)))
 
 -- each pool that was judged stays
 knows_still : (size : ℕ) (w : World) (memory : Memory) (old new : State) (ready : IsReady size w memory old) → KeepsPools w.stored.frames None (reads old.now.words) (reads new.now.words)
-    → KnowsPools w.stored.frames memory.judged ready.held.opens (reads new.now.words)
-knows_still size w memory old new ready keeps = KnowsPools-all w.stored.frames memory.judged ready.held.opens (reads old.now.words) (reads new.now.words) keeps ready.knows
+    → KnowsPools w.stored.frames memory.judged ready.active.opens (reads new.now.words)
+knows_still size w memory old new ready keeps = KnowsPools-all w.stored.frames memory.judged ready.active.opens (reads old.now.words) (reads new.now.words) keeps ready.knows
 
 -- behind calls that changed nothing
 pub Applies-behind : {becomes : Member → Option Member → Type 0} (size : ℕ) (w next : World) (memory behind : Memory) (fault : Option HostFault) (a b d : State) → b ≡ a
@@ -237,9 +237,9 @@ Applies-behind {becomes} size w next memory behind fault a b d same applies read
     subst (λ (s : State). AppliesBy becomes size w next behind fault s d) same (applies (subst (λ (s : State). IsReady size w memory s) (sym same) ready))
 
 -- a pool more, of another name than those that are held
-keeps_made : (s : StoredWorld) (name : List ℕ) (who : spaces.Owner) (mode : ℕ) (held : List (Option Held)) → IsNotNamed name held → KeepsPool s (with_new_pool name who mode s) held
+keeps_made : (s : StoredWorld) (name : List ℕ) (who : spaces.Owner) (mode : ℕ) (active : List (Option ActiveTransaction)) → IsNotNamed name active → KeepsPool s (with_new_pool name who mode s) active
 unfolding with_new_pool
-keeps_made s name who mode held apart = record {
+keeps_made s name who mode active apart = record {
   frames = refl;
   types = refl;
   pool = λ number h there. found_beside_put name h.name (new_pool who mode s.next_number) s.pools (apart number h there);
@@ -250,26 +250,26 @@ mode_beside : (name other : List ℕ) (change : Pool → Pool) (ps : List (List 
 mode_beside name other change ps None is apart = refl
 mode_beside name other change ps (Some p) is apart = found_beside_put name other (change p) ps apart
 
-keeps_mode : (s : StoredWorld) (name : List ℕ) (mode : ℕ) (held : List (Option Held)) → IsNotNamed name held → KeepsPool s (with_pool_mode name mode s) held
+keeps_mode : (s : StoredWorld) (name : List ℕ) (mode : ℕ) (active : List (Option ActiveTransaction)) → IsNotNamed name active → KeepsPool s (with_pool_mode name mode s) active
 unfolding with_pool_mode
-keeps_mode s name mode held apart = record {
+keeps_mode s name mode active apart = record {
   frames = refl;
   types = refl;
   pool = λ number h there. mode_beside name h.name (λ p. record p { mode = mode }) s.pools (find name_cmp name s.pools) refl (apart number h there);
 }
 
-keeps_drop : (s : StoredWorld) (name : List ℕ) (held : List (Option Held)) → IsNotNamed name held → KeepsPool s (without_pool name s) held
+keeps_drop : (s : StoredWorld) (name : List ℕ) (active : List (Option ActiveTransaction)) → IsNotNamed name active → KeepsPool s (without_pool name s) active
 unfolding without_pool
-keeps_drop s name held apart = record {
+keeps_drop s name active apart = record {
   frames = refl;
   types = refl;
   pool = λ number h there. found_beside_without name h.name s.pools (apart number h there);
 }
 
 -- no transaction is held on a pool that is not there
-pub absent_apart : (w : World) (held : List (Option Held)) (mask : Write) (words : Words) (name : List ℕ) → Holds w held mask words → pool_named name w.stored ≡ None → IsNotNamed name held
-absent_apart w held mask words name holds none number h there same =
-    let is = held_is w held mask words holds number h there in
+pub absent_apart : (w : World) (active : List (Option ActiveTransaction)) (mask : Write) (words : Words) (name : List ℕ) → AreActive w active mask words → pool_named name w.stored ≡ None → IsNotNamed name active
+absent_apart w active mask words name holds none number h there same =
+    let is = active_is w active mask words holds number h there in
     let no : Some is.undone ≡ None = sym is.stored ∙ ap (λ (n : List ℕ). graph_in (pool_named n w.stored)) same ∙ ap graph_in none in
     cc
 
@@ -302,7 +302,7 @@ module _ (size : ℕ) (w : World) (memory : Memory) (client uid gid mode : ℕ) 
       let free : refusal_of w line ≡ None = refusal_made size w memory old ready client uid gid mode name who ∙ ap as_refusal is in
       let none = absent_of (w.clients client) (pool_named name w.stored) (is_full_of_pools w.stored) (lacks_frames w.stored 1) (sym (refusal_of-pool w client mode name) ∙ free) in
       Applies-pools Stays size w memory line made also fault old new ready (puddles is) free (given_world size w memory old ready client uid gid mode name who)
-      (keeps_made w.stored name (owner uid gid) mode memory.held (absent_apart w memory.held ready.mask old.now.words name ready.held none)) (makes is) memory.judged
+      (keeps_made w.stored name (owner uid gid) mode memory.active (absent_apart w memory.active ready.mask old.now.words name ready.active none)) (makes is) memory.judged
       (λ none. knows_still size w memory old new ready (pools is none)) None (λ number h there no. none-some h.slot no) (pools is)
   made_by (Some (faults.Host f)) is puddles makes pools still rests = absurd (no_host _ _ _ f is)
   made_by (Some faults.Exists) is puddles makes pools still rests =
@@ -359,14 +359,14 @@ module _ (size : ℕ) (w : World) (memory : Memory) (client uid gid mode F : ℕ
   making_there : (also : Image → Type 0) → Makes w.stored.frames also → Does w.stored.frames → ((refused_on w.stored.frames ≡ None → ⊥) → new ≡ old) → (make_fault done ≡ Some Cut → IsRested new.now.words)
       → Applies size w (world_by w (Some (commands.Pool client name mode))) memory (make_fault done) old new
   making_there also makes does still rests =
-      let off = off_making w memory.held ready.mask old.now.words ready.held (reads old.now.words NEXT_NUMBER_WORD) name uid gid mode in
+      let off = off_making w memory.active ready.mask old.now.words ready.active (reads old.now.words NEXT_NUMBER_WORD) name uid gid mode in
       let idle = ready_gate size w memory old ready in
       Applies-made size w memory client uid gid mode name also (make_fault done) old new ready who
       (λ none. LeavesPuddles-makes w.stored.frames (make_fault done) old new ready.tables idle rests (reads old.now.words NEXT_NUMBER_WORD) name uid gid mode (does idle none))
       (λ none. record {
-        beside = IsBeside-makes ready.mask (tables_of w.stored.frames (reads old.now.words)) (reads old.now.words NEXT_NUMBER_WORD) name uid gid mode (make_fault done) old new off
+        beside = LeavesMasked-makes ready.mask (tables_of w.stored.frames (reads old.now.words)) (reads old.now.words NEXT_NUMBER_WORD) name uid gid mode (make_fault done) old new off
             (ready_gate size w memory old ready) rests (does (ready_gate size w memory old ready) none);
-        pools = makes (keeps_tables w memory.held ready.mask old.now.words ready.held) off ready.settled (HasDurableTables-masked w.stored.frames ready.mask old.now.words ready.tables) none;
+        pools = makes (keeps_tables w memory.active ready.mask old.now.words ready.active) off ready.settled (HasDurableTables-masked w.stored.frames ready.mask old.now.words ready.tables) none;
       })
       (λ none done.
       let number = reads old.now.words NEXT_NUMBER_WORD in
@@ -450,8 +450,8 @@ module _ (size : ℕ) (w : World) (memory : Memory) (s : State) (ready : IsReady
   abbrev found_tables : Tables
   found_tables = tables_of w.stored.frames (reads s.now.words)
 
-  abbrev held : Reader
-  held = holding_in w.stored.types w.stored.frames (reads (masked ready.mask s.now.words))
+  abbrev active : Reader
+  active = holding_in w.stored.types w.stored.frames (reads (masked ready.mask s.now.words))
 
   abbrev asked : Command
   asked = commands.Drop client name
@@ -466,9 +466,9 @@ module _ (size : ℕ) (w : World) (memory : Memory) (s : State) (ready : IsReady
   owned_refusal = refusal_of-drop w client name
 
   -- so none is held on the pool
-  pub held_apart : refusal_of w asked ≡ None → IsNotNamed name memory.held
-  held_apart free =
-      not_named w memory.held ready.mask s.now.words name ready.held
+  pub active_apart : refusal_of w asked ≡ None → IsNotNamed name memory.active
+  active_apart free =
+      not_named w memory.active ready.mask s.now.words name ready.active
       (none_open client (open_on name w)
       (all_free (not (is_some (w.clients client))) (is_none (pool_named name w.stored)) (not (owns (w.clients client) (pool_named name w.stored))) beside_open (sym owned_refusal ∙ free)))
 
@@ -480,7 +480,7 @@ module _ (size : ℕ) (w : World) (memory : Memory) (s : State) (ready : IsReady
 
   pub refused_pool : (uid gid : ℕ) → w.clients client ≡ Some (owner uid gid) → None ≡ pool_in found_tables name → refusal_of w asked ≡ Some refusals.Pool
   refused_pool uid gid there none =
-      by_owner uid gid None there (pool_there size w memory s ready name ∙ ap (option_map (pool_by_record held found_tables)) (no_record (find name_cmp name (records_of found_tables)) none))
+      by_owner uid gid None there (pool_there size w memory s ready name ∙ ap (option_map (pool_by_record active found_tables)) (no_record (find name_cmp name (records_of found_tables)) none))
 
   module _ (uid gid slot : ℕ) (rec : PoolRec) (there : w.clients client ≡ Some (owner uid gid)) (is : ◌≡◌ {A = Option (ℕ × PoolRec)} (Some (slot, rec)) (pool_in found_tables name)) where
     rec_of : IsNamed found_tables name slot rec
@@ -489,7 +489,7 @@ module _ (size : ℕ) (w : World) (memory : Memory) (s : State) (ready : IsReady
     by_uid : refusal_of w asked ≡ cond (not (eqb uid rec.uid)) (Some refusals.Denied) beside_open
     unfolding pool_of
     by_uid =
-        by_owner uid gid (Some (pool_by_record held found_tables (slot, rec_of.r))) there (pool_there size w memory s ready name ∙ ap (option_map (pool_by_record held found_tables)) rec_of.found)
+        by_owner uid gid (Some (pool_by_record active found_tables (slot, rec_of.r))) there (pool_there size w memory s ready name ∙ ap (option_map (pool_by_record active found_tables)) rec_of.found)
         ∙ ap (λ n. cond (not (eqb uid n)) (Some refusals.Denied) beside_open) (sym (ap (λ (x : PoolRec). x.uid) rec_of.same))
 
     pub refused_denied : eqb uid rec.uid ≡ false → refusal_of w asked ≡ Some refusals.Denied
@@ -517,17 +517,17 @@ module _ (size : ℕ) (w : World) (memory : Memory) (client slot : ℕ) (name : 
   within : slot < POOL_RECORDS
   within = slot_within N slot (reads old.now.words) at.rec at.used
 
-  name_apart : IsNotNamed name memory.held
-  name_apart = held_apart size w memory old ready client name free
+  name_apart : IsNotNamed name memory.active
+  name_apart = active_apart size w memory old ready client name free
 
-  slot_apart : (number : ℕ) (h : Held) → held_under memory.held number ≡ Some h → slot ≡ h.slot → ⊥
+  slot_apart : (number : ℕ) (h : ActiveTransaction) → active_under memory.active number ≡ Some h → slot ≡ h.slot → ⊥
   slot_apart number h there same =
-      let pool = held_pool w memory.held m old.now.words ready.held number h there in
+      let pool = active_pool w memory.active m old.now.words ready.active number h there in
       let both : Some pool.rec ≡ Some at.rec = sym pool.used ∙ ap (tables_of N (reads old.now.words)).pools (sym same) ∙ at.used in
       name_apart number h there (sym pool.name ∙ ap (λ (r : PoolRec). r.name) (same_Some pool.rec at.rec both) ∙ at.name_is)
 
   same_tables : tables_of N (reads (masked m old.now.words)) ≡ tables_of N (reads old.now.words)
-  same_tables = ap (tables_of N) (reads-masked m old.now.words) ∙ (keeps_tables w memory.held m old.now.words ready.held).tables
+  same_tables = ap (tables_of N) (reads-masked m old.now.words) ∙ (keeps_tables w memory.active m old.now.words ready.active).tables
 
   masked_at : IsPoolAt N slot at.rec (masked m old.now.words)
   masked_at = record { tables = HasDurableTables-masked N m old.now.words ready.tables; used = ap (λ (t : Tables). t.pools slot) same_tables ∙ at.used }
@@ -539,15 +539,15 @@ module _ (size : ℕ) (w : World) (memory : Memory) (client slot : ℕ) (name : 
       → Applies size w (world_by w (Some (Chmod client name mode))) memory fault old new
   unfolding after
   Applies-mode mode rests commits changes =
-      let off = off_changing w memory.held m old.now.words ready.held slot within slot_apart mode in
+      let off = off_changing w memory.active m old.now.words ready.active slot within slot_apart mode in
       let idle = ready_gate size w memory old ready in
       let stay : fault ≡ None → KeepsPools w.stored.frames None (reads old.now.words) (reads new.now.words) =
       λ done. KeepsPools-mode N slot mode old new within (subst (λ (f : Option HostFault). Commits DAEMON_LOG (puts_batch (changing slot mode)) f old new) done (commits idle)) in
       Applies-pools Stays size w memory (Chmod client name mode) (with_pool_mode name mode w.stored) (λ _. ⊤) fault old new ready
       (LeavesPuddles-mode N fault old new ready.tables idle rests slot mode within (inr (commits idle))) (refusal_of-owned w client mode name ∙ free) refl
-      (keeps_mode w.stored name mode memory.held name_apart)
+      (keeps_mode w.stored name mode memory.active name_apart)
       (record {
-        beside = IsBeside-puts m (changing slot mode) fault old new off idle rests (inr (commits idle));
+        beside = LeavesMasked-puts m (changing slot mode) fault old new off idle rests (inr (commits idle));
         pools = subst (λ (n : List ℕ). ChangesPools size w.stored (with_pool_mode n mode w.stored) (λ _. ⊤) fault (masked_state m old) (masked_state m new)) at.name_is (changes off ready.settled at.rec masked_at);
       }) memory.judged (λ done. knows_still size w memory old new ready (stay done)) None (λ number h there no. none-some h.slot no) stay
 
@@ -577,21 +577,21 @@ module _ (size : ℕ) (w : World) (memory : Memory) (client slot : ℕ) (name : 
   drop_there : (fault ≡ Some Cut → IsRested new.now.words) → Frees N → Drops N → AppliesDrop fault old new
   unfolding after
   drop_there rests frees drops =
-      let off = off_dropping w memory.held m old.now.words ready.held slot within slot_apart in
+      let off = off_dropping w memory.active m old.now.words ready.active slot within slot_apart in
       let idle = ready_gate size w memory old ready in
       let stay : fault ≡ None → KeepsPools w.stored.frames (Some slot) (reads old.now.words) (reads new.now.words) =
       λ done. KeepsPools-drop N slot old new within (subst (λ (f : Option HostFault). OrStill (CommitsPuts (dropping (tables_of N (reads old.now.words)) slot)) f old new) done (frees idle few)) in
-      let beside = IsBeside-puts m (dropping (tables_of N (reads old.now.words)) slot) fault old new off idle rests (frees idle few) in
+      let beside = LeavesMasked-puts m (dropping (tables_of N (reads old.now.words)) slot) fault old new off idle rests (frees idle few) in
       Applies-pools (MovesTo (freed_in slot)) size w memory (commands.Drop client name) (without_pool name w.stored) (λ _. ⊤) fault old new ready
-      (LeavesPuddles-drops N fault old new ready.tables idle rests slot within m beside (frees idle few)) free refl (keeps_drop w.stored name memory.held name_apart)
+      (LeavesPuddles-drops N fault old new ready.tables idle rests slot within m beside (frees idle few)) free refl (keeps_drop w.stored name memory.active name_apart)
       (record {
         beside = beside;
         pools = subst (λ (n : List ℕ). ChangesPools size w.stored (without_pool n w.stored) (λ _. ⊤) fault (masked_state m old) (masked_state m new)) at.name_is
-            (drops (keeps_tables w memory.held m old.now.words ready.held) off ready.settled at.rec masked_at);
+            (drops (keeps_tables w memory.active m old.now.words ready.active) off ready.settled at.rec masked_at);
       }) (set memory.judged slot None)
       (λ done.
-      KnowsPools-dropped N slot memory.judged ready.held.opens (reads old.now.words) (reads new.now.words)
-      (opens_apart_from w memory.held m old.now.words ready.held slot (λ number h there same. slot_apart number h there (sym same)))
+      KnowsPools-dropped N slot memory.judged ready.active.opens (reads old.now.words) (reads new.now.words)
+      (opens_apart_from w memory.active m old.now.words ready.active slot (λ number h there same. slot_apart number h there (sym same)))
       (stay done) ready.knows) (Some slot) (λ number h there same. slot_apart number h there (same_Some slot h.slot same)) stay
 
   pub Applies-drop : (F : ℕ) → F ≡ w.stored.frames → (fault ≡ Some Cut → IsRested new.now.words) → Frees F → Drops F → AppliesDrop fault old new

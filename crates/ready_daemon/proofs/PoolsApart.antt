@@ -48,12 +48,12 @@ use Rattle.registry.specs.Pools.{making, new_record, changing, freeing, dropping
 use Rattle.registry.proofs.PutBatches.{puts_batched, lies_fit, either_some}
 use Rattle.registry.proofs.Made.{making_of}
 use Rattle.registry.proofs.Changed.{changing_of, dropping_of}
-use Rattle.ready_daemon.specs.Memory.{Held, Memory, held_under}
-use Rattle.ready_daemon.specs.Held.{Holds, HasIdleLogs, ByOthers, NamesNone, IsBeside, KeepsHeld}
+use Rattle.ready_daemon.specs.Memory.{ActiveTransaction, Memory, active_under}
+use Rattle.ready_daemon.specs.ActiveTransactions.{AreActive, HasIdleLogs, ByOthers, NamesNone, LeavesMasked, KeepsActive}
 use Rattle.ready_daemon.specs.Ready.{IsReady, AppliesMasked}
 use Rattle.ready_daemon.proofs.Beside.{unmasked_front, names_none_idle}
-use Rattle.ready_daemon.proofs.Beneath.{IsBeside-changes, IsBeside-commits, IsBeside-then, table_reads, table_reads-kept, persisted_single, logs_kept}
-use Rattle.ready_daemon.proofs.PoolsBeside.{IsOfOthers, unmasked_pool, unmasked_puddle, unmasked_frame, held_pool}
+use Rattle.ready_daemon.proofs.Beneath.{LeavesMasked-changes, LeavesMasked-commits, LeavesMasked-then, table_reads, table_reads-kept, persisted_single, logs_kept}
+use Rattle.ready_daemon.proofs.PoolsBeside.{IsOfOthers, unmasked_pool, unmasked_puddle, unmasked_frame, active_pool}
 use Rattle.registry.proofs.Filled.{length-fresh_frame}
 
 -- ---- changes of records that write no masked word
@@ -78,7 +78,7 @@ puts_off F mask (p ∷ puts) k v of off is = elim (either_some (value_at p.w (ta
 masked_not : (mask : Write) (k x : ℕ) → mask k ≡ Some x → mask k ≡ None → ⊥
 masked_not mask k x is none = let it : Some x ≡ None = sym is ∙ none in cc
 
-module _ (w : World) (held : List (Option Held)) (mask : Write) (words : Words) (holds : Holds w held mask words) where
+module _ (w : World) (active : List (Option ActiveTransaction)) (mask : Write) (words : Words) (holds : AreActive w active mask words) where
   abbrev F : ℕ
   F = w.stored.frames
 
@@ -88,7 +88,7 @@ module _ (w : World) (held : List (Option Held)) (mask : Write) (words : Words) 
   pub IsOff-puts : (puts : List Put) → AreOfPools F puts → AreOff mask puts → IsOff mask (ByBatch DAEMON_LOG (puts_batch puts))
   IsOff-puts puts of off = record {
     apart = λ k x v is may. masked_not mask k x is (elim may [
-      | inl log ↦ let high = log.high in unmasked_front w held mask words holds k (omega arith)
+      | inl log ↦ let high = log.high in unmasked_front w active mask words holds k (omega arith)
       | inr named ↦ puts_off F mask puts k named.value of off named.is
     ]);
   }
@@ -96,13 +96,13 @@ module _ (w : World) (held : List (Option Held)) (mask : Write) (words : Words) 
   -- ---- a pool is made
 
   -- a slot that is free is not that of a pool that is held
-  pub free_apart : (slot : ℕ) → t.pools slot ≡ None → (number : ℕ) (h : Held) → held_under held number ≡ Some h → slot ≡ h.slot → ⊥
+  pub free_apart : (slot : ℕ) → t.pools slot ≡ None → (number : ℕ) (h : ActiveTransaction) → active_under active number ≡ Some h → slot ≡ h.slot → ⊥
   free_apart slot free number h there same =
-      let pool = held_pool w held mask words holds number h there in
+      let pool = active_pool w active mask words holds number h there in
       let no : None ≡ Some pool.rec = sym free ∙ ap t.pools same ∙ pool.used in
       cc
 
-  pub free_others : (frame : ℕ) → t.puddles frame ≡ None → IsOfOthers held (t.puddles frame)
+  pub free_others : (frame : ℕ) → t.puddles frame ≡ None → IsOfOthers active (t.puddles frame)
   free_others frame free number h there = ap (is_of_pool h.slot) free
 
   -- the lowest free slot
@@ -111,7 +111,7 @@ module _ (w : World) (held : List (Option Held)) (mask : Write) (words : Words) 
     slot_below = let free = first_free_some t.pools 0 POOL_RECORDS slot first in let high = free.high in omega arith
 
     new_slot : (k : ℕ) → pool_record_at slot ≤ k → k < pool_record_at (slot + 1) → mask k ≡ None
-    new_slot k low high = unmasked_pool w held mask words holds slot k slot_below (free_apart slot (first_free_some t.pools 0 POOL_RECORDS slot first).free) low high
+    new_slot k low high = unmasked_pool w active mask words holds slot k slot_below (free_apart slot (first_free_some t.pools 0 POOL_RECORDS slot first).free) low high
 
   -- and the lowest free frame
   module _ (frame : ℕ) (first : first_free t.puddles 0 t.frames ≡ Some frame) where
@@ -122,7 +122,7 @@ module _ (w : World) (held : List (Option Held)) (mask : Write) (words : Words) 
     frame_free = (first_free_some t.puddles 0 t.frames frame first).free
 
     pub new_frame : (k : ℕ) → puddle_record_at frame ≤ k → k < puddle_record_at (frame + 1) → mask k ≡ None
-    new_frame k low high = unmasked_puddle w held mask words holds frame k frame_below (free_others frame frame_free) low high
+    new_frame k low high = unmasked_puddle w active mask words holds frame k frame_below (free_others frame frame_free) low high
 
     pub filling_off : (number ordinal : ℕ) → IsOff mask (written (frame_write t.frames frame number ordinal))
     filling_off number ordinal = record {
@@ -130,7 +130,7 @@ module _ (w : World) (held : List (Option Held)) (mask : Write) (words : Words) 
           let within = placed_within (frame_at t.frames frame) k v (fresh_frame number ordinal) may in
           let low = within.0 in
           let high = within.1 in
-          masked_not mask k x is (unmasked_frame w held mask words holds frame k frame_below (free_others frame frame_free)
+          masked_not mask k x is (unmasked_frame w active mask words holds frame k frame_below (free_others frame frame_free)
           (omega (arith, frames_of_tables F (reads words))) (omega (arith, frames_of_tables F (reads words), length-fresh_frame number ordinal)));
     }
 
@@ -142,18 +142,18 @@ module _ (w : World) (held : List (Option Held)) (mask : Write) (words : Words) 
           frame = filling_off a.frame for.puddle.frame a.puddle.number a.puddle.ordinal;
           records = IsOff-puts (making r a) (making_of F r a (frame_below a.frame for.puddle.frame) (slot_below a.puddle.pool for.slot)) (
             λ k low high. new_slot a.puddle.pool for.slot k low (omega arith),
-            (λ k low high. unmasked_front w held mask words holds k (omega arith), (λ k low high. new_frame a.frame for.puddle.frame k low (omega arith), tt)),
+            (λ k low high. unmasked_front w active mask words holds k (omega arith), (λ k low high. new_frame a.frame for.puddle.frame k low (omega arith), tt)),
           );
         };
   }
 
   -- ---- a pool that is not held is changed, or dropped
 
-  module _ (slot : ℕ) (within : slot < POOL_RECORDS) (apart : (number : ℕ) (h : Held) → held_under held number ≡ Some h → slot ≡ h.slot → ⊥) where
+  module _ (slot : ℕ) (within : slot < POOL_RECORDS) (apart : (number : ℕ) (h : ActiveTransaction) → active_under active number ≡ Some h → slot ≡ h.slot → ⊥) where
     pub off_changing : (mode : ℕ) → IsOff mask (ByBatch DAEMON_LOG (puts_batch (changing slot mode)))
     off_changing mode =
         IsOff-puts (changing slot mode) (changing_of F slot mode within)
-        (λ k low high. unmasked_pool w held mask words holds slot k within apart (omega arith) (omega arith), tt)
+        (λ k low high. unmasked_pool w active mask words holds slot k within apart (omega arith) (omega arith), tt)
 
     of_one : (s : ℕ) (m : Option Member) → (slot ≡ s → ⊥) → is_of_pool slot m ≡ true → is_of_pool s m ≡ false
     of_one s None other of = refl
@@ -166,7 +166,7 @@ module _ (w : World) (held : List (Option Held)) (mask : Write) (words : Words) 
     freeing_off frame zero below = tt
     freeing_off frame (suc count) below = elim (cases_Bool (is_of_pool slot (t.puddles frame))) [
       | inl of ↦ subst (AreOff mask) (sym (cond-true _ _ _ of)) (
-        λ k low high. unmasked_puddle w held mask words holds frame k (omega arith) (λ number h there. of_one h.slot (t.puddles frame) (apart number h there) of) low (omega arith),
+        λ k low high. unmasked_puddle w active mask words holds frame k (omega arith) (λ number h there. of_one h.slot (t.puddles frame) (apart number h there) of) low (omega arith),
         freeing_off (frame + 1) count (omega arith),
       )
       | inr other ↦ subst (AreOff mask) (sym (cond-false _ _ _ other)) (freeing_off (frame + 1) count (omega arith))
@@ -175,7 +175,7 @@ module _ (w : World) (held : List (Option Held)) (mask : Write) (words : Words) 
     pub off_dropping : IsOff mask (ByBatch DAEMON_LOG (puts_batch (dropping t slot)))
     off_dropping =
         IsOff-puts (dropping t slot) (dropping_of F t slot within (omega (arith, frames_of_tables F (reads words))))
-        (λ k low high. unmasked_pool w held mask words holds slot k within apart low (omega arith), freeing_off 0 t.frames (omega (arith, frames_of_tables F (reads words))))
+        (λ k low high. unmasked_pool w active mask words holds slot k within apart low (omega arith), freeing_off 0 t.frames (omega (arith, frames_of_tables F (reads words))))
 
 -- ---- what they do beside it
 
@@ -197,7 +197,7 @@ not_logs F k v low high (inr (inr (inl frame))) = let from = frame.low in absurd
 not_logs F k v low high (inr (inr (inr type))) = let to = type.high in absurd (omega arith)
 
 module _ (size : ℕ) (w : World) (memory : Memory) (next : StoredWorld) (also : Image → Type 0) (fault : Option HostFault) (old new : State) (ready : IsReady size w memory old)
-    (b : IsBeside ready.mask fault old new) (p : ChangesPools size w.stored next also fault (masked_state ready.mask old) (masked_state ready.mask new)) where
+    (b : LeavesMasked ready.mask fault old new) (p : ChangesPools size w.stored next also fault (masked_state ready.mask old) (masked_state ready.mask new)) where
   stays_durable : fault ≡ None → (k : ℕ) (x : Option ℕ) → ready.mask k ≡ x → (k < DAEMON_LOG) ⊎ (TYPE_TABLE ≤ k) → k < tables_end w.stored.frames → StaysDurable (ByOthers ready.mask) new k
   stays_durable none k None is outside below = inr (subst (λ (c : Cell). HasOnly c c.newest) (masked-elsewhere ready.mask new.now.words k is) ((p.tables none).each k outside below))
   stays_durable none k (Some x) is outside below = inl (λ v m. masked_not ready.mask k x is m)
@@ -211,11 +211,11 @@ module _ (size : ℕ) (w : World) (memory : Memory) (next : StoredWorld) (also :
       let beside = subst (λ (f : Option HostFault). Changes (ByOthers mask) f old new) none b.changes in
       let changes = subst (λ (f : Option HostFault). Changes (ByPools w.stored.frames) f (masked_state mask old) (masked_state mask new)) none p.changes in
       let now = λ (words : Words). ap (λ (i : Image). i k) (reads-masked mask words) in
-      sym (table_reads-kept w memory.held mask old new ready.held beside k (omega arith))
+      sym (table_reads-kept w memory.active mask old new ready.active beside k (omega arith))
       ∙ sym (now new.now.words)
       ∙ reads_kept (ByPools w.stored.frames) (masked_state mask old) (masked_state mask new) k changes (λ v. not_spaces w.stored.frames k v low high)
       ∙ now old.now.words
-      ∙ table_reads w memory.held mask old.now.words ready.held k (omega arith)
+      ∙ table_reads w memory.active mask old.now.words ready.active k (omega arith)
 
   pub AppliesMasked-pools : next.frames ≡ w.stored.frames → AppliesMasked size w (record w { stored = next }) ready.mask fault old new
   AppliesMasked-pools frames = record {
@@ -232,9 +232,9 @@ module _ (size : ℕ) (w : World) (memory : Memory) (next : StoredWorld) (also :
 
 -- ---- what stays of the pools that are held
 
-pub KeepsHeld-stored : (w : World) (next : StoredWorld) (held : List (Option Held)) → next.frames ≡ w.stored.frames → next.types ≡ w.stored.types
-    → ((number : ℕ) (h : Held) → held_under held number ≡ Some h → pool_named h.name next ≡ pool_named h.name w.stored) → KeepsHeld w (record w { stored = next }) held
-KeepsHeld-stored w next held frames types pool = record {
+pub KeepsActive-stored : (w : World) (next : StoredWorld) (active : List (Option ActiveTransaction)) → next.frames ≡ w.stored.frames → next.types ≡ w.stored.types
+    → ((number : ℕ) (h : ActiveTransaction) → active_under active number ≡ Some h → pool_named h.name next ≡ pool_named h.name w.stored) → KeepsActive w (record w { stored = next }) active
+KeepsActive-stored w next active frames types pool = record {
   frames = frames;
   transactions = refl;
   present = λ number h there. refl;
@@ -261,9 +261,9 @@ found_beside_without name other ps apart =
 -- ---- what calls on pools do beside it
 
 -- nothing happened
-pub IsBeside-still : (mask : Write) (fault : Option HostFault) (old new : State) → HasIdleGate DAEMON_LOG old.now.words → (fault ≡ Some Cut → IsRested new.now.words) → new ≡ old → IsBeside mask fault old new
-IsBeside-still mask fault old new idle rests same =
-    subst (λ (n : State). (fault ≡ Some Cut → IsRested n.now.words) → IsBeside mask fault old n) (sym same) (λ rests. record {
+pub LeavesMasked-still : (mask : Write) (fault : Option HostFault) (old new : State) → HasIdleGate DAEMON_LOG old.now.words → (fault ≡ Some Cut → IsRested new.now.words) → new ≡ old → LeavesMasked mask fault old new
+LeavesMasked-still mask fault old new idle rests same =
+    subst (λ (n : State). (fault ≡ Some Cut → IsRested n.now.words) → LeavesMasked mask fault old n) (sym same) (λ rests. record {
       changes = record {
         added = [];
         history = refl;
@@ -279,32 +279,32 @@ IsBeside-still mask fault old new idle rests same =
     }) rests
 
 -- a batch was committed, or nothing happened
-pub IsBeside-puts : (mask : Write) (puts : List Put) (fault : Option HostFault) (old new : State) → IsOff mask (ByBatch DAEMON_LOG (puts_batch puts)) → HasIdleGate DAEMON_LOG old.now.words
-    → (fault ≡ Some Cut → IsRested new.now.words) → OrStill (CommitsPuts puts) fault old new → IsBeside mask fault old new
-IsBeside-puts mask puts fault old new off idle rests (inl still) = IsBeside-still mask fault old new idle rests still.0
-IsBeside-puts mask puts fault old new off idle rests (inr commits) = IsBeside-commits mask (puts_batch puts) fault old new off (puts_batched puts) commits
+pub LeavesMasked-puts : (mask : Write) (puts : List Put) (fault : Option HostFault) (old new : State) → IsOff mask (ByBatch DAEMON_LOG (puts_batch puts)) → HasIdleGate DAEMON_LOG old.now.words
+    → (fault ≡ Some Cut → IsRested new.now.words) → OrStill (CommitsPuts puts) fault old new → LeavesMasked mask fault old new
+LeavesMasked-puts mask puts fault old new off idle rests (inl still) = LeavesMasked-still mask fault old new idle rests still.0
+LeavesMasked-puts mask puts fault old new off idle rests (inr commits) = LeavesMasked-commits mask (puts_batch puts) fault old new off (puts_batched puts) commits
 
 -- words were made durable, and then a batch was committed
-pub IsBeside-filled : (mask write : Write) (es : List Entry) (fault : Option HostFault) (old new : State) → IsOff mask (written write) → IsOff mask (ByBatch DAEMON_LOG es) → ((v : ℕ) → written write DAEMON_LOG v → ⊥)
-    → AreBatched es → HasIdleGate DAEMON_LOG old.now.words → PersistsThenCommits write es fault old new → IsBeside mask fault old new
-IsBeside-filled mask write es fault old new off_write off apart batched idle c =
-    let first : IsBeside mask c.first old c.mid = IsBeside-changes mask (written write) c.first old c.mid off_write apart idle (persisted_single write c.first old c.mid c.persists) c.persists.changes in
+pub LeavesMasked-filled : (mask write : Write) (es : List Entry) (fault : Option HostFault) (old new : State) → IsOff mask (written write) → IsOff mask (ByBatch DAEMON_LOG es) → ((v : ℕ) → written write DAEMON_LOG v → ⊥)
+    → AreBatched es → HasIdleGate DAEMON_LOG old.now.words → PersistsThenCommits write es fault old new → LeavesMasked mask fault old new
+LeavesMasked-filled mask write es fault old new off_write off apart batched idle c =
+    let first : LeavesMasked mask c.first old c.mid = LeavesMasked-changes mask (written write) c.first old c.mid off_write apart idle (persisted_single write c.first old c.mid c.persists) c.persists.changes in
     elim c.then [
-      | inl end ↦ subst (λ (s : State). IsBeside mask fault old s) (sym end.0) (subst (λ (f : Option HostFault). IsBeside mask f old c.mid) (sym end.1) first)
-      | inr on ↦ IsBeside-then mask fault old c.mid new (subst (λ (f : Option HostFault). IsBeside mask f old c.mid) on.0 first) (IsBeside-commits mask es fault c.mid new off batched on.1)
+      | inl end ↦ subst (λ (s : State). LeavesMasked mask fault old s) (sym end.0) (subst (λ (f : Option HostFault). LeavesMasked mask f old c.mid) (sym end.1) first)
+      | inr on ↦ LeavesMasked-then mask fault old c.mid new (subst (λ (f : Option HostFault). LeavesMasked mask f old c.mid) on.0 first) (LeavesMasked-commits mask es fault c.mid new off batched on.1)
     ]
 
 -- a puddle was added
-pub IsBeside-adds : (mask : Write) (F : ℕ) (a : Added) (puts : List Put) (fault : Option HostFault) (old new : State) → IsOffAdding mask F a puts → HasIdleGate DAEMON_LOG old.now.words
-    → PersistsThenCommits (filling F a) (puts_batch puts) fault old new → IsBeside mask fault old new
-IsBeside-adds mask F a puts fault old new off idle commits =
-    IsBeside-filled mask (filling F a) (puts_batch puts) fault old new off.frame off.records
+pub LeavesMasked-adds : (mask : Write) (F : ℕ) (a : Added) (puts : List Put) (fault : Option HostFault) (old new : State) → IsOffAdding mask F a puts → HasIdleGate DAEMON_LOG old.now.words
+    → PersistsThenCommits (filling F a) (puts_batch puts) fault old new → LeavesMasked mask fault old new
+LeavesMasked-adds mask F a puts fault old new off idle commits =
+    LeavesMasked-filled mask (filling F a) (puts_batch puts) fault old new off.frame off.records
     (λ v may. let within = placed_within (frame_at F a.frame) DAEMON_LOG v (fresh_frame a.puddle.number a.puddle.ordinal) may in let low = within.0 in absurd (omega arith))
     (puts_batched puts) idle commits
 
 -- a pool was made somewhere
-pub IsBeside-makes : (mask : Write) (t : Tables) (next : ℕ) (name : List ℕ) (uid gid mode : ℕ) (fault : Option HostFault) (old new : State) → IsOffMaking mask t next name uid gid mode
-    → HasIdleGate DAEMON_LOG old.now.words → (fault ≡ Some Cut → IsRested new.now.words) → OrStill (MakesSomewhere t next name uid gid mode) fault old new → IsBeside mask fault old new
-IsBeside-makes mask t next name uid gid mode fault old new off idle rests (inl still) = IsBeside-still mask fault old new idle rests still.0
-IsBeside-makes mask t next name uid gid mode fault old new off idle rests (inr m) =
-    IsBeside-adds mask t.frames m.added (making (new_record name uid gid mode next) m.added) fault old new (off.each m.added m.is) idle m.commits
+pub LeavesMasked-makes : (mask : Write) (t : Tables) (next : ℕ) (name : List ℕ) (uid gid mode : ℕ) (fault : Option HostFault) (old new : State) → IsOffMaking mask t next name uid gid mode
+    → HasIdleGate DAEMON_LOG old.now.words → (fault ≡ Some Cut → IsRested new.now.words) → OrStill (MakesSomewhere t next name uid gid mode) fault old new → LeavesMasked mask fault old new
+LeavesMasked-makes mask t next name uid gid mode fault old new off idle rests (inl still) = LeavesMasked-still mask fault old new idle rests still.0
+LeavesMasked-makes mask t next name uid gid mode fault old new off idle rests (inr m) =
+    LeavesMasked-adds mask t.frames m.added (making (new_record name uid gid mode next) m.added) fault old new (off.each m.added m.is) idle m.commits

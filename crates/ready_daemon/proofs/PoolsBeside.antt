@@ -28,9 +28,9 @@ use Rattle.hybrid_tx.proofs.Open.OpenMasks.{mine_behind, mask_of_others}
 use Rattle.hybrid_tx.proofs.Open.OpenPools.{open_on_device}
 use Rattle.hybrid_tx.proofs.PoolGrounds.{all_there, any_element, element_passes, pool_mine-each}
 use Rattle.hybrid_tx.proofs.Open.PoolPlaces.{ArePuddlesOf-same}
-use Rattle.ready_daemon.specs.Memory.{Held, held_under}
-use Rattle.ready_daemon.specs.Held.{pool_held, open_held, IsHeld, Holds}
-use Rattle.ready_daemon.proofs.Beside.{held_is, unmasked_by_all}
+use Rattle.ready_daemon.specs.Memory.{ActiveTransaction, active_under}
+use Rattle.ready_daemon.specs.ActiveTransactions.{open_pool_of, open_transaction_of, IsActive, AreActive}
+use Rattle.ready_daemon.proofs.Beside.{active_is, unmasked_by_all}
 
 -- ---- which words are masked
 
@@ -73,12 +73,12 @@ of_puddle_record p k o e there low high =
     or_right (is_in_pool_record p.slot k || is_in_space_record (client_of_log p.log_number) k) (list_any (is_in_puddle_record k) (finished_of p.puddles))
     (element_passes (is_in_puddle_record k) (finished_of p.puddles) o e there (and_from (leb (puddle_record_at e.0) k) (ltb k (puddle_record_at (e.0 + 1))) (le-leb _ _ low) (lt-ltb _ _ high)))
 
-module _ (w : World) (held : Held) (mask : Write) (words : Words) (is : IsHeld w held mask words) where
+module _ (w : World) (active : ActiveTransaction) (mask : Write) (words : Words) (is : IsActive w active mask words) where
   abbrev F : ℕ
   F = w.stored.frames
 
   abbrev p : OpenPool
-  p = pool_held held is.puddles is.rec is.who
+  p = open_pool_of active is.puddles is.rec is.who
 
   abbrev now : Tables
   now = tables_of F (reads words)
@@ -86,32 +86,32 @@ module _ (w : World) (held : Held) (mask : Write) (words : Words) (is : IsHeld w
   -- a word of the tables that is none of its records
   not_record : (k : ℕ) → k < tables_end F → (is_open_record p k ≡ true → ⊥) → open_mask F p is.before k ≡ None
   not_record k below never =
-      mask_of_others F p is.before k (outside_log (log_number_at F held.log_number) k (inl (omega arith))) (mine_behind F (finished_of is.puddles) k (omega arith)) (false_from_ne_true (is_open_record p k) never)
+      mask_of_others F p is.before k (outside_log (log_number_at F active.log_number) k (inl (omega arith))) (mine_behind F (finished_of is.puddles) k (omega arith)) (false_from_ne_true (is_open_record p k) never)
 
   -- its record is read as it was
-  pub used_still : now.pools held.slot ≡ Some is.rec
+  pub used_still : now.pools active.slot ≡ Some is.rec
   used_still =
-      pools_below F (reads words) held.slot is.pool.slot ∙ pool_at-same (reads words) is.before held.slot (λ k low high. is.records k (of_pool_record p k low high))
-      ∙ sym (pools_below F is.before held.slot is.pool.slot) ∙ is.pool.used
+      pools_below F (reads words) active.slot is.pool.slot ∙ pool_at-same (reads words) is.before active.slot (λ k low high. is.records k (of_pool_record p k low high))
+      ∙ sym (pools_below F is.before active.slot is.pool.slot) ∙ is.pool.used
 
   -- and so are those of its finished puddles
-  pub puddles_still : ArePuddlesOf now held.slot (finished_of is.puddles)
+  pub puddles_still : ArePuddlesOf now active.slot (finished_of is.puddles)
   puddles_still =
-      ArePuddlesOf-same (tables_of F is.before) now held.slot (finished_of is.puddles) (frames_of_tables F is.before ∙ sym (frames_of_tables F (reads words)))
+      ArePuddlesOf-same (tables_of F is.before) now active.slot (finished_of is.puddles) (frames_of_tables F is.before ∙ sym (frames_of_tables F (reads words)))
       (λ o e there.
       let below = all_there (λ (d : ℕ × Puddle). d.0 < F) (finished_of is.puddles) o e (open_on_device F p is.before is.pool).frames there in
       puddles_below F (reads words) e.0 below ∙ puddle_at-same (reads words) is.before e.0 (λ k low high. is.records k (of_puddle_record p k o e there low high)) ∙ sym (puddles_below F is.before e.0 below))
       is.pool.puddles
 
   -- a frame that is none of its finished puddles'
-  not_its_own : (frame : ℕ) → is_of_pool held.slot (now.puddles frame) ≡ false → (o : ℕ) (e : ℕ × Puddle) → slice_get (finished_of is.puddles) o ≡ Some e → frame ≡ e.0 → ⊥
+  not_its_own : (frame : ℕ) → is_of_pool active.slot (now.puddles frame) ≡ false → (o : ℕ) (e : ℕ × Puddle) → slice_get (finished_of is.puddles) o ≡ Some e → frame ≡ e.0 → ⊥
   not_its_own frame other o e there same =
       let m = puddles_still.each o e there in
-      let of : is_of_pool held.slot (now.puddles frame) ≡ true = ap (λ n. is_of_pool held.slot (now.puddles n)) same ∙ ap (is_of_pool held.slot) m.used ∙ eq-eqb m.member.pool (held.slot + 1) m.pool in
+      let of : is_of_pool active.slot (now.puddles frame) ≡ true = ap (λ n. is_of_pool active.slot (now.puddles n)) same ∙ ap (is_of_pool active.slot) m.used ∙ eq-eqb m.member.pool (active.slot + 1) m.pool in
       let no : true ≡ false = sym of ∙ other in
       cc
 
-  other_pool : (slot k : ℕ) → slot < POOL_RECORDS → (slot ≡ held.slot → ⊥) → pool_record_at slot ≤ k → k < pool_record_at (slot + 1) → open_mask F p is.before k ≡ None
+  other_pool : (slot k : ℕ) → slot < POOL_RECORDS → (slot ≡ active.slot → ⊥) → pool_record_at slot ≤ k → k < pool_record_at (slot + 1) → open_mask F p is.before k ≡ None
   other_pool slot k within apart low high =
       not_record k (omega arith) (λ of. elim (open_record_of p k of) [
         | inl pool ↦ let from = pool.low in let to = pool.high in absurd (apart (omega arith))
@@ -148,7 +148,7 @@ module _ (w : World) (held : Held) (mask : Write) (words : Words) (is : IsHeld w
   other_frame frame k below other low high =
       let few = is.pool.known in
       let slot = is.pool.slot in
-      mask_of_others F p is.before k (outside_log (log_number_at F held.log_number) k (inr (omega arith)))
+      mask_of_others F p is.before k (outside_log (log_number_at F active.log_number) k (inr (omega arith)))
       (false_from_ne_true (pool_mine F (finished_of is.puddles) k) (λ mine.
       let m = pool_mine-each F (finished_of is.puddles) k mine in
       let from = m.low in let to = m.high in
@@ -164,57 +164,57 @@ module _ (w : World) (held : Held) (mask : Write) (words : Words) (is : IsHeld w
 -- ---- whatever is held
 
 -- a member that is none of the pools on which one is held
-abbrev pub IsOfOthers : List (Option Held) → Option Member → Type 0
-IsOfOthers held m = (number : ℕ) (h : Held) → held_under held number ≡ Some h → is_of_pool h.slot m ≡ false
+abbrev pub IsOfOthers : List (Option ActiveTransaction) → Option Member → Type 0
+IsOfOthers active m = (number : ℕ) (h : ActiveTransaction) → active_under active number ≡ Some h → is_of_pool h.slot m ≡ false
 
 -- no word of these is masked:
-module _ (w : World) (held : List (Option Held)) (mask : Write) (words : Words) (holds : Holds w held mask words) where
+module _ (w : World) (active : List (Option ActiveTransaction)) (mask : Write) (words : Words) (holds : AreActive w active mask words) where
   -- of the record of a pool on which none is held
-  pub unmasked_pool : (slot k : ℕ) → slot < POOL_RECORDS → ((number : ℕ) (h : Held) → held_under held number ≡ Some h → slot ≡ h.slot → ⊥)
+  pub unmasked_pool : (slot k : ℕ) → slot < POOL_RECORDS → ((number : ℕ) (h : ActiveTransaction) → active_under active number ≡ Some h → slot ≡ h.slot → ⊥)
       → pool_record_at slot ≤ k → k < pool_record_at (slot + 1) → mask k ≡ None
   unmasked_pool slot k within apart low high =
-      unmasked_by_all w held mask words holds k (λ number h there is. other_pool w h mask words is slot k within (apart number h there) low high)
+      unmasked_by_all w active mask words holds k (λ number h there is. other_pool w h mask words is slot k within (apart number h there) low high)
 
   -- of the record of a puddle of others
-  pub unmasked_puddle : (frame k : ℕ) → frame < w.stored.frames → IsOfOthers held ((tables_of w.stored.frames (reads words)).puddles frame)
+  pub unmasked_puddle : (frame k : ℕ) → frame < w.stored.frames → IsOfOthers active ((tables_of w.stored.frames (reads words)).puddles frame)
       → puddle_record_at frame ≤ k → k < puddle_record_at (frame + 1) → mask k ≡ None
   unmasked_puddle frame k below other low high =
-      unmasked_by_all w held mask words holds k (λ number h there is. other_puddle w h mask words is frame k below (not_its_own w h mask words is frame (other number h there)) low high)
+      unmasked_by_all w active mask words holds k (λ number h there is. other_puddle w h mask words is frame k below (not_its_own w h mask words is frame (other number h there)) low high)
 
   -- of a frame of others
-  pub unmasked_frame : (frame k : ℕ) → frame < w.stored.frames → IsOfOthers held ((tables_of w.stored.frames (reads words)).puddles frame)
+  pub unmasked_frame : (frame k : ℕ) → frame < w.stored.frames → IsOfOthers active ((tables_of w.stored.frames (reads words)).puddles frame)
       → frame_at w.stored.frames frame ≤ k → k < frame_at w.stored.frames (frame + 1) → mask k ≡ None
   unmasked_frame frame k below other low high =
-      unmasked_by_all w held mask words holds k (λ number h there is. other_frame w h mask words is frame k below (not_its_own w h mask words is frame (other number h there)) low high)
+      unmasked_by_all w active mask words holds k (λ number h there is. other_frame w h mask words is frame k below (not_its_own w h mask words is frame (other number h there)) low high)
 
   -- of the record of a puddle in which steps are left, whatever pool it is of
   pub unmasked_moving_record : (frame k : ℕ) (m : Member) → frame < w.stored.frames → (tables_of w.stored.frames (reads words)).puddles frame ≡ Some m → (m.puddle.frontier ≡ steps_of m.puddle → ⊥)
       → puddle_record_at frame ≤ k → k < puddle_record_at (frame + 1) → mask k ≡ None
   unmasked_moving_record frame k m below used moving low high =
-      unmasked_by_all w held mask words holds k (λ number h there is. other_puddle w h mask words is frame k below (moving_apart w h mask words is frame m used moving) low high)
+      unmasked_by_all w active mask words holds k (λ number h there is. other_puddle w h mask words is frame k below (moving_apart w h mask words is frame m used moving) low high)
 
   -- and of its frame
   pub unmasked_moving_frame : (frame k : ℕ) (m : Member) → frame < w.stored.frames → (tables_of w.stored.frames (reads words)).puddles frame ≡ Some m → (m.puddle.frontier ≡ steps_of m.puddle → ⊥)
       → frame_at w.stored.frames frame ≤ k → k < frame_at w.stored.frames (frame + 1) → mask k ≡ None
   unmasked_moving_frame frame k m below used moving low high =
-      unmasked_by_all w held mask words holds k (λ number h there is. other_frame w h mask words is frame k below (moving_apart w h mask words is frame m used moving) low high)
+      unmasked_by_all w active mask words holds k (λ number h there is. other_frame w h mask words is frame k below (moving_apart w h mask words is frame m used moving) low high)
 
 -- no two are held on the pool of one slot
-pub one_slot : (w : World) (held : List (Option Held)) (mask : Write) (words : Words) → Holds w held mask words → (n m : ℕ) (h g : Held) → held_under held n ≡ Some h → held_under held m ≡ Some g
+pub one_slot : (w : World) (active : List (Option ActiveTransaction)) (mask : Write) (words : Words) → AreActive w active mask words → (n m : ℕ) (h g : ActiveTransaction) → active_under active n ≡ Some h → active_under active m ≡ Some g
     → h.slot ≡ g.slot → n ≡ m
-one_slot w held mask words holds n m h g here there same =
+one_slot w active mask words holds n m h g here there same =
     let its = holds.each n h here in
     let others = holds.each m g there in
-    holds.are.slots n m (open_held h its.is.puddles its.is.rec its.is.who its.is.before) (open_held g others.is.puddles others.is.rec others.is.who others.is.before) its.opened others.opened same
+    holds.are.slots n m (open_transaction_of h its.is.puddles its.is.rec its.is.who its.is.before) (open_transaction_of g others.is.puddles others.is.rec others.is.who others.is.before) its.opened others.opened same
 
 -- the record of the slot is used, and has the name
-pub record IsHeldPool (t : Tables) (h : Held) : Type 0 where
+pub record IsHeldPool (t : Tables) (h : ActiveTransaction) : Type 0 where
   pub rec : PoolRec
   pub used : t.pools h.slot ≡ Some rec
   pub name : rec.name ≡ h.name
 
-pub held_pool : (w : World) (held : List (Option Held)) (mask : Write) (words : Words) → Holds w held mask words → (number : ℕ) (h : Held) → held_under held number ≡ Some h
+pub active_pool : (w : World) (active : List (Option ActiveTransaction)) (mask : Write) (words : Words) → AreActive w active mask words → (number : ℕ) (h : ActiveTransaction) → active_under active number ≡ Some h
     → IsHeldPool (tables_of w.stored.frames (reads words)) h
-held_pool w held mask words holds number h there =
-    let is = held_is w held mask words holds number h there in
+active_pool w active mask words holds number h there =
+    let is = active_is w active mask words holds number h there in
     record { rec = is.rec; used = used_still w h mask words is; name = is.name }

@@ -27,22 +27,22 @@ use Rattle.registry.specs.Growth.{growing}
 use Rattle.registry.proofs.Filled.{length-fresh_frame, not_filled, filled_word}
 use Rattle.registry.proofs.NewPuddles.{adding_of, adding_tables}
 use Rattle.registry.proofs.PutBatches.{overwritten-puts, puts_write-none}
-use Rattle.ready_daemon.specs.Memory.{Held}
-use Rattle.ready_daemon.specs.Held.{Holds}
+use Rattle.ready_daemon.specs.Memory.{ActiveTransaction}
+use Rattle.ready_daemon.specs.ActiveTransactions.{AreActive}
 use Rattle.ready_daemon.proofs.Beside.{unmasked_front}
 use Rattle.ready_daemon.proofs.PoolsApart.{IsOff-puts, frame_below, new_frame, filling_off}
 
 -- ---- beside what is held
 
 -- no word that a puddle more takes is masked
-pub off_growing : (w : World) (held : List (Option Held)) (mask : Write) (words : Words) → Holds w held mask words → (a : Added)
+pub off_growing : (w : World) (active : List (Option ActiveTransaction)) (mask : Write) (words : Words) → AreActive w active mask words → (a : Added)
     → first_free (tables_of w.stored.frames (reads words)).puddles 0 (tables_of w.stored.frames (reads words)).frames ≡ Some a.frame → a.puddle.pool < POOL_RECORDS → IsOffAdding mask w.stored.frames a (growing a)
-off_growing w held mask words holds a first slot =
+off_growing w active mask words holds a first slot =
     let F = w.stored.frames in
     record {
-      frame = subst (λ (n : ℕ). IsOff mask (written (filling n a))) (frames_of_tables F (reads words)) (filling_off w held mask words holds a.frame first a.puddle.number a.puddle.ordinal);
-      records = IsOff-puts w held mask words holds (growing a) (adding_of F (a.puddle.number + 1) (a ∷ []) (frame_below w held mask words holds a.frame first, slot, tt))
-          (λ k low high. unmasked_front w held mask words holds k (omega arith), (λ k low high. new_frame w held mask words holds a.frame first k low (omega arith), tt));
+      frame = subst (λ (n : ℕ). IsOff mask (written (filling n a))) (frames_of_tables F (reads words)) (filling_off w active mask words holds a.frame first a.puddle.number a.puddle.ordinal);
+      records = IsOff-puts w active mask words holds (growing a) (adding_of F (a.puddle.number + 1) (a ∷ []) (frame_below w active mask words holds a.frame first, slot, tt))
+          (λ k low high. unmasked_front w active mask words holds k (omega arith), (λ k low high. new_frame w active mask words holds a.frame first k low (omega arith), tt));
     }
 
 -- ---- what is read behind it

@@ -22,7 +22,7 @@ use Rattle.pud_defs.proofs.TablesOf.{puddles_below, puddles_beyond, puddle_at-sa
 use Rattle.pud_defs.specs.World.{World}
 use Rattle.batch.specs.Batches.{HasIdleGate}
 use Rattle.batch.specs.Tables.{HasDurableTables}
-use Rattle.ready_daemon.specs.Held.{ByOthers, NamesNone, IsBeside}
+use Rattle.ready_daemon.specs.ActiveTransactions.{ByOthers, NamesNone, LeavesMasked}
 use Rattle.ready_daemon.specs.Memory.{Memory}
 use Rattle.ready_daemon.specs.Moves.{Stays, LeavesPuddles}
 use Rattle.ready_daemon.specs.Ready.{IsReady}
@@ -115,12 +115,12 @@ stays_meanwhile F fault old new tables frame m used changes names =
     (λ bytes image p. (p.0, stays_from F old.now.words tables frame m used image p.1.0 p.1.1)) (Leaves-from (NamesNone mask) (ByOthers mask) fault old new changes names)
 
 pub stays_beside : (F : ℕ) (fault : Option HostFault) (old new : State) → HasDurableTables F old.now.words → (frame : ℕ) (m : Member) → (tables_of F (reads old.now.words)).puddles frame ≡ Some m
-    → IsBeside (record_mask frame (reads old.now.words)) fault old new → Leaves (Silently (λ image. Stays m ((tables_of F (settled_by DAEMON_LOG image)).puddles frame))) old new
+    → LeavesMasked (record_mask frame (reads old.now.words)) fault old new → Leaves (Silently (λ image. Stays m ((tables_of F (settled_by DAEMON_LOG image)).puddles frame))) old new
 stays_beside F fault old new tables frame m used beside = stays_meanwhile F fault old new tables frame m used beside.changes beside.names
 
 -- each record stays where all that is done is beside each
 pub LeavesPuddles-beside : (F : ℕ) (fault : Option HostFault) (old new : State) → HasDurableTables F old.now.words
-    → ((frame : ℕ) (m : Member) → (tables_of F (reads old.now.words)).puddles frame ≡ Some m → IsBeside (record_mask frame (reads old.now.words)) fault old new) → LeavesPuddles F Stays old new
+    → ((frame : ℕ) (m : Member) → (tables_of F (reads old.now.words)).puddles frame ≡ Some m → LeavesMasked (record_mask frame (reads old.now.words)) fault old new) → LeavesPuddles F Stays old new
 LeavesPuddles-beside F fault old new tables each = record { each = λ frame m used. stays_beside F fault old new tables frame m used (each frame m used) }
 
 -- as where words are written that are none of the puddle table, nor the daemon log's gate

@@ -32,10 +32,10 @@ use Rattle.registry.specs.Puts.{puts_batch, AreOfPools}
 use Rattle.registry.proofs.Changed.{changing_of, dropping_of}
 use Rattle.registry.proofs.Made.{making_of}
 use Rattle.registry.proofs.NewPuddles.{adding_of}
-use Rattle.ready_daemon.specs.Held.{NamesNone, IsBeside}
+use Rattle.ready_daemon.specs.ActiveTransactions.{NamesNone, LeavesMasked}
 use Rattle.ready_daemon.specs.Moves.{Stays, IsOnTheWay, MovesTo, LeavesPuddles, still, freed_in}
 use Rattle.ready_daemon.proofs.Goals.{stays_still}
-use Rattle.ready_daemon.proofs.PoolsApart.{AreOff, puts_off, IsBeside-adds, IsBeside-makes, IsBeside-puts}
+use Rattle.ready_daemon.proofs.PoolsApart.{AreOff, puts_off, LeavesMasked-adds, LeavesMasked-makes, LeavesMasked-puts}
 use Rattle.ready_daemon.proofs.PuddlesLeft.{record_mask, record_masked, unmasked_record, IsOff-record, used_below, stays_beside, LeavesPuddles-beside}
 
 -- ---- one record, and changes that are none of it
@@ -134,7 +134,7 @@ module _ (F : ℕ) (fault : Option HostFault) (old new : State) (tables : HasDur
       → PersistsThenCommits (filling F a) (puts_batch (growing a)) fault old new → LeavesPuddles F Stays old new
   LeavesPuddles-adds a first slot commits =
       LeavesPuddles-beside F fault old new tables
-      (λ frame m used. IsBeside-adds (record_mask frame image) F a (growing a) fault old new (off_growing_record F frame image m used a first slot) idle commits)
+      (λ frame m used. LeavesMasked-adds (record_mask frame image) F a (growing a) fault old new (off_growing_record F frame image m used a first slot) idle commits)
 
   module _ (rests : fault ≡ Some Cut → IsRested new.now.words) where
     -- a pool was made
@@ -142,16 +142,16 @@ module _ (F : ℕ) (fault : Option HostFault) (old new : State) (tables : HasDur
     LeavesPuddles-makes next name uid gid mode does =
         LeavesPuddles-beside F fault old new tables
         (λ frame m used.
-        IsBeside-makes (record_mask frame image) (tables_of F image) next name uid gid mode fault old new (off_making_record F frame image m used next name uid gid mode) idle rests does)
+        LeavesMasked-makes (record_mask frame image) (tables_of F image) next name uid gid mode fault old new (off_making_record F frame image m used next name uid gid mode) idle rests does)
 
     -- its mode was changed
     pub LeavesPuddles-mode : (slot mode : ℕ) → slot < POOL_RECORDS → OrStill (CommitsPuts (changing slot mode)) fault old new → LeavesPuddles F Stays old new
     LeavesPuddles-mode slot mode within does =
         LeavesPuddles-beside F fault old new tables
-        (λ frame m used. IsBeside-puts (record_mask frame image) (changing slot mode) fault old new (off_changing_record F frame image m used slot mode within) idle rests does)
+        (λ frame m used. LeavesMasked-puts (record_mask frame image) (changing slot mode) fault old new (off_changing_record F frame image m used slot mode within) idle rests does)
 
     -- it was dropped
-    pub LeavesPuddles-drops : (slot : ℕ) → slot < POOL_RECORDS → (mask : Write) → IsBeside mask fault old new → OrStill (CommitsPuts (dropping (tables_of F image) slot)) fault old new
+    pub LeavesPuddles-drops : (slot : ℕ) → slot < POOL_RECORDS → (mask : Write) → LeavesMasked mask fault old new → OrStill (CommitsPuts (dropping (tables_of F image) slot)) fault old new
         → LeavesPuddles F (MovesTo (freed_in slot)) old new
     LeavesPuddles-drops slot within mask beside does = record {
       each = λ frame m used.
@@ -165,6 +165,6 @@ module _ (F : ℕ) (fault : Option HostFault) (old new : State) (tables : HasDur
                 let off = off_dropping_record F frame image m used slot within other in
                 Leaves-weaker (Silently (λ i. Stays m (at i))) (Silently (λ i. MovesTo (freed_in slot) m (at i))) old new
                 (λ bytes i is. (is.0, subst (λ (goal : Option ℕ). IsOnTheWay goal m (at i)) (sym (cond-false (eqb m.pool (slot + 1)) None (still m) other)) (stays_still m (at i) is.1)))
-                (stays_beside F fault old new tables frame m used (IsBeside-puts own (dropping (tables_of F image) slot) fault old new off idle rests does))
+                (stays_beside F fault old new tables frame m used (LeavesMasked-puts own (dropping (tables_of F image) slot) fault old new off idle rests does))
           ];
     }

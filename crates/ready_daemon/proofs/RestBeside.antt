@@ -18,30 +18,30 @@ use Rattle.hybrid_tx.specs.Open.Masks.{is_open_record}
 use Rattle.hybrid_tx.proofs.Open.OpenMasks.{mask_of_others, open_record_place}
 use Rattle.hybrid_tx.proofs.Open.OpenPools.{open_on_device}
 use Rattle.ready_daemon.proofs.PoolsBeside.{puddles_still, one_slot}
-use Rattle.ready_daemon.specs.Memory.{Held, Memory, held_under}
-use Rattle.ready_daemon.specs.Held.{open_held, IsHeld, StaysSingle, pool_held}
+use Rattle.ready_daemon.specs.Memory.{ActiveTransaction, Memory, active_under}
+use Rattle.ready_daemon.specs.ActiveTransactions.{open_transaction_of, IsActive, StaysSingle, open_pool_of}
 use Rattle.ready_daemon.specs.Ready.{IsReady}
-use Rattle.ready_daemon.proofs.Beside.{held_is, RestBehind, unmasked_by_each}
+use Rattle.ready_daemon.proofs.Beside.{active_is, RestBehind, unmasked_by_each}
 use Rattle.ready_daemon.proofs.JudgedKept.{HasGraphIn, KeepsPools, graph_parts, IsOwnWord, own_word, own_by, words_apart}
 
 module _ (size : ℕ) (w : World) (memory : Memory) (old : State) (ready : IsReady size w memory old) where
-  abbrev is_held : (number : ℕ) (h : Held) → held_under memory.held number ≡ Some h → IsHeld w h ready.mask old.now.words
-  is_held = held_is w memory.held ready.mask old.now.words ready.held
+  abbrev is_active : (number : ℕ) (h : ActiveTransaction) → active_under memory.active number ≡ Some h → IsActive w h ready.mask old.now.words
+  is_active = active_is w memory.active ready.mask old.now.words ready.active
 
   -- a pool on which one is held has a graph as it is read
-  pub held_graph : (number : ℕ) (h : Held) (there : held_under memory.held number ≡ Some h) → HasGraphIn w.stored.frames h.slot (reads old.now.words) (is_held number h there).puddles
-  held_graph number h there =
-      let under = ready.held.each number h there in
-      let known = ready.knows.open_pools number (open_held h under.is.puddles under.is.rec under.is.who under.is.before) under.opened in
+  pub active_graph : (number : ℕ) (h : ActiveTransaction) (there : active_under memory.active number ≡ Some h) → HasGraphIn w.stored.frames h.slot (reads old.now.words) (is_active number h there).puddles
+  active_graph number h there =
+      let under = ready.active.each number h there in
+      let known = ready.knows.open_pools number (open_transaction_of h under.is.puddles under.is.rec under.is.who under.is.before) under.opened in
       graph_parts w.stored.frames h.slot (reads old.now.words) under.is.puddles (ready.knows.judged.each h.slot under.is.puddles known)
 
   -- beside calls that write none of their words, and leave each word that has one value with one
   pub rest_by_words : (new : State)
-      → ((number : ℕ) (h : Held) (there : held_under memory.held number ≡ Some h) (k : ℕ) → pool_mine w.stored.frames (is_held number h there).puddles k ≡ true → reads new.now.words k ≡ reads old.now.words k)
-      → StaysSingle old new → RestBehind w memory.held ready.mask old.now.words ready.held new.now.words
+      → ((number : ℕ) (h : ActiveTransaction) (there : active_under memory.active number ≡ Some h) (k : ℕ) → pool_mine w.stored.frames (is_active number h there).puddles k ≡ true → reads new.now.words k ≡ reads old.now.words k)
+      → StaysSingle old new → RestBehind w memory.active ready.mask old.now.words ready.active new.now.words
   rest_by_words new stay single = record {
     each = λ number h there.
-        let is = is_held number h there in
+        let is = is_active number h there in
         record {
           each = λ k mine other.
               let m = pool_mine-each w.stored.frames is.puddles k mine in
@@ -54,43 +54,43 @@ module _ (size : ℕ) (w : World) (memory : Memory) (old : State) (ready : IsRea
   }
 
   -- so beside those that leave each of these pools as it is
-  pub rest_beside : (but : Option ℕ) (new : State) → ((number : ℕ) (h : Held) → held_under memory.held number ≡ Some h → but ≢ Some h.slot)
-      → KeepsPools w.stored.frames but (reads old.now.words) (reads new.now.words) → StaysSingle old new → RestBehind w memory.held ready.mask old.now.words ready.held new.now.words
-  rest_beside but new apart keeps = rest_by_words new (λ number h there k mine. keeps.words h.slot (is_held number h there).puddles (apart number h there) (held_graph number h there) k mine)
+  pub rest_beside : (but : Option ℕ) (new : State) → ((number : ℕ) (h : ActiveTransaction) → active_under memory.active number ≡ Some h → but ≢ Some h.slot)
+      → KeepsPools w.stored.frames but (reads old.now.words) (reads new.now.words) → StaysSingle old new → RestBehind w memory.active ready.mask old.now.words ready.active new.now.words
+  rest_beside but new apart keeps = rest_by_words new (λ number h there k mine. keeps.words h.slot (is_active number h there).puddles (apart number h there) (active_graph number h there) k mine)
 
   -- where nothing happened
-  pub rest_still : RestBehind w memory.held ready.mask old.now.words ready.held old.now.words
-  rest_still = record { each = λ number h there. (is_held number h there).running.rests }
+  pub rest_still : RestBehind w memory.active ready.mask old.now.words ready.active old.now.words
+  rest_still = record { each = λ number h there. (is_active number h there).running.rests }
 
   -- what rests of one that is held is masked by none
-  module _ (number : ℕ) (held : Held) (there : held_under memory.held number ≡ Some held) (k : ℕ) (mine : pool_mine w.stored.frames (is_held number held there).puddles k ≡ true)
-      (other : pool_mine w.stored.frames (finished_of (is_held number held there).puddles) k ≡ false) where
+  module _ (number : ℕ) (active : ActiveTransaction) (there : active_under memory.active number ≡ Some active) (k : ℕ) (mine : pool_mine w.stored.frames (is_active number active there).puddles k ≡ true)
+      (other : pool_mine w.stored.frames (finished_of (is_active number active there).puddles) k ≡ false) where
     abbrev F : ℕ
     F = w.stored.frames
 
-    own : IsOwnWord F held.slot (reads old.now.words) k
-    own = own_word F held.slot (reads old.now.words) k (ap (λ (puddles : List (ℕ × Puddle)). pool_mine F puddles k) (held_graph number held there).turn ∙ mine)
+    own : IsOwnWord F active.slot (reads old.now.words) k
+    own = own_word F active.slot (reads old.now.words) k (ap (λ (puddles : List (ℕ × Puddle)). pool_mine F puddles k) (active_graph number active there).turn ∙ mine)
 
-    not_mine : (m : ℕ) (h : Held) (was : held_under memory.held m ≡ Some h) → pool_mine F (finished_of (is_held m h was).puddles) k ≡ false
+    not_mine : (m : ℕ) (h : ActiveTransaction) (was : active_under memory.active m ≡ Some h) → pool_mine F (finished_of (is_active m h was).puddles) k ≡ false
     not_mine m h was = elim (cases_eq m number) [
       | inl same ↦
-          let one : h ≡ held = same_Some h held (sym was ∙ ap (held_under memory.held) same ∙ there) in
-          let a = held_graph m h was in
-          let b = held_graph number held there in
-          let lists : (is_held m h was).puddles ≡ (is_held number held there).puddles =
-          sym a.turn ∙ ap (λ (g : Held). puddles_in_turn (tables_of F (reads old.now.words)) g.slot) one ∙ b.turn in
+          let one : h ≡ active = same_Some h active (sym was ∙ ap (active_under memory.active) same ∙ there) in
+          let a = active_graph m h was in
+          let b = active_graph number active there in
+          let lists : (is_active m h was).puddles ≡ (is_active number active there).puddles =
+          sym a.turn ∙ ap (λ (g : ActiveTransaction). puddles_in_turn (tables_of F (reads old.now.words)) g.slot) one ∙ b.turn in
           ap (λ (puddles : List (ℕ × Puddle)). pool_mine F (finished_of puddles) k) lists ∙ other
-      | inr apart ↦ false_from_ne_true (pool_mine F (finished_of (is_held m h was).puddles) k) (λ its.
-          let word = own_by F h.slot (reads old.now.words) (finished_of (is_held m h was).puddles) k (puddles_still w h ready.mask old.now.words (is_held m h was)).each its in
-          apart (one_slot w memory.held ready.mask old.now.words ready.held m number h held was there (words_apart F h.slot held.slot (reads old.now.words) k word own)))
+      | inr apart ↦ false_from_ne_true (pool_mine F (finished_of (is_active m h was).puddles) k) (λ its.
+          let word = own_by F h.slot (reads old.now.words) (finished_of (is_active m h was).puddles) k (puddles_still w h ready.mask old.now.words (is_active m h was)).each its in
+          apart (one_slot w memory.active ready.mask old.now.words ready.active m number h active was there (words_apart F h.slot active.slot (reads old.now.words) k word own)))
     ]
 
     pub rest_unmasked : ready.mask k ≡ None
     rest_unmasked =
         let low = own.low in
-        unmasked_by_each w memory.held ready.mask old.now.words ready.held k (λ m h was.
-        let is = is_held m h was in
-        let pool = pool_held h is.puddles is.rec is.who in
+        unmasked_by_each w memory.active ready.mask old.now.words ready.active k (λ m h was.
+        let is = is_active m h was in
+        let pool = open_pool_of h is.puddles is.rec is.who in
         let few = is.pool.known in
         mask_of_others F pool is.before k (outside_log (log_number_at F h.log_number) k (inr (omega arith))) (not_mine m h was) (false_from_ne_true (is_open_record pool k) (λ of.
         let place = open_record_place F pool k is.pool.slot is.pool.known (open_on_device F pool is.before is.pool) of in

@@ -18,31 +18,31 @@ use Rattle.pud_defs.proofs.Keyed.{HasDistinctKeys, distinct_keys, find-keyed_pla
 use Rattle.pud_defs.proofs.TablesOf.{pools_beyond}
 use Rattle.nesting.specs.declared.Session.{Session}
 use Rattle.nesting.specs.Sessions.{client_in, session_in, holder_in}
-use Rattle.ready_daemon.specs.Memory.{Held, Memory, held_under}
-use Rattle.ready_daemon.specs.Held.{Holds, session_of, HasSessions}
-use Rattle.ready_daemon.specs.Holding.{IsOwnOn}
+use Rattle.ready_daemon.specs.Memory.{ActiveTransaction, Memory, active_under}
+use Rattle.ready_daemon.specs.ActiveTransactions.{AreActive, session_of, HasSessions}
+use Rattle.ready_daemon.specs.OwnOnPool.{IsOwnTransactionOn}
 use Rattle.ready_daemon.specs.Owning.{IsSlotOf}
 use Rattle.ready_daemon.specs.Ready.{IsReady}
-use Rattle.ready_daemon.proofs.Beside.{held_is}
+use Rattle.ready_daemon.proofs.Beside.{active_is}
 use Rattle.ready_daemon.proofs.PoolsBeside.{used_still}
 use Rattle.ready_daemon.proofs.TablesBeside.{sound_read}
 
 -- The session in the slot is that of a transaction on the pool of the name, which is held under its number.
-pub record IsSessionOf (w : World) (held : List (Option Held)) (name : List ℕ) (slot : ℕ) (session : Session) : Type 0 where
-  pub mine : Held
-  pub is : held_under held session.log_number ≡ Some mine
-  pub slot_is : mine.slot ≡ slot
-  pub name_is : mine.name ≡ name
+pub record IsSessionOf (w : World) (active : List (Option ActiveTransaction)) (name : List ℕ) (slot : ℕ) (session : Session) : Type 0 where
+  pub active : ActiveTransaction
+  pub is : active_under active session.log_number ≡ Some active
+  pub slot_is : active.slot ≡ slot
+  pub name_is : active.name ≡ name
   pub transaction : Transaction
   pub there : open_on name w ≡ Some transaction
   pub session_is : session ≡ session_of session.log_number transaction
-  pub client : transaction.client ≡ mine.client
+  pub client : transaction.client ≡ active.client
 
 -- where it is the client's, so is that transaction
-pub own_on : (w : World) (held : List (Option Held)) (client : ℕ) (name : List ℕ) (slot : ℕ) (session : Session) (of : IsSessionOf w held name slot session) → session.client ≡ client
-    → IsOwnOn client name slot session.log_number held
-own_on w held client name slot session of whose = record {
-  own = record { mine = of.mine; is = of.is; whose = sym of.client ∙ sym (ap client_in of.session_is) ∙ whose; pool = of.name_is };
+pub own_on : (w : World) (active : List (Option ActiveTransaction)) (client : ℕ) (name : List ℕ) (slot : ℕ) (session : Session) (of : IsSessionOf w active name slot session) → session.client ≡ client
+    → IsOwnTransactionOn client name slot session.log_number active
+own_on w active client name slot session of whose = record {
+  own = record { active = of.active; is = of.is; whose = sym of.client ∙ sym (ap client_in of.session_is) ∙ whose; pool = of.name_is };
   slot_is = of.slot_is;
 }
 
@@ -73,7 +73,7 @@ module _ (next : ℕ) (t : Tables) (sound : HasSoundTables next t) where
       sym (found_at i r low here) ∙ ap (λ (n : List ℕ). find name_cmp n (records_of t)) same ∙ found_at j q high there in
       ap (λ (p : ℕ × PoolRec). p.0) (same_Some {A = ℕ × PoolRec} (i, r) (j, q) both)
 
-module _ (w : World) (held : List (Option Held)) (mask : Write) (words : Words) (holds : Holds w held mask words) where
+module _ (w : World) (active : List (Option ActiveTransaction)) (mask : Write) (words : Words) (holds : AreActive w active mask words) where
   abbrev F : ℕ
   F = w.stored.frames
 
@@ -82,32 +82,32 @@ module _ (w : World) (held : List (Option Held)) (mask : Write) (words : Words) 
 
   -- ---- the session of one
 
-  module _ (sessions : List (Option Session)) (has : HasSessions w held sessions) where
-    pub session_held : (number : ℕ) (h : Held) (there : held_under held number ≡ Some h) → session_in sessions h.slot ≡ Some (session_of number (held_is w held mask words holds number h there).transaction)
-    session_held number h there =
-        let is = held_is w held mask words holds number h there in
+  module _ (sessions : List (Option Session)) (has : HasSessions w active sessions) where
+    pub session_active : (number : ℕ) (h : ActiveTransaction) (there : active_under active number ≡ Some h) → session_in sessions h.slot ≡ Some (session_of number (active_is w active mask words holds number h there).transaction)
+    session_active number h there =
+        let is = active_is w active mask words holds number h there in
         has.each number h is.transaction there is.is
 
     -- none is held on a pool that has no session
-    pub none_held : (slot : ℕ) → session_in sessions slot ≡ None → (number : ℕ) (h : Held) → held_under held number ≡ Some h → h.slot ≢ slot
-    none_held slot none number h there same =
-        none-some (session_of number (held_is w held mask words holds number h there).transaction) (sym none ∙ ap (session_in sessions) (sym same) ∙ session_held number h there)
+    pub none_active : (slot : ℕ) → session_in sessions slot ≡ None → (number : ℕ) (h : ActiveTransaction) → active_under active number ≡ Some h → h.slot ≢ slot
+    none_active slot none number h there same =
+        none-some (session_of number (active_is w active mask words holds number h there).transaction) (sym none ∙ ap (session_in sessions) (sym same) ∙ session_active number h there)
 
     -- the session on the pool of a name is that of the transaction that is open on it
-    pub session_there : (name : List ℕ) (slot : ℕ) (r : PoolRec) (s : Session) → t.pools slot ≡ Some r → r.name ≡ name → session_in sessions slot ≡ Some s → IsSessionOf w held name slot s
+    pub session_there : (name : List ℕ) (slot : ℕ) (r : PoolRec) (s : Session) → t.pools slot ≡ Some r → r.name ≡ name → session_in sessions slot ≡ Some s → IsSessionOf w active name slot s
     session_there name slot r s used named there =
         let on = has.only slot s there in
-        let is = held_is w held mask words holds s.log_number on.mine on.is in
-        let rec : is.rec ≡ r = same_Some is.rec r (sym (used_still w on.mine mask words is) ∙ ap t.pools on.slot_is ∙ used) in
-        let same : on.mine.name ≡ name = sym is.name ∙ ap (λ (x : PoolRec). x.name) rec ∙ named in
+        let is = active_is w active mask words holds s.log_number on.active on.is in
+        let rec : is.rec ≡ r = same_Some is.rec r (sym (used_still w on.active mask words is) ∙ ap t.pools on.slot_is ∙ used) in
+        let same : on.active.name ≡ name = sym is.name ∙ ap (λ (x : PoolRec). x.name) rec ∙ named in
         record {
-          mine = on.mine;
+          active = on.active;
           is = on.is;
           slot_is = on.slot_is;
           name_is = same;
           transaction = is.transaction;
           there = ap w.transactions (sym same) ∙ is.is;
-          session_is = same_Some s (session_of s.log_number is.transaction) (sym there ∙ ap (session_in sessions) (sym on.slot_is) ∙ session_held s.log_number on.mine on.is);
+          session_is = same_Some s (session_of s.log_number is.transaction) (sym there ∙ ap (session_in sessions) (sym on.slot_is) ∙ session_active s.log_number on.active on.is);
           client = is.client;
         }
 
@@ -116,11 +116,11 @@ module _ (w : World) (held : List (Option Held)) (mask : Write) (words : Words) 
     shut_by next sound name slot r used named none None e = refl
     shut_by next sound name slot r used named none (Some x) e =
         let under = holds.known name x e in
-        let is = held_is w held mask words holds under.number under.mine under.is in
-        let there = used_still w under.mine mask words is in
-        let here : under.mine.slot ≡ slot =
-        slot_by_name next t sound under.mine.slot slot is.rec r is.pool.slot (slot_within F slot (reads words) r used) there used (is.name ∙ under.name_is ∙ sym named) in
-        absurd (none_held slot none under.number under.mine under.is here)
+        let is = active_is w active mask words holds under.number under.active under.is in
+        let there = used_still w under.active mask words is in
+        let here : under.active.slot ≡ slot =
+        slot_by_name next t sound under.active.slot slot is.rec r is.pool.slot (slot_within F slot (reads words) r used) there used (is.name ∙ under.name_is ∙ sym named) in
+        absurd (none_active slot none under.number under.active under.is here)
 
     -- and none is open where it has none
     pub no_session : (next : ℕ) → HasSoundTables next t → (name : List ℕ) (slot : ℕ) (r : PoolRec) → t.pools slot ≡ Some r → r.name ≡ name → session_in sessions slot ≡ None → open_on name w ≡ None
@@ -130,13 +130,13 @@ module _ (w : World) (held : List (Option Held)) (mask : Write) (words : Words) 
 
 module _ (size : ℕ) (w : World) (memory : Memory) (s : State) (ready : IsReady size w memory s) (name : List ℕ) (slot : ℕ) (at : IsSlotOf w.stored.frames name (reads s.now.words) slot) where
   -- the session in the slot of the pool of the name is that of its transaction
-  pub session_open : (session : Session) → session_in memory.sessions slot ≡ Some session → IsSessionOf w memory.held name slot session
-  session_open session there = session_there w memory.held ready.mask s.now.words ready.held memory.sessions ready.sessions name slot at.rec session at.used at.name_is there
+  pub session_open : (session : Session) → session_in memory.sessions slot ≡ Some session → IsSessionOf w memory.active name slot session
+  session_open session there = session_there w memory.active ready.mask s.now.words ready.active memory.sessions ready.sessions name slot at.rec session at.used at.name_is there
 
   -- none is open where there is none
   pub session_shut : session_in memory.sessions slot ≡ None → open_on name w ≡ None
   session_shut none =
-      no_session w memory.held ready.mask s.now.words ready.held memory.sessions ready.sessions w.stored.next_number (sound_read size w memory s ready) name slot at.rec at.used at.name_is none
+      no_session w memory.active ready.mask s.now.words ready.active memory.sessions ready.sessions w.stored.next_number (sound_read size w memory s ready) name slot at.rec at.used at.name_is none
 
   holder_by : (o : Option Session) → session_in memory.sessions slot ≡ o → holder_in memory.sessions slot ≡ option_map (λ t. t.client) (open_on name w)
   holder_by None e = ap (option_map client_in) e ∙ ap (option_map (λ (t : Transaction). t.client)) (sym (session_shut e))

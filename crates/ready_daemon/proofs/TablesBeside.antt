@@ -20,8 +20,8 @@ use Rattle.pud_defs.proofs.Parts.Part.{Header, Types, Spaces}
 use Rattle.pud_defs.proofs.Spaces.{owner_of-same, are_legal_spaces-same}
 use Rattle.batch.specs.Tables.{HasDurableTables}
 use Rattle.registry.proofs.Moved.{ReadsWorld, reads_world}
-use Rattle.ready_daemon.specs.Memory.{Held, Memory}
-use Rattle.ready_daemon.specs.Held.{Holds}
+use Rattle.ready_daemon.specs.Memory.{ActiveTransaction, Memory}
+use Rattle.ready_daemon.specs.ActiveTransactions.{AreActive}
 use Rattle.ready_daemon.specs.Ready.{IsReady}
 use Rattle.ready_daemon.proofs.Beside.{unmasked_front}
 use Rattle.ready_daemon.proofs.Beneath.{table_reads, keeps_tables}
@@ -33,8 +33,8 @@ pub record IsMaskBeside (F : ℕ) (mask : Write) (words : Words) : Type 0 where
   pub same : (k : ℕ) → k < tables_end F → masked_image mask (reads words) k ≡ reads words k
   pub below : (k : ℕ) → k < POOL_TABLE → mask k ≡ None
 
-pub mask_beside : (w : World) (held : List (Option Held)) (mask : Write) (words : Words) → Holds w held mask words → IsMaskBeside w.stored.frames mask words
-mask_beside w held mask words holds = record { same = table_reads w held mask words holds; below = unmasked_front w held mask words holds }
+pub mask_beside : (w : World) (active : List (Option ActiveTransaction)) (mask : Write) (words : Words) → AreActive w active mask words → IsMaskBeside w.stored.frames mask words
+mask_beside w active mask words holds = record { same = table_reads w active mask words holds; below = unmasked_front w active mask words holds }
 
 -- tables that are durable are so masked
 pub HasDurableTables-masked : (F : ℕ) (mask : Write) (words : Words) → HasDurableTables F words → HasDurableTables F (masked mask words)
@@ -54,14 +54,14 @@ module _ (size : ℕ) (w : World) (memory : Memory) (s : State) (ready : IsReady
   under = masked ready.mask s.now.words
 
   pub ready_beside : IsMaskBeside F ready.mask s.now.words
-  ready_beside = mask_beside w memory.held ready.mask s.now.words ready.held
+  ready_beside = mask_beside w memory.active ready.mask s.now.words ready.active
 
   -- what is read up to the clients' logs is read as if nothing were open
   pub read_beside : (k : ℕ) → k < tables_end F → reads under k ≡ now k
   read_beside k below = ap (λ (i : Image). i k) (reads-masked ready.mask s.now.words) ∙ ready_beside.same k below
 
   pub tables_read : tables_of F (reads under) ≡ tables_of F now
-  tables_read = ap (tables_of F) (reads-masked ready.mask s.now.words) ∙ (keeps_tables w memory.held ready.mask s.now.words ready.held).tables
+  tables_read = ap (tables_of F) (reads-masked ready.mask s.now.words) ∙ (keeps_tables w memory.active ready.mask s.now.words ready.active).tables
 
   pub under_durable : HasDurableTables F under
   under_durable = HasDurableTables-masked F ready.mask s.now.words ready.tables

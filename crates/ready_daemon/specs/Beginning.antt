@@ -11,7 +11,7 @@ use Rattle.pud_defs.specs.Types.{types_of}
 use Rattle.pud_defs.specs.Graph.{Graph, graph_of}
 use Rattle.pud_defs.specs.Tables.{tables_of, puddles_in_turn}
 use Rattle.hybrid_tx.specs.Objects.Transactions.{begun_tx}
-use Rattle.ready_daemon.specs.Memory.{Held}
+use Rattle.ready_daemon.specs.Memory.{ActiveTransaction}
 
 -- The pool of the name has its record in this slot and these puddles, which have a graph; the client, who is present, may write it.
 pub record MayBegin (F client : ℕ) (name : List ℕ) (image : Image) (slot : ℕ) (at : List (ℕ × Puddle)) : Type 0 where
@@ -28,5 +28,5 @@ pub record MayBegin (F client : ℕ) (name : List ℕ) (image : Image) (slot : �
 -- ---- what is held
 
 -- as it begins, in the log of a number on a device of so many frames
-abbrev pub begins_as : (client : ℕ) → (name : List ℕ) → (slot : ℕ) → (F number : ℕ) → Held
+abbrev pub begins_as : (client : ℕ) → (name : List ℕ) → (slot : ℕ) → (F number : ℕ) → ActiveTransaction
 begins_as client name slot F number = record { client = client; name = name; slot = slot; log_number = number; tx = begun_tx (log_number_at F number) }

@@ -7,22 +7,22 @@ use Rattle.pud_defs.specs.World.{World}
 use Rattle.nesting.specs.declared.Session.{Session}
 use Rattle.known_pool.specs.Known.{Known}
 use Rattle.ready_daemon.specs.Judged.{alone_in}
-use Rattle.ready_daemon.specs.Memory.{Held}
+use Rattle.ready_daemon.specs.Memory.{ActiveTransaction}
 
 -- the sessions, without that of this one
-abbrev pub sessions_behind : Option Held → List (Option Session) → List (Option Session)
+abbrev pub sessions_behind : Option ActiveTransaction → List (Option Session) → List (Option Session)
 sessions_behind None sessions = sessions
-sessions_behind (Some held) sessions = set sessions held.slot None
+sessions_behind (Some active) sessions = set sessions active.slot None
 
 -- what is known of pools, of its own the puddles alone
-abbrev pub judged_behind : Option Held → List (Option Known) → List (Option Known)
+abbrev pub judged_behind : Option ActiveTransaction → List (Option Known) → List (Option Known)
 judged_behind None judged = judged
-judged_behind (Some held) judged = alone_in held.slot judged
+judged_behind (Some active) judged = alone_in active.slot judged
 
 -- the world in which this one is not open
-abbrev pub world_without_log : Option Held → World → World
+abbrev pub world_without_log : Option ActiveTransaction → World → World
 world_without_log None w = w
-world_without_log (Some held) w = record w { transactions = with_open held.name None w.transactions }
+world_without_log (Some active) w = record w { transactions = with_open active.name None w.transactions }
 
 -- the world in which none of the client's is open
 abbrev pub world_without : (client : ℕ) → World → World

@@ -1,6 +1,6 @@
 pub mod Memory
-pub mod Held
-pub mod Holding
+pub mod ActiveTransactions
+pub mod OwnOnPool
 pub mod Judged
 pub mod KnownPools
 pub mod Beginning

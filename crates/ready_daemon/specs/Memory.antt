@@ -6,7 +6,7 @@ use Rattle.nesting.specs.declared.Session.{Session}
 
 -- A transaction that is open: whose it is, the name of its pool, the slot of the pool's record, the number of its log among those of all clients, and
 -- what is open with that log on the pool's objects.
-pub record Held : Type 0 where
+pub record ActiveTransaction : Type 0 where
   pub client : ℕ
   pub name : List ℕ
   pub slot : ℕ
@@ -17,16 +17,16 @@ pub record Memory : Type 0 where
   -- how many frames the device has, as the start found it
   pub frames : ℕ
   -- the transactions that are open, by the numbers of their logs
-  pub held : List (Option Held)
+  pub active : List (Option ActiveTransaction)
   -- whose transaction is open on a pool, with which log, and how often it was begun, by the slots of the pools' records
   pub sessions : List (Option Session)
   -- what is known of pools that have a graph, by the slots of the pools' records, as far as it was asked for
   pub judged : List (Option Known)
 
 -- the transaction that is open with the log of this number
-abbrev pub held_under : List (Option Held) → (number : ℕ) → Option Held
-held_under held number = slice_index_or held number None
+abbrev pub active_under : List (Option ActiveTransaction) → (number : ℕ) → Option ActiveTransaction
+active_under active number = slice_index_or active number None
 
 -- the memory with this transaction under its number, or with none there
-abbrev pub with_held : (number : ℕ) → Option Held → Memory → Memory
-with_held number now memory = record memory { held = set memory.held number now }
+abbrev pub with_active : (number : ℕ) → Option ActiveTransaction → Memory → Memory
+with_active number now memory = record memory { active = set memory.active number now }

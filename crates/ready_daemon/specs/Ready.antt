@@ -20,7 +20,7 @@ use Rattle.pud_defs.specs.declared.machine.Command.TheVariants.{Leave}
 use Rattle.batch.specs.Tables.{HasDurableTables}
 use Rattle.batch.specs.Worlds.{IsSettled}
 use Rattle.ready_daemon.specs.Memory.{Memory}
-use Rattle.ready_daemon.specs.Held.{Holds, HasSessions, HasDurableFrames, HasIdleLogs, IsBeside}
+use Rattle.ready_daemon.specs.ActiveTransactions.{AreActive, HasSessions, HasDurableFrames, HasIdleLogs, LeavesMasked}
 use Rattle.ready_daemon.specs.KnownPools.{KnowsPools}
 use Rattle.ready_daemon.specs.Moves.{Stays, LeavesPuddles}
 
@@ -47,11 +47,11 @@ pub record IsReady (size : ℕ) (w : World) (memory : Memory) (s : State) : Type
   pub clients : (client : ℕ) → client < CLIENTS → owner_of (reads s.now.words) client ≡ w.clients client
   pub frames : memory.frames ≡ w.stored.frames
   pub shelf : s.shelf ≡ w.shelf
-  pub held : Holds w memory.held mask s.now.words
-  pub sessions : HasSessions w memory.held memory.sessions
+  pub active : AreActive w memory.active mask s.now.words
+  pub sessions : HasSessions w memory.active memory.sessions
   pub rest : HasDurableFrames w.stored.frames (masked mask s.now.words)
   pub logs : HasIdleLogs w.stored.frames w.clients (masked mask s.now.words)
-  pub knows : KnowsPools w.stored.frames memory.judged held.opens (reads s.now.words)
+  pub knows : KnowsPools w.stored.frames memory.judged active.opens (reads s.now.words)
 
 -- no registered log of the image is refused: a start on it says `ready` alone
 pub record RefusesNone (image : Image) : Type 0 where
@@ -64,7 +64,7 @@ StandsBetween size w next image = ((world_of size image ≡ Some (closed w)) ⊎
 -- A command was carried out beside what is held, whose words are masked: masked, at every moment the images stand for the world before it or for
 -- the one that it gives, idle, and without a fault for that one, with tables that are durable and have its clients, whose logs count nothing.
 pub record AppliesMasked (size : ℕ) (w next : World) (mask : Write) (fault : Option HostFault) (old new : State) : Type 0 where
-  pub beside : IsBeside mask fault old new
+  pub beside : LeavesMasked mask fault old new
   pub moments : Leaves (Silently (λ image. (idle_world_of size image ≡ Some (closed w)) ⊎ (idle_world_of size image ≡ Some (closed next)))) (masked_state mask old) (masked_state mask new)
   pub settled : fault ≡ None → IsSettled size (closed next) (masked mask new.now.words)
   pub tables : fault ≡ None → HasDurableTables next.stored.frames new.now.words

@@ -38,7 +38,7 @@ returns-in_err-admit-clause-applies g c =
     let after = still_size c.in_ok-is_registered.ensures.only_reads e in
     Applies-accepted size w memory (Client c.args.client c.args.uid c.args.gid) (Some c.in_err-admit.field-0.0) _ _ _
     (is_new w c.args.client c.args.uid c.args.gid absent)
-    (c.in_ok-is_registered.ensures.only_reads.stays t) (λ ready_b. c.in_err-admit.ensures.applies t size after w memory frames ready_b (others_absent w memory.held ready.mask _ c.args.client ready.held absent)) ready)
+    (c.in_ok-is_registered.ensures.only_reads.stays t) (λ ready_b. c.in_err-admit.ensures.applies t size after w memory frames ready_b (others_absent w memory.active ready.mask _ c.args.client ready.active absent)) ready)
 
 pub returns-clause-applies : goal.returns-clause-applies
 returns-clause-applies g c = λ t size e w memory frames ready.
@@ -46,4 +46,4 @@ returns-clause-applies g c = λ t size e w memory frames ready.
     let after = still_size c.in_ok-is_registered.ensures.only_reads e in
     Applies-accepted size w memory (Client c.args.client c.args.uid c.args.gid) _ _ _ _
     (is_new w c.args.client c.args.uid c.args.gid absent)
-    (c.in_ok-is_registered.ensures.only_reads.stays t) (λ ready_b. c.in_ok-admit.ensures.applies t size after w memory frames ready_b (others_absent w memory.held ready.mask _ c.args.client ready.held absent)) ready
+    (c.in_ok-is_registered.ensures.only_reads.stays t) (λ ready_b. c.in_ok-admit.ensures.applies t size after w memory frames ready_b (others_absent w memory.active ready.mask _ c.args.client ready.active absent)) ready

@@ -7,10 +7,10 @@ use Rattle.pud_defs.specs.Step.{answer_by}
 use Rattle.pud_defs.specs.Step.Answer.{of_reply}
 use Rattle.known_pool.specs.Known.{Known}
 use Rattle.ready_daemon.specs.Judged.{pool_in}
-use Rattle.ready_daemon.specs.Held.{IsHeldWithin}
+use Rattle.ready_daemon.specs.ActiveTransactions.{IsActiveWithin}
 use Rattle.ready_daemon.specs.Ready.{IsReady}
-use Rattle.ready_daemon.proofs.HeldUnder.{AreHeldWithin-set, read_there, read_within}
-use Rattle.puddled.proofs.Changing.{known_there, on_device_there, is_known, held_in, asked, Applies-changed}
+use Rattle.ready_daemon.proofs.ActiveUnder.{AreActiveWithin-set, read_there, read_within}
+use Rattle.puddled.proofs.Changing.{known_there, on_device_there, is_known, active_in, asked, Applies-changed}
 use Rattle.puddled.proofs.commands.change_in.Goals as goal
 use Rattle.puddled.proofs.commands.change_in.Goals.{in-Some-pools, in-None-pools}
 
@@ -32,7 +32,7 @@ returns-after-judged-own-clause-reply g c = λ t size e w sessions client name r
           let known = read ∙ b.in-Some-pools.is in
           rw b.result-is (subst (λ (x : Command). IfOk b.change.result (λ reply. of_reply reply ≡ answer_by w (Some x)))
           (asked size w c.args.frames c.args.all.now sessions c.args.judged.now _ ready client name c.args.own.slot c.args.own.log_number own mine there b.in-Some-pools.pool known c.args.change)
-          (b.change.ensures.reply t size e w _ (held_in size w c.args.frames c.args.all.now sessions c.args.judged.now _ ready client name c.args.own.slot c.args.own.log_number own mine there b.in-Some-pools.pool known) ready))
+          (b.change.ensures.reply t size e w _ (active_in size w c.args.frames c.args.all.now sessions c.args.judged.now _ ready client name c.args.own.slot c.args.own.log_number own mine there b.in-Some-pools.pool known) ready))
       | in-None-pools b ↦ absurd (is_known size w c.args.frames c.args.all.now sessions c.args.judged.now _ ready client name c.args.own.slot c.args.own.log_number own (read ∙ b.in-None-pools.is))
     ]
 
@@ -43,22 +43,22 @@ returns-after-judged-own-clause-applies g c = λ t size e w sessions client name
     let there = read_there c.args.all.now c.args.own.log_number _ c.index-all-own.result mine (search rules) refl c.in-Some.is in
     let pools = c.judged.inside.pools in
     let read = known_there pools c.args.own.slot _ c.index-judged-own.result (search rules) refl in
-    let then = subst (λ (ps : List (Option Known)). IsReady size w (record { frames = c.args.frames; held = c.args.all.now; sessions = sessions; judged = ps }) s) (sym c.judged.view_is) ready in
+    let then = subst (λ (ps : List (Option Known)). IsReady size w (record { frames = c.args.frames; active = c.args.all.now; sessions = sessions; judged = ps }) s) (sym c.judged.view_is) ready in
     elim c.match-judged-own.branch [
       | in-Some-pools b ↦
           let known = read ∙ b.in-Some-pools.is in
           rw (b.result-is, b.all-is, b.judged-inside-is, b.h-is)
           (Applies-changed size w c.args.frames c.args.all.now sessions pools s then client name c.args.own.slot c.args.own.log_number own mine there b.in-Some-pools.pool known c.args.change
           b.change.new.self b.change.new.pool (fault_of b.change.result) _
-          (b.change.ensures.applies t size e w _ (held_in size w c.args.frames c.args.all.now sessions pools s then client name c.args.own.slot c.args.own.log_number own mine there b.in-Some-pools.pool known) then))
+          (b.change.ensures.applies t size e w _ (active_in size w c.args.frames c.args.all.now sessions pools s then client name c.args.own.slot c.args.own.log_number own mine there b.in-Some-pools.pool known) then))
       | in-None-pools b ↦ absurd (is_known size w c.args.frames c.args.all.now sessions pools s then client name c.args.own.slot c.args.own.log_number own (read ∙ b.in-None-pools.is))
     ]
 
 pub returns-after-judged-own-clause-within : goal.returns-after-judged-own-clause-within
 returns-after-judged-own-clause-within g c = elim c.match-judged-own.branch [
   | in-Some-pools b ↦
-      rw b.all-is (AreHeldWithin-set _ _ _ (Some b.change.new.self) c.requires.within (λ h now. subst (IsHeldWithin c.args.frames) (same_Some b.change.new.self h now) b.change.ensures.within))
+      rw b.all-is (AreActiveWithin-set _ _ _ (Some b.change.new.self) c.requires.within (λ h now. subst (IsActiveWithin c.args.frames) (same_Some b.change.new.self h now) b.change.ensures.within))
   | in-None-pools b ↦
       let within = read_within _ _ _ _ _ c.in-Some.opened c.requires.within (search rules) refl c.in-Some.is in
-      rw b.all-is (AreHeldWithin-set _ _ _ (Some c.in-Some.opened) c.requires.within (λ h now. subst (IsHeldWithin c.args.frames) (same_Some c.in-Some.opened h now) within))
+      rw b.all-is (AreActiveWithin-set _ _ _ (Some c.in-Some.opened) c.requires.within (λ h now. subst (IsActiveWithin c.args.frames) (same_Some c.in-Some.opened h now) within))
 ]

@@ -21,11 +21,11 @@ step_pool-requires-clause-known g c =
     (ap (λ (ps : List (Option Known)). pool_in ps c.args.slot) (sym c.judged.view_is) ∙ known_there c.judged.inside.pools c.args.slot _ c.index-judged-slot.result (search rules) refl ∙ c.in-Some.is)
 
 pub returns-clause-applies : goal.returns-clause-applies
-returns-clause-applies g c = λ t size e at known w held sessions ready.
+returns-clause-applies g c = λ t size e at known w active sessions ready.
     let s = g.H.Host.state c.args.h.now in
     let pools = c.judged.inside.pools in
     let read = known_there pools c.args.slot _ c.index-judged-slot.result (search rules) refl in
-    let then = subst (λ (ps : List (Option Known)). IsReady size w (record { frames = c.args.frames; held = held; sessions = sessions; judged = ps }) s) (sym c.judged.view_is) ready in
+    let then = subst (λ (ps : List (Option Known)). IsReady size w (record { frames = c.args.frames; active = active; sessions = sessions; judged = ps }) s) (sym c.judged.view_is) ready in
     elim c.match-judged-slot.branch [
       | in-Some b ↦
           let pool : Known = b.in-Some.pool in
@@ -33,10 +33,10 @@ returns-clause-applies g c = λ t size e at known w held sessions ready.
           let same : at ≡ pool.at = same_Some at pool.at (sym known ∙ ap (λ (ps : List (Option Known)). known_in ps c.args.slot) (sym c.judged.view_is) ∙ here) in
           rw (b.result-is, b.judged-inside-is, b.h-is)
           (subst (λ (ps : List (ℕ × Puddle)). AppliesBy (MovesTo (led_in c.args.slot (frontiers_of (steps_from c.args.n ps)))) size w w
-          (record { frames = c.args.frames; held = held; sessions = sessions; judged = set pools c.args.slot (Some b.step_pool.new.pool) }) (fault_of b.step_pool.result) s (g.H.Host.state b.step_pool.new.h)) (sym same)
+          (record { frames = c.args.frames; active = active; sessions = sessions; judged = set pools c.args.slot (Some b.step_pool.new.pool) }) (fault_of b.step_pool.result) s (g.H.Host.state b.step_pool.new.h)) (sym same)
           (subst (λ (k : Known). AppliesBy (MovesTo (led_in c.args.slot (frontiers_of (steps_from c.args.n pool.at)))) size w w
-          (record { frames = c.args.frames; held = held; sessions = sessions; judged = set pools c.args.slot (Some k) }) (fault_of b.step_pool.result) s (g.H.Host.state b.step_pool.new.h)) (sym b.step_pool.ensures.rest)
-          (Applies-stepped size w c.args.frames held sessions pools s then c.args.slot c.requires.slot pool (read ∙ b.in-Some.is) (frontiers_of (steps_from c.args.n pool.at)) b.step_pool.new.pool.at (fault_of b.step_pool.result)
+          (record { frames = c.args.frames; active = active; sessions = sessions; judged = set pools c.args.slot (Some k) }) (fault_of b.step_pool.result) s (g.H.Host.state b.step_pool.new.h)) (sym b.step_pool.ensures.rest)
+          (Applies-stepped size w c.args.frames active sessions pools s then c.args.slot c.requires.slot pool (read ∙ b.in-Some.is) (frontiers_of (steps_from c.args.n pool.at)) b.step_pool.new.pool.at (fault_of b.step_pool.result)
           (g.H.Host.state b.step_pool.new.h) (λ idle low. b.step_pool.ensures.rewrites t size e idle low))))
       | in-None b ↦ absurd (none-some at (sym (ap (option_map (λ (k : Known). k.puddles)) (read ∙ b.in-None.is)) ∙ ap (λ (ps : List (Option Known)). known_in ps c.args.slot) c.judged.view_is ∙ known))
     ]

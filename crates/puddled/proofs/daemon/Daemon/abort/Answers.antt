@@ -5,7 +5,7 @@ use Rattle.pud_defs.specs.declared.machine.Reply.TheVariants as replies
 use Rattle.pud_defs.proofs.Steps.{answer_is_ok}
 use Rattle.ready_daemon.specs.Owning.{refusal_found}
 use Rattle.puddled.proofs.Commanding.{ready_read, CarriesOut-refused, CarriesOut-unread, CarriesOut-stopped, CarriesOut-done, abort_is_plain, abort_moves_none}
-use Rattle.pool_transaction.proofs.HeldEnds.{Applies-own}
+use Rattle.pool_transaction.proofs.ActiveEnds.{Applies-own}
 use Rattle.pool_transaction.proofs.TransactionRefusals.{refusal_of-abort}
 use Rattle.puddled.proofs.daemon.Daemon.abort.Goals as goal
 use Rattle.pm_model.proofs.Reading.{still_size}
@@ -36,7 +36,7 @@ returns-in_err-undo-clause-carries g c =
     let n = c.in_err-undo.ensures in
     let fault = Some c.in_err-undo.field-0.0 in
     CarriesOut-stopped size w c.undo.new.self _ _ _ _ _ _ (Abort c.args.client c.args.name) (abort_is_plain c.args.client c.args.name) (abort_moves_none c.args.client c.args.name) free (k.only_reads.stays t) k.only_reads.cause (n.rest t) c.in_err-undo.field-0.0
-    (Applies-own size w c.args.client c.args.name c.in-Ok.own.log_number c.args.self.now c.find_own.new.self c.undo.new.self fault _ _ own.own k.held
+    (Applies-own size w c.args.client c.args.name c.in-Ok.own.log_number c.args.self.now c.find_own.new.self c.undo.new.self fault _ _ own.own k.active
     (n.applies t size (still_size k.only_reads e) w known)) n.cause)
 
 pub returns-clause-carries : goal.returns-clause-carries
@@ -48,5 +48,5 @@ returns-clause-carries g c = λ t size e w ready.
     let n = c.in_ok-undo.ensures in
     CarriesOut-done size w c.undo.new.self _ _ _ _ _ _ (Abort c.args.client c.args.name) (abort_is_plain c.args.client c.args.name) (abort_moves_none c.args.client c.args.name) free (k.only_reads.stays t) k.only_reads.cause (n.rest t) replies.Ok
     (sym (answer_is_ok w (Abort c.args.client c.args.name) refl refl free))
-    (Applies-own size w c.args.client c.args.name c.in-Ok.own.log_number c.args.self.now c.find_own.new.self c.undo.new.self None _ _ own.own k.held
+    (Applies-own size w c.args.client c.args.name c.in-Ok.own.log_number c.args.self.now c.find_own.new.self c.undo.new.self None _ _ own.own k.active
     (n.applies t size (still_size k.only_reads e) w known)) n.cause

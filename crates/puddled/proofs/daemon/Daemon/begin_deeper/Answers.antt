@@ -8,7 +8,7 @@ use Rattle.nesting.specs.declared.EnterFault.TheVariants.{Deep}
 use Rattle.nesting.specs.declared.Session.{Session}
 use Rattle.nesting.specs.Sessions.{AreSessions}
 use Rattle.ready_daemon.specs.Memory.{Memory}
-use Rattle.ready_daemon.specs.Holding.{IsOwnOn}
+use Rattle.ready_daemon.specs.OwnOnPool.{IsOwnTransactionOn}
 use Rattle.ready_daemon.specs.Ready.{IsReady}
 use Rattle.ready_daemon.proofs.AtDepth.{ready_begun_again}
 use Rattle.puddled.proofs.Entering.{refused_deeper, begun_again}
@@ -18,9 +18,9 @@ use Rattle.puddled.proofs.daemon.Daemon.begin_deeper.Goals.{in-Ok, in-Err}
 pub returns-clause-reply : goal.returns-clause-reply
 returns-clause-reply c = λ size w name s ready own free.
     let i = c.self.inside in
-    let view : Memory = record { frames = i.frames; held = i.opened; sessions = i.sessions; judged = i.judged } in
+    let view : Memory = record { frames = i.frames; active = i.opened; sessions = i.sessions; judged = i.judged } in
     let then : IsReady size w view s = subst (λ (m : Memory). IsReady size w m s) (sym c.self.view_is) ready in
-    let mine = subst (λ (m : Memory). IsOwnOn c.args.client name c.args.slot c.args.number m.held) (sym c.self.view_is) own in
+    let mine = subst (λ (m : Memory). IsOwnTransactionOn c.args.client name c.args.slot c.args.number m.active) (sym c.self.view_is) own in
     elim c.match-enter.branch [
       | in-Ok b ↦
           let again = begun_again size w view s then c.args.client name free c.args.slot c.args.number mine (subst (λ (m : Memory). AreSessions m.sessions) (sym c.self.view_is) c.requires.within)
@@ -34,9 +34,9 @@ returns-clause-reply c = λ size w name s ready own free.
 pub returns-clause-ready : goal.returns-clause-ready
 returns-clause-ready c = λ size w name s ready own free.
     let i = c.self.inside in
-    let view : Memory = record { frames = i.frames; held = i.opened; sessions = i.sessions; judged = i.judged } in
+    let view : Memory = record { frames = i.frames; active = i.opened; sessions = i.sessions; judged = i.judged } in
     let then : IsReady size w view s = subst (λ (m : Memory). IsReady size w m s) (sym c.self.view_is) ready in
-    let mine = subst (λ (m : Memory). IsOwnOn c.args.client name c.args.slot c.args.number m.held) (sym c.self.view_is) own in
+    let mine = subst (λ (m : Memory). IsOwnTransactionOn c.args.client name c.args.slot c.args.number m.active) (sym c.self.view_is) own in
     elim c.match-enter.branch [
       | in-Ok b ↦
           let again = begun_again size w view s then c.args.client name free c.args.slot c.args.number mine (subst (λ (m : Memory). AreSessions m.sessions) (sym c.self.view_is) c.requires.within)

@@ -14,11 +14,11 @@ use Rattle.nesting.specs.declared.EnterFault.TheVariants.{Logs}
 use Rattle.nesting.specs.declared.Session.{Session}
 use Rattle.nesting.specs.Sessions.{session_in, depth_in, count_of}
 use Rattle.ready_daemon.specs.Beginning.{begins_as}
-use Rattle.ready_daemon.specs.Held.{IsHeldWithin, AreHeldWithin}
-use Rattle.ready_daemon.specs.Memory.{Held, Memory}
+use Rattle.ready_daemon.specs.ActiveTransactions.{IsActiveWithin, AreActiveWithin}
+use Rattle.ready_daemon.specs.Memory.{ActiveTransaction, Memory}
 use Rattle.ready_daemon.specs.Ready.{IsReady, Applies}
 use Rattle.ready_daemon.proofs.Applying.{Applies-failed, Applies-refused, Applies-closed, Applies-behind_reads}
-use Rattle.ready_daemon.proofs.HeldUnder.{AreHeldWithin-set}
+use Rattle.ready_daemon.proofs.ActiveUnder.{AreActiveWithin-set}
 use Rattle.puddled.proofs.Entering.{refused_without_log, refused_to_begin, begins_in}
 use Rattle.puddled.proofs.daemon.Daemon.begin_on.Goals as goal
 
@@ -65,7 +65,7 @@ returns-in-Err-clause-applies g c = λ t size e w at ready free known may.
     let refused = refused_to_begin size w c.args.self.now old ready c.args.client c.args.name free c.args.slot at may c.requires.shut c.requires.within c.in-Err.fault c.enter.result c.in-Err.is
     (λ is. subst (λ (ss : List (Option Session)). depth_in ss c.args.slot ≡ MAX_DEPTH) same (k.deep.0 is))
     (λ is. subst (λ (ss : List (Option Session)). (session_in ss c.args.slot ≡ None) × (CLIENT_LOGS ≤ count_of c.args.client ss)) same (k.logs.0 is)) in
-    let view : Memory = record { frames = i.frames; held = i.opened; sessions = i.sessions; judged = i.judged } in
+    let view : Memory = record { frames = i.frames; active = i.opened; sessions = i.sessions; judged = i.judged } in
     Applies-refused size w (record view { sessions = c.enter.new.self }) (Begin c.args.client c.args.name) c.refusal_to_enter.result _ _
     (subst (λ (l : List (Option Session)). IsReady size w (record view { sessions = l }) old) (sym c.in-Err.ensures.stays) (subst (λ (m : Memory). IsReady size w m old) (sym c.self.view_is) ready))
     (refused ∙ ap (λ (r : Refusal). Some r) (sym c.refusal_to_enter.ensures)) (c.in_ok-number.ensures.only_reads.stays t)
@@ -77,7 +77,7 @@ returns-in_err-opened-clause-applies g c =
     let p = err_from_is_err_and c.from_residual-in_err-opened.result c.from_residual-in_err-opened.ensures.1 in
     rw (p.1, p.2) (λ t size e w at ready free known may.
     let i = c.self.inside in
-    let view : Memory = record { frames = i.frames; held = i.opened; sessions = i.sessions; judged = i.judged } in
+    let view : Memory = record { frames = i.frames; active = i.opened; sessions = i.sessions; judged = i.judged } in
     let reading = c.in_ok-number.ensures.only_reads in
     let begins = begins_in size w c.args.self.now view (g.H.Host.state c.args.h.now) (g.H.Host.state c.free_log.new.h) ready c.args.client c.args.name free c.args.slot at may c.requires.shut c.requires.within
     (sym c.self.view_is) (reading.stays t) known (λ many. let no : Ok tt ≡ Err Logs = sym c.in_default-enter.is ∙ c.enter.ensures.logs.1 many in cc) c.in-Some.number (sym c.in-Some.is ∙ c.in_ok-number.ensures.lowest t) c.requires.slot in
@@ -90,15 +90,15 @@ invariant_of-self-2 g c =
     let frames = c.self.inside.frames in (
       i.0,
       i.1,
-      subst (AreHeldWithin frames) (sym c.hold.ensures.held)
-          (AreHeldWithin-set frames c.self.inside.opened c.in-Some.number _ i.2 (λ h now. subst (IsHeldWithin frames) (same_Some c.in_ok-opened.opened h now) c.in_ok-opened.ensures.within)),
+      subst (AreActiveWithin frames) (sym c.hold.ensures.held)
+          (AreActiveWithin-set frames c.self.inside.opened c.in-Some.number _ i.2 (λ h now. subst (IsActiveWithin frames) (same_Some c.in_ok-opened.opened h now) c.in_ok-opened.ensures.within)),
       i.3,
     )
 
 pub returns-clause-reply : goal.returns-clause-reply
 returns-clause-reply g c = λ t size e w at ready free known may.
     let i = c.self.inside in
-    let view : Memory = record { frames = i.frames; held = i.opened; sessions = i.sessions; judged = i.judged } in
+    let view : Memory = record { frames = i.frames; active = i.opened; sessions = i.sessions; judged = i.judged } in
     let reading = c.in_ok-number.ensures.only_reads in
     let begins = begins_in size w c.args.self.now view (g.H.Host.state c.args.h.now) (g.H.Host.state c.free_log.new.h) ready c.args.client c.args.name free c.args.slot at may c.requires.shut c.requires.within
     (sym c.self.view_is) (reading.stays t) known (λ many. let no : Ok tt ≡ Err Logs = sym c.in_default-enter.is ∙ c.enter.ensures.logs.1 many in cc) c.in-Some.number (sym c.in-Some.is ∙ c.in_ok-number.ensures.lowest t) c.requires.slot in
@@ -107,16 +107,16 @@ returns-clause-reply g c = λ t size e w at ready free known may.
 pub returns-clause-applies : goal.returns-clause-applies
 returns-clause-applies g c = λ t size e w at ready free known may.
     let i = c.self.inside in
-    let view : Memory = record { frames = i.frames; held = i.opened; sessions = i.sessions; judged = i.judged } in
+    let view : Memory = record { frames = i.frames; active = i.opened; sessions = i.sessions; judged = i.judged } in
     let number = c.in-Some.number in
     let reading = c.in_ok-number.ensures.only_reads in
     let mid = g.H.Host.state c.free_log.new.h in
     let new = g.H.Host.state c.begin.new.h in
     let begins = begins_in size w c.args.self.now view (g.H.Host.state c.args.h.now) mid ready c.args.client c.args.name free c.args.slot at may c.requires.shut c.requires.within
     (sym c.self.view_is) (reading.stays t) known (λ many. let no : Ok tt ≡ Err Logs = sym c.in_default-enter.is ∙ c.enter.ensures.logs.1 many in cc) number (sym c.in-Some.is ∙ c.in_ok-number.ensures.lowest t) c.requires.slot in
-    let held = c.hold.ensures.held ∙ ap (λ (h : Held). set i.opened number (Some h)) c.in_ok-opened.ensures.opened in
+    let active = c.hold.ensures.held ∙ ap (λ (h : ActiveTransaction). set i.opened number (Some h)) c.in_ok-opened.ensures.opened in
     let sessions = c.in_default-enter.ensures.entered in
     Applies-behind_reads size w _ (Begin c.args.client c.args.name) None _ _ _ begins.free (reading.stays t)
-    (subst (λ (l : List (Option Held)). Applies size w (after w (Begin c.args.client c.args.name)) (record view { held = l; sessions = c.enter.new.self }) None mid new) (sym held)
-    (subst (λ (l : List (Option Session)). Applies size w (after w (Begin c.args.client c.args.name)) (record view { held = set i.opened number (Some (begins_as c.args.client c.args.name c.args.slot i.frames number)); sessions = l }) None mid new) (sym sessions)
+    (subst (λ (l : List (Option ActiveTransaction)). Applies size w (after w (Begin c.args.client c.args.name)) (record view { active = l; sessions = c.enter.new.self }) None mid new) (sym active)
+    (subst (λ (l : List (Option Session)). Applies size w (after w (Begin c.args.client c.args.name)) (record view { active = set i.opened number (Some (begins_as c.args.client c.args.name c.args.slot i.frames number)); sessions = l }) None mid new) (sym sessions)
     (c.in_ok-opened.ensures.applies t size (still_size reading e) w view refl begins.ready begins.may (λ none. c.hold.ensures.within))))

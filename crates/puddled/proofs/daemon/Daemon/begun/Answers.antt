@@ -1,13 +1,13 @@
 use Rattle.std.proofs.Common.{subst, sym}
 use Rattle.pud_defs.specs.declared.records.TheConstants.{POOL_RECORDS}
 use Rattle.pud_defs.specs.Settled.{ALL_LOGS}
-use Rattle.ready_daemon.specs.Held.{AreHeldWithin}
+use Rattle.ready_daemon.specs.ActiveTransactions.{AreActiveWithin}
 use Rattle.ready_daemon.specs.Judged.{AreOnDevice}
 use Rattle.ready_daemon.proofs.Known.{AreOnDevice-none}
-use Rattle.ready_daemon.proofs.NoneHeld.{AreHeldWithin-none}
+use Rattle.ready_daemon.proofs.NoneActive.{AreActiveWithin-none}
 use Rattle.puddled.proofs.daemon.Daemon.begun.Goals as goal
 
 pub invariant_of-result : goal.invariant_of-result
 invariant_of-result c =
     let frames = c.args.frames in
-    (c.requires.some, c.requires.no_more, subst (AreHeldWithin frames) (sym c.none_opened.ensures) (AreHeldWithin-none frames ALL_LOGS), subst (AreOnDevice frames) (sym c.none.ensures) (AreOnDevice-none frames POOL_RECORDS))
+    (c.requires.some, c.requires.no_more, subst (AreActiveWithin frames) (sym c.no_transactions.ensures) (AreActiveWithin-none frames ALL_LOGS), subst (AreOnDevice frames) (sym c.none.ensures) (AreOnDevice-none frames POOL_RECORDS))

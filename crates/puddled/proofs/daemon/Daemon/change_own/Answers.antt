@@ -2,8 +2,8 @@ use Rattle.std.proofs.Common.{List, Option, sym, ap, subst, ◌∙◌}
 use Rattle.std.proofs.lemmas.Result.{err_from_is_err_and}
 use Rattle.pm_model.proofs.Reading.{still_size}
 use Rattle.pool_transaction.specs.Changing.{line_of}
-use Rattle.ready_daemon.specs.Holding.{IsOwnOn}
-use Rattle.ready_daemon.specs.Memory.{Held, Memory}
+use Rattle.ready_daemon.specs.OwnOnPool.{IsOwnTransactionOn}
+use Rattle.ready_daemon.specs.Memory.{ActiveTransaction, Memory}
 use Rattle.ready_daemon.specs.Owning.{refusal_found}
 use Rattle.ready_daemon.specs.Ready.{IsReady}
 use Rattle.puddled.proofs.Changing.{refused_line}
@@ -39,9 +39,9 @@ returns-clause-carries g c = λ t size e w ready.
     let read = ready_read size w c.find_own.new.self _ _ (k.only_reads.stays t) (k.ready t size w ready) in
     let then = subst (λ (m : Memory). IsReady size w m (g.H.Host.state c.find_own.new.h)) (sym c.self.view_is) read in
     let found = rw c.in-Ok.is at (k.own t size w ready) in
-    let own = subst (λ (held : List (Option Held)). IsOwnOn c.args.client c.args.name c.in-Ok.own.slot c.in-Ok.own.log_number held) (sym (ap (λ (m : Memory). m.held) c.self.view_is ∙ k.held)) found in
+    let own = subst (λ (active : List (Option ActiveTransaction)). IsOwnTransactionOn c.args.client c.args.name c.in-Ok.own.slot c.in-Ok.own.log_number active) (sym (ap (λ (m : Memory). m.active) c.self.view_is ∙ k.active)) found in
     let n = c.change_in.ensures in
     let same = still_size k.only_reads e in
-    CarriesOut-replied size w (record { frames = i.frames; held = c.change_in.new.all; sessions = i.sessions; judged = c.change_in.new.judged }) _ _ _ _ _ _ (line_of c.args.change c.args.client c.args.name)
+    CarriesOut-replied size w (record { frames = i.frames; active = c.change_in.new.all; sessions = i.sessions; judged = c.change_in.new.judged }) _ _ _ _ _ _ (line_of c.args.change c.args.client c.args.name)
     (change_is_plain c.args.client c.args.name c.args.change) (k.only_reads.stays t) k.only_reads.cause (n.rest t) c.change_in.result
     (n.reply t size same w i.sessions c.args.client c.args.name then own) (n.applies t size same w i.sessions c.args.client c.args.name then own) n.cause

@@ -3,8 +3,8 @@ use Rattle.std.proofs.lemmas.Result.{err_from_is_err_and}
 use Rattle.pud_defs.specs.declared.machine.Command.TheVariants.{Commit}
 use Rattle.pud_defs.specs.declared.machine.Reply.TheVariants as replies
 use Rattle.pud_defs.proofs.Steps.{answer_is_ok}
-use Rattle.ready_daemon.specs.Memory.{Held}
-use Rattle.ready_daemon.specs.Holding.{IsOwnOn}
+use Rattle.ready_daemon.specs.Memory.{ActiveTransaction}
+use Rattle.ready_daemon.specs.OwnOnPool.{IsOwnTransactionOn}
 use Rattle.ready_daemon.specs.Owning.{refusal_found}
 use Rattle.puddled.proofs.Commanding.{ready_read, CarriesOut-refused, CarriesOut-unread, CarriesOut-stopped, CarriesOut-done, commit_is_plain, commit_moves_none}
 use Rattle.puddled.proofs.Depth.{depth_by_world}
@@ -34,7 +34,7 @@ returns-in_err-commit_own-clause-carries g c =
     let known = ready_read size w c.find_own.new.self _ _ (k.only_reads.stays t) (k.ready t size w ready) in
     let free = sym (k.refusal t size w ready) ∙ ap refusal_found c.in-Ok.is in
     let found = rw c.in-Ok.is at (k.own t size w ready) in
-    let own = subst (λ (held : List (Option Held)). IsOwnOn c.args.client c.args.name c.in-Ok.own.slot c.in-Ok.own.log_number held) (sym k.held) found in
+    let own = subst (λ (active : List (Option ActiveTransaction)). IsOwnTransactionOn c.args.client c.args.name c.in-Ok.own.slot c.in-Ok.own.log_number active) (sym k.active) found in
     let n = c.in_err-commit_own.ensures in
     CarriesOut-stopped size w c.commit_own.new.self _ _ _ _ _ _ (Commit c.args.client c.args.name) (commit_is_plain c.args.client c.args.name) (commit_moves_none c.args.client c.args.name) free (k.only_reads.stays t) k.only_reads.cause (n.rest t) c.in_err-commit_own.field-0.0
     (n.applies t size (still_size k.only_reads e) w c.args.name known own) n.cause)
@@ -45,7 +45,7 @@ returns-clause-carries g c = λ t size e w ready.
     let known = ready_read size w c.find_own.new.self _ _ (k.only_reads.stays t) (k.ready t size w ready) in
     let free = sym (k.refusal t size w ready) ∙ ap refusal_found c.in-Ok.is in
     let found = rw c.in-Ok.is at (k.own t size w ready) in
-    let own = subst (λ (held : List (Option Held)). IsOwnOn c.args.client c.args.name c.in-Ok.own.slot c.in-Ok.own.log_number held) (sym k.held) found in
+    let own = subst (λ (active : List (Option ActiveTransaction)). IsOwnTransactionOn c.args.client c.args.name c.in-Ok.own.slot c.in-Ok.own.log_number active) (sym k.active) found in
     let n = c.in_ok-commit_own.ensures in
     CarriesOut-done size w c.commit_own.new.self _ _ _ _ _ _ (Commit c.args.client c.args.name) (commit_is_plain c.args.client c.args.name) (commit_moves_none c.args.client c.args.name) free (k.only_reads.stays t) k.only_reads.cause (n.rest t) replies.Ok
     (sym (answer_is_ok w (Commit c.args.client c.args.name) refl refl free))
@@ -58,7 +58,7 @@ returns-in_err-commit_own-clause-nested g c = λ t size w ready running is deep.
     let k = c.in_ok-refusal.ensures in
     let known = ready_read size w c.find_own.new.self _ _ (k.only_reads.stays t) (k.ready t size w ready) in
     let found = rw c.in-Ok.is at (k.own t size w ready) in
-    let own = subst (λ (held : List (Option Held)). IsOwnOn c.args.client c.args.name c.in-Ok.own.slot c.in-Ok.own.log_number held) (sym k.held) found in
+    let own = subst (λ (active : List (Option ActiveTransaction)). IsOwnTransactionOn c.args.client c.args.name c.in-Ok.own.slot c.in-Ok.own.log_number active) (sym k.active) found in
     let depth = depth_by_world size w c.find_own.new.self _ c.args.client c.args.name c.in-Ok.own.slot c.in-Ok.own.log_number known own running is in
     ap (λ h. g.H.Host.state h) (c.in_err-commit_own.ensures.nested (omega (arith, depth, deep))) ∙ k.only_reads.stays t
 
@@ -67,6 +67,6 @@ returns-clause-nested g c = λ t size w ready running is deep.
     let k = c.in_ok-refusal.ensures in
     let known = ready_read size w c.find_own.new.self _ _ (k.only_reads.stays t) (k.ready t size w ready) in
     let found = rw c.in-Ok.is at (k.own t size w ready) in
-    let own = subst (λ (held : List (Option Held)). IsOwnOn c.args.client c.args.name c.in-Ok.own.slot c.in-Ok.own.log_number held) (sym k.held) found in
+    let own = subst (λ (active : List (Option ActiveTransaction)). IsOwnTransactionOn c.args.client c.args.name c.in-Ok.own.slot c.in-Ok.own.log_number active) (sym k.active) found in
     let depth = depth_by_world size w c.find_own.new.self _ c.args.client c.args.name c.in-Ok.own.slot c.in-Ok.own.log_number known own running is in
     ap (λ h. g.H.Host.state h) (c.in_ok-commit_own.ensures.nested (omega (arith, depth, deep))) ∙ k.only_reads.stays t

@@ -12,7 +12,7 @@ pub returns-then-depth-gt1-clause-applies : goal.returns-then-depth-gt1-clause-a
 returns-then-depth-gt1-clause-applies g c = λ t size e w name ready own.
     let i = c.self.inside in
     let slot = c.args.own.slot in
-    let view : Memory = record { frames = i.frames; held = i.opened; sessions = i.sessions; judged = i.judged } in
+    let view : Memory = record { frames = i.frames; active = i.opened; sessions = i.sessions; judged = i.judged } in
     let depth = ap (λ (m : Memory). depth_in m.sessions slot) c.self.view_is in
     let is = c.depth.ensures.depth in
     let more = c.if-depth-gt1.true in
@@ -25,14 +25,14 @@ returns-in-Some-clause-applies g c = λ t size e w name ready own.
     let is = c.depth.ensures.depth in
     let last = c.if-depth-gt1.false in
     let r = c.release.ensures in
-    let released : IsReleased c.args.own.log_number c.args.self.now c.release.new.self = record { held = r.held; sessions = r.sessions; judged = r.judged; frames = r.frames } in
+    let released : IsReleased c.args.own.log_number c.args.self.now c.release.new.self = record { active = r.active; sessions = r.sessions; judged = r.judged; frames = r.frames } in
     let there = sym r.opened ∙ c.in-Some.is in
     Applies-own_ended c.args.own.log_number c.args.self.now c.release.new.self released size w (fault_of c.commit.result) _ _ c.in-Some.opened c.args.client name c.args.own.slot there own (omega (arith, depth, is, last))
     (c.commit.ensures.applies t size e w c.args.self.now c.args.own.log_number (ap (λ (m : Memory). m.frames) (sym c.self.view_is)) there ready)
 
 -- the client's own is held
 pub returns-in-None-clause-applies : goal.returns-in-None-clause-applies
-returns-in-None-clause-applies g c = λ t size e w name ready own. absurd (none-some own.own.mine (sym (sym c.release.ensures.opened ∙ c.in-None.is) ∙ own.own.is))
+returns-in-None-clause-applies g c = λ t size e w name ready own. absurd (none-some own.own.active (sym (sym c.release.ensures.opened ∙ c.in-None.is) ∙ own.own.is))
 
 -- ---- begun more often than once
 

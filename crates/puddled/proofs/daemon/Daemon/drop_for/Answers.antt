@@ -54,7 +54,7 @@ returns-in_err-drop_pool-clause-applies g c =
     let k = c.in_ok-refusal.ensures in
     let n = c.in_err-drop_pool.ensures in
     let i = c.self.inside in
-    let now : Memory = record { frames = i.frames; held = i.opened; sessions = i.sessions; judged = i.judged } in
+    let now : Memory = record { frames = i.frames; active = i.opened; sessions = i.sessions; judged = i.judged } in
     let old = g.H.Host.state c.args.h.now in
     let mid = g.H.Host.state c.find_owned.new.h in
     let there = subst (λ (m : Memory). IsReady size w m old) (sym c.self.view_is) (k.ready t size w ready) in
@@ -75,7 +75,7 @@ returns-clause-applies g c = λ t size e w ready.
     let k = c.in_ok-refusal.ensures in
     let n = c.in_ok-drop_pool.ensures in
     let i = c.self.inside in
-    let now : Memory = record { frames = i.frames; held = i.opened; sessions = i.sessions; judged = i.judged } in
+    let now : Memory = record { frames = i.frames; active = i.opened; sessions = i.sessions; judged = i.judged } in
     let old = g.H.Host.state c.args.h.now in
     let mid = g.H.Host.state c.find_owned.new.h in
     let there = subst (λ (m : Memory). IsReady size w m old) (sym c.self.view_is) (k.ready t size w ready) in

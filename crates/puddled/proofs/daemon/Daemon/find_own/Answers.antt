@@ -1,6 +1,6 @@
 use Rattle.std.proofs.Common.{List, Option, sym, ap, subst, ◌∙◌}
-use Rattle.ready_daemon.specs.Memory.{Held}
-use Rattle.ready_daemon.specs.Holding.{IsOwnOn}
+use Rattle.ready_daemon.specs.Memory.{ActiveTransaction}
+use Rattle.ready_daemon.specs.OwnOnPool.{IsOwnTransactionOn}
 use Rattle.ready_daemon.specs.Owning.{refusal_found}
 use Rattle.puddled.specs.declared.finding.Need.TheVariants as needs
 use Rattle.puddled.proofs.Found.{finds}
@@ -25,11 +25,11 @@ returns-in-Some-clause-refusal g c = λ t size w ready.
     let k = c.in_ok-refusal.ensures in
     let now = c.find_pool.new.self in
     let here = finds size w needs.Graph c.args.client c.args.name c.args.self.now now _ _ _ c.in-Ok.found c.in-Ok.is (k.only_reads.stays t) k.sessions (k.ready t size w ready) (k.refusal t size w ready) (k.found t size w ready) k.whose in
-    sym (own_is_open w now.held here.ready.mask _ c.args.client c.args.name c.in-Some.number here.ready.held (here.is.own c.in-Some.number c.in-Some.is).own)
+    sym (own_is_open w now.active here.ready.mask _ c.args.client c.args.name c.in-Some.number here.ready.active (here.is.own c.in-Some.number c.in-Some.is).own)
 
 pub returns-in-Some-clause-own : goal.returns-in-Some-clause-own
 returns-in-Some-clause-own g c = λ t size w ready.
     let k = c.in_ok-refusal.ensures in
     let now = c.find_pool.new.self in
     let here = finds size w needs.Graph c.args.client c.args.name c.args.self.now now _ _ _ c.in-Ok.found c.in-Ok.is (k.only_reads.stays t) k.sessions (k.ready t size w ready) (k.refusal t size w ready) (k.found t size w ready) k.whose in
-    subst (λ (xs : List (Option Held)). IsOwnOn c.args.client c.args.name c.in-Ok.found.slot c.in-Some.number xs) k.held (here.is.own c.in-Some.number c.in-Some.is)
+    subst (λ (xs : List (Option ActiveTransaction)). IsOwnTransactionOn c.args.client c.args.name c.in-Ok.found.slot c.in-Some.number xs) k.active (here.is.own c.in-Some.number c.in-Some.is)

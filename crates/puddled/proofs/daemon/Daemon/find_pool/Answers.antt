@@ -48,7 +48,7 @@ returns-then-not-has_right-clause-refusal g c = λ t size w ready.
 pub returns-clause-refusal : goal.returns-clause-refusal
 returns-clause-refusal g c = λ t size w ready.
     let i = c.self.inside in
-    let view : Memory = record { frames = i.frames; held = i.opened; sessions = i.sessions; judged = i.judged } in
+    let view : Memory = record { frames = i.frames; active = i.opened; sessions = i.sessions; judged = i.judged } in
     let who = acting size w _ _ ready c.args.client c.in-Some.who c.requires.known (sym c.in-Some.is ∙ c.in_ok-who.ensures.owner t _ refl) in
     let there = sym c.in-Some-2.is ∙ c.in_ok-slot.ensures.found t _ (still_reads c.owner.ensures.only_reads t refl) w.stored.frames in
     let same = c.find.ensures.only_reads.stays t ∙ c.owner.ensures.only_reads.stays t in
@@ -62,7 +62,7 @@ returns-clause-refusal g c = λ t size w ready.
 pub returns-clause-found : goal.returns-clause-found
 returns-clause-found g c = λ t size w ready.
     let i = c.self.inside in
-    let view : Memory = record { frames = i.frames; held = i.opened; sessions = i.sessions; judged = i.judged } in
+    let view : Memory = record { frames = i.frames; active = i.opened; sessions = i.sessions; judged = i.judged } in
     let there = sym c.in-Some-2.is ∙ c.in_ok-slot.ensures.found t _ (still_reads c.owner.ensures.only_reads t refl) w.stored.frames in
     let same = c.find.ensures.only_reads.stays t ∙ c.owner.ensures.only_reads.stays t in
     let now = subst (λ (m : Memory). IsReady size w m (g.H.Host.state c.args.h.now)) (sym c.self.view_is) (ready_read size w _ _ _ (sym same) (c.in_ok-lacks_graph.ensures.ready t size w (ready_read size w _ _ _ same ready))) in

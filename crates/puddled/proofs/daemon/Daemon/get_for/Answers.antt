@@ -28,7 +28,7 @@ pub returns-clause-reply : goal.returns-clause-reply
 returns-clause-reply g c = λ t size w ready.
     let k = c.in_ok-refusal.ensures in
     let i = c.self.inside in
-    let view : Memory = record { frames = i.frames; held = i.opened; sessions = i.sessions; judged = i.judged } in
+    let view : Memory = record { frames = i.frames; active = i.opened; sessions = i.sessions; judged = i.judged } in
     let now = c.find_pool.new.self in
     let s = g.H.Host.state c.find_pool.new.h in
     let image = reads s.now.words in
@@ -64,7 +64,7 @@ returns-in_err-build-clause-applies g c =
     rw (p.1, p.2) (λ t size w ready.
     let k = c.in_ok-refusal.ensures in
     let i = c.self.inside in
-    let view : Memory = record { frames = i.frames; held = i.opened; sessions = i.sessions; judged = i.judged } in
+    let view : Memory = record { frames = i.frames; active = i.opened; sessions = i.sessions; judged = i.judged } in
     let n = c.in_err-build.ensures in
     let before = subst (λ (m : Memory). IsReady size w m (g.H.Host.state c.args.h.now)) (sym c.self.view_is) (k.ready t size w ready) in
     Applies-get w c.args.client c.args.name c.args.s c.args.f size (record view { judged = c.build.new.self }) (Some c.in_err-build.field-0.0) _ _
@@ -76,7 +76,7 @@ returns-in_err-read-clause-applies g c =
     rw (p.1, p.2) (λ t size w ready.
     let k = c.in_ok-refusal.ensures in
     let i = c.self.inside in
-    let view : Memory = record { frames = i.frames; held = i.opened; sessions = i.sessions; judged = i.judged } in
+    let view : Memory = record { frames = i.frames; active = i.opened; sessions = i.sessions; judged = i.judged } in
     let n = c.in_ok-build.ensures in
     let r = c.in_err-read.ensures.only_reads in
     let before = subst (λ (m : Memory). IsReady size w m (g.H.Host.state c.args.h.now)) (sym c.self.view_is) (k.ready t size w ready) in
@@ -87,7 +87,7 @@ pub returns-clause-applies : goal.returns-clause-applies
 returns-clause-applies g c = λ t size w ready.
     let k = c.in_ok-refusal.ensures in
     let i = c.self.inside in
-    let view : Memory = record { frames = i.frames; held = i.opened; sessions = i.sessions; judged = i.judged } in
+    let view : Memory = record { frames = i.frames; active = i.opened; sessions = i.sessions; judged = i.judged } in
     let n = c.in_ok-build.ensures in
     let before = subst (λ (m : Memory). IsReady size w m (g.H.Host.state c.args.h.now)) (sym c.self.view_is) (k.ready t size w ready) in
     Applies-get w c.args.client c.args.name c.args.s c.args.f size (record view { judged = c.build.new.self }) None _ _

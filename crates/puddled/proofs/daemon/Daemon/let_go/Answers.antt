@@ -6,7 +6,7 @@ use Rattle.pud_defs.specs.Step.{after}
 use Rattle.pud_defs.specs.Transactions.{without_client}
 use Rattle.pud_defs.specs.World.{World}
 use Rattle.ready_daemon.specs.Ready.{Applies, ClosesBefore}
-use Rattle.ready_daemon.specs.Held.{IsOthers}
+use Rattle.ready_daemon.specs.ActiveTransactions.{AreOfOtherClients}
 use Rattle.ready_daemon.specs.Leaving.{BehindTables, world_without}
 use Rattle.ready_daemon.specs.Memory.{Memory}
 use Rattle.ready_daemon.proofs.Coming.{ClosesBefore-changes}
@@ -35,7 +35,7 @@ returns-clause-applies g c = λ t size e w ready.
     let frames = sym (ap (λ (m : Memory). m.frames) c.self.view_is) in
     Applies-then size w (after w (Leave c.args.client)) (without_client c.args.client w.transactions) first first fault (g.H.Host.state c.args.h.now) mid new (c.in_ok-undo_of.ensures.applies t size e w ready)
     (λ ready_mid.
-    let others = subst (λ (n : ℕ). IsOthers n first.held) (sym c.from.ensures) (others_left size w c.args.client first mid ready_mid) in
+    let others = subst (λ (n : ℕ). AreOfOtherClients n first.active) (sym c.from.ensures) (others_left size w c.args.client first mid ready_mid) in
     subst (λ (v : World). Applies size (world_without c.args.client w) v first fault mid new) (gone_world w c.args.client)
     (subst (λ (n : ℕ). Applies size (world_without c.args.client w) (after (world_without c.args.client w) (Leave n)) first fault mid new) c.from.ensures
     (c.dismiss.ensures.applies t size then (world_without c.args.client w) first frames ready_mid others)))

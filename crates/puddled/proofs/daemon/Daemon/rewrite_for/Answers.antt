@@ -92,7 +92,7 @@ returns-in_err-_done-clause-applies g c =
     let free = refused_by_graph w c.args.name c.args.n _ false (named size w _ _ ready 0 c.args.name c.in-Some.slot c.in-Some.field-0-1 there) (sym c.if-branch.false ∙ lacks) in
     let known = subst (λ (m : Memory). true ≡ is_some (known_in m.judged c.in-Some.slot)) (sym c.self.view_is) (k.known c.if-branch.false refl) in
     let i = c.self.inside in
-    let now : Memory = record { frames = i.frames; held = i.opened; sessions = i.sessions; judged = i.judged } in
+    let now : Memory = record { frames = i.frames; active = i.opened; sessions = i.sessions; judged = i.judged } in
     let then = subst (λ (m : Memory). IsReady size w m (g.H.Host.state c.find.new.h)) (sym c.self.view_is) (k.ready t size w before) in
     let stays = k.only_reads.stays t ∙ same in
     let start = ready_read size w now _ _ (sym same) then in
@@ -123,7 +123,7 @@ returns-clause-applies g c = λ t size e w ready.
     let free = refused_by_graph w c.args.name c.args.n _ false (named size w _ _ ready 0 c.args.name c.in-Some.slot c.in-Some.field-0-1 there) (sym c.if-branch.false ∙ lacks) in
     let known = subst (λ (m : Memory). true ≡ is_some (known_in m.judged c.in-Some.slot)) (sym c.self.view_is) (k.known c.if-branch.false refl) in
     let i = c.self.inside in
-    let now : Memory = record { frames = i.frames; held = i.opened; sessions = i.sessions; judged = i.judged } in
+    let now : Memory = record { frames = i.frames; active = i.opened; sessions = i.sessions; judged = i.judged } in
     let then = subst (λ (m : Memory). IsReady size w m (g.H.Host.state c.find.new.h)) (sym c.self.view_is) (k.ready t size w before) in
     let stays = k.only_reads.stays t ∙ same in
     let start = ready_read size w now _ _ (sym same) then in
@@ -158,7 +158,7 @@ returns-clause-moves g c = λ t size e w ready free.
     let k = c.in_ok-lacks_graph.ensures in
     let known = subst (λ (m : Memory). true ≡ is_some (known_in m.judged c.in-Some.slot)) (sym c.self.view_is) (k.known c.if-branch.false refl) in
     let i = c.self.inside in
-    let now : Memory = record { frames = i.frames; held = i.opened; sessions = i.sessions; judged = i.judged } in
+    let now : Memory = record { frames = i.frames; active = i.opened; sessions = i.sessions; judged = i.judged } in
     let then = subst (λ (m : Memory). IsReady size w m (g.H.Host.state c.find.new.h)) (sym c.self.view_is) (k.ready t size w (ready_read size w _ _ _ same ready)) in
     let stays = k.only_reads.stays t ∙ same in
     let pool = is_there (pool_in i.judged c.in-Some.slot) known in

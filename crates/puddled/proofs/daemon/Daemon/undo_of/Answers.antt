@@ -28,7 +28,7 @@ loop-number-preserved g c =
       counts = ◌∙◌ {b = g.H.Host.counts l.h} u.cause before.counts;
       frames = u.frames ∙ before.frames;
       rest = λ t. KeepsRest-then _ _ _ (before.rest t) (u.rest t);
-      none = AreUndone-more c.args.client l.number l.self.held c.undo.new.self.held u.held before.none;
+      none = AreUndone-more c.args.client l.number l.self.active c.undo.new.self.active u.active before.none;
       undone = λ t size e w ready.
           let from = c.from-first.ensures in
           let low = l.auto.number in

@@ -1,0 +1,271 @@
+-- What is held is committed or undone: what the calls that do so ask of the device, and the world that they give.
+use Rattle.std.proofs.Common.{◌≡◌, ◌≢◌, inl, inr, ℕ, ◌+◌, ◌<◌, ◌≤◌, true, false, ◌||◌, cond, leb, eqb, List, [], Option, Some, None, option_map, refl, sym, ap, ap₂, subst, ◌∙◌, arith}
+use Rattle.std.specs.Prelude.{unwrap_or}
+use Rattle.std.specs.FinMap.Entries.{find, put}
+use Rattle.std.proofs.lemmas.Bool.{cond-true, cond-false, le-leb, cases_Bool}
+use Rattle.std.proofs.lemmas.List.{set-get_or}
+use Rattle.pm_model.specs.declared.host.HostFault.{HostFault}
+use Rattle.pm_model.specs.Words.{reads, Picks}
+use Rattle.pm_model.specs.Moments.{State}
+use Rattle.pm_model.specs.Changes.{Write, Changes}
+use Rattle.pm_model.proofs.Changes.{Changes-wider}
+use Rattle.pm_model.specs.Masks.{masked_image}
+use Rattle.pm_model.proofs.Words.{Picks-reads}
+use Rattle.pm_model.proofs.Masks.{masked_image-there, masked_image-elsewhere, Picks-masked}
+use Rattle.pud_defs.specs.declared.layout.TheConstants.{DAEMON_LOG, TYPE_TABLE, LOG_WORDS}
+use Rattle.pud_defs.specs.declared.machine.Command.TheVariants.{Commit, Abort}
+use Rattle.pud_defs.specs.declared.records.Puddle.{Puddle}
+use Rattle.pud_defs.specs.Allowed.{puddle_word}
+use Rattle.pud_defs.specs.Graph.{Graph, graph_of}
+use Rattle.pud_defs.specs.Laters.{Later, with_laters}
+use Rattle.pud_defs.specs.Image.{Image}
+use Rattle.pud_defs.specs.Layout.{tables_end, frames_at, device_words}
+use Rattle.pud_defs.specs.Entries.{is_idle_gate}
+use Rattle.pud_defs.specs.Names.{name_cmp}
+use Rattle.pud_defs.specs.PoolChanges.{pool_named, changed_pool}
+use Rattle.pud_defs.specs.Step.{after}
+use Rattle.pud_defs.specs.Stored.{stored_in}
+use Rattle.pud_defs.specs.Tables.{Tables, Pool, tables_of, puddles_in_turn}
+use Rattle.pud_defs.specs.Transactions.{with_open, lowered, holding_graph, committed_pools}
+use Rattle.pud_defs.specs.World.{Transaction, World, idle_world_of}
+use Rattle.pud_defs.specs.declared.log_words.TheConstants.{CLOSED_GATE}
+use Rattle.pud_defs.specs.Replay.{is_in_log}
+use Rattle.pud_defs.specs.Settled.{log_number_at}
+use Rattle.pud_defs.proofs.TablesOf.{tables_of-same}
+use Rattle.log_store.specs.Store.{OpenLog}
+use Rattle.nesting.specs.Sessions.{session_depth, depth_in}
+use Rattle.word_transaction.specs.Running.{ByTransaction, HasPlaces, HasOneTable, CanRedo}
+use Rattle.hybrid_tx.specs.Grounds.{pool_mine, pool_ground, IsPlaced, finished_of}
+use Rattle.hybrid_tx.specs.Open.Masks.{OpenPool, is_open_record, open_mask}
+use Rattle.hybrid_tx.specs.Open.ManyOpen.{open_masks}
+use Rattle.hybrid_tx.specs.Objects.Transactions.{IsOpenOn, ClosesOn, EndsOn}
+use Rattle.hybrid_tx.proofs.Open.ManyIdle.{masks_changed, places_beside}
+use Rattle.hybrid_tx.proofs.Objects.Opening.{stored_in-mine}
+use Rattle.hybrid_tx.proofs.Open.OpenMasks.{mask_of_mine}
+use Rattle.hybrid_tx.proofs.PoolGrounds.{pool_mine-each}
+use Rattle.hybrid_tx.proofs.FinishedPuddles.{none_of_finished}
+use Rattle.ready_daemon.proofs.RestBeside.{rest_unmasked}
+use Rattle.ready_daemon.specs.Memory.{ActiveTransaction, Memory, active_under, with_active}
+use Rattle.ready_daemon.specs.Leaving.{BehindTables, world_without_log}
+use Rattle.ready_daemon.specs.ActiveTransactions.{open_pool_of, IsActive, IsOwnTransaction}
+use Rattle.ready_daemon.specs.Ready.{IsReady, Applies}
+use Rattle.ready_daemon.proofs.Applying.{Applies-idle}
+use Rattle.ready_daemon.proofs.Beneath.{table_reads}
+use Rattle.ready_daemon.proofs.Beside.{daemon_log_unmasked}
+use Rattle.ready_daemon.proofs.Committing.{idle_world_with_graph}
+use Rattle.pool_transaction.specs.Lifetime.{with_ended}
+use Rattle.pool_transaction.proofs.Ending.{EndsBy-closes, EndsBy-ends, mixed, is_active, own, rest, more, rest_masks, later, all_later, later_more, later_masks, records_there, idle_there, world_there, world_before, Applies-ended}
+use Rattle.pool_transaction.proofs.ActiveRuns.{active_placed}
+use Rattle.ready_daemon.proofs.InTurn.{active_in_turn}
+use Rattle.ready_daemon.proofs.PoolsApart.{found_beside_put}
+use Rattle.ready_daemon.proofs.PoolsBeside.{used_still}
+use Rattle.ready_daemon.proofs.TablesBeside.{header_read}
+
+-- ---- pools of other names
+
+changed_beside_by : (name other : List ℕ) (change : Pool → Pool) (pools : List (List ℕ × Pool)) (o : Option Pool) → other ≢ name → find name_cmp name pools ≡ o
+    → find name_cmp other (changed_pool name change pools) ≡ find name_cmp other pools
+changed_beside_by name other change pools None apart e = ap (λ (o : Option Pool). find name_cmp other (unwrap_or (option_map (λ p. put name_cmp name (change p) pools) o) pools)) e
+changed_beside_by name other change pools (Some p) apart e =
+    ap (λ (o : Option Pool). find name_cmp other (unwrap_or (option_map (λ p. put name_cmp name (change p) pools) o) pools)) e ∙ found_beside_put name other (change p) pools apart
+
+-- a pool of another name is as it was
+pub changed_beside : (name other : List ℕ) (change : Pool → Pool) (pools : List (List ℕ × Pool)) → other ≢ name → find name_cmp other (changed_pool name change pools) ≡ find name_cmp other pools
+changed_beside name other change pools apart = changed_beside_by name other change pools (find name_cmp name pools) apart refl
+
+-- ---- masks
+
+-- by values that agree on a word
+mask_agrees : (F : ℕ) (p : OpenPool) (after before : Image) (k : ℕ) → after k ≡ before k → open_mask F p after k ≡ open_mask F p before k
+unfolding open_mask
+mask_agrees F p after before k same q = cond (is_in_log (log_number_at F p.log_number) k) (Some (cond (eqb k (log_number_at F p.log_number)) CLOSED_GATE 0)) (cond (pool_mine F (finished_of p.puddles) k || is_open_record p k) (Some (same q)) None)
+
+-- ---- what the calls promise
+
+-- on so many frames of a device of so many words, with this log
+abbrev pub Undoes : (F sz : ℕ) → OpenLog → Option HostFault → State → State → Type 0
+Undoes F sz log fault old new =
+    (pool : List (ℕ × Puddle)) (types : List (ℕ × ℕ)) (before : Image) (undone : Graph) (seen : Graph) (laters : List Later) → IsPlaced F pool → device_words F ≤ sz → log.gate_at + LOG_WORDS ≤ frames_at F
+    → IsOpenOn F pool types log before undone seen laters old.now.words → HasPlaces (pool_ground F (finished_of pool)) (puddle_word (tables_of F (reads old.now.words))) → HasOneTable F old.now.words
+    → ClosesOn F pool types log.gate_at before undone fault old new
+
+abbrev pub Commits : (F sz : ℕ) → OpenLog → Option HostFault → State → State → Type 0
+Commits F sz log fault old new =
+    (pool : List (ℕ × Puddle)) (types : List (ℕ × ℕ)) (before : Image) (undone : Graph) (seen : Graph) (laters : List Later) → IsPlaced F pool → device_words F ≤ sz → log.gate_at + LOG_WORDS ≤ frames_at F
+    → IsOpenOn F pool types log before undone seen laters old.now.words → (laters ≢ [] → CanRedo (pool_ground F (finished_of pool)) F log.gate_at old.now.words)
+    → EndsOn F pool types log.gate_at before undone (with_laters laters seen) fault old new
+
+-- a transaction writes no word in front of the clients' logs
+behind_tables : (F number : ℕ) (at : List (ℕ × Puddle)) (k v : ℕ) → ByTransaction (pool_ground F at) (log_number_at F number) k v → BehindTables F k v
+behind_tables F number at k v (inl inside) = let low = inside.low in omega arith
+behind_tables F number at k v (inr mine) = let m = pool_mine-each F at k mine in let low = m.low in omega arith
+
+-- ---- what is known when it ends
+
+module _ (size : ℕ) (w : World) (memory : Memory) (number : ℕ) (active : ActiveTransaction) (old : State) (ready : IsReady size w memory old) (there : active_under memory.active number ≡ Some active) where
+  abbrev is : IsActive w active ready.mask old.now.words
+  is = is_active size w memory number active old ready there
+
+  abbrev n : ℕ
+  n = w.stored.frames
+
+  abbrev p : OpenPool
+  p = open_pool_of active is.puddles is.rec is.who
+
+  abbrev now : Image
+  now = reads old.now.words
+
+  placed : IsPlaced n is.puddles
+  placed = active_placed size w memory active old number there ready
+
+  active_places : HasPlaces (pool_ground n (finished_of is.puddles)) (puddle_word (tables_of n now))
+  active_places =
+      let picked = Picks-reads old.now.words in
+      places_beside size n w.stored ready.active.opens now refl ready.active.are (idle_there size w memory number active old ready there now picked) (records_there size w memory number active old ready there now picked)
+      (world_there size w memory number active old ready there now picked) number (own size w memory number active old ready there) (more size w memory number active old ready there).here
+
+  active_table : HasOneTable n old.now.words
+  active_table = record { each = λ k within. let low = within.low in let high = within.high in ready.tables.each k (inr (omega arith)) high }
+
+  can_redo : CanRedo (pool_ground n (finished_of is.puddles)) n active.tx.log.gate_at old.now.words
+  can_redo = record { before = let gate = is.gate in omega arith; table = active_table; places = active_places }
+
+  log_apart : active.tx.log.gate_at + LOG_WORDS ≤ frames_at n
+  log_apart = let gate = is.gate in let few = is.pool.known in omega arith
+
+  room : device_words n ≤ size
+  room = (header_read size w memory old ready).room
+
+  -- its session says how often it was begun
+  depth_is : depth_in memory.sessions active.slot ≡ is.transaction.depth
+  depth_is = ap session_depth (ready.sessions.each number active is.transaction there is.is)
+
+  -- ---- undone
+
+  module _ (F sz : ℕ) (fault : Option HostFault) (new : State) (on : F ≡ n) (same : size ≡ sz) (undoes : Undoes F sz active.tx.log fault old new) where
+    closes : ClosesOn n is.puddles w.stored.types active.tx.log.gate_at is.before is.undone fault old new
+    closes =
+        subst (λ (m : ℕ). Undoes m sz active.tx.log fault old new) on undoes is.puddles w.stored.types is.before is.undone is.transaction.now is.transaction.laters placed (omega (arith, same, room)) log_apart is.running active_places active_table
+
+    pub undone_behind : Changes (BehindTables n) fault old new
+    undone_behind =
+        Changes-wider (ByTransaction (pool_ground n (finished_of is.puddles)) active.tx.log.gate_at) (BehindTables n) fault old new
+        (λ k v may. behind_tables n active.log_number (finished_of is.puddles) k v (subst (λ (at : ℕ). ByTransaction (pool_ground n (finished_of is.puddles)) at k v) is.gate may)) closes.closes.changes
+
+    pub Applies-aborted : Applies size w (world_without_log (Some active) w) (with_ended number active memory) fault old new
+    Applies-aborted =
+        Applies-ended size w memory number active old ready there is.before (λ k other. refl) w.stored.pools (world_before size w memory number active old ready there) (λ name apart. refl) is.undone is.running.was fault new
+        (EndsBy-closes (pool_ground n (finished_of is.puddles)) active.tx.log.gate_at is.before fault old new closes.closes)
+
+  -- ---- committed
+
+  -- an image has, masked, the tables that are read
+  masked_table : (i : Image) → Picks old.now.words i → (k : ℕ) → TYPE_TABLE ≤ k → k < tables_end n → masked_image ready.mask i k ≡ now k
+  masked_table i picked k low below =
+      ap (unwrap_or (ready.mask k)) ((ready.tables.each k (inr low) below).each (i k) (picked.each k)) ∙ table_reads w memory.active ready.mask old.now.words ready.active k below
+
+  masked_tables : (i : Image) → Picks old.now.words i → tables_of n (masked_image ready.mask i) ≡ tables_of n now
+  masked_tables i picked = tables_of-same n (masked_image ready.mask i) now (λ k low high. masked_table i picked k (omega arith) (omega arith)) (λ k low high. masked_table i picked k (omega arith) high)
+
+  -- the graph that it makes, with what it asked for
+  abbrev made : Graph
+  made = with_laters is.transaction.laters is.transaction.now
+
+  module _ (x : Image) (graph : graph_of w.stored.types (stored_in n is.puddles x) ≡ Some made)
+      (beside : (k : ℕ) → pool_mine n is.puddles k ≡ true → pool_mine n (finished_of is.puddles) k ≡ false → x k ≡ is.before k) where
+    abbrev values : Image
+    values = mixed (pool_ground n (finished_of is.puddles)) x is.before
+
+    abbrev pools_after : List (List ℕ × Pool)
+    pools_after = changed_pool is.rec.name (holding_graph made) w.stored.pools
+
+    values_beside : (k : ℕ) → pool_mine n (finished_of is.puddles) k ≡ false → values k ≡ is.before k
+    values_beside k other = cond-false _ _ _ other
+
+    values_read : (k : ℕ) → pool_mine n is.puddles k ≡ true → values k ≡ x k
+    values_read k mine = elim (cases_Bool (pool_mine n (finished_of is.puddles) k)) [
+      | inl own ↦ cond-true _ _ _ own
+      | inr other ↦ cond-false _ _ _ other ∙ sym (beside k mine other)
+    ]
+
+    graph_after : graph_of w.stored.types (stored_in n is.puddles values) ≡ Some made
+    graph_after = ap (graph_of w.stored.types) (stored_in-mine n is.puddles x values values_read) ∙ graph
+
+    -- all are masked, with these values of its frames
+    abbrev anew : Write
+    anew = open_masks n (all_later size w memory number active old ready there values values_beside)
+
+    -- beside its frames they are masked as they were
+    anew_beside : (i : Image) → Picks old.now.words i → (k : ℕ) → pool_mine n (finished_of is.puddles) k ≡ false → anew k ≡ ready.mask k
+    anew_beside i picked k other =
+        masks_changed number (own size w memory number active old ready there) (later size w memory number active old ready there values values_beside) _ ready.active.opens
+        (all_later size w memory number active old ready there values values_beside) (more size w memory number active old ready there) (later_more size w memory number active old ready there values values_beside) n ready.mask anew
+        (rest size w memory number active old ready there) ready.active.masks (later_masks size w memory number active old ready there values values_beside i picked) (rest_masks size w memory number active old ready there) k
+        (mask_agrees n p values is.before k (values_beside k other))
+
+    values_graph : (i : Image) → Picks old.now.words i → graph_of w.stored.types (stored_in n is.puddles (masked_image anew i)) ≡ Some made
+    values_graph i picked =
+        let masks = later_masks size w memory number active old ready there values values_beside i picked in
+        let its = later_more size w memory number active old ready there values values_beside in
+        ap (graph_of w.stored.types) (stored_in-mine n is.puddles x (masked_image anew i) (λ k mine. elim (cases_Bool (pool_mine n (finished_of is.puddles) k)) [
+          | inl own ↦
+              masked_image-there anew i k (values k) (masks.has number (later size w memory number active old ready there values values_beside) its.here k (values k) (mask_of_mine n p values k is.pool.known own))
+              ∙ cond-true _ _ _ own
+          | inr other ↦
+              masked_image-elsewhere anew i k (anew_beside i picked k other ∙ rest_unmasked size w memory old ready number active there k mine other)
+              ∙ (is.running.rests.each k mine other).each (i k) (picked.each k)
+              ∙ sym (beside k mine other)
+        ])) ∙ graph
+
+    stands_after : (i : Image) → Picks old.now.words i → idle_world_of size (masked_image anew i) ≡ Some (record w.stored { pools = pools_after })
+    stands_after i picked =
+        let tables = masked_tables i picked in
+        idle_world_with_graph size w.stored (masked_image ready.mask i) (masked_image anew i) active.slot is.rec is.puddles made
+        (ap is_idle_gate (masked_image-elsewhere ready.mask i DAEMON_LOG (daemon_log_unmasked w memory.active ready.mask old.now.words ready.active)) ∙ idle_there size w memory number active old ready there i picked)
+        (ready.settled.stands (masked_image ready.mask i) (Picks-masked ready.mask old.now.words i picked)) is.pool.slot
+        (ap (λ (t : Tables). t.pools active.slot) tables ∙ used_still w active ready.mask old.now.words is)
+        (ap (λ (t : Tables). puddles_in_turn t active.slot) tables ∙ active_in_turn size w memory old ready number active there)
+        (λ k other. ap (λ (o : Option ℕ). unwrap_or o (i k)) (anew_beside i picked k (none_of_finished n is.puddles k other))) (values_graph i picked)
+
+    pools_beside : (name : List ℕ) → name ≢ active.name → pool_named name (record w.stored { pools = pools_after }) ≡ pool_named name w.stored
+    pools_beside name apart = changed_beside is.rec.name name (holding_graph made) w.stored.pools (λ same. apart (same ∙ is.name))
+
+  module _ (client : ℕ) (last : depth_in memory.sessions active.slot ≤ 1) where
+    -- the world that the last commit gives
+    committed_world : after w (Commit client active.name)
+        ≡ record w { stored = record w.stored { pools = changed_pool is.rec.name (holding_graph made) w.stored.pools }; transactions = with_open active.name None w.transactions }
+    unfolding after
+    committed_world =
+        let one : leb is.transaction.depth 1 ≡ true = le-leb is.transaction.depth 1 (omega (arith, depth_is, last)) in
+        ap₂ (λ (ps : List (List ℕ × Pool)) (t : Option Transaction). record w { stored = record w.stored { pools = ps }; transactions = with_open active.name t w.transactions })
+        (ap (λ (o : Option Transaction). committed_pools active.name o w.stored.pools) is.is ∙ cond-true _ _ _ one ∙ ap (λ (name : List ℕ). changed_pool name (holding_graph made) w.stored.pools) (sym is.name))
+        (ap lowered is.is ∙ cond-true _ _ _ one)
+
+    pub Applies-committed : (F sz : ℕ) (fault : Option HostFault) (new : State) → F ≡ n → size ≡ sz → Commits F sz active.tx.log fault old new
+        → Applies size w (after w (Commit client active.name)) (with_ended number active memory) fault old new
+    Applies-committed F sz fault new on same commits =
+        let e = subst (λ (m : ℕ). Commits m sz active.tx.log fault old new) on commits is.puddles w.stored.types is.before is.undone is.transaction.now is.transaction.laters placed (omega (arith, same, room)) log_apart is.running
+        (λ some. can_redo) in
+        subst (λ (v : World). Applies size w v (with_ended number active memory) fault old new) (sym committed_world)
+        (Applies-ended size w memory number active old ready there (values e.after e.is e.beside) (values_beside e.after e.is e.beside) (pools_after e.after e.is e.beside) (stands_after e.after e.is e.beside) (pools_beside e.after e.is e.beside) made
+        (graph_after e.after e.is e.beside) fault new (EndsBy-ends (pool_ground n (finished_of is.puddles)) active.tx.log.gate_at is.before e.after fault old new e.ends))
+
+-- the client's own is undone
+aborted_world : (w : World) (client : ℕ) (name : List ℕ) (number : ℕ) (active : List (Option ActiveTransaction)) → IsOwnTransaction client name number active → world_without_log (active_under active number) w ≡ after w (Abort client name)
+unfolding after
+aborted_world w client name number active own =
+    ap (λ (o : Option ActiveTransaction). world_without_log o w) own.is ∙ ap (λ (n : List ℕ). record w { transactions = with_open n None w.transactions }) own.pool
+
+pub Applies-own : (size : ℕ) (w : World) (client : ℕ) (name : List ℕ) (number : ℕ) (memory first behind : Memory) (fault : Option HostFault) (old new : State) → IsOwnTransaction client name number memory.active → first.active ≡ memory.active
+    → Applies size w (world_without_log (active_under first.active number) w) behind fault old new → Applies size w (after w (Abort client name)) behind fault old new
+Applies-own size w client name number memory first behind fault old new own same applies =
+    subst (λ (v : World). Applies size w v behind fault old new) (ap (λ (l : List (Option ActiveTransaction)). world_without_log (active_under l number) w) same ∙ aborted_world w client name number memory.active own) applies
+
+-- where nothing is held under the number, nothing is undone
+pub Applies-unheld : (size : ℕ) (w : World) (memory : Memory) (number : ℕ) (s : State) → IsReady size w memory s → active_under memory.active number ≡ None
+    → Applies size w (world_without_log (active_under memory.active number) w) (with_active number None memory) None s s
+Applies-unheld size w memory number s ready none =
+    let same : with_active number None memory ≡ memory =
+    ap (λ (o : Option ActiveTransaction). with_active number o memory) (sym none) ∙ ap (λ (active : List (Option ActiveTransaction)). record memory { active = active }) (set-get_or memory.active number None) in
+    subst (λ (o : Option ActiveTransaction). Applies size w (world_without_log o w) (with_active number None memory) None s s) (sym none)
+    (subst (λ (m : Memory). Applies size w w m None s s) (sym same) (Applies-idle size w memory s s ready refl))

@@ -1,0 +1,171 @@
+-- Puddles of the pool of a transaction that is held are rewritten to their ends, before it writes there.
+use Rattle.std.proofs.Common.{◌≡◌, ℕ, ◌+◌, ◌%◌, ◌^◌, ◌≤◌, true, ◌&&◌, leb, ltb, eqb, List, set, Option, Some, None, refl, sym, ap, ◌∙◌, subst, arith}
+use Rattle.std.proofs.lemmas.Bool.{and_parts, leb-true, ltb-true}
+use Rattle.std.proofs.lemmas.List.{length-map}
+use Rattle.std.proofs.lemmas.Option.{none-some}
+use Rattle.std.proofs.lemmas.List.Elements.{All-weaker}
+use Rattle.pm_model.specs.declared.host.HostFault.{HostFault}
+use Rattle.pm_model.specs.Words.{reads}
+use Rattle.pm_model.specs.Moments.{State}
+use Rattle.pud_defs.specs.declared.layout.TheConstants.{DAEMON_LOG}
+use Rattle.pud_defs.specs.declared.space.TheConstants.{SPACE_START, SPACE_BYTES, RANGE_BYTES}
+use Rattle.pud_defs.specs.declared.records.Puddle.{Puddle}
+use Rattle.pud_defs.specs.declared.records.Slot.{Slot}
+use Rattle.pud_defs.specs.Bases.{is_legal_base}
+use Rattle.pud_defs.specs.Geometry.{steps_of, is_legal_frontier}
+use Rattle.pud_defs.specs.Image.{Image}
+use Rattle.pud_defs.specs.Puddles.{Member, is_legal_puddle}
+use Rattle.pud_defs.specs.SoundTables.{is_sound_puddle, is_legal_member, HasSoundTables}
+use Rattle.pud_defs.specs.Stored.{stored_in, IsFreePlace}
+use Rattle.pud_defs.specs.Tables.{Tables, tables_of}
+use Rattle.pud_defs.specs.World.{StoredWorld, World, closed}
+use Rattle.pud_defs.proofs.PoolMembers.{HasMembers, members_in_turn}
+use Rattle.pud_defs.proofs.SoundChanged.{legal_puddle}
+use Rattle.graph_laws.specs.Slots.{IsLowestFreeSlot}
+use Rattle.puddle_header.specs.Places.{place_of_slot}
+use Rattle.batch.specs.Batches.{HasIdleGate}
+use Rattle.lazy_rewrite.specs.Entries.{HasLowBases}
+use Rattle.lazy_rewrite.specs.Frontiers.{frontiers_of}
+use Rattle.lazy_rewrite.specs.Batches.{Rewrites}
+use Rattle.lazy_rewrite.proofs.Gathered.{frame_below}
+use Rattle.lazy_rewrite.proofs.Spared.{AreFrames, SparesObjects, Rewrites-spare}
+use Rattle.hybrid_tx.specs.Grounds.{IsPlaced, IsRewrittenAt}
+use Rattle.ready_daemon.specs.Memory.{ActiveTransaction, Memory, active_under}
+use Rattle.ready_daemon.specs.ActiveTransactions.{IsActive}
+use Rattle.known_pool.specs.Known.{by_puddles}
+use Rattle.ready_daemon.specs.Judged.{puddles_known, known_in, KnowsAlone}
+use Rattle.ready_daemon.specs.Moves.{Stays, MovesTo, led_in}
+use Rattle.ready_daemon.specs.Ready.{IsReady, AppliesBy, Applies}
+use Rattle.ready_daemon.proofs.Applying.{Applies-closed, AppliesBy-then}
+use Rattle.ready_daemon.proofs.Beneath.{ready_gate}
+use Rattle.ready_daemon.proofs.Goals.{Joins-led_stays}
+use Rattle.ready_daemon.proofs.InTurn.{active_known, known_in_turn}
+use Rattle.ready_daemon.proofs.JudgedOpen.{known_within}
+use Rattle.ready_daemon.proofs.Known.{pool_kept}
+use Rattle.ready_daemon.proofs.TablesBeside.{sound_read}
+use Rattle.pool_transaction.specs.Changing.{both_finished}
+use Rattle.pool_transaction.specs.Finishing.{AppliesTo}
+use Rattle.pool_transaction.proofs.Arriving.{AreEnds, AppliesBy-used, narrowed, AppliesTo-known}
+use Rattle.pool_transaction.proofs.FinishedPools.{HasLegalFrontiers, HasNoneLeft, first_finished, other_finished, both_finished-none, Rewrites-none_left}
+use Rattle.pool_transaction.proofs.ActiveRuns.{is_active, active_placed}
+use Rattle.pool_transaction.proofs.Rewriting.{Applies-rewrites}
+use Rattle.pool_transaction.proofs.StepsMoved.{upto}
+
+-- ---- what sound tables say of puddles
+
+legal_by_member : (next : ℕ) (t : Tables) (m : Member) → is_legal_member next t m ≡ true → m.puddle.frontier ≤ steps_of m.puddle
+legal_by_member next t m legal =
+    let puddle = (and_parts _ (is_legal_puddle next m.puddle) legal).1 in
+    leb-true m.puddle.frontier (steps_of m.puddle) (and_parts _ (is_legal_frontier m.puddle) puddle).1
+
+-- no frontier is behind the end of its puddle
+legal_of_members : (next : ℕ) (t : Tables) (slot : ℕ) (at : List (ℕ × Puddle)) → HasSoundTables next t → HasMembers t slot at → HasLegalFrontiers at
+legal_of_members next t slot at sound has = record {
+  each = λ o e there.
+      let is = has.each o e there in
+      subst (λ (d : Puddle). d.frontier ≤ steps_of d) is.puddle (legal_by_member next t is.member (sym (ap (is_sound_puddle next t) is.used) ∙ legal_puddle next t sound e.0 is.below));
+}
+
+low_base : (v : ℕ) → is_legal_base v ≡ true → v + RANGE_BYTES ≤ 2 ^ 64
+low_base v legal =
+    let parts = and_parts (leb SPACE_START v && ltb v (SPACE_START + SPACE_BYTES)) (eqb (v % RANGE_BYTES) 0) legal in
+    let below = ltb-true v (SPACE_START + SPACE_BYTES) (and_parts (leb SPACE_START v) (ltb v (SPACE_START + SPACE_BYTES)) parts.0).1 in
+    omega arith
+
+-- legal bases are low
+pub low_of_placed : (F : ℕ) (at : List (ℕ × Puddle)) → IsPlaced F at → HasLowBases at
+low_of_placed F at placed = record { low = All-weaker (λ (e : ℕ × Puddle). is_legal_base e.1.base ≡ true) (λ (e : ℕ × Puddle). e.1.base + RANGE_BYTES ≤ 2 ^ 64) (λ e. low_base e.1.base) at placed.legal }
+
+-- ---- a daemon that is ready, and holds it
+
+-- an object may be made in the slot: its puddle and the first one are finished, and it is free
+pub record MayMakeAt (F : ℕ) (at : List (ℕ × Puddle)) (image : Image) (slot : Slot) : Type 0 where
+  pub first : IsRewrittenAt at 0
+  pub its : IsRewrittenAt at slot.ordinal
+  pub free : IsFreePlace (stored_in F at image) (place_of_slot slot)
+
+module _ (size : ℕ) (w : World) (memory : Memory) (active : ActiveTransaction) (old : State) (number : ℕ) (there : active_under memory.active number ≡ Some active) (ready : IsReady size w memory old)
+    (F : ℕ) (same : F ≡ w.stored.frames) (at : List (ℕ × Puddle)) (known : KnowsAlone memory.judged active.slot at) where
+  abbrev is : IsActive w active ready.mask old.now.words
+  is = is_active size w memory active old number there ready
+
+  pub its_puddles : at ≡ is.puddles
+  its_puddles = sym (active_known size w memory old ready number active there at (ap puddles_known known))
+
+  pub its_placed : IsPlaced F at
+  its_placed = subst (IsPlaced F) (sym its_puddles) (subst (λ (n : ℕ). IsPlaced n is.puddles) (sym same) (active_placed size w memory active old number there ready))
+
+  its_frames : AreFrames F at
+  its_frames = record { distinct = its_placed.frames; below = λ o e here. frame_below F at o e its_placed.on_device here }
+
+  pub its_frontiers : HasLegalFrontiers at
+  its_frontiers =
+      let t = tables_of w.stored.frames (reads old.now.words) in
+      legal_of_members w.stored.next_number t active.slot at (sound_read size w memory old ready)
+      (subst (λ (puddles : List (ℕ × Puddle)). HasMembers t active.slot puddles) (known_in_turn size w memory old ready active.slot at (ap puddles_known known)) (members_in_turn t active.slot))
+
+  -- where the first one and another are finished, none is left for both
+  pub none_left : (o : ℕ) (later : List (ℕ × Puddle)) (fault : Option HostFault) (mid : State)
+      → (HasIdleGate DAEMON_LOG old.now.words → HasLowBases at → Rewrites F (frontiers_of (both_finished o at)) at later fault old mid) → IsRewrittenAt at 0 → IsRewrittenAt at o → HasNoneLeft at later fault old mid
+  none_left o later fault mid owes first other =
+      Rewrites-none_left F at later fault old mid
+      (subst (λ (ds : List (ℕ × Puddle)). Rewrites F (frontiers_of ds) at later fault old mid) (both_finished-none o at first other) (owes (ready_gate size w memory old ready) (low_of_placed F at its_placed)))
+
+  module _ (goal : ℕ → ℕ) (later : List (ℕ × Puddle)) where
+    -- what the batches owe
+    abbrev pub OwesRewrites : Option HostFault → State → Type 0
+    OwesRewrites fault mid = HasIdleGate DAEMON_LOG old.now.words → HasLowBases at → Rewrites F goal at later fault old mid
+
+    -- the memory behind them
+    abbrev pub memory_finished : Memory
+    memory_finished = record memory { judged = set memory.judged active.slot (Some (by_puddles later)) }
+
+    module _ (fault : Option HostFault) (mid : State) (owes : OwesRewrites fault mid) where
+      does : Rewrites F goal at later fault old mid
+      does = owes (ready_gate size w memory old ready) (low_of_placed F at its_placed)
+
+      -- frontiers of its pool alone move, towards these
+      Applies-finished : AppliesBy (MovesTo (led_in active.slot (upto goal))) size w w memory_finished fault old mid
+      Applies-finished = Applies-rewrites size w memory active.slot (by_puddles at) later goal fault old mid ready is.pool.slot known (subst (λ (n : ℕ). Rewrites n goal at later fault old mid) same does)
+
+    -- to ends that are goals
+    module _ (final : List (ℕ × Puddle)) (target : ℕ → ℕ) (ends : AreEnds at final (upto goal) target) where
+      Applies-led : (fault : Option HostFault) (mid : State) → OwesRewrites fault mid → AppliesBy (MovesTo (led_in active.slot target)) size w w memory_finished fault old mid
+      Applies-led fault mid owes =
+          AppliesBy-used (MovesTo (led_in active.slot (upto goal))) (MovesTo (led_in active.slot target)) size w w memory_finished fault old mid
+          (narrowed size w memory old ready active.slot is.pool.slot at (ap puddles_known known) target final ends.reached (upto goal) ends.near) (Applies-finished fault mid owes)
+
+      -- one of them failed, of a line that leaves the stored world
+      pub Applies-unfinished : (fault : HostFault) (mid : State) → OwesRewrites (Some fault) mid → (next : World) (behind : Memory) → closed w ≡ closed next
+          → AppliesTo (led_in active.slot target) size w next behind (Some fault) old mid
+      Applies-unfinished fault mid owes next behind stored = record {
+        applies = Applies-closed size w w next memory_finished behind fault old mid stored (Applies-led (Some fault) mid owes);
+        arrives = λ done. absurd (none-some fault (sym done));
+      }
+
+      -- or then the line goes on, with the puddles that are known
+      pub Applies-behind : (mid : State) → OwesRewrites None mid → (next : World) (behind : Memory) (fault : Option HostFault) (new : State) → closed w ≡ closed next → known_in behind.judged active.slot ≡ Some final
+          → Applies size w next behind fault mid new → AppliesTo (led_in active.slot target) size w next behind fault old new
+      Applies-behind mid owes next behind fault new stored after later_does =
+          AppliesTo-known size w memory old ready active.slot is.pool.slot at (ap puddles_known known) target final ends.reached next behind fault new (ap (λ (v : StoredWorld). v.frames) (sym stored)) (λ done. after)
+          (AppliesBy-then (MovesTo (led_in active.slot target)) Stays (MovesTo (led_in active.slot target)) (Joins-led_stays active.slot target) size w w next memory_finished behind fault old mid new stored refl
+          (Applies-led None mid owes) later_does)
+
+    module _ (mid : State) (owes : OwesRewrites None mid) where
+      pub ready_finished : IsReady size w memory_finished mid
+      ready_finished = (Applies-finished None mid owes).ready refl
+
+      -- its pool is known by the puddles as they are then
+      pub known_finished : KnowsAlone memory_finished.judged active.slot later
+      known_finished = pool_kept memory.judged active.slot (Some (by_puddles later)) (known_within memory.judged active.slot at (ap puddles_known known))
+
+      pub spared_finished : SparesObjects F at later (reads old.now.words) (reads mid.now.words)
+      spared_finished = Rewrites-spare F goal at later old mid (does None mid owes) its_frames
+
+      -- a free slot is free still
+      pub may_make_at : (slot : Slot) → later ≡ both_finished slot.ordinal at → IsLowestFreeSlot (stored_in F at (reads old.now.words)) (place_of_slot slot) → MayMakeAt F later (reads mid.now.words) slot
+      may_make_at slot is_both lowest = record {
+        first = subst (λ (ds : List (ℕ × Puddle)). IsRewrittenAt ds 0) (sym is_both) (first_finished slot.ordinal at its_frontiers);
+        its = subst (λ (ds : List (ℕ × Puddle)). IsRewrittenAt ds slot.ordinal) (sym is_both) (other_finished slot.ordinal at its_frontiers);
+        free = spared_finished.serials (place_of_slot slot) (omega (arith, lowest.within, length-map at (λ (e : ℕ × Puddle). e.1))) ∙ lowest.free;
+      }

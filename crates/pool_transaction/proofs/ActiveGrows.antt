@@ -1,0 +1,520 @@
+-- The pool on which a transaction is held grows by a puddle, and the transaction then has it too; the others stay.
+use Rattle.std.proofs.Common.{◌≡◌, ◌≢◌, inl, inr, ℕ, ◌+◌, ◌<◌, List, [], ◌∷◌, ◌++◌, length, Option, Some, None, refl, sym, ap, subst, ◌∙◌, arith}
+use Rattle.std.specs.Prelude.{set, slice_get}
+use Rattle.std.specs.FinMap.Entries.{find, find-put}
+use Rattle.std.specs.Cmp.{tied_itself}
+use Rattle.std.specs.Cmp.Lexicographic.{nat_list_cmp_total}
+use Rattle.std.specs.Ordering.{is_eq}
+use Rattle.std.proofs.lemmas.Bool.{cases_lt, cond-true}
+use Rattle.std.proofs.lemmas.List.{length_push, length-map}
+use Rattle.std.proofs.lemmas.Option.{none-some, same_Some, slice_get_within}
+use Rattle.pm_model.specs.declared.host.HostFault.{HostFault}
+use Rattle.pm_model.specs.declared.host.HostFault.TheVariants.{Cut}
+use Rattle.pm_model.specs.Words.{Words, reads}
+use Rattle.pm_model.specs.Moments.{State}
+use Rattle.pm_model.specs.Changes.{Write, Leaves, Silently}
+use Rattle.pm_model.specs.Masks.{masked, masked_state}
+use Rattle.pm_model.proofs.Changes.{Changes-said}
+use Rattle.pm_model.proofs.Masks.{reads-masked}
+use Rattle.pm_model.proofs.Words.{Picks-reads}
+use Rattle.pud_defs.specs.declared.layout.TheConstants.{DAEMON_LOG, NEXT_NUMBER_WORD}
+use Rattle.pud_defs.specs.declared.records.Puddle.{Puddle}
+use Rattle.pud_defs.specs.Frames.{IsFreshFrame}
+use Rattle.pud_defs.specs.Graph.{graph_of}
+use Rattle.pud_defs.specs.Image.{Image}
+use Rattle.pud_defs.specs.Names.{name_cmp}
+use Rattle.pud_defs.specs.PoolChanges.{pool_named, with_puddle_more, with_grown_pool}
+use Rattle.pud_defs.specs.SoundTables.{HasSoundTables}
+use Rattle.pud_defs.specs.Spaces.{owner_of}
+use Rattle.pud_defs.specs.Step.{graph_in}
+use Rattle.pud_defs.specs.Tables.{Tables, Pool, tables_of, puddles_in_turn}
+use Rattle.pud_defs.specs.Stored.{Stored, stored_in, word_in_frame}
+use Rattle.pud_defs.specs.Types.{map_of, types_of}
+use Rattle.pud_defs.specs.World.{StoredWorld, World}
+use Rattle.pud_defs.proofs.PoolMembers.{IsMemberOf, HasMembers, members_in_turn}
+use Rattle.pud_defs.proofs.PoolsChanged.{changed_here, changed_elsewhere}
+use Rattle.pud_defs.proofs.PoolsCounted.{length_puddles}
+use Rattle.pud_defs.proofs.TablesOf.{frames_of_tables}
+use Rattle.pud_defs.proofs.IdleWorlds.{standing_beside, standing_idle}
+use Rattle.pud_defs.proofs.Keyed.{first_free_some}
+use Rattle.pud_defs.proofs.Parts.{Holds-same}
+use Rattle.pud_defs.proofs.Parts.Part.{Types}
+use Rattle.graph_laws.proofs.Grown.{slice_get-front, slice_get-push}
+use Rattle.batch.specs.Batches.{HasIdleGate}
+use Rattle.registry.specs.declared.adding.Added.{Added}
+use Rattle.registry.specs.Puts.{puts_batch}
+use Rattle.registry.specs.Adding.{filling, IsFilled, PersistsThenCommits, IsOffAdding}
+use Rattle.registry.specs.Pools.{KeepsTables, ChangesPools, ChangesMasked}
+use Rattle.registry.specs.Growth.{puddle_count, IsGrowthFor, growing, added_puddle, GrowsAt}
+use Rattle.registry.proofs.Changed.{changed_there}
+use Rattle.registry.proofs.PuddlesCounted.{puddle_count_by_world}
+use Rattle.registry.proofs.Moved.{ReadsWorld, reads_world}
+use Rattle.hybrid_tx.specs.Open.ManyOpen.{OpenTransaction, Opens, with_transaction, IsOneMore}
+use Rattle.hybrid_tx.proofs.Open.ManyIdle.{one_ended, one_put}
+use Rattle.pud_defs.specs.declared.space.TheConstants.{SLOT_SERIAL_WORD}
+use Rattle.pud_defs.specs.Frames.{frame_at}
+use Rattle.pud_defs.specs.Geometry.{steps_of, ordinal_of, slot_of, puddle_slot_at}
+use Rattle.graph_laws.proofs.StoredImages.{stored_in-same}
+use Rattle.hybrid_tx.proofs.PoolGrounds.{pool_mine-from}
+use Rattle.pool_transaction.specs.Finishing.{IsLonger}
+use Rattle.ready_daemon.proofs.RestBeside.{rest_by_words, active_graph}
+use Rattle.ready_daemon.specs.Memory.{ActiveTransaction, Memory, active_under}
+use Rattle.ready_daemon.specs.ActiveTransactions.{open_transaction_of, IsActive, IsActiveUnder, AreActive, HasDurableFrames, ByOthers, LeavesMasked}
+use Rattle.ready_daemon.specs.KnownPools.{KnowsPools}
+use Rattle.known_pool.specs.Known.{by_puddles}
+use Rattle.known_pool.proofs.KnownKept.{IsKnown-puddles}
+use Rattle.ready_daemon.specs.Judged.{puddles_known, KnowsAlone}
+use Rattle.pool_transaction.specs.Changing.{with_opened, GrowsBy, with_more}
+use Rattle.ready_daemon.specs.Moves.{Stays, LeavesPuddles}
+use Rattle.ready_daemon.specs.Ready.{IsReady, StandsBetween, AppliesMasked, Applies}
+use Rattle.ready_daemon.proofs.Beside.{KeepsOne, holds_still, durable_frames_still, moments_beside}
+use Rattle.ready_daemon.proofs.Beneath.{ready_gate, keeps_tables}
+use Rattle.ready_daemon.proofs.PoolsBeside.{used_still}
+use Rattle.ready_daemon.proofs.RecordsApart.{LeavesPuddles-adds}
+use Rattle.ready_daemon.proofs.PoolsApart.{frame_below, found_beside_put, LeavesMasked-adds, AppliesMasked-pools}
+use Rattle.ready_daemon.proofs.TablesBeside.{HasDurableTables-masked, mask_beside, header_read, tables_read, under_durable}
+use Rattle.pool_transaction.proofs.ActiveRuns.{is_active}
+use Rattle.pool_transaction.proofs.ActivePools.{its_pool, its_graph, count_active, puddles_counted, some_active}
+use Rattle.ready_daemon.proofs.AllMembers.{all_members}
+use Rattle.ready_daemon.proofs.GraphLonger.{graph_longer}
+use Rattle.ready_daemon.proofs.InTurn.{active_known, active_in_turn}
+use Rattle.ready_daemon.proofs.JudgedOpen.{IsShut, KnowsPools-grown}
+use Rattle.ready_daemon.proofs.JudgedPools.{KeepsPools-grow, words_grow}
+use Rattle.ready_daemon.proofs.PoolsGrown.{off_growing, grown_read}
+use Rattle.ready_daemon.proofs.JudgedKept.{HasGraphIn, KeepsPools}
+use Rattle.pud_defs.specs.Puts.{member_by, with_puddle_at}
+use Rattle.pud_defs.specs.declared.records.TheConstants.{POOL_RECORDS}
+use Rattle.pool_transaction.proofs.Widened.{GrowsHeld, opened_more, wide, holds_more, sessions_more, settled_more, rest_more, logs_more}
+
+-- ---- the world
+
+pub grown_number : (name : List ℕ) (s : StoredWorld) → (with_grown_pool name s).next_number ≡ s.next_number + 1
+unfolding with_grown_pool
+grown_number name s = refl
+
+pub grown_frames : (name : List ℕ) (s : StoredWorld) → (with_grown_pool name s).frames ≡ s.frames
+unfolding with_grown_pool
+grown_frames name s = refl
+
+pub grown_types : (name : List ℕ) (s : StoredWorld) → (with_grown_pool name s).types ≡ s.types
+unfolding with_grown_pool
+grown_types name s = refl
+
+-- the pool has one puddle more in it
+pub found_more : (name : List ℕ) (s : StoredWorld) (p : Pool) → pool_named name s ≡ Some p → pool_named name (with_grown_pool name s) ≡ Some (with_puddle_more p)
+unfolding with_grown_pool
+found_more name s p there =
+    ap (find name_cmp name) (changed_there name with_puddle_more s.pools p there)
+    ∙ find-put name_cmp nat_list_cmp_total name name (with_puddle_more p) s.pools
+    ∙ cond-true _ _ _ (ap is_eq (tied_itself nat_list_cmp_total name))
+
+-- and a pool of another name stays
+pub found_beside_more : (name other : List ℕ) (s : StoredWorld) (p : Pool) → pool_named name s ≡ Some p → other ≢ name → pool_named other (with_grown_pool name s) ≡ pool_named other s
+unfolding with_grown_pool
+found_beside_more name other s p there apart = ap (find name_cmp other) (changed_there name with_puddle_more s.pools p there) ∙ found_beside_put name other (with_puddle_more p) s.pools apart
+
+-- ---- a daemon that is ready, and holds it
+
+module _ (size : ℕ) (w : World) (memory : Memory) (active : ActiveTransaction) (old : State) (number : ℕ) (there : active_under memory.active number ≡ Some active) (ready : IsReady size w memory old) (a : Added) where
+  abbrev F : ℕ
+  F = w.stored.frames
+
+  abbrev is : IsActive w active ready.mask old.now.words
+  is = is_active size w memory active old number there ready
+
+  abbrev image : Image
+  image = reads old.now.words
+
+  -- the world with the puddle
+  abbrev next : World
+  next = with_more active.name w
+
+  -- what the call owes that makes the pool grow, on so many frames
+  abbrev pub OwesGrowth : ℕ → Option HostFault → State → Type 0
+  OwesGrowth n fault new = HasIdleGate DAEMON_LOG old.now.words → PersistsThenCommits (filling n a) (puts_batch (growing a)) fault old new
+
+  abbrev pub OwesWorld : ℕ → Option HostFault → State → Type 0
+  OwesWorld n fault new = (mask : Write) → GrowsAt size w.stored (with_grown_pool active.name w.stored) n a mask old.now.words → ChangesMasked mask size w.stored (with_grown_pool active.name w.stored) (IsFilled n a) fault old new
+
+  module _ (by : GrowsBy F active.slot is.puddles image a) where
+    slot_is : a.puddle.pool ≡ active.slot
+    slot_is = by.puddle.slot_is
+
+    within : a.puddle.pool < POOL_RECORDS
+    within = let below = is.pool.slot in omega (arith, slot_is)
+
+    known : a.frame < F
+    known = frame_below w memory.active ready.mask old.now.words ready.active a.frame by.puddle.frame
+
+    off : IsOffAdding ready.mask F a (growing a)
+    off = off_growing w memory.active ready.mask old.now.words ready.active a by.puddle.frame within
+
+    abbrev IsNext : Tables → ℕ → Type 0
+    IsNext t n = IsGrowthFor t n a.puddle.pool (puddle_count t a.puddle.pool) a
+
+    next_read : IsNext (tables_of F image) (image NEXT_NUMBER_WORD)
+    next_read =
+        subst (λ (n : ℕ). IsGrowthFor (tables_of F image) (image NEXT_NUMBER_WORD) a.puddle.pool n a) (sym (count_active size w memory active old number there ready) ∙ ap (puddle_count (tables_of F image)) (sym slot_is))
+        (subst (λ (n : ℕ). IsGrowthFor (tables_of F image) (image NEXT_NUMBER_WORD) n (length is.puddles) a) (sym slot_is) by)
+
+    grows_at : GrowsAt size w.stored (with_grown_pool active.name w.stored) F a ready.mask old.now.words
+    grows_at = record {
+      frames = refl;
+      off = off;
+      settled = ready.settled;
+      pool = is.rec;
+      at = record {
+        tables = under_durable size w memory old ready;
+        used = ap (λ (t : Tables). t.pools a.puddle.pool) (tables_read size w memory old ready) ∙ ap (tables_of F image).pools slot_is ∙ used_still w active ready.mask old.now.words is;
+      };
+      is = subst (λ (t : Tables). IsNext t w.stored.next_number) (sym (tables_read size w memory old ready)) (subst (IsNext (tables_of F image)) (header_read size w memory old ready).next_number next_read);
+      grown = inl (is.undone, its_graph size w memory active old number there ready, ap (λ (name : List ℕ). with_grown_pool name w.stored) (sym is.name));
+    }
+
+  module _ (by : GrowsBy F active.slot is.puddles image a) (fault : Option HostFault) (new : State) (grows : OwesGrowth F fault new) (worlds : OwesWorld F fault new) where
+    beside : LeavesMasked ready.mask fault old new
+    beside = LeavesMasked-adds ready.mask F a (growing a) fault old new (off by) (ready_gate size w memory old ready) (grows (ready_gate size w memory old ready))
+
+    changes : ChangesPools size w.stored (with_grown_pool active.name w.stored) (IsFilled F a) fault (masked_state ready.mask old) (masked_state ready.mask new)
+    changes = worlds ready.mask (grows_at by)
+
+    masks : AppliesMasked size w next ready.mask fault old new
+    masks = AppliesMasked-pools size w memory (with_grown_pool active.name w.stored) (IsFilled F a) fault old new ready beside changes (grown_frames active.name w.stored)
+
+    -- at every moment each image stands for the world before, or for the one with the puddle
+    pub moments_grown : Leaves (Silently (StandsBetween size w next)) old new
+    moments_grown = moments_beside size w next memory fault old new ready (grown_frames active.name w.stored) masks
+
+    -- and no record that was used changes
+    pub puddles_grown : LeavesPuddles F Stays old new
+    puddles_grown =
+        LeavesPuddles-adds F fault old new ready.tables (ready_gate size w memory old ready) a by.puddle.frame (within by) (grows (ready_gate size w memory old ready))
+
+    -- with a fault no more is owed
+    pub Applies-grown_failed : (behind : Memory) (failed : HostFault) → fault ≡ Some failed → Applies size w next behind fault old new
+    Applies-grown_failed behind failed is_fault = record {
+      moments = moments_grown;
+      puddles = puddles_grown;
+      quiet = Changes-said (ByOthers ready.mask) fault old new beside.changes;
+      ready = λ done. absurd (none-some failed (sym done ∙ is_fault));
+      rests = beside.changes.rests;
+      script = beside.changes.script;
+    }
+
+  -- ---- the transaction has the puddle too
+
+  module _ (by : GrowsBy F active.slot is.puddles image a) (new : State) (grows : OwesGrowth F None new) (worlds : OwesWorld F None new) where
+    abbrev words : Words
+    words = new.now.words
+
+    abbrev t : Tables
+    t = tables_of F (reads words)
+
+    abbrev under : Image
+    under = reads (masked ready.mask words)
+
+    done : AppliesMasked size w next ready.mask None old new
+    done = masks by None new grows worlds
+
+    -- what is held is so of the world before still
+    abbrev holds_then : AreActive w memory.active ready.mask words
+    holds_then =
+        holds_still w w memory.active ready.mask old new ready.active
+        (record { frames = refl; transactions = refl; present = λ n h has. refl; stored = λ n h has. refl; types = λ id m is. is; graphs = λ st g is. is }) done.beside.changes
+        (rest_by_words size w memory old ready new
+        (λ n h has k mine. words_grow F a old new (within by) by.puddle.frame (grows (ready_gate size w memory old ready)) h.slot (ready.active.each n h has).is.puddles (active_graph size w memory old ready n h has) k mine)
+        (done.beside.single refl)).each
+
+    abbrev is_then : IsActive w active ready.mask words
+    is_then = (holds_then.each number active there).is
+
+    -- the tables that are read have the world with the puddle
+    world_then : ReadsWorld (with_grown_pool active.name w.stored) under
+    world_then =
+        reads_world size (with_grown_pool active.name w.stored) (masked ready.mask words) (done.settled refl)
+        (HasDurableTables-masked (with_grown_pool active.name w.stored).frames ready.mask words (done.tables refl))
+
+    keeps_then : KeepsTables F ready.mask (reads words)
+    keeps_then = keeps_tables w memory.active ready.mask words holds_then
+
+    tables_then : tables_of F under ≡ t
+    tables_then = ap (tables_of F) (reads-masked ready.mask words) ∙ keeps_then.tables
+
+    sound_then : HasSoundTables (with_grown_pool active.name w.stored).next_number t
+    sound_then =
+        subst (λ (u : Tables). HasSoundTables (with_grown_pool active.name w.stored).next_number u) tables_then
+        (subst (λ (n : ℕ). HasSoundTables (with_grown_pool active.name w.stored).next_number (tables_of n under)) (grown_frames active.name w.stored) world_then.sound)
+
+    types_then : types_of (reads words) ≡ w.stored.types
+    types_then =
+        let s = with_grown_pool active.name w.stored in
+        let settled = done.settled refl in
+        let standing = standing_beside size under s (standing_idle size under s (settled.idle (under DAEMON_LOG) (inl refl)) (settled.stands under (Picks-reads (masked ready.mask words)))) in
+        let beside = mask_beside w memory.active ready.mask words holds_then in
+        (Holds-same Types size s under (reads words)
+        (λ k of. let high = of.high in sym (ap (λ (i : Image). i k) (reads-masked ready.mask words) ∙ beside.same k (omega arith))) (standing.holds Types)).types
+        ∙ grown_types active.name w.stored
+
+    moved : reads words NEXT_NUMBER_WORD ≡ image NEXT_NUMBER_WORD → ⊥
+    moved same =
+        let was = (header_read size w memory old ready).next_number in
+        let now = sym keeps_then.number ∙ sym (ap (λ (i : Image). i NEXT_NUMBER_WORD) (reads-masked ready.mask words)) ∙ world_then.number in
+        absurd (omega (arith, same, was, now, grown_number active.name w.stored))
+
+    abbrev commits : PersistsThenCommits (filling F a) (puts_batch (growing a)) None old new
+    commits = grows (ready_gate size w memory old ready)
+
+    grown : (t ≡ with_puddle_at a.frame (Some (member_by a.puddle)) (tables_of F image)) × IsFilled F a (reads words)
+    grown = grown_read F a (known by) (within by) old new commits moved
+
+    abbrev e : ℕ × Puddle
+    e = (a.frame, added_puddle a)
+
+    e_finished : e.1.frontier ≡ steps_of e.1
+    e_finished = by.puddle.frontier
+
+    abbrev at : List (ℕ × Puddle)
+    at = is.puddles ++ e ∷ []
+
+    last : a.puddle.ordinal ≡ length is.puddles
+    last = by.puddle.ordinal_is
+
+    used_then : t.pools active.slot ≡ Some is_then.rec
+    used_then = used_still w active ready.mask words is_then
+
+    counted_then : puddle_count t active.slot ≡ length is.puddles + 1
+    counted_then =
+        let p = its_pool size w memory active old number there ready in
+        let s = with_grown_pool active.name w.stored in
+        let here : (tables_of F under).pools active.slot ≡ Some is_then.rec = ap (λ (u : Tables). u.pools active.slot) tables_then ∙ used_then in
+        let found : pool_named is_then.rec.name s ≡ Some (with_puddle_more p.pool) = ap (λ (name : List ℕ). pool_named name s) is_then.name ∙ found_more active.name w.stored p.pool p.there in
+        let now : puddle_count (tables_of s.frames under) active.slot ≡ p.pool.puddles + 1 =
+        puddle_count_by_world s under active.slot is_then.rec (with_puddle_more p.pool) world_then is.pool.slot
+        (subst (λ (n : ℕ). (tables_of n under).pools active.slot ≡ Some is_then.rec) (sym (grown_frames active.name w.stored)) here) found in
+        sym (ap (λ (u : Tables). puddle_count u active.slot) tables_then)
+        ∙ subst (λ (n : ℕ). puddle_count (tables_of n under) active.slot ≡ p.pool.puddles + 1) (grown_frames active.name w.stored) now
+        ∙ ap (λ (n : ℕ). n + 1) (puddles_counted size w memory active old number there ready)
+
+    comes : (i : ℕ) → i ≡ length is.puddles → IsMemberOf t active.slot i e
+    comes i same =
+        let below = known by in
+        record {
+          below = omega (arith, below, frames_of_tables F (reads words));
+          member = member_by a.puddle;
+          used = ap (λ (u : Tables). u.puddles a.frame) grown.0 ∙ changed_here a.frame (Some (member_by a.puddle)) (tables_of F image).puddles;
+          pool = ap (λ (n : ℕ). n + 1) (slot_is by);
+          ordinal_is = last ∙ sym same;
+          puddle = refl;
+        }
+
+    -- one that it had is in no free frame, and has its record still
+    stays_there : (i : ℕ) (x : ℕ × Puddle) → slice_get is.puddles i ≡ Some x → IsMemberOf t active.slot i x
+    stays_there i x has =
+        let turn = active_in_turn size w memory old ready number active there in
+        let m = (members_in_turn (tables_of F image) active.slot).each i x (ap (λ (ps : List (ℕ × Puddle)). slice_get ps i) turn ∙ has) in
+        let below = m.below in
+        record {
+          below = omega (arith, below, frames_of_tables F image, frames_of_tables F (reads words));
+          member = m.member;
+          used = ap (λ (u : Tables). u.puddles x.0) grown.0
+              ∙ changed_elsewhere a.frame (Some (member_by a.puddle)) (tables_of F image).puddles x.0
+              (λ same. none-some m.member (sym (first_free_some (tables_of F image).puddles 0 (tables_of F image).frames a.frame by.puddle.frame).free ∙ ap (tables_of F image).puddles (sym same) ∙ m.used))
+              ∙ m.used;
+          pool = m.pool;
+          ordinal_is = m.ordinal_is;
+          puddle = m.puddle;
+        }
+
+    all_there : HasMembers t active.slot at
+    all_there = record {
+      each = λ i x there. elim (cases_lt i (length is.puddles)) [
+        | inl below ↦ stays_there i x (sym (slice_get-front is.puddles (e ∷ []) i below) ∙ there)
+        | inr past ↦
+            let within = slice_get_within at i x there in
+            let same : i ≡ length is.puddles = omega (arith, within, past, length_push is.puddles e) in
+            let is_last : e ≡ x = same_Some e x (sym (slice_get-push is.puddles e) ∙ ap (slice_get at) (sym same) ∙ there) in
+            subst (λ (y : ℕ × Puddle). IsMemberOf t active.slot i y) is_last (comes i same)
+      ];
+    }
+
+    listed_then : puddles_in_turn t active.slot ≡ at
+    listed_then =
+        all_members (with_grown_pool active.name w.stored).next_number t sound_then active.slot is.pool.slot is_then.rec at used_then all_there
+        (length_puddles (with_grown_pool active.name w.stored).next_number t sound_then active.slot is.pool.slot ∙ counted_then ∙ sym (length_push is.puddles e))
+
+    fresh : IsFreshFrame F e.0 e.1.number (length is.puddles) (reads words)
+    fresh = subst (λ (n : ℕ). IsFreshFrame F a.frame a.puddle.number n (reads words)) last grown.1
+
+    owners : owner_of (reads words) active.client ≡ w.clients active.client
+    owners = done.clients refl active.client (let whose = is.owner in let known = is.pool.known in omega (arith, whose))
+
+    rest_then : HasDurableFrames F (masked ready.mask words)
+    rest_then = durable_frames_still F ready.mask old new (done.beside.single refl) ready.rest
+
+    grows_active : GrowsHeld w next active
+    grows_active =
+        let p = its_pool size w memory active old number there ready in
+        let more = found_more active.name w.stored p.pool p.there in
+        record {
+          frames = grown_frames active.name w.stored;
+          types = grown_types active.name w.stored;
+          transactions = refl;
+          clients = refl;
+          stored = ap graph_in more ∙ sym (ap graph_in p.there);
+        }
+
+    -- the others are on pools of other names
+    keeps_others : (n : ℕ) (g : ActiveTransaction) → n ≢ number → active_under memory.active n ≡ Some g → KeepsOne w next g
+    keeps_others n g apart has =
+        let p = its_pool size w memory active old number there ready in
+        let same = found_beside_more active.name g.name w.stored p.pool p.there (λ one. apart (ready.active.names n number g active has there one)) in
+        record {
+          frames = grown_frames active.name w.stored;
+          transaction = refl;
+          present = refl;
+          stored = ap graph_in same;
+          types = λ id m defined. ap (map_of id) (grown_types active.name w.stored) ∙ defined;
+          graphs = λ st graph stored. ap (λ (ts : List (ℕ × ℕ)). graph_of ts st) (grown_types active.name w.stored) ∙ stored;
+        }
+
+    abbrev number_then : ℕ
+    number_then = (with_grown_pool active.name w.stored).next_number
+
+    abbrev mask_then : Write
+    mask_then = wide w memory.active ready.mask new holds_then active number there e number_then sound_then owners listed_then rest_then e_finished
+
+    abbrev one : OpenTransaction
+    one = open_transaction_of active is.puddles is.rec is.who is.before
+
+    -- where it is open then
+    abbrev more : OpenTransaction
+    more = opened_more w active ready.mask words is_then e e_finished
+
+    abbrev others : Opens
+    others = with_transaction number None ready.active.opens
+
+    abbrev its : IsActiveUnder w ready.active.opens ready.mask old.now.words number active
+    its = ready.active.each number active there
+
+    was : IsOneMore number one others ready.active.opens
+    was = one_ended number one ready.active.opens its.opened
+
+    -- no other is open on its pool
+    shut : IsShut others active.slot
+    shut m o here same =
+        let elsewhere : m ≢ number = λ it. none-some o (sym was.none ∙ ap others (sym it) ∙ here) in
+        elsewhere (ready.active.are.slots m number o one (was.same m elsewhere ∙ here) its.opened same)
+
+    -- the pool has the graph that it had
+    graph_then : HasGraphIn F active.slot (reads words) at
+    graph_then = record {
+      graph = is_then.transaction.now;
+      turn = listed_then;
+      stored = ap (λ (ts : List (ℕ × ℕ)). graph_of ts (stored_in F at (reads words))) types_then
+          ∙ graph_longer w.stored.types F (reads words) is.puddles e is_then.transaction.now (some_active size w memory active old number there ready) fresh is_then.running.is;
+    }
+
+    -- all other pools stay
+    knows_then : KnowsPools F (set memory.judged active.slot (Some (by_puddles at))) (with_transaction number (Some more) ready.active.opens) (reads words)
+    knows_then =
+        KnowsPools-grown F memory.judged number one more others ready.active.opens (with_transaction number (Some more) ready.active.opens) (by_puddles at) image (reads words) was (one_put number more ready.active.opens) refl refl shut
+        (subst (λ (n : ℕ). KeepsPools F (Some n) image (reads words)) (slot_is by) (KeepsPools-grow F a old new (within by) by.puddle.frame commits)) graph_then (IsKnown-puddles F at (reads words)) ready.knows
+
+    ready_then : IsReady size next (with_opened number active.slot active at memory) new
+    ready_then =
+        let same = grown_frames active.name w.stored in
+        let some = some_active size w memory active old number there ready in
+        record {
+          mask = mask_then;
+          settled = settled_more w memory.active ready.mask new holds_then active number there e number_then sound_then owners listed_then rest_then e_finished size (with_grown_pool active.name w.stored) (done.settled refl);
+          tables = done.tables refl;
+          clients = done.clients refl;
+          frames = ready.frames ∙ sym same;
+          shelf = done.beside.changes.shelf ∙ ready.shelf;
+          active = holds_more w memory.active ready.mask new holds_then active number there e number_then sound_then owners listed_then rest_then e_finished some fresh next grows_active keeps_others;
+          sessions = sessions_more w memory.active ready.mask new holds_then active number there e number_then sound_then owners listed_then rest_then e_finished some fresh next grows_active keeps_others memory.sessions ready.sessions;
+          rest = subst (λ (n : ℕ). HasDurableFrames n (masked mask_then words)) (sym same) (rest_more w memory.active ready.mask new holds_then active number there e number_then sound_then owners listed_then rest_then e_finished);
+          logs = logs_more w memory.active ready.mask new holds_then active number there e number_then sound_then owners listed_then rest_then e_finished next.stored.frames next.clients (done.logs refl);
+          knows = subst (λ (n : ℕ). KnowsPools n (set memory.judged active.slot (Some (by_puddles at))) (with_transaction number (Some more) ready.active.opens) (reads words)) (sym same) knows_then;
+        }
+
+    -- its frames are as they were
+    stored_then : stored_in F is.puddles (reads words) ≡ stored_in F is.puddles image
+    stored_then =
+        stored_in-same F is.puddles image (reads words)
+        (record {
+          each = λ o k d here below.
+              words_grow F a old new (within by) by.puddle.frame commits active.slot is.puddles (active_graph size w memory old ready number active there) (frame_at F d.0 + k)
+              (pool_mine-from F is.puddles (frame_at F d.0 + k) (record { ordinal = o; puddle = d; there = here; low = omega arith; high = omega arith }));
+        })
+
+    word_longer : (o k : ℕ) → o < length is.puddles → (stored_in F at (reads words)).word o k ≡ (stored_in F is.puddles image).word o k
+    word_longer o k low = ap (word_in_frame F (reads words) k) (slice_get-front is.puddles (e ∷ []) o low) ∙ ap (λ (st : Stored). st.word o k) stored_then
+
+    -- so each slot in which an object lived has one still
+    longer : IsLonger F is.puddles at image (reads words)
+    longer = record {
+      count = length_push is.puddles e;
+      live = λ p low live. let below : ordinal_of p < length is.puddles = omega (arith, low, length-map is.puddles (λ (x : ℕ × Puddle). x.1)) in
+          λ none. live (sym (word_longer (ordinal_of p) (puddle_slot_at (slot_of p) + SLOT_SERIAL_WORD) below) ∙ none);
+    }
+
+    pub IsLonger-wide : (puddles : List (ℕ × Puddle)) → puddles ≡ puddles_in_turn t active.slot → IsLonger F is.puddles puddles image (reads words)
+    IsLonger-wide puddles scanned = subst (λ (ps : List (ℕ × Puddle)). IsLonger F is.puddles ps image (reads words)) (sym (scanned ∙ listed_then)) longer
+
+    -- whatever a scan gives
+    pub Applies-wide : (puddles : List (ℕ × Puddle)) → puddles ≡ puddles_in_turn t active.slot → Applies size w next (with_opened number active.slot active puddles memory) None old new
+    Applies-wide puddles scanned =
+        let all : puddles ≡ at = scanned ∙ listed_then in
+        record {
+          moments = moments_grown by None new grows worlds;
+          puddles = puddles_grown by None new grows worlds;
+          quiet = Changes-said (ByOthers ready.mask) None old new done.beside.changes;
+          ready = λ _. subst (λ (ps : List (ℕ × Puddle)). IsReady size next (with_opened number active.slot active ps memory) new) (sym all) ready_then;
+          rests = done.beside.changes.rests;
+          script = done.beside.changes.script;
+        }
+
+  -- ---- what the calls owe, on so many frames
+
+  module _ (n : ℕ) (same : n ≡ F) (pool : List (ℕ × Puddle)) (known : KnowsAlone memory.judged active.slot pool) (by : GrowsBy n active.slot pool image a) where
+    by_world : GrowsBy F active.slot is.puddles image a
+    by_world =
+        subst (λ (ps : List (ℕ × Puddle)). GrowsBy F active.slot ps image a) (sym (active_known size w memory old ready number active there pool (ap puddles_known known)))
+        (subst (λ (m : ℕ). GrowsBy m active.slot pool image a) same by)
+
+    growth_there : (fault : Option HostFault) (new : State) → OwesGrowth n fault new → OwesGrowth F fault new
+    growth_there fault new = subst (λ (m : ℕ). OwesGrowth m fault new) same
+
+    worlds_there : (fault : Option HostFault) (new : State) → OwesWorld n fault new → OwesWorld F fault new
+    worlds_there fault new = subst (λ (m : ℕ). OwesWorld m fault new) same
+
+    -- the call failed that makes it grow
+    pub grows_failed : (behind : Memory) (fault : HostFault) (new : State) → OwesGrowth n (Some fault) new → OwesWorld n (Some fault) new
+        → Applies size w next behind (Some fault) old new
+    grows_failed behind fault new grows worlds =
+        Applies-grown_failed by_world (Some fault) new (growth_there (Some fault) new grows) (worlds_there (Some fault) new worlds) behind fault refl
+
+    -- it did not, but what the pool has then was not read
+    pub grows_unread : (behind : Memory) (fault : HostFault) (mid new : State) → OwesGrowth n None mid → OwesWorld n None mid → new ≡ mid → (Some fault ≡ Some Cut → ⊥) → Applies size w next behind (Some fault) old new
+    grows_unread behind fault mid new grows worlds still never_cut =
+        let a = Applies-wide by_world mid (growth_there None mid grows) (worlds_there None mid worlds) (puddles_in_turn (tables_of F (reads mid.now.words)) active.slot) refl in
+        subst (λ (s : State). Applies size w next behind (Some fault) old s) (sym still)
+        (record { moments = a.moments; puddles = a.puddles; quiet = a.quiet; ready = λ done. absurd (none-some fault (sym done)); rests = λ cut. absurd (never_cut cut); script = a.script })
+
+    -- it was read
+    pub grows_done : (puddles : List (ℕ × Puddle)) (mid new : State) → OwesGrowth n None mid → OwesWorld n None mid → new ≡ mid → puddles ≡ puddles_in_turn (tables_of n (reads mid.now.words)) active.slot
+        → Applies size w next (with_opened number active.slot active puddles memory) None old new
+    grows_done puddles mid new grows worlds still scanned =
+        subst (λ (s : State). Applies size w next (with_opened number active.slot active puddles memory) None old s) (sym still)
+        (Applies-wide by_world mid (growth_there None mid grows) (worlds_there None mid worlds) puddles
+        (subst (λ (m : ℕ). puddles ≡ puddles_in_turn (tables_of m (reads mid.now.words)) active.slot) same scanned))
+
+    pub grows_longer : (puddles : List (ℕ × Puddle)) (mid new : State) → OwesGrowth n None mid → OwesWorld n None mid → new ≡ mid → puddles ≡ puddles_in_turn (tables_of n (reads mid.now.words)) active.slot
+        → IsLonger n pool puddles image (reads new.now.words)
+    grows_longer puddles mid new grows worlds still scanned =
+        subst (λ (m : ℕ). IsLonger m pool puddles image (reads new.now.words)) (sym same)
+        (subst (λ (ps : List (ℕ × Puddle)). IsLonger F ps puddles image (reads new.now.words)) (active_known size w memory old ready number active there pool (ap puddles_known known))
+        (subst (λ (s : State). IsLonger F is.puddles puddles image (reads s.now.words)) (sym still)
+        (IsLonger-wide by_world mid (growth_there None mid grows) (worlds_there None mid worlds) puddles
+        (subst (λ (m : ℕ). puddles ≡ puddles_in_turn (tables_of m (reads mid.now.words)) active.slot) same scanned))))

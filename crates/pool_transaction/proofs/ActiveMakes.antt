@@ -1,0 +1,129 @@
+-- An object is made within a transaction that is held, where a slot is free.
+use Rattle.std.proofs.Common.{◌≡◌, ℕ, ◌+◌, ◌<◌, ◌≤◌, Bool, true, false, leb, ltb, cond, List, Option, Some, None, Result, is_none, refl, sym, ap, subst}
+use Rattle.std.specs.Prelude.{IfOk, unwrap_or}
+use Rattle.std.proofs.lemmas.Bool.{leb-false, ltb-false}
+use Rattle.std.proofs.lemmas.Option.{none-some}
+use Rattle.pm_model.specs.declared.host.HostFault.{HostFault}
+use Rattle.pm_model.specs.Counts.{fault_of}
+use Rattle.pm_model.specs.Words.{reads}
+use Rattle.pm_model.specs.Moments.{State}
+use Rattle.pud_defs.specs.declared.layout.TheConstants.{LOG_ENTRY_WORDS, NEW_UNITS, NUMBER_LIMIT}
+use Rattle.pud_defs.specs.declared.machine.Refusal.{Refusal}
+use Rattle.pud_defs.specs.declared.machine.Refusal.TheVariants as refusals
+use Rattle.pud_defs.specs.declared.records.Puddle.{Puddle}
+use Rattle.pud_defs.specs.declared.records.Slot.{Slot}
+use Rattle.pud_defs.specs.Graph.{Graph, graph_of}
+use Rattle.pud_defs.specs.GraphChanges.{with_new, blank_object}
+use Rattle.pud_defs.specs.PoolChanges.{pool_named}
+use Rattle.pud_defs.specs.Step.{graph_seen, next_in, grows, object_made}
+use Rattle.pud_defs.specs.Stored.{stored_in}
+use Rattle.pud_defs.specs.Transactions.{charged}
+use Rattle.pud_defs.specs.Types.{map_of}
+use Rattle.pud_defs.specs.World.{Transaction, World, open_on}
+use Rattle.graph_laws.specs.Slots.{AreAllLive}
+use Rattle.hybrid_tx.specs.Grounds.{IsPlaced}
+use Rattle.hybrid_tx.specs.Objects.Transactions.{OpenTx, IsOpenOn, RunsOn, MakesIn}
+use Rattle.ready_daemon.specs.Judged.{KnowsAlone}
+use Rattle.ready_daemon.specs.Memory.{ActiveTransaction, Memory, active_under, with_active}
+use Rattle.ready_daemon.specs.ActiveTransactions.{IsActive}
+use Rattle.pool_transaction.specs.Changing.{refusal_to_make, refusal_by_world, with_made}
+use Rattle.ready_daemon.specs.Ready.{IsReady, Applies}
+use Rattle.pool_transaction.proofs.ActiveRuns.{with_tx, is_active, active_placed, Applies-runs}
+use Rattle.pool_transaction.proofs.ActiveSets.{used_more, OwesRuns, told, owed}
+use Rattle.ready_daemon.proofs.OpenNames.{Charges-charged}
+use Rattle.pool_transaction.proofs.ActivePools.{grows_live, grows_not}
+
+-- ---- what is not refused
+
+not_so : (b : Bool) (r : Refusal) (rest : Option Refusal) → cond b (Some r) rest ≡ None → (b ≡ false) × (rest ≡ None)
+not_so true r rest none = absurd (none-some r (sym none))
+not_so false r rest none = (refl, none)
+
+some_there : {A : Type 0} (o : Option A) → is_none o ≡ false → (x : A) × (o ≡ Some x)
+some_there None there = absurd (let no : true ≡ false = there in cc)
+some_there (Some x) there = (x, refl)
+
+-- The type is defined, the units fit, and a serial is left.
+pub record MayMake (map : Option ℕ) (units next : ℕ) : Type 0 where
+  pub is : ℕ
+  pub defined : map ≡ Some is
+  pub fits : units + NEW_UNITS ≤ LOG_ENTRY_WORDS
+  pub left : next < NUMBER_LIMIT
+
+pub may_make : (map : Option ℕ) (units next : ℕ) → refusal_to_make map units next ≡ None → MayMake map units next
+may_make map units next none =
+    let type = not_so (is_none map) refusals.NoType _ none in
+    let big = not_so (ltb LOG_ENTRY_WORDS (units + NEW_UNITS)) refusals.TooBig _ type.1 in
+    let full = not_so (leb NUMBER_LIMIT next) refusals.Full None big.1 in
+    let there = some_there map type.0 in
+    record { is = there.0; defined = there.1; fits = ltb-false LOG_ENTRY_WORDS (units + NEW_UNITS) big.0; left = leb-false NUMBER_LIMIT next full.0 }
+
+-- the units of what is not refused fit
+pub units_fit : (w : World) (active : ActiveTransaction) (id : ℕ) → refusal_by_world w active id ≡ None → active.tx.units + NEW_UNITS ≤ LOG_ENTRY_WORDS
+units_fit w active id none = (may_make (map_of id w.stored.types) active.tx.units (next_in (graph_seen (open_on active.name w) (pool_named active.name w.stored))) none).fits
+
+module _ (size : ℕ) (w : World) (memory : Memory) (active : ActiveTransaction) (old : State) (number : ℕ) (there : active_under memory.active number ≡ Some active) (ready : IsReady size w memory old) where
+  abbrev is : IsActive w active ready.mask old.now.words
+  is = is_active size w memory active old number there ready
+
+  -- the next serial is that of its graph
+  pub next_serial : next_in (graph_seen (open_on active.name w) (pool_named active.name w.stored)) ≡ is.transaction.now.next_serial
+  next_serial = ap (λ (o : Option Transaction). next_in (graph_seen o (pool_named active.name w.stored))) is.is
+
+  module _ (F : ℕ) (at : List (ℕ × Puddle)) (same : F ≡ w.stored.frames) (listed : at ≡ is.puddles) where
+    live_there : AreAllLive (stored_in F at (reads old.now.words)) → AreAllLive (stored_in w.stored.frames is.puddles (reads old.now.words))
+    live_there live =
+        subst (λ (n : ℕ). AreAllLive (stored_in n is.puddles (reads old.now.words))) same (subst (λ (puddles : List (ℕ × Puddle)). AreAllLive (stored_in F puddles (reads old.now.words))) listed live)
+
+    -- each slot is live where the pool is to grow, and not all where it is not
+    pub all_live : grows w active.name ≡ true → AreAllLive (stored_in F at (reads old.now.words))
+    all_live more =
+        subst (λ (puddles : List (ℕ × Puddle)). AreAllLive (stored_in F puddles (reads old.now.words))) (sym listed)
+        (subst (λ (n : ℕ). AreAllLive (stored_in n is.puddles (reads old.now.words))) (sym same) (grows_live size w memory active old number there ready more))
+
+    pub not_live : grows w active.name ≡ false → AreAllLive (stored_in F at (reads old.now.words)) → ⊥
+    not_live less live = grows_not size w memory active old number there ready less (live_there live)
+
+    -- the serial that is given is the next one
+    pub serial_made : (done : Result ℕ HostFault)
+        → (graph_of w.stored.types (stored_in F at (reads old.now.words)) ≡ Some is.transaction.now → IfOk done (λ serial. serial ≡ is.transaction.now.next_serial))
+        → IfOk done (λ serial. serial ≡ next_in (graph_seen (open_on active.name w) (pool_named active.name w.stored)))
+    serial_made done told =
+        let graph = subst (λ (puddles : List (ℕ × Puddle)). graph_of w.stored.types (stored_in F puddles (reads old.now.words)) ≡ Some is.transaction.now) (sym listed)
+        (subst (λ (n : ℕ). graph_of w.stored.types (stored_in n is.puddles (reads old.now.words)) ≡ Some is.transaction.now) (sym same) is.running.is) in
+        subst (λ (n : ℕ). IfOk done (λ serial. serial ≡ n)) (sym next_serial) (told graph)
+
+    -- what a call owes that makes an object in a slot, on these puddles
+    abbrev OwesMakes : (slot : Slot) (id : ℕ) → Option HostFault → State → List (ℕ × Puddle) → Type 0
+    OwesMakes slot id fault new puddles =
+        IsPlaced F puddles → IsOpenOn F puddles w.stored.types active.tx.log is.before is.undone is.transaction.now is.transaction.laters old.now.words → is.transaction.now.next_serial < NUMBER_LIMIT
+        → MakesIn F puddles active.tx.log.gate_at slot id fault old new
+
+    -- it makes it in this one
+    pub made_there : (id : ℕ) → refusal_by_world w active id ≡ None → (fault : Option HostFault) (new : State) (slot : Slot) → OwesMakes slot id fault new at → MakesIn F at active.tx.log.gate_at slot id fault old new
+    made_there id none fault new slot owes =
+        let may = may_make (map_of id w.stored.types) active.tx.units (next_in (graph_seen (open_on active.name w) (pool_named active.name w.stored))) none in
+        owes
+        (subst (IsPlaced F) (sym listed) (subst (λ (n : ℕ). IsPlaced n is.puddles) (sym same) (active_placed size w memory active old number there ready)))
+        (subst (λ (puddles : List (ℕ × Puddle)). IsOpenOn F puddles w.stored.types active.tx.log is.before is.undone is.transaction.now is.transaction.laters old.now.words) (sym listed)
+        (subst (λ (n : ℕ). IsOpenOn n is.puddles w.stored.types active.tx.log is.before is.undone is.transaction.now is.transaction.laters old.now.words) (sym same) is.running))
+        (subst (λ (n : ℕ). n < NUMBER_LIMIT) next_serial may.left)
+
+    module _ (id : ℕ) (none : refusal_by_world w active id ≡ None) (tx : OpenTx) (new : State) (gate : tx.log.gate_at ≡ active.tx.log.gate_at) where
+      may : MayMake (map_of id w.stored.types) active.tx.units (next_in (graph_seen (open_on active.name w) (pool_named active.name w.stored)))
+      may = may_make (map_of id w.stored.types) active.tx.units (next_in (graph_seen (open_on active.name w) (pool_named active.name w.stored))) none
+
+      the_object : with_new (blank_object id may.is) ≡ with_new (object_made w id)
+      the_object = ap (λ (o : Option ℕ). with_new (blank_object id (unwrap_or o 0))) (sym may.defined)
+
+      pub Applies-made : KnowsAlone memory.judged active.slot at → (done : Result ℕ HostFault)
+          → ((m : ℕ) → map_of id w.stored.types ≡ Some m → is.transaction.now.next_serial < NUMBER_LIMIT
+          → OwesRuns size w memory active old number there ready F at same listed tx new gate F at (charged NEW_UNITS (with_new (blank_object id m))) (fault_of done))
+          → IfOk done (λ _. tx.units ≡ active.tx.units + NEW_UNITS)
+          → Applies size w (with_made active.name id w) (with_active number (Some (with_tx tx active)) memory) (fault_of done) old new
+      Applies-made known done runs used =
+          let left = subst (λ (n : ℕ). n < NUMBER_LIMIT) next_serial may.left in
+          let at_first = owed size w memory active old number there ready F at same listed tx new gate (charged NEW_UNITS (with_new (blank_object id may.is))) (fault_of done) (runs may.is may.defined left) in
+          Applies-runs size w memory active old number there ready (subst (KnowsAlone memory.judged active.slot) listed known) tx NEW_UNITS (charged NEW_UNITS (with_new (object_made w id))) (Charges-charged NEW_UNITS (with_new (object_made w id))) (fault_of done) new gate
+          (used_more done NEW_UNITS tx.units active.tx.units used)
+          (subst (λ (change : Graph → Graph). RunsOn w.stored.frames is.puddles w.stored.types tx.log is.before is.undone (change is.transaction.now) is.transaction.laters (fault_of done) old new) the_object at_first)

@@ -1,0 +1,233 @@
+-- The line that makes an object in a transaction that is held: why it is refused, by what is read, and the world that it gives.
+use Rattle.std.proofs.Common.{◌≡◌, inl, inr, ℕ, ◌+◌, ◌≤◌, Bool, true, false, not, ◌&&◌, ◌||◌, leb, ltb, ◌==◌, cond, List, length, Option, Some, None, is_none, sum_by, refl, sym, ap, ap₂, ◌∙◌, arith, eqb-true, eq-eqb, ne_eqb}
+use Rattle.std.specs.Option.{option_or}
+use Rattle.std.proofs.lemmas.Bool.{cases_lt, and_parts, leb-true, le-leb, lt-leb, lt-ltb, le-ltb}
+use Rattle.pm_model.specs.Words.{reads}
+use Rattle.pm_model.specs.Moments.{State}
+use Rattle.pm_model.specs.Masks.{masked}
+use Rattle.pud_defs.specs.declared.layout.TheConstants.{LOG_ENTRY_WORDS, NEW_UNITS, NUMBER_LIMIT, NEXT_NUMBER_WORD}
+use Rattle.pud_defs.specs.declared.records.TheConstants.{MAX_PUDDLES}
+use Rattle.pud_defs.specs.declared.machine.Command.{Command}
+use Rattle.pud_defs.specs.declared.machine.Command.TheVariants.{Commit, New}
+use Rattle.pud_defs.specs.declared.machine.Reply.TheVariants as replies
+use Rattle.pud_defs.specs.declared.machine.Refusal.{Refusal}
+use Rattle.pud_defs.specs.declared.machine.Refusal.TheVariants as refusals
+use Rattle.pud_defs.specs.Geometry.{slots_among}
+use Rattle.pud_defs.specs.Graph.{Graph, next_serial_of}
+use Rattle.pud_defs.specs.Holdings.{holding_in}
+use Rattle.pud_defs.specs.Image.{Image}
+use Rattle.pud_defs.specs.Keyed.{first_free}
+use Rattle.pud_defs.specs.PoolChanges.{pool_named, lacks_frames, lacks_a_number, changed_pool, with_puddle_more, with_grown_pool}
+use Rattle.pud_defs.specs.Step.{graph_seen, next_in, is_full_graph, is_all_live, grows, lacks_room, refusal_of, answer, answer_by, after, world_by, object_made}
+use Rattle.pud_defs.specs.Step.Answer.{of_reply}
+use Rattle.pud_defs.specs.Stored.{stored_in}
+use Rattle.pud_defs.specs.Tables.{Tables, Pool, Reader, tables_of}
+use Rattle.pud_defs.specs.Transactions.{units_of, with_changed, charged}
+use Rattle.pud_defs.specs.declared.records.Puddle.{Puddle}
+use Rattle.pud_defs.specs.GraphChanges.{with_new}
+use Rattle.pud_defs.specs.Types.{map_of, types_of}
+use Rattle.pud_defs.specs.World.{Transaction, World, open_on}
+use Rattle.pud_defs.proofs.Graphs.{graph_of-each}
+use Rattle.pud_defs.proofs.PoolRefusals.{space_by_table}
+use Rattle.pud_defs.proofs.Steps.{done_answer, done_world}
+use Rattle.pud_defs.proofs.TablesOf.{pools_beyond, frames_of_tables}
+use Rattle.registry.specs.Growth.{has_room}
+use Rattle.hybrid_tx.specs.Objects.Transactions.{OpenTx}
+use Rattle.ready_daemon.specs.Memory.{ActiveTransaction, Memory, active_under}
+use Rattle.ready_daemon.specs.ActiveTransactions.{IsActive}
+use Rattle.pool_transaction.specs.Changing.{refusal_to_make, refusal_by_tables, refusal_by_world, with_more, with_made}
+use Rattle.ready_daemon.specs.Ready.{IsReady}
+use Rattle.ready_daemon.proofs.TablesBeside.{header_read, types_read, pools_read, sound_read}
+use Rattle.pool_transaction.proofs.TransactionRefusals.{making_refusal, refusal_of-new, own_is_open}
+use Rattle.pool_transaction.proofs.ActiveRuns.{is_active, active_placed}
+use Rattle.pool_transaction.proofs.ActivePools.{its_pool, grows_by, objects_fit, puddles_counted}
+use Rattle.pool_transaction.proofs.ActiveGrows.{found_more}
+use Rattle.pool_transaction.proofs.ActiveMakes.{next_serial}
+
+-- ---- numbers
+
+-- as many objects as the most puddles have slots
+most_objects : (objects puddles : ℕ) → objects ≤ slots_among puddles → puddles ≤ MAX_PUDDLES → (objects == slots_among puddles) ≡ false → leb (slots_among MAX_PUDDLES) objects ≡ false
+most_objects objects puddles fit few less = elim (cases_lt objects (slots_among MAX_PUDDLES)) [
+  | inl below ↦ lt-leb (slots_among MAX_PUDDLES) objects below
+  | inr many ↦ absurd (let no : true ≡ false = sym (eq-eqb objects (slots_among puddles) (omega arith)) ∙ less in cc)
+]
+
+full_or_room : (objects puddles number : ℕ) → objects ≡ slots_among puddles → (leb (slots_among MAX_PUDDLES) objects || lacks_a_number number) ≡ not (has_room puddles number)
+full_or_room objects puddles number all = elim (cases_lt puddles MAX_PUDDLES) [
+  | inl below ↦ elim (cases_lt number NUMBER_LIMIT) [
+    | inl left ↦
+        ap₂ (λ a b. a || b) (lt-leb (slots_among MAX_PUDDLES) objects (omega arith)) (le-ltb NUMBER_LIMIT (number + 1) (omega arith))
+        ∙ sym (ap₂ (λ a b. not (a && b)) (lt-ltb puddles MAX_PUDDLES below) (lt-ltb number NUMBER_LIMIT left))
+    | inr out ↦
+        ap₂ (λ a b. a || b) (lt-leb (slots_among MAX_PUDDLES) objects (omega arith)) (lt-ltb NUMBER_LIMIT (number + 1) (omega arith))
+        ∙ sym (ap₂ (λ a b. not (a && b)) (lt-ltb puddles MAX_PUDDLES below) (le-ltb number NUMBER_LIMIT out))
+  ]
+  | inr many ↦
+      ap (λ a. a || lacks_a_number number) (le-leb (slots_among MAX_PUDDLES) objects (omega arith))
+      ∙ sym (ap (λ a. not (a && ltb number NUMBER_LIMIT)) (le-ltb puddles MAX_PUDDLES many))
+]
+
+-- ---- the causes in order
+
+joined : (type big serial many out lacks grow room none : Bool) → (grow ≡ false → many ≡ false) → (grow ≡ true → (many || out) ≡ not room) → lacks ≡ none
+    → cond type (Some refusals.NoType) (cond big (Some refusals.TooBig) (cond ((serial || many) || (grow && out)) (Some refusals.Full) (cond (grow && lacks) (Some refusals.Space) None)))
+    ≡ option_or (cond type (Some refusals.NoType) (cond big (Some refusals.TooBig) (cond serial (Some refusals.Full) None))) (cond grow (cond (not room) (Some refusals.Full) (cond none (Some refusals.Space) None)) None)
+joined true big serial many out lacks grow room none less more frames = refl
+joined false true serial many out lacks grow room none less more frames = refl
+joined false false true many out lacks grow room none less more frames = refl
+joined false false false many out lacks false room none less more frames = ap (λ (m : Bool). cond (m || false) (Some refusals.Full) None) (less refl)
+joined false false false many out lacks true room none less more frames =
+    ap₂ (λ (full : Bool) (space : Bool). cond full (Some refusals.Full) (cond space (Some refusals.Space) None)) (more refl) frames
+
+-- ---- a daemon that is ready, and holds it
+
+module _ (size : ℕ) (w : World) (memory : Memory) (active : ActiveTransaction) (s : State) (number : ℕ) (there : active_under memory.active number ≡ Some active) (ready : IsReady size w memory s) (id : ℕ) where
+  abbrev F : ℕ
+  F = w.stored.frames
+
+  abbrev is : IsActive w active ready.mask s.now.words
+  is = is_active size w memory active s number there ready
+
+  abbrev image : Image
+  image = reads s.now.words
+
+  abbrev t : Tables
+  t = tables_of F image
+
+  abbrev line : Command
+  line = New active.client active.name id
+
+  abbrev hold : Reader
+  hold = holding_in w.stored.types F (reads (masked ready.mask s.now.words))
+
+  frames_lack : lacks_frames w.stored 1 ≡ is_none (first_free t.puddles 0 t.frames)
+  frames_lack =
+      ap₂ (λ n ps. ltb n (sum_by (λ (e : List ℕ × Pool). e.1.puddles) ps + 1)) (sym (frames_of_tables F image)) (sym (pools_read size w memory s ready))
+      ∙ sym (space_by_table hold w.stored.next_number t (sound_read size w memory s ready) (record { beyond = λ slot beyond. pools_beyond F image slot beyond }))
+
+  few_active : length is.puddles ≤ MAX_PUDDLES
+  few_active = (active_placed size w memory active s number there ready).on_device.few
+
+  -- the client's own transaction is open
+  own : refusal_of w (Commit active.client active.name) ≡ None
+  own = own_is_open w memory.active ready.mask s.now.words active.client active.name number ready.active (record { active = active; is = there; whose = refl; pool = refl })
+
+  opened : open_on active.name w ≡ Some is.transaction
+  opened = is.is
+
+  abbrev many : Bool
+  many = leb (slots_among MAX_PUDDLES) (length is.transaction.now.objects)
+
+  less_by : grows w active.name ≡ false → many ≡ false
+  less_by less =
+      most_objects (length is.transaction.now.objects) (length is.puddles) (objects_fit size w memory active s number there ready) few_active (sym (grows_by size w memory active s number there ready) ∙ less)
+
+  all_by : grows w active.name ≡ true → length is.transaction.now.objects ≡ slots_among (length is.puddles)
+  all_by more = eqb-true (length is.transaction.now.objects) (slots_among (length is.puddles)) (sym (grows_by size w memory active s number there ready) ∙ more)
+
+  more_by : grows w active.name ≡ true → (many || lacks_a_number w.stored.next_number) ≡ not (has_room (length is.puddles) (image NEXT_NUMBER_WORD))
+  more_by more =
+      full_or_room (length is.transaction.now.objects) (length is.puddles) w.stored.next_number (all_by more)
+      ∙ ap (λ (n : ℕ). not (has_room (length is.puddles) n)) (sym (header_read size w memory s ready).next_number)
+
+  -- Its refusals are those that count whatever slots there are, and behind them, where each slot is live, those of a puddle more.
+  pub refusal_new : refusal_of w line ≡ option_or (refusal_by_world w active id) (cond (grows w active.name) (refusal_by_tables F is.puddles image) None)
+  refusal_new =
+      let units : units_of (open_on active.name w) ≡ active.tx.units = ap units_of opened ∙ is.units in
+      let full : is_full_graph (graph_seen (open_on active.name w) (pool_named active.name w.stored)) ≡ (leb NUMBER_LIMIT is.transaction.now.next_serial || many) =
+      ap (λ (o : Option Transaction). is_full_graph (graph_seen o (pool_named active.name w.stored))) opened in
+      let next = next_serial size w memory active s number there ready in
+      refusal_of-new w active.client active.name id
+      ∙ ap (λ (first : Option Refusal). option_or first (making_refusal (map_of id w.stored.types) (units_of (open_on active.name w)) (lacks_room w active.name) (grows w active.name && lacks_frames w.stored 1))) own
+      ∙ (λ p. cond (is_none (map_of id w.stored.types)) (Some refusals.NoType) (cond (ltb LOG_ENTRY_WORDS (units p + NEW_UNITS)) (Some refusals.TooBig)
+      (cond (full p || (grows w active.name && lacks_a_number w.stored.next_number)) (Some refusals.Full) (cond (grows w active.name && lacks_frames w.stored 1) (Some refusals.Space) None))))
+      ∙ joined (is_none (map_of id w.stored.types)) (ltb LOG_ENTRY_WORDS (active.tx.units + NEW_UNITS)) (leb NUMBER_LIMIT is.transaction.now.next_serial) many (lacks_a_number w.stored.next_number) (lacks_frames w.stored 1)
+      (grows w active.name) (has_room (length is.puddles) (image NEXT_NUMBER_WORD)) (is_none (first_free t.puddles 0 t.frames)) less_by more_by frames_lack
+      ∙ ap (λ (n : ℕ). option_or (refusal_to_make (map_of id w.stored.types) active.tx.units n) (cond (grows w active.name) (refusal_by_tables F is.puddles image) None)) (sym next)
+
+  -- what is read gives those that count whatever slots there are
+  refusal_read : (n : ℕ) → n ≡ F → refusal_to_make (map_of id (types_of image)) active.tx.units (next_serial_of (stored_in n is.puddles image)) ≡ refusal_by_world w active id
+  refusal_read n same =
+      let has = graph_of-each w.stored.types (stored_in F is.puddles image) is.transaction.now is.running.is in
+      let types : types_of image ≡ w.stored.types = (types_read size w memory s ready).types in
+      let serial : next_serial_of (stored_in n is.puddles image) ≡ next_in (graph_seen (open_on active.name w) (pool_named active.name w.stored)) =
+      ap (λ (m : ℕ). next_serial_of (stored_in m is.puddles image)) same ∙ ap (λ (g : Graph). g.next_serial) has.is ∙ sym (next_serial size w memory active s number there ready) in
+      ap₂ (λ (ts : List (ℕ × ℕ)) (v : ℕ). refusal_to_make (map_of id ts) active.tx.units v) types serial
+
+  pub refusal_found : (n : ℕ) → n ≡ F → (at : List (ℕ × Puddle)) → at ≡ is.puddles → (found refused : Option Refusal)
+      → found ≡ refusal_to_make (map_of id (types_of image)) active.tx.units (next_serial_of (stored_in n at image)) → found ≡ refused → refusal_by_world w active id ≡ refused
+  refusal_found n same at listed found refused read so =
+      sym (refusal_read n same) ∙ ap (λ (ps : List (ℕ × Puddle)). refusal_to_make (map_of id (types_of image)) active.tx.units (next_serial_of (stored_in n ps image))) (sym listed) ∙ sym read ∙ so
+
+  -- ---- what it gives
+
+  pub refused_whatever : (r : Refusal) → refusal_by_world w active id ≡ Some r → refusal_of w line ≡ Some r
+  refused_whatever r refused = refusal_new ∙ ap (λ (o : Option Refusal). option_or o (cond (grows w active.name) (refusal_by_tables F is.puddles image) None)) refused
+
+  module _ (none : refusal_by_world w active id ≡ None) where
+    behind_it : refusal_of w line ≡ cond (grows w active.name) (refusal_by_tables F is.puddles image) None
+    behind_it = refusal_new ∙ ap (λ (o : Option Refusal). option_or o (cond (grows w active.name) (refusal_by_tables F is.puddles image) None)) none
+
+    pub refused_less : grows w active.name ≡ false → refusal_of w line ≡ None
+    refused_less less = behind_it ∙ ap (λ (b : Bool). cond b (refusal_by_tables F is.puddles image) None) less
+
+    pub refused_more : grows w active.name ≡ true → refusal_of w line ≡ refusal_by_tables F is.puddles image
+    refused_more more = behind_it ∙ ap (λ (b : Bool). cond b (refusal_by_tables F is.puddles image) None) more
+
+  -- the reply is the serial
+  pub answer_new : refusal_of w line ≡ None → answer_by w (Some line) ≡ of_reply (replies.Ref (next_in (graph_seen (open_on active.name w) (pool_named active.name w.stored))))
+  unfolding answer
+  answer_new none = done_answer w line none
+
+  -- the world where the pool does not grow, and where it does
+  abbrev given : Bool → World
+  given more = record w {
+    stored = record w.stored {
+      next_number = cond more (w.stored.next_number + 1) w.stored.next_number;
+      pools = cond more (changed_pool active.name with_puddle_more w.stored.pools) w.stored.pools;
+    };
+    transactions = with_changed active.name (charged NEW_UNITS (with_new (object_made w id))) w.transactions;
+  }
+
+  pub world_less : refusal_of w line ≡ None → grows w active.name ≡ false → world_by w (Some line) ≡ with_made active.name id w
+  unfolding after
+  world_less none less = done_world w line none ∙ ap given less
+
+  pub world_more : refusal_of w line ≡ None → grows w active.name ≡ true → world_by w (Some line) ≡ with_made active.name id (with_more active.name w)
+  unfolding after with_grown_pool
+  world_more none more = done_world w line none ∙ ap given more
+
+  -- there is a next serial
+  pub serial_is_some : 1 ≤ next_in (graph_seen (open_on active.name w) (pool_named active.name w.stored))
+  serial_is_some =
+      let has = graph_of-each w.stored.types (stored_in F is.puddles image) is.transaction.now is.running.is in
+      let n = next_serial_of (stored_in F is.puddles image) in
+      let legal = leb-true 1 n (and_parts (leb 1 n) (leb n NUMBER_LIMIT) has.graph.legal).0 in
+      let same = ap (λ (g : Graph). g.next_serial) has.is in
+      omega (arith, legal, same, next_serial size w memory active s number there ready)
+
+  -- ---- the pool grew
+
+  -- it has a free slot then
+  pub grown_less : grows w active.name ≡ true → grows (with_more active.name w) active.name ≡ false
+  grown_less more =
+      let p = its_pool size w memory active s number there ready in
+      let counted = puddles_counted size w memory active s number there ready in
+      let all = all_by more in
+      ap₂ (λ (o : Option Transaction) (found : Option Pool). is_all_live (graph_seen o found) found) opened (found_more active.name w.stored p.pool p.there)
+      ∙ ne_eqb (length is.transaction.now.objects) (slots_among (p.pool.puddles + 1)) (λ same. absurd (omega (arith, same, counted, all)))
+
+  -- and the same is refused whatever slots there are
+  pub grown_refusal : (now : ActiveTransaction) → now.name ≡ active.name → now.tx ≡ active.tx → refusal_by_world w active id ≡ None → refusal_by_world (with_more active.name w) now id ≡ None
+  unfolding with_grown_pool
+  grown_refusal now name tx none =
+      ap₂ (λ (n : List ℕ) (x : OpenTx). refusal_to_make (map_of id w.stored.types) x.units (next_in (graph_seen (open_on n w) (pool_named n (with_grown_pool active.name w.stored))))) name tx
+      ∙ ap (λ (o : Option Transaction). refusal_to_make (map_of id w.stored.types) active.tx.units (next_in (graph_seen o (pool_named active.name (with_grown_pool active.name w.stored))))) opened
+      ∙ sym (ap (λ (o : Option Transaction). refusal_to_make (map_of id w.stored.types) active.tx.units (next_in (graph_seen o (pool_named active.name w.stored)))) opened)
+      ∙ none
+
+  pub grown_next : next_in (graph_seen (open_on active.name (with_more active.name w)) (pool_named active.name (with_more active.name w).stored)) ≡ next_in (graph_seen (open_on active.name w) (pool_named active.name w.stored))
+  grown_next =
+      ap (λ (o : Option Transaction). next_in (graph_seen o (pool_named active.name (with_more active.name w).stored))) opened
+      ∙ sym (ap (λ (o : Option Transaction). next_in (graph_seen o (pool_named active.name w.stored))) opened)

@@ -1,0 +1,115 @@
+-- The pool of a transaction that is held: what the world has of it, and whether it has a free slot.
+use Rattle.std.proofs.Common.{◌≡◌, ℕ, ◌≤◌, true, false, ◌==◌, List, length, Option, Some, None, refl, sym, ap, ap₂, ◌∙◌, arith, eqb-true, eq-eqb}
+use Rattle.std.proofs.lemmas.List.{length-map}
+use Rattle.std.proofs.lemmas.Option.{none-some, same_Some}
+use Rattle.pm_model.specs.Words.{reads}
+use Rattle.pm_model.specs.Moments.{State}
+use Rattle.pud_defs.specs.declared.records.Puddle.{Puddle}
+use Rattle.pud_defs.specs.Geometry.{places_among, slots_among}
+use Rattle.pud_defs.specs.Graph.{Graph}
+use Rattle.pud_defs.specs.Holdings.{Holding, graph_held}
+use Rattle.pud_defs.specs.Holdings.Holding.{Sound, Wild}
+use Rattle.pud_defs.specs.PoolChanges.{pool_named}
+use Rattle.pud_defs.specs.Step.{graph_in, graph_seen, is_all_live, grows}
+use Rattle.pud_defs.specs.Stored.{Stored, places_of, stored_in}
+use Rattle.pud_defs.specs.Tables.{Tables, Pool, tables_of, puddles_of}
+use Rattle.pud_defs.specs.World.{Transaction, World}
+use Rattle.pud_defs.proofs.PoolsCounted.{few_members, length_puddles}
+use Rattle.pud_defs.proofs.PuddlesListed.{puddles_in_turn-listed}
+use Rattle.graph_laws.specs.Slots.{AreAllLive}
+use Rattle.graph_laws.proofs.LiveSlots.{objects-most, objects-live}
+use Rattle.registry.specs.Growth.{puddle_count, HoldsGraph}
+use Rattle.registry.proofs.PuddlesCounted.{puddle_count_by_world}
+use Rattle.ready_daemon.specs.Memory.{ActiveTransaction, Memory, active_under}
+use Rattle.ready_daemon.specs.ActiveTransactions.{IsActive}
+use Rattle.ready_daemon.specs.Ready.{IsReady}
+use Rattle.ready_daemon.proofs.InTurn.{active_in_turn}
+use Rattle.ready_daemon.proofs.PoolsBeside.{used_still}
+use Rattle.ready_daemon.proofs.TablesBeside.{tables_read, world_under, sound_read}
+use Rattle.pool_transaction.proofs.ActiveRuns.{is_active}
+
+-- a pool that has this graph
+pub record HasPool (found : Option Pool) (g : Graph) : Type 0 where
+  pub pool : Pool
+  pub there : found ≡ Some pool
+  pub holds : pool.holding ≡ Sound g
+
+sound_as : (h : Holding) (g : Graph) → graph_held h ≡ Some g → h ≡ Sound g
+sound_as (Sound k) g is = ap Sound (same_Some k g is)
+sound_as (Wild st) g is = absurd (none-some g is)
+
+has_pool : (found : Option Pool) (g : Graph) → graph_in found ≡ Some g → HasPool found g
+has_pool None g is = absurd (none-some g is)
+has_pool (Some pool) g is = record { pool = pool; there = refl; holds = sound_as pool.holding g is }
+
+module _ (size : ℕ) (w : World) (memory : Memory) (active : ActiveTransaction) (s : State) (number : ℕ) (there : active_under memory.active number ≡ Some active) (ready : IsReady size w memory s) where
+  abbrev F : ℕ
+  F = w.stored.frames
+
+  abbrev is : IsActive w active ready.mask s.now.words
+  is = is_active size w memory active s number there ready
+
+  abbrev t : Tables
+  t = tables_of F (reads s.now.words)
+
+  abbrev st : Stored
+  st = stored_in F is.puddles (reads s.now.words)
+
+  -- the world has it
+  pub its_pool : HasPool (pool_named active.name w.stored) is.undone
+  its_pool = has_pool (pool_named active.name w.stored) is.undone is.stored
+
+  pub by_record : pool_named is.rec.name w.stored ≡ Some its_pool.pool
+  by_record = ap (λ (name : List ℕ). pool_named name w.stored) is.name ∙ its_pool.there
+
+  pub its_graph : HoldsGraph is.rec.name w.stored is.undone
+  its_graph = record { pool = its_pool.pool; there = by_record; holds = its_pool.holds }
+
+  -- with as many puddles as the tables have
+  pub its_count : puddle_count t active.slot ≡ its_pool.pool.puddles
+  its_count =
+      sym (ap (λ (u : Tables). puddle_count u active.slot) (tables_read size w memory s ready))
+      ∙ puddle_count_by_world w.stored _ active.slot is.rec its_pool.pool (world_under size w memory s ready) is.pool.slot
+      (ap (λ (u : Tables). u.pools active.slot) (tables_read size w memory s ready) ∙ used_still w active ready.mask s.now.words is) by_record
+
+  -- which are those on which it is open
+  pub count_active : puddle_count t active.slot ≡ length is.puddles
+  count_active =
+      let turn = puddles_in_turn-listed w.stored.next_number t active.slot is.rec (sound_read size w memory s ready) is.pool.slot (used_still w active ready.mask s.now.words is) in
+      sym (length_puddles w.stored.next_number t (sound_read size w memory s ready) active.slot is.pool.slot)
+      ∙ sym (length-map (puddles_of t active.slot) (λ (e : ℕ × (ℕ × Puddle)). e.1)) ∙ sym (ap length turn) ∙ ap length (active_in_turn size w memory s ready number active there)
+
+  pub puddles_counted : its_pool.pool.puddles ≡ length is.puddles
+  puddles_counted = sym its_count ∙ count_active
+
+  pub some_active : 1 ≤ length is.puddles
+  some_active =
+      let sound = sound_read size w memory s ready in
+      let few = few_members w.stored.next_number t sound active.slot is.rec is.pool.slot (used_still w active ready.mask s.now.words is) in
+      let some = few.some in
+      let counted = length_puddles w.stored.next_number t sound active.slot is.pool.slot in
+      omega (arith, counted, count_active, some)
+
+  places : places_of st ≡ places_among (length is.puddles)
+  places = ap (λ n. places_among n) (length-map is.puddles (λ (e : ℕ × Puddle). e.1))
+
+  -- a pool that grows has as many objects as slots
+  pub grows_by : grows w active.name ≡ (length is.transaction.now.objects == slots_among (length is.puddles))
+  grows_by =
+      ap₂ (λ (o : Option Transaction) (found : Option Pool). is_all_live (graph_seen o found) found) is.is its_pool.there
+      ∙ ap (λ n. length is.transaction.now.objects == slots_among n) puddles_counted
+
+  -- and no free slot
+  pub grows_live : grows w active.name ≡ true → AreAllLive st
+  grows_live more =
+      let many = eqb-true (length is.transaction.now.objects) (slots_among (length is.puddles)) (sym grows_by ∙ more) in
+      (objects-live w.stored.types st is.transaction.now is.running.is).1 (many ∙ sym places)
+
+  pub grows_not : grows w active.name ≡ false → AreAllLive st → ⊥
+  grows_not less all =
+      let many = (objects-live w.stored.types st is.transaction.now is.running.is).0 all in
+      let no : true ≡ false = sym (eq-eqb (length is.transaction.now.objects) (slots_among (length is.puddles)) (many ∙ places)) ∙ sym grows_by ∙ less in
+      cc
+
+  pub objects_fit : length is.transaction.now.objects ≤ slots_among (length is.puddles)
+  objects_fit = let most = objects-most w.stored.types st is.transaction.now is.running.is in omega (arith, most, places)

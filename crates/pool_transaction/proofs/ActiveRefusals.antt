@@ -1,0 +1,188 @@
+-- Lines on a transaction that is held: which of them are refused.
+use Rattle.std.proofs.Common.{◌≡◌, inl, inr, ℕ, ◌+◌, Bool, true, false, not, cond, ◌&&◌, ◌||◌, ltb, eqb, Option, Some, None, is_none, option_map, refl, sym, ap, subst, ◌∙◌}
+use Rattle.std.specs.Prelude.{slice_get, List, IfSome}
+use Rattle.std.specs.Option.{option_or}
+use Rattle.pm_model.specs.Words.{reads}
+use Rattle.pm_model.specs.Moments.{State}
+use Rattle.pud_defs.specs.declared.layout.TheConstants.{LOG_ENTRY_WORDS, SET_UNITS}
+use Rattle.pud_defs.specs.declared.objects.Val.{Val}
+use Rattle.pud_defs.specs.declared.records.Puddle.{Puddle}
+use Rattle.pud_defs.specs.declared.records.Slot.{Slot}
+use Rattle.pud_defs.specs.declared.objects.Val.TheVariants.{Num, Ref}
+use Rattle.pud_defs.specs.declared.machine.Command.TheVariants.{Commit, Set, Root, Free}
+use Rattle.pud_defs.specs.declared.machine.Refusal.{Refusal}
+use Rattle.pud_defs.specs.declared.machine.Refusal.TheVariants as refusals
+use Rattle.pud_defs.specs.Image.{Image}
+use Rattle.pud_defs.specs.Types.{types_of}
+use Rattle.pud_defs.specs.Stored.{stored_in}
+use Rattle.pud_defs.specs.Graph.{Graph, Object, object_at, object_in, is_referenced, graph_of}
+use Rattle.pud_defs.specs.Laters.{laters_name}
+use Rattle.pud_defs.specs.PoolChanges.{pool_named}
+use Rattle.pud_defs.specs.World.{Transaction, World, open_on}
+use Rattle.pud_defs.specs.Transactions.{units_of, laters_of}
+use Rattle.pud_defs.specs.Step.{graph_seen, field_of, misses, are_of_two_kinds, refusal_of}
+use Rattle.puddle_header.specs.Places.{place_of_slot}
+use Rattle.graph_read.specs.declared.fields.FieldRead.{FieldRead}
+use Rattle.graph_read.specs.Reading.{table_in, place_in_pool, read_value, read_by}
+use Rattle.ready_daemon.specs.Memory.{ActiveTransaction, Memory, active_under}
+use Rattle.ready_daemon.specs.ActiveTransactions.{IsActive}
+use Rattle.log_store.specs.Store.{OpenLog}
+use Rattle.hybrid_tx.specs.Grounds.{IsPlaced}
+use Rattle.hybrid_tx.specs.Objects.Stores.{address_at, word_for, IsPlaceAndWord, LacksPlaceOrWord}
+use Rattle.hybrid_tx.specs.Objects.Transactions.{IsOpenOn}
+use Rattle.hybrid_tx.proofs.Objects.FieldsSet.{object_by_place}
+use Rattle.pool_transaction.specs.declared.changing.Update.{Update}
+use Rattle.pool_transaction.specs.declared.changing.Update.TheVariants as changes
+use Rattle.pool_transaction.specs.Changing.{update_line}
+use Rattle.pool_transaction.specs.Refusing.{room_refusal, field_refusal, refusal_to_free}
+use Rattle.ready_daemon.specs.Ready.{IsReady}
+use Rattle.ready_daemon.proofs.Beside.{active_is}
+use Rattle.pool_transaction.proofs.ActiveRuns.{active_placed}
+use Rattle.ready_daemon.proofs.TablesBeside.{types_read}
+use Rattle.pool_transaction.proofs.TransactionRefusals.{change_refusal, refusal_of-change, own_is_open}
+
+-- ---- what was read of a field, as the machine's causes
+
+by_field : (o : Option Val) (x : Val) (units : ℕ)
+    → field_refusal (read_value o) x units ≡ cond (is_none o) (Some refusals.Field) (cond (are_of_two_kinds o x) (Some refusals.Kind) (cond (ltb LOG_ENTRY_WORDS (units + SET_UNITS)) (Some refusals.TooBig) None))
+by_field None x units = refl
+by_field (Some v) x units = refl
+
+-- what is read where the object stands, if it does, and where the value's does
+abbrev by_places : (missed : Bool) (o : Option Object) (f : ℕ) (x : Val) (units : ℕ) → Option Refusal
+by_places missed o f x units =
+    cond (missed || is_none o) (Some refusals.Object)
+    (cond (is_none (field_of f o)) (Some refusals.Field)
+    (cond (are_of_two_kinds (field_of f o) x) (Some refusals.Kind)
+    (cond (ltb LOG_ENTRY_WORDS (units + SET_UNITS)) (Some refusals.TooBig) None)))
+
+missing : (missed : Bool) (f : ℕ) (x : Val) (units : ℕ) → Some refusals.Object ≡ by_places missed None f x units
+missing true f x units = refl
+missing false f x units = refl
+
+missed_when : {A : Type 0} (null : Bool) (place : Option ℕ) (object : ℕ → A) (address : ℕ → ℕ) → (not null && is_none (option_map object place)) ≡ is_none (cond null (Some 0) (option_map address place))
+missed_when true place object address = refl
+missed_when false None object address = refl
+missed_when false (Some p) object address = refl
+
+-- ---- on a ready device
+
+module _ (size : ℕ) (w : World) (memory : Memory) (s : State) (ready : IsReady size w memory s) (active : ActiveTransaction) (number : ℕ) (there : active_under memory.active number ≡ Some active) where
+  abbrev image : Image
+  image = reads s.now.words
+
+  abbrev is : IsActive w active ready.mask s.now.words
+  is = active_is w memory.active ready.mask s.now.words ready.active number active there
+
+  -- no line on it is refused before what it asks is looked at
+  pub own_active : refusal_of w (Commit active.client active.name) ≡ None
+  own_active = own_is_open w memory.active ready.mask s.now.words active.client active.name number ready.active (record { active = active; is = there; whose = refl; pool = refl })
+
+  -- its puddles have the graph that its client sees
+  graph_active : (frames : ℕ) → frames ≡ w.stored.frames → graph_of (types_of image) (stored_in frames is.puddles image) ≡ Some is.transaction.now
+  graph_active frames on = (λ p. graph_of ((types_read size w memory s ready).types p) (stored_in (on p) is.puddles image)) ∙ is.running.is
+
+  -- and lie as those of a ground
+  pub placed_at : (frames : ℕ) → frames ≡ w.stored.frames → IsPlaced frames is.puddles
+  placed_at frames on = subst (λ (n : ℕ). IsPlaced n is.puddles) (sym on) (active_placed size w memory active s number there ready)
+
+  -- a change of it is refused by its own causes alone
+  refused_by : (change : Update) → change_refusal change (Some is.transaction.now) is.transaction.laters is.transaction.units ≡ refusal_of w (update_line change active.client active.name)
+  refused_by change =
+      ap (λ (o : Option Transaction). change_refusal change (graph_seen o (pool_named active.name w.stored)) (laters_of o) (units_of o)) (sym is.is)
+      ∙ ap (λ (r : Option Refusal). option_or r (change_refusal change (graph_seen (open_on active.name w) (pool_named active.name w.stored)) (laters_of (open_on active.name w)) (units_of (open_on active.name w)))) (sym own_active)
+      ∙ sym (refusal_of-change w active.client active.name change)
+
+  module _ (frames : ℕ) (at : List (ℕ × Puddle)) (on : frames ≡ w.stored.frames) (same : at ≡ is.puddles) where
+    abbrev now : Graph
+    now = is.transaction.now
+
+    graph_at : graph_of (types_of image) (stored_in frames at image) ≡ Some now
+    graph_at = ap (λ puddles. graph_of (types_of image) (stored_in frames puddles image)) same ∙ graph_active frames on
+
+    object_is : (serial : ℕ) → object_in serial now ≡ option_map (object_at (table_in frames at image)) (place_in_pool frames at image serial)
+    object_is = object_by_place (types_of image) frames at image now graph_at
+
+    -- an object is missed where no word stands for the value
+    missed_is : (x : Val) → misses (Some now) x ≡ is_none (word_for frames at image x)
+    missed_is (Num v) = refl
+    missed_is (Ref r) =
+        ap (λ (o : Option Object). not (eqb r 0) && is_none o) (object_is r) ∙ missed_when (eqb r 0) (place_in_pool frames at image r) (object_at (table_in frames at image)) (address_at at)
+
+    -- why a field of it is not set, by where the object stands, and by the word of the value
+    by_found : (serial f units : ℕ) (x : Val) → units ≡ active.tx.units
+        → by_places (is_none (word_for frames at image x)) (option_map (object_at (table_in frames at image)) (place_in_pool frames at image serial)) f x units ≡ refusal_of w (Set active.client active.name serial f x)
+    by_found serial f units x used =
+        (λ p. by_places (sym (missed_is x) p) (sym (object_is serial) p) f x ((used ∙ sym is.units) p)) ∙ refused_by (changes.Set serial f x)
+
+    abbrev Placed : Type 0
+    Placed = IsPlaced frames at
+
+    placed : Placed
+    placed = subst (IsPlaced frames) (sym same) (placed_at frames on)
+
+    -- one of the two is not there
+    pub refused_unfound : (serial f : ℕ) (x : Val) → (Placed → LacksPlaceOrWord frames at image serial x) → Some refusals.Object ≡ refusal_of w (Set active.client active.name serial f x)
+    refused_unfound serial f x lacks =
+        elim (lacks placed) [
+          | inl none ↦
+              missing (is_none (word_for frames at image x)) f x active.tx.units
+              ∙ ap (λ (p : Option ℕ). by_places (is_none (word_for frames at image x)) (option_map (object_at (table_in frames at image)) p) f x active.tx.units) (sym none)
+          | inr none ↦ ap (λ (v : Option ℕ). by_places (is_none v) (option_map (object_at (table_in frames at image)) (place_in_pool frames at image serial)) f x active.tx.units) (sym none)
+        ]
+        ∙ by_found serial f active.tx.units x refl
+
+    -- both are: by what was read of the field
+    pub refused_to_set : (serial f units : ℕ) (x : Val) (slot : Slot) (word : ℕ) (read : FieldRead) (found : Option (Slot × ℕ)) → found ≡ Some (slot, word)
+        → (Placed → IfSome found (IsPlaceAndWord frames at image serial x)) → read ≡ read_by (Some (object_at (table_in frames at image) (place_of_slot slot))) f → units ≡ active.tx.units
+        → field_refusal read x units ≡ refusal_of w (Set active.client active.name serial f x)
+    refused_to_set serial f units x slot word read found is_found found_so is_read used =
+        let there = subst (λ (o : Option (Slot × ℕ)). IfSome o (IsPlaceAndWord frames at image serial x)) is_found (found_so placed) in
+        ap (λ (r : FieldRead). field_refusal r x units) is_read
+        ∙ by_field (slice_get (object_at (table_in frames at image) (place_of_slot slot)).fields f) x units
+        ∙ (λ p. by_places (is_none (sym there.1 p)) (option_map (object_at (table_in frames at image)) (sym there.0 p)) f x units)
+        ∙ by_found serial f units x used
+
+    -- why an object is not made the root: no word stands for it
+    by_word : (serial : ℕ) → cond (is_none (word_for frames at image (Ref serial))) (Some refusals.Object) (room_refusal active.tx.units) ≡ refusal_of w (Root active.client active.name serial)
+    by_word serial = (λ p. cond (sym (missed_is (Ref serial)) p) (Some refusals.Object) (room_refusal (sym is.units p))) ∙ refused_by (changes.Root serial)
+
+    pub refused_unrooted : (serial : ℕ) → (Placed → word_for frames at image (Ref serial) ≡ None) → Some refusals.Object ≡ refusal_of w (Root active.client active.name serial)
+    refused_unrooted serial none = (λ p. cond (is_none (sym (none placed) p)) (Some refusals.Object) (room_refusal active.tx.units)) ∙ by_word serial
+
+    -- or one does
+    pub refused_to_root : (serial units word : ℕ) → (Placed → word_for frames at image (Ref serial) ≡ Some word) → units ≡ active.tx.units → room_refusal units ≡ refusal_of w (Root active.client active.name serial)
+    refused_to_root serial units word is_word used = (λ p. cond (is_none (sym (is_word placed) p)) (Some refusals.Object) (room_refusal (used p))) ∙ by_word serial
+
+    -- why an object is not freed: there is none
+    pub refused_none_to_free : (serial : ℕ) → place_in_pool frames at image serial ≡ None → Some refusals.Object ≡ refusal_of w (Free active.client active.name serial)
+    refused_none_to_free serial none =
+        ap (λ (o : Option Object). cond (is_none o) (Some refusals.Object) (refusal_to_free (is_referenced serial now) (laters_name serial is.transaction.laters) is.transaction.units))
+        (sym (object_is serial ∙ ap (option_map (object_at (table_in frames at image))) none))
+        ∙ refused_by (changes.Free serial)
+
+  -- it is open on these puddles, by these types and with this log, in a state
+  abbrev pub IsOpenIn : State → ℕ → List (ℕ × Puddle) → List (ℕ × ℕ) → OpenLog → Type 0
+  IsOpenIn then frames at types log = IsOpenOn frames at types log is.before is.undone is.transaction.now is.transaction.laters then.now.words
+
+  -- so it is by the types that are read, and its puddles lie as those of a ground
+  open_read : (then : State) (frames : ℕ) (at : List (ℕ × Puddle)) (log : OpenLog) → then ≡ s → frames ≡ w.stored.frames → at ≡ is.puddles → log ≡ active.tx.log
+      → IsPlaced frames at × IsOpenIn then frames at (types_of image) log
+  open_read then frames at log still on same logged =
+      let typed = subst (λ (types : List (ℕ × ℕ)). IsOpenIn s w.stored.frames is.puddles types log) (sym (types_read size w memory s ready).types) (subst (IsOpenIn s w.stored.frames is.puddles w.stored.types) (sym logged) is.running) in
+      let opened = subst (λ (x : State). IsOpenIn x w.stored.frames is.puddles (types_of image) log) (sym still) typed in
+      subst (λ (n : ℕ). IsPlaced n at × IsOpenIn then n at (types_of image) log) (sym on)
+      (subst (λ (puddles : List (ℕ × Puddle)). IsPlaced w.stored.frames puddles × IsOpenIn then w.stored.frames puddles (types_of image) log) (sym same) (active_placed size w memory active s number there ready, opened))
+
+  -- or by what names one that is there
+  pub refused_to_free : (then : State) (frames serial units place : ℕ) (at : List (ℕ × Puddle)) (log : OpenLog) (named asked : Bool) → then ≡ s → (on : frames ≡ w.stored.frames) (same : at ≡ is.puddles) → log ≡ active.tx.log
+      → place_in_pool frames at image serial ≡ Some place
+      → ((g : Graph) → graph_of (types_of image) (stored_in frames at image) ≡ Some g → named ≡ is_referenced serial g)
+      → (IsPlaced frames at → IsOpenIn then frames at (types_of image) log → asked ≡ laters_name serial is.transaction.laters) → units ≡ active.tx.units
+      → refusal_to_free named asked units ≡ refusal_of w (Free active.client active.name serial)
+  refused_to_free then frames serial units place at log named asked still on same logged found names laters used =
+      let now : Graph = is.transaction.now in
+      let object = object_is frames at on same serial ∙ ap (option_map (object_at (table_in frames at image))) found in
+      let opened = open_read then frames at log still on same logged in
+      (λ p. cond (is_none (sym object p)) (Some refusals.Object) (refusal_to_free (names now (graph_at frames at on same) p) (laters opened.0 opened.1 p) ((used ∙ sym is.units) p)))
+      ∙ refused_by (changes.Free serial)

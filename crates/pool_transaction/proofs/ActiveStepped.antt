@@ -1,0 +1,278 @@
+-- A transaction that is held while steps of a puddle of its pool are rewritten, which is not finished before and may be behind: it stays open, and its
+-- own words are then those of the puddles that are finished then.
+use Rattle.std.proofs.Common.{◌≡◌, inl, inr, ℕ, ◌+◌, ◌-◌, ◌<◌, true, false, List, map, Option, Some, None, refl, sym, ap, subst, ◌∙◌, arith}
+use Rattle.std.specs.Prelude.{slice_get, unwrap_or}
+use Rattle.std.proofs.lemmas.Bool.{cases_Bool, eqb-true}
+use Rattle.std.proofs.lemmas.Option.{same_Some}
+use Rattle.pm_model.specs.Words.{HasOnly, reads}
+use Rattle.pm_model.specs.Moments.{State}
+use Rattle.pm_model.specs.Changes.{Write, Changes}
+use Rattle.pm_model.proofs.Words.{HasOnly-own, HasOnly-newest}
+use Rattle.pud_defs.specs.declared.layout.TheConstants.{DAEMON_LOG, FRAME_WORDS}
+use Rattle.pud_defs.specs.declared.records.Puddle.{Puddle}
+use Rattle.pud_defs.specs.Geometry.{steps_of}
+use Rattle.pud_defs.specs.Image.{Image}
+use Rattle.pud_defs.specs.Frames.{frame_at, frame_word}
+use Rattle.pud_defs.specs.Graph.{Graph, graph_of}
+use Rattle.pud_defs.specs.Layout.{device_words}
+use Rattle.pud_defs.specs.Puddles.{moved_to}
+use Rattle.pud_defs.specs.Replay.{overwritten}
+use Rattle.pud_defs.specs.SoundTables.{HasSoundTables}
+use Rattle.pud_defs.specs.Spaces.{owner_of}
+use Rattle.pud_defs.specs.Stored.{stored_in}
+use Rattle.pud_defs.specs.Tables.{tables_of, puddles_in_turn}
+use Rattle.pud_defs.specs.Types.{types_of}
+use Rattle.pud_defs.specs.World.{World}
+use Rattle.pud_defs.proofs.Replay.{overwritten-stays, outside_log}
+use Rattle.graph_laws.specs.Steps.{steps_in, with_steps}
+use Rattle.graph_laws.proofs.Rewritten.{slice_get-set_other}
+use Rattle.graph_laws.proofs.StepsStored.{write-other, graph_of-written, steps_in-same}
+use Rattle.batch.specs.Batches.{batch_write}
+use Rattle.batch.proofs.Tables.{reads_kept}
+use Rattle.lazy_rewrite.specs.Batches.{AreNextSteps, CommitsSteps}
+use Rattle.lazy_rewrite.proofs.Kept.{read_behind}
+use Rattle.lazy_rewrite.proofs.Spared.{AreFrames, HaveMoved-steps, batch_spares, place_in_pool-spared}
+use Rattle.lazy_rewrite.proofs.Turns.{ComesFrom, ComesFrom-steps}
+use Rattle.word_transaction.specs.Ground.{IsGround}
+use Rattle.word_transaction.proofs.Calls.{IsRunning-kept}
+use Rattle.word_transaction.proofs.Growing.{IsWider, IsRunning-values, IsRunning-wider}
+use Rattle.hybrid_tx.specs.Grounds.{pool_mine, pool_ground, IsPlaced, is_finished, finished_of}
+use Rattle.hybrid_tx.specs.Open.Masks.{OpenPool, open_mask}
+use Rattle.hybrid_tx.specs.Open.ManyOpen.{OpenTransaction}
+use Rattle.hybrid_tx.specs.Objects.Transactions.{IsOpenOn, RestsAs}
+use Rattle.hybrid_tx.proofs.FinishedPuddles.{stood, finished_there, finished_placed, mine_of_finished}
+use Rattle.hybrid_tx.proofs.PoolGrounds.{all_there, pool_mine-each, pool_mine-from, is_ground}
+use Rattle.hybrid_tx.proofs.Objects.LatersKept.{KeepsFinished, KeepsObjects-same, AreLaters-wider}
+use Rattle.hybrid_tx.proofs.Objects.Opening.{stored_in-mine}
+use Rattle.hybrid_tx.proofs.Open.OpenPools.{placed_by_tables}
+use Rattle.ready_daemon.specs.Memory.{ActiveTransaction}
+use Rattle.ready_daemon.specs.ActiveTransactions.{open_pool_of, open_transaction_of, IsActive, StaysSingle, ByOthers}
+use Rattle.ready_daemon.proofs.Beside.{own_masked, log_masked}
+use Rattle.pool_transaction.proofs.OwnMore.{OpensAnew, begun, own_begun, other_begun, FinishesMore, mine_later, wider_ground, comes_open}
+
+-- ---- puddles that are finished stay so, where they are
+
+module _ (F : ℕ) (at : List (ℕ × Puddle)) (goal : ℕ → ℕ) (o m : ℕ) (e : ℕ × Puddle) (next : AreNextSteps at goal o m e) where
+  abbrev pub stepped : List (ℕ × Puddle)
+  stepped = with_steps o m e at
+
+  comes : ComesFrom at stepped
+  comes = ComesFrom-steps at goal o m e next
+
+  -- one that is finished is not the one that moves
+  finished_apart : (i : ℕ) (d : ℕ × Puddle) → slice_get at i ≡ Some d → d.1.frontier ≡ steps_of d.1 → i ≡ o → ⊥
+  finished_apart i d there finished same =
+      let is : d ≡ e = same_Some d e (sym there ∙ ap (slice_get at) same ∙ next.here) in
+      absurd (omega (arith, next.some, next.last, finished, ap (λ (x : ℕ × Puddle). x.1.frontier) is))
+
+  pub finished_stays : (i : ℕ) (d : ℕ × Puddle) → slice_get at i ≡ Some d → d.1.frontier ≡ steps_of d.1 → slice_get stepped i ≡ Some d
+  finished_stays i d there finished = slice_get-set_other at o i (e.0, moved_to m e.1) (finished_apart i d there finished) ∙ there
+
+  -- and stands among those that are finished then
+  pub finished_later : (i : ℕ) (d : ℕ × Puddle) → slice_get (finished_of at) i ≡ Some d → (j : ℕ) × (slice_get (finished_of stepped) j ≡ Some d)
+  finished_later i d there =
+      let s = stood is_finished at i d there in
+      let finished : d.1.frontier ≡ steps_of d.1 = eqb-true d.1.frontier (steps_of d.1) s.passes in
+      finished_there F stepped s.index d (finished_stays s.index d s.there finished) finished
+
+  pub later : FinishesMore at stepped
+  later = record { each = finished_later }
+
+  -- the words of all of them are the same
+  pub mine_before : (k : ℕ) → pool_mine F stepped k ≡ true → pool_mine F at k ≡ true
+  mine_before k mine =
+      let own = pool_mine-each F stepped k mine in
+      let from = comes.each own.ordinal own.puddle own.there in
+      let frame = from.frame in
+      let low = own.low in
+      let high = own.high in
+      pool_mine-from F at k (record { ordinal = own.ordinal; puddle = from.puddle; there = from.here; low = omega arith; high = omega arith })
+
+  keeps : KeepsFinished at stepped
+  keeps = record {
+    slots = λ i d there. let moved = (HaveMoved-steps at goal o m e next).each i d there in record { puddle = (d.0, moved_to moved.frontier d.1); there = moved.there; addresses = λ slot. refl };
+    finished = finished_stays;
+  }
+
+-- ---- one transaction
+
+module _ (w : World) (active : ActiveTransaction) (mask : Write) (old new : State) (is : IsActive w active mask old.now.words) (goal : ℕ → ℕ) (o m : ℕ) (e : ℕ × Puddle) (next : AreNextSteps is.puddles goal o m e)
+    (c : CommitsSteps w.stored.frames is.puddles o m e None old new) (types : types_of (reads old.now.words) ≡ w.stored.types) (beside : Changes (ByOthers mask) None old new) (single : StaysSingle old new) where
+  abbrev F : ℕ
+  F = w.stored.frames
+
+  abbrev now : Image
+  now = reads new.now.words
+
+  -- its puddles with these steps
+  abbrev pub at : List (ℕ × Puddle)
+  at = stepped F is.puddles goal o m e next
+
+  abbrev q : OpenPool
+  q = open_pool_of active at is.rec is.who
+
+  -- the values of its beginning, and of the words that were not its own those that are read
+  abbrev pub before : Image
+  before = begun F is.puddles is.before now
+
+  abbrev pub opened_stepped : OpenTransaction
+  opened_stepped = open_transaction_of active at is.rec is.who before
+
+  own_word : (k : ℕ) → pool_mine F (finished_of is.puddles) k ≡ true → before k ≡ is.before k
+  own_word = own_begun F is.puddles is.before now
+
+  other_word : (k : ℕ) → pool_mine F (finished_of is.puddles) k ≡ false → before k ≡ now k
+  other_word = other_begun F is.puddles is.before now
+
+  -- a masked word is read as it was
+  masked_word : (k : ℕ) → (mask k ≡ None → ⊥) → now k ≡ reads old.now.words k
+  masked_word k masked = reads_kept (ByOthers mask) old new k beside (λ v none. masked none)
+
+  -- each word of the pool that is not its own has one value
+  rest_single : (k : ℕ) → pool_mine F is.puddles k ≡ true → pool_mine F (finished_of is.puddles) k ≡ false → HasOnly (new.now.words k) (before k)
+  rest_single k mine other =
+      let low = (pool_mine-each F is.puddles k mine).low in
+      let was = is.running.rests.each k mine other in
+      let one = single.each k (outside_log DAEMON_LOG k (inr (omega arith))) (HasOnly-own (old.now.words k) (is.before k) was) in
+      subst (λ (v : ℕ). HasOnly (new.now.words k) v) (sym (other_word k other)) one
+
+  module _ (number : ℕ) (sound : HasSoundTables number (tables_of F now)) (same_pools : (tables_of F now).pools active.slot ≡ (tables_of F (reads old.now.words)).pools active.slot)
+      (owners : owner_of now active.client ≡ w.clients active.client) (placed_was : IsPlaced F is.puddles) (listed : puddles_in_turn (tables_of F now) active.slot ≡ at) where
+    placed : IsPlaced F at
+    placed = placed_by_tables number F now active.slot at sound listed
+
+    placed_before : IsPlaced F (finished_of is.puddles)
+    placed_before = finished_placed F is.puddles placed_was
+
+    frames : AreFrames F is.puddles
+    frames = record { distinct = placed_was.frames; below = λ i d there. all_there (λ (x : ℕ × Puddle). x.0 < F) is.puddles i d placed_was.on_device.frames there }
+
+    pub comes_stepped : OpensAnew F (open_transaction_of active is.puddles is.rec is.who is.before) opened_stepped new.now.words
+    comes_stepped = comes_open w active mask old.now.words new.now.words is masked_word at (later F is.puddles goal o m e next) number sound same_pools owners listed
+
+    -- ---- what is open
+
+    wider : IsWider (pool_ground F (finished_of is.puddles)) (pool_ground F (finished_of at))
+    wider = wider_ground F is.puddles at (later F is.puddles goal o m e next) placed_before (finished_placed F at placed)
+
+    fresh_word : (k : ℕ) → pool_mine F (finished_of at) k ≡ true → pool_mine F (finished_of is.puddles) k ≡ false → HasOnly (new.now.words k) (before k)
+    fresh_word k own other = rest_single k (mine_before F is.puddles goal o m e next k (mine_of_finished F at k own)) other
+
+    rests_stepped : RestsAs F at before new.now.words
+    rests_stepped = record {
+      each = λ k mine other.
+          rest_single k (mine_before F is.puddles goal o m e next k mine) (elim (cases_Bool (pool_mine F (finished_of is.puddles) k)) [
+            | inr none ↦ none
+            | inl own ↦ absurd (let no : true ≡ false = sym (mine_later F is.puddles at (later F is.puddles goal o m e next) k own) ∙ other in cc)
+          ]);
+    }
+
+    ground : IsGround (device_words F) active.tx.log.gate_at (pool_ground F (finished_of is.puddles))
+    ground =
+        let gate = is.gate in
+        let known = is.pool.known in
+        is_ground F (device_words F) active.tx.log.gate_at (finished_of is.puddles) placed_before (omega arith) (omega arith)
+
+    -- ---- the graphs
+
+    -- an image with the frame of the puddle as it was read has the same graph with the steps written over it
+    graph_over : (i j : Image) (g : Graph) → ((k : ℕ) → k < FRAME_WORDS → frame_word F e.0 k i ≡ frame_word F e.0 k (reads old.now.words))
+        → ((k : ℕ) → pool_mine F at k ≡ true → j k ≡ overwritten (batch_write c.es) i k) → graph_of w.stored.types (stored_in F is.puddles i) ≡ Some g → graph_of w.stored.types (stored_in F at j) ≡ Some g
+    graph_over i j g frame same graph =
+        let image = reads old.now.words in
+        let write : steps_in F w.stored.types is.puddles i o m e ≡ batch_write c.es =
+        steps_in-same F w.stored.types is.puddles image i o m e next.here frame ∙ ap (λ (ts : List (ℕ × ℕ)). steps_in F ts is.puddles image o m e) (sym types) ∙ sym c.write in
+        ap (graph_of w.stored.types) (stored_in-mine F at (overwritten (batch_write c.es) i) j same)
+        ∙ ap (λ (x : ℕ → Option ℕ). graph_of w.stored.types (stored_in F at (overwritten x i))) (sym write)
+        ∙ graph_of-written F w.stored.types is.puddles i o m e placed_was.frames next.here (frames.below o e next.here) placed_was.bases (omega (arith, next.some)) g graph
+
+    -- a word of the frame is not one of its own
+    frame_other : (k : ℕ) → k < FRAME_WORDS → pool_mine F (finished_of is.puddles) (frame_at F e.0 + k) ≡ false
+    frame_other k low = elim (cases_Bool (pool_mine F (finished_of is.puddles) (frame_at F e.0 + k))) [
+      | inr other ↦ other
+      | inl own ↦
+          let n = pool_mine-each F (finished_of is.puddles) (frame_at F e.0 + k) own in
+          let from = n.low in
+          let to = n.high in
+          let s = stood is_finished is.puddles n.ordinal n.puddle n.there in
+          let finished : n.puddle.1.frontier ≡ steps_of n.puddle.1 = eqb-true n.puddle.1.frontier (steps_of n.puddle.1) s.passes in
+          absurd (finished_apart F is.puddles goal o m e next s.index n.puddle s.there finished (placed_was.frames.each s.index o n.puddle e s.there next.here (omega arith)))
+    ]
+
+    frame_mine : (k : ℕ) → k < FRAME_WORDS → pool_mine F is.puddles (frame_at F e.0 + k) ≡ true
+    frame_mine k low = pool_mine-from F is.puddles (frame_at F e.0 + k) (record { ordinal = o; puddle = e; there = next.here; low = omega arith; high = omega arith })
+
+    frame_was : (k : ℕ) → k < FRAME_WORDS → frame_word F e.0 k is.before ≡ frame_word F e.0 k (reads old.now.words)
+    frame_was k low = sym (HasOnly-newest (old.now.words (frame_at F e.0 + k)) (is.before (frame_at F e.0 + k)) (is.running.rests.each (frame_at F e.0 + k) (frame_mine k low) (frame_other k low)))
+
+    -- what is read of the pool is what was read, with the steps over it
+    read_over : (k : ℕ) → pool_mine F at k ≡ true → now k ≡ overwritten (batch_write c.es) (reads old.now.words) k
+    read_over k mine = let low = (pool_mine-each F at k mine).low in read_behind F is.puddles goal o m e old new next c k (inr (omega arith))
+
+    -- and so of the beginning
+    over_before : (k : ℕ) → pool_mine F at k ≡ true → before k ≡ overwritten (batch_write c.es) is.before k
+    over_before k mine = elim (cases_Bool (pool_mine F (finished_of is.puddles) k)) [
+      | inl own ↦ own_word k own ∙ sym (overwritten-stays (batch_write c.es) is.before k (unwritten k own))
+      | inr other ↦
+          other_word k other
+          ∙ read_over k mine
+          ∙ ap (λ (v : ℕ). unwrap_or (batch_write c.es k) v) (HasOnly-newest (old.now.words k) (is.before k) (is.running.rests.each k (mine_before F is.puddles goal o m e next k mine) other))
+    ]
+      where
+        unwritten : (k : ℕ) → pool_mine F (finished_of is.puddles) k ≡ true → batch_write c.es k ≡ None
+        unwritten k own =
+            let n = pool_mine-each F (finished_of is.puddles) k own in
+            let from = n.low in
+            let to = n.high in
+            ap (λ (x : ℕ → Option ℕ). x k) c.write
+            ∙ write-other F (types_of (reads old.now.words)) (map (λ (d : ℕ × Puddle). d.1) is.puddles) ((stored_in F is.puddles (reads old.now.words)).word o) o m e k
+            (λ low high.
+            let back : frame_at F e.0 + (k - frame_at F e.0) ≡ k = omega arith in
+            let no : true ≡ false = sym own ∙ ap (λ (j : ℕ). pool_mine F (finished_of is.puddles) j) (sym back) ∙ frame_other (k - frame_at F e.0) (omega arith) in
+            cc)
+            (λ frontier. let below = frames.below o e next.here in absurd (omega arith))
+
+    pub running_stepped : IsOpenOn F at w.stored.types active.tx.log before is.undone is.transaction.now is.transaction.laters new.now.words
+    running_stepped =
+        let r = is.running in
+        let g = pool_ground F (finished_of is.puddles) in
+        record {
+          redo = r.redo;
+          saving = record {
+            es = r.saving.es;
+            running = IsRunning-wider g (pool_ground F (finished_of at)) active.tx.log r.saving.es before new.now.words wider fresh_word
+                (IsRunning-values (device_words F) g active.tx.log r.saving.es is.before before new.now.words ground (λ k own. sym (own_word k own))
+                (IsRunning-kept g active.tx.log r.saving.es is.before (ByOthers mask) None old new beside (λ k v inside none. log_masked w active mask old.now.words is k inside none)
+                (λ k v own none. own_masked w active mask old.now.words is k own none) r.saving.running));
+            asks = r.saving.asks;
+          };
+          rests = rests_stepped;
+          was = graph_over is.before before is.undone frame_was over_before r.was;
+          is = graph_over (reads old.now.words) now is.transaction.now (λ k low. refl) read_over r.is;
+          are = AreLaters-wider F is.puddles at w.stored.types w.stored.types (reads old.now.words) now is.transaction.now is.transaction.now (keeps F is.puddles goal o m e next) (record { each = λ id x there. there })
+              (record { each = λ s object live. place_in_pool-spared F is.puddles at (reads old.now.words) now (batch_spares F is.puddles goal o m e old new next c frames) s }) (KeepsObjects-same is.transaction.now)
+              is.transaction.laters r.redo r.are;
+        }
+
+    -- It is held so, where its words are masked.
+    abbrev pub active_stepped : (anew : Write) → ((k v : ℕ) → open_mask F q before k ≡ Some v → anew k ≡ Some v) → IsActive w active anew new.now.words
+    active_stepped anew masks = record {
+      rec = is.rec;
+      who = is.who;
+      puddles = at;
+      before = before;
+      undone = is.undone;
+      transaction = is.transaction;
+      is = is.is;
+      client = is.client;
+      units = is.units;
+      present = is.present;
+      owner = is.owner;
+      gate = is.gate;
+      name = is.name;
+      stored = is.stored;
+      pool = comes_stepped.pool;
+      records = comes_stepped.records;
+      running = running_stepped;
+      masked = masks;
+    }

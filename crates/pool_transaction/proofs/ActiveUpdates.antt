@@ -1,0 +1,120 @@
+-- A line that updates a transaction that is held: the puddle that it writes is rewritten to its end, and then the update is made.
+use Rattle.std.proofs.Common.{◌≡◌, ℕ, ◌+◌, List, set, Option, Some, None, Result, sym, ap, subst, ◌∙◌}
+use Rattle.std.specs.Prelude.{IfOk}
+use Rattle.pm_model.specs.declared.host.HostFault.{HostFault}
+use Rattle.pm_model.specs.Counts.{fault_of}
+use Rattle.pm_model.specs.Words.{reads}
+use Rattle.pm_model.specs.Moments.{State}
+use Rattle.pud_defs.specs.declared.layout.TheConstants.{DAEMON_LOG, SET_UNITS}
+use Rattle.pud_defs.specs.declared.records.Puddle.{Puddle}
+use Rattle.pud_defs.specs.Graph.{Graph}
+use Rattle.pud_defs.specs.Image.{Image}
+use Rattle.pud_defs.specs.Laters.{Later}
+use Rattle.pud_defs.specs.Step.{refusal_of, after}
+use Rattle.pud_defs.specs.World.{Transaction, World}
+use Rattle.log_store.specs.Store.{OpenLog}
+use Rattle.batch.specs.Batches.{HasIdleGate}
+use Rattle.lazy_rewrite.specs.Entries.{HasLowBases}
+use Rattle.lazy_rewrite.specs.Batches.{Rewrites}
+use Rattle.lazy_rewrite.specs.Frontiers.{finished_at, frontier_at}
+use Rattle.hybrid_tx.specs.Grounds.{IsPlaced, IsRewrittenAt}
+use Rattle.hybrid_tx.specs.Objects.Transactions.{OpenTx, IsOpenOn, RunsOn}
+use Rattle.pool_transaction.specs.declared.changing.Found.{Found}
+use Rattle.pool_transaction.specs.declared.changing.Update.{Update}
+use Rattle.pool_transaction.specs.Changing.{IsActiveIn, with_opened, update_line, changed_by, MayChange, IsFoundBy, ordinal_written}
+use Rattle.ready_daemon.specs.Judged.{puddles_known, KnowsAlone}
+use Rattle.ready_daemon.specs.Memory.{ActiveTransaction, Memory}
+use Rattle.ready_daemon.specs.ActiveTransactions.{IsActive}
+use Rattle.ready_daemon.specs.Moves.{led_in}
+use Rattle.ready_daemon.specs.Ready.{IsReady}
+use Rattle.ready_daemon.proofs.ActiveUnder.{active_same}
+use Rattle.ready_daemon.proofs.InTurn.{active_known}
+use Rattle.pool_transaction.specs.Finishing.{end_of, AppliesTo}
+use Rattle.pool_transaction.proofs.Arriving.{AreEnds}
+use Rattle.pool_transaction.proofs.Leading.{ends_finished}
+use Rattle.pool_transaction.proofs.StepsMoved.{upto}
+use Rattle.known_pool.specs.Known.{by_puddles}
+use Rattle.pool_transaction.proofs.ActiveLines.{known_same}
+use Rattle.pool_transaction.proofs.ActiveRuns.{with_tx, is_active}
+use Rattle.pool_transaction.proofs.ActiveSets.{same_stored, Applies-line}
+use Rattle.pool_transaction.proofs.FinishedPools.{IsRewrittenAt-finished}
+use Rattle.pool_transaction.proofs.FoundBehind.{found_behind}
+use Rattle.pool_transaction.proofs.ActiveFinishes.{its_frontiers, Applies-unfinished, ready_finished, known_finished, spared_finished, Applies-behind}
+
+-- what the call owes that makes the update which was found
+abbrev pub CarriesOut : (F : ℕ) → List (ℕ × Puddle) → Found → (log now : OpenLog) → Option HostFault → State → State → Type 0
+CarriesOut F at found log now fault old new =
+    (types : List (ℕ × ℕ)) (before : Image) (undone : Graph) (t : Transaction) (update : Update) → IsPlaced F at → IsRewrittenAt at (ordinal_written found)
+    → IsOpenOn F at types log before undone t.now t.laters old.now.words → MayChange types t update → IsFoundBy F at (reads old.now.words) update found
+    → RunsOn F at types now before undone (changed_by update t).now (changed_by update t).laters fault old new
+
+-- and of the units
+abbrev pub CountsOut : (F : ℕ) → List (ℕ × Puddle) → (tx now : OpenTx) → Result Unit HostFault → State → Type 0
+CountsOut F at tx now done old =
+    (types : List (ℕ × ℕ)) (before : Image) (undone : Graph) (seen : Graph) (laters : List Later) → IsOpenOn F at types tx.log before undone seen laters old.now.words
+    → IfOk done (λ _. now.units ≡ tx.units + SET_UNITS)
+
+-- the memory that holds it on the puddles by which it knows the pool is the same
+pub opened_same : (F : ℕ) (active : ActiveTransaction) (at : List (ℕ × Puddle)) (memory : Memory) → IsActiveIn F active at memory → with_opened active.log_number active.slot active at memory ≡ memory
+opened_same F active at memory its = known_same active.log_number active.slot active at memory its.known ∙ active_same memory active.log_number active its.there
+
+module _ (size : ℕ) (w : World) (memory : Memory) (active : ActiveTransaction) (old : State) (F : ℕ) (at : List (ℕ × Puddle)) (its : IsActiveIn F active at memory) (ready : IsReady size w memory old)
+    (update : Update) (o : ℕ) (later : List (ℕ × Puddle)) (mid : State) where
+  on : F ≡ w.stored.frames
+  on = sym its.frames ∙ ready.frames
+
+  abbrev goal : ℕ → ℕ
+  goal = frontier_at o (finished_at o at)
+
+  abbrev next : World
+  next = after w (update_line update active.client active.name)
+
+  abbrev then : Memory
+  then = record memory { judged = set memory.judged active.slot (Some (by_puddles later)) }
+
+  -- what the call owes that rewrites the puddle of the ordinal
+  abbrev pub Finishes : Option HostFault → Type 0
+  Finishes fault = HasIdleGate DAEMON_LOG old.now.words → HasLowBases at → Rewrites F goal at later fault old mid
+
+  its_ends : AreEnds at (finished_at o at) (upto goal) (end_of o)
+  its_ends = ends_finished at o (its_frontiers size w memory active old active.log_number its.there ready F on at its.known)
+
+  -- it failed
+  pub Applies-unfinished_update : (found : Found) → o ≡ ordinal_written found → (behind : Memory) (fault : HostFault) → Finishes (Some fault)
+      → AppliesTo (led_in active.slot (end_of (ordinal_written found))) size w next behind (Some fault) old mid
+  Applies-unfinished_update found is behind fault finishes =
+      subst (λ (n : ℕ). AppliesTo (led_in active.slot (end_of n)) size w next behind (Some fault) old mid) is
+      (Applies-unfinished size w memory active old active.log_number its.there ready F on at its.known goal later (finished_at o at) (end_of o) its_ends fault mid finishes next behind
+      (same_stored w active.client active.name update))
+
+  -- or the update is made behind it
+  module _ (found : Found) (is : o ≡ ordinal_written found) (finished : later ≡ finished_at o at) (finishes : Finishes None) (lent : List (ℕ × Puddle)) (same : lent ≡ later) where
+    still_ready : IsReady size w then mid
+    still_ready = ready_finished size w memory active old active.log_number its.there ready F on at its.known goal later mid finishes
+
+    known_then : KnowsAlone then.judged active.slot later
+    known_then = known_finished size w memory active old active.log_number its.there ready F on at its.known goal later mid finishes
+
+    rewritten_lent : IsRewrittenAt lent (ordinal_written found)
+    rewritten_lent =
+        subst (λ (n : ℕ). IsRewrittenAt lent n) is
+        (subst (λ (ds : List (ℕ × Puddle)). IsRewrittenAt ds o) (sym (same ∙ finished)) (IsRewrittenAt-finished at o (its_frontiers size w memory active old active.log_number its.there ready F on at its.known)))
+
+    found_lent : IsFoundBy F at (reads old.now.words) update found → IsFoundBy F lent (reads mid.now.words) update found
+    found_lent by =
+        let spares = spared_finished size w memory active old active.log_number its.there ready F on at its.known goal later mid finishes in
+        subst (λ (ds : List (ℕ × Puddle)). IsFoundBy F ds (reads mid.now.words) update found) (sym same) (found_behind F at later (reads old.now.words) (reads mid.now.words) spares update found by)
+
+    pub Applies-update : (tx : OpenTx) (new : State) → tx.log.gate_at ≡ active.tx.log.gate_at → (done : Result Unit HostFault) → refusal_of w (update_line update active.client active.name) ≡ None
+        → IsFoundBy F at (reads old.now.words) update found → CarriesOut F lent found active.tx.log tx.log (fault_of done) mid new → CountsOut F lent active.tx tx done mid
+        → AppliesTo (led_in active.slot (end_of (ordinal_written found))) size w next (with_opened active.log_number active.slot (with_tx tx active) later memory) (fault_of done) old new
+    Applies-update tx new gate done free by runs counts =
+        let listed = same ∙ sym (active_known size w then mid still_ready active.log_number active its.there later (ap puddles_known known_then)) in
+        let one : IsActive w active still_ready.mask mid.now.words = is_active size w then active mid active.log_number its.there still_ready in
+        subst (λ (n : ℕ). AppliesTo (led_in active.slot (end_of n)) size w next (with_opened active.log_number active.slot (with_tx tx active) later memory) (fault_of done) old new) is
+        (Applies-behind size w memory active old active.log_number its.there ready F on at its.known goal later (finished_at o at) (end_of o) its_ends mid finishes next
+        (with_opened active.log_number active.slot (with_tx tx active) later memory) (fault_of done) new
+        (same_stored w active.client active.name update) (ap puddles_known known_then ∙ ap (λ (ds : List (ℕ × Puddle)). Some ds) finished)
+        (Applies-line size w then active mid active.log_number its.there still_ready F lent on listed tx new gate (subst (KnowsAlone then.judged active.slot) (sym same) known_then) update done free
+        (λ may placed running. runs w.stored.types one.before one.undone one.transaction update placed rewritten_lent running may (found_lent by))
+        (λ placed running. counts w.stored.types one.before one.undone one.transaction.now one.transaction.laters running)))

@@ -1,0 +1,84 @@
+use Rattle.std.proofs.Common.{◌≡◌, ℕ, List, Some, None, refl, sym, ap, subst, ◌∙◌}
+use Rattle.std.proofs.lemmas.Option.{none-some}
+use Rattle.std.proofs.lemmas.Result.{err_from_is_err_and}
+use Rattle.pm_model.proofs.Reading.{still_size}
+use Rattle.pm_model.specs.Words.{reads}
+use Rattle.pud_defs.specs.declared.records.Puddle.{Puddle}
+use Rattle.pud_defs.specs.Step.{refusal_of, world_by}
+use Rattle.pud_defs.proofs.Steps.{refused_answer}
+use Rattle.known_pool.specs.Known.{Known, IsKnown, with_puddles}
+use Rattle.known_pool.proofs.KnownKept.{IsKnown-puddles}
+use Rattle.registry.specs.Places.{refusal_in}
+use Rattle.pool_transaction.specs.Changing.{with_known, update_line, IsFoundWithin}
+use Rattle.ready_daemon.specs.Memory.{Memory}
+use Rattle.ready_daemon.specs.Ready.{IsReady}
+use Rattle.ready_daemon.proofs.Applying.{Applies-stopped, Applies-refused}
+use Rattle.pool_transaction.proofs.ChangeAnswers.{change_answer}
+use Rattle.pool_transaction.proofs.ActiveAlone.{known_so, known_on}
+use Rattle.pool_transaction.proofs.HeldFound.{placed_on, Applies-found}
+use Rattle.pool_transaction.specs.Finishing.{FinishesFor, FinishesUnless}
+use Rattle.pool_transaction.proofs.Leading.{finishing_failed, finishing_refused}
+use Rattle.pool_transaction.proofs.transaction.PoolTransaction.update_or_refuse.Goals as goal
+
+pub returns-in_err-found-clause-applies : goal.returns-in_err-found-clause-applies
+returns-in_err-found-clause-applies g c =
+    let p = err_from_is_err_and c.from_residual.result c.from_residual.ensures.1 in
+    rw (p.1, p.2) (λ t size e w memory its ready.
+    let active = c.args.self.now in
+    let k = c.in_err-found.ensures.only_reads in
+    finishing_failed active.slot (FinishesUnless (refusal_of w (update_line c.args.update active.client active.name)) (FinishesFor c.args.frames c.args.pool.now.puddles (reads (g.H.Host.state c.args.h.now).now.words) c.args.update)) size w _ _ _ _ _ k.never_cut
+    (Applies-stopped size w (world_by w (Some (update_line c.args.update active.client active.name))) memory (with_known active.log_number active.slot active c.args.pool.now memory) c.in_err-found.field-0.0 _ _
+    ready (k.stays t) (λ cut. absurd (k.never_cut cut))))
+
+pub returns-in-Err-clause-reply : goal.returns-in-Err-clause-reply
+returns-in-Err-clause-reply g c = λ t size w memory its ready.
+    let active = c.args.self.now in
+    sym (refused_answer w (update_line c.args.update active.client active.name) c.in-Err.refusal (sym (c.in_ok-found.ensures.refusal t size w memory its ready) ∙ ap refusal_in c.in-Err.is))
+
+pub returns-in-Err-clause-applies : goal.returns-in-Err-clause-applies
+returns-in-Err-clause-applies g c = λ t size e w memory its ready.
+    let active = c.args.self.now in
+    let refused = sym (c.in_ok-found.ensures.refusal t size w memory its ready) ∙ ap refusal_in c.in-Err.is in
+    finishing_refused active.slot (FinishesFor c.args.frames c.args.pool.now.puddles (reads (g.H.Host.state c.args.h.now).now.words) c.args.update) (refusal_of w (update_line c.args.update active.client active.name)) c.in-Err.refusal refused size w _ _ _ _ _
+    (Applies-refused size w (with_known active.log_number active.slot active c.args.pool.now memory) (update_line c.args.update active.client active.name) c.in-Err.refusal _ _
+    (subst (λ (m : Memory). IsReady size w m (g.H.Host.state c.args.h.now)) (sym (known_on c.args.frames active c.args.pool.now memory its)) ready)
+    refused (c.in_ok-found.ensures.only_reads.stays t))
+
+pub update-requires-clause-found : goal.update-requires-clause-found
+update-requires-clause-found g c =
+    let puddles : c.pool.inside.puddles ≡ c.args.pool.now.puddles = ap (λ (k : Known). k.puddles) (c.pool.view_is ∙ c.forget.ensures) in
+    subst (λ (at : List (ℕ × Puddle)). IsFoundWithin at c.in-Ok.found) (sym puddles) (rw c.in-Ok.is at c.in_ok-found.ensures.within)
+
+pub returns-clause-reply : goal.returns-clause-reply
+returns-clause-reply g c = λ t size w memory its ready.
+    let active = c.args.self.now in
+    change_answer active.client active.name w c.args.update (sym (c.in_ok-found.ensures.refusal t size w memory its ready) ∙ ap refusal_in c.in-Ok.is)
+
+pub returns-in_err-update-clause-applies : goal.returns-in_err-update-clause-applies
+returns-in_err-update-clause-applies g c =
+    let p = err_from_is_err_and c.from_residual-in_err-update.result c.from_residual-in_err-update.ensures.1 in
+    rw (p.1, p.2) (λ t size e w memory its ready.
+    let active = c.args.self.now in
+    let known = c.args.pool.now in
+    let F = c.args.frames in
+    let old = g.H.Host.state c.args.h.now in
+    let view = c.pool.view_is ∙ c.forget.ensures in
+    let k = c.in_ok-found.ensures in
+    let free = sym (k.refusal t size w memory its ready) ∙ ap refusal_in c.in-Ok.is in
+    let by = rw c.in-Ok.is at (k.found t (reads old.now.words) refl (known_so F active known memory its size w old ready) (placed_on F active known memory its size w old ready)) in
+    Applies-found F active known memory its size w old ready c.args.update c.in-Ok.found free (rw c.in-Ok.is at k.within) by c.pool.inside.puddles c.update.new.pool c.update.new.self _ (Some c.in_err-update.field-0.0) _ _
+    (ap (λ (x : Known). x.at) view) refl (k.only_reads.stays t) (c.in_err-update.ensures.applies t c.args.update size (still_size k.only_reads e) w) (λ none. absurd (none-some _ (sym none))))
+
+pub returns-clause-applies : goal.returns-clause-applies
+returns-clause-applies g c = λ t size e w memory its ready.
+    let active = c.args.self.now in
+    let known = c.args.pool.now in
+    let F = c.args.frames in
+    let old = g.H.Host.state c.args.h.now in
+    let view = c.pool.view_is ∙ c.forget.ensures in
+    let k = c.in_ok-found.ensures in
+    let free = sym (k.refusal t size w memory its ready) ∙ ap refusal_in c.in-Ok.is in
+    let by = rw c.in-Ok.is at (k.found t (reads old.now.words) refl (known_so F active known memory its size w old ready) (placed_on F active known memory its size w old ready)) in
+    Applies-found F active known memory its size w old ready c.args.update c.in-Ok.found free (rw c.in-Ok.is at k.within) by c.pool.inside.puddles c.update.new.pool c.update.new.self _ None _ _
+    (ap (λ (x : Known). x.at) view) refl (k.only_reads.stays t) (c.in_ok-update.ensures.applies t c.args.update size (still_size k.only_reads e) w)
+    (λ none. subst (IsKnown F _) (sym (ap (with_puddles c.update.new.pool) view)) (IsKnown-puddles F c.update.new.pool _))

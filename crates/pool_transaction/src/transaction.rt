@@ -1,0 +1,129 @@
+//! Transactions that are open, as the daemon holds them.
+
+ghost use Rattle.std.specs.Prelude.{◌≡◌, Option, replicate};
+ghost use Rattle.pud_defs.specs.Settled.{ALL_LOGS};
+
+use hybrid_tx::Tx;
+use pud_defs::layout::LOGS;
+use pud_defs::records::Name;
+use std::array;
+use std::marker::Model;
+
+/// A transaction that is open.
+pub struct PoolTransaction {
+    /// Whose it is, 0 to 7.
+    pub client: u8,
+    /// The name of its pool.
+    pub name: Name,
+    /// The slot of the pool's record.
+    pub slot: u32,
+    /// The number of its log among those of all clients, 0 to 31.
+    pub log_number: u32,
+    /// What it changes.
+    pub tx: Tx,
+}
+
+impl Model for PoolTransaction {
+    ghost use Rattle.ready_daemon.specs.Memory.{ActiveTransaction};
+
+    ghost Value = { ActiveTransaction };
+
+    ghost view = { λ o. record { client = o.client; name = o.name; slot = o.slot; log_number = o.log_number; tx = o.tx } };
+}
+
+/// The transactions that are open, by the numbers of their logs.
+pub type PoolTransactions = [Option<PoolTransaction>; LOGS];
+
+/// No transaction is open.
+pub fn no_transactions() -> PoolTransactions
+    ensures { result ≡ replicate ALL_LOGS Option.None }
+{
+    array::from_fn(|_| None)
+}
+
+/// Gives up what is open, where something is: power was lost, or the daemon ends. No device is touched.
+pub fn lose(opened: Option<PoolTransaction>) {
+    match opened {
+        Some(opened) => {
+            let PoolTransaction {
+                client: _client,
+                name: _name,
+                slot: _slot,
+                log_number: _number,
+                tx,
+            } = opened;
+            tx.lose();
+        }
+        None => {}
+    }
+}
+
+/// Gives up all that is open. No device is touched.
+pub fn lose_all(opened: PoolTransactions) {
+    let [
+        o0,
+        o1,
+        o2,
+        o3,
+        o4,
+        o5,
+        o6,
+        o7,
+        o8,
+        o9,
+        o10,
+        o11,
+        o12,
+        o13,
+        o14,
+        o15,
+        o16,
+        o17,
+        o18,
+        o19,
+        o20,
+        o21,
+        o22,
+        o23,
+        o24,
+        o25,
+        o26,
+        o27,
+        o28,
+        o29,
+        o30,
+        o31,
+    ] = opened;
+    lose(o0);
+    lose(o1);
+    lose(o2);
+    lose(o3);
+    lose(o4);
+    lose(o5);
+    lose(o6);
+    lose(o7);
+    lose(o8);
+    lose(o9);
+    lose(o10);
+    lose(o11);
+    lose(o12);
+    lose(o13);
+    lose(o14);
+    lose(o15);
+    lose(o16);
+    lose(o17);
+    lose(o18);
+    lose(o19);
+    lose(o20);
+    lose(o21);
+    lose(o22);
+    lose(o23);
+    lose(o24);
+    lose(o25);
+    lose(o26);
+    lose(o27);
+    lose(o28);
+    lose(o29);
+    lose(o30);
+    lose(o31);
+}
