@@ -15,7 +15,7 @@ use Rattle.pud_defs.specs.declared.records.PuddleRec.{PuddleRec}
 use Rattle.pud_defs.specs.Image.{Image}
 use Rattle.pud_defs.specs.Names.{name_cmp}
 use Rattle.pud_defs.specs.Keyed.{under, keyed, first_from, without}
-use Rattle.pud_defs.specs.Pools.{IsHeld}
+use Rattle.pud_defs.specs.Pools.{IsEncodable}
 use Rattle.pud_defs.specs.Puddles.{Member}
 use Rattle.pud_defs.specs.Tables.{Tables, Pool, Reader, tables_of, member_of, members, puddles_of, named, pool_of, entries, pools_of}
 use Rattle.pud_defs.specs.Puts.{with_put, pool_put, puddle_put, member_by, changed_at, with_pool_at, with_puddle_at, is_of_pool, without_pool_at}
@@ -177,7 +177,7 @@ module _ (t : Tables) (slot frame : ℕ) (r : PoolRec) (m : Member) (h : IsMade 
       })
 
 -- the words of both records make it of an image
-pub tables_of-made : (F : ℕ) (image : Image) (slot frame : ℕ) (r : PoolRec) (p : PuddleRec) → slot < POOL_RECORDS → IsHeld r → frame < F → p.pool + 1 < 2 ^ 32
+pub tables_of-made : (F : ℕ) (image : Image) (slot frame : ℕ) (r : PoolRec) (p : PuddleRec) → slot < POOL_RECORDS → IsEncodable r → frame < F → p.pool + 1 < 2 ^ 32
     → tables_of F (with_put (puddle_put frame p) (with_put (pool_put slot r) image)) ≡ made slot frame r (member_by p) (tables_of F image)
 tables_of-made F image slot frame r p slot_below held frame_below fits =
     puddle_put_made F (with_put (pool_put slot r) image) frame p frame_below fits ∙ ap (with_puddle_at frame (Some (member_by p))) (pool_put_made F image slot slot_below r held)

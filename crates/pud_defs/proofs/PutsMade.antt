@@ -11,7 +11,7 @@ use Rattle.pud_defs.specs.declared.records.PuddleRec.{PuddleRec}
 use Rattle.pud_defs.specs.declared.records.Put.{Put}
 use Rattle.pud_defs.specs.Image.{Image}
 use Rattle.pud_defs.specs.Names.{IsName, name_by, is_legal_name}
-use Rattle.pud_defs.specs.Pools.{IsHeld, pool_record_at, pool_by, pool_at, owner_uid, owner_gid, owner_word, name_word, next_name_word}
+use Rattle.pud_defs.specs.Pools.{IsEncodable, pool_record_at, pool_by, pool_at, owner_uid, owner_gid, owner_word, name_word, next_name_word}
 use Rattle.pud_defs.specs.Puddles.{Member, puddle_record_at, puddle_by, puddle_at, member_pool, member_ordinal, member_word}
 use Rattle.pud_defs.specs.Tables.{tables_of}
 use Rattle.pud_defs.specs.Puts.{with_put, pool_put, mode_put, free_pool_put, puddle_put, free_puddle_put, with_pool_at, with_puddle_at, with_mode, member_by}
@@ -87,7 +87,7 @@ gid_of uid gid h = omega arith
 abbrev record_by : (name : List ℕ) (uid gid mode number : ℕ) → PoolRec
 record_by name uid gid mode number = record { name = name; uid = uid; gid = gid; mode = mode; number = number }
 
-pool_by-words : (r : PoolRec) → IsHeld r → pool_by (name_word r.name) (next_name_word r.name) (owner_word r.uid r.gid) r.mode r.number ≡ Some r
+pool_by-words : (r : PoolRec) → IsEncodable r → pool_by (name_word r.name) (next_name_word r.name) (owner_word r.uid r.gid) r.mode r.number ≡ Some r
 unfolding pool_by
 pool_by-words r h =
     let owner = owner_word r.uid r.gid in
@@ -119,7 +119,7 @@ module _ (F : ℕ) (image : Image) (slot : ℕ) (within : slot < POOL_RECORDS) w
       (λ k l h. with_put-outside put image k (λ from to. omega arith))
 
   -- the words of a record put it into the slot
-  pub pool_put_made : (r : PoolRec) → IsHeld r → tables_of F (with_put (pool_put slot r) image) ≡ with_pool_at slot (Some r) (tables_of F image)
+  pub pool_put_made : (r : PoolRec) → IsEncodable r → tables_of F (with_put (pool_put slot r) image) ≡ with_pool_at slot (Some r) (tables_of F image)
   pool_put_made r h =
       let put = pool_put slot r in
       in_record put (omega arith) (omega arith)

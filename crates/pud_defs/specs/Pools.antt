@@ -44,7 +44,7 @@ abbrev pub pool_words : PoolRec → List ℕ
 pool_words r = name_word r.name ∷ next_name_word r.name ∷ owner_word r.uid r.gid ∷ r.mode ∷ r.number ∷ []
 
 -- a record that its words hold: it has a legal name, and its uid has its own half of a word
-pub record IsHeld (r : PoolRec) : Type 0 where
+pub record IsEncodable (r : PoolRec) : Type 0 where
   pub name : IsName r.name
   pub legal : is_legal_name r.name ≡ true
   pub uid : r.uid < 2 ^ 32

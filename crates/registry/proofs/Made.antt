@@ -10,7 +10,7 @@ use Rattle.pud_defs.specs.declared.records.PoolRec.{PoolRec}
 use Rattle.pud_defs.specs.Image.{Image}
 use Rattle.pud_defs.specs.Names.{name_cmp}
 use Rattle.pud_defs.specs.Keyed.{first_from}
-use Rattle.pud_defs.specs.Pools.{IsHeld}
+use Rattle.pud_defs.specs.Pools.{IsEncodable}
 use Rattle.pud_defs.specs.Puddles.{Member}
 use Rattle.pud_defs.specs.Places.{IsLowestBase}
 use Rattle.pud_defs.specs.Spaces.{Owner, owner}
@@ -115,7 +115,7 @@ module _ (s : StoredWorld) (image : Image) (a : Added) (r : PoolRec) (world : Re
     new_name = no_name t r.name place.absent;
   }
 
-  is_held : IsHeld r
+  is_held : IsEncodable r
   is_held = let uid = legal.uid_fits in record { name = legal.is_name; legal = legal.has_legal_name; uid = omega arith }
 
   is_added : IsAdded (s.next_number + NUMBERS_DRAWN) t r m

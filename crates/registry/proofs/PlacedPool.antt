@@ -30,7 +30,7 @@ use Rattle.pud_defs.specs.Imports.{types_missing, numbers_drawn, imported_pool, 
 use Rattle.pud_defs.specs.Layout.{tables_end, frames_at}
 use Rattle.pud_defs.specs.Names.{name_cmp}
 use Rattle.pud_defs.specs.Placement.{placed_frontier}
-use Rattle.pud_defs.specs.Pools.{IsHeld}
+use Rattle.pud_defs.specs.Pools.{IsEncodable}
 use Rattle.pud_defs.specs.Puddles.{Member}
 use Rattle.pud_defs.specs.Puts.{pool_put, member_by, with_put, with_pool_at, with_puddle_at}
 use Rattle.pud_defs.specs.Replay.{settled_by}
@@ -185,7 +185,7 @@ module _ (s : StoredWorld) (image : Image) (file : FileContents) (wanted : List 
       let one = (each_placed i (puddle_of a) (puddle_there puddles i a there)).frame in
       (omega (arith, one, frames_of_tables s.frames image), (place.members i a there).0))
 
-  is_held : IsHeld r
+  is_held : IsEncodable r
   is_held = let uid = legal.uid_fits in record { name = legal.is_name; legal = legal.has_legal_name; uid = omega arith }
 
   -- ---- the pools
