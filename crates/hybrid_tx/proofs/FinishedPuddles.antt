@@ -11,8 +11,8 @@ use Rattle.pud_defs.specs.declared.records.Puddle.{Puddle}
 use Rattle.pud_defs.specs.Bases.{is_legal_base}
 use Rattle.pud_defs.specs.Geometry.{steps_of}
 use Rattle.graph_laws.specs.Changes.{AreBases}
-use Rattle.hybrid_tx.specs.Grounds.{pool_mine, is_finished, finished_of, IsPlaced}
-use Rattle.hybrid_tx.proofs.PoolGrounds.{base_there, bases_of, pool_mine-each, pool_mine-from}
+use Rattle.hybrid_tx.specs.PoolScopes.{pool_has_word, is_finished, finished_of, IsPlaced}
+use Rattle.hybrid_tx.proofs.PoolScope.{base_there, bases_of, pool_has_word-each, pool_has_word-from}
 
 -- ---- what passes a test
 
@@ -138,15 +138,15 @@ module _ (F : ℕ) (at : List (ℕ × Puddle)) where
       }
 
   -- the words of the finished ones are among those of all
-  pub mine_of_finished : (k : ℕ) → pool_mine F (finished_of at) k ≡ true → pool_mine F at k ≡ true
+  pub mine_of_finished : (k : ℕ) → pool_has_word F (finished_of at) k ≡ true → pool_has_word F at k ≡ true
   mine_of_finished k mine =
-      let m = pool_mine-each F (finished_of at) k mine in
+      let m = pool_has_word-each F (finished_of at) k mine in
       let s = stood is_finished at m.ordinal m.puddle m.there in
-      pool_mine-from F at k (record { ordinal = s.index; puddle = m.puddle; there = s.there; low = m.low; high = m.high })
+      pool_has_word-from F at k (record { ordinal = s.index; puddle = m.puddle; there = s.there; low = m.low; high = m.high })
 
   -- so what is none of all is none of these
-  pub none_of_finished : (k : ℕ) → pool_mine F at k ≡ false → pool_mine F (finished_of at) k ≡ false
-  none_of_finished k other = elim (cases_Bool (pool_mine F (finished_of at) k)) [
+  pub none_of_finished : (k : ℕ) → pool_has_word F at k ≡ false → pool_has_word F (finished_of at) k ≡ false
+  none_of_finished k other = elim (cases_Bool (pool_has_word F (finished_of at) k)) [
     | inr none ↦ none
     | inl mine ↦ absurd (let it : true ≡ false = sym (mine_of_finished k mine) ∙ other in cc)
   ]

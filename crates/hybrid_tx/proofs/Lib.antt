@@ -1,4 +1,4 @@
-pub mod PoolGrounds
+pub mod PoolScope
 pub mod FinishedPuddles
 pub mod Objects
 pub mod Open

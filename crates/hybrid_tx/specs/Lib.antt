@@ -1,3 +1,3 @@
-pub mod Grounds
+pub mod PoolScopes
 pub mod Objects
 pub mod Open

@@ -24,7 +24,7 @@ ghost use Rattle.puddle_header.specs.Places.{place_of_slot, IsSlotOf};
 ghost use Rattle.graph_read.specs.Reading.{place_in_pool};
 ghost use Rattle.object_alloc.specs.Alloc.{serial_word_at};
 ghost use Rattle.word_transaction.specs.Running.{ByTransaction};
-ghost use Rattle.hybrid_tx.specs.Grounds.{pool_ground, finished_of, IsPlaced, IsRewrittenAt};
+ghost use Rattle.hybrid_tx.specs.PoolScopes.{pool_scope, finished_of, IsPlaced, IsRewrittenAt};
 ghost use Rattle.pud_defs.specs.Laters.{Later, laters_name};
 ghost use Rattle.hybrid_tx.specs.Objects.Stores.{address_at, word_for, IsPlaceAndWord, LacksPlaceOrWord, new_words, ByPutBoth};
 ghost use Rattle.hybrid_tx.specs.Objects.Transactions.{MayName, MaySet, IsRewrittenFor, IsRewrittenAtLowest, MayFree, IsSaving, IsOpenOn, Saves, RunsOn, MakesIn};
@@ -143,7 +143,7 @@ impl Tx {
         requires field { f < MAX_FIELDS }
         requires room { (self.old).units + SET_UNITS ≤ LOG_ENTRY_WORDS }
         ensures at { (self.new).log.gate_at ≡ (self.old).log.gate_at }
-        ensures changes { H.tells → Changes (ByTransaction (pool_ground frames pool.now) (self.old).log.gate_at) (fault_of result) (H.state h.old) (H.state h.new) }
+        ensures changes { H.tells → Changes (ByTransaction (pool_scope frames pool.now) (self.old).log.gate_at) (fault_of result) (H.state h.old) (H.state h.new) }
         ensures runs { H.tells → (types : List (ℕ × ℕ)) (before : Image) (undone : Graph) (now : Graph) (laters : List Later) → IsPlaced frames pool.now
             → IsRewrittenFor frames pool.now (reads (H.state h.old).now.words) s → IsOpenOn frames pool.now types (self.old).log before undone now laters (H.state h.old).now.words → MaySet types now s f x
             → RunsOn frames pool.now types (self.new).log before undone (with_field s f x now) laters (fault_of result) (H.state h.old) (H.state h.new) }
@@ -182,7 +182,7 @@ impl Tx {
         requires field { f < MAX_FIELDS }
         requires room { (self.old).units + SET_UNITS ≤ LOG_ENTRY_WORDS }
         ensures at { (self.new).log.gate_at ≡ (self.old).log.gate_at }
-        ensures changes { H.tells → Changes (ByTransaction (pool_ground frames pool.now) (self.old).log.gate_at) (fault_of result) (H.state h.old) (H.state h.new) }
+        ensures changes { H.tells → Changes (ByTransaction (pool_scope frames pool.now) (self.old).log.gate_at) (fault_of result) (H.state h.old) (H.state h.new) }
         ensures runs { H.tells → (types : List (ℕ × ℕ)) (before : Image) (undone : Graph) (now : Graph) (laters : List Later) (s : ℕ) (x : Val) → IsPlaced frames pool.now
             → IsRewrittenFor frames pool.now (reads (H.state h.old).now.words) s → IsOpenOn frames pool.now types (self.old).log before undone now laters (H.state h.old).now.words → MaySet types now s f x
             → place_in_pool frames pool.now (reads (H.state h.old).now.words) s ≡ Option.Some (place_of_slot at.now) → word_for frames pool.now (reads (H.state h.old).now.words) x ≡ Option.Some word
@@ -256,7 +256,7 @@ impl Tx {
         requires within { IsSlotOf pool.now at.now }
         requires room { (self.old).units + NEW_UNITS ≤ LOG_ENTRY_WORDS }
         ensures at { (self.new).log.gate_at ≡ (self.old).log.gate_at }
-        ensures changes { H.tells → Changes (ByTransaction (pool_ground frames pool.now) (self.old).log.gate_at) (fault_of result) (H.state h.old) (H.state h.new) }
+        ensures changes { H.tells → Changes (ByTransaction (pool_scope frames pool.now) (self.old).log.gate_at) (fault_of result) (H.state h.old) (H.state h.new) }
         ensures runs { H.tells → (types : List (ℕ × ℕ)) (m : ℕ) (before : Image) (undone : Graph) (now : Graph) (laters : List Later) → IsPlaced frames pool.now
             → IsOpenOn frames pool.now types (self.old).log before undone now laters (H.state h.old).now.words → map_of t types ≡ Option.Some m → now.next_serial < NUMBER_LIMIT
             → IsRewrittenAt pool.now 0 → IsRewrittenAt pool.now at.now.ordinal → IsFreePlace (stored_in frames pool.now (reads (H.state h.old).now.words)) (place_of_slot at.now)
@@ -297,7 +297,7 @@ impl Tx {
         requires place { (self.old).log.gate_at + LOG_WORDS ≤ frames_at frames }
         requires room { (self.old).units + NEW_UNITS ≤ LOG_ENTRY_WORDS }
         ensures at { (self.new).log.gate_at ≡ (self.old).log.gate_at }
-        ensures changes { H.tells → Changes (ByTransaction (pool_ground frames pool.now) (self.old).log.gate_at) (fault_of result) (H.state h.old) (H.state h.new) }
+        ensures changes { H.tells → Changes (ByTransaction (pool_scope frames pool.now) (self.old).log.gate_at) (fault_of result) (H.state h.old) (H.state h.new) }
         ensures runs { H.tells → (types : List (ℕ × ℕ)) (m : ℕ) (before : Image) (undone : Graph) (now : Graph) (laters : List Later) → IsPlaced frames pool.now
             → IsOpenOn frames pool.now types (self.old).log before undone now laters (H.state h.old).now.words → map_of t types ≡ Option.Some m → now.next_serial < NUMBER_LIMIT
             → IsRewrittenAt pool.now 0 → IsRewrittenAtLowest frames pool.now (reads (H.state h.old).now.words) → (AreAllLive (stored_in frames pool.now (reads (H.state h.old).now.words)) → ⊥)
@@ -336,7 +336,7 @@ impl Tx {
         requires room { (self.old).units + SET_UNITS ≤ LOG_ENTRY_WORDS }
         ensures at { (self.new).log.gate_at ≡ (self.old).log.gate_at }
         ensures counts { IfOk result (λ _. (self.new).units ≡ (self.old).units + SET_UNITS) }
-        ensures changes { H.tells → Changes (ByTransaction (pool_ground frames pool.now) (self.old).log.gate_at) (fault_of result) (H.state h.old) (H.state h.new) }
+        ensures changes { H.tells → Changes (ByTransaction (pool_scope frames pool.now) (self.old).log.gate_at) (fault_of result) (H.state h.old) (H.state h.new) }
         ensures saves { H.tells → IsPlaced frames pool.now → IsRewrittenAt pool.now at.ordinal → (before : Image) (redo : List Entry)
             → IsSaving frames (finished_of pool.now) (self.old).log before redo (H.state h.old).now.words
             → Saves frames (finished_of pool.now) (self.new).log before redo (placed (serial_word_at frames at) (0 ∷ [])) (fault_of result) (H.state h.old) (H.state h.new) }
@@ -367,7 +367,7 @@ impl Tx {
         requires within { IsSlotOf pool.now at.now }
         requires room { (self.old).units + SET_UNITS ≤ LOG_ENTRY_WORDS }
         ensures at { (self.new).log.gate_at ≡ (self.old).log.gate_at }
-        ensures changes { H.tells → Changes (ByTransaction (pool_ground frames pool.now) (self.old).log.gate_at) (fault_of result) (H.state h.old) (H.state h.new) }
+        ensures changes { H.tells → Changes (ByTransaction (pool_scope frames pool.now) (self.old).log.gate_at) (fault_of result) (H.state h.old) (H.state h.new) }
         ensures runs { H.tells → (types : List (ℕ × ℕ)) (before : Image) (undone : Graph) (now : Graph) (laters : List Later) (s : ℕ) → IsPlaced frames pool.now
             → IsRewrittenFor frames pool.now (reads (H.state h.old).now.words) s → IsOpenOn frames pool.now types (self.old).log before undone now laters (H.state h.old).now.words → MayFree now s → laters_name s laters ≡ false
             → place_in_pool frames pool.now (reads (H.state h.old).now.words) s ≡ Option.Some (place_of_slot at.now)
@@ -397,7 +397,7 @@ impl Tx {
         requires place { (self.old).log.gate_at + LOG_WORDS ≤ frames_at frames }
         requires room { (self.old).units + SET_UNITS ≤ LOG_ENTRY_WORDS }
         ensures at { (self.new).log.gate_at ≡ (self.old).log.gate_at }
-        ensures changes { H.tells → Changes (ByTransaction (pool_ground frames pool.now) (self.old).log.gate_at) (fault_of result) (H.state h.old) (H.state h.new) }
+        ensures changes { H.tells → Changes (ByTransaction (pool_scope frames pool.now) (self.old).log.gate_at) (fault_of result) (H.state h.old) (H.state h.new) }
         ensures runs { H.tells → (types : List (ℕ × ℕ)) (before : Image) (undone : Graph) (now : Graph) (laters : List Later) → IsPlaced frames pool.now
             → IsRewrittenFor frames pool.now (reads (H.state h.old).now.words) s → IsOpenOn frames pool.now types (self.old).log before undone now laters (H.state h.old).now.words → MayFree now s → laters_name s laters ≡ false
             → RunsOn frames pool.now types (self.new).log before undone (without_object s now) laters (fault_of result) (H.state h.old) (H.state h.new) }
@@ -433,7 +433,7 @@ impl Tx {
         requires place { (self.old).log.gate_at + LOG_WORDS ≤ frames_at frames }
         requires room { (self.old).units + SET_UNITS ≤ LOG_ENTRY_WORDS }
         ensures at { (self.new).log.gate_at ≡ (self.old).log.gate_at }
-        ensures changes { H.tells → Changes (ByTransaction (pool_ground frames pool.now) (self.old).log.gate_at) (fault_of result) (H.state h.old) (H.state h.new) }
+        ensures changes { H.tells → Changes (ByTransaction (pool_scope frames pool.now) (self.old).log.gate_at) (fault_of result) (H.state h.old) (H.state h.new) }
         ensures runs { H.tells → (types : List (ℕ × ℕ)) (before : Image) (undone : Graph) (now : Graph) (laters : List Later) → IsPlaced frames pool.now
             → IsRewrittenAt pool.now 0 → IsOpenOn frames pool.now types (self.old).log before undone now laters (H.state h.old).now.words → MayName now s
             → RunsOn frames pool.now types (self.new).log before undone (with_root s now) laters (fault_of result) (H.state h.old) (H.state h.new) }
@@ -468,7 +468,7 @@ impl Tx {
         requires place { (self.old).log.gate_at + LOG_WORDS ≤ frames_at frames }
         requires room { (self.old).units + SET_UNITS ≤ LOG_ENTRY_WORDS }
         ensures at { (self.new).log.gate_at ≡ (self.old).log.gate_at }
-        ensures changes { H.tells → Changes (ByTransaction (pool_ground frames pool.now) (self.old).log.gate_at) (fault_of result) (H.state h.old) (H.state h.new) }
+        ensures changes { H.tells → Changes (ByTransaction (pool_scope frames pool.now) (self.old).log.gate_at) (fault_of result) (H.state h.old) (H.state h.new) }
         ensures runs { H.tells → (types : List (ℕ × ℕ)) (before : Image) (undone : Graph) (now : Graph) (laters : List Later) (s : ℕ) → IsPlaced frames pool.now
             → IsRewrittenAt pool.now 0 → IsOpenOn frames pool.now types (self.old).log before undone now laters (H.state h.old).now.words
             → word_for frames pool.now (reads (H.state h.old).now.words) (Val.Ref s) ≡ Option.Some word

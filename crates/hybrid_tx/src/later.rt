@@ -21,7 +21,7 @@ ghost use Rattle.log_store.specs.Store.{InLog};
 ghost use Rattle.graph_laws.specs.Changes.{AreBases};
 ghost use Rattle.puddle_header.specs.Places.{place_of_slot, IsSlotOf};
 ghost use Rattle.graph_read.specs.Reading.{place_in_pool};
-ghost use Rattle.hybrid_tx.specs.Grounds.{IsPlaced};
+ghost use Rattle.hybrid_tx.specs.PoolScopes.{IsPlaced};
 ghost use Rattle.hybrid_tx.specs.Objects.Laters.{IsFieldAddress, IsFieldOf};
 ghost use Rattle.hybrid_tx.specs.Objects.Stores.{address_at, word_for};
 ghost use Rattle.hybrid_tx.specs.Objects.Transactions.{MaySet, IsRewrittenFor, IsLater, IsOpenOn, RunsOn};

@@ -24,7 +24,7 @@ ghost use Rattle.pud_defs.specs.Laters.{Later};
 ghost use Rattle.pud_defs.specs.World.{StoredWorld, world_of, idle_world_of};
 ghost use Rattle.log_store.specs.Store.{OpenLog};
 ghost use Rattle.word_transaction.specs.Running.{ByTransaction};
-ghost use Rattle.hybrid_tx.specs.Grounds.{pool_mine, pool_ground, finished_of};
+ghost use Rattle.hybrid_tx.specs.PoolScopes.{pool_has_word, pool_scope, finished_of};
 ghost use Rattle.hybrid_tx.specs.Open.Masks.{OpenPool, is_open_record, open_mask, IsLeftOpen};
 ghost use Rattle.hybrid_tx.specs.Open.ManyOpen.{OpenTransaction, Opens, open_masks, AreOpenPools, HasRecords, AreLeftOpen, IsOneMore, MasksAll};
 ghost use Rattle.hybrid_tx.specs.Objects.Transactions.{IsOpenOn};
@@ -33,7 +33,7 @@ ghost use Rattle.hybrid_tx.specs.Objects.Transactions.{IsOpenOn};
 /// the pool's frames, unless power is lost. Types may be defined meanwhile, by which each pool keeps the graph that it has.
 pub fn transaction_stays_open_beside_calls()
     ensures { (frames : ℕ) (at : List (ℕ × Puddle)) (types : List (ℕ × ℕ)) (more : List (ℕ × ℕ)) (log : OpenLog) (before : Image) (undone : Graph) (now : Graph) (laters : List Later)
-        → (fault : Option HostFault) (old : State) (new : State) → Changes (λ k _. (is_in_log log.gate_at k ≡ false) × (pool_mine frames at k ≡ false)) fault old new → fault ≢ Option.Some Cut
+        → (fault : Option HostFault) (old : State) (new : State) → Changes (λ k _. (is_in_log log.gate_at k ≡ false) × (pool_has_word frames at k ≡ false)) fault old new → fault ≢ Option.Some Cut
         → ((id : ℕ) (m : ℕ) → map_of id types ≡ Option.Some m → map_of id more ≡ Option.Some m)
         → ((stored : Stored) (g : Graph) → graph_of types stored ≡ Option.Some g → graph_of more stored ≡ Option.Some g)
         → IsOpenOn frames at types log before undone now laters old.now.words → IsOpenOn frames at more log before undone now laters new.now.words }
@@ -43,7 +43,7 @@ pub fn transaction_stays_open_beside_calls()
 /// pool, and of no record that another rests on.
 pub fn words_of_one_are_masked_by_no_other()
     ensures { (frames : ℕ) (opens : Opens) (image : Image) → AreOpenPools frames opens → HasRecords opens image → (n : ℕ) (m : ℕ) (o : OpenTransaction) (q : OpenTransaction)
-        → opens n ≡ Option.Some o → opens m ≡ Option.Some q → n ≢ m → (k : ℕ) (v : ℕ) → ByTransaction (pool_ground frames (finished_of o.pool.puddles)) (log_number_at frames o.pool.log_number) k v
+        → opens n ≡ Option.Some o → opens m ≡ Option.Some q → n ≢ m → (k : ℕ) (v : ℕ) → ByTransaction (pool_scope frames (finished_of o.pool.puddles)) (log_number_at frames o.pool.log_number) k v
         → open_mask frames q.pool q.before k ≡ Option.None }
 {}
 
@@ -81,7 +81,7 @@ pub fn words_of_all_are_masked_alike()
 /// same world with its words masked too.
 pub fn world_stays_as_one_more_is_masked()
     ensures { (size : ℕ) (s : StoredWorld) (number : ℕ) (o : OpenTransaction) (others : Opens) (opens : Opens) (image : Image) → IsOneMore number o others opens
-        → AreOpenPools s.frames opens → HasRecords opens image → ((k : ℕ) → pool_mine s.frames (finished_of o.pool.puddles) k ≡ true → image k ≡ o.before k)
+        → AreOpenPools s.frames opens → HasRecords opens image → ((k : ℕ) → pool_has_word s.frames (finished_of o.pool.puddles) k ≡ true → image k ≡ o.before k)
         → ((k : ℕ) (v : ℕ) → open_mask s.frames o.pool o.before k ≡ Option.Some v → new_value device_word (log_of image DAEMON_LOG) k ≡ Option.None)
         → idle_world_of size (masked_image (open_masks s.frames others) image) ≡ Option.Some s
         → idle_world_of size (masked_image (open_masks s.frames opens) image) ≡ Option.Some s }
@@ -90,7 +90,7 @@ pub fn world_stays_as_one_more_is_masked()
 /// As one of them ends, and its log is closed: such an image stands for the same world with its words masked no more.
 pub fn world_stays_as_one_is_masked_no_more()
     ensures { (size : ℕ) (s : StoredWorld) (number : ℕ) (o : OpenTransaction) (others : Opens) (opens : Opens) (image : Image) → IsOneMore number o others opens
-        → AreOpenPools s.frames opens → HasRecords opens image → ((k : ℕ) → pool_mine s.frames (finished_of o.pool.puddles) k ≡ true → image k ≡ o.before k)
+        → AreOpenPools s.frames opens → HasRecords opens image → ((k : ℕ) → pool_has_word s.frames (finished_of o.pool.puddles) k ≡ true → image k ≡ o.before k)
         → ((k : ℕ) (v : ℕ) → open_mask s.frames o.pool o.before k ≡ Option.Some v → new_value device_word (log_of image DAEMON_LOG) k ≡ Option.None)
         → is_closed_log image (log_number_at s.frames number) ≡ true
         → idle_world_of size (masked_image (open_masks s.frames opens) image) ≡ Option.Some s

@@ -35,14 +35,14 @@ use Rattle.pud_defs.proofs.TablesOf.{tables_of-same}
 use Rattle.log_store.specs.Store.{OpenLog}
 use Rattle.nesting.specs.Sessions.{session_depth, depth_in}
 use Rattle.word_transaction.specs.Running.{ByTransaction, HasPlaces, HasOneTable, CanRedo}
-use Rattle.hybrid_tx.specs.Grounds.{pool_mine, pool_ground, IsPlaced, finished_of}
+use Rattle.hybrid_tx.specs.PoolScopes.{pool_has_word, pool_scope, IsPlaced, finished_of}
 use Rattle.hybrid_tx.specs.Open.Masks.{OpenPool, is_open_record, open_mask}
 use Rattle.hybrid_tx.specs.Open.ManyOpen.{open_masks}
 use Rattle.hybrid_tx.specs.Objects.Transactions.{IsOpenOn, ClosesOn, EndsOn}
 use Rattle.hybrid_tx.proofs.Open.ManyIdle.{masks_changed, places_beside}
-use Rattle.hybrid_tx.proofs.Objects.Opening.{stored_in-mine}
+use Rattle.hybrid_tx.proofs.Objects.Opening.{stored_in-has_word}
 use Rattle.hybrid_tx.proofs.Open.OpenMasks.{mask_of_mine}
-use Rattle.hybrid_tx.proofs.PoolGrounds.{pool_mine-each}
+use Rattle.hybrid_tx.proofs.PoolScope.{pool_has_word-each}
 use Rattle.hybrid_tx.proofs.FinishedPuddles.{none_of_finished}
 use Rattle.ready_daemon.proofs.RestBeside.{rest_unmasked}
 use Rattle.ready_daemon.specs.Memory.{ActiveTransaction, Memory, active_under, with_active}
@@ -78,7 +78,7 @@ changed_beside name other change pools apart = changed_beside_by name other chan
 -- by values that agree on a word
 mask_agrees : (F : ℕ) (p : OpenPool) (after before : Image) (k : ℕ) → after k ≡ before k → open_mask F p after k ≡ open_mask F p before k
 unfolding open_mask
-mask_agrees F p after before k same q = cond (is_in_log (log_number_at F p.log_number) k) (Some (cond (eqb k (log_number_at F p.log_number)) CLOSED_GATE 0)) (cond (pool_mine F (finished_of p.puddles) k || is_open_record p k) (Some (same q)) None)
+mask_agrees F p after before k same q = cond (is_in_log (log_number_at F p.log_number) k) (Some (cond (eqb k (log_number_at F p.log_number)) CLOSED_GATE 0)) (cond (pool_has_word F (finished_of p.puddles) k || is_open_record p k) (Some (same q)) None)
 
 -- ---- what the calls promise
 
@@ -86,19 +86,19 @@ mask_agrees F p after before k same q = cond (is_in_log (log_number_at F p.log_n
 abbrev pub Undoes : (F sz : ℕ) → OpenLog → Option HostFault → State → State → Type 0
 Undoes F sz log fault old new =
     (pool : List (ℕ × Puddle)) (types : List (ℕ × ℕ)) (before : Image) (undone : Graph) (seen : Graph) (laters : List Later) → IsPlaced F pool → device_words F ≤ sz → log.gate_at + LOG_WORDS ≤ frames_at F
-    → IsOpenOn F pool types log before undone seen laters old.now.words → HasPlaces (pool_ground F (finished_of pool)) (puddle_word (tables_of F (reads old.now.words))) → HasOneTable F old.now.words
+    → IsOpenOn F pool types log before undone seen laters old.now.words → HasPlaces (pool_scope F (finished_of pool)) (puddle_word (tables_of F (reads old.now.words))) → HasOneTable F old.now.words
     → ClosesOn F pool types log.gate_at before undone fault old new
 
 abbrev pub Commits : (F sz : ℕ) → OpenLog → Option HostFault → State → State → Type 0
 Commits F sz log fault old new =
     (pool : List (ℕ × Puddle)) (types : List (ℕ × ℕ)) (before : Image) (undone : Graph) (seen : Graph) (laters : List Later) → IsPlaced F pool → device_words F ≤ sz → log.gate_at + LOG_WORDS ≤ frames_at F
-    → IsOpenOn F pool types log before undone seen laters old.now.words → (laters ≢ [] → CanRedo (pool_ground F (finished_of pool)) F log.gate_at old.now.words)
+    → IsOpenOn F pool types log before undone seen laters old.now.words → (laters ≢ [] → CanRedo (pool_scope F (finished_of pool)) F log.gate_at old.now.words)
     → EndsOn F pool types log.gate_at before undone (with_laters laters seen) fault old new
 
 -- a transaction writes no word in front of the clients' logs
-behind_tables : (F number : ℕ) (at : List (ℕ × Puddle)) (k v : ℕ) → ByTransaction (pool_ground F at) (log_number_at F number) k v → BehindTables F k v
+behind_tables : (F number : ℕ) (at : List (ℕ × Puddle)) (k v : ℕ) → ByTransaction (pool_scope F at) (log_number_at F number) k v → BehindTables F k v
 behind_tables F number at k v (inl inside) = let low = inside.low in omega arith
-behind_tables F number at k v (inr mine) = let m = pool_mine-each F at k mine in let low = m.low in omega arith
+behind_tables F number at k v (inr mine) = let m = pool_has_word-each F at k mine in let low = m.low in omega arith
 
 -- ---- what is known when it ends
 
@@ -118,7 +118,7 @@ module _ (size : ℕ) (w : World) (memory : Memory) (number : ℕ) (active : Act
   placed : IsPlaced n is.puddles
   placed = active_placed size w memory active old number there ready
 
-  active_places : HasPlaces (pool_ground n (finished_of is.puddles)) (puddle_word (tables_of n now))
+  active_places : HasPlaces (pool_scope n (finished_of is.puddles)) (puddle_word (tables_of n now))
   active_places =
       let picked = Picks-reads old.now.words in
       places_beside size n w.stored ready.active.opens now refl ready.active.are (idle_there size w memory number active old ready there now picked) (records_there size w memory number active old ready there now picked)
@@ -127,7 +127,7 @@ module _ (size : ℕ) (w : World) (memory : Memory) (number : ℕ) (active : Act
   active_table : HasOneTable n old.now.words
   active_table = record { each = λ k within. let low = within.low in let high = within.high in ready.tables.each k (inr (omega arith)) high }
 
-  can_redo : CanRedo (pool_ground n (finished_of is.puddles)) n active.tx.log.gate_at old.now.words
+  can_redo : CanRedo (pool_scope n (finished_of is.puddles)) n active.tx.log.gate_at old.now.words
   can_redo = record { before = let gate = is.gate in omega arith; table = active_table; places = active_places }
 
   log_apart : active.tx.log.gate_at + LOG_WORDS ≤ frames_at n
@@ -149,13 +149,13 @@ module _ (size : ℕ) (w : World) (memory : Memory) (number : ℕ) (active : Act
 
     pub undone_behind : Changes (BehindTables n) fault old new
     undone_behind =
-        Changes-wider (ByTransaction (pool_ground n (finished_of is.puddles)) active.tx.log.gate_at) (BehindTables n) fault old new
-        (λ k v may. behind_tables n active.log_number (finished_of is.puddles) k v (subst (λ (at : ℕ). ByTransaction (pool_ground n (finished_of is.puddles)) at k v) is.gate may)) closes.closes.changes
+        Changes-wider (ByTransaction (pool_scope n (finished_of is.puddles)) active.tx.log.gate_at) (BehindTables n) fault old new
+        (λ k v may. behind_tables n active.log_number (finished_of is.puddles) k v (subst (λ (at : ℕ). ByTransaction (pool_scope n (finished_of is.puddles)) at k v) is.gate may)) closes.closes.changes
 
     pub Applies-aborted : Applies size w (world_without_log (Some active) w) (with_ended number active memory) fault old new
     Applies-aborted =
         Applies-ended size w memory number active old ready there is.before (λ k other. refl) w.stored.pools (world_before size w memory number active old ready there) (λ name apart. refl) is.undone is.running.was fault new
-        (EndsBy-closes (pool_ground n (finished_of is.puddles)) active.tx.log.gate_at is.before fault old new closes.closes)
+        (EndsBy-closes (pool_scope n (finished_of is.puddles)) active.tx.log.gate_at is.before fault old new closes.closes)
 
   -- ---- committed
 
@@ -172,31 +172,31 @@ module _ (size : ℕ) (w : World) (memory : Memory) (number : ℕ) (active : Act
   made = with_laters is.transaction.laters is.transaction.now
 
   module _ (x : Image) (graph : graph_of w.stored.types (stored_in n is.puddles x) ≡ Some made)
-      (beside : (k : ℕ) → pool_mine n is.puddles k ≡ true → pool_mine n (finished_of is.puddles) k ≡ false → x k ≡ is.before k) where
+      (beside : (k : ℕ) → pool_has_word n is.puddles k ≡ true → pool_has_word n (finished_of is.puddles) k ≡ false → x k ≡ is.before k) where
     abbrev values : Image
-    values = mixed (pool_ground n (finished_of is.puddles)) x is.before
+    values = mixed (pool_scope n (finished_of is.puddles)) x is.before
 
     abbrev pools_after : List (List ℕ × Pool)
     pools_after = changed_pool is.rec.name (holding_graph made) w.stored.pools
 
-    values_beside : (k : ℕ) → pool_mine n (finished_of is.puddles) k ≡ false → values k ≡ is.before k
+    values_beside : (k : ℕ) → pool_has_word n (finished_of is.puddles) k ≡ false → values k ≡ is.before k
     values_beside k other = cond-false _ _ _ other
 
-    values_read : (k : ℕ) → pool_mine n is.puddles k ≡ true → values k ≡ x k
-    values_read k mine = elim (cases_Bool (pool_mine n (finished_of is.puddles) k)) [
+    values_read : (k : ℕ) → pool_has_word n is.puddles k ≡ true → values k ≡ x k
+    values_read k mine = elim (cases_Bool (pool_has_word n (finished_of is.puddles) k)) [
       | inl own ↦ cond-true _ _ _ own
       | inr other ↦ cond-false _ _ _ other ∙ sym (beside k mine other)
     ]
 
     graph_after : graph_of w.stored.types (stored_in n is.puddles values) ≡ Some made
-    graph_after = ap (graph_of w.stored.types) (stored_in-mine n is.puddles x values values_read) ∙ graph
+    graph_after = ap (graph_of w.stored.types) (stored_in-has_word n is.puddles x values values_read) ∙ graph
 
     -- all are masked, with these values of its frames
     abbrev anew : Write
     anew = open_masks n (all_later size w memory number active old ready there values values_beside)
 
     -- beside its frames they are masked as they were
-    anew_beside : (i : Image) → Picks old.now.words i → (k : ℕ) → pool_mine n (finished_of is.puddles) k ≡ false → anew k ≡ ready.mask k
+    anew_beside : (i : Image) → Picks old.now.words i → (k : ℕ) → pool_has_word n (finished_of is.puddles) k ≡ false → anew k ≡ ready.mask k
     anew_beside i picked k other =
         masks_changed number (own size w memory number active old ready there) (later size w memory number active old ready there values values_beside) _ ready.active.opens
         (all_later size w memory number active old ready there values values_beside) (more size w memory number active old ready there) (later_more size w memory number active old ready there values values_beside) n ready.mask anew
@@ -207,7 +207,7 @@ module _ (size : ℕ) (w : World) (memory : Memory) (number : ℕ) (active : Act
     values_graph i picked =
         let masks = later_masks size w memory number active old ready there values values_beside i picked in
         let its = later_more size w memory number active old ready there values values_beside in
-        ap (graph_of w.stored.types) (stored_in-mine n is.puddles x (masked_image anew i) (λ k mine. elim (cases_Bool (pool_mine n (finished_of is.puddles) k)) [
+        ap (graph_of w.stored.types) (stored_in-has_word n is.puddles x (masked_image anew i) (λ k mine. elim (cases_Bool (pool_has_word n (finished_of is.puddles) k)) [
           | inl own ↦
               masked_image-there anew i k (values k) (masks.has number (later size w memory number active old ready there values values_beside) its.here k (values k) (mask_of_mine n p values k is.pool.known own))
               ∙ cond-true _ _ _ own
@@ -248,7 +248,7 @@ module _ (size : ℕ) (w : World) (memory : Memory) (number : ℕ) (active : Act
         (λ some. can_redo) in
         subst (λ (v : World). Applies size w v (with_ended number active memory) fault old new) (sym committed_world)
         (Applies-ended size w memory number active old ready there (values e.after e.is e.beside) (values_beside e.after e.is e.beside) (pools_after e.after e.is e.beside) (stands_after e.after e.is e.beside) (pools_beside e.after e.is e.beside) made
-        (graph_after e.after e.is e.beside) fault new (EndsBy-ends (pool_ground n (finished_of is.puddles)) active.tx.log.gate_at is.before e.after fault old new e.ends))
+        (graph_after e.after e.is e.beside) fault new (EndsBy-ends (pool_scope n (finished_of is.puddles)) active.tx.log.gate_at is.before e.after fault old new e.ends))
 
 -- the client's own is undone
 aborted_world : (w : World) (client : ℕ) (name : List ℕ) (number : ℕ) (active : List (Option ActiveTransaction)) → IsOwnTransaction client name number active → world_without_log (active_under active number) w ≡ after w (Abort client name)

@@ -29,7 +29,7 @@ use Rattle.lazy_rewrite.specs.Frontiers.{frontiers_of}
 use Rattle.lazy_rewrite.specs.Batches.{Rewrites}
 use Rattle.lazy_rewrite.proofs.Gathered.{frame_below}
 use Rattle.lazy_rewrite.proofs.Spared.{AreFrames, SparesObjects, Rewrites-spare}
-use Rattle.hybrid_tx.specs.Grounds.{IsPlaced, IsRewrittenAt}
+use Rattle.hybrid_tx.specs.PoolScopes.{IsPlaced, IsRewrittenAt}
 use Rattle.ready_daemon.specs.Memory.{ActiveTransaction, Memory, active_under}
 use Rattle.ready_daemon.specs.ActiveTransactions.{IsActive}
 use Rattle.known_pool.specs.Known.{by_puddles}

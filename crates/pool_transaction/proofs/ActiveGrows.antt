@@ -55,7 +55,7 @@ use Rattle.pud_defs.specs.declared.space.TheConstants.{SLOT_SERIAL_WORD}
 use Rattle.pud_defs.specs.Frames.{frame_at}
 use Rattle.pud_defs.specs.Geometry.{steps_of, ordinal_of, slot_of, puddle_slot_at}
 use Rattle.graph_laws.proofs.StoredImages.{stored_in-same}
-use Rattle.hybrid_tx.proofs.PoolGrounds.{pool_mine-from}
+use Rattle.hybrid_tx.proofs.PoolScope.{pool_has_word-from}
 use Rattle.pool_transaction.specs.Finishing.{IsLonger}
 use Rattle.ready_daemon.proofs.RestBeside.{rest_by_words, active_graph}
 use Rattle.ready_daemon.specs.Memory.{ActiveTransaction, Memory, active_under}
@@ -445,7 +445,7 @@ module _ (size : ℕ) (w : World) (memory : Memory) (active : ActiveTransaction)
         (record {
           each = λ o k d here below.
               words_grow F a old new (within by) by.puddle.frame commits active.slot is.puddles (active_graph size w memory old ready number active there) (frame_at F d.0 + k)
-              (pool_mine-from F is.puddles (frame_at F d.0 + k) (record { ordinal = o; puddle = d; there = here; low = omega arith; high = omega arith }));
+              (pool_has_word-from F is.puddles (frame_at F d.0 + k) (record { ordinal = o; puddle = d; there = here; low = omega arith; high = omega arith }));
         })
 
     word_longer : (o k : ℕ) → o < length is.puddles → (stored_in F at (reads words)).word o k ≡ (stored_in F is.puddles image).word o k

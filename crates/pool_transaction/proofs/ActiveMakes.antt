@@ -21,7 +21,7 @@ use Rattle.pud_defs.specs.Transactions.{charged}
 use Rattle.pud_defs.specs.Types.{map_of}
 use Rattle.pud_defs.specs.World.{Transaction, World, open_on}
 use Rattle.graph_laws.specs.Slots.{AreAllLive}
-use Rattle.hybrid_tx.specs.Grounds.{IsPlaced}
+use Rattle.hybrid_tx.specs.PoolScopes.{IsPlaced}
 use Rattle.hybrid_tx.specs.Objects.Transactions.{OpenTx, IsOpenOn, RunsOn, MakesIn}
 use Rattle.ready_daemon.specs.Judged.{KnowsAlone}
 use Rattle.ready_daemon.specs.Memory.{ActiveTransaction, Memory, active_under, with_active}

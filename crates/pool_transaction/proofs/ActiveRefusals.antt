@@ -27,7 +27,7 @@ use Rattle.graph_read.specs.Reading.{table_in, place_in_pool, read_value, read_b
 use Rattle.ready_daemon.specs.Memory.{ActiveTransaction, Memory, active_under}
 use Rattle.ready_daemon.specs.ActiveTransactions.{IsActive}
 use Rattle.log_store.specs.Store.{OpenLog}
-use Rattle.hybrid_tx.specs.Grounds.{IsPlaced}
+use Rattle.hybrid_tx.specs.PoolScopes.{IsPlaced}
 use Rattle.hybrid_tx.specs.Objects.Stores.{address_at, word_for, IsPlaceAndWord, LacksPlaceOrWord}
 use Rattle.hybrid_tx.specs.Objects.Transactions.{IsOpenOn}
 use Rattle.hybrid_tx.proofs.Objects.FieldsSet.{object_by_place}

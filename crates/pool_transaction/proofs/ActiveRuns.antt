@@ -22,7 +22,7 @@ use Rattle.pud_defs.proofs.Spaces.{owner_of-same}
 use Rattle.batch.specs.Worlds.{IsSettled}
 use Rattle.batch.proofs.Tables.{reads_kept, HasDurableTables-kept}
 use Rattle.word_transaction.specs.Running.{SettlesTo, ByTransaction}
-use Rattle.hybrid_tx.specs.Grounds.{pool_ground, IsPlaced, finished_of}
+use Rattle.hybrid_tx.specs.PoolScopes.{pool_scope, IsPlaced, finished_of}
 use Rattle.hybrid_tx.specs.Open.ManyOpen.{OpenTransaction, AreLeftOpen}
 use Rattle.hybrid_tx.specs.Open.Masks.{OpenPool, IsLeftOpen}
 use Rattle.hybrid_tx.specs.Objects.Transactions.{OpenTx, RunsOn}
@@ -80,7 +80,7 @@ module _ (size : ℕ) (w : World) (memory : Memory) (active : ActiveTransaction)
   -- ---- what it may write
 
   abbrev own : Footprint
-  own = ByTransaction (pool_ground F (finished_of is.puddles)) active.tx.log.gate_at
+  own = ByTransaction (pool_scope F (finished_of is.puddles)) active.tx.log.gate_at
 
   -- every such word is masked
   written_masked : (k v : ℕ) → own k v → ready.mask k ≡ None → ⊥
@@ -122,17 +122,17 @@ module _ (size : ℕ) (w : World) (memory : Memory) (active : ActiveTransaction)
     log_idle : is_idle_gate (image DAEMON_LOG) ≡ true
     log_idle = ap is_idle_gate (same_before DAEMON_LOG (omega arith)) ∙ ready_idle size w memory old ready o.before o.picked
 
-    left_open : SettlesTo (pool_ground F (finished_of is.puddles)) active.tx.log.gate_at is.before image → IsLeftOpen F p is.before image
+    left_open : SettlesTo (pool_scope F (finished_of is.puddles)) active.tx.log.gate_at is.before image → IsLeftOpen F p is.before image
     left_open settles = record {
       unnamed = λ k v e. (names_none_idle ready.mask image log_idle).each k v (is.masked k v e);
       records = λ k of.
           let place = open_record_place F p k is.pool.slot is.pool.known (open_on_device F p is.before is.pool) of in
           same_before k place.high ∙ record_picked w active ready.mask old.now.words is ready.tables o.before o.picked k of;
-      settles = subst (λ (n : ℕ). SettlesTo (pool_ground F (finished_of is.puddles)) n is.before image) is.gate settles;
+      settles = subst (λ (n : ℕ). SettlesTo (pool_scope F (finished_of is.puddles)) n is.before image) is.gate settles;
     }
 
     -- each is left open: it by its log, and any other since none of its words was written
-    each_open : SettlesTo (pool_ground F (finished_of is.puddles)) active.tx.log.gate_at is.before image → (n : ℕ) (g : ActiveTransaction) (there : active_under memory.active n ≡ Some g) (is : IsActiveUnder w ready.active.opens ready.mask old.now.words n g)
+    each_open : SettlesTo (pool_scope F (finished_of is.puddles)) active.tx.log.gate_at is.before image → (n : ℕ) (g : ActiveTransaction) (there : active_under memory.active n ≡ Some g) (is : IsActiveUnder w ready.active.opens ready.mask old.now.words n g)
         → IsLeftOpen F (open_pool_of g is.is.puddles is.is.rec is.is.who) is.is.before image
     each_open settles n g has other = elim (cases_eq n number) [
       | inl same ↦
@@ -148,7 +148,7 @@ module _ (size : ℕ) (w : World) (memory : Memory) (active : ActiveTransaction)
     ]
 
     -- so it stands for the world, where its log gives back what was there at the beginning
-    pub stands_within : SettlesTo (pool_ground F (finished_of is.puddles)) active.tx.log.gate_at is.before image → (world_of size image ≡ Some (closed w)) × RefusesNone image
+    pub stands_within : SettlesTo (pool_scope F (finished_of is.puddles)) active.tx.log.gate_at is.before image → (world_of size image ≡ Some (closed w)) × RefusesNone image
     stands_within settles =
         let left : AreLeftOpen F ready.active.opens image = left_all w memory.active ready.mask old.now.words ready.active image (each_open settles) in
         let it = under_left w memory.active ready.mask old.now.words ready.active size image left in
@@ -158,11 +158,11 @@ module _ (size : ℕ) (w : World) (memory : Memory) (active : ActiveTransaction)
 
   module _ (fault : Option HostFault) (new : State) (changes : Changes own fault old new) where
     -- each image left stands for the world
-    pub moments_within : Leaves (Silently (SettlesTo (pool_ground F (finished_of is.puddles)) active.tx.log.gate_at is.before)) old new → Leaves (Silently (λ image. (world_of size image ≡ Some (closed w)) × RefusesNone image)) old new
+    pub moments_within : Leaves (Silently (SettlesTo (pool_scope F (finished_of is.puddles)) active.tx.log.gate_at is.before)) old new → Leaves (Silently (λ image. (world_of size image ≡ Some (closed w)) × RefusesNone image)) old new
     moments_within moments =
-        Leaves-weaker (Silently (λ image. SettlesTo (pool_ground F (finished_of is.puddles)) active.tx.log.gate_at is.before image × HasOrigin own old.now.words image)) (Silently (λ image. (world_of size image ≡ Some (closed w)) × RefusesNone image)) old new
+        Leaves-weaker (Silently (λ image. SettlesTo (pool_scope F (finished_of is.puddles)) active.tx.log.gate_at is.before image × HasOrigin own old.now.words image)) (Silently (λ image. (world_of size image ≡ Some (closed w)) × RefusesNone image)) old new
         (λ bytes image m. (m.0, stands_within image m.1.1 m.1.0))
-        (Leaves-from (SettlesTo (pool_ground F (finished_of is.puddles)) active.tx.log.gate_at is.before) own fault old new changes moments)
+        (Leaves-from (SettlesTo (pool_scope F (finished_of is.puddles)) active.tx.log.gate_at is.before) own fault old new changes moments)
 
     -- masked, a word has no value that it had not
     masked_value : (k v : ℕ) (x : Option ℕ) → ready.mask k ≡ x → Has (values (masked ready.mask new.now.words k)) v → Has (values (masked ready.mask old.now.words k)) v
@@ -207,13 +207,13 @@ module _ (size : ℕ) (w : World) (memory : Memory) (active : ActiveTransaction)
     later = with_tx tx active
 
     changes_own : Changes own fault old new
-    changes_own = subst (λ (n : ℕ). Changes (ByTransaction (pool_ground F (finished_of is.puddles)) n) fault old new) at runs.saves.runs.changes
+    changes_own = subst (λ (n : ℕ). Changes (ByTransaction (pool_scope F (finished_of is.puddles)) n) fault old new) at runs.saves.runs.changes
 
     moments_own : Leaves (Silently (StandsBetween size w next)) old new
     moments_own =
         Leaves-weaker (Silently (λ image. (world_of size image ≡ Some (closed w)) × RefusesNone image)) (Silently (StandsBetween size w next)) old new
         (λ bytes image m. (m.0, (inl m.1.0, m.1.1)))
-        (moments_within fault new changes_own (subst (λ (n : ℕ). Leaves (Silently (SettlesTo (pool_ground F (finished_of is.puddles)) n is.before)) old new) at runs.saves.runs.moments))
+        (moments_within fault new changes_own (subst (λ (n : ℕ). Leaves (Silently (SettlesTo (pool_scope F (finished_of is.puddles)) n is.before)) old new) at runs.saves.runs.moments))
 
     kept_within : fault ≡ None → (k : ℕ) → k < tables_end F → reads new.now.words k ≡ now k
     kept_within none k below =

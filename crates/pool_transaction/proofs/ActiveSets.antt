@@ -12,7 +12,7 @@ use Rattle.pud_defs.specs.Step.{refusal_of, after}
 use Rattle.pud_defs.specs.Stored.{stored_in}
 use Rattle.pud_defs.specs.Transactions.{with_changed}
 use Rattle.pud_defs.specs.World.{Transaction, World, closed}
-use Rattle.hybrid_tx.specs.Grounds.{IsPlaced}
+use Rattle.hybrid_tx.specs.PoolScopes.{IsPlaced}
 use Rattle.hybrid_tx.specs.Objects.Transactions.{OpenTx, IsOpenOn, RunsOn}
 use Rattle.pool_transaction.specs.declared.changing.Update.{Update}
 use Rattle.pool_transaction.specs.declared.changing.Update.TheVariants.{Set, Later, Root, Free}

@@ -33,17 +33,17 @@ use Rattle.lazy_rewrite.specs.Batches.{AreNextSteps, CommitsSteps}
 use Rattle.lazy_rewrite.proofs.Kept.{read_behind}
 use Rattle.lazy_rewrite.proofs.Spared.{AreFrames, HaveMoved-steps, batch_spares, place_in_pool-spared}
 use Rattle.lazy_rewrite.proofs.Turns.{ComesFrom, ComesFrom-steps}
-use Rattle.word_transaction.specs.Ground.{IsGround}
+use Rattle.word_transaction.specs.Scope.{IsScope}
 use Rattle.word_transaction.proofs.Calls.{IsRunning-kept}
 use Rattle.word_transaction.proofs.Growing.{IsWider, IsRunning-values, IsRunning-wider}
-use Rattle.hybrid_tx.specs.Grounds.{pool_mine, pool_ground, IsPlaced, is_finished, finished_of}
+use Rattle.hybrid_tx.specs.PoolScopes.{pool_has_word, pool_scope, IsPlaced, is_finished, finished_of}
 use Rattle.hybrid_tx.specs.Open.Masks.{OpenPool, open_mask}
 use Rattle.hybrid_tx.specs.Open.ManyOpen.{OpenTransaction}
 use Rattle.hybrid_tx.specs.Objects.Transactions.{IsOpenOn, RestsAs}
 use Rattle.hybrid_tx.proofs.FinishedPuddles.{stood, finished_there, finished_placed, mine_of_finished}
-use Rattle.hybrid_tx.proofs.PoolGrounds.{all_there, pool_mine-each, pool_mine-from, is_ground}
+use Rattle.hybrid_tx.proofs.PoolScope.{all_there, pool_has_word-each, pool_has_word-from, is_ground}
 use Rattle.hybrid_tx.proofs.Objects.LatersKept.{KeepsFinished, KeepsObjects-same, AreLaters-wider}
-use Rattle.hybrid_tx.proofs.Objects.Opening.{stored_in-mine}
+use Rattle.hybrid_tx.proofs.Objects.Opening.{stored_in-has_word}
 use Rattle.hybrid_tx.proofs.Open.OpenPools.{placed_by_tables}
 use Rattle.ready_daemon.specs.Memory.{ActiveTransaction}
 use Rattle.ready_daemon.specs.ActiveTransactions.{open_pool_of, open_transaction_of, IsActive, StaysSingle, ByOthers}
@@ -79,14 +79,14 @@ module _ (F : ℕ) (at : List (ℕ × Puddle)) (goal : ℕ → ℕ) (o m : ℕ) 
   later = record { each = finished_later }
 
   -- the words of all of them are the same
-  pub mine_before : (k : ℕ) → pool_mine F stepped k ≡ true → pool_mine F at k ≡ true
+  pub mine_before : (k : ℕ) → pool_has_word F stepped k ≡ true → pool_has_word F at k ≡ true
   mine_before k mine =
-      let own = pool_mine-each F stepped k mine in
+      let own = pool_has_word-each F stepped k mine in
       let from = comes.each own.ordinal own.puddle own.there in
       let frame = from.frame in
       let low = own.low in
       let high = own.high in
-      pool_mine-from F at k (record { ordinal = own.ordinal; puddle = from.puddle; there = from.here; low = omega arith; high = omega arith })
+      pool_has_word-from F at k (record { ordinal = own.ordinal; puddle = from.puddle; there = from.here; low = omega arith; high = omega arith })
 
   keeps : KeepsFinished at stepped
   keeps = record {
@@ -118,10 +118,10 @@ module _ (w : World) (active : ActiveTransaction) (mask : Write) (old new : Stat
   abbrev pub opened_stepped : OpenTransaction
   opened_stepped = open_transaction_of active at is.rec is.who before
 
-  own_word : (k : ℕ) → pool_mine F (finished_of is.puddles) k ≡ true → before k ≡ is.before k
+  own_word : (k : ℕ) → pool_has_word F (finished_of is.puddles) k ≡ true → before k ≡ is.before k
   own_word = own_begun F is.puddles is.before now
 
-  other_word : (k : ℕ) → pool_mine F (finished_of is.puddles) k ≡ false → before k ≡ now k
+  other_word : (k : ℕ) → pool_has_word F (finished_of is.puddles) k ≡ false → before k ≡ now k
   other_word = other_begun F is.puddles is.before now
 
   -- a masked word is read as it was
@@ -129,9 +129,9 @@ module _ (w : World) (active : ActiveTransaction) (mask : Write) (old new : Stat
   masked_word k masked = reads_kept (ByOthers mask) old new k beside (λ v none. masked none)
 
   -- each word of the pool that is not its own has one value
-  rest_single : (k : ℕ) → pool_mine F is.puddles k ≡ true → pool_mine F (finished_of is.puddles) k ≡ false → HasOnly (new.now.words k) (before k)
+  rest_single : (k : ℕ) → pool_has_word F is.puddles k ≡ true → pool_has_word F (finished_of is.puddles) k ≡ false → HasOnly (new.now.words k) (before k)
   rest_single k mine other =
-      let low = (pool_mine-each F is.puddles k mine).low in
+      let low = (pool_has_word-each F is.puddles k mine).low in
       let was = is.running.rests.each k mine other in
       let one = single.each k (outside_log DAEMON_LOG k (inr (omega arith))) (HasOnly-own (old.now.words k) (is.before k) was) in
       subst (λ (v : ℕ). HasOnly (new.now.words k) v) (sym (other_word k other)) one
@@ -152,22 +152,22 @@ module _ (w : World) (active : ActiveTransaction) (mask : Write) (old new : Stat
 
     -- ---- what is open
 
-    wider : IsWider (pool_ground F (finished_of is.puddles)) (pool_ground F (finished_of at))
+    wider : IsWider (pool_scope F (finished_of is.puddles)) (pool_scope F (finished_of at))
     wider = wider_ground F is.puddles at (later F is.puddles goal o m e next) placed_before (finished_placed F at placed)
 
-    fresh_word : (k : ℕ) → pool_mine F (finished_of at) k ≡ true → pool_mine F (finished_of is.puddles) k ≡ false → HasOnly (new.now.words k) (before k)
+    fresh_word : (k : ℕ) → pool_has_word F (finished_of at) k ≡ true → pool_has_word F (finished_of is.puddles) k ≡ false → HasOnly (new.now.words k) (before k)
     fresh_word k own other = rest_single k (mine_before F is.puddles goal o m e next k (mine_of_finished F at k own)) other
 
     rests_stepped : RestsAs F at before new.now.words
     rests_stepped = record {
       each = λ k mine other.
-          rest_single k (mine_before F is.puddles goal o m e next k mine) (elim (cases_Bool (pool_mine F (finished_of is.puddles) k)) [
+          rest_single k (mine_before F is.puddles goal o m e next k mine) (elim (cases_Bool (pool_has_word F (finished_of is.puddles) k)) [
             | inr none ↦ none
             | inl own ↦ absurd (let no : true ≡ false = sym (mine_later F is.puddles at (later F is.puddles goal o m e next) k own) ∙ other in cc)
           ]);
     }
 
-    ground : IsGround (device_words F) active.tx.log.gate_at (pool_ground F (finished_of is.puddles))
+    ground : IsScope (device_words F) active.tx.log.gate_at (pool_scope F (finished_of is.puddles))
     ground =
         let gate = is.gate in
         let known = is.pool.known in
@@ -177,21 +177,21 @@ module _ (w : World) (active : ActiveTransaction) (mask : Write) (old new : Stat
 
     -- an image with the frame of the puddle as it was read has the same graph with the steps written over it
     graph_over : (i j : Image) (g : Graph) → ((k : ℕ) → k < FRAME_WORDS → frame_word F e.0 k i ≡ frame_word F e.0 k (reads old.now.words))
-        → ((k : ℕ) → pool_mine F at k ≡ true → j k ≡ overwritten (batch_write c.es) i k) → graph_of w.stored.types (stored_in F is.puddles i) ≡ Some g → graph_of w.stored.types (stored_in F at j) ≡ Some g
+        → ((k : ℕ) → pool_has_word F at k ≡ true → j k ≡ overwritten (batch_write c.es) i k) → graph_of w.stored.types (stored_in F is.puddles i) ≡ Some g → graph_of w.stored.types (stored_in F at j) ≡ Some g
     graph_over i j g frame same graph =
         let image = reads old.now.words in
         let write : steps_in F w.stored.types is.puddles i o m e ≡ batch_write c.es =
         steps_in-same F w.stored.types is.puddles image i o m e next.here frame ∙ ap (λ (ts : List (ℕ × ℕ)). steps_in F ts is.puddles image o m e) (sym types) ∙ sym c.write in
-        ap (graph_of w.stored.types) (stored_in-mine F at (overwritten (batch_write c.es) i) j same)
+        ap (graph_of w.stored.types) (stored_in-has_word F at (overwritten (batch_write c.es) i) j same)
         ∙ ap (λ (x : ℕ → Option ℕ). graph_of w.stored.types (stored_in F at (overwritten x i))) (sym write)
         ∙ graph_of-written F w.stored.types is.puddles i o m e placed_was.frames next.here (frames.below o e next.here) placed_was.bases (omega (arith, next.some)) g graph
 
     -- a word of the frame is not one of its own
-    frame_other : (k : ℕ) → k < FRAME_WORDS → pool_mine F (finished_of is.puddles) (frame_at F e.0 + k) ≡ false
-    frame_other k low = elim (cases_Bool (pool_mine F (finished_of is.puddles) (frame_at F e.0 + k))) [
+    frame_other : (k : ℕ) → k < FRAME_WORDS → pool_has_word F (finished_of is.puddles) (frame_at F e.0 + k) ≡ false
+    frame_other k low = elim (cases_Bool (pool_has_word F (finished_of is.puddles) (frame_at F e.0 + k))) [
       | inr other ↦ other
       | inl own ↦
-          let n = pool_mine-each F (finished_of is.puddles) (frame_at F e.0 + k) own in
+          let n = pool_has_word-each F (finished_of is.puddles) (frame_at F e.0 + k) own in
           let from = n.low in
           let to = n.high in
           let s = stood is_finished is.puddles n.ordinal n.puddle n.there in
@@ -199,19 +199,19 @@ module _ (w : World) (active : ActiveTransaction) (mask : Write) (old new : Stat
           absurd (finished_apart F is.puddles goal o m e next s.index n.puddle s.there finished (placed_was.frames.each s.index o n.puddle e s.there next.here (omega arith)))
     ]
 
-    frame_mine : (k : ℕ) → k < FRAME_WORDS → pool_mine F is.puddles (frame_at F e.0 + k) ≡ true
-    frame_mine k low = pool_mine-from F is.puddles (frame_at F e.0 + k) (record { ordinal = o; puddle = e; there = next.here; low = omega arith; high = omega arith })
+    frame_mine : (k : ℕ) → k < FRAME_WORDS → pool_has_word F is.puddles (frame_at F e.0 + k) ≡ true
+    frame_mine k low = pool_has_word-from F is.puddles (frame_at F e.0 + k) (record { ordinal = o; puddle = e; there = next.here; low = omega arith; high = omega arith })
 
     frame_was : (k : ℕ) → k < FRAME_WORDS → frame_word F e.0 k is.before ≡ frame_word F e.0 k (reads old.now.words)
     frame_was k low = sym (HasOnly-newest (old.now.words (frame_at F e.0 + k)) (is.before (frame_at F e.0 + k)) (is.running.rests.each (frame_at F e.0 + k) (frame_mine k low) (frame_other k low)))
 
     -- what is read of the pool is what was read, with the steps over it
-    read_over : (k : ℕ) → pool_mine F at k ≡ true → now k ≡ overwritten (batch_write c.es) (reads old.now.words) k
-    read_over k mine = let low = (pool_mine-each F at k mine).low in read_behind F is.puddles goal o m e old new next c k (inr (omega arith))
+    read_over : (k : ℕ) → pool_has_word F at k ≡ true → now k ≡ overwritten (batch_write c.es) (reads old.now.words) k
+    read_over k mine = let low = (pool_has_word-each F at k mine).low in read_behind F is.puddles goal o m e old new next c k (inr (omega arith))
 
     -- and so of the beginning
-    over_before : (k : ℕ) → pool_mine F at k ≡ true → before k ≡ overwritten (batch_write c.es) is.before k
-    over_before k mine = elim (cases_Bool (pool_mine F (finished_of is.puddles) k)) [
+    over_before : (k : ℕ) → pool_has_word F at k ≡ true → before k ≡ overwritten (batch_write c.es) is.before k
+    over_before k mine = elim (cases_Bool (pool_has_word F (finished_of is.puddles) k)) [
       | inl own ↦ own_word k own ∙ sym (overwritten-stays (batch_write c.es) is.before k (unwritten k own))
       | inr other ↦
           other_word k other
@@ -219,28 +219,28 @@ module _ (w : World) (active : ActiveTransaction) (mask : Write) (old new : Stat
           ∙ ap (λ (v : ℕ). unwrap_or (batch_write c.es k) v) (HasOnly-newest (old.now.words k) (is.before k) (is.running.rests.each k (mine_before F is.puddles goal o m e next k mine) other))
     ]
       where
-        unwritten : (k : ℕ) → pool_mine F (finished_of is.puddles) k ≡ true → batch_write c.es k ≡ None
+        unwritten : (k : ℕ) → pool_has_word F (finished_of is.puddles) k ≡ true → batch_write c.es k ≡ None
         unwritten k own =
-            let n = pool_mine-each F (finished_of is.puddles) k own in
+            let n = pool_has_word-each F (finished_of is.puddles) k own in
             let from = n.low in
             let to = n.high in
             ap (λ (x : ℕ → Option ℕ). x k) c.write
             ∙ write-other F (types_of (reads old.now.words)) (map (λ (d : ℕ × Puddle). d.1) is.puddles) ((stored_in F is.puddles (reads old.now.words)).word o) o m e k
             (λ low high.
             let back : frame_at F e.0 + (k - frame_at F e.0) ≡ k = omega arith in
-            let no : true ≡ false = sym own ∙ ap (λ (j : ℕ). pool_mine F (finished_of is.puddles) j) (sym back) ∙ frame_other (k - frame_at F e.0) (omega arith) in
+            let no : true ≡ false = sym own ∙ ap (λ (j : ℕ). pool_has_word F (finished_of is.puddles) j) (sym back) ∙ frame_other (k - frame_at F e.0) (omega arith) in
             cc)
             (λ frontier. let below = frames.below o e next.here in absurd (omega arith))
 
     pub running_stepped : IsOpenOn F at w.stored.types active.tx.log before is.undone is.transaction.now is.transaction.laters new.now.words
     running_stepped =
         let r = is.running in
-        let g = pool_ground F (finished_of is.puddles) in
+        let g = pool_scope F (finished_of is.puddles) in
         record {
           redo = r.redo;
           saving = record {
             es = r.saving.es;
-            running = IsRunning-wider g (pool_ground F (finished_of at)) active.tx.log r.saving.es before new.now.words wider fresh_word
+            running = IsRunning-wider g (pool_scope F (finished_of at)) active.tx.log r.saving.es before new.now.words wider fresh_word
                 (IsRunning-values (device_words F) g active.tx.log r.saving.es is.before before new.now.words ground (λ k own. sym (own_word k own))
                 (IsRunning-kept g active.tx.log r.saving.es is.before (ByOthers mask) None old new beside (λ k v inside none. log_masked w active mask old.now.words is k inside none)
                 (λ k v own none. own_masked w active mask old.now.words is k own none) r.saving.running));

@@ -41,15 +41,15 @@ use Rattle.pud_defs.proofs.Spaces.{owner_of-same, is_closed_log-same}
 use Rattle.batch.specs.Batches.{HasIdleGate}
 use Rattle.batch.specs.Worlds.{IsSettled}
 use Rattle.batch.proofs.Tables.{HasDurableTables-kept, reads_kept}
-use Rattle.word_transaction.specs.Ground.{Ground, IsGround}
+use Rattle.word_transaction.specs.Scope.{Scope, IsScope}
 use Rattle.word_transaction.specs.Running.{IsIdle, nothing, begun, SettlesTo, Runs}
-use Rattle.hybrid_tx.specs.Grounds.{pool_mine, pool_ground, IsPlaced, finished_of}
+use Rattle.hybrid_tx.specs.PoolScopes.{pool_has_word, pool_scope, IsPlaced, finished_of}
 use Rattle.hybrid_tx.specs.Open.Masks.{OpenPool, is_open_record, open_mask, ArePuddlesOf, IsOpenPool}
 use Rattle.hybrid_tx.specs.Open.ManyOpen.{OpenTransaction, AreLeftOpen, AreOpenPools, HasRecords, IsOneMore, MasksAll, Opens, open_masks, with_transaction}
 use Rattle.hybrid_tx.proofs.Open.OpenIdle.{unnamed_idle}
 use Rattle.hybrid_tx.proofs.Objects.Opening.{IsOpenOn-begun}
 use Rattle.hybrid_tx.proofs.Open.OpenMasks.{open_record_place, mine_behind, mask_of_others}
-use Rattle.hybrid_tx.proofs.PoolGrounds.{pool_mine-each, is_ground}
+use Rattle.hybrid_tx.proofs.PoolScope.{pool_has_word-each, is_ground}
 use Rattle.hybrid_tx.proofs.Open.OpenPools.{placed_by_tables, open_on_device}
 use Rattle.hybrid_tx.proofs.Open.PoolPlaces.{are_puddles_in_turn}
 use Rattle.hybrid_tx.proofs.Open.ManyIdle.{idle_world_begun, left_more, masks_elsewhere, one_begun, opens_more, records_more}
@@ -124,8 +124,8 @@ module _ (size : ℕ) (w : World) (memory : Memory) (old : State) (ready : IsRea
   abbrev o : OpenTransaction
   o = record { pool = p; before = now }
 
-  abbrev g : Ground
-  g = pool_ground n (finished_of at)
+  abbrev g : Scope
+  g = pool_scope n (finished_of at)
 
   known : number < ALL_LOGS
   known = vacant.known
@@ -153,7 +153,7 @@ module _ (size : ℕ) (w : World) (memory : Memory) (old : State) (ready : IsRea
   room : device_words n ≤ size
   room = (header_read size w memory old ready).room
 
-  ground : IsGround size gate (pool_ground n at)
+  ground : IsScope size gate (pool_scope n at)
   ground = let few = known in is_ground n size gate at placed room (omega arith)
 
   present : w.clients client ≡ Some may.who
@@ -203,11 +203,11 @@ module _ (size : ℕ) (w : World) (memory : Memory) (old : State) (ready : IsRea
   gate_unmasked : ready.mask gate ≡ None
   gate_unmasked = masks_beside_log n opens ready.mask ready.active.are ready.active.masks number gate (ready.active.none number vacant.free) known (within_log gate gate (gate_inside n number gate refl))
 
-  mine_unmasked : (k : ℕ) → pool_mine n at k ≡ true → ready.mask k ≡ None
+  mine_unmasked : (k : ℕ) → pool_has_word n at k ≡ true → ready.mask k ≡ None
   mine_unmasked k mine =
       unmasked_by_all w memory.active ready.mask old.now.words ready.active k (λ m h there is.
       unmasked_frames w h ready.mask old.now.words is slot may.rec may.used
-      (λ same. not_named w memory.active ready.mask old.now.words name ready.active vacant.shut m h there (sym same ∙ may.name_is)) k (ap (λ (puddles : List (ℕ × Puddle)). pool_mine n puddles k) may.puddles ∙ mine))
+      (λ same. not_named w memory.active ready.mask old.now.words name ready.active vacant.shut m h there (sym same ∙ may.name_is)) k (ap (λ (puddles : List (ℕ × Puddle)). pool_has_word n puddles k) may.puddles ∙ mine))
 
   -- its log is closed in each image, as those of the clients are where the words of the open ones are masked
   log_closed : (i : Image) → Picks old.now.words i → is_closed_log i gate ≡ true
@@ -224,12 +224,12 @@ module _ (size : ℕ) (w : World) (memory : Memory) (old : State) (ready : IsRea
       ∙ registered_is_closed n under number may.who (stands.holds Spaces).logs known owned
 
   -- and each word of its frames has one value
-  idle : IsIdle (pool_ground n at) gate now old.now.words
+  idle : IsIdle (pool_scope n at) gate now old.now.words
   idle =
       record {
         closed = log_closed;
         single = λ k mine.
-            let m = pool_mine-each n at k mine in let low = m.low in
+            let m = pool_has_word-each n at k mine in let low = m.low in
             subst (λ (x : Cell). HasOnly x x.newest) (masked-elsewhere ready.mask old.now.words k (mine_unmasked k mine)) (ready.rest.each k (omega arith));
       }
 
@@ -294,7 +294,7 @@ module _ (size : ℕ) (w : World) (memory : Memory) (old : State) (ready : IsRea
       let a = others_apart w h ready.mask old.now.words is in
       record {
         log = λ k v wrote inside. a.log k v (off k v wrote) inside;
-        mine = λ k v wrote mine. a.active k v (off k v wrote) mine;
+        has_word = λ k v wrote mine. a.active k v (off k v wrote) mine;
         records = λ k v wrote of. a.records k v (off k v wrote) of;
       }
 
@@ -305,7 +305,7 @@ module _ (size : ℕ) (w : World) (memory : Memory) (old : State) (ready : IsRea
     abbrev c : Changes By fault old new
     c = persists.changes
 
-    from_same : (j : Image) (from : HasOrigin By old.now.words j) (k : ℕ) → is_in_log gate k ≡ false → pool_mine n (finished_of at) k ≡ false → j k ≡ from.before k
+    from_same : (j : Image) (from : HasOrigin By old.now.words j) (k : ℕ) → is_in_log gate k ≡ false → pool_has_word n (finished_of at) k ≡ false → j k ≡ from.before k
     from_same j from k outside other = elim (from.from.each k) [ inl same ↦ same | inr wrote ↦ absurd (not_gate k (j k) outside wrote) ]
 
     idle_of : (j : Image) (from : HasOrigin By old.now.words j) → is_idle_gate (j DAEMON_LOG) ≡ true
@@ -457,7 +457,7 @@ module _ (size : ℕ) (w : World) (memory : Memory) (old : State) (ready : IsRea
           By (begun_apart h under.is) changed (masks_then.has m (open_transaction_of h under.is.puddles under.is.rec under.is.who under.is.before) opened_then)
           (record {
             each = λ k mine other.
-                let word = pool_mine-each n under.is.puddles k mine in
+                let word = pool_has_word-each n under.is.puddles k mine in
                 let low = word.low in
                 HasOnly-kept By None old new k (under.is.before k) changed (λ v. not_gate k v (in_frames k (omega arith))) (under.is.running.rests.each k mine other);
           }) opens_then m under.number_is opened_then
@@ -510,8 +510,8 @@ module _ (size : ℕ) (w : World) (memory : Memory) (old : State) (ready : IsRea
 pub Applies-begins : (size : ℕ) (w : World) (memory : Memory) (F client : ℕ) (name : List ℕ) (slot number : ℕ) (fault : Option HostFault) (old new : State) → memory.frames ≡ F → slot < POOL_RECORDS → client < CLIENTS
     → IsLogOf client number → MayBeginIn memory (reads old.now.words) client name slot number → (fault ≡ None → number < length memory.active) → IsReady size w memory old
     → Persists (only (log_number_at F number) RUNNING_GATE) fault old new
-    → ((pool : List (ℕ × Puddle)) (before : Image) → IsPlaced F pool → IsIdle (pool_ground F pool) (log_number_at F number) before old.now.words
-    → Runs (pool_ground F (finished_of pool)) (begun (log_number_at F number)) [] before nothing fault old new)
+    → ((pool : List (ℕ × Puddle)) (before : Image) → IsPlaced F pool → IsIdle (pool_scope F pool) (log_number_at F number) before old.now.words
+    → Runs (pool_scope F (finished_of pool)) (begun (log_number_at F number)) [] before nothing fault old new)
     → Applies size w (after w (commands.Begin client name)) (with_begun (begins_as client name slot F number) memory) fault old new
 Applies-begins size w memory F client name slot number fault old new on below few of m place ready persists runs =
     let low = of.low in
@@ -531,8 +531,8 @@ Applies-begins size w memory F client name slot number fault old new on below fe
     } in
     subst (λ (k : ℕ).
     Persists (only (log_number_at k number) RUNNING_GATE) fault old new
-    → ((pool : List (ℕ × Puddle)) (before : Image) → IsPlaced k pool → IsIdle (pool_ground k pool) (log_number_at k number) before old.now.words
-    → Runs (pool_ground k (finished_of pool)) (begun (log_number_at k number)) [] before nothing fault old new)
+    → ((pool : List (ℕ × Puddle)) (before : Image) → IsPlaced k pool → IsIdle (pool_scope k pool) (log_number_at k number) before old.now.words
+    → Runs (pool_scope k (finished_of pool)) (begun (log_number_at k number)) [] before nothing fault old new)
     → Applies size w (after w (commands.Begin client name)) (with_begun (begins_as client name slot k number) memory) fault old new) same
     (λ persists runs.
     Applies-begun size w memory old ready client name slot number m.puddles vacant may fault new persists

@@ -33,20 +33,20 @@ use Rattle.pud_defs.proofs.Spaces.{owner_of-same}
 use Rattle.batch.specs.Batches.{HasIdleGate}
 use Rattle.batch.specs.Worlds.{IsSettled}
 use Rattle.batch.proofs.Tables.{HasDurableTables-kept, reads_kept}
-use Rattle.word_transaction.specs.Ground.{Ground}
+use Rattle.word_transaction.specs.Scope.{Scope}
 use Rattle.word_transaction.specs.Running.{ByTransaction, SettlesTo, Closes, Ends}
 use Rattle.word_transaction.proofs.Ended.{beside_transaction, Ends-either}
-use Rattle.hybrid_tx.specs.Grounds.{pool_mine, pool_ground, finished_of}
+use Rattle.hybrid_tx.specs.PoolScopes.{pool_has_word, pool_scope, finished_of}
 use Rattle.hybrid_tx.specs.Open.Masks.{OpenPool, is_open_record, IsOpenPool, IsLeftOpen}
 use Rattle.hybrid_tx.specs.Open.ManyOpen.{OpenTransaction, Opens, with_transaction, open_masks, AreOpenPools, MasksAll, HasRecords, AreLeftOpen, IsOneMore}
 use Rattle.hybrid_tx.proofs.Open.ManyIdle.{one_put, others_records, opens_more, records_more, left_more, masks_elsewhere, idle_world_ended}
 use Rattle.hybrid_tx.proofs.Open.ManyMasks.{masks_below, masks_beside_log, masks_of_log, masks_of_mine, masks_same, open_masks_all}
-use Rattle.hybrid_tx.proofs.Objects.Opening.{stored_in-mine}
+use Rattle.hybrid_tx.proofs.Objects.Opening.{stored_in-has_word}
 use Rattle.hybrid_tx.proofs.Open.OpenIdle.{unnamed_idle, IsOpenPool-same}
 use Rattle.hybrid_tx.proofs.Open.OpenMasks.{open_record_place, mine_behind, mask_of_others}
 use Rattle.hybrid_tx.proofs.Open.OpenPools.{open_on_device}
 use Rattle.hybrid_tx.proofs.Open.OpenWorlds.{world_with_many, none_refused_with_many}
-use Rattle.hybrid_tx.proofs.PoolGrounds.{pool_mine-each}
+use Rattle.hybrid_tx.proofs.PoolScope.{pool_has_word-each}
 use Rattle.hybrid_tx.specs.Objects.Transactions.{RestsAs}
 use Rattle.ready_daemon.proofs.PoolsBeside.{one_slot}
 use Rattle.ready_daemon.proofs.RestBeside.{active_graph}
@@ -73,7 +73,7 @@ use Rattle.ready_daemon.proofs.TablesBeside.{types_read}
 
 -- images that differ in the words of one open transaction alone, its log's and its frames', where the daemon log of the first counts nothing
 module _ (size : ℕ) (s : StoredWorld) (number : ℕ) (o : OpenTransaction) (others opens : Opens) (more : IsOneMore number o others opens) (are : AreOpenPools s.frames opens) (i j : Image)
-    (idle : is_idle_gate (i DAEMON_LOG) ≡ true) (same : (k : ℕ) → is_in_log (log_number_at s.frames number) k ≡ false → pool_mine s.frames (finished_of o.pool.puddles) k ≡ false → j k ≡ i k)
+    (idle : is_idle_gate (i DAEMON_LOG) ≡ true) (same : (k : ℕ) → is_in_log (log_number_at s.frames number) k ≡ false → pool_has_word s.frames (finished_of o.pool.puddles) k ≡ false → j k ≡ i k)
     (records : HasRecords opens i) (world : idle_world_of size (masked_image (open_masks s.frames opens) i) ≡ Some s) where
   abbrev F : ℕ
   F = s.frames
@@ -92,7 +92,7 @@ module _ (size : ℕ) (s : StoredWorld) (number : ℕ) (o : OpenTransaction) (ot
   masked_same =
       let each : (k : ℕ) → masked_image m j k ≡ masked_image m i k = λ k. elim (cases_Bool (is_in_log gate k)) [
         | inl inside ↦ let v = masks_of_log F opens m are masks number o more.here k inside in masked_image-there m j k v.0 v.1 ∙ sym (masked_image-there m i k v.0 v.1)
-        | inr outside ↦ elim (cases_Bool (pool_mine F (finished_of o.pool.puddles) k)) [
+        | inr outside ↦ elim (cases_Bool (pool_has_word F (finished_of o.pool.puddles) k)) [
           | inl mine ↦
               let is = masks_of_mine F opens m are masks number o more.here k mine in
               masked_image-there m j k (o.before k) is ∙ sym (masked_image-there m i k (o.before k) is)
@@ -123,21 +123,21 @@ module _ (size : ℕ) (s : StoredWorld) (number : ℕ) (o : OpenTransaction) (ot
   left_stands left = (world_with_many size F s opens j refl are left world_now, record { each = none_refused_with_many size F s opens j refl are left world_now })
 
   -- and where its log is closed and its frames have these values it does so, idle, with the words of the others masked
-  pub ended_stands : is_closed_log j gate ≡ true → ((k : ℕ) → pool_mine F (finished_of o.pool.puddles) k ≡ true → j k ≡ o.before k) → idle_world_of size (masked_image (open_masks F others) j) ≡ Some s
+  pub ended_stands : is_closed_log j gate ≡ true → ((k : ℕ) → pool_has_word F (finished_of o.pool.puddles) k ≡ true → j k ≡ o.before k) → idle_world_of size (masked_image (open_masks F others) j) ≡ Some s
   ended_stands shut mine = idle_world_ended size s number o others opens more j are records_now mine (λ k v is. unnamed_idle j k idle_now) shut world_now
 
 -- ---- the calls that end one
 
 -- Each image left meanwhile settles to the values from the beginning or to others. Without a fault each own word has its other value and no other, and
 -- the log is closed.
-pub record EndsBy (g : Ground) (at : ℕ) (before after : Image) (fault : Option HostFault) (old new : State) : Type 0 where
+pub record EndsBy (g : Scope) (at : ℕ) (before after : Image) (fault : Option HostFault) (old new : State) : Type 0 where
   pub changes : Changes (ByTransaction g at) fault old new
   pub moments : Leaves (Silently (λ image. SettlesTo g at before image ⊎ SettlesTo g at after image)) old new
-  pub durable : fault ≡ None → (k : ℕ) → g.mine k ≡ true → HasOnly (new.now.words k) (after k)
+  pub durable : fault ≡ None → (k : ℕ) → g.has_word k ≡ true → HasOnly (new.now.words k) (after k)
   pub closed : fault ≡ None → HasOnly (new.now.words at) CLOSED_GATE
 
 -- undone
-pub EndsBy-closes : (g : Ground) (at : ℕ) (before : Image) (fault : Option HostFault) (old new : State) → Closes g at before fault old new → EndsBy g at before before fault old new
+pub EndsBy-closes : (g : Scope) (at : ℕ) (before : Image) (fault : Option HostFault) (old new : State) → Closes g at before fault old new → EndsBy g at before before fault old new
 EndsBy-closes g at before fault old new c = record {
   changes = c.changes;
   moments = Leaves-weaker (Silently (SettlesTo g at before)) (Silently (λ image. SettlesTo g at before image ⊎ SettlesTo g at before image)) old new (λ bytes image m. (m.0, inl m.1)) c.moments;
@@ -146,14 +146,14 @@ EndsBy-closes g at before fault old new c = record {
 }
 
 -- the own words as in one image, and all others as in another
-abbrev pub mixed : Ground → (after before : Image) → Image
-mixed g after before k = cond (g.mine k) (after k) (before k)
+abbrev pub mixed : Scope → (after before : Image) → Image
+mixed g after before k = cond (g.has_word k) (after k) (before k)
 
-SettlesTo-mixed : (g : Ground) (at : ℕ) (after before image : Image) → SettlesTo g at after image → SettlesTo g at (mixed g after before) image
+SettlesTo-mixed : (g : Scope) (at : ℕ) (after before image : Image) → SettlesTo g at after image → SettlesTo g at (mixed g after before) image
 SettlesTo-mixed g at after before image s = record { es = s.es; spells = s.spells; own = s.own; settled = λ k mine. s.settled k mine ∙ sym (cond-true _ _ _ mine) }
 
 -- committed: the own words alone matter of the values
-pub EndsBy-ends : (g : Ground) (at : ℕ) (before after : Image) (fault : Option HostFault) (old new : State) → Ends g at before after fault old new → EndsBy g at before (mixed g after before) fault old new
+pub EndsBy-ends : (g : Scope) (at : ℕ) (before after : Image) (fault : Option HostFault) (old new : State) → Ends g at before after fault old new → EndsBy g at before (mixed g after before) fault old new
 EndsBy-ends g at before after fault old new e = record {
   changes = e.changes;
   moments = Leaves-weaker (Silently (λ image. SettlesTo g at before image ⊎ SettlesTo g at after image)) (Silently (λ image. SettlesTo g at before image ⊎ SettlesTo g at (mixed g after before) image)) old new
@@ -197,8 +197,8 @@ module _ (size : ℕ) (w : World) (memory : Memory) (number : ℕ) (active : Act
   abbrev pub rest : Write
   rest = open_masks n others
 
-  abbrev g : Ground
-  g = pool_ground n (finished_of is_active.puddles)
+  abbrev g : Scope
+  g = pool_scope n (finished_of is_active.puddles)
 
   abbrev may : Footprint
   may = ByTransaction g active.tx.log.gate_at
@@ -239,7 +239,7 @@ module _ (size : ℕ) (w : World) (memory : Memory) (number : ℕ) (active : Act
   world_there i picked =
       ap (λ (m : Write). idle_world_of size (masked_image m i)) (sym mask_is) ∙ ready.settled.stands (masked_image ready.mask i) (Picks-masked ready.mask old.now.words i picked)
 
-  below_mine : (k : ℕ) → k < tables_end n → pool_mine n (finished_of is_active.puddles) k ≡ false
+  below_mine : (k : ℕ) → k < tables_end n → pool_has_word n (finished_of is_active.puddles) k ≡ false
   below_mine k below = mine_behind n (finished_of is_active.puddles) k (omega arith)
 
   below_log : (k : ℕ) → k < tables_end n → is_in_log active.tx.log.gate_at k ≡ false
@@ -255,7 +255,7 @@ module _ (size : ℕ) (w : World) (memory : Memory) (number : ℕ) (active : Act
   record_below k of = (open_record_place n pool k is_active.pool.slot is_active.pool.known (open_on_device n pool before is_active.pool) of).high
 
   -- a word behind the tables that is none of its own is masked as it is with the words of the others alone
-  rest_same : (k : ℕ) → is_in_log active.tx.log.gate_at k ≡ false → pool_mine n (finished_of is_active.puddles) k ≡ false → tables_end n ≤ k → ready.mask k ≡ rest k
+  rest_same : (k : ℕ) → is_in_log active.tx.log.gate_at k ≡ false → pool_has_word n (finished_of is_active.puddles) k ≡ false → tables_end n ≤ k → ready.mask k ≡ rest k
   rest_same k outside other above =
       masks_elsewhere number own others opens more n ready.mask rest ready.active.masks rest_masks k
       (mask_of_others n pool before k (ap (λ (at : ℕ). is_in_log at k) (sym is_active.gate) ∙ outside) other
@@ -269,10 +269,10 @@ module _ (size : ℕ) (w : World) (memory : Memory) (number : ℕ) (active : Act
   -- ---- an image that is left by its calls
 
   module _ (j : Image) (f : HasOrigin may old.now.words j) where
-    from_same : (k : ℕ) → is_in_log active.tx.log.gate_at k ≡ false → pool_mine n (finished_of is_active.puddles) k ≡ false → j k ≡ f.before k
+    from_same : (k : ℕ) → is_in_log active.tx.log.gate_at k ≡ false → pool_has_word n (finished_of is_active.puddles) k ≡ false → j k ≡ f.before k
     from_same k outside other = elim (f.from.each k) [ inl same ↦ same | inr wrote ↦ absurd (beside_transaction g active.tx.log.gate_at k (j k) outside other wrote) ]
 
-    from_number : (k : ℕ) → is_in_log (log_number_at n number) k ≡ false → pool_mine n (finished_of is_active.puddles) k ≡ false → j k ≡ f.before k
+    from_number : (k : ℕ) → is_in_log (log_number_at n number) k ≡ false → pool_has_word n (finished_of is_active.puddles) k ≡ false → j k ≡ f.before k
     from_number k outside other = from_same k (ap (λ (at : ℕ). is_in_log at k) gate_is ∙ outside) other
 
     idle_left : is_idle_gate (j DAEMON_LOG) ≡ true
@@ -318,7 +318,7 @@ module _ (size : ℕ) (w : World) (memory : Memory) (number : ℕ) (active : Act
 
   -- ---- other values of its frames
 
-  module _ (after : Image) (agrees : (k : ℕ) → pool_mine n (finished_of is_active.puddles) k ≡ false → after k ≡ before k) where
+  module _ (after : Image) (agrees : (k : ℕ) → pool_has_word n (finished_of is_active.puddles) k ≡ false → after k ≡ before k) where
     abbrev pub later : OpenTransaction
     later = record { pool = pool; before = after }
 
@@ -396,7 +396,7 @@ module _ (size : ℕ) (w : World) (memory : Memory) (number : ℕ) (active : Act
         }
 
         frames_single : (k : ℕ) → frames_at n ≤ k → HasOnly (masked rest new.now.words k) (masked rest new.now.words k).newest
-        frames_single k above = elim (cases_Bool (pool_mine n (finished_of is_active.puddles) k)) [
+        frames_single k above = elim (cases_Bool (pool_has_word n (finished_of is_active.puddles) k)) [
           | inl mine ↦ HasOnly-own_masked rest new.now.words k (HasOnly-own (new.now.words k) (after k) (e.durable done k mine))
           | inr other ↦
               let outside = above_log k above in
@@ -425,7 +425,7 @@ module _ (size : ℕ) (w : World) (memory : Memory) (number : ℕ) (active : Act
                 | inr apart ↦
                     let its = gate_is in
                     let outside : is_in_log active.tx.log.gate_at gate ≡ false = outside_log active.tx.log.gate_at gate (elim (cases_lt gate active.tx.log.gate_at) [ inl low ↦ inl low | inr high ↦ inr (omega arith) ]) in
-                    let other : pool_mine n (finished_of is_active.puddles) gate ≡ false = mine_behind n (finished_of is_active.puddles) gate (omega arith) in
+                    let other : pool_has_word n (finished_of is_active.puddles) gate ≡ false = mine_behind n (finished_of is_active.puddles) gate (omega arith) in
                     idle_kept gate may None (masked_state rest old) (masked_state rest new) changed_under (λ v wrote. absurd (beside_transaction g active.tx.log.gate_at gate v outside other wrote))
                     (record {
                       each = λ v had. (ready.logs.each client number_of low few present).each v (subst (λ (x : Option ℕ). Has (values (masked_cell x (old.now.words gate))) v) (sym (rest_same gate outside other (omega arith))) had);
@@ -434,11 +434,11 @@ module _ (size : ℕ) (w : World) (memory : Memory) (number : ℕ) (active : Act
         }
 
         -- each word of its pool has the value that is left
-        left_read : (k : ℕ) → pool_mine n is_active.puddles k ≡ true → reads new.now.words k ≡ after k
-        left_read k mine = elim (cases_Bool (pool_mine n (finished_of is_active.puddles) k)) [
+        left_read : (k : ℕ) → pool_has_word n is_active.puddles k ≡ true → reads new.now.words k ≡ after k
+        left_read k mine = elim (cases_Bool (pool_has_word n (finished_of is_active.puddles) k)) [
           | inl own ↦ HasOnly-newest (new.now.words k) (after k) (e.durable done k own)
           | inr other ↦
-              let m = pool_mine-each n is_active.puddles k mine in
+              let m = pool_has_word-each n is_active.puddles k mine in
               let low = m.low in
               let outside = above_log k (omega arith) in
               HasOnly-newest (new.now.words k) (before k)
@@ -457,7 +457,7 @@ module _ (size : ℕ) (w : World) (memory : Memory) (number : ℕ) (active : Act
         graph_ended : HasGraphIn n active.slot (reads new.now.words) is_active.puddles
         graph_ended =
             graph_active_in w active ready.mask old new is_active changed left (types_read size w memory old ready).types (active_in_turn size w memory old ready number active there)
-            (ap (graph_of w.stored.types) (stored_in-mine n is_active.puddles after (reads new.now.words) left_read) ∙ graph)
+            (ap (graph_of w.stored.types) (stored_in-has_word n is_active.puddles after (reads new.now.words) left_read) ∙ graph)
 
         -- and its puddles are known as they were
         knows_ended : KnowsPools n (alone_in active.slot memory.judged) others (reads new.now.words)

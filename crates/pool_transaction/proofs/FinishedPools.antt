@@ -20,7 +20,7 @@ use Rattle.lazy_rewrite.specs.Batches.{RewritesInTurn, Rewrites}
 use Rattle.lazy_rewrite.proofs.Moved.{with_steps-none, low_bases-steps}
 use Rattle.lazy_rewrite.proofs.Spared.{HaveMoved, HaveMoved-same, HaveMoved-then}
 use Rattle.lazy_rewrite.proofs.Turns.{Rewrites-further, Rewrites-then, Rewrites-idle}
-use Rattle.hybrid_tx.specs.Grounds.{IsRewrittenAt}
+use Rattle.hybrid_tx.specs.PoolScopes.{IsRewrittenAt}
 use Rattle.pool_transaction.specs.Changing.{both_finished}
 
 -- each frontier is at most at the end of its puddle

@@ -10,7 +10,7 @@ use Rattle.pud_defs.specs.declared.records.Puddle.{Puddle}
 use Rattle.pud_defs.specs.Puddles.{Member}
 use Rattle.pud_defs.specs.Step.{refusal_of, after, world_by}
 use Rattle.pud_defs.specs.World.{World}
-use Rattle.hybrid_tx.specs.Grounds.{IsPlaced}
+use Rattle.hybrid_tx.specs.PoolScopes.{IsPlaced}
 use Rattle.known_pool.specs.Known.{Known, IsKnown, by_puddles}
 use Rattle.ready_daemon.specs.Judged.{puddles_known}
 use Rattle.ready_daemon.specs.Memory.{ActiveTransaction, Memory}

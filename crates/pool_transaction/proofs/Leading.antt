@@ -28,7 +28,7 @@ use Rattle.puddle_header.specs.Places.{place_of_slot, IsSlotOf}
 use Rattle.puddle_header.proofs.Placed.{place_ordinal}
 use Rattle.lazy_rewrite.specs.Frontiers.{frontier_in, frontiers_of, frontier_at, finished_at}
 use Rattle.lazy_rewrite.proofs.Spared.{HaveMoved-same}
-use Rattle.hybrid_tx.specs.Grounds.{IsRewrittenAt}
+use Rattle.hybrid_tx.specs.PoolScopes.{IsRewrittenAt}
 use Rattle.ready_daemon.specs.Memory.{Memory}
 use Rattle.ready_daemon.specs.Moves.{Stays, MovesTo, still, led_to, led_in}
 use Rattle.ready_daemon.specs.Ready.{Applies}

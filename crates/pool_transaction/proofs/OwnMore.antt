@@ -20,11 +20,11 @@ use Rattle.pud_defs.specs.World.{World}
 use Rattle.pud_defs.proofs.Spaces.{owner_of-same}
 use Rattle.pud_defs.proofs.TablesOf.{tables_of-same}
 use Rattle.word_transaction.proofs.Growing.{IsWider}
-use Rattle.hybrid_tx.specs.Grounds.{pool_mine, pool_ground, IsPlaced, finished_of}
+use Rattle.hybrid_tx.specs.PoolScopes.{pool_has_word, pool_scope, IsPlaced, finished_of}
 use Rattle.hybrid_tx.specs.Open.Masks.{OpenPool, is_in_pool_record, is_in_space_record, is_in_puddle_record, is_open_record, open_mask, ArePuddlesOf, IsOpenPool}
 use Rattle.hybrid_tx.specs.Open.ManyOpen.{OpenTransaction}
 use Rattle.hybrid_tx.proofs.FinishedPuddles.{finished_puddles}
-use Rattle.hybrid_tx.proofs.PoolGrounds.{any_element, element_passes, pool_mine-each, pool_mine-from, pool_may-named, pool_may-from, pool_place-there}
+use Rattle.hybrid_tx.proofs.PoolScope.{any_element, element_passes, pool_has_word-each, pool_has_word-from, pool_may_name-named, pool_may_name-from, pool_place-there}
 use Rattle.hybrid_tx.proofs.Open.OpenMasks.{mine_behind, open_record_place, mask_of_own, mask_of_mine, mask_of_record, mask_of_others}
 use Rattle.hybrid_tx.proofs.Open.OpenPools.{open_on_device}
 use Rattle.hybrid_tx.proofs.Open.PoolPlaces.{are_puddles_in_turn}
@@ -69,13 +69,13 @@ pub record OpensAnew (F : ℕ) (first then : OpenTransaction) (words : Words) : 
 
 -- the values of its beginning, and of the words that were not its own those that are read
 abbrev pub begun : (F : ℕ) (own : List (ℕ × Puddle)) (before now : Image) → Image
-begun F own before now k = cond (pool_mine F (finished_of own) k) (before k) (now k)
+begun F own before now k = cond (pool_has_word F (finished_of own) k) (before k) (now k)
 
 module _ (F : ℕ) (own : List (ℕ × Puddle)) (before now : Image) where
-  pub own_begun : (k : ℕ) → pool_mine F (finished_of own) k ≡ true → begun F own before now k ≡ before k
+  pub own_begun : (k : ℕ) → pool_has_word F (finished_of own) k ≡ true → begun F own before now k ≡ before k
   own_begun k mine = cond-true _ _ _ mine
 
-  pub other_begun : (k : ℕ) → pool_mine F (finished_of own) k ≡ false → begun F own before now k ≡ now k
+  pub other_begun : (k : ℕ) → pool_has_word F (finished_of own) k ≡ false → begun F own before now k ≡ now k
   other_begun k other = cond-false _ _ _ other
 
   pub table_begun : (k : ℕ) → k < frames_at F → begun F own before now k ≡ now k
@@ -91,27 +91,27 @@ pub record FinishesMore (own at : List (ℕ × Puddle)) : Type 0 where
   pub each : (i : ℕ) (d : ℕ × Puddle) → slice_get (finished_of own) i ≡ Some d → (j : ℕ) × (slice_get (finished_of at) j ≡ Some d)
 
 module _ (F : ℕ) (own at : List (ℕ × Puddle)) (later : FinishesMore own at) where
-  pub mine_later : (k : ℕ) → pool_mine F (finished_of own) k ≡ true → pool_mine F (finished_of at) k ≡ true
+  pub mine_later : (k : ℕ) → pool_has_word F (finished_of own) k ≡ true → pool_has_word F (finished_of at) k ≡ true
   mine_later k mine =
-      let from = pool_mine-each F (finished_of own) k mine in
+      let from = pool_has_word-each F (finished_of own) k mine in
       let to = later.each from.ordinal from.puddle from.there in
-      pool_mine-from F (finished_of at) k (record { ordinal = to.0; puddle = from.puddle; there = to.1; low = from.low; high = from.high })
+      pool_has_word-from F (finished_of at) k (record { ordinal = to.0; puddle = from.puddle; there = to.1; low = from.low; high = from.high })
 
-  pub wider_ground : IsPlaced F (finished_of own) → IsPlaced F (finished_of at) → IsWider (pool_ground F (finished_of own)) (pool_ground F (finished_of at))
+  pub wider_ground : IsPlaced F (finished_of own) → IsPlaced F (finished_of at) → IsWider (pool_scope F (finished_of own)) (pool_scope F (finished_of at))
   wider_ground was placed = record {
-    may = λ address count may.
-        let n = pool_may-named (finished_of own) address count may in
+    may_name = λ address count may.
+        let n = pool_may_name-named (finished_of own) address count may in
         let to = later.each n.ordinal n.puddle n.there in
-        pool_may-from (finished_of at) address count (record { ordinal = to.0; puddle = n.puddle; there = to.1; low = n.low; high = n.high; aligned = n.aligned; some = n.some });
+        pool_may_name-from (finished_of at) address count (record { ordinal = to.0; puddle = n.puddle; there = to.1; low = n.low; high = n.high; aligned = n.aligned; some = n.some });
     place = λ address count may.
-        let n = pool_may-named (finished_of own) address count may in
+        let n = pool_may_name-named (finished_of own) address count may in
         let to = later.each n.ordinal n.puddle n.there in
         let low = n.low in
         let high = n.high in
         let least = n.some in
         pool_place-there F (finished_of at) to.0 n.puddle address placed.bases to.1 low (omega arith)
         ∙ sym (pool_place-there F (finished_of own) n.ordinal n.puddle address was.bases n.there low (omega arith));
-    mine = mine_later;
+    has_word = mine_later;
   }
 
 -- ---- it is open so
@@ -159,9 +159,9 @@ module _ (w : World) (active : ActiveTransaction) (mask : Write) (were words : W
     record_there k of = (open_record_place F q k is.pool.slot is.pool.known (open_on_device F q before its_pool) of).high
 
     mask_outside : (k : ℕ) → is_in_log (log_number_at F active.log_number) k ≡ false → before k ≡ now k → open_mask F p is.before k ≡ None → IsMaskedMore (open_mask F p is.before) (open_mask F q before) words k
-    mask_outside k outside other none = elim (cases_Bool (pool_mine F (finished_of at) k || is_open_record q k)) [
+    mask_outside k outside other none = elim (cases_Bool (pool_has_word F (finished_of at) k || is_open_record q k)) [
       | inl own ↦ inr (none, mask_of_own F q before k outside own ∙ ap (λ (v : ℕ). Some v) other)
-      | inr not ↦ let parts = or_parts (pool_mine F (finished_of at) k) (is_open_record q k) not in inl (mask_of_others F q before k outside parts.0 parts.1 ∙ sym none)
+      | inr not ↦ let parts = or_parts (pool_has_word F (finished_of at) k) (is_open_record q k) not in inl (mask_of_others F q before k outside parts.0 parts.1 ∙ sym none)
     ]
 
     mask_in_log : (k : ℕ) → is_in_log (log_number_at F active.log_number) k ≡ true → open_mask F q before k ≡ open_mask F p is.before k
@@ -182,7 +182,7 @@ module _ (w : World) (active : ActiveTransaction) (mask : Write) (were words : W
     mask_then : (k : ℕ) → IsMaskedMore (open_mask F p is.before) (open_mask F q before) words k
     mask_then k = elim (cases_Bool (is_in_log (log_number_at F active.log_number) k)) [
       | inl inside ↦ inl (mask_in_log k inside)
-      | inr outside ↦ elim (cases_Bool (pool_mine F (finished_of is.puddles) k)) [
+      | inr outside ↦ elim (cases_Bool (pool_has_word F (finished_of is.puddles) k)) [
         | inl own ↦
             inl (mask_of_mine F q before k is.pool.known (mine_later F is.puddles at later k own) ∙ ap (λ (v : ℕ). Some v) (own_begun F is.puddles is.before now k own) ∙ sym (mask_of_mine F p is.before k is.pool.known own))
         | inr other ↦ elim (cases_Bool (is_open_record p k)) [

@@ -25,11 +25,11 @@ use Rattle.pud_defs.proofs.Replay.{outside_log}
 use Rattle.graph_laws.specs.Steps.{with_steps}
 use Rattle.lazy_rewrite.specs.Batches.{AreNextSteps, CommitsSteps, RewritesOnce, RewritesInTurn, Rewrites}
 use Rattle.lazy_rewrite.proofs.Stepped.{member_of_pool}
-use Rattle.hybrid_tx.specs.Grounds.{IsPlaced}
+use Rattle.hybrid_tx.specs.PoolScopes.{IsPlaced}
 use Rattle.hybrid_tx.specs.Open.Masks.{open_mask}
 use Rattle.hybrid_tx.specs.Open.ManyOpen.{with_transaction}
 use Rattle.hybrid_tx.specs.Objects.Transactions.{RestsAs}
-use Rattle.hybrid_tx.proofs.PoolGrounds.{pool_mine-each}
+use Rattle.hybrid_tx.proofs.PoolScope.{pool_has_word-each}
 use Rattle.known_pool.specs.Known.{Known, with_puddles}
 use Rattle.ready_daemon.specs.Judged.{puddles_known, pool_in, known_in}
 use Rattle.ready_daemon.specs.KnownPools.{KnowsPools}
@@ -158,7 +158,7 @@ module _ (size : ℕ) (w : World) (memory : Memory) (old new : State) (ready : I
         let other = active_is w memory.active ready.mask old.now.words ready.active i h has in
         record {
           each = λ k mine none.
-              let from = (pool_mine-each n other.at k mine).low in
+              let from = (pool_has_word-each n other.at k mine).low in
               let was = other.running.rests.each k mine none in
               let same = keeps_others.words h.slot other.at
               (λ it. apart (one_slot w memory.active ready.mask old.now.words ready.active i number h active has there (sym (same_Some active.slot h.slot it)))) (active_graph size w memory old ready i h has) k mine in

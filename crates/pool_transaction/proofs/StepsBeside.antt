@@ -39,11 +39,11 @@ use Rattle.lazy_rewrite.proofs.Stepped.{member_of_pool, types_of-same}
 use Rattle.lazy_rewrite.proofs.Turns.{by_batch}
 use Rattle.lazy_rewrite.proofs.Worlds.{batch_keeps_world}
 use Rattle.lazy_rewrite.proofs.WorldTurns.{steps_masked}
-use Rattle.hybrid_tx.specs.Grounds.{pool_mine, finished_of, IsPlaced}
-use Rattle.hybrid_tx.proofs.Objects.Opening.{stored_in-mine}
+use Rattle.hybrid_tx.specs.PoolScopes.{pool_has_word, finished_of, IsPlaced}
+use Rattle.hybrid_tx.proofs.Objects.Opening.{stored_in-has_word}
 use Rattle.hybrid_tx.proofs.Open.OpenMasks.{mask_of_mine}
 use Rattle.hybrid_tx.proofs.Open.OpenPools.{placed_by_tables}
-use Rattle.hybrid_tx.proofs.PoolGrounds.{pool_mine-each}
+use Rattle.hybrid_tx.proofs.PoolScope.{pool_has_word-each}
 use Rattle.ready_daemon.specs.Memory.{ActiveTransaction, Memory, active_under}
 use Rattle.ready_daemon.specs.ActiveTransactions.{open_pool_of, IsActiveOn, LeavesMasked}
 use Rattle.ready_daemon.specs.Judged.{known_in}
@@ -116,9 +116,9 @@ module _ (size : ℕ) (w : World) (memory : Memory) (slot : ℕ) (at : List (ℕ
   types_masked = types_of-same image (reads under) (λ k low high. read_beside size w memory old ready k (omega arith))
 
   -- where none is held on it, each word of its frames is read as it is
-  shut_word : IsShutIn memory.active slot → (k : ℕ) → pool_mine F at k ≡ true → reads under k ≡ image k
+  shut_word : IsShutIn memory.active slot → (k : ℕ) → pool_has_word F at k ≡ true → reads under k ≡ image k
   shut_word shut k mine =
-      let own = pool_mine-each F at k mine in
+      let own = pool_has_word-each F at k mine in
       let from = own.low in
       let to = own.high in
       let of = member own.ordinal own.puddle own.there in
@@ -132,11 +132,11 @@ module _ (size : ℕ) (w : World) (memory : Memory) (slot : ℕ) (at : List (ℕ
       ap (λ (c : Cell). c.newest) (masked-elsewhere mask old.now.words k none)
 
   -- where one is, those that are its own have the values of its beginning, and the others that value alone
-  active_word : (number : ℕ) (h : ActiveTransaction) (there : active_under memory.active number ≡ Some h) (k : ℕ) → pool_mine F (active_is w memory.active mask old.now.words ready.active number h there).puddles k ≡ true
+  active_word : (number : ℕ) (h : ActiveTransaction) (there : active_under memory.active number ≡ Some h) (k : ℕ) → pool_has_word F (active_is w memory.active mask old.now.words ready.active number h there).puddles k ≡ true
       → reads under k ≡ (active_is w memory.active mask old.now.words ready.active number h there).before k
   active_word number h there k mine =
       let is = active_is w memory.active mask old.now.words ready.active number h there in
-      elim (cases_Bool (pool_mine F (finished_of is.puddles) k)) [
+      elim (cases_Bool (pool_has_word F (finished_of is.puddles) k)) [
         | inl own ↦
             ap (λ (c : Cell). c.newest) (masked-there mask old.now.words k (is.before k) (is.masked k (is.before k) (mask_of_mine F (open_pool_of h is.puddles is.rec is.who) is.before k is.pool.known own)))
         | inr other ↦
@@ -148,7 +148,7 @@ module _ (size : ℕ) (w : World) (memory : Memory) (slot : ℕ) (at : List (ℕ
   pub graph_masked : (g : Graph) × (graph_of (types_of (reads under)) (stored_in F at (reads under)) ≡ Some g)
   graph_masked = elim cases_active [
     | inr shut ↦
-        (known_graph.graph, ap (λ (ts : List (ℕ × ℕ)). graph_of ts (stored_in F at (reads under))) types_masked ∙ ap (graph_of (types_of image)) (stored_in-mine F at image (reads under) (shut_word shut)) ∙ known_graph.stored)
+        (known_graph.graph, ap (λ (ts : List (ℕ × ℕ)). graph_of ts (stored_in F at (reads under))) types_masked ∙ ap (graph_of (types_of image)) (stored_in-has_word F at image (reads under) (shut_word shut)) ∙ known_graph.stored)
     | inl on ↦
         let active = on.1 in
         let is = active_is w memory.active mask old.now.words ready.active on.0.number active.active active.is in
@@ -156,7 +156,7 @@ module _ (size : ℕ) (w : World) (memory : Memory) (slot : ℕ) (at : List (ℕ
           is.undone,
           ap (λ (ts : List (ℕ × ℕ)). graph_of ts (stored_in F at (reads under))) (types_masked ∙ (types_read size w memory old ready).types)
               ∙ ap (λ (ps : List (ℕ × Puddle)). graph_of w.stored.types (stored_in F ps (reads under))) (sym same)
-              ∙ ap (graph_of w.stored.types) (stored_in-mine F is.puddles is.before (reads under) (active_word on.0.number active.active active.is))
+              ∙ ap (graph_of w.stored.types) (stored_in-has_word F is.puddles is.before (reads under) (active_word on.0.number active.active active.is))
               ∙ is.running.was,
         )
   ]

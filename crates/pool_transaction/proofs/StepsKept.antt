@@ -30,8 +30,8 @@ use Rattle.lazy_rewrite.specs.Graphs.{IsRewritable}
 use Rattle.lazy_rewrite.proofs.Kept.{tables_behind, rewritable_behind}
 use Rattle.lazy_rewrite.proofs.Stepped.{member_of_pool, types_of-same}
 use Rattle.lazy_rewrite.proofs.Turns.{by_batch}
-use Rattle.hybrid_tx.specs.Grounds.{pool_mine}
-use Rattle.hybrid_tx.proofs.PoolGrounds.{pool_mine-from}
+use Rattle.hybrid_tx.specs.PoolScopes.{pool_has_word}
+use Rattle.hybrid_tx.proofs.PoolScope.{pool_has_word-from}
 use Rattle.ready_daemon.specs.Memory.{Memory}
 use Rattle.known_pool.specs.Known.{Known, IsKnown, with_puddles}
 use Rattle.known_pool.proofs.KnownKept.{KeepsSerials, IsKnown-kept}
@@ -161,7 +161,7 @@ module _ (size : ℕ) (w : World) (memory : Memory) (slot : ℕ) (at : List (ℕ
         (λ v may. not_written k v (inr (omega arith))
         (λ i d there from to.
         apart (words_apart F s slot image k own
-        (own_word F slot image k (ap (λ (ps : List (ℕ × Puddle)). pool_mine F ps k) turn ∙ pool_mine-from F at k (record { ordinal = i; puddle = d; there = there; low = from; high = to })))))
+        (own_word F slot image k (ap (λ (ps : List (ℕ × Puddle)). pool_has_word F ps k) turn ∙ pool_has_word-from F at k (record { ordinal = i; puddle = d; there = there; low = from; high = to })))))
         (λ i d there same. let before = frontier_below i d there in absurd (omega arith)) may);
   }
 

@@ -29,19 +29,19 @@ use Rattle.pud_defs.proofs.Replay.{outside_log}
 use Rattle.pud_defs.proofs.TablesOf.{frames_of_tables}
 use Rattle.batch.specs.Worlds.{IsSettled}
 use Rattle.graph_laws.proofs.Grown.{slice_get-front, slice_get-push}
-use Rattle.word_transaction.specs.Ground.{IsGround}
+use Rattle.word_transaction.specs.Scope.{IsScope}
 use Rattle.word_transaction.proofs.Growing.{IsWider, IsRunning-values, IsRunning-wider}
-use Rattle.hybrid_tx.specs.Grounds.{is_in_frame, pool_mine, pool_ground, IsPlaced, finished_of}
+use Rattle.hybrid_tx.specs.PoolScopes.{is_in_frame, pool_has_word, pool_scope, IsPlaced, finished_of}
 use Rattle.hybrid_tx.specs.Open.Masks.{OpenPool, is_open_record, open_mask, IsOpenPool}
 use Rattle.hybrid_tx.specs.Open.ManyOpen.{OpenTransaction, Opens, with_transaction, MasksAll, AreOpenPools, IsOneMore}
 use Rattle.hybrid_tx.specs.Objects.Transactions.{IsOpenOn, RestsAs}
 use Rattle.hybrid_tx.proofs.Open.ManyMasks.{masks_of_others, opens_apart}
 use Rattle.hybrid_tx.proofs.Open.OpenMasks.{open_record_place}
 use Rattle.hybrid_tx.proofs.Objects.LatersKept.{KeepsObjects-same, AreLaters-wider, keeps_front}
-use Rattle.hybrid_tx.proofs.Objects.Opening.{stored_in-mine}
+use Rattle.hybrid_tx.proofs.Objects.Opening.{stored_in-has_word}
 use Rattle.hybrid_tx.proofs.Open.OpenPools.{open_on_device, placed_by_tables}
 use Rattle.hybrid_tx.proofs.Open.PoolPlaces.{placed_of_puddles}
-use Rattle.hybrid_tx.proofs.PoolGrounds.{pool_mine-each, is_ground}
+use Rattle.hybrid_tx.proofs.PoolScope.{pool_has_word-each, is_ground}
 use Rattle.nesting.specs.declared.Session.{Session}
 use Rattle.pool_transaction.specs.Changing.{StaysOpen}
 use Rattle.hybrid_tx.proofs.FinishedPuddles.{finished_placed, mine_of_finished, finished_last, none_of_finished}
@@ -89,13 +89,13 @@ module _ (w : World) (active : ActiveTransaction) (mask : Write) (words : Words)
   opened_more = open_transaction_of active at is.rec is.who before
 
   -- so does each word of its pool
-  pool_word : (k : ℕ) → pool_mine F is.puddles k ≡ true → before k ≡ is.before k
-  pool_word k mine = elim (cases_Bool (pool_mine F (finished_of is.puddles) k)) [
+  pool_word : (k : ℕ) → pool_has_word F is.puddles k ≡ true → before k ≡ is.before k
+  pool_word k mine = elim (cases_Bool (pool_has_word F (finished_of is.puddles) k)) [
     | inl own ↦ own_begun F is.puddles is.before now k own
     | inr other ↦ other_begun F is.puddles is.before now k other ∙ HasOnly-newest (words k) (is.before k) (is.running.rests.each k mine other)
   ]
 
-  other_word : (k : ℕ) → pool_mine F is.puddles k ≡ false → before k ≡ now k
+  other_word : (k : ℕ) → pool_has_word F is.puddles k ≡ false → before k ≡ now k
   other_word k other = other_begun F is.puddles is.before now k (none_of_finished F is.puddles k other)
 
   front : (i : ℕ) (d : ℕ × Puddle) → slice_get is.puddles i ≡ Some d → slice_get at i ≡ Some d
@@ -107,25 +107,25 @@ module _ (w : World) (active : ActiveTransaction) (mask : Write) (words : Words)
       ∙ slice_get-front (finished_of is.puddles) (e ∷ []) i (slice_get_within (finished_of is.puddles) i d there) ∙ there
 
   -- its own words, and those of this one's frame
-  mine_split : (own : List (ℕ × Puddle)) (k : ℕ) → pool_mine F (own ++ e ∷ []) k ≡ (pool_mine F own k || (is_in_frame F k e || false))
-  unfolding pool_mine
+  mine_split : (own : List (ℕ × Puddle)) (k : ℕ) → pool_has_word F (own ++ e ∷ []) k ≡ (pool_has_word F own k || (is_in_frame F k e || false))
+  unfolding pool_has_word
   mine_split own k = list_any-append (is_in_frame F k) own (e ∷ [])
 
   later : FinishesMore is.puddles at
   later = record { each = λ i d there. (i, finished_front i d there) }
 
-  in_frame : (k : ℕ) → pool_mine F at k ≡ true → pool_mine F is.puddles k ≡ false → is_in_frame F k e ≡ true
-  in_frame k own other = elim (or_cases (pool_mine F is.puddles k) _ (sym (mine_split is.puddles k) ∙ own)) [
+  in_frame : (k : ℕ) → pool_has_word F at k ≡ true → pool_has_word F is.puddles k ≡ false → is_in_frame F k e ≡ true
+  in_frame k own other = elim (or_cases (pool_has_word F is.puddles k) _ (sym (mine_split is.puddles k) ∙ own)) [
     | inl was ↦ absurd (let no : true ≡ false = sym was ∙ other in cc)
     | inr new ↦ elim (or_cases (is_in_frame F k e) false new) [ inl here ↦ here | inr never ↦ absurd (let it : false ≡ true = never in cc) ]
   ]
 
   -- what is new is its own
-  pub fresh_own : (k : ℕ) → pool_mine F at k ≡ true → pool_mine F is.puddles k ≡ false → pool_mine F (finished_of at) k ≡ true
+  pub fresh_own : (k : ℕ) → pool_has_word F at k ≡ true → pool_has_word F is.puddles k ≡ false → pool_has_word F (finished_of at) k ≡ true
   fresh_own k own other =
-      ap (λ (puddles : List (ℕ × Puddle)). pool_mine F puddles k) (finished_last is.puddles e finished)
+      ap (λ (puddles : List (ℕ × Puddle)). pool_has_word F puddles k) (finished_last is.puddles e finished)
       ∙ mine_split (finished_of is.puddles) k
-      ∙ or_right (pool_mine F (finished_of is.puddles) k) _ (or_left (is_in_frame F k e) false (in_frame k own other))
+      ∙ or_right (pool_has_word F (finished_of is.puddles) k) _ (or_left (is_in_frame F k e) false (in_frame k own other))
 
   module _ (number : ℕ) (sound : HasSoundTables number (tables_of F now)) (owners : owner_of now active.client ≡ w.clients active.client)
       (listed : puddles_in_turn (tables_of F now) active.slot ≡ at) where
@@ -139,11 +139,11 @@ module _ (w : World) (active : ActiveTransaction) (mask : Write) (words : Words)
         (placed_of_puddles number (tables_of F now) sound active.slot (finished_of is.puddles) (puddles_still w active mask words is))
 
     -- no word of its frame was the transaction's own
-    apart : (k : ℕ) → k < FRAME_WORDS → pool_mine F is.puddles (frame_at F e.0 + k) ≡ false
-    apart k below = elim (cases_Bool (pool_mine F is.puddles (frame_at F e.0 + k))) [
+    apart : (k : ℕ) → k < FRAME_WORDS → pool_has_word F is.puddles (frame_at F e.0 + k) ≡ false
+    apart k below = elim (cases_Bool (pool_has_word F is.puddles (frame_at F e.0 + k))) [
       | inr other ↦ other
       | inl own ↦
-          let m = pool_mine-each F is.puddles (frame_at F e.0 + k) own in
+          let m = pool_has_word-each F is.puddles (frame_at F e.0 + k) own in
           let low = m.low in
           let high = m.high in
           let frame : m.puddle.0 ≡ e.0 = omega arith in
@@ -157,12 +157,12 @@ module _ (w : World) (active : ActiveTransaction) (mask : Write) (words : Words)
 
     -- ---- what is open
 
-    module _ (some : 1 ≤ length is.puddles) (fresh : IsFreshFrame F e.0 e.1.number (length is.puddles) now) (one_value : (k : ℕ) → pool_mine F at k ≡ true → pool_mine F is.puddles k ≡ false → HasOnly (words k) (now k)) where
-      wider : IsWider (pool_ground F (finished_of is.puddles)) (pool_ground F (finished_of at))
+    module _ (some : 1 ≤ length is.puddles) (fresh : IsFreshFrame F e.0 e.1.number (length is.puddles) now) (one_value : (k : ℕ) → pool_has_word F at k ≡ true → pool_has_word F is.puddles k ≡ false → HasOnly (words k) (now k)) where
+      wider : IsWider (pool_scope F (finished_of is.puddles)) (pool_scope F (finished_of at))
       wider = wider_ground F is.puddles at later placed_before (finished_placed F at placed)
 
-      fresh_word : (k : ℕ) → pool_mine F (finished_of at) k ≡ true → pool_mine F (finished_of is.puddles) k ≡ false → HasOnly (words k) (before k)
-      fresh_word k own other = elim (cases_Bool (pool_mine F is.puddles k)) [
+      fresh_word : (k : ℕ) → pool_has_word F (finished_of at) k ≡ true → pool_has_word F (finished_of is.puddles) k ≡ false → HasOnly (words k) (before k)
+      fresh_word k own other = elim (cases_Bool (pool_has_word F is.puddles k)) [
         | inl mine ↦ subst (λ (v : ℕ). HasOnly (words k) v) (sym (pool_word k mine)) (is.running.rests.each k mine other)
         | inr none ↦ subst (λ (v : ℕ). HasOnly (words k) v) (sym (other_word k none)) (one_value k (mine_of_finished F at k own) none)
       ]
@@ -170,10 +170,10 @@ module _ (w : World) (active : ActiveTransaction) (mask : Write) (words : Words)
       -- what rested rests
       rests_more : RestsAs F at before words
       rests_more = record {
-        each = λ k mine other. elim (cases_Bool (pool_mine F is.puddles k)) [
+        each = λ k mine other. elim (cases_Bool (pool_has_word F is.puddles k)) [
           | inl was ↦
               subst (λ (v : ℕ). HasOnly (words k) v) (sym (pool_word k was))
-              (is.running.rests.each k was (elim (cases_Bool (pool_mine F (finished_of is.puddles) k)) [
+              (is.running.rests.each k was (elim (cases_Bool (pool_has_word F (finished_of is.puddles) k)) [
                 | inr none ↦ none
                 | inl own ↦ absurd (let no : true ≡ false = sym (mine_later F is.puddles at later k own) ∙ other in cc)
               ]))
@@ -181,7 +181,7 @@ module _ (w : World) (active : ActiveTransaction) (mask : Write) (words : Words)
         ];
       }
 
-      ground : IsGround (device_words F) active.tx.log.gate_at (pool_ground F (finished_of is.puddles))
+      ground : IsScope (device_words F) active.tx.log.gate_at (pool_scope F (finished_of is.puddles))
       ground =
           let gate = is.gate in
           let known = is.pool.known in
@@ -190,18 +190,18 @@ module _ (w : World) (active : ActiveTransaction) (mask : Write) (words : Words)
       pub running_more : IsOpenOn F at w.stored.types active.tx.log before is.undone is.transaction.now is.transaction.laters words
       running_more =
           let r = is.running in
-          let g = pool_ground F (finished_of is.puddles) in
+          let g = pool_scope F (finished_of is.puddles) in
           let fresh_before : IsFreshFrame F e.0 e.1.number (length is.puddles) before = record { each = λ k below. other_word (frame_at F e.0 + k) (apart k below) ∙ fresh.each k below } in
           record {
             redo = r.redo;
             saving = record {
               es = r.saving.es;
-              running = IsRunning-wider g (pool_ground F (finished_of at)) active.tx.log r.saving.es before words wider fresh_word
+              running = IsRunning-wider g (pool_scope F (finished_of at)) active.tx.log r.saving.es before words wider fresh_word
                   (IsRunning-values (device_words F) g active.tx.log r.saving.es is.before before words ground (λ k own. sym (own_begun F is.puddles is.before now k own)) r.saving.running);
               asks = r.saving.asks;
             };
             rests = rests_more;
-            was = graph_longer w.stored.types F before is.puddles e is.undone some fresh_before (ap (graph_of w.stored.types) (stored_in-mine F is.puddles is.before before pool_word) ∙ r.was);
+            was = graph_longer w.stored.types F before is.puddles e is.undone some fresh_before (ap (graph_of w.stored.types) (stored_in-has_word F is.puddles is.before before pool_word) ∙ r.was);
             is = graph_longer w.stored.types F now is.puddles e is.transaction.now some fresh r.is;
             are = AreLaters-wider F is.puddles at w.stored.types w.stored.types now now is.transaction.now is.transaction.now (keeps_front is.puddles at front) (record { each = λ id m is. is })
                 (places_longer w.stored.types F now is.puddles e is.transaction.now r.is) (KeepsObjects-same is.transaction.now) is.transaction.laters r.redo r.are;
@@ -293,11 +293,11 @@ module _ (w : World) (all : List (Option ActiveTransaction)) (mask : Write) (s :
     | inr other ↦ other
   ]
 
-  of_no_other : (k : ℕ) → pool_mine n (under.is.puddles ++ e ∷ []) k ≡ true → pool_mine n under.is.puddles k ≡ false → (m : ℕ) (q : OpenTransaction) → holds.opens m ≡ Some q → pool_mine n (finished_of q.pool.puddles) k ≡ false
+  of_no_other : (k : ℕ) → pool_has_word n (under.is.puddles ++ e ∷ []) k ≡ true → pool_has_word n under.is.puddles k ≡ false → (m : ℕ) (q : OpenTransaction) → holds.opens m ≡ Some q → pool_has_word n (finished_of q.pool.puddles) k ≡ false
   of_no_other k own other m q has = elim (cases_eq m number) [
     | inl same ↦
         let one : o ≡ q = same_Some o q (sym under.opened ∙ ap holds.opens (sym same) ∙ has) in
-        subst (λ (t : OpenTransaction). pool_mine n (finished_of t.pool.puddles) k ≡ false) one (none_of_finished n under.is.puddles k other)
+        subst (λ (t : OpenTransaction). pool_has_word n (finished_of t.pool.puddles) k ≡ false) one (none_of_finished n under.is.puddles k other)
     | inr apart ↦ (opens_apart n opens image are_then (records_opened w all mask s s holds active number there still anew)).each number m more q one_then.here (others_then m apart ∙ has) (λ same. apart (sym same)) k (fresh_own w active mask s.now.words under.is e finished k own other)
   ]
 
@@ -306,9 +306,9 @@ module _ (w : World) (all : List (Option ActiveTransaction)) (mask : Write) (s :
       let known : m < ALL_LOGS = omega (arith, holds.are.number m q has, (holds.are.pool m q has).known) in
       outside_log (log_number_at n m) k (inr (omega arith))
 
-  pub one_value : (k : ℕ) → pool_mine n (under.is.puddles ++ e ∷ []) k ≡ true → pool_mine n under.is.puddles k ≡ false → HasOnly (s.now.words k) (image k)
+  pub one_value : (k : ℕ) → pool_has_word n (under.is.puddles ++ e ∷ []) k ≡ true → pool_has_word n under.is.puddles k ≡ false → HasOnly (s.now.words k) (image k)
   one_value k own other =
-      let low = (pool_mine-each n (under.is.puddles ++ e ∷ []) k own).low in
+      let low = (pool_has_word-each n (under.is.puddles ++ e ∷ []) k own).low in
       let above : frames_at n ≤ k = omega arith in
       let none : mask k ≡ None =
       masks_of_others n holds.opens mask holds.are holds.masks k (record { log = no_log k above; frames = of_no_other k own other }) (no_record k above) in

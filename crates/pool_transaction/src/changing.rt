@@ -24,7 +24,7 @@ ghost use Rattle.lazy_rewrite.specs.Entries.{HasLowBases};
 ghost use Rattle.lazy_rewrite.specs.Frontiers.{frontiers_of, finished_at};
 ghost use Rattle.lazy_rewrite.specs.Batches.{Rewrites};
 ghost use Rattle.word_transaction.specs.Running.{ByTransaction};
-ghost use Rattle.hybrid_tx.specs.Grounds.{pool_ground, IsPlaced, IsRewrittenAt};
+ghost use Rattle.hybrid_tx.specs.PoolScopes.{pool_scope, IsPlaced, IsRewrittenAt};
 ghost use Rattle.hybrid_tx.specs.Objects.Transactions.{IsOpenOn, RunsOn};
 ghost use Rattle.ready_daemon.specs.Memory.{Memory};
 ghost use Rattle.ready_daemon.specs.ActiveTransactions.{IsActiveWithin};
@@ -149,7 +149,7 @@ fn carry_out<H: Host>(
     requires within { IsFoundWithin pool.now found }
     requires room { (tx.old).units + SET_UNITS ≤ LOG_ENTRY_WORDS }
     ensures at { (tx.new).log.gate_at ≡ (tx.old).log.gate_at }
-    ensures changes { H.tells → Changes (ByTransaction (pool_ground frames pool.now) (tx.old).log.gate_at) (fault_of result) (H.state h.old) (H.state h.new) }
+    ensures changes { H.tells → Changes (ByTransaction (pool_scope frames pool.now) (tx.old).log.gate_at) (fault_of result) (H.state h.old) (H.state h.new) }
     ensures runs { H.tells → (types : List (ℕ × ℕ)) (before : Image) (undone : Graph) (t : Transaction) (update : Update) → IsPlaced frames pool.now → IsRewrittenAt pool.now (ordinal_written found)
         → IsOpenOn frames pool.now types (tx.old).log before undone t.now t.laters (H.state h.old).now.words → MayChange types t update
         → IsFoundBy frames pool.now (reads (H.state h.old).now.words) update found

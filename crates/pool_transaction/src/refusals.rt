@@ -12,7 +12,7 @@ ghost use Rattle.pud_defs.specs.World.{World};
 ghost use Rattle.pud_defs.specs.Step.{are_of_two_kinds, refusal_of};
 ghost use Rattle.ready_daemon.specs.Memory.{Memory};
 ghost use Rattle.ready_daemon.specs.ActiveTransactions.{IsActiveWithin};
-ghost use Rattle.hybrid_tx.specs.Grounds.{IsPlaced};
+ghost use Rattle.hybrid_tx.specs.PoolScopes.{IsPlaced};
 ghost use Rattle.known_pool.specs.Known.{IsKnown};
 ghost use Rattle.registry.specs.Places.{refusal_in};
 ghost use Rattle.pool_transaction.specs.Changing.{IsActiveWith, update_line, field_change, IsLegalUpdate, IsFoundWithin, IsFoundBy};

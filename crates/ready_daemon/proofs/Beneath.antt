@@ -26,7 +26,7 @@ use Rattle.batch.proofs.Masked.{not_written}
 use Rattle.batch.proofs.Tables.{StaysDurable, reads_kept}
 use Rattle.batch.proofs.Writes.{new_value-committed}
 use Rattle.registry.specs.Pools.{KeepsTables}
-use Rattle.hybrid_tx.specs.Grounds.{pool_mine, finished_of}
+use Rattle.hybrid_tx.specs.PoolScopes.{pool_has_word, finished_of}
 use Rattle.hybrid_tx.specs.Open.Masks.{is_open_record}
 use Rattle.hybrid_tx.proofs.Open.OpenMasks.{mine_behind, mask_cases}
 use Rattle.ready_daemon.specs.Memory.{ActiveTransaction, Memory}
@@ -167,7 +167,7 @@ module _ (w : World) (active : List (Option ActiveTransaction)) (mask : Write) (
       let o = m.transaction in
       elim (mask_cases F o.pool o.before k v m.is) [
         | inl inside ↦ absurd (let it : true ≡ false = sym inside ∙ outside_log (log_number_at F o.pool.log_number) k (inl (omega arith)) in cc)
-        | inr own ↦ elim (or_cases (pool_mine F (finished_of o.pool.puddles) k) (is_open_record o.pool k) own.0) [
+        | inr own ↦ elim (or_cases (pool_has_word F (finished_of o.pool.puddles) k) (is_open_record o.pool k) own.0) [
           | inl mine ↦ absurd (let it : true ≡ false = sym mine ∙ mine_behind F (finished_of o.pool.puddles) k (omega arith) in cc)
           | inr of ↦ (records_all w active mask words holds).each m.number o m.there k of ∙ own.1
         ]

@@ -23,7 +23,7 @@ use Rattle.pud_defs.specs.Settled.{log_number_at}
 use Rattle.pud_defs.specs.Types.{map_of}
 use Rattle.pud_defs.specs.World.{Transaction, World, StoredWorld, world_of, idle_world_of, closed, open_on}
 use Rattle.pud_defs.proofs.Replay.{empty_range_of, new_value-closed, outside_log}
-use Rattle.hybrid_tx.specs.Grounds.{pool_mine, pool_ground, finished_of}
+use Rattle.hybrid_tx.specs.PoolScopes.{pool_has_word, pool_scope, finished_of}
 use Rattle.hybrid_tx.specs.Open.Masks.{OpenPool, is_open_record, open_mask, IsOpenPool, IsLeftOpen}
 use Rattle.hybrid_tx.specs.Open.ManyOpen.{OpenTransaction, Opens, MasksAll, AreOpenPools, HasRecords, AreLeftOpen}
 use Rattle.hybrid_tx.proofs.Open.ManyMasks.{masks_below, opens_apart, two_logs, log_or_own, mine_or_record}
@@ -32,7 +32,7 @@ use Rattle.hybrid_tx.proofs.Open.OpenPools.{open_on_device}
 use Rattle.hybrid_tx.proofs.Open.OpenSettled.{nothing_given}
 use Rattle.hybrid_tx.proofs.Open.OpenWorlds.{world_with_masked, none_refused_with_masked}
 use Rattle.hybrid_tx.specs.Objects.Transactions.{IsOpenOn, RestsAs}
-use Rattle.hybrid_tx.proofs.Objects.Opening.{stored_in-mine}
+use Rattle.hybrid_tx.proofs.Objects.Opening.{stored_in-has_word}
 use Rattle.hybrid_tx.proofs.Objects.LatersKept.{KeepsObjects-same, place_in_pool-stored, AreLaters-wider, keeps_front}
 use Rattle.batch.specs.Tables.{HasDurableTables}
 use Rattle.nesting.specs.declared.Session.{Session}
@@ -69,7 +69,7 @@ in_log at k inside = and_from _ _ (le-leb at k inside.low) (lt-ltb k (at + LOG_W
 -- no word that may be written is one of its log, of the frames of its finished puddles, or of the records that it rests on
 pub record IsApart (F : ℕ) (active : ActiveTransaction) (p : OpenPool) (may : Footprint) : Type 0 where
   pub log : (k v : ℕ) → may k v → IsInLog active.tx.log.gate_at k → ⊥
-  pub mine : (k v : ℕ) → may k v → pool_mine F (finished_of p.puddles) k ≡ true → ⊥
+  pub has_word : (k v : ℕ) → may k v → pool_has_word F (finished_of p.puddles) k ≡ true → ⊥
   pub records : (k v : ℕ) → may k v → is_open_record p k ≡ true → ⊥
 
 -- The next world has the same of one transaction that is held.
@@ -108,7 +108,7 @@ module _ (w : World) (active : ActiveTransaction) (mask : Write) (words : Words)
       let m = mask_of_log F p is.before k (in_log (log_number_at F active.log_number) k there) in
       none-some m.0 (sym none ∙ is.masked k m.0 m.1)
 
-  pub own_masked : (k : ℕ) → pool_mine F (finished_of is.puddles) k ≡ true → mask k ≡ None → ⊥
+  pub own_masked : (k : ℕ) → pool_has_word F (finished_of is.puddles) k ≡ true → mask k ≡ None → ⊥
   own_masked k mine none = none-some (is.before k) (sym none ∙ is.masked k (is.before k) (mask_of_mine F p is.before k is.pool.known mine))
 
   pub record_masked : (k : ℕ) → is_open_record p k ≡ true → mask k ≡ None → ⊥
@@ -120,7 +120,7 @@ module _ (w : World) (active : ActiveTransaction) (mask : Write) (words : Words)
   pub others_apart : IsApart F active p (ByOthers mask)
   others_apart = record {
     log = λ k v none inside. log_masked k inside none;
-    mine = λ k v none mine. own_masked k mine none;
+    has_word = λ k v none mine. own_masked k mine none;
     records = λ k v none of. record_masked k of none;
   }
 
@@ -144,10 +144,10 @@ module _ (w : World) (active : ActiveTransaction) (mask : Write) (words : Words)
       left_apart = record {
         unnamed = λ k v e. names.each k v (is.masked k v e);
         records = λ k of. same k (λ v wrote. apart.records k v wrote of) ∙ was_record k of;
-        settles = subst (λ (n : ℕ). SettlesTo (pool_ground F (finished_of is.puddles)) n is.before image) is.gate
-            (SettlesTo-local (pool_ground F (finished_of is.puddles)) active.tx.log.gate_at is.before o.before image
-            (λ k inside. same k (λ v wrote. apart.log k v wrote inside)) (λ k mine. same k (λ v wrote. apart.mine k v wrote mine))
-            (IsRunning-settles (pool_ground F (finished_of is.puddles)) active.tx.log is.running.saving.es is.before o.before words is.running.saving.running o.picked));
+        settles = subst (λ (n : ℕ). SettlesTo (pool_scope F (finished_of is.puddles)) n is.before image) is.gate
+            (SettlesTo-local (pool_scope F (finished_of is.puddles)) active.tx.log.gate_at is.before o.before image
+            (λ k inside. same k (λ v wrote. apart.log k v wrote inside)) (λ k mine. same k (λ v wrote. apart.has_word k v wrote mine))
+            (IsRunning-settles (pool_scope F (finished_of is.puddles)) active.tx.log is.running.saving.es is.before o.before words is.running.saving.running o.picked));
       }
 
 -- ---- what is held stays
@@ -161,9 +161,9 @@ module _ (w next : World) (active : ActiveTransaction) (mask anew : Write) (old 
 
   stored_still : stored_in n is.puddles (reads new.now.words) ≡ stored_in n is.puddles (reads old.now.words)
   stored_still =
-      stored_in-mine n is.puddles (reads old.now.words) (reads new.now.words)
-      (λ k mine. elim (cases_Bool (pool_mine n (finished_of is.puddles) k)) [
-        | inl own ↦ reads_kept may old new k c (λ v wrote. apart.mine k v wrote own)
+      stored_in-has_word n is.puddles (reads old.now.words) (reads new.now.words)
+      (λ k mine. elim (cases_Bool (pool_has_word n (finished_of is.puddles) k)) [
+        | inl own ↦ reads_kept may old new k c (λ v wrote. apart.has_word k v wrote own)
         | inr other ↦
             HasOnly-newest (new.now.words k) (is.before k) (rests.each k mine other) ∙ sym (HasOnly-newest (old.now.words k) (is.before k) (is.running.rests.each k mine other))
       ])
@@ -175,8 +175,8 @@ module _ (w next : World) (active : ActiveTransaction) (mask anew : Write) (old 
         redo = r.redo;
         saving = record {
           es = r.saving.es;
-          running = IsRunning-kept (pool_ground n (finished_of is.puddles)) active.tx.log r.saving.es is.before may None old new c
-              (λ k v inside wrote. apart.log k v wrote inside) (λ k v mine wrote. apart.mine k v wrote mine) r.saving.running;
+          running = IsRunning-kept (pool_scope n (finished_of is.puddles)) active.tx.log r.saving.es is.before may None old new c
+              (λ k v inside wrote. apart.log k v wrote inside) (λ k v mine wrote. apart.has_word k v wrote mine) r.saving.running;
           asks = r.saving.asks;
         };
         rests = rests;
@@ -329,18 +329,18 @@ module _ (w : World) (active : List (Option ActiveTransaction)) (mask : Write) (
     in_others_log k inside = in_log (log_number_at N g.log_number) k (subst (λ (n : ℕ). IsInLog n k) others.is.gate inside)
 
     -- are no words of another
-    pub own_apart : IsApart N g (open_pool_of g others.is.puddles others.is.rec others.is.who) (ByTransaction (pool_ground N (finished_of its.is.puddles)) h.tx.log.gate_at)
+    pub own_apart : IsApart N g (open_pool_of g others.is.puddles others.is.rec others.is.who) (ByTransaction (pool_scope N (finished_of its.is.puddles)) h.tx.log.gate_at)
     own_apart = record {
       log = λ k v wrote inside. elim wrote [
         | inl log ↦ two_logs N holds.opens (reads words) holds.are records_all number other o q its.opened others.opened apart k (in_its_log k log) (in_others_log k inside)
-        | inr mine ↦ log_or_own N holds.opens (reads words) holds.are records_all other number q o others.opened its.opened (λ same. apart (sym same)) k (in_others_log k inside) (or_left (pool_mine N (finished_of its.is.puddles) k) _ mine)
+        | inr mine ↦ log_or_own N holds.opens (reads words) holds.are records_all other number q o others.opened its.opened (λ same. apart (sym same)) k (in_others_log k inside) (or_left (pool_has_word N (finished_of its.is.puddles) k) _ mine)
       ];
-      mine = λ k v wrote also. elim wrote [
-        | inl log ↦ log_or_own N holds.opens (reads words) holds.are records_all number other o q its.opened others.opened apart k (in_its_log k log) (or_left (pool_mine N (finished_of others.is.puddles) k) _ also)
+      has_word = λ k v wrote also. elim wrote [
+        | inl log ↦ log_or_own N holds.opens (reads words) holds.are records_all number other o q its.opened others.opened apart k (in_its_log k log) (or_left (pool_has_word N (finished_of others.is.puddles) k) _ also)
         | inr mine ↦ let no : true ≡ false = sym also ∙ (opens_apart N holds.opens (reads words) holds.are records_all).each number other o q its.opened others.opened apart k mine in cc
       ];
       records = λ k v wrote of. elim wrote [
-        | inl log ↦ log_or_own N holds.opens (reads words) holds.are records_all number other o q its.opened others.opened apart k (in_its_log k log) (or_right (pool_mine N (finished_of others.is.puddles) k) _ of)
+        | inl log ↦ log_or_own N holds.opens (reads words) holds.are records_all number other o q its.opened others.opened apart k (in_its_log k log) (or_right (pool_has_word N (finished_of others.is.puddles) k) _ of)
         | inr mine ↦ mine_or_record N holds.opens (reads words) holds.are records_all number other o q its.opened others.opened apart k mine of
       ];
     }

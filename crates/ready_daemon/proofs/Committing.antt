@@ -39,10 +39,10 @@ use Rattle.pud_defs.proofs.Replay.{beside_log-outside, outside_log}
 use Rattle.pud_defs.proofs.SoundChanged.{distinct_names, sound_from}
 use Rattle.pud_defs.proofs.TablesOf.{tables_of-same}
 use Rattle.registry.proofs.Changed.{found_pool, changed_there}
-use Rattle.hybrid_tx.specs.Grounds.{pool_mine}
+use Rattle.hybrid_tx.specs.PoolScopes.{pool_has_word}
 use Rattle.hybrid_tx.proofs.Open.OpenMasks.{mine_behind}
-use Rattle.hybrid_tx.proofs.Objects.Opening.{stored_in-mine}
-use Rattle.hybrid_tx.proofs.PoolGrounds.{pool_mine-each}
+use Rattle.hybrid_tx.proofs.Objects.Opening.{stored_in-has_word}
+use Rattle.hybrid_tx.proofs.PoolScope.{pool_has_word-each}
 
 -- ---- pools that are read of two images
 
@@ -63,7 +63,7 @@ pool_with_graph hold other r t slot g is = ap (λ (h : Holding). record (pool_of
 
 module _ (size : ℕ) (s : StoredWorld) (i j : Image) (slot : ℕ) (r : PoolRec) (g : Graph) (stands : StandsFor size i s) (within : slot < POOL_RECORDS)
     (used : (tables_of s.frames i).pools slot ≡ Some r)
-    (same : (k : ℕ) → pool_mine s.frames (puddles_in_turn (tables_of s.frames i) slot) k ≡ false → j k ≡ i k)
+    (same : (k : ℕ) → pool_has_word s.frames (puddles_in_turn (tables_of s.frames i) slot) k ≡ false → j k ≡ i k)
     (graph : graph_of s.types (stored_in s.frames (puddles_in_turn (tables_of s.frames i) slot) j) ≡ Some g) where
   abbrev F : ℕ
   F = s.frames
@@ -90,9 +90,9 @@ module _ (size : ℕ) (s : StoredWorld) (i j : Image) (slot : ℕ) (r : PoolRec)
   tables_same = tables_of-same F j i (λ k low high. below_same k (omega arith)) (λ k low high. below_same k (omega arith))
 
   -- a word of a frame of another pool is none of this one's
-  not_its_own : (other frame k : ℕ) → (other ≡ slot → ⊥) → IsFrameOf t other frame → frame_at F frame ≤ k → k < frame_at F frame + FRAME_WORDS → pool_mine F at k ≡ false
-  not_its_own other frame k apart of low high = false_from_ne_true (pool_mine F at k) (λ mine.
-      let m = pool_mine-each F at k mine in
+  not_its_own : (other frame k : ℕ) → (other ≡ slot → ⊥) → IsFrameOf t other frame → frame_at F frame ≤ k → k < frame_at F frame + FRAME_WORDS → pool_has_word F at k ≡ false
+  not_its_own other frame k apart of low high = false_from_ne_true (pool_has_word F at k) (λ mine.
+      let m = pool_has_word-each F at k mine in
       let from = m.low in
       let to = m.high in
       let member = (members_in_turn t slot).each m.ordinal m.puddle m.there in
@@ -151,7 +151,7 @@ beside_same i j k same = elim (cases_Bool (is_in_log DAEMON_LOG k)) [
 
 module _ (size : ℕ) (s : StoredWorld) (i j : Image) (slot : ℕ) (r : PoolRec) (at : List (ℕ × Puddle)) (g : Graph) (idle : is_idle_gate (i DAEMON_LOG) ≡ true) (world : idle_world_of size i ≡ Some s)
     (within : slot < POOL_RECORDS) (used : (tables_of s.frames i).pools slot ≡ Some r) (puddles : puddles_in_turn (tables_of s.frames i) slot ≡ at)
-    (same : (k : ℕ) → pool_mine s.frames at k ≡ false → j k ≡ i k) (graph : graph_of s.types (stored_in s.frames at j) ≡ Some g) where
+    (same : (k : ℕ) → pool_has_word s.frames at k ≡ false → j k ≡ i k) (graph : graph_of s.types (stored_in s.frames at j) ≡ Some g) where
   abbrev near : Image
   near = beside_log DAEMON_LOG i
 
@@ -172,6 +172,6 @@ module _ (size : ℕ) (s : StoredWorld) (i j : Image) (slot : ℕ) (r : PoolRec)
       idle_world_of-beside size j (ap is_idle_gate (same DAEMON_LOG (mine_behind s.frames at DAEMON_LOG (omega arith))) ∙ idle)
       ∙ idle_registry_standing size far (record s { pools = changed_pool r.name (holding_graph g) s.pools })
       (standing_with_graph size s near far slot r g (standing_idle size i s idle world) within (ap (λ (t : Tables). t.pools slot) near_tables ∙ used)
-      (λ k other. beside_same i j k (same k (sym (ap (λ (a : List (ℕ × Puddle)). pool_mine s.frames a k) near_puddles) ∙ other)))
+      (λ k other. beside_same i j k (same k (sym (ap (λ (a : List (ℕ × Puddle)). pool_has_word s.frames a k) near_puddles) ∙ other)))
       (ap (λ (a : List (ℕ × Puddle)). graph_of s.types (stored_in s.frames a far)) near_puddles
-      ∙ ap (graph_of s.types) (stored_in-mine s.frames at j far (λ k mine. let m = pool_mine-each s.frames at k mine in let low = m.low in outside_same j k (omega arith))) ∙ graph))
+      ∙ ap (graph_of s.types) (stored_in-has_word s.frames at j far (λ k mine. let m = pool_has_word-each s.frames at k mine in let low = m.low in outside_same j k (omega arith))) ∙ graph))

@@ -22,9 +22,9 @@ use Rattle.pud_defs.proofs.Keyed.{keyed-same}
 use Rattle.pud_defs.proofs.TablesOf.{puddles_below, frames_of_tables, puddle_at-same}
 use Rattle.pud_defs.proofs.TypeTable.{type_at-same}
 use Rattle.batch.proofs.Tables.{reads_kept}
-use Rattle.hybrid_tx.specs.Grounds.{pool_mine}
-use Rattle.hybrid_tx.proofs.Objects.Opening.{stored_in-mine}
-use Rattle.hybrid_tx.proofs.PoolGrounds.{pool_mine-each}
+use Rattle.hybrid_tx.specs.PoolScopes.{pool_has_word}
+use Rattle.hybrid_tx.proofs.Objects.Opening.{stored_in-has_word}
+use Rattle.hybrid_tx.proofs.PoolScope.{pool_has_word-each}
 use Rattle.hybrid_tx.proofs.Open.PoolPlaces.{EachIsOf, each_in_turn}
 use Rattle.known_pool.specs.Known.{Known, IsKnown}
 use Rattle.known_pool.proofs.KnownKept.{KeepsSerials-stored, IsKnown-kept}
@@ -65,7 +65,7 @@ pub record KeepsGraphs (before after : Image) : Type 0 where
 -- the pool of the slot has the same puddles in the next image, and the words of their frames stay
 pub record KeepsPool (F slot : ℕ) (before after : Image) : Type 0 where
   pub puddles : (frame : ℕ) → frame < F → members (tables_of F after) slot frame ≡ members (tables_of F before) slot frame
-  pub words : (k : ℕ) → pool_mine F (puddles_in_turn (tables_of F before) slot) k ≡ true → after k ≡ before k
+  pub words : (k : ℕ) → pool_has_word F (puddles_in_turn (tables_of F before) slot) k ≡ true → after k ≡ before k
 
 -- the puddles of a pool in turn go by its members alone
 pub in_turn_kept : (F slot : ℕ) (before after : Image) → ((frame : ℕ) → frame < F → members (tables_of F after) slot frame ≡ members (tables_of F before) slot frame)
@@ -80,27 +80,27 @@ graph_kept F slot before after at graphs pool has = record {
   graph = has.graph;
   turn = in_turn_kept F slot before after pool.puddles ∙ has.turn;
   stored = graphs.each (stored_in F at after) has.graph
-      (ap (graph_of (types_of before)) (stored_in-mine F at before after (λ k mine. pool.words k (ap (λ puddles. pool_mine F puddles k) has.turn ∙ mine))) ∙ has.stored);
+      (ap (graph_of (types_of before)) (stored_in-has_word F at before after (λ k mine. pool.words k (ap (λ puddles. pool_has_word F puddles k) has.turn ∙ mine))) ∙ has.stored);
 }
 
 -- each pool that has a graph, but that of one slot, has the puddles that it had, and a graph, the words of their frames stay, and what is known of it is so still
 pub record KeepsPools (F : ℕ) (but : Option ℕ) (before after : Image) : Type 0 where
   pub each : (slot : ℕ) (at : List (ℕ × Puddle)) → but ≢ Some slot → HasGraphIn F slot before at → HasGraphIn F slot after at
-  pub words : (slot : ℕ) (at : List (ℕ × Puddle)) → but ≢ Some slot → HasGraphIn F slot before at → (k : ℕ) → pool_mine F at k ≡ true → after k ≡ before k
+  pub words : (slot : ℕ) (at : List (ℕ × Puddle)) → but ≢ Some slot → HasGraphIn F slot before at → (k : ℕ) → pool_has_word F at k ≡ true → after k ≡ before k
   pub known : (slot : ℕ) (known : Known) → but ≢ Some slot → HasGraphIn F slot before known.puddles → IsKnown F before known → IsKnown F after known
 
 -- what is known of a pool is so where its words stay
 known_kept : (F slot : ℕ) (before after : Image) (known : Known) → KeepsGraphs before after → KeepsPool F slot before after → HasGraphIn F slot before known.puddles → IsKnown F before known → IsKnown F after known
 known_kept F slot before after known graphs pool has is =
     let at = known.puddles in
-    let same = stored_in-mine F at before after (λ k mine. pool.words k (ap (λ puddles. pool_mine F puddles k) has.turn ∙ mine)) in
+    let same = stored_in-has_word F at before after (λ k mine. pool.words k (ap (λ puddles. pool_has_word F puddles k) has.turn ∙ mine)) in
     IsKnown-kept F known at before after has.graph has.stored (graphs.each (stored_in F at after) has.graph (ap (graph_of (types_of before)) same ∙ has.stored)) (KeepsSerials-stored F at before after same) is
 
 pub KeepsPools-each : (F : ℕ) (but : Option ℕ) (before after : Image) → KeepsGraphs before after
     → ((slot : ℕ) (at : List (ℕ × Puddle)) → but ≢ Some slot → HasGraphIn F slot before at → KeepsPool F slot before after) → KeepsPools F but before after
 KeepsPools-each F but before after graphs pools = record {
   each = λ slot at apart has. graph_kept F slot before after at graphs (pools slot at apart has) has;
-  words = λ slot at apart has k mine. (pools slot at apart has).words k (ap (λ puddles. pool_mine F puddles k) has.turn ∙ mine);
+  words = λ slot at apart has k mine. (pools slot at apart has).words k (ap (λ puddles. pool_has_word F puddles k) has.turn ∙ mine);
   known = λ slot known apart has is. known_kept F slot before after known graphs (pools slot known.puddles apart has) has is;
 }
 
@@ -145,9 +145,9 @@ pub record IsOwnWord (F slot : ℕ) (image : Image) (k : ℕ) : Type 0 where
   pub low : frame_at F frame ≤ k
   pub high : k < frame_at F frame + FRAME_WORDS
 
-pub own_by : (F slot : ℕ) (image : Image) (at : List (ℕ × Puddle)) (k : ℕ) → EachIsOf (tables_of F image) slot at → pool_mine F at k ≡ true → IsOwnWord F slot image k
+pub own_by : (F slot : ℕ) (image : Image) (at : List (ℕ × Puddle)) (k : ℕ) → EachIsOf (tables_of F image) slot at → pool_has_word F at k ≡ true → IsOwnWord F slot image k
 own_by F slot image at k has mine =
-    let own = pool_mine-each F at k mine in
+    let own = pool_has_word-each F at k mine in
     let is = has own.ordinal own.puddle own.there in
     let within = is.below in
     record {
@@ -160,7 +160,7 @@ own_by F slot image at k has mine =
       high = own.high;
     }
 
-pub own_word : (F slot : ℕ) (image : Image) (k : ℕ) → pool_mine F (puddles_in_turn (tables_of F image) slot) k ≡ true → IsOwnWord F slot image k
+pub own_word : (F slot : ℕ) (image : Image) (k : ℕ) → pool_has_word F (puddles_in_turn (tables_of F image) slot) k ≡ true → IsOwnWord F slot image k
 own_word F slot image k mine = own_by F slot image (puddles_in_turn (tables_of F image) slot) k (each_in_turn (tables_of F image) slot) mine
 
 -- a word is not one of two pools

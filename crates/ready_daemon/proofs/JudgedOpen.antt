@@ -19,7 +19,7 @@ use Rattle.pud_defs.specs.Tables.{tables_of, member_of, puddles_in_turn}
 use Rattle.pud_defs.specs.World.{World}
 use Rattle.batch.proofs.Tables.{reads_kept}
 use Rattle.word_transaction.specs.Running.{ByTransaction}
-use Rattle.hybrid_tx.specs.Grounds.{pool_ground, finished_of, pool_mine}
+use Rattle.hybrid_tx.specs.PoolScopes.{pool_scope, finished_of, pool_has_word}
 use Rattle.hybrid_tx.specs.Open.ManyOpen.{OpenTransaction, Opens, none_open, IsOneMore}
 use Rattle.hybrid_tx.proofs.Open.PoolPlaces.{EachIsOf}
 use Rattle.hybrid_tx.specs.Objects.Transactions.{RestsAs}
@@ -57,9 +57,9 @@ KeepsPools-begun F number gate old new known p =
 
 -- words of its log and of its pool's frames are written
 module _ (F slot log : ℕ) (at : List (ℕ × Puddle)) (old new : State) (beside : IsLogBeside F log) (has : EachIsOf (tables_of F (reads old.now.words)) slot at)
-    (c : Changes (ByTransaction (pool_ground F at) log) None old new) where
+    (c : Changes (ByTransaction (pool_scope F at) log) None old new) where
   abbrev may : Footprint
-  may = ByTransaction (pool_ground F at) log
+  may = ByTransaction (pool_scope F at) log
 
   within_frames : (k v : ℕ) → k < tables_end F → may k v → ⊥
   within_frames k v below (inl inside) = let low = beside.low in let from = inside.low in omega arith
@@ -216,7 +216,7 @@ module _ (w : World) (h : ActiveTransaction) (mask : Write) (old new : State) (i
   pub active_log : IsLogBeside F h.tx.log.gate_at
   active_log = subst (IsLogBeside F) (sym is.gate) (log_beside F h.log_number is.pool.known)
 
-  module _ (c : Changes (ByTransaction (pool_ground F (finished_of is.puddles)) h.tx.log.gate_at) None old new) where
+  module _ (c : Changes (ByTransaction (pool_scope F (finished_of is.puddles)) h.tx.log.gate_at) None old new) where
     -- words of it are set
     pub KeepsPools-active : KeepsPools F (Some h.slot) (reads old.now.words) (reads new.now.words)
     KeepsPools-active = KeepsPools-within F h.slot h.tx.log.gate_at (finished_of is.puddles) old new active_log (puddles_still w h mask old.now.words is).each c
@@ -236,9 +236,9 @@ module _ (w : World) (h : ActiveTransaction) (mask : Write) (old new : State) (i
     pub rest_active : (slot : ℕ) (at : List (ℕ × Puddle)) (before : Image) → h.slot ≢ slot → HasGraphIn F slot (reads old.now.words) at → RestsAs F at before old.now.words → RestsAs F at before new.now.words
     rest_active slot at before apart has rests = record {
       each = λ k mine other.
-          HasOnly-kept (ByTransaction (pool_ground F (finished_of is.puddles)) h.tx.log.gate_at) None old new k (before k) c
+          HasOnly-kept (ByTransaction (pool_scope F (finished_of is.puddles)) h.tx.log.gate_at) None old new k (before k) c
           (λ v wrote.
           others_apart F h.slot h.tx.log.gate_at (finished_of is.puddles) old new active_log (puddles_still w h mask old.now.words is).each c slot k v apart wrote
-          (own_word F slot (reads old.now.words) k (ap (λ (puddles : List (ℕ × Puddle)). pool_mine F puddles k) has.turn ∙ mine)))
+          (own_word F slot (reads old.now.words) k (ap (λ (puddles : List (ℕ × Puddle)). pool_has_word F puddles k) has.turn ∙ mine)))
           (rests.each k mine other);
     }

@@ -43,8 +43,8 @@ use Rattle.registry.proofs.PutBatches.{overwritten-puts, with_puts-stays}
 use Rattle.registry.proofs.Made.{making_of}
 use Rattle.registry.proofs.Changed.{changing_of, dropping_of}
 use Rattle.registry.proofs.NewPuddles.{adding_of}
-use Rattle.hybrid_tx.specs.Grounds.{pool_mine}
-use Rattle.hybrid_tx.proofs.PoolGrounds.{pool_mine-each}
+use Rattle.hybrid_tx.specs.PoolScopes.{pool_has_word}
+use Rattle.hybrid_tx.proofs.PoolScope.{pool_has_word-each}
 use Rattle.ready_daemon.proofs.JudgedKept.{HasGraphIn, KeepsPools, KeepsPools-each, KeepsPools-still, KeepsPools-changes, KeepsGraphs-same, types_same, puddles_same, own_word, KeepsPools-then}
 use Rattle.registry.proofs.Filled.{length-fresh_frame}
 
@@ -224,14 +224,14 @@ module _ (F : ℕ) (but : Option ℕ) (old new : State) (puts : List Put) (frame
   ]
 
   -- and the words of each pool's frames
-  words_more : PersistsThenCommits fill (puts_batch puts) None old new → (slot : ℕ) (at : List (ℕ × Puddle)) → HasGraphIn F slot (reads old.now.words) at → (k : ℕ) → pool_mine F at k ≡ true
+  words_more : PersistsThenCommits fill (puts_batch puts) None old new → (slot : ℕ) (at : List (ℕ × Puddle)) → HasGraphIn F slot (reads old.now.words) at → (k : ℕ) → pool_has_word F at k ≡ true
       → reads new.now.words k ≡ reads old.now.words k
   words_more c slot at has k mine = elim c.then [
     | inl end ↦
         ap (λ (s : State). reads s.now.words k) end.0
         ∙ (KeepsPools-filled F frame number ordinal old c.mid free (subst (λ (f : Option HostFault). Persists fill f old c.mid) (sym end.1) c.persists)).words slot at (λ no. none-some slot no) has k mine
     | inr on ↦
-        let m = pool_mine-each F at k mine in
+        let m = pool_has_word-each F at k mine in
         let low = m.low in
         let a = adds (reads c.mid.now.words) in
         frames_read F puts c.mid new a.of on.1 k (omega arith)
@@ -299,7 +299,7 @@ module _ (F : ℕ) (a : Added) (old new : State) (within : a.puddle.pool < POOL_
       adds_next (λ s at apart has same. apart (ap (λ (n : ℕ). Some n) (sym same)))
       (subst (λ (n : ℕ). PersistsThenCommits (filling n a) (puts_batch (growing a)) None old new) (sym (frames_of_tables F (reads old.now.words))) commits)
 
-  pub words_grow : PersistsThenCommits (filling F a) (puts_batch (growing a)) None old new → (slot : ℕ) (at : List (ℕ × Puddle)) → HasGraphIn F slot (reads old.now.words) at → (k : ℕ) → pool_mine F at k ≡ true
+  pub words_grow : PersistsThenCommits (filling F a) (puts_batch (growing a)) None old new → (slot : ℕ) (at : List (ℕ × Puddle)) → HasGraphIn F slot (reads old.now.words) at → (k : ℕ) → pool_has_word F at k ≡ true
       → reads new.now.words k ≡ reads old.now.words k
   words_grow commits =
       words_more F (Some a.puddle.pool) old new (growing a) a.frame a.puddle.number a.puddle.ordinal a.puddle (frame_within F a.frame (reads old.now.words) first).1

@@ -16,12 +16,12 @@ use Rattle.pud_defs.specs.Stored.{stored_in}
 use Rattle.pud_defs.specs.Tables.{Tables, tables_of, puddles_in_turn}
 use Rattle.pud_defs.specs.World.{Transaction, World, open_on}
 use Rattle.pud_defs.proofs.Replay.{outside_log}
-use Rattle.hybrid_tx.specs.Grounds.{pool_mine, finished_of}
+use Rattle.hybrid_tx.specs.PoolScopes.{pool_has_word, finished_of}
 use Rattle.hybrid_tx.specs.Open.Masks.{OpenPool, is_open_record, open_mask}
 use Rattle.hybrid_tx.proofs.Open.OpenMasks.{open_record_place, mask_of_others}
-use Rattle.hybrid_tx.proofs.Objects.Opening.{stored_in-mine}
+use Rattle.hybrid_tx.proofs.Objects.Opening.{stored_in-has_word}
 use Rattle.hybrid_tx.proofs.Open.OpenPools.{open_on_device}
-use Rattle.hybrid_tx.proofs.PoolGrounds.{pool_mine-each}
+use Rattle.hybrid_tx.proofs.PoolScope.{pool_has_word-each}
 use Rattle.hybrid_tx.proofs.Open.PoolPlaces.{each_in_turn, puddles_apart}
 use Rattle.ready_daemon.specs.Memory.{ActiveTransaction, active_under}
 use Rattle.ready_daemon.specs.ActiveTransactions.{open_pool_of, IsActive, AreActive, IsOwnTransaction}
@@ -80,21 +80,21 @@ module _ (w : World) (active : ActiveTransaction) (mask : Write) (words : Words)
     pub other_slot : slot ≡ active.slot → ⊥
     other_slot same = other (ap (λ (x : PoolRec). x.name) (same_Some r is.rec (sym used ∙ ap t.pools same ∙ used_still w active mask words is)) ∙ is.name)
 
-    not_mine : (k : ℕ) → pool_mine F (puddles_in_turn t slot) k ≡ true → pool_mine F (finished_of is.puddles) k ≡ false
+    not_mine : (k : ℕ) → pool_has_word F (puddles_in_turn t slot) k ≡ true → pool_has_word F (finished_of is.puddles) k ≡ false
     not_mine = puddles_apart F t slot active.slot (puddles_in_turn t slot) (finished_of is.puddles) (each_in_turn t slot) (puddles_still w active mask words is).each other_slot
 
-    not_record : (k : ℕ) (of : Bool) → is_open_record p k ≡ of → pool_mine F (puddles_in_turn t slot) k ≡ true → of ≡ false
+    not_record : (k : ℕ) (of : Bool) → is_open_record p k ≡ of → pool_has_word F (puddles_in_turn t slot) k ≡ true → of ≡ false
     not_record k false e mine = refl
     not_record k true e mine =
-        let here = pool_mine-each F (puddles_in_turn t slot) k mine in
+        let here = pool_has_word-each F (puddles_in_turn t slot) k mine in
         let low = here.low in
         let high = (open_record_place F p k is.pool.slot is.pool.known (open_on_device F p is.before is.pool) e).high in
         absurd (omega arith)
 
     -- it masks no word of the frames
-    pub unmasked_frames : (k : ℕ) → pool_mine F (puddles_in_turn t slot) k ≡ true → open_mask F p is.before k ≡ None
+    pub unmasked_frames : (k : ℕ) → pool_has_word F (puddles_in_turn t slot) k ≡ true → open_mask F p is.before k ≡ None
     unmasked_frames k mine =
-        let here = pool_mine-each F (puddles_in_turn t slot) k mine in
+        let here = pool_has_word-each F (puddles_in_turn t slot) k mine in
         let low = here.low in
         let few = is.pool.known in
         mask_of_others F p is.before k (outside_log (log_number_at F active.log_number) k (inr (omega arith))) (not_mine k mine) (not_record k (is_open_record p k) refl mine)
@@ -105,6 +105,6 @@ pub pool_unmasked : (w : World) (active : List (Option ActiveTransaction)) (mask
     → stored_in w.stored.frames (puddles_in_turn (tables_of w.stored.frames (reads words)) slot) (masked_image mask (reads words))
     ≡ stored_in w.stored.frames (puddles_in_turn (tables_of w.stored.frames (reads words)) slot) (reads words)
 pool_unmasked w active mask words name slot r holds shut used named =
-    stored_in-mine w.stored.frames (puddles_in_turn (tables_of w.stored.frames (reads words)) slot) (reads words) (masked_image mask (reads words))
+    stored_in-has_word w.stored.frames (puddles_in_turn (tables_of w.stored.frames (reads words)) slot) (reads words) (masked_image mask (reads words))
     (λ k mine. masked_image-elsewhere mask (reads words) k
     (unmasked_by_all w active mask words holds k (λ number h there is. unmasked_frames w h mask words is slot r used (λ same. shut number h there (sym same ∙ named)) k mine)))

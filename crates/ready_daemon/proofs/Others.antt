@@ -23,12 +23,12 @@ use Rattle.hybrid_tx.specs.Open.Masks.{OpenPool, is_in_pool_record, is_in_space_
 use Rattle.hybrid_tx.proofs.Open.OpenMasks.{mine_behind, mask_below, mask_of_others, open_record_place}
 use Rattle.hybrid_tx.proofs.Open.OpenPools.{open_on_device}
 use Rattle.hybrid_tx.proofs.Open.OpenSettled.{other_log_apart}
-use Rattle.hybrid_tx.proofs.PoolGrounds.{any_element}
+use Rattle.hybrid_tx.proofs.PoolScope.{any_element}
 use Rattle.batch.specs.Batches.{batch_write, ByBatch}
 use Rattle.log_space.specs.Closed.{ByClosing}
 use Rattle.log_space.specs.Records.{record_batch}
 use Rattle.log_space.proofs.Writing.{writes_elsewhere}
-use Rattle.hybrid_tx.specs.Grounds.{finished_of}
+use Rattle.hybrid_tx.specs.PoolScopes.{finished_of}
 use Rattle.ready_daemon.specs.Memory.{ActiveTransaction}
 use Rattle.ready_daemon.specs.ActiveTransactions.{open_pool_of, IsActive, AreActive, AreOfOtherClients, KeepsActive}
 use Rattle.ready_daemon.proofs.Beside.{active_is, unmasked_by_all}

@@ -12,7 +12,7 @@ use Rattle.pud_defs.specs.Step.{graph_in}
 use Rattle.pud_defs.specs.Tables.{Pool}
 use Rattle.pud_defs.specs.Transactions.{OpenTransactions, with_open}
 use Rattle.pud_defs.specs.World.{Transaction, World, open_on}
-use Rattle.hybrid_tx.specs.Grounds.{pool_ground, finished_of}
+use Rattle.hybrid_tx.specs.PoolScopes.{pool_scope, finished_of}
 use Rattle.hybrid_tx.specs.Open.ManyOpen.{OpenTransaction, Opens, with_transaction, open_masks, AreOpenPools, MasksAll, IsOneMore}
 use Rattle.hybrid_tx.proofs.Open.ManyIdle.{one_ended, others_open, others_records}
 use Rattle.hybrid_tx.proofs.Open.ManyMasks.{open_masks_all}
@@ -109,10 +109,10 @@ module _ (w : World) (list : List (Option ActiveTransaction)) (mask : Write) (ol
       | inr apart ↦ sym (one_of_all.same m apart) ∙ holds.none m (sym (active_there list number None m apart) ∙ e)
     ]
 
-    module _ (new : State) (c : Changes (ByTransaction (pool_ground F (finished_of its.is.puddles)) active.tx.log.gate_at) None old new)
+    module _ (new : State) (c : Changes (ByTransaction (pool_scope F (finished_of its.is.puddles)) active.tx.log.gate_at) None old new)
         (rests : (m : ℕ) (h : ActiveTransaction) (was : active_under list m ≡ Some h) → m ≢ number → RestsAs F (holds.each m h was).is.puddles (holds.each m h was).is.before new.now.words) where
       abbrev may : Footprint
-      may = ByTransaction (pool_ground F (finished_of its.is.puddles)) active.tx.log.gate_at
+      may = ByTransaction (pool_scope F (finished_of its.is.puddles)) active.tx.log.gate_at
 
       pub under_still : (m : ℕ) (h : ActiveTransaction) → active_under (set list number None) m ≡ Some h → IsActiveUnder next others (open_masks F others) new.now.words m h
       under_still m h e =

@@ -21,12 +21,12 @@ use Rattle.pud_defs.specs.Tables.{Tables, tables_of}
 use Rattle.pud_defs.specs.World.{World}
 use Rattle.pud_defs.proofs.Replay.{outside_log}
 use Rattle.pud_defs.proofs.TablesOf.{pools_below, puddles_below, frames_of_tables, pool_at-same, puddle_at-same}
-use Rattle.hybrid_tx.specs.Grounds.{pool_mine, is_finished, finished_of}
+use Rattle.hybrid_tx.specs.PoolScopes.{pool_has_word, is_finished, finished_of}
 use Rattle.hybrid_tx.proofs.FinishedPuddles.{stood}
 use Rattle.hybrid_tx.specs.Open.Masks.{OpenPool, is_in_pool_record, is_in_space_record, is_in_puddle_record, is_open_record, ArePuddlesOf, open_mask}
 use Rattle.hybrid_tx.proofs.Open.OpenMasks.{mine_behind, mask_of_others}
 use Rattle.hybrid_tx.proofs.Open.OpenPools.{open_on_device}
-use Rattle.hybrid_tx.proofs.PoolGrounds.{all_there, any_element, element_passes, pool_mine-each}
+use Rattle.hybrid_tx.proofs.PoolScope.{all_there, any_element, element_passes, pool_has_word-each}
 use Rattle.hybrid_tx.proofs.Open.PoolPlaces.{ArePuddlesOf-same}
 use Rattle.ready_daemon.specs.Memory.{ActiveTransaction, active_under}
 use Rattle.ready_daemon.specs.ActiveTransactions.{open_pool_of, open_transaction_of, IsActive, AreActive}
@@ -149,8 +149,8 @@ module _ (w : World) (active : ActiveTransaction) (mask : Write) (words : Words)
       let few = is.pool.known in
       let slot = is.pool.slot in
       mask_of_others F p is.before k (outside_log (log_number_at F active.log_number) k (inr (omega arith)))
-      (false_from_ne_true (pool_mine F (finished_of is.puddles) k) (λ mine.
-      let m = pool_mine-each F (finished_of is.puddles) k mine in
+      (false_from_ne_true (pool_has_word F (finished_of is.puddles) k) (λ mine.
+      let m = pool_has_word-each F (finished_of is.puddles) k mine in
       let from = m.low in let to = m.high in
       other m.ordinal m.puddle m.there (omega arith)))
       (false_from_ne_true (is_open_record p k) (λ of. elim (open_record_of p k of) [

@@ -7,8 +7,8 @@ use Rattle.pud_defs.specs.declared.layout.TheConstants.{DAEMON_LOG}
 use Rattle.pud_defs.specs.Replay.{is_in_log}
 use Rattle.pud_defs.specs.World.{World}
 use Rattle.pud_defs.proofs.Replay.{outside_log}
-use Rattle.hybrid_tx.specs.Grounds.{pool_mine, finished_of}
-use Rattle.hybrid_tx.proofs.PoolGrounds.{pool_mine-each}
+use Rattle.hybrid_tx.specs.PoolScopes.{pool_has_word, finished_of}
+use Rattle.hybrid_tx.proofs.PoolScope.{pool_has_word-each}
 use Rattle.std.proofs.lemmas.Bool.{cases_eq, false_from_ne_true}
 use Rattle.std.proofs.lemmas.Option.{same_Some}
 use Rattle.pud_defs.specs.declared.records.Puddle.{Puddle}
@@ -37,14 +37,14 @@ module _ (size : ℕ) (w : World) (memory : Memory) (old : State) (ready : IsRea
 
   -- beside calls that write none of their words, and leave each word that has one value with one
   pub rest_by_words : (new : State)
-      → ((number : ℕ) (h : ActiveTransaction) (there : active_under memory.active number ≡ Some h) (k : ℕ) → pool_mine w.stored.frames (is_active number h there).puddles k ≡ true → reads new.now.words k ≡ reads old.now.words k)
+      → ((number : ℕ) (h : ActiveTransaction) (there : active_under memory.active number ≡ Some h) (k : ℕ) → pool_has_word w.stored.frames (is_active number h there).puddles k ≡ true → reads new.now.words k ≡ reads old.now.words k)
       → StaysSingle old new → RestBehind w memory.active ready.mask old.now.words ready.active new.now.words
   rest_by_words new stay single = record {
     each = λ number h there.
         let is = is_active number h there in
         record {
           each = λ k mine other.
-              let m = pool_mine-each w.stored.frames is.puddles k mine in
+              let m = pool_has_word-each w.stored.frames is.puddles k mine in
               let low = m.low in
               let was = is.running.rests.each k mine other in
               let read : reads new.now.words k ≡ is.before k = stay number h there k mine ∙ HasOnly-newest (old.now.words k) (is.before k) was in
@@ -63,15 +63,15 @@ module _ (size : ℕ) (w : World) (memory : Memory) (old : State) (ready : IsRea
   rest_still = record { each = λ number h there. (is_active number h there).running.rests }
 
   -- what rests of one that is held is masked by none
-  module _ (number : ℕ) (active : ActiveTransaction) (there : active_under memory.active number ≡ Some active) (k : ℕ) (mine : pool_mine w.stored.frames (is_active number active there).puddles k ≡ true)
-      (other : pool_mine w.stored.frames (finished_of (is_active number active there).puddles) k ≡ false) where
+  module _ (number : ℕ) (active : ActiveTransaction) (there : active_under memory.active number ≡ Some active) (k : ℕ) (mine : pool_has_word w.stored.frames (is_active number active there).puddles k ≡ true)
+      (other : pool_has_word w.stored.frames (finished_of (is_active number active there).puddles) k ≡ false) where
     abbrev F : ℕ
     F = w.stored.frames
 
     own : IsOwnWord F active.slot (reads old.now.words) k
-    own = own_word F active.slot (reads old.now.words) k (ap (λ (puddles : List (ℕ × Puddle)). pool_mine F puddles k) (active_graph number active there).turn ∙ mine)
+    own = own_word F active.slot (reads old.now.words) k (ap (λ (puddles : List (ℕ × Puddle)). pool_has_word F puddles k) (active_graph number active there).turn ∙ mine)
 
-    not_mine : (m : ℕ) (h : ActiveTransaction) (was : active_under memory.active m ≡ Some h) → pool_mine F (finished_of (is_active m h was).puddles) k ≡ false
+    not_mine : (m : ℕ) (h : ActiveTransaction) (was : active_under memory.active m ≡ Some h) → pool_has_word F (finished_of (is_active m h was).puddles) k ≡ false
     not_mine m h was = elim (cases_eq m number) [
       | inl same ↦
           let one : h ≡ active = same_Some h active (sym was ∙ ap (active_under memory.active) same ∙ there) in
@@ -79,8 +79,8 @@ module _ (size : ℕ) (w : World) (memory : Memory) (old : State) (ready : IsRea
           let b = active_graph number active there in
           let lists : (is_active m h was).puddles ≡ (is_active number active there).puddles =
           sym a.turn ∙ ap (λ (g : ActiveTransaction). puddles_in_turn (tables_of F (reads old.now.words)) g.slot) one ∙ b.turn in
-          ap (λ (puddles : List (ℕ × Puddle)). pool_mine F (finished_of puddles) k) lists ∙ other
-      | inr apart ↦ false_from_ne_true (pool_mine F (finished_of (is_active m h was).puddles) k) (λ its.
+          ap (λ (puddles : List (ℕ × Puddle)). pool_has_word F (finished_of puddles) k) lists ∙ other
+      | inr apart ↦ false_from_ne_true (pool_has_word F (finished_of (is_active m h was).puddles) k) (λ its.
           let word = own_by F h.slot (reads old.now.words) (finished_of (is_active m h was).puddles) k (puddles_still w h ready.mask old.now.words (is_active m h was)).each its in
           apart (one_slot w memory.active ready.mask old.now.words ready.active m number h active was there (words_apart F h.slot active.slot (reads old.now.words) k word own)))
     ]

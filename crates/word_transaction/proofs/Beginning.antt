@@ -19,14 +19,14 @@ use Rattle.pud_defs.proofs.Entries.{words_from-none, entries_in-nothing}
 use Rattle.pud_defs.proofs.Replay.{undone-none, not_inside}
 use Rattle.log_store.specs.Store.{saying}
 use Rattle.log_store.proofs.Open.{log_of-is, IsOpen-running}
-use Rattle.word_transaction.specs.Ground.{Ground, IsGround, IsOwn, running_range, saved}
+use Rattle.word_transaction.specs.Scope.{Scope, IsScope, IsInScope, running_range, saved}
 use Rattle.word_transaction.specs.Running.{IsRunning, IsIdle, nothing, begun, SettlesTo, ByTransaction, Runs}
 use Rattle.word_transaction.proofs.Saved.{some_not_none}
 use Rattle.word_transaction.proofs.Images.{SettlesTo-running, SettlesTo-closed}
 use Rattle.word_transaction.proofs.Calls.{not_cut}
 
 -- no word is saved yet
-nothing_saved : (g : Ground) (before : Image) (k v : ℕ) → saved g.place [] k ≡ Some v → v ≡ before k
+nothing_saved : (g : Scope) (before : Image) (k v : ℕ) → saved g.place [] k ≡ Some v → v ≡ before k
 nothing_saved g before k v is = absurd (some_not_none (saved g.place [] k) v is (undone-none g.place running_range k))
 
 -- the gate of a running log alone makes a log that runs without entries
@@ -35,7 +35,7 @@ log_of-begun at image gate =
     log_of-is image (begun at) [] [] (record { lo_fits = omega arith; hi_fits = omega arith; used_within = omega arith }) gate
     (words_from-none image (at + LOG_HEADER_WORDS) 0 refl) (entries_in-nothing [] refl)
 
-module _ (size at : ℕ) (g : Ground) (before : Image) (fault : Option HostFault) (s t : State) (ground : IsGround size at g) (idle : IsIdle g at before s.now.words)
+module _ (size at : ℕ) (g : Scope) (before : Image) (fault : Option HostFault) (s t : State) (ground : IsScope size at g) (idle : IsIdle g at before s.now.words)
     (p : Persists (only at RUNNING_GATE) fault s t) where
   in_log : IsInLog at at
   in_log = record { low = omega arith; high = omega arith }
@@ -46,15 +46,15 @@ module _ (size at : ℕ) (g : Ground) (before : Image) (fault : Option HostFault
   gate_alone : (k : ℕ) → is_in_log at k ≡ false → (v : ℕ) → written (only at RUNNING_GATE) k v → ⊥
   gate_alone k out v may = other k out (only_at at RUNNING_GATE k v may)
 
-  single : (k : ℕ) → g.mine k ≡ true → HasOnly (t.now.words k) (before k)
+  single : (k : ℕ) → g.has_word k ≡ true → HasOnly (t.now.words k) (before k)
   single k mine = HasOnly-kept (written (only at RUNNING_GATE)) fault s t k (before k) p.changes (gate_alone k (ground.apart k mine)) (idle.single k mine)
 
   moment : (was image : Image) → Picks s.now.words was → IsFrom (written (only at RUNNING_GATE)) was image → SettlesTo g at before image
   moment was image picked from =
-      let same : (k : ℕ) → g.mine k ≡ true → was k ≡ before k = λ k mine. (idle.single k mine).each (was k) (picked.each k) in
+      let same : (k : ℕ) → g.has_word k ≡ true → was k ≡ before k = λ k mine. (idle.single k mine).each (was k) (picked.each k) in
       elim (one_word at RUNNING_GATE was image from) [
         | inl still ↦ SettlesTo-closed g at before image (ap (λ (i : Image). is_closed_log i at) still ∙ idle.closed was picked) (λ k mine. ap (λ (i : Image). i k) still ∙ same k mine)
-        | inr runs ↦ SettlesTo-running g (begun at) [] before image refl refl (All-nil (IsOwn g)) (log_of-begun at image runs.there)
+        | inr runs ↦ SettlesTo-running g (begun at) [] before image refl refl (All-nil (IsInScope g)) (log_of-begun at image runs.there)
             (λ k v mine is. nothing_saved g before k v is) (λ k mine none. runs.others k (other k (ground.apart k mine)) ∙ same k mine)
       ]
 
@@ -64,7 +64,7 @@ module _ (size at : ℕ) (g : Ground) (before : Image) (fault : Option HostFault
         opened = IsOpen-running at s t (subst (λ (f : Option HostFault). Persists (only at RUNNING_GATE) f s t) none p);
         lo = refl;
         hi = refl;
-        own = All-nil (IsOwn g);
+        own = All-nil (IsInScope g);
         saves = nothing_saved g before;
         single = λ k mine _. single k mine;
         marked = λ k mine. inr (HasOnly-own (t.now.words k) (before k) (single k mine));

@@ -16,7 +16,7 @@ use Rattle.pud_defs.specs.Replay.{over, is_in_log}
 use Rattle.pud_defs.proofs.Replay.{overwritten-then, or_none}
 use Rattle.log_store.specs.Store.{OpenLog, InLog}
 use Rattle.log_store.proofs.Open.{IsOpen-kept}
-use Rattle.word_transaction.specs.Ground.{Ground}
+use Rattle.word_transaction.specs.Scope.{Scope}
 use Rattle.word_transaction.specs.Running.{IsRunning, nothing, SettlesTo, ByTransaction, Runs}
 use Rattle.word_transaction.proofs.Images.{IsRunning-settles}
 
@@ -38,8 +38,8 @@ marked_still may (Some Failed) old new k c none (inl marked) = inl ((c.keeps (λ
 marked_still may (Some Failed) old new k c none (inr one) = inr (HasOnly-own (new.now.words k) _ (HasOnly-kept may (Some Failed) old new k _ c none one))
 
 -- a transaction is open still behind calls that give no value to a word of its log or to one of its own
-pub IsRunning-kept : (g : Ground) (log : OpenLog) (es : List Entry) (before : Image) (may : Footprint) (fault : Option HostFault) (old new : State) → Changes may fault old new
-    → ((k v : ℕ) → InLog log.gate_at k v → may k v → ⊥) → ((k v : ℕ) → g.mine k ≡ true → may k v → ⊥) → IsRunning g log es before old.now.words → IsRunning g log es before new.now.words
+pub IsRunning-kept : (g : Scope) (log : OpenLog) (es : List Entry) (before : Image) (may : Footprint) (fault : Option HostFault) (old new : State) → Changes may fault old new
+    → ((k v : ℕ) → InLog log.gate_at k v → may k v → ⊥) → ((k v : ℕ) → g.has_word k ≡ true → may k v → ⊥) → IsRunning g log es before old.now.words → IsRunning g log es before new.now.words
 IsRunning-kept g log es before may fault old new c in_log own r =
     record {
       opened = IsOpen-kept may fault old new log es c in_log r.opened;
@@ -54,7 +54,7 @@ IsRunning-kept g log es before may fault old new c in_log own r =
 -- ---- calls that do nothing, and calls in turn
 
 -- a call did nothing
-pub Runs-still : (g : Ground) (log : OpenLog) (es : List Entry) (before : Image) (fault : Option HostFault) (old new : State) → (fault ≡ Some Cut → ⊥) → new ≡ old
+pub Runs-still : (g : Scope) (log : OpenLog) (es : List Entry) (before : Image) (fault : Option HostFault) (old new : State) → (fault ≡ Some Cut → ⊥) → new ≡ old
     → IsRunning g log es before old.now.words → Runs g log es before nothing fault old new
 Runs-still g log es before fault old new uncut same r =
     record {
@@ -65,7 +65,7 @@ Runs-still g log es before fault old new uncut same r =
     }
 
 -- what failed did not do what was to come behind it
-pub Runs-failed : (g : Ground) (log behind : OpenLog) (es es_behind : List Entry) (before : Image) (write write_behind : Write) (fault : HostFault) (old new : State) → behind.gate_at ≡ log.gate_at
+pub Runs-failed : (g : Scope) (log behind : OpenLog) (es es_behind : List Entry) (before : Image) (write write_behind : Write) (fault : HostFault) (old new : State) → behind.gate_at ≡ log.gate_at
     → Runs g log es before write (Some fault) old new → Runs g behind es_behind before write_behind (Some fault) old new
 Runs-failed g log behind es es_behind before write write_behind fault old new at r =
     record {
@@ -76,13 +76,13 @@ Runs-failed g log behind es es_behind before write write_behind fault old new at
     }
 
 -- a call failed before it did anything
-pub Runs-stopped : (g : Ground) (log behind : OpenLog) (es es_behind : List Entry) (before : Image) (write : Write) (fault : HostFault) (old new : State) → behind.gate_at ≡ log.gate_at
+pub Runs-stopped : (g : Scope) (log behind : OpenLog) (es es_behind : List Entry) (before : Image) (write : Write) (fault : HostFault) (old new : State) → behind.gate_at ≡ log.gate_at
     → (Some fault ≡ Some Cut → ⊥) → new ≡ old → IsRunning g log es before old.now.words → Runs g behind es_behind before write (Some fault) old new
 Runs-stopped g log behind es es_behind before write fault old new at uncut same r =
     Runs-failed g log behind es es_behind before nothing write fault old new at (Runs-still g log es before (Some fault) old new uncut same r)
 
 -- one call and then another: what they write is written in turn
-pub Runs-then : (g : Ground) (log behind : OpenLog) (es es_behind : List Entry) (before : Image) (first later : Write) (fault : Option HostFault) (a b c : State) → behind.gate_at ≡ log.gate_at
+pub Runs-then : (g : Scope) (log behind : OpenLog) (es es_behind : List Entry) (before : Image) (first later : Write) (fault : Option HostFault) (a b c : State) → behind.gate_at ≡ log.gate_at
     → Runs g log es before first None a b → Runs g behind es_behind before later fault b c → Runs g behind es_behind before (over first later) fault a c
 Runs-then g log behind es es_behind before first later fault a b c at p q =
     let P = Silently (SettlesTo g behind.gate_at before) in
@@ -100,7 +100,7 @@ Runs-then g log behind es es_behind before first later fault a b c at p q =
     }
 
 -- a write is told by its values alone
-pub Runs-writes : (g : Ground) (log : OpenLog) (es : List Entry) (before : Image) (write same : Write) (fault : Option HostFault) (old new : State) → ((k : ℕ) → write k ≡ same k)
+pub Runs-writes : (g : Scope) (log : OpenLog) (es : List Entry) (before : Image) (write same : Write) (fault : Option HostFault) (old new : State) → ((k : ℕ) → write k ≡ same k)
     → Runs g log es before write fault old new → Runs g log es before same fault old new
 Runs-writes g log es before write same fault old new each r =
     record {
@@ -111,7 +111,7 @@ Runs-writes g log es before write same fault old new each r =
     }
 
 -- a call behind one that wrote nothing
-pub Runs-behind : (g : Ground) (log behind : OpenLog) (es es_behind : List Entry) (before : Image) (write : Write) (fault : Option HostFault) (a b c : State) → behind.gate_at ≡ log.gate_at
+pub Runs-behind : (g : Scope) (log behind : OpenLog) (es es_behind : List Entry) (before : Image) (write : Write) (fault : Option HostFault) (a b c : State) → behind.gate_at ≡ log.gate_at
     → Runs g log es before nothing None a b → Runs g behind es_behind before write fault b c → Runs g behind es_behind before write fault a c
 Runs-behind g log behind es es_behind before write fault a b c at p q =
     Runs-writes g behind es_behind before (over nothing write) write fault a c (λ k. sym (or_none (write k)))

@@ -19,7 +19,7 @@ use Rattle.pud_defs.proofs.Entries.{gate_lo-of, gate_hi-of}
 use Rattle.pud_defs.proofs.Replay.{not_inside, overwritten-stays}
 use Rattle.log_store.specs.Store.{OpenLog, IsOpen, asks, saying, committing}
 use Rattle.log_store.proofs.Open.{IsOpen-fits, IsOpen-log, IsOpen-kept, IsOpen-moved, log_of-moving, only_here}
-use Rattle.word_transaction.specs.Ground.{Ground, IsGround, pending}
+use Rattle.word_transaction.specs.Scope.{Scope, IsScope, pending}
 use Rattle.word_transaction.specs.Running.{IsRunning, SettlesTo, HasRange, SettlesByRange, ByTransaction, ByCommit, Closes, MovesRange, Ends}
 use Rattle.word_transaction.proofs.Images.{SettlesTo-running, SettlesTo-idle, IsRunning-settles}
 use Rattle.word_transaction.proofs.Calls.{some_fault, not_cut}
@@ -29,11 +29,11 @@ use Rattle.word_transaction.proofs.Ended.{reads_beside}
 -- ---- words of the log, and the transaction's own
 
 -- no own word is the gate
-pub mine_apart : (size at : ℕ) (g : Ground) (k : ℕ) → IsGround size at g → g.mine k ≡ true → k ≡ at → ⊥
+pub mine_apart : (size at : ℕ) (g : Scope) (k : ℕ) → IsScope size at g → g.has_word k ≡ true → k ≡ at → ⊥
 mine_apart size at g k ground mine here = absurd (not_inside at k (ground.apart k mine) (record { low = omega arith; high = omega arith }))
 
 -- what comes to the gate comes to a word of the log
-pub gate_by : (g : Ground) (at gate k v : ℕ) → written (only at gate) k v → ByTransaction g at k v
+pub gate_by : (g : Scope) (at gate k v : ℕ) → written (only at gate) k v → ByTransaction g at k v
 gate_by g at gate k v new = let here = only_at at gate k v new in inl (record { low = omega arith; high = omega arith })
 
 -- what is written at a word is its value
@@ -45,19 +45,19 @@ written_gate w x k v new make =
 -- ---- the log is closed
 
 -- An image left while the log is closed: its own words settle to these values, and its gate is as it was or that of a closed log.
-pub record IsShut (g : Ground) (at was : ℕ) (values image : Image) : Type 0 where
+pub record IsShut (g : Scope) (at was : ℕ) (values image : Image) : Type 0 where
   pub settles : SettlesTo g at values image
   pub gate : (image at ≡ was) ⊎ (image at ≡ CLOSED_GATE)
 
 -- each image left meanwhile is such a one
-pub record Shuts (g : Ground) (at was : ℕ) (values : Image) (fault : Option HostFault) (old new : State) : Type 0 where
+pub record Shuts (g : Scope) (at was : ℕ) (values : Image) (fault : Option HostFault) (old new : State) : Type 0 where
   pub closes : Closes g at values fault old new
   pub moments : Leaves (Silently (IsShut g at was values)) old new
 
 -- ---- the log of words that each have one value is closed
 
-module _ (size at : ℕ) (g : Ground) (ground : IsGround size at g) (values : Image) (fault : Option HostFault) (c d : State)
-    (settles : (image : Image) → Picks c.now.words image → SettlesTo g at values image) (single : (k : ℕ) → g.mine k ≡ true → HasOnly (c.now.words k) (values k))
+module _ (size at : ℕ) (g : Scope) (ground : IsScope size at g) (values : Image) (fault : Option HostFault) (c d : State)
+    (settles : (image : Image) → Picks c.now.words image → SettlesTo g at values image) (single : (k : ℕ) → g.has_word k ≡ true → HasOnly (c.now.words k) (values k))
     (p : Persists (only at CLOSED_GATE) fault c d) where
   shut_image : (before image : Image) → Picks c.now.words before → IsFrom (written (only at CLOSED_GATE)) before image → SettlesTo g at values image
   shut_image before image picked from = elim (one_word at CLOSED_GATE before image from) [
@@ -126,7 +126,7 @@ gate_closes log fault a b c d m p =
 
 -- ---- the moments of an open transaction
 
-module _ (size : ℕ) (log : OpenLog) (es : List Entry) (g : Ground) (before : Image) (a : State) (ground : IsGround size log.gate_at g) (r : IsRunning g log es before a.now.words) where
+module _ (size : ℕ) (log : OpenLog) (es : List Entry) (g : Scope) (before : Image) (a : State) (ground : IsScope size log.gate_at g) (r : IsRunning g log es before a.now.words) where
   -- what its own words come to hold: what they hold now, and over it what is asked for
   abbrev after : Image
   after = overwritten (pending g.place es) (reads a.now.words)
@@ -165,7 +165,7 @@ module _ (size : ℕ) (log : OpenLog) (es : List Entry) (g : Ground) (before : I
   fence_left fault b step = Leaves-changes ByRange Nowhere fault a b fence_image (Changes-fence Nowhere fault a b step)
 
   -- behind it each own word has one value
-  fence_single : (b : State) → Steps after_fence None a b → (k : ℕ) → g.mine k ≡ true → HasOnly (b.now.words k) (reads a.now.words k)
+  fence_single : (b : State) → Steps after_fence None a b → (k : ℕ) → g.has_word k ≡ true → HasOnly (b.now.words k) (reads a.now.words k)
   fence_single b step k mine = subst (λ (s : State). HasOnly (s.now.words k) (reads a.now.words k)) (sym (step.done refl)) (fenced_by (a.now.words k) (r.marked k mine))
 
   fence_open : (b : State) → Steps after_fence None a b → IsOpen log es b.now.words
@@ -174,7 +174,7 @@ module _ (size : ℕ) (log : OpenLog) (es : List Entry) (g : Ground) (before : I
   -- ---- the range is moved
 
   moved_own : (b c : State) (fault : Option HostFault) (m : Moves log fault a b c) (was image : Image) → Picks b.now.words was → IsFrom (written (only log.gate_at (moved_gate log))) was image
-      → (k : ℕ) → g.mine k ≡ true → image k ≡ reads a.now.words k
+      → (k : ℕ) → g.has_word k ≡ true → image k ≡ reads a.now.words k
   moved_own b c fault m was image picked from k mine = elim (from.each k) [
     | inl same ↦ same ∙ (fence_single b m.fence k mine).each (was k) (picked.each k)
     | inr new ↦ absurd (mine_apart size log.gate_at g k ground mine (only_at log.gate_at (moved_gate log) k (image k) new))
@@ -201,7 +201,7 @@ module _ (size : ℕ) (log : OpenLog) (es : List Entry) (g : Ground) (before : I
       (Leaves-changes ByRange (written (only log.gate_at (moved_gate log))) fault b c (moved_image b c fault m) m.move.changes)
 
   -- behind it each own word has one value, and the log runs in the range of redo entries
-  pub moved_single : (b c : State) (m : Moves log None a b c) → (k : ℕ) → g.mine k ≡ true → HasOnly (c.now.words k) (reads a.now.words k)
+  pub moved_single : (b c : State) (m : Moves log None a b c) → (k : ℕ) → g.has_word k ≡ true → HasOnly (c.now.words k) (reads a.now.words k)
   moved_single b c m k mine =
       HasOnly-kept (written (only log.gate_at (moved_gate log))) None b c k (reads a.now.words k) m.move.changes
       (λ x new. mine_apart size log.gate_at g k ground mine (only_at log.gate_at (moved_gate log) k x new)) (fence_single b m.fence k mine)

@@ -10,7 +10,7 @@ use Rattle.pud_defs.specs.Entries.{Entry}
 use Rattle.pud_defs.specs.Replay.{is_in_range, value_from, value_in, given_by}
 use Rattle.pud_defs.proofs.Spaces.{all_below-each}
 use Rattle.pud_defs.proofs.Replay.{undone-first}
-use Rattle.word_transaction.specs.Ground.{Ground, IsGround, IsOwn, running_range, saved}
+use Rattle.word_transaction.specs.Scope.{Scope, IsScope, IsInScope, running_range, saved}
 use Rattle.word_transaction.specs.Coverage.{covers, is_covered, are_covered}
 use Rattle.word_transaction.specs.Running.{IsOneOf}
 use Rattle.word_transaction.proofs.Saved.{some_not_none, or_first_none, or_second_none}
@@ -32,14 +32,14 @@ word_of address e told =
     record { order = eqb-true _ _ second.0; i = (address - e.address) / WORD_BYTES; below = ltb-true _ _ last.1; is = omega arith }
 
 -- an undo entry of a transaction counts while its log is running
-counts : (g : Ground) (e : Entry) → IsOwn g e → e.order ≡ UNDO_ORDER → is_in_range running_range e ≡ true
+counts : (g : Scope) (e : Entry) → IsInScope g e → e.order ≡ UNDO_ORDER → is_in_range running_range e ≡ true
 counts g e own order = elim own.kind [
   | inl undo ↦ let seq = undo.seq in and_from _ _ (lt-ltb RUNNING_LO e.seq (omega arith)) (lt-ltb e.seq RUNNING_HI (omega arith))
   | inr redo ↦ absurd (let other = redo.order in omega arith)
 ]
 
 -- an entry that covers an address has a value of the word that the address names
-given_there : (size at : ℕ) (g : Ground) (e : Entry) (address k : ℕ) → IsGround size at g → IsOwn g e → covers address e ≡ true → g.place address ≡ Some k
+given_there : (size at : ℕ) (g : Scope) (e : Entry) (address k : ℕ) → IsScope size at g → IsInScope g e → covers address e ≡ true → g.place address ≡ Some k
     → given_by g.place running_range UNDO_ORDER e k ≡ None → ⊥
 given_there size at g e address k ground own told place none =
     let w = word_of address e told in
@@ -51,18 +51,18 @@ given_there size at g e address k ground own told place none =
     (cond-true _ _ _ (and_from (is_in_range running_range e) (eqb e.order UNDO_ORDER) (counts g e own w.order) (let order = w.order in eq-eqb e.order UNDO_ORDER order)) ∙ value) none
 
 -- a word whose address is covered is saved
-pub covered_is_saved : (size at : ℕ) (g : Ground) (es : List Entry) (address k : ℕ) → IsGround size at g → All (IsOwn g) es → is_covered es address ≡ true → g.place address ≡ Some k
+pub covered_is_saved : (size at : ℕ) (g : Scope) (es : List Entry) (address k : ℕ) → IsScope size at g → All (IsInScope g) es → is_covered es address ≡ true → g.place address ≡ Some k
     → saved g.place es k ≡ None → ⊥
 covered_is_saved size at g [] address k ground own told place none = absurd (cc)
 covered_is_saved size at g (e ∷ es) address k ground own told place none =
     let either = sym (undone-first g.place running_range e es k) ∙ none in
     elim (or_cases (covers address e) (is_covered es address) told) [
-      | inl here ↦ given_there size at g e address k ground (All-head (IsOwn g) e es own) here place (or_first_none _ _ either)
-      | inr later ↦ covered_is_saved size at g es address k ground (All-tail (IsOwn g) e es own) later place (or_second_none _ _ either)
+      | inl here ↦ given_there size at g e address k ground (All-head (IsInScope g) e es own) here place (or_first_none _ _ either)
+      | inr later ↦ covered_is_saved size at g es address k ground (All-tail (IsInScope g) e es own) later place (or_second_none _ _ either)
     ]
 
 -- so is each of words all of which are covered
-pub covered_are_saved : (size at : ℕ) (g : Ground) (es : List Entry) (address first count k : ℕ) → IsGround size at g → All (IsOwn g) es → g.may address count ≡ true → g.place address ≡ Some first
+pub covered_are_saved : (size at : ℕ) (g : Scope) (es : List Entry) (address first count k : ℕ) → IsScope size at g → All (IsInScope g) es → g.may_name address count ≡ true → g.place address ≡ Some first
     → are_covered es address count ≡ true → IsOneOf first count k → saved g.place es k ≡ None → ⊥
 covered_are_saved size at g es address first count k ground own may place told one none =
     let spans = ground.named address count may in
@@ -76,7 +76,7 @@ covered_are_saved size at g es address first count k ground own may place told o
     covered_is_saved size at g es (address + WORD_BYTES * i) k ground own (all_below-each count (λ j. is_covered es (address + WORD_BYTES * j)) told i below) (spans.each i below ∙ ap Some here) none
 
 -- the one word of an address is
-pub covered_one_is_saved : (size at : ℕ) (g : Ground) (es : List Entry) (address first k : ℕ) → IsGround size at g → All (IsOwn g) es → g.may address 1 ≡ true → g.place address ≡ Some first
+pub covered_one_is_saved : (size at : ℕ) (g : Scope) (es : List Entry) (address first k : ℕ) → IsScope size at g → All (IsInScope g) es → g.may_name address 1 ≡ true → g.place address ≡ Some first
     → are_covered es address 1 ≡ true → k ≡ first → saved g.place es k ≡ None → ⊥
 covered_one_is_saved size at g es address first k ground own may place told is none =
     covered_are_saved size at g es address first 1 k ground own may place told (omega arith, omega arith) none

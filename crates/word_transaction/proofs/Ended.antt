@@ -10,18 +10,18 @@ use Rattle.pm_model.proofs.Leaves.{Leaves-weaker}
 use Rattle.pud_defs.specs.Image.{Image}
 use Rattle.pud_defs.specs.Replay.{is_in_log}
 use Rattle.pud_defs.proofs.Replay.{not_inside}
-use Rattle.word_transaction.specs.Ground.{Ground}
+use Rattle.word_transaction.specs.Scope.{Scope}
 use Rattle.word_transaction.specs.Running.{ByTransaction, IsIdle, SettlesTo, SettlesByRange, Closes, Ends}
 use Rattle.word_transaction.proofs.Images.{SettlesTo-closed, closed_by_gate}
 
 -- ---- whatever its range
 
 -- an image settles to one of the two
-pub settles_either : (g : Ground) (at : ℕ) (before after image : Image) → SettlesByRange g at before after image → SettlesTo g at before image ⊎ SettlesTo g at after image
+pub settles_either : (g : Scope) (at : ℕ) (before after image : Image) → SettlesByRange g at before after image → SettlesTo g at before image ⊎ SettlesTo g at after image
 settles_either g at before after image (inl unmoved) = inl unmoved.settles
 settles_either g at before after image (inr moved) = inr moved.settles
 
-pub Ends-either : (g : Ground) (at : ℕ) (before after : Image) (fault : Option HostFault) (old new : State) → Ends g at before after fault old new
+pub Ends-either : (g : Scope) (at : ℕ) (before after : Image) (fault : Option HostFault) (old new : State) → Ends g at before after fault old new
     → Leaves (Silently (λ image. SettlesTo g at before image ⊎ SettlesTo g at after image)) old new
 Ends-either g at before after fault old new e =
     Leaves-weaker (Silently (SettlesByRange g at before after)) (Silently (λ image. SettlesTo g at before image ⊎ SettlesTo g at after image)) old new
@@ -29,21 +29,21 @@ Ends-either g at before after fault old new e =
 
 -- ---- none is open any more
 
-pub Ends-idle : (g : Ground) (at : ℕ) (before after : Image) (fault : Option HostFault) (old new : State) → fault ≡ None → Ends g at before after fault old new → IsIdle g at after new.now.words
+pub Ends-idle : (g : Scope) (at : ℕ) (before after : Image) (fault : Option HostFault) (old new : State) → fault ≡ None → Ends g at before after fault old new → IsIdle g at after new.now.words
 Ends-idle g at before after fault old new none e = record { closed = λ image picked. closed_by_gate at image ((e.closed none).each (image at) (picked.each at)); single = λ k mine. e.durable none k mine }
 
-pub Closes-idle : (g : Ground) (at : ℕ) (values : Image) (fault : Option HostFault) (old new : State) → fault ≡ None → Closes g at values fault old new → IsIdle g at values new.now.words
+pub Closes-idle : (g : Scope) (at : ℕ) (values : Image) (fault : Option HostFault) (old new : State) → fault ≡ None → Closes g at values fault old new → IsIdle g at values new.now.words
 Closes-idle g at values fault old new none c = record { closed = λ image picked. closed_by_gate at image ((c.closed none).each (image at) (picked.each at)); single = λ k mine. c.durable none k mine }
 
 -- ---- then each own word has the value
 
-module _ (g : Ground) (at : ℕ) (values : Image) (words : Words) (idle : IsIdle g at values words) where
+module _ (g : Scope) (at : ℕ) (values : Image) (words : Words) (idle : IsIdle g at values words) where
   -- as it is read
-  pub IsIdle-reads : (k : ℕ) → g.mine k ≡ true → reads words k ≡ values k
+  pub IsIdle-reads : (k : ℕ) → g.has_word k ≡ true → reads words k ≡ values k
   IsIdle-reads k mine = HasOnly-newest (words k) (values k) (idle.single k mine)
 
   -- and in each image that is left, whose log is closed
-  pub IsIdle-image : (image : Image) → Picks words image → (k : ℕ) → g.mine k ≡ true → image k ≡ values k
+  pub IsIdle-image : (image : Image) → Picks words image → (k : ℕ) → g.has_word k ≡ true → image k ≡ values k
   IsIdle-image image picked k mine = (idle.single k mine).each (image k) (picked.each k)
 
   pub IsIdle-settles : (image : Image) → Picks words image → SettlesTo g at values image
@@ -52,11 +52,11 @@ module _ (g : Ground) (at : ℕ) (values : Image) (words : Words) (idle : IsIdle
 -- ---- what stays meanwhile
 
 -- nothing comes to a word that is none of the log's and not the transaction's own
-pub beside_transaction : (g : Ground) (at k v : ℕ) → is_in_log at k ≡ false → g.mine k ≡ false → ByTransaction g at k v → ⊥
+pub beside_transaction : (g : Scope) (at k v : ℕ) → is_in_log at k ≡ false → g.has_word k ≡ false → ByTransaction g at k v → ⊥
 beside_transaction g at k v outside other (inl inside) = not_inside at k outside inside
 beside_transaction g at k v outside other (inr mine) = absurd (let it : true ≡ false = sym mine ∙ other in cc)
 
 -- so it reads as it did
-pub reads_beside : (g : Ground) (at : ℕ) (fault : Option HostFault) (old new : State) → Changes (ByTransaction g at) fault old new → (fault ≡ Some Cut → ⊥) → (k : ℕ) → is_in_log at k ≡ false
-    → g.mine k ≡ false → reads new.now.words k ≡ reads old.now.words k
+pub reads_beside : (g : Scope) (at : ℕ) (fault : Option HostFault) (old new : State) → Changes (ByTransaction g at) fault old new → (fault ≡ Some Cut → ⊥) → (k : ℕ) → is_in_log at k ≡ false
+    → g.has_word k ≡ false → reads new.now.words k ≡ reads old.now.words k
 reads_beside g at fault old new changes uncut k outside other = (changes.keeps uncut k (λ v. beside_transaction g at k v outside other)).newest

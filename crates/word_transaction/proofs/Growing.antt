@@ -16,7 +16,7 @@ use Rattle.pud_defs.specs.Entries.{Entry, Log}
 use Rattle.pud_defs.specs.Replay.{Place, is_in_range, value_from, undone, redone}
 use Rattle.pud_defs.proofs.Replay.{undone-first, undone-none, redone-first, redone-none}
 use Rattle.log_store.specs.Store.{OpenLog, InLog}
-use Rattle.word_transaction.specs.Ground.{Ground, IsGround, IsOwn, running_range, committing_range, saved, pending}
+use Rattle.word_transaction.specs.Scope.{Scope, IsScope, IsInScope, running_range, committing_range, saved, pending}
 use Rattle.word_transaction.specs.Running.{IsRunning, IsCovered, SettlesTo}
 use Rattle.word_transaction.proofs.Saved.{saved_is_mine}
 use Rattle.word_transaction.proofs.Images.{SettlesTo-local, IsRunning-settles}
@@ -24,8 +24,8 @@ use Rattle.word_transaction.proofs.Images.{SettlesTo-local, IsRunning-settles}
 -- ---- beside other calls
 
 -- each image left by calls that give no value to a word of the log or to an own word settles to the values from the beginning
-pub settles_beside : (g : Ground) (log : OpenLog) (es : List Entry) (before : Image) (may : Footprint) (fault : Option HostFault) (old new : State) → Changes may fault old new
-    → ((k v : ℕ) → InLog log.gate_at k v → may k v → ⊥) → ((k v : ℕ) → g.mine k ≡ true → may k v → ⊥) → IsRunning g log es before old.now.words
+pub settles_beside : (g : Scope) (log : OpenLog) (es : List Entry) (before : Image) (may : Footprint) (fault : Option HostFault) (old new : State) → Changes may fault old new
+    → ((k v : ℕ) → InLog log.gate_at k v → may k v → ⊥) → ((k v : ℕ) → g.has_word k ≡ true → may k v → ⊥) → IsRunning g log es before old.now.words
     → Leaves (Silently (SettlesTo g log.gate_at before)) old new
 settles_beside g log es before may fault old new c in_log own r =
     Leaves-changes (SettlesTo g log.gate_at before) may fault old new
@@ -38,7 +38,7 @@ settles_beside g log es before may fault old new c in_log own r =
 -- ---- the values from the beginning
 
 -- they count on its own words alone
-pub IsRunning-values : (size : ℕ) (g : Ground) (log : OpenLog) (es : List Entry) (before values : Image) (words : Words) → IsGround size log.gate_at g → ((k : ℕ) → g.mine k ≡ true → before k ≡ values k)
+pub IsRunning-values : (size : ℕ) (g : Scope) (log : OpenLog) (es : List Entry) (before values : Image) (words : Words) → IsScope size log.gate_at g → ((k : ℕ) → g.has_word k ≡ true → before k ≡ values k)
     → IsRunning g log es before words → IsRunning g log es values words
 IsRunning-values size g log es before values words ground same r =
     record {
@@ -54,10 +54,10 @@ IsRunning-values size g log es before values words ground same r =
 -- ---- over more words
 
 -- what the one may name the other may too, by the same places, and its words are among the other's
-pub record IsWider (g wide : Ground) : Type 0 where
-  pub may : (address count : ℕ) → g.may address count ≡ true → wide.may address count ≡ true
-  pub place : (address count : ℕ) → g.may address count ≡ true → wide.place address ≡ g.place address
-  pub mine : (k : ℕ) → g.mine k ≡ true → wide.mine k ≡ true
+pub record IsWider (g wide : Scope) : Type 0 where
+  pub may : (address count : ℕ) → g.may_name address count ≡ true → wide.may_name address count ≡ true
+  pub place : (address count : ℕ) → g.may_name address count ≡ true → wide.place address ≡ g.place address
+  pub has_word : (k : ℕ) → g.has_word k ≡ true → wide.has_word k ≡ true
 
 -- entries give the same by places that agree on their addresses
 pub undone-places : (place other : Place) (log : Log) (es : List Entry) (k : ℕ) → All (λ e. other e.address ≡ place e.address) es → undone other log es k ≡ undone place log es k
@@ -77,29 +77,29 @@ redone-places place other log (e ∷ es) k same =
     (ap (λ (o : Option ℕ). cond (is_in_range log e && eqb e.order REDO_ORDER) (value_from o e.vals k) None) (All-head (λ x. other x.address ≡ place x.address) e es same))
     ∙ sym (redone-first place log e es k)
 
-own_wider : (g wide : Ground) (es : List Entry) → IsWider g wide → All (IsOwn g) es → All (IsOwn wide) es
-own_wider g wide [] wider own = All-nil (IsOwn wide)
+own_wider : (g wide : Scope) (es : List Entry) → IsWider g wide → All (IsInScope g) es → All (IsInScope wide) es
+own_wider g wide [] wider own = All-nil (IsInScope wide)
 own_wider g wide (e ∷ es) wider own =
-    let first = All-head (IsOwn g) e es own in
-    All-cons (IsOwn wide) e es (record { may = wider.may e.address (length e.vals) first.may; kind = first.kind }) (own_wider g wide es wider (All-tail (IsOwn g) e es own))
+    let first = All-head (IsInScope g) e es own in
+    All-cons (IsInScope wide) e es (record { may = wider.may_name e.address (length e.vals) first.may; kind = first.kind }) (own_wider g wide es wider (All-tail (IsInScope g) e es own))
 
-places_wider : (g wide : Ground) (es : List Entry) → IsWider g wide → All (IsOwn g) es → All (λ e. wide.place e.address ≡ g.place e.address) es
+places_wider : (g wide : Scope) (es : List Entry) → IsWider g wide → All (IsInScope g) es → All (λ e. wide.place e.address ≡ g.place e.address) es
 places_wider g wide [] wider own = All-nil (λ e. wide.place e.address ≡ g.place e.address)
 places_wider g wide (e ∷ es) wider own =
-    All-cons (λ x. wide.place x.address ≡ g.place x.address) e es (wider.place e.address (length e.vals) (All-head (IsOwn g) e es own).may)
-    (places_wider g wide es wider (All-tail (IsOwn g) e es own))
+    All-cons (λ x. wide.place x.address ≡ g.place x.address) e es (wider.place e.address (length e.vals) (All-head (IsInScope g) e es own).may)
+    (places_wider g wide es wider (All-tail (IsInScope g) e es own))
 
 -- the same words are saved
-pub saved-wider : (g wide : Ground) (es : List Entry) (k : ℕ) → IsWider g wide → All (IsOwn g) es → saved wide.place es k ≡ saved g.place es k
+pub saved-wider : (g wide : Scope) (es : List Entry) (k : ℕ) → IsWider g wide → All (IsInScope g) es → saved wide.place es k ≡ saved g.place es k
 saved-wider g wide es k wider own = undone-places g.place wide.place running_range es k (places_wider g wide es wider own)
 
 -- and the same are asked for
-pub pending-wider : (g wide : Ground) (es : List Entry) (k : ℕ) → IsWider g wide → All (IsOwn g) es → pending wide.place es k ≡ pending g.place es k
+pub pending-wider : (g wide : Scope) (es : List Entry) (k : ℕ) → IsWider g wide → All (IsInScope g) es → pending wide.place es k ≡ pending g.place es k
 pending-wider g wide es k wider own = redone-places g.place wide.place committing_range es k (places_wider g wide es wider own)
 
 -- an open transaction comes to own more words, each with one value, which it then has from the beginning
-pub IsRunning-wider : (g wide : Ground) (log : OpenLog) (es : List Entry) (before : Image) (words : Words) → IsWider g wide
-    → ((k : ℕ) → wide.mine k ≡ true → g.mine k ≡ false → HasOnly (words k) (before k)) → IsRunning g log es before words → IsRunning wide log es before words
+pub IsRunning-wider : (g wide : Scope) (log : OpenLog) (es : List Entry) (before : Image) (words : Words) → IsWider g wide
+    → ((k : ℕ) → wide.has_word k ≡ true → g.has_word k ≡ false → HasOnly (words k) (before k)) → IsRunning g log es before words → IsRunning wide log es before words
 IsRunning-wider g wide log es before words wider fresh r =
     record {
       opened = r.opened;
@@ -107,17 +107,17 @@ IsRunning-wider g wide log es before words wider fresh r =
       hi = r.hi;
       own = own_wider g wide es wider r.own;
       saves = λ k v is. r.saves k v (sym (saved-wider g wide es k wider r.own) ∙ is);
-      single = λ k mine none. elim (cases_Bool (g.mine k)) [
+      single = λ k mine none. elim (cases_Bool (g.has_word k)) [
         | inl was ↦ r.single k was (sym (saved-wider g wide es k wider r.own) ∙ none)
         | inr new ↦ fresh k mine new
       ];
-      marked = λ k mine. elim (cases_Bool (g.mine k)) [
+      marked = λ k mine. elim (cases_Bool (g.has_word k)) [
         | inl was ↦ r.marked k was
         | inr new ↦ inr (HasOnly-own (words k) (before k) (fresh k mine new))
       ];
     }
 
 -- what was covered is so still
-pub IsCovered-wider : (g wide : Ground) (es : List Entry) (write : Write) → IsWider g wide → All (IsOwn g) es → IsCovered g es write → IsCovered wide es write
+pub IsCovered-wider : (g wide : Scope) (es : List Entry) (write : Write) → IsWider g wide → All (IsInScope g) es → IsCovered g es write → IsCovered wide es write
 IsCovered-wider g wide es write wider own c =
-    record { mine = λ k v is. wider.mine k (c.mine k v is); kept = λ k v is none. c.kept k v is (sym (saved-wider g wide es k wider own) ∙ none) }
+    record { has_word = λ k v is. wider.has_word k (c.has_word k v is); kept = λ k v is none. c.kept k v is (sym (saved-wider g wide es k wider own) ∙ none) }

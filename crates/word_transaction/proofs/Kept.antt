@@ -12,7 +12,7 @@ use Rattle.pud_defs.specs.Image.{Image}
 use Rattle.pud_defs.specs.Entries.{Entry}
 use Rattle.pud_defs.specs.Replay.{Place, over}
 use Rattle.log_store.specs.Store.{OpenLog, undo_entry, with_entries}
-use Rattle.word_transaction.specs.Ground.{Ground, IsGround, saved, asked}
+use Rattle.word_transaction.specs.Scope.{Scope, IsScope, saved, asked}
 use Rattle.word_transaction.specs.Running.{IsRunning, IsCovered, IsOneOf, MayAppend, nothing, Runs, Keeps, Puts}
 use Rattle.word_transaction.proofs.Saved.{saved-none_first, saved-none_more, saved_by_one}
 use Rattle.word_transaction.proofs.Calls.{Runs-still, Runs-failed, Runs-behind, Runs-then}
@@ -35,21 +35,21 @@ saved_by_two place address first address2 second k word vals is also one none =
 -- ---- calls that keep
 
 -- nothing was done: all that was to be kept is so already, or the call failed
-pub Keeps-still : (g : Ground) (log : OpenLog) (es : List Entry) (before : Image) (which : ℕ → Type 0) (fault : Option HostFault) (old new : State) → (fault ≡ Some Cut → ⊥) → new ≡ old
+pub Keeps-still : (g : Scope) (log : OpenLog) (es : List Entry) (before : Image) (which : ℕ → Type 0) (fault : Option HostFault) (old new : State) → (fault ≡ Some Cut → ⊥) → new ≡ old
     → IsRunning g log es before old.now.words → (fault ≡ None → (k : ℕ) → which k → saved g.place es k ≡ None → ⊥) → Keeps g log es before which fault old new
 Keeps-still g log es before which fault old new uncut same r kept =
     record { entries = es; runs = Runs-still g log es before fault old new uncut same r; asks = refl; still = λ k none. none; kept = kept }
 
 -- the log behind a call, whatever it answered
-pub Runs-now : (g : Ground) (log longer now : OpenLog) (es : List Entry) (before : Image) (result : Result (Unit {0}) HostFault) (old new : State) → longer.gate_at ≡ log.gate_at
+pub Runs-now : (g : Scope) (log longer now : OpenLog) (es : List Entry) (before : Image) (result : Result (Unit {0}) HostFault) (old new : State) → longer.gate_at ≡ log.gate_at
     → IfOk result (λ _. now ≡ longer) → OnErr result (now ≡ log) → Runs g longer es before nothing (fault_of result) old new → Runs g now es before nothing (fault_of result) old new
 Runs-now g log longer now es before (Ok x) old new at ok err r = subst (λ (l : OpenLog). Runs g l es before nothing None old new) (sym ok) r
 Runs-now g log longer now es before (Err fault) old new at ok err r =
     Runs-failed g longer now es es before nothing nothing fault old new (ap (λ (l : OpenLog). l.gate_at) err ∙ sym at) r
 
 -- entries of what own words hold were read, and then appended
-pub Keeps-appended : (size : ℕ) (g : Ground) (log now : OpenLog) (es : List Entry) (before : Image) (which : ℕ → Type 0) (count : ℕ) (more : List Entry) (result : Result (Unit {0}) HostFault) (s b t : State)
-    → IsGround size log.gate_at g → IsRunning g log es before s.now.words → b ≡ s → All (IsRead g (reads s.now.words)) more → asked more ≡ [] → ((k : ℕ) → which k → saved g.place more k ≡ None → ⊥)
+pub Keeps-appended : (size : ℕ) (g : Scope) (log now : OpenLog) (es : List Entry) (before : Image) (which : ℕ → Type 0) (count : ℕ) (more : List Entry) (result : Result (Unit {0}) HostFault) (s b t : State)
+    → IsScope size log.gate_at g → IsRunning g log es before s.now.words → b ≡ s → All (IsRead g (reads s.now.words)) more → asked more ≡ [] → ((k : ℕ) → which k → saved g.place more k ≡ None → ⊥)
     → IfOk result (λ _. now ≡ with_entries count more log) → OnErr result (now ≡ log)
     → (IsRunning g log es before b.now.words → MayAppend g es before more → Runs g (with_entries count more log) (es ++ more) before nothing (fault_of result) b t)
     → Keeps g now es before which (fault_of result) s t
@@ -64,13 +64,13 @@ Keeps-appended size g log now es before which count more result s b t ground r s
     }
 
 -- a call behind one that did nothing
-pub Keeps-from : (g : Ground) (log now : OpenLog) (es : List Entry) (before : Image) (which : ℕ → Type 0) (fault : Option HostFault) (s b t : State) → b ≡ s → IsRunning g log es before s.now.words
+pub Keeps-from : (g : Scope) (log now : OpenLog) (es : List Entry) (before : Image) (which : ℕ → Type 0) (fault : Option HostFault) (s b t : State) → b ≡ s → IsRunning g log es before s.now.words
     → (IsRunning g log es before b.now.words → Keeps g now es before which fault b t) → Keeps g now es before which fault s t
 Keeps-from g log now es before which fault s b t same r keeps =
     subst (λ (x : State). Keeps g now es before which fault x t) same (keeps (subst (λ (x : State). IsRunning g log es before x.now.words) (sym same) r))
 
 -- some of the words were kept before
-pub Keeps-beside : (g : Ground) (now : OpenLog) (es : List Entry) (before : Image) (which also all : ℕ → Type 0) (fault : Option HostFault) (old new : State)
+pub Keeps-beside : (g : Scope) (now : OpenLog) (es : List Entry) (before : Image) (which also all : ℕ → Type 0) (fault : Option HostFault) (old new : State)
     → ((k : ℕ) → all k → which k ⊎ also k) → ((k : ℕ) → also k → saved g.place es k ≡ None → ⊥) → Keeps g now es before which fault old new → Keeps g now es before all fault old new
 Keeps-beside g now es before which also all fault old new either was keeps =
     record {
@@ -84,38 +84,38 @@ Keeps-beside g now es before which also all fault old new either was keeps =
 -- ---- words written behind them
 
 -- own words that are kept are written
-pub record WritesKept (g : Ground) (which : ℕ → Type 0) (write : Write) : Type 0 where
-  pub mine : (k v : ℕ) → write k ≡ Some v → g.mine k ≡ true
+pub record WritesKept (g : Scope) (which : ℕ → Type 0) (write : Write) : Type 0 where
+  pub has_word : (k v : ℕ) → write k ≡ Some v → g.has_word k ≡ true
   pub kept : (k v : ℕ) → write k ≡ Some v → which k
 
 -- values placed from the word of an address on, where its words are kept
-pub WritesKept-placed : (size at : ℕ) (g : Ground) (address first : ℕ) (vals : List ℕ) → IsGround size at g → g.may address (length vals) ≡ true → g.place address ≡ Some first
+pub WritesKept-placed : (size at : ℕ) (g : Scope) (address first : ℕ) (vals : List ℕ) → IsScope size at g → g.may_name address (length vals) ≡ true → g.place address ≡ Some first
     → WritesKept g (IsOneOf first (length vals)) (placed first vals)
 WritesKept-placed size at g address first vals ground may place =
     let spans = ground.named address (length vals) may in
     let here : Some spans.first ≡ Some first = sym spans.placed ∙ place in
     let same : spans.first ≡ first = cc in
     record {
-      mine = λ k v is. let within = placed_within first k v vals is in spans.own k (omega arith) (omega arith);
+      has_word = λ k v is. let within = placed_within first k v vals is in spans.own k (omega arith) (omega arith);
       kept = λ k v is. let within = placed_within first k v vals is in (within.0, within.1);
     }
 
 -- where others are kept too
-pub WritesKept-among : (g : Ground) (which all : ℕ → Type 0) (write : Write) → ((k : ℕ) → which k → all k) → WritesKept g which write → WritesKept g all write
-WritesKept-among g which all write more writes = record { mine = writes.mine; kept = λ k v is. more k (writes.kept k v is) }
+pub WritesKept-among : (g : Scope) (which all : ℕ → Type 0) (write : Write) → ((k : ℕ) → which k → all k) → WritesKept g which write → WritesKept g all write
+WritesKept-among g which all write more writes = record { has_word = writes.has_word; kept = λ k v is. more k (writes.kept k v is) }
 
-covered_by : (g : Ground) (log : OpenLog) (es : List Entry) (before : Image) (which : ℕ → Type 0) (write : Write) (old new : State) → (keeps : Keeps g log es before which None old new) → WritesKept g which write
+covered_by : (g : Scope) (log : OpenLog) (es : List Entry) (before : Image) (which : ℕ → Type 0) (write : Write) (old new : State) → (keeps : Keeps g log es before which None old new) → WritesKept g which write
     → IsCovered g keeps.entries write
-covered_by g log es before which write old new keeps writes = record { mine = writes.mine; kept = λ k v is none. keeps.kept refl k (writes.kept k v is) none }
+covered_by g log es before which write old new keeps writes = record { has_word = writes.has_word; kept = λ k v is none. keeps.kept refl k (writes.kept k v is) none }
 
 -- the words were not kept, and so not written
-pub Puts-unkept : (g : Ground) (log now : OpenLog) (es : List Entry) (before : Image) (which : ℕ → Type 0) (write : Write) (fault : HostFault) (old new : State) → now.gate_at ≡ log.gate_at
+pub Puts-unkept : (g : Scope) (log now : OpenLog) (es : List Entry) (before : Image) (which : ℕ → Type 0) (write : Write) (fault : HostFault) (old new : State) → now.gate_at ≡ log.gate_at
     → Keeps g log es before which (Some fault) old new → Puts g now es before write (Some fault) old new
 Puts-unkept g log now es before which write fault old new at keeps =
     record { entries = keeps.entries; runs = Runs-failed g log now keeps.entries keeps.entries before nothing write fault old new at keeps.runs; asks = keeps.asks }
 
 -- they were, and then written
-pub Puts-written : (g : Ground) (log : OpenLog) (es : List Entry) (before : Image) (which : ℕ → Type 0) (write : Write) (fault : Option HostFault) (a b c : State)
+pub Puts-written : (g : Scope) (log : OpenLog) (es : List Entry) (before : Image) (which : ℕ → Type 0) (write : Write) (fault : Option HostFault) (a b c : State)
     → Keeps g log es before which None a b → WritesKept g which write
     → ((entries : List Entry) → IsRunning g log entries before b.now.words → IsCovered g entries write → Runs g log entries before write fault b c) → Puts g log es before write fault a c
 Puts-written g log es before which write fault a b c keeps writes runs =
@@ -127,7 +127,7 @@ Puts-written g log es before which write fault a b c keeps writes runs =
     }
 
 -- they were, and then some of them were written, and others behind them
-pub Puts-both : (g : Ground) (log : OpenLog) (es : List Entry) (before : Image) (which : ℕ → Type 0) (first later : Write) (fault : Option HostFault) (a b c d : State)
+pub Puts-both : (g : Scope) (log : OpenLog) (es : List Entry) (before : Image) (which : ℕ → Type 0) (first later : Write) (fault : Option HostFault) (a b c d : State)
     → Keeps g log es before which None a b → WritesKept g which first → WritesKept g which later
     → ((entries : List Entry) → IsRunning g log entries before b.now.words → IsCovered g entries first → Runs g log entries before first None b c)
     → ((entries : List Entry) → IsRunning g log entries before c.now.words → IsCovered g entries later → Runs g log entries before later fault c d) → Puts g log es before (over first later) fault a d
@@ -142,7 +142,7 @@ Puts-both g log es before which first later fault a b c d keeps writes_first wri
     }
 
 -- the first of them were not written whole
-pub Puts-half : (g : Ground) (log : OpenLog) (es : List Entry) (before : Image) (first later : Write) (fault : HostFault) (old new : State) → Puts g log es before first (Some fault) old new
+pub Puts-half : (g : Scope) (log : OpenLog) (es : List Entry) (before : Image) (first later : Write) (fault : HostFault) (old new : State) → Puts g log es before first (Some fault) old new
     → Puts g log es before (over first later) (Some fault) old new
 Puts-half g log es before first later fault old new puts =
     record { entries = puts.entries; runs = Runs-failed g log log puts.entries puts.entries before first (over first later) fault old new refl puts.runs; asks = puts.asks }

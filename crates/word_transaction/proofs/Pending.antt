@@ -11,7 +11,7 @@ use Rattle.pud_defs.specs.Entries.{Entry, Log, log_of}
 use Rattle.pud_defs.specs.Replay.{Place, is_in_range, value_in, given_by, undone, redone, new_value, over, overwritten, replayed}
 use Rattle.pud_defs.proofs.Replay.{undone-first, redone-first, undone-none, redone-none, given_by-out, given_by-other, or_none, new_value-of, overwritten-nothing, overwritten-then}
 use Rattle.log_store.specs.Store.{OpenLog, is_redo, asks, saying, committing}
-use Rattle.word_transaction.specs.Ground.{Ground, redo_entry, IsUndo, IsRedo, IsOwn, asked, written_in_turn, committing_range, pending}
+use Rattle.word_transaction.specs.Scope.{Scope, redo_entry, IsUndo, IsRedo, IsInScope, asked, written_in_turn, committing_range, pending}
 use Rattle.word_transaction.specs.Running.{SettlesTo}
 use Rattle.word_transaction.proofs.Saved.{given_by-range, undone-range}
 
@@ -32,16 +32,16 @@ undo_gives_nothing place e k undo = given_by-out place committing_range UNDO_ORD
 redo_gives_nothing : (place : Place) (e : Entry) (k : ℕ) → IsRedo e → given_by place committing_range UNDO_ORDER e k ≡ None
 redo_gives_nothing place e k redo = given_by-other place committing_range UNDO_ORDER e k (λ undo. let h = redo.order in absurd (omega arith))
 
-undone-committing : (g : Ground) (place : Place) (es : List Entry) (k : ℕ) → All (IsOwn g) es → undone place committing_range es k ≡ None
+undone-committing : (g : Scope) (place : Place) (es : List Entry) (k : ℕ) → All (IsInScope g) es → undone place committing_range es k ≡ None
 undone-committing g place [] k own = undone-none place committing_range k
 undone-committing g place (e ∷ es) k own =
     undone-first place committing_range e es k
     ∙ ap₂ option_or
-    (let first : given_by place committing_range UNDO_ORDER e k ≡ None = elim (All-head (IsOwn g) e es own).kind [
+    (let first : given_by place committing_range UNDO_ORDER e k ≡ None = elim (All-head (IsInScope g) e es own).kind [
       | inl undo ↦ undo_gives_nothing place e k undo
       | inr redo ↦ redo_gives_nothing place e k redo
     ] in first)
-    (undone-committing g place es k (All-tail (IsOwn g) e es own))
+    (undone-committing g place es k (All-tail (IsInScope g) e es own))
 
 -- ---- what is asked for
 
@@ -96,20 +96,20 @@ one_in_turn place e es image (inr redo) =
     ∙ ap (λ (xs : List Entry). written_in_turn place xs image) (sym (cond-true (is_redo e) (e ∷ asked es) (asked es) one))
 
 -- what is asked for, over an image, is the values of the redo entries in turn
-pub pending-in_turn : (g : Ground) (place : Place) (es : List Entry) (image : Image) → All (IsOwn g) es → overwritten (pending place es) image ≡ written_in_turn place (asked es) image
+pub pending-in_turn : (g : Scope) (place : Place) (es : List Entry) (image : Image) → All (IsInScope g) es → overwritten (pending place es) image ≡ written_in_turn place (asked es) image
 pending-in_turn g place [] image own = overwritten-nothing (pending place []) image (λ k. redone-none place committing_range k)
 pending-in_turn g place (e ∷ es) image own =
     let each : (k : ℕ) → pending place (e ∷ es) k ≡ over (given_by place committing_range REDO_ORDER e) (pending place es) k = λ k. redone-first place committing_range e es k in
     let same : pending place (e ∷ es) ≡ over (given_by place committing_range REDO_ORDER e) (pending place es) = λ i k. each k i in
     ap (λ (w : ℕ → Option ℕ). overwritten w image) same
     ∙ sym (overwritten-then (given_by place committing_range REDO_ORDER e) (pending place es) image)
-    ∙ pending-in_turn g place es (overwritten (given_by place committing_range REDO_ORDER e) image) (All-tail (IsOwn g) e es own)
-    ∙ one_in_turn place e es image (All-head (IsOwn g) e es own).kind
+    ∙ pending-in_turn g place es (overwritten (given_by place committing_range REDO_ORDER e) image) (All-tail (IsInScope g) e es own)
+    ∙ one_in_turn place e es image (All-head (IsInScope g) e es own).kind
 
 -- ---- a committing log
 
 -- it gives what its entries ask for
-pub new_value-committing : (g : Ground) (place : Place) (log : Log) (es : List Entry) (k : ℕ) → log.lo ≡ COMMITTING_LO → log.hi ≡ COMMITTING_HI → log.entries ≡ Some es → All (IsOwn g) es
+pub new_value-committing : (g : Scope) (place : Place) (log : Log) (es : List Entry) (k : ℕ) → log.lo ≡ COMMITTING_LO → log.hi ≡ COMMITTING_HI → log.entries ≡ Some es → All (IsInScope g) es
     → new_value place log k ≡ pending place es k
 new_value-committing g place log es k lo hi entries own =
     new_value-of place log es k entries
@@ -117,8 +117,8 @@ new_value-committing g place log es k lo hi entries own =
     ∙ sym (or_none (pending place es k))
 
 -- over what its own words hold an image settles to what they ask for
-pub SettlesTo-committing : (g : Ground) (log : OpenLog) (es : List Entry) (was image : Image) → All (IsOwn g) es → log_of image log.gate_at ≡ saying (committing log) es
-    → ((k : ℕ) → g.mine k ≡ true → image k ≡ was k) → SettlesTo g log.gate_at (overwritten (pending g.place es) was) image
+pub SettlesTo-committing : (g : Scope) (log : OpenLog) (es : List Entry) (was image : Image) → All (IsInScope g) es → log_of image log.gate_at ≡ saying (committing log) es
+    → ((k : ℕ) → g.has_word k ≡ true → image k ≡ was k) → SettlesTo g log.gate_at (overwritten (pending g.place es) was) image
 SettlesTo-committing g log es was image own says same =
     record {
       es = es;

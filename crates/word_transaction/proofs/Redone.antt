@@ -16,7 +16,7 @@ use Rattle.log_store.specs.Store.{OpenLog, saying, committing}
 use Rattle.log_replay.specs.declared.Target.TheVariants.{Puddles}
 use Rattle.log_replay.specs.Replaying.{place_of, IsReplayable, HasDurableLog, IsSettling, SettlesLog}
 use Rattle.log_replay.proofs.Places.{places_same}
-use Rattle.word_transaction.specs.Ground.{Ground, IsGround, committing_range, pending}
+use Rattle.word_transaction.specs.Scope.{Scope, IsScope, committing_range, pending}
 use Rattle.word_transaction.specs.Running.{IsRunning, ByCommit, Ends, HasPlaces, HasOneTable, CanRedo}
 use Rattle.word_transaction.proofs.Saved.{pending_is_mine}
 use Rattle.word_transaction.proofs.Growing.{redone-places}
@@ -26,7 +26,7 @@ use Rattle.word_transaction.proofs.Settled.{Gives, replayable, durable_log, Shut
 
 -- ---- the puddle table, while the gate changes
 
-module _ (F : ℕ) (g : Ground) (log : OpenLog) (a c : State) (changes : Changes (ByCommit log) None a c) (can : CanRedo g F log.gate_at a.now.words) where
+module _ (F : ℕ) (g : Scope) (log : OpenLog) (a c : State) (changes : Changes (ByCommit log) None a c) (can : CanRedo g F log.gate_at a.now.words) where
   table_still : (k : ℕ) → IsWithin PUDDLE_TABLE (tables_end F) k → HasOnly (c.now.words k) (reads a.now.words k)
   table_still k within =
       HasOnly-kept (ByCommit log) None a c k (reads a.now.words k) changes
@@ -42,7 +42,7 @@ module _ (F : ℕ) (g : Ground) (log : OpenLog) (a c : State) (changes : Changes
 
 -- ---- the replay
 
-module _ (size : ℕ) (log : OpenLog) (es : List Entry) (g : Ground) (before : Image) (a : State) (ground : IsGround size log.gate_at g) (r : IsRunning g log es before a.now.words) where
+module _ (size : ℕ) (log : OpenLog) (es : List Entry) (g : Scope) (before : Image) (a : State) (ground : IsScope size log.gate_at g) (r : IsRunning g log es before a.now.words) where
   abbrev write : ℕ → Option ℕ
   write = pending g.place es
 
@@ -56,7 +56,7 @@ module _ (size : ℕ) (log : OpenLog) (es : List Entry) (g : Ground) (before : I
         opened = moved_open size log es g before a ground r b c m;
         own = r.own;
         given = λ place same k. new_value-committing g place (saying (committing log) es) es k refl refl refl r.own ∙ redone-places g.place place committing_range es k same;
-        mine = λ k v is. pending_is_mine size log.gate_at g es k v ground r.own is;
+        has_word = λ k v is. pending_is_mine size log.gate_at g es k v ground r.own is;
         saves = λ k v is. sym (overwritten-there write (reads a.now.words) k v is);
         single = λ k mine none.
             subst (λ (v : ℕ). HasOnly (c.now.words k) v) (sym (overwritten-stays write (reads a.now.words) k none)) (moved_single size log es g before a ground r b c m k mine);

@@ -13,7 +13,7 @@ use Rattle.pud_defs.specs.Entries.{Entry, Log, words_from}
 use Rattle.pud_defs.specs.Replay.{Place, is_in_range, value_from, value_in, given_by, undone, redone, new_value}
 use Rattle.pud_defs.proofs.Replay.{undone-first, undone-none, undone-append, redone-first, redone-none, given_by-out, given_by-other, new_value-of, or_none}
 use Rattle.log_store.specs.Store.{undo_entry}
-use Rattle.word_transaction.specs.Ground.{Ground, IsGround, IsOwn, redo_entry, running_range, committing_range, saved, pending}
+use Rattle.word_transaction.specs.Scope.{Scope, IsScope, IsInScope, redo_entry, running_range, committing_range, saved, pending}
 use Rattle.word_transaction.specs.Running.{IsOneOf}
 
 pub some_not_none : (o : Option ℕ) (v : ℕ) → o ≡ Some v → o ≡ None → ⊥
@@ -34,20 +34,20 @@ behind_range : (lo hi seq : ℕ) → hi ≤ seq → (ltb lo seq && ltb seq hi) �
 behind_range lo hi seq behind = grind (arith, nat_tests)
 
 -- a running log gives nothing by the redo entries of a transaction
-given_by-redo : (g : Ground) (place : Place) (log : Log) (e : Entry) (k : ℕ) → log.hi ≡ RUNNING_HI → IsOwn g e → given_by place log REDO_ORDER e k ≡ None
+given_by-redo : (g : Scope) (place : Place) (log : Log) (e : Entry) (k : ℕ) → log.hi ≡ RUNNING_HI → IsInScope g e → given_by place log REDO_ORDER e k ≡ None
 given_by-redo g place log e k hi own = elim own.kind [
   | inl undo ↦ given_by-other place log REDO_ORDER e k (λ order. let is = undo.order in absurd (omega arith))
   | inr redo ↦ given_by-out place log REDO_ORDER e k (let is = redo.seq in behind_range log.lo log.hi e.seq (omega arith))
 ]
 
-redone-running : (g : Ground) (place : Place) (log : Log) (es : List Entry) (k : ℕ) → log.hi ≡ RUNNING_HI → All (IsOwn g) es → redone place log es k ≡ None
+redone-running : (g : Scope) (place : Place) (log : Log) (es : List Entry) (k : ℕ) → log.hi ≡ RUNNING_HI → All (IsInScope g) es → redone place log es k ≡ None
 redone-running g place log [] k hi own = redone-none place log k
 redone-running g place log (e ∷ es) k hi own =
     redone-first place log e es k
-    ∙ ap₂ option_or (redone-running g place log es k hi (All-tail (IsOwn g) e es own)) (given_by-redo g place log e k hi (All-head (IsOwn g) e es own))
+    ∙ ap₂ option_or (redone-running g place log es k hi (All-tail (IsInScope g) e es own)) (given_by-redo g place log e k hi (All-head (IsInScope g) e es own))
 
 -- it gives what is saved
-pub new_value-running : (g : Ground) (place : Place) (log : Log) (es : List Entry) (k : ℕ) → log.lo ≡ RUNNING_LO → log.hi ≡ RUNNING_HI → log.entries ≡ Some es → All (IsOwn g) es
+pub new_value-running : (g : Scope) (place : Place) (log : Log) (es : List Entry) (k : ℕ) → log.lo ≡ RUNNING_LO → log.hi ≡ RUNNING_HI → log.entries ≡ Some es → All (IsInScope g) es
     → new_value place log k ≡ saved place es k
 new_value-running g place log es k lo hi entries own =
     new_value-of place log es k entries ∙ ap₂ option_or (redone-running g place log es k hi own) (undone-range place log running_range es k lo hi)
@@ -62,7 +62,7 @@ value_of_given place log order e k v is = elim (cases_Bool (is_in_range log e &&
 ]
 
 -- a word that an entry of the transaction names is one of its own
-named_is_mine : (size at : ℕ) (g : Ground) (e : Entry) (k v : ℕ) → IsGround size at g → IsOwn g e → value_in g.place e k ≡ Some v → g.mine k ≡ true
+named_is_mine : (size at : ℕ) (g : Scope) (e : Entry) (k v : ℕ) → IsScope size at g → IsInScope g e → value_in g.place e k ≡ Some v → g.has_word k ≡ true
 named_is_mine size at g e k v ground own is =
     let spans = ground.named e.address (length e.vals) own.may in
     let within = placed_within spans.first k v e.vals (sym (ap (λ (o : Option ℕ). value_from o e.vals k) spans.placed) ∙ is) in
@@ -74,27 +74,27 @@ either_some None b v is = inr (refl, is)
 either_some (Some x) b v is = inl is
 
 -- a word to which a log gives a value by undo entries is one of the transaction's own
-pub undone_is_mine : (size at : ℕ) (g : Ground) (log : Log) (es : List Entry) (k v : ℕ) → IsGround size at g → All (IsOwn g) es → undone g.place log es k ≡ Some v → g.mine k ≡ true
+pub undone_is_mine : (size at : ℕ) (g : Scope) (log : Log) (es : List Entry) (k v : ℕ) → IsScope size at g → All (IsInScope g) es → undone g.place log es k ≡ Some v → g.has_word k ≡ true
 undone_is_mine size at g log [] k v ground own is = absurd (some_not_none _ v is (undone-none g.place log k))
 undone_is_mine size at g log (e ∷ es) k v ground own is =
     elim (either_some (given_by g.place log UNDO_ORDER e k) (undone g.place log es k) v (sym (undone-first g.place log e es k) ∙ is)) [
-      | inl first ↦ named_is_mine size at g e k v ground (All-head (IsOwn g) e es own) (value_of_given g.place log UNDO_ORDER e k v first)
-      | inr later ↦ undone_is_mine size at g log es k v ground (All-tail (IsOwn g) e es own) later.1
+      | inl first ↦ named_is_mine size at g e k v ground (All-head (IsInScope g) e es own) (value_of_given g.place log UNDO_ORDER e k v first)
+      | inr later ↦ undone_is_mine size at g log es k v ground (All-tail (IsInScope g) e es own) later.1
     ]
 
 -- or by redo entries
-pub redone_is_mine : (size at : ℕ) (g : Ground) (log : Log) (es : List Entry) (k v : ℕ) → IsGround size at g → All (IsOwn g) es → redone g.place log es k ≡ Some v → g.mine k ≡ true
+pub redone_is_mine : (size at : ℕ) (g : Scope) (log : Log) (es : List Entry) (k v : ℕ) → IsScope size at g → All (IsInScope g) es → redone g.place log es k ≡ Some v → g.has_word k ≡ true
 redone_is_mine size at g log [] k v ground own is = absurd (some_not_none _ v is (redone-none g.place log k))
 redone_is_mine size at g log (e ∷ es) k v ground own is =
     elim (either_some (redone g.place log es k) (given_by g.place log REDO_ORDER e k) v (sym (redone-first g.place log e es k) ∙ is)) [
-      | inl later ↦ redone_is_mine size at g log es k v ground (All-tail (IsOwn g) e es own) later
-      | inr here ↦ named_is_mine size at g e k v ground (All-head (IsOwn g) e es own) (value_of_given g.place log REDO_ORDER e k v here.1)
+      | inl later ↦ redone_is_mine size at g log es k v ground (All-tail (IsInScope g) e es own) later
+      | inr here ↦ named_is_mine size at g e k v ground (All-head (IsInScope g) e es own) (value_of_given g.place log REDO_ORDER e k v here.1)
     ]
 
-pub saved_is_mine : (size at : ℕ) (g : Ground) (es : List Entry) (k v : ℕ) → IsGround size at g → All (IsOwn g) es → saved g.place es k ≡ Some v → g.mine k ≡ true
+pub saved_is_mine : (size at : ℕ) (g : Scope) (es : List Entry) (k v : ℕ) → IsScope size at g → All (IsInScope g) es → saved g.place es k ≡ Some v → g.has_word k ≡ true
 saved_is_mine size at g es k v ground own is = undone_is_mine size at g running_range es k v ground own is
 
-pub pending_is_mine : (size at : ℕ) (g : Ground) (es : List Entry) (k v : ℕ) → IsGround size at g → All (IsOwn g) es → pending g.place es k ≡ Some v → g.mine k ≡ true
+pub pending_is_mine : (size at : ℕ) (g : Scope) (es : List Entry) (k v : ℕ) → IsScope size at g → All (IsInScope g) es → pending g.place es k ≡ Some v → g.has_word k ≡ true
 pending_is_mine size at g es k v ground own is = redone_is_mine size at g committing_range es k v ground own is
 
 -- ---- behind others

@@ -19,7 +19,7 @@ use Rattle.log_store.specs.Store.{OpenLog, undo_entry, with_entries, saying, InL
 use Rattle.log_store.specs.declared.AppendFault.{AppendFault}
 use Rattle.log_store.specs.declared.AppendFault.TheVariants.{Host, TooBig}
 use Rattle.log_store.proofs.Open.{IsOpen-log}
-use Rattle.word_transaction.specs.Ground.{Ground, IsGround, IsUndo, IsOwn, redo_entry, running_range, saved}
+use Rattle.word_transaction.specs.Scope.{Scope, IsScope, IsUndo, IsInScope, redo_entry, running_range, saved}
 use Rattle.word_transaction.specs.Running.{IsRunning, MayAppend, nothing, SettlesTo, ByTransaction, Runs}
 use Rattle.word_transaction.proofs.Saved.{some_not_none, either_some, value_of_given, saved_is_mine, saved-append, saved-none_first, saved-redo, placed_words}
 use Rattle.word_transaction.proofs.Images.{SettlesTo-running}
@@ -27,19 +27,19 @@ use Rattle.word_transaction.proofs.Calls.{some_fault, marked_still}
 
 -- ---- entries that may be appended
 
-module _ (size : ℕ) (g : Ground) (log : OpenLog) (es : List Entry) (before : Image) (count : ℕ) (more : List Entry) (s : State)
-    (ground : IsGround size log.gate_at g) (r : IsRunning g log es before s.now.words) (may : MayAppend g es before more) where
+module _ (size : ℕ) (g : Scope) (log : OpenLog) (es : List Entry) (before : Image) (count : ℕ) (more : List Entry) (s : State)
+    (ground : IsScope size log.gate_at g) (r : IsRunning g log es before s.now.words) (may : MayAppend g es before more) where
   abbrev longer_log : OpenLog
   longer_log = with_entries count more log
 
-  own_more : All (IsOwn g) (es ++ more)
-  own_more = All-append (IsOwn g) es more r.own may.own
+  own_more : All (IsInScope g) (es ++ more)
+  own_more = All-append (IsInScope g) es more r.own may.own
 
   -- with the log as it was, and with the entries last
   moment : (image : Image) → HasGrown s.now.words log.gate_at more image → SettlesTo g log.gate_at before image
   moment image grown =
       let was : log_of grown.before log.gate_at ≡ saying log es = IsOpen-log log es s.now.words grown.before r.opened grown.picked in
-      let same : (k : ℕ) → g.mine k ≡ true → saved g.place es k ≡ None → image k ≡ before k = λ k mine none.
+      let same : (k : ℕ) → g.has_word k ≡ true → saved g.place es k ≡ None → image k ≡ before k = λ k mine none.
       grown.outside k (not_inside log.gate_at k (ground.apart k mine)) ∙ (r.single k mine none).each (grown.before k) (grown.picked.each k) in
       elim grown.log [
         | inl still ↦ SettlesTo-running g log es before image r.lo r.hi r.own (still ∙ was) (λ k v mine is. r.saves k v is) same
@@ -47,7 +47,7 @@ module _ (size : ℕ) (g : Ground) (log : OpenLog) (es : List Entry) (before : I
             (λ k v mine is. may.saves k v is) (λ k mine none. same k mine (saved-none_first g.place es more k none))
       ]
 
-  outside : (k : ℕ) → g.mine k ≡ true → (v : ℕ) → InLog log.gate_at k v → ⊥
+  outside : (k : ℕ) → g.has_word k ≡ true → (v : ℕ) → InLog log.gate_at k v → ⊥
   outside k mine v inside = not_inside log.gate_at k (ground.apart k mine) inside
 
   running : (t : State) → Changes (InLog log.gate_at) None s t → IsOpen longer_log (es ++ more) t.now.words → IsRunning g longer_log (es ++ more) before t.now.words
@@ -89,8 +89,8 @@ module _ (size : ℕ) (g : Ground) (log : OpenLog) (es : List Entry) (before : I
         now = λ _ k out. (changes.keeps (λ cut. cc) k (λ v inside. not_inside log.gate_at k out inside)).newest;
       }
 
-pub Runs-append : (size : ℕ) (g : Ground) (log : OpenLog) (es : List Entry) (before : Image) (count : ℕ) (more : List Entry) (result : Result (Unit {0}) AppendFault) (s t : State)
-    → IsGround size log.gate_at g → IsRunning g log es before s.now.words → MayAppend g es before more → (result ≡ Err TooBig → ⊥)
+pub Runs-append : (size : ℕ) (g : Scope) (log : OpenLog) (es : List Entry) (before : Image) (count : ℕ) (more : List Entry) (result : Result (Unit {0}) AppendFault) (s t : State)
+    → IsScope size log.gate_at g → IsRunning g log es before s.now.words → MayAppend g es before more → (result ≡ Err TooBig → ⊥)
     → Changes (InLog log.gate_at) (append_fault result) s t → Appends log es count more result s t → Runs g (with_entries count more log) (es ++ more) before nothing (append_fault result) s t
 Runs-append size g log es before count more (Ok tt) s t ground r may room changes a = Runs-appended size g log es before count more s ground r may t changes a
 Runs-append size g log es before count more (Err TooBig) s t ground r may room changes a = absurd (room refl)
@@ -99,36 +99,36 @@ Runs-append size g log es before count more (Err (Host fault)) s t ground r may 
 -- ---- what words hold
 
 -- an undo entry of what own words hold in this image, from that of its address on
-pub record IsRead (g : Ground) (image : Image) (e : Entry) : Type 0 where
+pub record IsRead (g : Scope) (image : Image) (e : Entry) : Type 0 where
   pub undo : IsUndo e
-  pub may : g.may e.address (length e.vals) ≡ true
+  pub may : g.may_name e.address (length e.vals) ≡ true
   pub first : ℕ
   pub place : g.place e.address ≡ Some first
   pub vals : e.vals ≡ words_from image first (length e.vals)
 
-pub IsRead-held : (g : Ground) (image : Image) (address first count : ℕ) (vals : List ℕ) → g.may address count ≡ true → g.place address ≡ Some first → vals ≡ words_from image first count
+pub IsRead-held : (g : Scope) (image : Image) (address first count : ℕ) (vals : List ℕ) → g.may_name address count ≡ true → g.place address ≡ Some first → vals ≡ words_from image first count
     → IsRead g image (undo_entry address vals)
 IsRead-held g image address first count vals may place are =
     let size : length vals ≡ count = ap length are ∙ words_from-length image first count in
     record {
       undo = record { seq = refl; order = refl };
-      may = ap (g.may address) size ∙ may;
+      may = ap (g.may_name address) size ∙ may;
       first = first;
       place = place;
       vals = are ∙ ap (words_from image first) (sym size);
     }
 
 -- of one word
-pub IsRead-word : (g : Ground) (image : Image) (address first v : ℕ) → g.may address 1 ≡ true → g.place address ≡ Some first → v ≡ image first → IsRead g image (undo_entry address (v ∷ []))
+pub IsRead-word : (g : Scope) (image : Image) (address first v : ℕ) → g.may_name address 1 ≡ true → g.place address ≡ Some first → v ≡ image first → IsRead g image (undo_entry address (v ∷ []))
 IsRead-word g image address first v may place is =
     IsRead-held g image address first 1 (v ∷ []) may place
     (ap₂ (λ (x : ℕ) (xs : List ℕ). x ∷ xs) is (sym (words_from-none image (first + 1) 0 refl)) ∙ sym (words_from-step image first 1 0 refl))
 
-IsRead-own : (g : Ground) (image : Image) (e : Entry) → IsRead g image e → IsOwn g e
+IsRead-own : (g : Scope) (image : Image) (e : Entry) → IsRead g image e → IsInScope g e
 IsRead-own g image e read = record { may = read.may; kind = inl read.undo }
 
 -- what they save has its value of the image
-saved-read : (g : Ground) (image : Image) (more : List Entry) (k v : ℕ) → All (IsRead g image) more → saved g.place more k ≡ Some v → v ≡ image k
+saved-read : (g : Scope) (image : Image) (more : List Entry) (k v : ℕ) → All (IsRead g image) more → saved g.place more k ≡ Some v → v ≡ image k
 saved-read g image [] k v read is = absurd (some_not_none _ v is (undone-none g.place running_range k))
 saved-read g image (e ∷ more) k v read is =
     elim (either_some (given_by g.place running_range UNDO_ORDER e k) (saved g.place more k) v (sym (undone-first g.place running_range e more k) ∙ is)) [
@@ -140,16 +140,16 @@ saved-read g image (e ∷ more) k v read is =
     ]
 
 -- a word that is saved only now has its value from the beginning
-pub MayAppend-read : (size : ℕ) (g : Ground) (log : OpenLog) (es more : List Entry) (before : Image) (words : Words) → IsGround size log.gate_at g → IsRunning g log es before words
+pub MayAppend-read : (size : ℕ) (g : Scope) (log : OpenLog) (es more : List Entry) (before : Image) (words : Words) → IsScope size log.gate_at g → IsRunning g log es before words
     → All (IsRead g (reads words)) more → MayAppend g es before more
 MayAppend-read size g log es more before words ground r read =
-    let own : All (IsOwn g) more = λ n d below. IsRead-own g (reads words) _ (read n d below) in
+    let own : All (IsInScope g) more = λ n d below. IsRead-own g (reads words) _ (read n d below) in
     record {
       own = own;
       saves = λ k v is. elim (either_some (saved g.place es k) (saved g.place more k) v (sym (saved-append g.place es more k) ∙ is)) [
         | inl first_time ↦ r.saves k v first_time
         | inr here ↦
-            let mine = saved_is_mine size log.gate_at g (es ++ more) k v ground (All-append (IsOwn g) es more r.own own) is in
+            let mine = saved_is_mine size log.gate_at g (es ++ more) k v ground (All-append (IsInScope g) es more r.own own) is in
             saved-read g (reads words) more k v read here.1 ∙ (r.single k mine here.0).each (reads words k) (inl refl)
       ];
     }
@@ -157,11 +157,11 @@ MayAppend-read size g log es more before words ground r read =
 -- ---- what is asked for
 
 -- nothing more is saved by it
-pub MayAppend-redo : (g : Ground) (log : OpenLog) (es : List Entry) (before : Image) (address : ℕ) (vals : List ℕ) (words : Words) → g.may address (length vals) ≡ true
+pub MayAppend-redo : (g : Scope) (log : OpenLog) (es : List Entry) (before : Image) (address : ℕ) (vals : List ℕ) (words : Words) → g.may_name address (length vals) ≡ true
     → IsRunning g log es before words → MayAppend g es before (redo_entry address vals ∷ [])
 MayAppend-redo g log es before address vals words may r =
     record {
-      own = All-cons (IsOwn g) (redo_entry address vals) [] (record { may = may; kind = inr (record { seq = refl; order = refl }) }) (All-nil (IsOwn g));
+      own = All-cons (IsInScope g) (redo_entry address vals) [] (record { may = may; kind = inr (record { seq = refl; order = refl }) }) (All-nil (IsInScope g));
       saves = λ k v is. r.saves k v
           (or_none (saved g.place es k) ∙ ap (option_or (saved g.place es k)) (sym (saved-redo g.place address k vals)) ∙ sym (saved-append g.place es (redo_entry address vals ∷ []) k) ∙ is);
     }

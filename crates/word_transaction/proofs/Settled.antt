@@ -21,20 +21,20 @@ use Rattle.log_store.proofs.Open.{IsOpen-fits, IsOpen-log_by, used_is}
 use Rattle.log_replay.specs.declared.Target.TheVariants.{Puddles}
 use Rattle.log_replay.specs.Replaying.{place_of, NamesApart, IsReplayable, HasDurableLog, new_values, ByLog, IsSettling, SettlesLog}
 use Rattle.log_replay.proofs.Whole.{new_values-apart, new_values_picked}
-use Rattle.word_transaction.specs.Ground.{Ground, IsGround, IsOwn}
+use Rattle.word_transaction.specs.Scope.{Scope, IsScope, IsInScope}
 use Rattle.word_transaction.specs.Running.{SettlesTo, ByTransaction, Closes, HasPlaces, HasOneTable}
 use Rattle.word_transaction.proofs.Images.{SettlesTo-given, SettlesTo-idle}
 use Rattle.word_transaction.proofs.Committed.{mine_apart, IsShut, Shuts}
 
 -- The log is open. It gives these words their values, which are the transaction's own, wherever places agree on what its entries name; and each own word
 -- that it gives none has its one value.
-pub record Gives (g : Ground) (log : OpenLog) (es : List Entry) (write : Write) (values : Image) (words : Words) : Type 0 where
+pub record Gives (g : Scope) (log : OpenLog) (es : List Entry) (write : Write) (values : Image) (words : Words) : Type 0 where
   pub opened : IsOpen log es words
-  pub own : All (IsOwn g) es
+  pub own : All (IsInScope g) es
   pub given : (place : Place) → All (λ e. place e.address ≡ g.place e.address) es → (k : ℕ) → new_value place (saying log es) k ≡ write k
-  pub mine : (k v : ℕ) → write k ≡ Some v → g.mine k ≡ true
+  pub has_word : (k v : ℕ) → write k ≡ Some v → g.has_word k ≡ true
   pub saves : (k v : ℕ) → write k ≡ Some v → v ≡ values k
-  pub single : (k : ℕ) → g.mine k ≡ true → write k ≡ None → HasOnly (words k) (values k)
+  pub single : (k : ℕ) → g.has_word k ≡ true → write k ≡ None → HasOnly (words k) (values k)
 
 -- ---- what the replay needs
 
@@ -63,7 +63,7 @@ durable_by (Some v) c b saves some none = subst (λ (x : ℕ). HasOnly c x) (sav
 
 -- ---- replayed and closed
 
-module _ (size F : ℕ) (g : Ground) (log : OpenLog) (es : List Entry) (write : Write) (values : Image) (a : State) (ground : IsGround size log.gate_at g) (r : Gives g log es write values a.now.words)
+module _ (size F : ℕ) (g : Scope) (log : OpenLog) (es : List Entry) (write : Write) (values : Image) (a : State) (ground : IsScope size log.gate_at g) (r : Gives g log es write values a.now.words)
     (places : HasPlaces g (puddle_word (tables_of F (reads a.now.words)))) (table : HasOneTable F a.now.words) where
   abbrev place : Place
   place = puddle_word (tables_of F (reads a.now.words))
@@ -71,7 +71,7 @@ module _ (size F : ℕ) (g : Ground) (log : OpenLog) (es : List Entry) (write : 
   abbrev given_now : Write
   given_now = new_values (Puddles F) log.gate_at (reads a.now.words)
 
-  names_apart : (e : Entry) → IsOwn g e → NamesApart place size log.gate_at e
+  names_apart : (e : Entry) → IsInScope g e → NamesApart place size log.gate_at e
   names_apart e own =
       let s = ground.named e.address (length e.vals) own.may in
       record {
@@ -111,7 +111,7 @@ module _ (size F : ℕ) (g : Ground) (log : OpenLog) (es : List Entry) (write : 
     gives_before k = ap (λ (w : ℕ → Option ℕ). w k) (new_values_picked (Puddles F) log.gate_at a.now.words p.before durable_log p.picked) ∙ gives k
 
     -- a word that is given none is as it was
-    not_given : (k : ℕ) → g.mine k ≡ true → write k ≡ None → image k ≡ values k
+    not_given : (k : ℕ) → g.has_word k ≡ true → write k ≡ None → image k ≡ values k
     not_given k mine none = p.closing.stays k (mine_apart size log.gate_at g k ground mine) (gives_before k ∙ none) ∙ (r.single k mine none).each (p.before k) (p.picked.each k)
 
     -- with its gate as it was the log says what it said
@@ -144,7 +144,7 @@ module _ (size F : ℕ) (g : Ground) (log : OpenLog) (es : List Entry) (write : 
       record {
         changes = Changes-wider (ByLog log.gate_at given_now) (ByTransaction g log.gate_at) fault a b (λ k v by. elim by [
           | inl here ↦ inl (record { low = omega arith; high = omega arith })
-          | inr named ↦ inr (r.mine k named.value (sym (gives k) ∙ named.is))
+          | inr named ↦ inr (r.has_word k named.value (sym (gives k) ∙ named.is))
         ]) s.changes;
         moments = Leaves-weaker (Silently (IsSettling (Puddles F) log.gate_at a.now.words)) (Silently (SettlesTo g log.gate_at values)) a b (λ bytes image p. (p.0, settles image p.1)) moments;
         durable = λ none k mine. durable_by (write k) (b.now.words k) (values k) (r.saves k)

@@ -12,7 +12,7 @@ use Rattle.pud_defs.proofs.Entries.{words_from-none, entries_in-nothing}
 use Rattle.pud_defs.proofs.Replay.{undone-none}
 use Rattle.log_store.specs.Store.{OpenLog, saying}
 use Rattle.log_store.proofs.Open.{IsOpen-words}
-use Rattle.word_transaction.specs.Ground.{Ground, IsGround, running_range, saved}
+use Rattle.word_transaction.specs.Scope.{Scope, IsScope, running_range, saved}
 use Rattle.word_transaction.specs.Running.{IsRunning, Closes}
 use Rattle.word_transaction.proofs.Saved.{new_value-running, saved_is_mine}
 use Rattle.word_transaction.proofs.Images.{IsRunning-settles}
@@ -24,7 +24,7 @@ no_words : (es : List Entry) (image : Image) (at used : ℕ) → used ≡ 0 → 
 no_words es image at used none is = let it : Some [] ≡ Some es = sym (entries_in-nothing (words_from image at used) (words_from-none image at used none)) ∙ is in cc
 
 -- a log without an entry is closed
-pub Closes-empty : (size : ℕ) (log : OpenLog) (es : List Entry) (g : Ground) (before : Image) (fault : Option HostFault) (a b : State) → IsGround size log.gate_at g
+pub Closes-empty : (size : ℕ) (log : OpenLog) (es : List Entry) (g : Scope) (before : Image) (fault : Option HostFault) (a b : State) → IsScope size log.gate_at g
     → IsRunning g log es before a.now.words → log.used ≡ 0 → Persists (only log.gate_at CLOSED_GATE) fault a b → Closes g log.gate_at before fault a b
 Closes-empty size log es g before fault a b ground r none p =
     let empty = no_words es (reads a.now.words) (log.gate_at + LOG_HEADER_WORDS) log.used none (IsOpen-words log es a.now.words r.opened) in
@@ -32,14 +32,14 @@ Closes-empty size log es g before fault a b ground r none p =
     (λ k mine. r.single k mine (ap (λ (fs : List Entry). saved g.place fs k) empty ∙ undone-none g.place running_range k)) p
 
 -- a running log gives what is saved
-pub Gives-running : (size : ℕ) (g : Ground) (log : OpenLog) (es : List Entry) (before : Image) (words : Words) → IsGround size log.gate_at g → IsRunning g log es before words
+pub Gives-running : (size : ℕ) (g : Scope) (log : OpenLog) (es : List Entry) (before : Image) (words : Words) → IsScope size log.gate_at g → IsRunning g log es before words
     → Gives g log es (saved g.place es) before words
 Gives-running size g log es before words ground r =
     record {
       opened = r.opened;
       own = r.own;
       given = λ place same k. new_value-running g place (saying log es) es k r.lo r.hi refl r.own ∙ undone-places g.place place running_range es k same;
-      mine = λ k v is. saved_is_mine size log.gate_at g es k v ground r.own is;
+      has_word = λ k v is. saved_is_mine size log.gate_at g es k v ground r.own is;
       saves = r.saves;
       single = r.single;
     }

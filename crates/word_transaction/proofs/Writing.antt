@@ -12,7 +12,7 @@ use Rattle.pud_defs.specs.Replay.{overwritten, IsInLog}
 use Rattle.pud_defs.proofs.Replay.{overwritten-stays, overwritten-there, not_inside}
 use Rattle.log_store.specs.Store.{OpenLog}
 use Rattle.log_store.proofs.Open.{IsOpen-fits, IsOpen-kept, IsOpen-log_by}
-use Rattle.word_transaction.specs.Ground.{Ground, IsGround}
+use Rattle.word_transaction.specs.Scope.{Scope, IsScope}
 use Rattle.word_transaction.specs.Running.{IsRunning, IsCovered, SettlesTo, ByTransaction, Runs}
 use Rattle.word_transaction.proofs.Saved.{some_not_none}
 use Rattle.word_transaction.proofs.Images.{SettlesTo-running}
@@ -20,11 +20,11 @@ use Rattle.word_transaction.proofs.Calls.{not_cut, marked_still}
 
 -- ---- words that are covered are written
 
-module _ (size : ℕ) (g : Ground) (log : OpenLog) (es : List Entry) (before : Image) (write : Write) (fault : Option HostFault) (s t : State)
-    (ground : IsGround size log.gate_at g) (r : IsRunning g log es before s.now.words) (covered : IsCovered g es write) (w : Writes write fault s t) where
+module _ (size : ℕ) (g : Scope) (log : OpenLog) (es : List Entry) (before : Image) (write : Write) (fault : Option HostFault) (s t : State)
+    (ground : IsScope size log.gate_at g) (r : IsRunning g log es before s.now.words) (covered : IsCovered g es write) (w : Writes write fault s t) where
   -- none is of the log
   beside_log : (k v : ℕ) → IsInLog log.gate_at k → written write k v → ⊥
-  beside_log k v inside may = not_inside log.gate_at k (ground.apart k (covered.mine k v may)) inside
+  beside_log k v inside may = not_inside log.gate_at k (ground.apart k (covered.has_word k v may)) inside
 
   none_comes : (k : ℕ) → write k ≡ None → (v : ℕ) → written write k v → ⊥
   none_comes k none v may = some_not_none (write k) v may none
@@ -41,7 +41,7 @@ module _ (size : ℕ) (g : Ground) (log : OpenLog) (es : List Entry) (before : I
       (λ k mine none. (let it : image k ≡ was k = elim (from.each k) [ inl same ↦ same | inr new ↦ absurd (covered.kept k (image k) new none) ] in it)
       ∙ (r.single k mine none).each (was k) (picked.each k))
 
-  marked_by : fault ≡ None → (k : ℕ) → g.mine k ≡ true → (o : Option ℕ) → write k ≡ o → ((t.now.words k).kept ≡ []) ⊎ HasOnly (t.now.words k) (t.now.words k).newest
+  marked_by : fault ≡ None → (k : ℕ) → g.has_word k ≡ true → (o : Option ℕ) → write k ≡ o → ((t.now.words k).kept ≡ []) ⊎ HasOnly (t.now.words k) (t.now.words k).newest
   marked_by none k mine (Some v) is = inl (w.marked none k v is)
   marked_by none k mine None is = marked_still (written write) fault s t k w.changes (none_comes k is) (r.marked k mine)
 
@@ -64,7 +64,7 @@ module _ (size : ℕ) (g : Ground) (log : OpenLog) (es : List Entry) (before : I
   pub Runs-written : Runs g log es before write fault s t
   Runs-written =
       record {
-        changes = Changes-wider (written write) (ByTransaction g log.gate_at) fault s t (λ k v may. inr (covered.mine k v may)) w.changes;
+        changes = Changes-wider (written write) (ByTransaction g log.gate_at) fault s t (λ k v may. inr (covered.has_word k v may)) w.changes;
         moments = Leaves-changes (SettlesTo g log.gate_at before) (written write) fault s t moment w.changes;
         running = running;
         now = λ none k out. now_by none k (write k) refl;

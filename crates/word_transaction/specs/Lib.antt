@@ -1,3 +1,3 @@
-pub mod Ground
+pub mod Scope
 pub mod Coverage
 pub mod Running

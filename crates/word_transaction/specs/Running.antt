@@ -14,35 +14,35 @@ use Rattle.pud_defs.specs.Spaces.{is_closed_log}
 use Rattle.pud_defs.specs.Tables.{tables_of}
 use Rattle.pud_defs.specs.Allowed.{puddle_word}
 use Rattle.log_store.specs.Store.{OpenLog, IsOpen}
-use Rattle.word_transaction.specs.Ground.{Ground, IsOwn, saved, asked}
+use Rattle.word_transaction.specs.Scope.{Scope, IsInScope, saved, asked}
 
 -- ---- what is known between calls
 
 -- The transaction is open: its log runs, with these entries, each of which it may write; a word that is saved is so with its value from the
 -- beginning, and one of its own that is not has that value alone; a fence makes each of its own words durable.
-pub record IsRunning (g : Ground) (log : OpenLog) (es : List Entry) (before : Image) (words : Words) : Type 0 where
+pub record IsRunning (g : Scope) (log : OpenLog) (es : List Entry) (before : Image) (words : Words) : Type 0 where
   pub opened : IsOpen log es words
   pub lo : log.lo ≡ RUNNING_LO
   pub hi : log.hi ≡ RUNNING_HI
-  pub own : All (IsOwn g) es
+  pub own : All (IsInScope g) es
   pub saves : (k v : ℕ) → saved g.place es k ≡ Some v → v ≡ before k
-  pub single : (k : ℕ) → g.mine k ≡ true → saved g.place es k ≡ None → HasOnly (words k) (before k)
-  pub marked : (k : ℕ) → g.mine k ≡ true → ((words k).kept ≡ []) ⊎ HasOnly (words k) (words k).newest
+  pub single : (k : ℕ) → g.has_word k ≡ true → saved g.place es k ≡ None → HasOnly (words k) (before k)
+  pub marked : (k : ℕ) → g.has_word k ≡ true → ((words k).kept ≡ []) ⊎ HasOnly (words k) (words k).newest
 
 -- No transaction is open: the log whose gate is this word is closed in each image, and each own word has one value.
-pub record IsIdle (g : Ground) (at : ℕ) (before : Image) (words : Words) : Type 0 where
+pub record IsIdle (g : Scope) (at : ℕ) (before : Image) (words : Words) : Type 0 where
   pub closed : (image : Image) → Picks words image → is_closed_log image at ≡ true
-  pub single : (k : ℕ) → g.mine k ≡ true → HasOnly (words k) (before k)
+  pub single : (k : ℕ) → g.has_word k ≡ true → HasOnly (words k) (before k)
 
 -- The entries may be appended: they are such as the transaction may write, and with them a word that is saved is so still with its value from the
 -- beginning.
-pub record MayAppend (g : Ground) (es : List Entry) (before : Image) (more : List Entry) : Type 0 where
-  pub own : All (IsOwn g) more
+pub record MayAppend (g : Scope) (es : List Entry) (before : Image) (more : List Entry) : Type 0 where
+  pub own : All (IsInScope g) more
   pub saves : (k v : ℕ) → saved g.place (es ++ more) k ≡ Some v → v ≡ before k
 
 -- each word that is written is one of the transaction's own that is saved
-pub record IsCovered (g : Ground) (es : List Entry) (write : Write) : Type 0 where
-  pub mine : (k v : ℕ) → write k ≡ Some v → g.mine k ≡ true
+pub record IsCovered (g : Scope) (es : List Entry) (write : Write) : Type 0 where
+  pub has_word : (k v : ℕ) → write k ≡ Some v → g.has_word k ≡ true
   pub kept : (k v : ℕ) → write k ≡ Some v → saved g.place es k ≡ None → ⊥
 
 -- the word is one of so many from a word on
@@ -61,11 +61,11 @@ begun at = record { gate_at = at; lo = RUNNING_LO; hi = RUNNING_HI; used = 0; as
 
 -- With the log replayed whose gate is this word the transaction's own words have these values; the log is well formed, and its entries in range are the
 -- transaction's.
-pub record SettlesTo (g : Ground) (at : ℕ) (values image : Image) : Type 0 where
+pub record SettlesTo (g : Scope) (at : ℕ) (values image : Image) : Type 0 where
   pub es : List Entry
   pub spells : entries_of image at ≡ Some es
-  pub own : All (λ e. is_in_range (log_of image at) e ≡ true → IsOwn g e) es
-  pub settled : (k : ℕ) → g.mine k ≡ true → replayed g.place (log_of image at) image k ≡ values k
+  pub own : All (λ e. is_in_range (log_of image at) e ≡ true → IsInScope g e) es
+  pub settled : (k : ℕ) → g.has_word k ≡ true → replayed g.place (log_of image at) image k ≡ values k
 
 -- the log whose gate is this word has this range
 pub record HasRange (lo hi at : ℕ) (image : Image) : Type 0 where
@@ -73,24 +73,24 @@ pub record HasRange (lo hi at : ℕ) (image : Image) : Type 0 where
   pub hi_is : gate_hi (image at) ≡ hi
 
 -- The range of the log is that of a running one still, and the transaction's own words settle to these values.
-pub record IsUnmoved (g : Ground) (at : ℕ) (values image : Image) : Type 0 where
+pub record IsUnmoved (g : Scope) (at : ℕ) (values image : Image) : Type 0 where
   pub range : HasRange RUNNING_LO RUNNING_HI at image
   pub settles : SettlesTo g at values image
 
 -- The range of the log has moved to that of a committing one, or the log is closed, and the transaction's own words settle to these values.
-pub record IsMoved (g : Ground) (at : ℕ) (values image : Image) : Type 0 where
+pub record IsMoved (g : Scope) (at : ℕ) (values image : Image) : Type 0 where
   pub range : HasRange COMMITTING_LO COMMITTING_HI at image ⊎ (image at ≡ CLOSED_GATE)
   pub settles : SettlesTo g at values image
 
 -- Until the range moves an image settles to the values from the beginning, and from then on to the new ones: which of the two is told by its gate.
-abbrev pub SettlesByRange : Ground → (at : ℕ) → (before after image : Image) → Type 0
+abbrev pub SettlesByRange : Scope → (at : ℕ) → (before after image : Image) → Type 0
 SettlesByRange g at before after image = IsUnmoved g at before image ⊎ IsMoved g at after image
 
 -- ---- what calls do
 
 -- any value may come to the words of the log, and to the transaction's own
-abbrev pub ByTransaction : Ground → (at : ℕ) → Footprint
-ByTransaction g at k v = IsInLog at k ⊎ (g.mine k ≡ true)
+abbrev pub ByTransaction : Scope → (at : ℕ) → Footprint
+ByTransaction g at k v = IsInLog at k ⊎ (g.has_word k ≡ true)
 
 -- the gate of the log may come to say the range of a committing one, and then that of a closed one
 pub record ByCommit (log : OpenLog) (k v : ℕ) : Type 0 where
@@ -99,7 +99,7 @@ pub record ByCommit (log : OpenLog) (k v : ℕ) : Type 0 where
 
 -- A call within the transaction: each image left meanwhile settles to the values from the beginning. Without a fault the transaction is open,
 -- with this log and these entries, and what is read outside the log is as it was but for these words.
-pub record Runs (g : Ground) (log : OpenLog) (es : List Entry) (before : Image) (write : Write) (fault : Option HostFault) (old new : State) : Type 0 where
+pub record Runs (g : Scope) (log : OpenLog) (es : List Entry) (before : Image) (write : Write) (fault : Option HostFault) (old new : State) : Type 0 where
   pub changes : Changes (ByTransaction g log.gate_at) fault old new
   pub moments : Leaves (Silently (SettlesTo g log.gate_at before)) old new
   pub running : fault ≡ None → IsRunning g log es before new.now.words
@@ -107,7 +107,7 @@ pub record Runs (g : Ground) (log : OpenLog) (es : List Entry) (before : Image) 
 
 -- A call that keeps words, and writes none: whatever entries there are behind it, they ask for what was asked for, what was saved is so still, and
 -- without a fault these words are saved.
-pub record Keeps (g : Ground) (log : OpenLog) (es : List Entry) (before : Image) (which : ℕ → Type 0) (fault : Option HostFault) (old new : State) : Type 0 where
+pub record Keeps (g : Scope) (log : OpenLog) (es : List Entry) (before : Image) (which : ℕ → Type 0) (fault : Option HostFault) (old new : State) : Type 0 where
   pub entries : List Entry
   pub runs : Runs g log entries before nothing fault old new
   pub asks : asked entries ≡ asked es
@@ -115,43 +115,43 @@ pub record Keeps (g : Ground) (log : OpenLog) (es : List Entry) (before : Image)
   pub kept : fault ≡ None → (k : ℕ) → which k → saved g.place entries k ≡ None → ⊥
 
 -- A call that keeps words, and then writes these: whatever entries there are behind it, they ask for what was asked for.
-pub record Puts (g : Ground) (log : OpenLog) (es : List Entry) (before : Image) (write : Write) (fault : Option HostFault) (old new : State) : Type 0 where
+pub record Puts (g : Scope) (log : OpenLog) (es : List Entry) (before : Image) (write : Write) (fault : Option HostFault) (old new : State) : Type 0 where
   pub entries : List Entry
   pub runs : Runs g log entries before write fault old new
   pub asks : asked entries ≡ asked es
 
 -- The transaction is undone and its log closed: each image left meanwhile settles to these values. Without a fault each own word has its value
 -- and no other, and the log is closed.
-pub record Closes (g : Ground) (at : ℕ) (values : Image) (fault : Option HostFault) (old new : State) : Type 0 where
+pub record Closes (g : Scope) (at : ℕ) (values : Image) (fault : Option HostFault) (old new : State) : Type 0 where
   pub changes : Changes (ByTransaction g at) fault old new
   pub moments : Leaves (Silently (SettlesTo g at values)) old new
-  pub durable : fault ≡ None → (k : ℕ) → g.mine k ≡ true → HasOnly (new.now.words k) (values k)
+  pub durable : fault ≡ None → (k : ℕ) → g.has_word k ≡ true → HasOnly (new.now.words k) (values k)
   pub closed : fault ≡ None → HasOnly (new.now.words at) CLOSED_GATE
 
 -- At some moment from old on the log has the range of a committing one in each image, and each own word has the value that was read of it at old, and no
 -- other.
-pub record MovesRange (g : Ground) (at : ℕ) (old new : State) : Type 0 where
+pub record MovesRange (g : Scope) (at : ℕ) (old new : State) : Type 0 where
   pub added : List Moment
   pub history : new.now ∷ new.past ≡ added ++ old.now ∷ old.past
   pub moment : Moment
   pub among : (moment ≡ old.now) ⊎ Has added moment
   pub range : (image : Image) → Picks moment.words image → HasRange COMMITTING_LO COMMITTING_HI at image
-  pub durable : (k : ℕ) → g.mine k ≡ true → HasOnly (moment.words k) (reads old.now.words k)
+  pub durable : (k : ℕ) → g.has_word k ≡ true → HasOnly (moment.words k) (reads old.now.words k)
 
 -- The transaction is committed: each image left meanwhile settles to the values from the beginning until its range has moved, and to the new ones from then
 -- on. Without a fault the range moved once all that was written was durable, each own word has its new value and no other, the log is closed, and what
 -- is read of other words is as it was.
-pub record Ends (g : Ground) (at : ℕ) (before after : Image) (fault : Option HostFault) (old new : State) : Type 0 where
+pub record Ends (g : Scope) (at : ℕ) (before after : Image) (fault : Option HostFault) (old new : State) : Type 0 where
   pub changes : Changes (ByTransaction g at) fault old new
   pub moments : Leaves (Silently (SettlesByRange g at before after)) old new
   pub moves : fault ≡ None → MovesRange g at old new
-  pub durable : fault ≡ None → (k : ℕ) → g.mine k ≡ true → HasOnly (new.now.words k) (after k)
+  pub durable : fault ≡ None → (k : ℕ) → g.has_word k ≡ true → HasOnly (new.now.words k) (after k)
   pub closed : fault ≡ None → HasOnly (new.now.words at) CLOSED_GATE
-  pub stays : fault ≡ None → (k : ℕ) → is_in_log at k ≡ false → g.mine k ≡ false → reads new.now.words k ≡ reads old.now.words k
+  pub stays : fault ≡ None → (k : ℕ) → is_in_log at k ≡ false → g.has_word k ≡ false → reads new.now.words k ≡ reads old.now.words k
 
 -- What places read of an image agree with those of the transaction on all that it may name.
-pub record HasPlaces (g : Ground) (place : Place) : Type 0 where
-  pub each : (address count : ℕ) → g.may address count ≡ true → place address ≡ g.place address
+pub record HasPlaces (g : Scope) (place : Place) : Type 0 where
+  pub each : (address count : ℕ) → g.may_name address count ≡ true → place address ≡ g.place address
 
 -- each word of the puddle table of a device of so many frames has one value
 pub record HasOneTable (frames : ℕ) (words : Words) : Type 0 where
@@ -159,7 +159,7 @@ pub record HasOneTable (frames : ℕ) (words : Words) : Type 0 where
 
 -- Values that are asked for can be given: the puddle table of so many frames stands in front of the log whose gate is this word, each word of it has
 -- one value, and by it places are those of the transaction.
-pub record CanRedo (g : Ground) (frames at : ℕ) (words : Words) : Type 0 where
+pub record CanRedo (g : Scope) (frames at : ℕ) (words : Words) : Type 0 where
   pub before : tables_end frames ≤ at
   pub table : HasOneTable frames words
   pub places : HasPlaces g (puddle_word (tables_of frames (reads words)))

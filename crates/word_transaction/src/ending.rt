@@ -13,7 +13,7 @@ ghost use Rattle.pud_defs.specs.Tables.{tables_of};
 ghost use Rattle.pud_defs.specs.Allowed.{puddle_word};
 ghost use Rattle.log_store.specs.Store.{IsOpen, asks};
 ghost use Rattle.log_replay.specs.Replaying.{HasPuddleTable, Anything};
-ghost use Rattle.word_transaction.specs.Ground.{Ground, IsGround, pending};
+ghost use Rattle.word_transaction.specs.Scope.{Scope, IsScope, pending};
 ghost use Rattle.word_transaction.specs.Running.{IsRunning, ByCommit, Closes, Ends, HasPlaces, HasOneTable, CanRedo};
 
 use crate::WordTransaction;
@@ -34,7 +34,7 @@ impl WordTransaction {
     pub fn commit<H: Host>(self, h: &mut H, frames: u32) -> Result<(), HostFault>
         requires log { self.at + LOG_WORDS ≤ (H.counts h.old).size }
         requires tables { HasPuddleTable frames (H.counts h.old).size }
-        ensures ends { H.tells → (size : ℕ) → size ≡ (H.counts h.old).size → (g : Ground) (es : List Entry) (before : Image) → IsGround size self.at g
+        ensures ends { H.tells → (size : ℕ) → size ≡ (H.counts h.old).size → (g : Scope) (es : List Entry) (before : Image) → IsScope size self.at g
             → IsRunning g self es before (H.state h.old).now.words
             → (asks es ≡ true → CanRedo g frames self.at (H.state h.old).now.words)
             → Ends g self.at before (overwritten (pending g.place es) (reads (H.state h.old).now.words)) (fault_of result) (H.state h.old) (H.state h.new) }
@@ -64,7 +64,7 @@ impl WordTransaction {
     pub fn abort<H: Host>(self, h: &mut H, frames: u32) -> Result<(), HostFault>
         requires log { self.at + LOG_WORDS ≤ (H.counts h.old).size }
         requires tables { HasPuddleTable frames (H.counts h.old).size }
-        ensures closes { H.tells → (size : ℕ) → size ≡ (H.counts h.old).size → (g : Ground) (es : List Entry) (before : Image) → IsGround size self.at g
+        ensures closes { H.tells → (size : ℕ) → size ≡ (H.counts h.old).size → (g : Scope) (es : List Entry) (before : Image) → IsScope size self.at g
             → IsRunning g self es before (H.state h.old).now.words → HasPlaces g (puddle_word (tables_of frames (reads (H.state h.old).now.words)))
             → HasOneTable frames (H.state h.old).now.words → Closes g self.at before (fault_of result) (H.state h.old) (H.state h.new) }
         ensures any { H.tells → Changes Anything (fault_of result) (H.state h.old) (H.state h.new) }

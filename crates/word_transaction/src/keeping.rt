@@ -9,7 +9,7 @@ ghost use Rattle.pud_defs.specs.declared.space.TheConstants.{WORD_BYTES};
 ghost use Rattle.pud_defs.specs.Image.{Image};
 ghost use Rattle.pud_defs.specs.Entries.{Entry, entries_of};
 ghost use Rattle.log_store.specs.Store.{InLog, longer};
-ghost use Rattle.word_transaction.specs.Ground.{Ground, IsGround};
+ghost use Rattle.word_transaction.specs.Scope.{Scope, IsScope};
 ghost use Rattle.word_transaction.specs.Coverage.{words_to_keep};
 ghost use Rattle.word_transaction.specs.Running.{IsRunning, IsOneOf, Keeps};
 
@@ -36,8 +36,8 @@ impl WordTransaction {
         ensures appended { IfOk result (λ _. self.new ≡ longer (count + ENTRY_HEADER_WORDS) self.old) }
         ensures failed { OnErr result (self.new ≡ self.old) }
         ensures changes { H.tells → Changes (InLog self.old.gate_at) (fault_of result) (H.state h.old) (H.state h.new) }
-        ensures keeps { H.tells → (size : ℕ) → size ≡ (H.counts h.old).size → (g : Ground) → (es : List Entry) → (before : Image) → IsGround size self.old.gate_at g
-            → g.may address count ≡ true → g.place address ≡ Option.Some first → IsRunning g self.old es before (H.state h.old).now.words
+        ensures keeps { H.tells → (size : ℕ) → size ≡ (H.counts h.old).size → (g : Scope) → (es : List Entry) → (before : Image) → IsScope size self.old.gate_at g
+            → g.may_name address count ≡ true → g.place address ≡ Option.Some first → IsRunning g self.old es before (H.state h.old).now.words
             → Keeps g self.new es before (IsOneOf first count) (fault_of result) (H.state h.old) (H.state h.new) }
         ensures cause { H.counts h.new ≡ after_fault (fault_of result) (H.counts h.old) }
     {
@@ -65,8 +65,8 @@ impl WordTransaction {
         ensures appended { IfOk result (λ _. self.new ≡ longer (count + 5) self.old) }
         ensures failed { OnErr result (self.new ≡ self.old) }
         ensures changes { H.tells → Changes (InLog self.old.gate_at) (fault_of result) (H.state h.old) (H.state h.new) }
-        ensures keeps { H.tells → (size : ℕ) → size ≡ (H.counts h.old).size → (g : Ground) → (es : List Entry) → (before : Image) → IsGround size self.old.gate_at g
-            → g.may address count ≡ true → g.place address ≡ Option.Some first → g.may address2 1 ≡ true → g.place address2 ≡ Option.Some second
+        ensures keeps { H.tells → (size : ℕ) → size ≡ (H.counts h.old).size → (g : Scope) → (es : List Entry) → (before : Image) → IsScope size self.old.gate_at g
+            → g.may_name address count ≡ true → g.place address ≡ Option.Some first → g.may_name address2 1 ≡ true → g.place address2 ≡ Option.Some second
             → IsRunning g self.old es before (H.state h.old).now.words
             → Keeps g self.new es before (λ k. IsOneOf first count k ⊎ (k ≡ second)) (fault_of result) (H.state h.old) (H.state h.new) }
         ensures cause { H.counts h.new ≡ after_fault (fault_of result) (H.counts h.old) }
@@ -103,8 +103,8 @@ impl WordTransaction {
         ensures covered { H.tells → (es : List Entry) → entries_of (reads (H.state h.old).now.words) self.old.gate_at ≡ Option.Some es → address + WORD_BYTES * count ≤ 2 ^ 64
             → words_to_keep es address count ≡ 0 → H.state h.new ≡ H.state h.old }
         ensures changes { H.tells → Changes (InLog self.old.gate_at) (fault_of result) (H.state h.old) (H.state h.new) }
-        ensures keeps { H.tells → (size : ℕ) → size ≡ (H.counts h.old).size → (g : Ground) → (es : List Entry) → (before : Image) → IsGround size self.old.gate_at g
-            → g.may address count ≡ true → g.place address ≡ Option.Some first → IsRunning g self.old es before (H.state h.old).now.words
+        ensures keeps { H.tells → (size : ℕ) → size ≡ (H.counts h.old).size → (g : Scope) → (es : List Entry) → (before : Image) → IsScope size self.old.gate_at g
+            → g.may_name address count ≡ true → g.place address ≡ Option.Some first → IsRunning g self.old es before (H.state h.old).now.words
             → Keeps g self.new es before (IsOneOf first count) (fault_of result) (H.state h.old) (H.state h.new) }
         ensures cause { H.counts h.new ≡ after_fault (fault_of result) (H.counts h.old) }
     {
@@ -145,8 +145,8 @@ impl WordTransaction {
         ensures covered { H.tells → (es : List Entry) → entries_of (reads (H.state h.old).now.words) self.old.gate_at ≡ Option.Some es → address + WORD_BYTES * count ≤ 2 ^ 64
             → address2 + WORD_BYTES ≤ 2 ^ 64 → words_to_keep es address count + words_to_keep es address2 1 ≡ 0 → H.state h.new ≡ H.state h.old }
         ensures changes { H.tells → Changes (InLog self.old.gate_at) (fault_of result) (H.state h.old) (H.state h.new) }
-        ensures keeps { H.tells → (size : ℕ) → size ≡ (H.counts h.old).size → (g : Ground) → (es : List Entry) → (before : Image) → IsGround size self.old.gate_at g
-            → g.may address count ≡ true → g.place address ≡ Option.Some first → g.may address2 1 ≡ true → g.place address2 ≡ Option.Some second
+        ensures keeps { H.tells → (size : ℕ) → size ≡ (H.counts h.old).size → (g : Scope) → (es : List Entry) → (before : Image) → IsScope size self.old.gate_at g
+            → g.may_name address count ≡ true → g.place address ≡ Option.Some first → g.may_name address2 1 ≡ true → g.place address2 ≡ Option.Some second
             → IsRunning g self.old es before (H.state h.old).now.words
             → Keeps g self.new es before (λ k. IsOneOf first count k ⊎ (k ≡ second)) (fault_of result) (H.state h.old) (H.state h.new) }
         ensures cause { H.counts h.new ≡ after_fault (fault_of result) (H.counts h.old) }

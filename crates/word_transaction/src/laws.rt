@@ -9,46 +9,46 @@ ghost use Rattle.pud_defs.specs.Image.{Image};
 ghost use Rattle.pud_defs.specs.Entries.{Entry};
 ghost use Rattle.pud_defs.specs.Replay.{is_in_log};
 ghost use Rattle.log_store.specs.Store.{OpenLog};
-ghost use Rattle.word_transaction.specs.Ground.{Ground, IsGround};
+ghost use Rattle.word_transaction.specs.Scope.{Scope, IsScope};
 ghost use Rattle.word_transaction.specs.Running.{IsRunning, SettlesTo};
 
 /// A transaction stays open, with the same entries, beside calls that give no value to a word of its log or to one of its own.
 pub fn transaction_stays_open_beside_calls()
-    ensures { (g : Ground) (log : OpenLog) (es : List Entry) (before : Image) (fault : Option HostFault) (old : State) (new : State)
-        → Changes (λ k _. (is_in_log log.gate_at k ≡ false) × (g.mine k ≡ false)) fault old new → IsRunning g log es before old.now.words → IsRunning g log es before new.now.words }
+    ensures { (g : Scope) (log : OpenLog) (es : List Entry) (before : Image) (fault : Option HostFault) (old : State) (new : State)
+        → Changes (λ k _. (is_in_log log.gate_at k ≡ false) × (g.has_word k ≡ false)) fault old new → IsRunning g log es before old.now.words → IsRunning g log es before new.now.words }
 {}
 
 /// Each image that may be left while a transaction is open settles to the values from its beginning.
 pub fn image_left_settles_to_the_beginning()
-    ensures { (g : Ground) (log : OpenLog) (es : List Entry) (before : Image) (image : Image) (words : Words) → IsRunning g log es before words → Picks words image
+    ensures { (g : Scope) (log : OpenLog) (es : List Entry) (before : Image) (image : Image) (words : Words) → IsRunning g log es before words → Picks words image
         → SettlesTo g log.gate_at before image }
 {}
 
 /// So does each image that is left, at any moment, by calls that give no value to a word of its log or to one of its own.
 pub fn images_left_beside_calls_settle_to_the_beginning()
-    ensures { (g : Ground) (log : OpenLog) (es : List Entry) (before : Image) (fault : Option HostFault) (old : State) (new : State)
-        → Changes (λ k _. (is_in_log log.gate_at k ≡ false) × (g.mine k ≡ false)) fault old new → IsRunning g log es before old.now.words
+    ensures { (g : Scope) (log : OpenLog) (es : List Entry) (before : Image) (fault : Option HostFault) (old : State) (new : State)
+        → Changes (λ k _. (is_in_log log.gate_at k ≡ false) × (g.has_word k ≡ false)) fault old new → IsRunning g log es before old.now.words
         → Leaves (Silently (SettlesTo g log.gate_at before)) old new }
 {}
 
 /// What an image settles to is told by the words of the log and by the transaction's own words alone.
 pub fn image_settles_by_its_words_alone()
-    ensures { (g : Ground) (at : ℕ) (values : Image) (i : Image) (j : Image) → ((k : ℕ) → (is_in_log at k ≡ true) ⊎ (g.mine k ≡ true) → j k ≡ i k)
+    ensures { (g : Scope) (at : ℕ) (values : Image) (i : Image) (j : Image) → ((k : ℕ) → (is_in_log at k ≡ true) ⊎ (g.has_word k ≡ true) → j k ≡ i k)
         → SettlesTo g at values i → SettlesTo g at values j }
 {}
 
 /// The values from the beginning count on the transaction's own words alone: it is open by any values that agree there.
 pub fn values_count_on_own_words_alone()
-    ensures { (size : ℕ) (g : Ground) (log : OpenLog) (es : List Entry) (before : Image) (values : Image) (words : Words) → IsGround size log.gate_at g
-        → ((k : ℕ) → g.mine k ≡ true → before k ≡ values k) → IsRunning g log es before words → IsRunning g log es values words }
+    ensures { (size : ℕ) (g : Scope) (log : OpenLog) (es : List Entry) (before : Image) (values : Image) (words : Words) → IsScope size log.gate_at g
+        → ((k : ℕ) → g.has_word k ≡ true → before k ≡ values k) → IsRunning g log es before words → IsRunning g log es values words }
 {}
 
 /// A transaction stays open as it comes to own more words, each of which has one value, that from the beginning: it may name what it might before, by the
 /// same places.
 pub fn transaction_stays_open_over_more_words()
-    ensures { (g : Ground) (wide : Ground) (log : OpenLog) (es : List Entry) (before : Image) (words : Words)
-        → ((address : ℕ) (count : ℕ) → g.may address count ≡ true → wide.may address count ≡ true)
-        → ((address : ℕ) (count : ℕ) → g.may address count ≡ true → wide.place address ≡ g.place address)
-        → ((k : ℕ) → g.mine k ≡ true → wide.mine k ≡ true) → ((k : ℕ) → wide.mine k ≡ true → g.mine k ≡ false → HasOnly (words k) (before k))
+    ensures { (g : Scope) (wide : Scope) (log : OpenLog) (es : List Entry) (before : Image) (words : Words)
+        → ((address : ℕ) (count : ℕ) → g.may_name address count ≡ true → wide.may_name address count ≡ true)
+        → ((address : ℕ) (count : ℕ) → g.may_name address count ≡ true → wide.place address ≡ g.place address)
+        → ((k : ℕ) → g.has_word k ≡ true → wide.has_word k ≡ true) → ((k : ℕ) → wide.has_word k ≡ true → g.has_word k ≡ false → HasOnly (words k) (before k))
         → IsRunning g log es before words → IsRunning wide log es before words }
 {}

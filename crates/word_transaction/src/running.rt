@@ -10,7 +10,7 @@ ghost use Rattle.pud_defs.specs.declared.log_words.TheConstants.{RUNNING_GATE, R
 ghost use Rattle.pud_defs.specs.Image.{Image};
 ghost use Rattle.pud_defs.specs.Entries.{Entry};
 ghost use Rattle.log_store.specs.Store.{InLog, undo_entry, longer, asking, with_entry};
-ghost use Rattle.word_transaction.specs.Ground.{Ground, IsGround, redo_entry};
+ghost use Rattle.word_transaction.specs.Scope.{Scope, IsScope, redo_entry};
 ghost use Rattle.word_transaction.specs.Running.{IsRunning, IsIdle, MayAppend, IsCovered, nothing, begun, Runs};
 
 use crate::WordTransaction;
@@ -29,7 +29,7 @@ impl WordTransaction {
         requires { at + LOG_WORDS ≤ (H.counts h.old).size }
         ensures opened { IfOk result (λ transaction. transaction ≡ begun at) }
         ensures persists { H.tells → Persists (only at RUNNING_GATE) (fault_of result) (H.state h.old) (H.state h.new) }
-        ensures runs { H.tells → (size : ℕ) → size ≡ (H.counts h.old).size → (g : Ground) → (before : Image) → IsGround size at g → IsIdle g at before (H.state h.old).now.words
+        ensures runs { H.tells → (size : ℕ) → size ≡ (H.counts h.old).size → (g : Scope) → (before : Image) → IsScope size at g → IsIdle g at before (H.state h.old).now.words
             → Runs g (begun at) [] before nothing (fault_of result) (H.state h.old) (H.state h.new) }
         ensures cause { H.counts h.new ≡ after_fault (fault_of result) (H.counts h.old) }
     {
@@ -55,7 +55,7 @@ impl WordTransaction {
         ensures appended { IfOk result (λ _. self.new ≡ with_entry (record { address = address; seq = seq; order = order; vals = vals.now }) self.old) }
         ensures failed { OnErr result (self.new ≡ self.old) }
         ensures changes { H.tells → Changes (InLog self.old.gate_at) (fault_of result) (H.state h.old) (H.state h.new) }
-        ensures runs { H.tells → (size : ℕ) → size ≡ (H.counts h.old).size → (g : Ground) → (es : List Entry) → (before : Image) → IsGround size self.old.gate_at g
+        ensures runs { H.tells → (size : ℕ) → size ≡ (H.counts h.old).size → (g : Scope) → (es : List Entry) → (before : Image) → IsScope size self.old.gate_at g
             → IsRunning g self.old es before (H.state h.old).now.words → MayAppend g es before (record { address = address; seq = seq; order = order; vals = vals.now } ∷ [])
             → Runs g (with_entry (record { address = address; seq = seq; order = order; vals = vals.now }) self.old) (es ++ record { address = address; seq = seq; order = order; vals = vals.now } ∷ []) before nothing
             (fault_of result) (H.state h.old) (H.state h.new) }
@@ -85,7 +85,7 @@ impl WordTransaction {
         ensures appended { IfOk result (λ _. self.new ≡ longer (length vals.now + 5) self.old) }
         ensures failed { OnErr result (self.new ≡ self.old) }
         ensures changes { H.tells → Changes (InLog self.old.gate_at) (fault_of result) (H.state h.old) (H.state h.new) }
-        ensures runs { H.tells → (size : ℕ) → size ≡ (H.counts h.old).size → (g : Ground) → (es : List Entry) → (before : Image) → IsGround size self.old.gate_at g
+        ensures runs { H.tells → (size : ℕ) → size ≡ (H.counts h.old).size → (g : Scope) → (es : List Entry) → (before : Image) → IsScope size self.old.gate_at g
             → IsRunning g self.old es before (H.state h.old).now.words → MayAppend g es before (undo_entry address vals.now ∷ undo_entry address2 (word ∷ []) ∷ [])
             → Runs g (longer (length vals.now + 5) self.old) (es ++ undo_entry address vals.now ∷ undo_entry address2 (word ∷ []) ∷ []) before nothing (fault_of result) (H.state h.old) (H.state h.new) }
         ensures cause { H.counts h.new ≡ after_fault (fault_of result) (H.counts h.old) }
@@ -110,8 +110,8 @@ impl WordTransaction {
         ensures asked { IfOk result (λ _. self.new ≡ asking (length vals.now + ENTRY_HEADER_WORDS) self.old) }
         ensures failed { OnErr result (self.new ≡ self.old) }
         ensures changes { H.tells → Changes (InLog self.old.gate_at) (fault_of result) (H.state h.old) (H.state h.new) }
-        ensures runs { H.tells → (size : ℕ) → size ≡ (H.counts h.old).size → (g : Ground) → (es : List Entry) → (before : Image) → IsGround size self.old.gate_at g
-            → g.may address (length vals.now) ≡ true → IsRunning g self.old es before (H.state h.old).now.words
+        ensures runs { H.tells → (size : ℕ) → size ≡ (H.counts h.old).size → (g : Scope) → (es : List Entry) → (before : Image) → IsScope size self.old.gate_at g
+            → g.may_name address (length vals.now) ≡ true → IsRunning g self.old es before (H.state h.old).now.words
             → Runs g (asking (length vals.now + ENTRY_HEADER_WORDS) self.old) (es ++ redo_entry address vals.now ∷ []) before nothing
             (fault_of result) (H.state h.old) (H.state h.new) }
         ensures cause { H.counts h.new ≡ after_fault (fault_of result) (H.counts h.old) }
@@ -126,7 +126,7 @@ impl WordTransaction {
     pub fn write<H: Host>(&self, h: &mut H, first: u32, vals: &[u64]) -> Result<(), HostFault>
         requires { first + length vals.now ≤ (H.counts h.old).size }
         ensures writes { H.tells → Writes (placed first vals.now) (fault_of result) (H.state h.old) (H.state h.new) }
-        ensures runs { H.tells → (size : ℕ) → size ≡ (H.counts h.old).size → (g : Ground) → (es : List Entry) → (before : Image) → IsGround size self.now.gate_at g
+        ensures runs { H.tells → (size : ℕ) → size ≡ (H.counts h.old).size → (g : Scope) → (es : List Entry) → (before : Image) → IsScope size self.now.gate_at g
             → IsRunning g self.now es before (H.state h.old).now.words → IsCovered g es (placed first vals.now)
             → Runs g self.now es before (placed first vals.now) (fault_of result) (H.state h.old) (H.state h.new) }
         ensures cause { H.counts h.new ≡ after_fault (fault_of result) (H.counts h.old) }

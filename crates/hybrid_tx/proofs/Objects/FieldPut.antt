@@ -31,13 +31,13 @@ use Rattle.puddle_header.specs.Places.{place_of_slot, IsSlotOf}
 use Rattle.graph_read.specs.Reading.{place_in_pool}
 use Rattle.puddle_header.proofs.Placed.{place_ordinal, place_slot}
 use Rattle.log_store.specs.Store.{OpenLog}
-use Rattle.word_transaction.specs.Ground.{redo_entry}
+use Rattle.word_transaction.specs.Scope.{redo_entry}
 use Rattle.word_transaction.specs.Running.{nothing}
 use Rattle.word_transaction.proofs.Calls.{Runs-stopped, some_fault}
-use Rattle.hybrid_tx.specs.Grounds.{pool_ground, finished_of, IsPlaced}
+use Rattle.hybrid_tx.specs.PoolScopes.{pool_scope, finished_of, IsPlaced}
 use Rattle.hybrid_tx.specs.Objects.Stores.{address_at, word_for, IsPlaceAndWord, LacksPlaceOrWord, field_word}
 use Rattle.hybrid_tx.specs.Objects.Transactions.{MaySet, IsRewrittenFor, IsLater, AreLaters, IsSaving, IsOpenOn, Saves, RunsOn}
-use Rattle.hybrid_tx.proofs.PoolGrounds.{all_there}
+use Rattle.hybrid_tx.proofs.PoolScope.{all_there}
 use Rattle.hybrid_tx.proofs.Objects.FieldsSet.{placed_if_live, word_if_held, set_value}
 use Rattle.hybrid_tx.proofs.Objects.LatersKept.{AreLaters-kept, AreLaters-more}
 use Rattle.hybrid_tx.proofs.Objects.LatersBehind.{KeepsObjects-field, KeepsPlaces-field}
@@ -75,7 +75,7 @@ module _ (F : ℕ) (at : List (ℕ × Puddle)) (types : List (ℕ × ℕ)) (log 
         write = nothing;
         redo = is_open.redo;
         rests = λ none. absurd (some_fault fault none);
-        saves = record { es = s.es; runs = Runs-stopped (pool_ground F (finished_of at)) log behind s.es s.es before nothing fault (state old) (state new) same only.never_cut (only.stays t) s.running; asks = s.asks };
+        saves = record { es = s.es; runs = Runs-stopped (pool_scope F (finished_of at)) log behind s.es s.es before nothing fault (state old) (state new) same only.never_cut (only.stays t) s.running; asks = s.asks };
         was = is_open.was;
         is = λ none. absurd (some_fault fault none);
         are = λ none. absurd (some_fault fault none);

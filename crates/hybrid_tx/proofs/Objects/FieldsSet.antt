@@ -30,7 +30,7 @@ use Rattle.graph_laws.proofs.Words.{place_of-some, few_fields}
 use Rattle.puddle_header.specs.Places.{place_of_slot, IsSlotOf}
 use Rattle.graph_read.specs.Reading.{place_in_pool}
 use Rattle.puddle_header.proofs.Placed.{place_ordinal, place_slot}
-use Rattle.hybrid_tx.specs.Grounds.{IsPlaced, IsRewrittenAt}
+use Rattle.hybrid_tx.specs.PoolScopes.{IsPlaced, IsRewrittenAt}
 use Rattle.hybrid_tx.specs.Objects.Stores.{address_at, word_for, field_word}
 use Rattle.hybrid_tx.specs.Objects.Transactions.{MayName, MayHold, MaySet}
 use Rattle.hybrid_tx.proofs.Objects.LatersKept.{some_object}

@@ -18,35 +18,35 @@ use Rattle.pud_defs.specs.Frames.{frame_at}
 use Rattle.pud_defs.specs.Entries.{Entry}
 use Rattle.pud_defs.specs.Replay.{over}
 use Rattle.log_store.specs.Store.{OpenLog, asking}
-use Rattle.word_transaction.specs.Ground.{Ground, IsGround, redo_entry}
+use Rattle.word_transaction.specs.Scope.{Scope, IsScope, redo_entry}
 use Rattle.word_transaction.specs.Running.{IsRunning, ByTransaction, nothing, Runs, Puts}
 use Rattle.word_transaction.proofs.Calls.{Runs-failed}
 use Rattle.word_transaction.proofs.Pending.{asked-redo}
-use Rattle.hybrid_tx.specs.Grounds.{pool_place, pool_may, pool_mine, pool_ground, finished_of, IsPlaced}
+use Rattle.hybrid_tx.specs.PoolScopes.{pool_place, pool_may_name, pool_has_word, pool_scope, finished_of, IsPlaced}
 use Rattle.hybrid_tx.specs.Objects.Stores.{ByPut, ByPutBoth}
 use Rattle.hybrid_tx.specs.Objects.Transactions.{IsSaving, Saves}
-use Rattle.hybrid_tx.proofs.PoolGrounds.{all_there, base_below, pool_mine-from, is_ground, place_of_word, may_name_words}
+use Rattle.hybrid_tx.proofs.PoolScope.{all_there, base_below, pool_has_word-from, is_ground, place_of_word, may_name_words}
 
 -- ---- on any content
 
 -- what is placed in a frame of the pool are words of its own
 placed_in_frame : (F : ℕ) (at : List (ℕ × Puddle)) (o word : ℕ) (e : ℕ × Puddle) (vals : List ℕ) (k v : ℕ) → slice_get at o ≡ Some e → word + length vals ≤ FRAME_WORDS → placed (frame_at F e.0 + word) vals k ≡ Some v
-    → pool_mine F at k ≡ true
+    → pool_has_word F at k ≡ true
 placed_in_frame F at o word e vals k v there few is =
     let within = placed_within (frame_at F e.0 + word) k v vals is in
-    pool_mine-from F at k (record { ordinal = o; puddle = e; there = there; low = omega arith; high = omega arith })
+    pool_has_word-from F at k (record { ordinal = o; puddle = e; there = there; low = omega arith; high = omega arith })
 
 pub ByPut-in_frame : (F : ℕ) (at : List (ℕ × Puddle)) (o word log : ℕ) (e : ℕ × Puddle) (vals : List ℕ) (fault : Option HostFault) (old new : State) → slice_get at o ≡ Some e → word + length vals ≤ FRAME_WORDS
-    → Changes (ByPut log (frame_at F e.0 + word) vals) fault old new → Changes (ByTransaction (pool_ground F at) log) fault old new
+    → Changes (ByPut log (frame_at F e.0 + word) vals) fault old new → Changes (ByTransaction (pool_scope F at) log) fault old new
 ByPut-in_frame F at o word log e vals fault old new there few c =
-    Changes-wider (ByPut log (frame_at F e.0 + word) vals) (ByTransaction (pool_ground F at) log) fault old new
+    Changes-wider (ByPut log (frame_at F e.0 + word) vals) (ByTransaction (pool_scope F at) log) fault old new
     (λ k v may. elim may [ inl inside ↦ inl inside | inr is ↦ inr (placed_in_frame F at o word e vals k v there few is) ]) c
 
 pub ByPutBoth-in_frames : (F : ℕ) (at : List (ℕ × Puddle)) (log : ℕ) (o word : ℕ) (e : ℕ × Puddle) (vals : List ℕ) (p other : ℕ) (d : ℕ × Puddle) (value : ℕ) (fault : Option HostFault) (old new : State)
     → slice_get at o ≡ Some e → word + length vals ≤ FRAME_WORDS → slice_get at p ≡ Some d → other < FRAME_WORDS
-    → Changes (ByPutBoth log (frame_at F e.0 + word) vals (frame_at F d.0 + other) value) fault old new → Changes (ByTransaction (pool_ground F at) log) fault old new
+    → Changes (ByPutBoth log (frame_at F e.0 + word) vals (frame_at F d.0 + other) value) fault old new → Changes (ByTransaction (pool_scope F at) log) fault old new
 ByPutBoth-in_frames F at log o word e vals p other d value fault old new there few also below c =
-    Changes-wider (ByPutBoth log (frame_at F e.0 + word) vals (frame_at F d.0 + other) value) (ByTransaction (pool_ground F at) log) fault old new
+    Changes-wider (ByPutBoth log (frame_at F e.0 + word) vals (frame_at F d.0 + other) value) (ByTransaction (pool_scope F at) log) fault old new
     (λ k v may. elim may [
       | inl inside ↦ inl inside
       | inr is ↦ inr (elim is [
@@ -69,7 +69,7 @@ no_wrap base word legal below =
 pub Saves-failed : (F : ℕ) (at : List (ℕ × Puddle)) (log behind : OpenLog) (before : Image) (redo : List Entry) (same : behind.gate_at ≡ log.gate_at) (write later : Write) (fault : HostFault) (old new : State)
     → Saves F at log before redo write (Some fault) old new → Saves F at behind before redo later (Some fault) old new
 Saves-failed F at log behind before redo same write later fault old new s =
-    record { es = s.es; runs = Runs-failed (pool_ground F at) log behind s.es s.es before write later fault old new same s.runs; asks = s.asks }
+    record { es = s.es; runs = Runs-failed (pool_scope F at) log behind s.es s.es before write later fault old new same s.runs; asks = s.asks }
 
 -- the log behind a call, which at Ok is this
 pub Saves-behind : (F : ℕ) (at : List (ℕ × Puddle)) (long now : OpenLog) (before : Image) (redo : List Entry) (write : Write) (result : Result (Unit {0}) HostFault) (old new : State) → now.gate_at ≡ long.gate_at
@@ -85,16 +85,16 @@ module _ (F : ℕ) (at : List (ℕ × Puddle)) (is_placed : IsPlaced F at) (o wo
   named : address ≡ e.1.base + WORD_BYTES * word
   named = is_address ∙ no_wrap e.1.base word (all_there (λ d. is_legal_base d.1.base ≡ true) at o e is_placed.legal there) (omega arith)
 
-  may_name : pool_may at address count ≡ true
-  may_name = ap (λ a. pool_may at a count) named ∙ may_name_words F at is_placed o word e there count some few
+  may_name : pool_may_name at address count ≡ true
+  may_name = ap (λ a. pool_may_name at a count) named ∙ may_name_words F at is_placed o word e there count some few
 
   place_named : pool_place F at address ≡ Some (frame_at F e.0 + word)
   place_named = ap (pool_place F at) named ∙ place_of_word F at is_placed o word e there (omega arith)
 
 module _ (F size : ℕ) (at : List (ℕ × Puddle)) (log now : OpenLog) (before : Image) (redo : List Entry) (fault : Option HostFault) (old new : State)
     (is_placed : IsPlaced F at) (device : device_words F ≤ size) (apart : log.gate_at + LOG_WORDS ≤ frames_at F) (s : IsSaving F at log before redo old.now.words) where
-  abbrev g : Ground
-  g = pool_ground F at
+  abbrev g : Scope
+  g = pool_scope F at
 
   Saves-puts : (write : Write) → Puts g now s.es before write fault old new → Saves F at now before redo write fault old new
   Saves-puts write puts = record { es = puts.entries; runs = puts.runs; asks = puts.asks ∙ s.asks }
@@ -102,7 +102,7 @@ module _ (F size : ℕ) (at : List (ℕ × Puddle)) (log now : OpenLog) (before 
   -- of one frame
   pub Saves-put : (o word : ℕ) (e : ℕ × Puddle) (address first : ℕ) (vals : List ℕ) → slice_get at o ≡ Some e → 1 ≤ length vals → word + length vals ≤ FRAME_WORDS
       → address ≡ (e.1.base + WORD_BYTES * word) % 2 ^ 64 → first ≡ frame_at F e.0 + word
-      → ((es : List Entry) → IsGround size log.gate_at g → g.may address (length vals) ≡ true → g.place address ≡ Some first → IsRunning g log es before old.now.words
+      → ((es : List Entry) → IsScope size log.gate_at g → g.may_name address (length vals) ≡ true → g.place address ≡ Some first → IsRunning g log es before old.now.words
       → Puts g now es before (placed first vals) fault old new)
       → Saves F at now before redo (placed (frame_at F e.0 + word) vals) fault old new
   Saves-put o word e address first vals there some few is_address is_first puts =
@@ -115,7 +115,7 @@ module _ (F size : ℕ) (at : List (ℕ × Puddle)) (log now : OpenLog) (before 
   pub Saves-put_both : (o word : ℕ) (e : ℕ × Puddle) (address first : ℕ) (vals : List ℕ) (p other : ℕ) (d : ℕ × Puddle) (address2 second value : ℕ)
       → slice_get at o ≡ Some e → 1 ≤ length vals → word + length vals ≤ FRAME_WORDS → address ≡ (e.1.base + WORD_BYTES * word) % 2 ^ 64 → first ≡ frame_at F e.0 + word
       → slice_get at p ≡ Some d → other < FRAME_WORDS → address2 ≡ (d.1.base + WORD_BYTES * other) % 2 ^ 64 → second ≡ frame_at F d.0 + other
-      → ((es : List Entry) → IsGround size log.gate_at g → g.may address (length vals) ≡ true → g.place address ≡ Some first → g.may address2 1 ≡ true → g.place address2 ≡ Some second
+      → ((es : List Entry) → IsScope size log.gate_at g → g.may_name address (length vals) ≡ true → g.place address ≡ Some first → g.may_name address2 1 ≡ true → g.place address2 ≡ Some second
       → IsRunning g log es before old.now.words → Puts g now es before (over (placed first vals) (placed second (value ∷ []))) fault old new)
       → Saves F at now before redo (over (placed (frame_at F e.0 + word) vals) (placed (frame_at F d.0 + other) (value ∷ []))) fault old new
   Saves-put_both o word e address first vals p other d address2 second value there some few is_address is_first also below is_other is_second puts =
@@ -142,8 +142,8 @@ PutsAt F at o word vals log behind fault old new =
 pub Saves-asked : (F size : ℕ) (at : List (ℕ × Puddle)) (word : ℕ) (e : ℕ × Puddle) (o : ℕ) (log now : OpenLog) (before : Image) (redo : List Entry) (address value : ℕ) (result : Result (Unit {0}) HostFault) (old new : State)
     → IsPlaced F at → device_words F ≤ size → log.gate_at + LOG_WORDS ≤ frames_at F → slice_get at o ≡ Some e → word < FRAME_WORDS → address ≡ (e.1.base + WORD_BYTES * word) % 2 ^ 64
     → IsSaving F at log before redo old.now.words → now.gate_at ≡ log.gate_at → IfOk result (λ _. now ≡ asking SET_UNITS log)
-    → ((es : List Entry) → IsGround size log.gate_at (pool_ground F at) → pool_may at address 1 ≡ true → IsRunning (pool_ground F at) log es before old.now.words
-    → Runs (pool_ground F at) (asking SET_UNITS log) (es ++ redo_entry address (value ∷ []) ∷ []) before nothing (fault_of result) old new)
+    → ((es : List Entry) → IsScope size log.gate_at (pool_scope F at) → pool_may_name at address 1 ≡ true → IsRunning (pool_scope F at) log es before old.now.words
+    → Runs (pool_scope F at) (asking SET_UNITS log) (es ++ redo_entry address (value ∷ []) ∷ []) before nothing (fault_of result) old new)
     → Saves F at now before (redo ++ redo_entry (e.1.base + WORD_BYTES * word) (value ∷ []) ∷ []) nothing (fault_of result) old new
 Saves-asked F size at word e o log now before redo address value result old new is_placed device apart there below is_address s same is runs =
     let one : 1 ≤ 1 = omega arith in

@@ -12,11 +12,11 @@ use Rattle.pud_defs.specs.Stored.{stored_in}
 use Rattle.pud_defs.specs.Graph.{Graph, graph_of}
 use Rattle.pud_defs.specs.Laters.{Later, with_later, with_laters}
 use Rattle.graph_laws.proofs.Words.{few_fields}
-use Rattle.word_transaction.specs.Ground.{written_in_turn}
-use Rattle.hybrid_tx.specs.Grounds.{pool_place, finished_of, IsPlaced, IsRewrittenAt}
+use Rattle.word_transaction.specs.Scope.{written_in_turn}
+use Rattle.hybrid_tx.specs.PoolScopes.{pool_place, finished_of, IsPlaced, IsRewrittenAt}
 use Rattle.hybrid_tx.specs.Objects.Stores.{field_word}
 use Rattle.hybrid_tx.specs.Objects.Transactions.{IsLater, AreLaters}
-use Rattle.hybrid_tx.proofs.PoolGrounds.{place_of_word}
+use Rattle.hybrid_tx.proofs.PoolScope.{place_of_word}
 use Rattle.hybrid_tx.proofs.FinishedPuddles.{finished_placed, finished_there}
 use Rattle.hybrid_tx.proofs.Objects.FieldsSet.{set_value}
 use Rattle.hybrid_tx.proofs.Objects.LatersKept.{KeepsPlaces, AreLaters-kept}

@@ -30,7 +30,7 @@ use Rattle.graph_laws.proofs.TableChanges.{under_other}
 use Rattle.graph_laws.proofs.Words.{with_word-other, place_of-some}
 use Rattle.puddle_header.specs.Places.{places_in, place_of_slot, IsSlotOf}
 use Rattle.graph_read.specs.Reading.{place_in_pool}
-use Rattle.hybrid_tx.specs.Grounds.{IsPlaced}
+use Rattle.hybrid_tx.specs.PoolScopes.{IsPlaced}
 use Rattle.hybrid_tx.specs.Objects.Stores.{field_word, making}
 use Rattle.hybrid_tx.proofs.Objects.FieldsSet.{stored_in-one}
 use Rattle.hybrid_tx.proofs.Objects.ObjectsMade.{made}

@@ -29,12 +29,12 @@ use Rattle.puddle_header.specs.Places.{places_in, place_of_slot, IsSlotOf}
 use Rattle.graph_read.specs.Reading.{place_in_pool, table_in}
 use Rattle.puddle_header.proofs.Placed.{slot_at_place}
 use Rattle.log_store.specs.Store.{is_redo}
-use Rattle.word_transaction.specs.Ground.{redo_entry, asked}
-use Rattle.hybrid_tx.specs.Grounds.{IsPlaced}
+use Rattle.word_transaction.specs.Scope.{redo_entry, asked}
+use Rattle.hybrid_tx.specs.PoolScopes.{IsPlaced}
 use Rattle.hybrid_tx.specs.Objects.Laters.{IsFieldAddress, IsFieldOf}
 use Rattle.hybrid_tx.specs.Objects.Stores.{address_at, word_for}
 use Rattle.hybrid_tx.specs.Objects.Transactions.{MayHold, IsLater, AreLaters}
-use Rattle.hybrid_tx.proofs.PoolGrounds.{bases_of, base_there}
+use Rattle.hybrid_tx.proofs.PoolScope.{bases_of, base_there}
 use Rattle.hybrid_tx.proofs.Objects.FieldsSet.{object_at_place}
 use Rattle.hybrid_tx.proofs.Objects.LatersKept.{some_element, address_by}
 

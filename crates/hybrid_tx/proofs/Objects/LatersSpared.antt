@@ -24,7 +24,7 @@ use Rattle.graph_laws.proofs.Words.{place_of-some, slot_word-there, slot_word-ot
 use Rattle.puddle_header.specs.Places.{places_in, place_of_slot, IsSlotOf}
 use Rattle.graph_read.specs.Reading.{place_in_pool, table_in}
 use Rattle.object_alloc.specs.Alloc.{serial_word_at}
-use Rattle.hybrid_tx.specs.Grounds.{IsPlaced}
+use Rattle.hybrid_tx.specs.PoolScopes.{IsPlaced}
 use Rattle.hybrid_tx.specs.Objects.Transactions.{MayHold, IsLater, AreLaters}
 use Rattle.hybrid_tx.proofs.Objects.ObjectsFreed.{stored_in-cleared}
 use Rattle.hybrid_tx.proofs.Objects.LatersKept.{KeepsPlaces, KeepsObjects-same, AreLaters-kept}

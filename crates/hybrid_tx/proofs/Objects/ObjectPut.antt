@@ -28,7 +28,7 @@ use Rattle.puddle_header.proofs.Placed.{stored_word}
 use Rattle.log_store.specs.Store.{OpenLog}
 use Rattle.word_transaction.specs.Running.{ByTransaction}
 use Rattle.word_transaction.proofs.Calls.{some_fault}
-use Rattle.hybrid_tx.specs.Grounds.{pool_ground, IsPlaced, finished_of}
+use Rattle.hybrid_tx.specs.PoolScopes.{pool_scope, IsPlaced, finished_of}
 use Rattle.hybrid_tx.specs.Objects.Stores.{new_words, making, ByPutBoth, ByMaking}
 use Rattle.hybrid_tx.specs.Objects.Transactions.{IsSaving, IsOpenOn, Saves, RunsOn, MakesIn}
 use Rattle.hybrid_tx.proofs.Objects.ObjectsMade.{new_stored}
@@ -48,12 +48,12 @@ module _ (F : ℕ) (at : List (ℕ × Puddle)) (types : List (ℕ × ℕ)) (imag
 -- what is put behind a read are own words of the pool
 pub Changes-put : (F : ℕ) (at : List (ℕ × Puddle)) (log : ℕ) (slot : Slot) (of : IsSlotOf at slot) (first : ℕ × Puddle) (bumped : ℕ) (words : List ℕ) (fault : Option HostFault) (old mid new : State) → length words ≡ puddle_slot_words
     → slice_get at 0 ≡ Some first → mid ≡ old → Changes (ByPutBoth log (frame_at F slot.frame + slot_begins slot) words (frame_at F first.0 + NEXT_SERIAL_WORD) bumped) fault mid new
-    → Changes (ByTransaction (pool_ground F at) log) fault old new
+    → Changes (ByTransaction (pool_scope F at) log) fault old new
 Changes-put F at log slot of first bumped words fault old mid new whole head stays changes =
     let slots = of.below in
     let few : slot_begins slot + length words ≤ FRAME_WORDS = omega arith in
     let next : NEXT_SERIAL_WORD < FRAME_WORDS = omega arith in
-    subst (λ (s : State). Changes (ByTransaction (pool_ground F at) log) fault s new) stays
+    subst (λ (s : State). Changes (ByTransaction (pool_scope F at) log) fault s new) stays
     (ByPutBoth-in_frames F at log slot.ordinal (slot_begins slot) (slot.frame, of.puddle) words 0 NEXT_SERIAL_WORD first bumped fault mid new of.there few head next changes)
 
 -- ---- which words an object is made of

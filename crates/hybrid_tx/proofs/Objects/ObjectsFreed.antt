@@ -18,7 +18,7 @@ use Rattle.puddle_header.specs.Places.{place_of_slot, IsSlotOf}
 use Rattle.graph_read.specs.Reading.{place_in_pool}
 use Rattle.puddle_header.proofs.Placed.{place_ordinal, place_slot}
 use Rattle.object_alloc.specs.Alloc.{serial_word_at}
-use Rattle.hybrid_tx.specs.Grounds.{IsPlaced}
+use Rattle.hybrid_tx.specs.PoolScopes.{IsPlaced}
 use Rattle.hybrid_tx.proofs.Objects.FieldsSet.{stored_in-one, place_is}
 
 -- what is stored is that with the serial cleared

@@ -25,7 +25,7 @@ use Rattle.graph_laws.proofs.NewObjects.{graph_of-new}
 use Rattle.graph_laws.proofs.Words.{few_fields}
 use Rattle.puddle_header.specs.Places.{place_of_slot, IsSlotOf}
 use Rattle.puddle_header.proofs.Placed.{place_ordinal, place_slot, stored_word, stored_slot}
-use Rattle.hybrid_tx.specs.Grounds.{IsPlaced}
+use Rattle.hybrid_tx.specs.PoolScopes.{IsPlaced}
 use Rattle.hybrid_tx.specs.Objects.Stores.{new_words, making}
 
 -- ---- the words of a new object

@@ -17,35 +17,35 @@ use Rattle.pud_defs.specs.Graph.{Graph, graph_of}
 use Rattle.pud_defs.specs.Laters.{Later}
 use Rattle.graph_laws.proofs.StoredImages.{stored_in-same}
 use Rattle.log_store.specs.Store.{OpenLog}
-use Rattle.word_transaction.specs.Ground.{IsGround}
+use Rattle.word_transaction.specs.Scope.{IsScope}
 use Rattle.word_transaction.specs.Running.{IsIdle, ByTransaction, nothing, begun, Runs}
 use Rattle.word_transaction.proofs.Ended.{beside_transaction}
-use Rattle.hybrid_tx.specs.Grounds.{pool_mine, pool_ground, finished_of, IsPlaced}
+use Rattle.hybrid_tx.specs.PoolScopes.{pool_has_word, pool_scope, finished_of, IsPlaced}
 use Rattle.hybrid_tx.specs.Objects.Transactions.{AreLaters, IsSaving, RestsAs, IsOpenOn, Saves, RunsOn}
-use Rattle.hybrid_tx.proofs.PoolGrounds.{pool_mine-from, is_ground}
+use Rattle.hybrid_tx.proofs.PoolScope.{pool_has_word-from, is_ground}
 use Rattle.hybrid_tx.proofs.FinishedPuddles.{mine_of_finished}
 use Rattle.hybrid_tx.proofs.Objects.LatersKept.{AreLaters-stored}
 
 -- images that agree on the pool's own words store the same of it
-pub stored_in-mine : (F : ℕ) (at : List (ℕ × Puddle)) (i j : Image) → ((k : ℕ) → pool_mine F at k ≡ true → j k ≡ i k) → stored_in F at j ≡ stored_in F at i
-stored_in-mine F at i j same =
+pub stored_in-has_word : (F : ℕ) (at : List (ℕ × Puddle)) (i j : Image) → ((k : ℕ) → pool_has_word F at k ≡ true → j k ≡ i k) → stored_in F at j ≡ stored_in F at i
+stored_in-has_word F at i j same =
     stored_in-same F at i j (record {
       each = λ o k e there below.
-          same (frame_at F e.0 + k) (pool_mine-from F at (frame_at F e.0 + k) (record { ordinal = o; puddle = e; there = there; low = omega arith; high = omega arith }));
+          same (frame_at F e.0 + k) (pool_has_word-from F at (frame_at F e.0 + k) (record { ordinal = o; puddle = e; there = there; low = omega arith; high = omega arith }));
     })
 
 -- a call that writes own words and those of the log leaves the words of the puddles that are not finished as they are
-pub RestsAs-behind : (F size : ℕ) (at : List (ℕ × Puddle)) (log : ℕ) (before : Image) (fault : Option HostFault) (old new : State) → IsGround size log (pool_ground F at)
-    → Changes (ByTransaction (pool_ground F (finished_of at)) log) fault old new → RestsAs F at before old.now.words → RestsAs F at before new.now.words
+pub RestsAs-behind : (F size : ℕ) (at : List (ℕ × Puddle)) (log : ℕ) (before : Image) (fault : Option HostFault) (old new : State) → IsScope size log (pool_scope F at)
+    → Changes (ByTransaction (pool_scope F (finished_of at)) log) fault old new → RestsAs F at before old.now.words → RestsAs F at before new.now.words
 RestsAs-behind F size at log before fault old new ground c rests =
-    let own = pool_ground F (finished_of at) in
+    let own = pool_scope F (finished_of at) in
     record {
       each = λ k mine other.
           HasOnly-kept (ByTransaction own log) fault old new k (before k) c (λ x by. beside_transaction own log k x (ground.apart k mine) other by) (rests.each k mine other);
     }
 
 -- where each of the pool's words has one value, those of its finished puddles do
-pub IsIdle-finished : (F : ℕ) (at : List (ℕ × Puddle)) (log : ℕ) (before : Image) (words : Words) → IsIdle (pool_ground F at) log before words → IsIdle (pool_ground F (finished_of at)) log before words
+pub IsIdle-finished : (F : ℕ) (at : List (ℕ × Puddle)) (log : ℕ) (before : Image) (words : Words) → IsIdle (pool_scope F at) log before words → IsIdle (pool_scope F (finished_of at)) log before words
 IsIdle-finished F at log before words idle = record { closed = idle.closed; single = λ k mine. idle.single k (mine_of_finished F at k mine) }
 
 pub RunsOn-open : (F : ℕ) (at : List (ℕ × Puddle)) (types : List (ℕ × ℕ)) (log : OpenLog) (before : Image) (undone next : Graph) (laters : List Later) (old new : State) → RunsOn F at types log before undone next laters None old new
@@ -61,27 +61,27 @@ RunsOn-open F at types log before undone next laters old new r =
     }
 
 module _ (F size : ℕ) (at : List (ℕ × Puddle)) (types : List (ℕ × ℕ)) (before : Image) where
-  pub IsOpenOn-begun : (log : ℕ) (g : Graph) (old new : State) → IsGround size log (pool_ground F at) → IsIdle (pool_ground F at) log before old.now.words → graph_of types (stored_in F at before) ≡ Some g
-      → Runs (pool_ground F (finished_of at)) (begun log) [] before nothing None old new → IsOpenOn F at types (begun log) before g g [] new.now.words
+  pub IsOpenOn-begun : (log : ℕ) (g : Graph) (old new : State) → IsScope size log (pool_scope F at) → IsIdle (pool_scope F at) log before old.now.words → graph_of types (stored_in F at before) ≡ Some g
+      → Runs (pool_scope F (finished_of at)) (begun log) [] before nothing None old new → IsOpenOn F at types (begun log) before g g [] new.now.words
   IsOpenOn-begun log g old new ground idle was runs =
       record {
         redo = [];
         saving = record { es = []; running = runs.running refl; asks = refl };
         rests = RestsAs-behind F size at log before None old new ground runs.changes (record { each = λ k mine other. idle.single k mine });
         was = was;
-        is = ap (graph_of types) (stored_in-mine F at before (reads new.now.words)
+        is = ap (graph_of types) (stored_in-has_word F at before (reads new.now.words)
             (λ k mine. runs.now refl k (ground.apart k mine) ∙ (idle.single k mine).each (reads old.now.words k) (inl refl))) ∙ was;
         are = tt;
       }
 
   -- words that are written make the graph that images have over which they are written, and so of what is asked for later
   pub RunsOn-saves : (log behind : OpenLog) (undone now next : Graph) (laters more : List Later) (redo : List Entry) (write : Write) (fault : Option HostFault) (old new : State)
-      → IsGround size behind.gate_at (pool_ground F at) → IsOpenOn F at types log before undone now laters old.now.words → Saves F (finished_of at) behind before redo write fault old new
+      → IsScope size behind.gate_at (pool_scope F at) → IsOpenOn F at types log before undone now laters old.now.words → Saves F (finished_of at) behind before redo write fault old new
       → graph_of types (stored_in F at (overwritten write (reads old.now.words))) ≡ Some next → AreLaters F at types (overwritten write (reads old.now.words)) next more redo
       → RunsOn F at types behind before undone next more fault old new
   RunsOn-saves log behind undone now next laters more redo write fault old new ground is_open saves graph are =
       let stored : fault ≡ None → stored_in F at (reads new.now.words) ≡ stored_in F at (overwritten write (reads old.now.words)) =
-      λ none. stored_in-mine F at (overwritten write (reads old.now.words)) (reads new.now.words) (λ k mine. saves.runs.now none k (ground.apart k mine)) in
+      λ none. stored_in-has_word F at (overwritten write (reads old.now.words)) (reads new.now.words) (λ k mine. saves.runs.now none k (ground.apart k mine)) in
       record {
         write = write;
         redo = redo;

@@ -17,16 +17,16 @@ use Rattle.pud_defs.specs.Stored.{stored_in}
 use Rattle.pud_defs.specs.Graph.{Graph, graph_of}
 use Rattle.pud_defs.specs.Laters.{Later, with_laters}
 use Rattle.log_store.specs.Store.{OpenLog, asks}
-use Rattle.word_transaction.specs.Ground.{Ground, IsGround, written_in_turn, pending}
+use Rattle.word_transaction.specs.Scope.{Scope, IsScope, written_in_turn, pending}
 use Rattle.word_transaction.specs.Running.{IsRunning, IsIdle, SettlesTo, ByTransaction, Closes, Ends, CanRedo}
 use Rattle.word_transaction.proofs.Saved.{pending_is_mine}
 use Rattle.word_transaction.proofs.Pending.{asks-none, pending-in_turn}
 use Rattle.word_transaction.proofs.Ended.{Ends-idle, Closes-idle}
-use Rattle.hybrid_tx.specs.Grounds.{pool_place, pool_mine, pool_ground, finished_of, IsPlaced}
+use Rattle.hybrid_tx.specs.PoolScopes.{pool_place, pool_has_word, pool_scope, finished_of, IsPlaced}
 use Rattle.hybrid_tx.specs.Objects.Transactions.{RestsAs, IsOpenOn, IsAtRest, ClosesOn, EndsOn}
-use Rattle.hybrid_tx.proofs.PoolGrounds.{is_ground}
+use Rattle.hybrid_tx.proofs.PoolScope.{is_ground}
 use Rattle.hybrid_tx.proofs.FinishedPuddles.{finished_placed}
-use Rattle.hybrid_tx.proofs.Objects.Opening.{stored_in-mine, RestsAs-behind}
+use Rattle.hybrid_tx.proofs.Objects.Opening.{stored_in-has_word, RestsAs-behind}
 use Rattle.hybrid_tx.proofs.Objects.LatersKept.{AreLaters-none}
 use Rattle.hybrid_tx.proofs.Objects.LatersApplied.{laters_applied}
 use Rattle.hybrid_tx.proofs.Open.OwnEntries.{new_value_own}
@@ -38,13 +38,13 @@ off_own (Some v) mine own other w = absurd (let it : true ≡ false = sym (own v
 
 module _ (F size : ℕ) (at : List (ℕ × Puddle)) (types : List (ℕ × ℕ)) (log : OpenLog) (before : Image) (undone now : Graph) (laters : List Later) (fault : Option HostFault) (old new : State)
     (is_placed : IsPlaced F at) (device : device_words F ≤ size) (apart : log.gate_at + LOG_WORDS ≤ frames_at F) (is_open : IsOpenOn F at types log before undone now laters old.now.words) where
-  abbrev own : Ground
-  own = pool_ground F (finished_of at)
+  abbrev own : Scope
+  own = pool_scope F (finished_of at)
 
   abbrev after : Image
   after = overwritten (pending (pool_place F (finished_of at)) is_open.saving.es) (reads old.now.words)
 
-  own_ground : IsGround size log.gate_at own
+  own_ground : IsScope size log.gate_at own
   own_ground = is_ground F size log.gate_at (finished_of at) (finished_placed F at is_placed) device apart
 
   -- what is asked for is the redo entries in turn
@@ -63,14 +63,14 @@ module _ (F size : ℕ) (at : List (ℕ × Puddle)) (types : List (ℕ × ℕ)) 
   rests_behind : Changes (ByTransaction own log.gate_at) fault old new → RestsAs F at before new.now.words
   rests_behind c = RestsAs-behind F size at log.gate_at before fault old new (is_ground F size log.gate_at at is_placed device apart) c is_open.rests
 
-  after_beside : (k : ℕ) → pool_mine F at k ≡ true → pool_mine F (finished_of at) k ≡ false → after k ≡ before k
+  after_beside : (k : ℕ) → pool_has_word F at k ≡ true → pool_has_word F (finished_of at) k ≡ false → after k ≡ before k
   after_beside k mine other =
       let s = is_open.saving in
-      off_own (pending (pool_place F (finished_of at)) s.es k) (pool_mine F (finished_of at) k) (λ v is. pending_is_mine size log.gate_at own s.es k v own_ground s.running.own is) other (reads old.now.words k)
+      off_own (pending (pool_place F (finished_of at)) s.es k) (pool_has_word F (finished_of at) k) (λ v is. pending_is_mine size log.gate_at own s.es k v own_ground s.running.own is) other (reads old.now.words k)
       ∙ HasOnly-newest (old.now.words k) (before k) (is_open.rests.each k mine other)
 
-  pub EndsOn-ends : (laters ≢ [] → CanRedo (pool_ground F (finished_of at)) F log.gate_at old.now.words)
-      → ((g : Ground) (es : List Entry) (b : Image) → IsGround size log.gate_at g → IsRunning g log es b old.now.words → (asks es ≡ true → CanRedo g F log.gate_at old.now.words)
+  pub EndsOn-ends : (laters ≢ [] → CanRedo (pool_scope F (finished_of at)) F log.gate_at old.now.words)
+      → ((g : Scope) (es : List Entry) (b : Image) → IsScope size log.gate_at g → IsRunning g log es b old.now.words → (asks es ≡ true → CanRedo g F log.gate_at old.now.words)
       → Ends g log.gate_at b (overwritten (pending g.place es) (reads old.now.words)) fault old new) → EndsOn F at types log.gate_at before undone (with_laters laters now) fault old new
   EndsOn-ends can ends =
       let s = is_open.saving in
@@ -84,8 +84,8 @@ module _ (F size : ℕ) (at : List (ℕ × Puddle)) (types : List (ℕ × ℕ)) 
         is = ap (λ (i : Image). graph_of types (stored_in F at i)) in_turn ∙ laters_applied F at types is_placed laters is_open.redo (reads old.now.words) now is_open.is is_open.are;
       }
 
-  pub ClosesOn-closes : ((es : List Entry) → IsGround size log.gate_at (pool_ground F (finished_of at)) → IsRunning (pool_ground F (finished_of at)) log es before old.now.words
-      → Closes (pool_ground F (finished_of at)) log.gate_at before fault old new) → ClosesOn F at types log.gate_at before undone fault old new
+  pub ClosesOn-closes : ((es : List Entry) → IsScope size log.gate_at (pool_scope F (finished_of at)) → IsRunning (pool_scope F (finished_of at)) log es before old.now.words
+      → Closes (pool_scope F (finished_of at)) log.gate_at before fault old new) → ClosesOn F at types log.gate_at before undone fault old new
   ClosesOn-closes closes =
       let its = closes is_open.saving.es own_ground is_open.saving.running in
       record { closes = its; rests = λ none. rests_behind its.changes; was = is_open.was }
@@ -94,36 +94,36 @@ module _ (F size : ℕ) (at : List (ℕ × Puddle)) (types : List (ℕ × ℕ)) 
 
 module _ (F : ℕ) (at : List (ℕ × Puddle)) (types : List (ℕ × ℕ)) where
   -- what holds of the words of the finished puddles, and of those of the others, holds of all
-  each_mine : (P : ℕ → Type 0) → ((k : ℕ) → pool_mine F (finished_of at) k ≡ true → P k) → ((k : ℕ) → pool_mine F at k ≡ true → pool_mine F (finished_of at) k ≡ false → P k)
-      → (k : ℕ) → pool_mine F at k ≡ true → P k
-  each_mine P own others k mine = elim (cases_Bool (pool_mine F (finished_of at) k)) [ inl here ↦ own k here | inr other ↦ others k mine other ]
+  each_mine : (P : ℕ → Type 0) → ((k : ℕ) → pool_has_word F (finished_of at) k ≡ true → P k) → ((k : ℕ) → pool_has_word F at k ≡ true → pool_has_word F (finished_of at) k ≡ false → P k)
+      → (k : ℕ) → pool_has_word F at k ≡ true → P k
+  each_mine P own others k mine = elim (cases_Bool (pool_has_word F (finished_of at) k)) [ inl here ↦ own k here | inr other ↦ others k mine other ]
 
   -- with the log replayed the pool has the graph of what the image settles to
-  pub settled_graph : (size log : ℕ) (values image : Image) (g : Graph) → IsGround size log (pool_ground F (finished_of at)) → SettlesTo (pool_ground F (finished_of at)) log values image
-      → ((k : ℕ) → pool_mine F at k ≡ true → pool_mine F (finished_of at) k ≡ false → image k ≡ values k)
+  pub settled_graph : (size log : ℕ) (values image : Image) (g : Graph) → IsScope size log (pool_scope F (finished_of at)) → SettlesTo (pool_scope F (finished_of at)) log values image
+      → ((k : ℕ) → pool_has_word F at k ≡ true → pool_has_word F (finished_of at) k ≡ false → image k ≡ values k)
       → graph_of types (stored_in F at values) ≡ Some g → graph_of types (stored_in F at (replayed (pool_place F (finished_of at)) (log_of image log) image)) ≡ Some g
   settled_graph size log values image g ground s rests is =
-      let own = pool_ground F (finished_of at) in
+      let own = pool_scope F (finished_of at) in
       let behind = replayed (pool_place F (finished_of at)) (log_of image log) image in
-      let kept = λ (k : ℕ) (other : pool_mine F (finished_of at) k ≡ false).
-      off_own (new_value (pool_place F (finished_of at)) (log_of image log) k) (pool_mine F (finished_of at) k) (λ v is. new_value_own size log own (log_of image log) ground k v s.es s.spells s.own is) other (image k) in
-      ap (graph_of types) (stored_in-mine F at values behind (each_mine (λ k. behind k ≡ values k) s.settled (λ k mine other. kept k other ∙ rests k mine other))) ∙ is
+      let kept = λ (k : ℕ) (other : pool_has_word F (finished_of at) k ≡ false).
+      off_own (new_value (pool_place F (finished_of at)) (log_of image log) k) (pool_has_word F (finished_of at) k) (λ v is. new_value_own size log own (log_of image log) ground k v s.es s.spells s.own is) other (image k) in
+      ap (graph_of types) (stored_in-has_word F at values behind (each_mine (λ k. behind k ≡ values k) s.settled (λ k mine other. kept k other ∙ rests k mine other))) ∙ is
 
   -- words that have one value each have the values that are read
-  at_rest : (log : ℕ) (values : Image) (g : Graph) (words : Words) → IsIdle (pool_ground F (finished_of at)) log values words → RestsAs F at values words → graph_of types (stored_in F at values) ≡ Some g
+  at_rest : (log : ℕ) (values : Image) (g : Graph) (words : Words) → IsIdle (pool_scope F (finished_of at)) log values words → RestsAs F at values words → graph_of types (stored_in F at values) ≡ Some g
       → IsAtRest F at types log g words
   at_rest log values g words idle rests is =
       let single = each_mine (λ k. HasOnly (words k) (values k)) idle.single rests.each in
       record {
         idle = record { closed = idle.closed; single = λ k mine. HasOnly-own (words k) (values k) (single k mine) };
-        is = ap (graph_of types) (stored_in-mine F at values (reads words) (λ k mine. HasOnly-newest (words k) (values k) (single k mine))) ∙ is;
+        is = ap (graph_of types) (stored_in-has_word F at values (reads words) (λ k mine. HasOnly-newest (words k) (values k) (single k mine))) ∙ is;
       }
 
   pub IsAtRest-closed : (log : ℕ) (before : Image) (undone : Graph) (old new : State) → ClosesOn F at types log before undone None old new → IsAtRest F at types log undone new.now.words
   IsAtRest-closed log before undone old new c =
-      at_rest log before undone new.now.words (Closes-idle (pool_ground F (finished_of at)) log before None old new refl c.closes) (c.rests refl) c.was
+      at_rest log before undone new.now.words (Closes-idle (pool_scope F (finished_of at)) log before None old new refl c.closes) (c.rests refl) c.was
 
   pub IsAtRest-ended : (log : ℕ) (before : Image) (undone next : Graph) (old new : State) → EndsOn F at types log before undone next None old new → IsAtRest F at types log next new.now.words
   IsAtRest-ended log before undone next old new e =
-      at_rest log e.after next new.now.words (Ends-idle (pool_ground F (finished_of at)) log before e.after None old new refl e.ends)
+      at_rest log e.after next new.now.words (Ends-idle (pool_scope F (finished_of at)) log before e.after None old new refl e.ends)
       (record { each = λ k mine other. subst (λ (v : ℕ). HasOnly (new.now.words k) v) (sym (e.beside k mine other)) ((e.rests refl).each k mine other) }) e.is

@@ -17,7 +17,7 @@ use Rattle.pud_defs.specs.Graph.{Graph}
 use Rattle.pud_defs.specs.GraphChanges.{with_root}
 use Rattle.pud_defs.specs.Laters.{Later}
 use Rattle.log_store.specs.Store.{OpenLog}
-use Rattle.hybrid_tx.specs.Grounds.{IsPlaced, IsRewrittenAt}
+use Rattle.hybrid_tx.specs.PoolScopes.{IsPlaced, IsRewrittenAt}
 use Rattle.hybrid_tx.specs.Objects.Stores.{word_for}
 use Rattle.hybrid_tx.specs.Objects.Transactions.{IsOpenOn, RunsOn}
 use Rattle.hybrid_tx.proofs.Objects.RootsSet.{root_set}

@@ -14,7 +14,7 @@ use Rattle.pud_defs.specs.GraphChanges.{with_root}
 use Rattle.graph_laws.specs.Changes.{with_root_word}
 use Rattle.graph_laws.proofs.Roots.{graph_of-no_root, graph_of-root}
 use Rattle.graph_laws.proofs.Words.{place_of-some}
-use Rattle.hybrid_tx.specs.Grounds.{IsPlaced, IsRewrittenAt}
+use Rattle.hybrid_tx.specs.PoolScopes.{IsPlaced, IsRewrittenAt}
 use Rattle.hybrid_tx.specs.Objects.Stores.{word_for}
 use Rattle.hybrid_tx.proofs.Objects.FieldsSet.{stored_in-one, place_is, address_of_place, word_of_reference}
 

@@ -20,11 +20,11 @@ use Rattle.graph_read.specs.Reading.{place_in_pool}
 use Rattle.log_store.specs.Store.{OpenLog, InLog}
 use Rattle.object_alloc.specs.Alloc.{serial_word_at}
 use Rattle.object_alloc.proofs.Freed.{placed-single}
-use Rattle.word_transaction.specs.Ground.{Ground, IsGround}
+use Rattle.word_transaction.specs.Scope.{Scope, IsScope}
 use Rattle.word_transaction.specs.Running.{IsRunning, IsOneOf, ByTransaction, Keeps, Puts}
 use Rattle.word_transaction.proofs.Writing.{Runs-written}
 use Rattle.word_transaction.proofs.Kept.{WritesKept-placed, Puts-unkept, Puts-written}
-use Rattle.hybrid_tx.specs.Grounds.{pool_ground, finished_of, IsPlaced, IsRewrittenAt}
+use Rattle.hybrid_tx.specs.PoolScopes.{pool_scope, finished_of, IsPlaced, IsRewrittenAt}
 use Rattle.hybrid_tx.proofs.FinishedPuddles.{finished_placed, finished_there}
 use Rattle.hybrid_tx.specs.Objects.Stores.{address_at}
 use Rattle.hybrid_tx.specs.Objects.Transactions.{MayFree, IsSaving, IsOpenOn, Saves, RunsOn}
@@ -47,7 +47,7 @@ in_frame at slot of = let slots = of.below in omega arith
 -- ---- on any content
 
 module _ (F : ℕ) (at : List (ℕ × Puddle)) (slot : Slot) (of : IsSlotOf at slot) (log : ℕ) where
-  pub Changes-freed : (fault : Option HostFault) (a b c : State) → Changes (InLog log) None a b → Writes (only (serial_word_at F slot) 0) fault b c → Changes (ByTransaction (pool_ground F at) log) fault a c
+  pub Changes-freed : (fault : Option HostFault) (a b c : State) → Changes (InLog log) None a b → Writes (only (serial_word_at F slot) 0) fault b c → Changes (ByTransaction (pool_scope F at) log) fault a c
   Changes-freed fault a b c p q =
       ByPut-in_frame F at slot.ordinal (slot_begins slot + SLOT_SERIAL_WORD) log (slot.frame, of.puddle) (0 ∷ []) fault a c of.there (in_frame at slot of)
       (ByPut-written log (serial_word_at F slot) (0 ∷ []) fault a b c p (cleared F slot (serial_word_at F slot) fault b c refl q))
@@ -57,16 +57,16 @@ module _ (F : ℕ) (at : List (ℕ × Puddle)) (slot : Slot) (of : IsSlotOf at s
 module _ (F size : ℕ) (at : List (ℕ × Puddle)) (slot : Slot) (of : IsSlotOf at slot) (log now : OpenLog) (before : Image) (redo : List Entry) (address first : ℕ) (a : State)
     (is_placed : IsPlaced F at) (device : device_words F ≤ size) (apart : log.gate_at + LOG_WORDS ≤ frames_at F) (is_address : address ≡ address_at at (place_of_slot slot)) (is_first : first ≡ serial_word_at F slot)
     (rewritten : IsRewrittenAt at slot.ordinal) (saving : IsSaving F (finished_of at) log before redo a.now.words) (same : now.gate_at ≡ log.gate_at) where
-  abbrev g : Ground
-  g = pool_ground F (finished_of at)
+  abbrev g : Scope
+  g = pool_scope F (finished_of at)
 
   -- the word of the serial is kept
   abbrev IsKept : (fault : Option HostFault) (b : State) → Type 0
   IsKept fault b =
-      (es : List Entry) → IsGround size log.gate_at g → g.may address 1 ≡ true → g.place address ≡ Some first → IsRunning g log es before a.now.words → Keeps g now es before (IsOneOf first 1) fault a b
+      (es : List Entry) → IsScope size log.gate_at g → g.may_name address 1 ≡ true → g.place address ≡ Some first → IsRunning g log es before a.now.words → Keeps g now es before (IsOneOf first 1) fault a b
 
   saves : (fault : Option HostFault) (c : State)
-      → ((es : List Entry) → IsGround size log.gate_at g → g.may address 1 ≡ true → g.place address ≡ Some first → IsRunning g log es before a.now.words → Puts g now es before (placed first (0 ∷ [])) fault a c)
+      → ((es : List Entry) → IsScope size log.gate_at g → g.may_name address 1 ≡ true → g.place address ≡ Some first → IsRunning g log es before a.now.words → Puts g now es before (placed first (0 ∷ [])) fault a c)
       → Saves F (finished_of at) now before redo (placed (serial_word_at F slot) (0 ∷ [])) fault a c
   saves fault c puts =
       let some : 1 ≤ 1 = omega arith in
@@ -86,7 +86,7 @@ module _ (F size : ℕ) (at : List (ℕ × Puddle)) (slot : Slot) (of : IsSlotOf
       saves fault c (λ es ground may place r.
       Puts-written g now es before (IsOneOf first 1) (placed first (0 ∷ [])) fault a b c (keeps es ground may place r) (WritesKept-placed size log.gate_at g address first (0 ∷ []) ground may place)
       (λ entries running covered.
-      Runs-written size g now entries before (placed first (0 ∷ [])) fault b c (subst (λ (k : ℕ). IsGround size k g) (sym same) ground) running covered (cleared F slot first fault b c is_first writes)))
+      Runs-written size g now entries before (placed first (0 ∷ [])) fault b c (subst (λ (k : ℕ). IsScope size k g) (sym same) ground) running covered (cleared F slot first fault b c is_first writes)))
 
 -- ---- the graph
 

@@ -18,7 +18,7 @@ use Rattle.pud_defs.specs.World.{StoredWorld, idle_world_of}
 use Rattle.pud_defs.proofs.Masked.{log_of-masked}
 use Rattle.pud_defs.proofs.Spaces.{is_closed_log-same}
 use Rattle.word_transaction.specs.Running.{HasPlaces}
-use Rattle.hybrid_tx.specs.Grounds.{pool_mine, pool_ground, finished_of}
+use Rattle.hybrid_tx.specs.PoolScopes.{pool_has_word, pool_scope, finished_of}
 use Rattle.hybrid_tx.specs.Open.Masks.{is_open_record, open_mask, IsOpenPool, IsLeftOpen}
 use Rattle.hybrid_tx.specs.Open.ManyOpen.{OpenTransaction, Opens, with_transaction, open_masks, AreOpenPools, HasRecords, AreLeftOpen, IsOneMore, MasksAll}
 use Rattle.hybrid_tx.proofs.Open.OpenMasks.{mask_of_mine, mask_of_record, open_record_place}
@@ -31,7 +31,7 @@ use Rattle.hybrid_tx.proofs.Open.ManyMasks.{masks_below, masks_beside_log, open_
 -- the places of each are those of the tables
 module _ (size F : ℕ) (s : StoredWorld) (opens : Opens) (j : Image) (frames : F ≡ s.frames) (are : AreOpenPools F opens) (idle : is_idle_gate (j DAEMON_LOG) ≡ true)
     (records : HasRecords opens j) (world : idle_world_of size (masked_image (open_masks F opens) j) ≡ Some s) where
-  pub places_beside : (n : ℕ) (o : OpenTransaction) → opens n ≡ Some o → HasPlaces (pool_ground F (finished_of o.pool.puddles)) (puddle_word (tables_of F j))
+  pub places_beside : (n : ℕ) (o : OpenTransaction) → opens n ≡ Some o → HasPlaces (pool_scope F (finished_of o.pool.puddles)) (puddle_word (tables_of F j))
   places_beside = places_masked size F s opens (open_masks F opens) j frames are (open_masks_all F opens j are records) idle records world
 
 -- ---- one more
@@ -172,7 +172,7 @@ module _ (number : ℕ) (o q : OpenTransaction) (others opens next : Opens) (was
 -- ---- as one begins or ends
 
 module _ (size : ℕ) (s : StoredWorld) (number : ℕ) (o : OpenTransaction) (others opens : Opens) (more : IsOneMore number o others opens) (j : Image)
-    (are : AreOpenPools s.frames opens) (records : HasRecords opens j) (mine : (k : ℕ) → pool_mine s.frames (finished_of o.pool.puddles) k ≡ true → j k ≡ o.before k)
+    (are : AreOpenPools s.frames opens) (records : HasRecords opens j) (mine : (k : ℕ) → pool_has_word s.frames (finished_of o.pool.puddles) k ≡ true → j k ≡ o.before k)
     (unnamed : (k v : ℕ) → open_mask s.frames o.pool o.before k ≡ Some v → new_value device_word (log_of j DAEMON_LOG) k ≡ None) where
   abbrev F : ℕ
   F = s.frames
@@ -201,7 +201,7 @@ module _ (size : ℕ) (s : StoredWorld) (number : ℕ) (o : OpenTransaction) (ot
       let place = open_record_place F o.pool k opened.slot opened.known (open_on_device F o.pool o.before opened) of in
       has_value number o others opens more F all rest masks its j k (o.before k) (rest k) refl (mask_of_record F o.pool o.before k place.high of) (records.each number o more.here k of)
 
-  mine_under : (k : ℕ) → pool_mine F (finished_of o.pool.puddles) k ≡ true → under k ≡ o.before k
+  mine_under : (k : ℕ) → pool_has_word F (finished_of o.pool.puddles) k ≡ true → under k ≡ o.before k
   mine_under k of =
       has_value number o others opens more F all rest masks its j k (o.before k) (rest k) refl (mask_of_mine F o.pool o.before k (are.pool number o more.here).known of) (mine k of)
 

@@ -12,14 +12,14 @@ use Rattle.pud_defs.specs.Replay.{IsInLog, is_in_log}
 use Rattle.pud_defs.specs.Settled.{ALL_LOGS, log_number_at}
 use Rattle.pud_defs.specs.Tables.{tables_of}
 use Rattle.pud_defs.proofs.Replay.{within_log}
-use Rattle.hybrid_tx.specs.Grounds.{pool_mine, finished_of}
+use Rattle.hybrid_tx.specs.PoolScopes.{pool_has_word, finished_of}
 use Rattle.hybrid_tx.specs.Open.Masks.{is_open_record, open_mask}
 use Rattle.hybrid_tx.specs.Open.ManyOpen.{OpenTransaction, Opens, mask_of, open_masks, IsMaskedBy, MasksAll, AreOpenPools, HasRecords, AreLeftOpen}
 use Rattle.hybrid_tx.proofs.Open.OpenMasks.{open_record_place, mask_of_mine, mask_of_record, mask_of_gate, mask_of_log, mask_cases, mask_below}
 use Rattle.hybrid_tx.proofs.Open.OpenPools.{open_on_device, open_puddles}
 use Rattle.hybrid_tx.proofs.Open.OpenSettled.{IsOfNone, AreApart, other_log_apart, of_no_log, nothing_given}
 use Rattle.hybrid_tx.proofs.Open.OwnEntries.{either_of}
-use Rattle.hybrid_tx.proofs.PoolGrounds.{pool_mine-each}
+use Rattle.hybrid_tx.proofs.PoolScope.{pool_has_word-each}
 use Rattle.hybrid_tx.proofs.Open.PoolPlaces.{puddles_apart}
 
 -- ---- the first of several that gives something
@@ -68,7 +68,7 @@ module _ (F : ℕ) (opens : Opens) (mask : Write) (are : AreOpenPools F opens) (
         let m = mask_of_log F o.pool o.before k (ap (λ (x : ℕ). is_in_log (log_number_at F x) k) (are.number n o there) ∙ inside) in
         (m.0, all.has n o there k m.0 m.1)
 
-    pub masks_of_mine : (k : ℕ) → pool_mine F (finished_of o.pool.puddles) k ≡ true → mask k ≡ Some (o.before k)
+    pub masks_of_mine : (k : ℕ) → pool_has_word F (finished_of o.pool.puddles) k ≡ true → mask k ≡ Some (o.before k)
     masks_of_mine k mine = all.has n o there k (o.before k) (mask_of_mine F o.pool o.before k (are.pool n o there).known mine)
 
     pub masks_of_record : (k : ℕ) → is_open_record o.pool k ≡ true → mask k ≡ Some (o.before k)
@@ -83,7 +83,7 @@ module _ (F : ℕ) (opens : Opens) (mask : Write) (are : AreOpenPools F opens) (
       let o = m.transaction in
       elim (mask_cases F o.pool o.before k v m.is) [
         | inl inside ↦ absurd (let it : true ≡ false = sym inside ∙ ap (λ (x : ℕ). is_in_log (log_number_at F x) k) (are.number m.number o m.there) ∙ none.log m.number o m.there in cc)
-        | inr own ↦ elim (or_cases (pool_mine F (finished_of o.pool.puddles) k) (is_open_record o.pool k) own.0) [
+        | inr own ↦ elim (or_cases (pool_has_word F (finished_of o.pool.puddles) k) (is_open_record o.pool k) own.0) [
           | inl mine ↦ absurd (let it : true ≡ false = sym mine ∙ none.frames m.number o m.there in cc)
           | inr of ↦ record { number = m.number; transaction = o; there = m.there; of = of; is = own.1 }
         ]
@@ -142,15 +142,15 @@ module _ (F : ℕ) (opens : Opens) (image : Image) (are : AreOpenPools F opens) 
 
   module _ (n m : ℕ) (o q : OpenTransaction) (here : opens n ≡ Some o) (there : opens m ≡ Some q) (apart : n ≢ m) (k : ℕ) where
     -- a word of the log of one is not masked by another
-    pub log_or_own : is_in_log (log_number_at F o.pool.log_number) k ≡ true → (pool_mine F (finished_of q.pool.puddles) k || is_open_record q.pool k) ≡ true → ⊥
+    pub log_or_own : is_in_log (log_number_at F o.pool.log_number) k ≡ true → (pool_has_word F (finished_of q.pool.puddles) k || is_open_record q.pool k) ≡ true → ⊥
     log_or_own inside own =
         let known = (are.pool n o here).known in
         let opened = are.pool m q there in
         let is = within_log (log_number_at F o.pool.log_number) k inside in
         let low = is.low in
         let high = is.high in
-        elim (or_cases (pool_mine F (finished_of q.pool.puddles) k) (is_open_record q.pool k) own) [
-          | inl mine ↦ let l = (pool_mine-each F (finished_of q.pool.puddles) k mine).low in absurd (omega arith)
+        elim (or_cases (pool_has_word F (finished_of q.pool.puddles) k) (is_open_record q.pool k) own) [
+          | inl mine ↦ let l = (pool_has_word-each F (finished_of q.pool.puddles) k mine).low in absurd (omega arith)
           | inr of ↦ let h = (open_record_place F q.pool k opened.slot opened.known (open_on_device F q.pool q.before opened) of).high in absurd (omega arith)
         ]
 
@@ -159,22 +159,22 @@ module _ (F : ℕ) (opens : Opens) (image : Image) (are : AreOpenPools F opens) 
         let differ : o.pool.log_number ≡ q.pool.log_number → ⊥ = λ same. apart (sym (are.number n o here) ∙ same ∙ are.number m q there) in
         let it : true ≡ false = sym its ∙ other_log_apart F q.pool.log_number o.pool.log_number k differ (within_log (log_number_at F o.pool.log_number) k inside) in cc
 
-    pub mine_or_record : pool_mine F (finished_of o.pool.puddles) k ≡ true → is_open_record q.pool k ≡ true → ⊥
+    pub mine_or_record : pool_has_word F (finished_of o.pool.puddles) k ≡ true → is_open_record q.pool k ≡ true → ⊥
     mine_or_record mine of =
         let opened = are.pool m q there in
-        let l = (pool_mine-each F (finished_of o.pool.puddles) k mine).low in
+        let l = (pool_has_word-each F (finished_of o.pool.puddles) k mine).low in
         let h = (open_record_place F q.pool k opened.slot opened.known (open_on_device F q.pool q.before opened) of).high in
         absurd (omega arith)
 
   -- what a record says at the beginning of one it says at that of another
   own_agrees : (n m : ℕ) (o q : OpenTransaction) → opens n ≡ Some o → opens m ≡ Some q → n ≢ m → (k : ℕ)
-      → (pool_mine F (finished_of o.pool.puddles) k || is_open_record o.pool k) ≡ true → (pool_mine F (finished_of q.pool.puddles) k || is_open_record q.pool k) ≡ true → o.before k ≡ q.before k
-  own_agrees n m o q here there apart k own its = elim (or_cases (pool_mine F (finished_of o.pool.puddles) k) (is_open_record o.pool k) own) [
-    | inl mine ↦ elim (or_cases (pool_mine F (finished_of q.pool.puddles) k) (is_open_record q.pool k) its) [
+      → (pool_has_word F (finished_of o.pool.puddles) k || is_open_record o.pool k) ≡ true → (pool_has_word F (finished_of q.pool.puddles) k || is_open_record q.pool k) ≡ true → o.before k ≡ q.before k
+  own_agrees n m o q here there apart k own its = elim (or_cases (pool_has_word F (finished_of o.pool.puddles) k) (is_open_record o.pool k) own) [
+    | inl mine ↦ elim (or_cases (pool_has_word F (finished_of q.pool.puddles) k) (is_open_record q.pool k) its) [
       | inl also ↦ absurd (let it : true ≡ false = sym also ∙ opens_apart.each n m o q here there apart k mine in cc)
       | inr of ↦ absurd (mine_or_record n m o q here there apart k mine of)
     ]
-    | inr of ↦ elim (or_cases (pool_mine F (finished_of q.pool.puddles) k) (is_open_record q.pool k) its) [
+    | inr of ↦ elim (or_cases (pool_has_word F (finished_of q.pool.puddles) k) (is_open_record q.pool k) its) [
       | inl mine ↦ absurd (mine_or_record m n q o there here (λ same. apart (sym same)) k mine of)
       | inr also ↦ sym (records.each n o here k of) ∙ records.each m q there k also
     ]

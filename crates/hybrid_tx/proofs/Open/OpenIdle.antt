@@ -24,7 +24,7 @@ use Rattle.pud_defs.proofs.Spaces.{all_below-from, all_below-each, is_closed_log
 use Rattle.pud_defs.proofs.TablesOf.{tables_of-same}
 use Rattle.word_transaction.specs.Running.{HasPlaces}
 use Rattle.pud_defs.proofs.ClosedLogs.{closed_by_gate}
-use Rattle.hybrid_tx.specs.Grounds.{pool_mine, pool_ground, finished_of}
+use Rattle.hybrid_tx.specs.PoolScopes.{pool_has_word, pool_scope, finished_of}
 use Rattle.hybrid_tx.specs.Open.Masks.{OpenPool, is_open_record, open_mask, ArePuddlesOf, IsOpenPool}
 use Rattle.hybrid_tx.specs.Open.ManyOpen.{OpenTransaction, Opens, AreOpenPools, HasRecords, MasksAll}
 use Rattle.hybrid_tx.proofs.Open.OpenMasks.{mask_of_log, mask_of_gate, mask_cases, mask_below}
@@ -81,7 +81,7 @@ module _ (size F : ℕ) (s : StoredWorld) (opens : Opens) (mask : Write) (j : Im
       (agree_tables F j (settled_by DAEMON_LOG j) (λ k low. settled_by-idle DAEMON_LOG j k idle (outside_log DAEMON_LOG k (inr (omega arith)))))
       (sound_with_masked size F s opens mask j frames are all world (λ k v is. unnamed_idle j k idle) records)
 
-  pub places_masked : (n : ℕ) (o : OpenTransaction) → opens n ≡ Some o → HasPlaces (pool_ground F (finished_of o.pool.puddles)) (puddle_word (tables_of F j))
+  pub places_masked : (n : ℕ) (o : OpenTransaction) → opens n ≡ Some o → HasPlaces (pool_scope F (finished_of o.pool.puddles)) (puddle_word (tables_of F j))
   places_masked n o there = open_places F o.pool o.before j (are.pool n o there) (records.each n o there) s.next_number sound_masked
 
 -- of one that is open alone
@@ -90,14 +90,14 @@ module _ (size F : ℕ) (s : StoredWorld) (p : OpenPool) (before j : Image) (fra
   pub sound_now : HasSoundTables s.next_number (tables_of F j)
   sound_now = sound_masked size F s (alone p before) (open_mask F p before) j frames (are_alone p before F opened) (masks_alone p before F) idle (records_alone p before j records) world
 
-  pub places_now : HasPlaces (pool_ground F (finished_of p.puddles)) (puddle_word (tables_of F j))
+  pub places_now : HasPlaces (pool_scope F (finished_of p.puddles)) (puddle_word (tables_of F j))
   places_now = open_places F p before j opened records s.next_number sound_now
 
 -- ---- with the frames as they were at the beginning
 
 module _ (size : ℕ) (s : StoredWorld) (p : OpenPool) (before j : Image) (opened : IsOpenPool s.frames p before)
     (unnamed : (k v : ℕ) → open_mask s.frames p before k ≡ Some v → new_value device_word (log_of j DAEMON_LOG) k ≡ None)
-    (records : (k : ℕ) → is_open_record p k ≡ true → j k ≡ before k) (mine : (k : ℕ) → pool_mine s.frames (finished_of p.puddles) k ≡ true → j k ≡ before k) where
+    (records : (k : ℕ) → is_open_record p k ≡ true → j k ≡ before k) (mine : (k : ℕ) → pool_has_word s.frames (finished_of p.puddles) k ≡ true → j k ≡ before k) where
   abbrev mask : Write
   mask = open_mask s.frames p before
 
@@ -111,7 +111,7 @@ module _ (size : ℕ) (s : StoredWorld) (p : OpenPool) (before j : Image) (opene
   as_masked : (k : ℕ) → is_in_log (log_number_at s.frames p.log_number) k ≡ false → (v : ℕ) → mask k ≡ Some v → j k ≡ v
   as_masked k outside v is = elim (mask_cases s.frames p before k v is) [
     | inl inside ↦ absurd (let it : true ≡ false = sym inside ∙ outside in cc)
-    | inr own ↦ elim (or_cases (pool_mine s.frames (finished_of p.puddles) k) (is_open_record p k) own.0) [
+    | inr own ↦ elim (or_cases (pool_has_word s.frames (finished_of p.puddles) k) (is_open_record p k) own.0) [
       | inl of_frame ↦ mine k of_frame ∙ own.1
       | inr of_record ↦ records k of_record ∙ own.1
     ]

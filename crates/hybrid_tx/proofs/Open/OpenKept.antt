@@ -14,17 +14,17 @@ use Rattle.pud_defs.specs.Laters.{Later}
 use Rattle.log_store.specs.Store.{OpenLog, InLog}
 use Rattle.pm_model.proofs.Changes.{HasOnly-kept}
 use Rattle.word_transaction.proofs.Calls.{IsRunning-kept}
-use Rattle.hybrid_tx.specs.Grounds.{pool_mine, pool_ground, finished_of}
+use Rattle.hybrid_tx.specs.PoolScopes.{pool_has_word, pool_scope, finished_of}
 use Rattle.hybrid_tx.proofs.FinishedPuddles.{mine_of_finished}
 use Rattle.hybrid_tx.specs.Objects.Transactions.{IsOpenOn}
 use Rattle.hybrid_tx.proofs.Objects.LatersKept.{KeepsObjects-same, place_in_pool-stored, AreLaters-wider, keeps_front}
-use Rattle.hybrid_tx.proofs.Objects.Opening.{stored_in-mine}
+use Rattle.hybrid_tx.proofs.Objects.Opening.{stored_in-has_word}
 
 module _ (F : ℕ) (at : List (ℕ × Puddle)) (may : Footprint) (fault : Option HostFault) (old new : State) (c : Changes may fault old new) (uncut : fault ≡ Some Cut → ⊥)
-    (own : (k v : ℕ) → pool_mine F at k ≡ true → may k v → ⊥) where
+    (own : (k v : ℕ) → pool_has_word F at k ≡ true → may k v → ⊥) where
   -- what is stored of the pool is as it was
   stored_kept : stored_in F at (reads new.now.words) ≡ stored_in F at (reads old.now.words)
-  stored_kept = stored_in-mine F at (reads old.now.words) (reads new.now.words) (λ k mine. (c.keeps uncut k (λ v. own k v mine)).newest)
+  stored_kept = stored_in-has_word F at (reads old.now.words) (reads new.now.words) (λ k mine. (c.keeps uncut k (λ v. own k v mine)).newest)
 
   pub IsOpenOn-kept : (types more : List (ℕ × ℕ)) (log : OpenLog) (before : Image) (undone now : Graph) (laters : List Later) → ((k v : ℕ) → InLog log.gate_at k v → may k v → ⊥)
       → ((id m : ℕ) → map_of id types ≡ Some m → map_of id more ≡ Some m) → ((st : Stored) (g : Graph) → graph_of types st ≡ Some g → graph_of more st ≡ Some g)
@@ -34,7 +34,7 @@ module _ (F : ℕ) (at : List (ℕ × Puddle)) (may : Footprint) (fault : Option
         redo = o.redo;
         saving = record {
           es = o.saving.es;
-          running = IsRunning-kept (pool_ground F (finished_of at)) log o.saving.es before may fault old new c in_log (λ k v mine. own k v (mine_of_finished F at k mine)) o.saving.running;
+          running = IsRunning-kept (pool_scope F (finished_of at)) log o.saving.es before may fault old new c in_log (λ k v mine. own k v (mine_of_finished F at k mine)) o.saving.running;
           asks = o.saving.asks;
         };
         rests = record { each = λ k mine other. HasOnly-kept may fault old new k (before k) c (λ v. own k v mine) (o.rests.each k mine other) };

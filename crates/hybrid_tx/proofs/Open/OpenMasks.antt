@@ -17,9 +17,9 @@ use Rattle.pud_defs.specs.Spaces.{space_record_at}
 use Rattle.pud_defs.specs.Stored.{IsOnDevice}
 use Rattle.pud_defs.proofs.Masked.{IsBesideLog}
 use Rattle.pud_defs.proofs.Replay.{outside_log}
-use Rattle.hybrid_tx.specs.Grounds.{pool_mine, finished_of}
+use Rattle.hybrid_tx.specs.PoolScopes.{pool_has_word, finished_of}
 use Rattle.hybrid_tx.specs.Open.Masks.{OpenPool, is_in_pool_record, is_in_space_record, is_in_puddle_record, is_open_record, open_mask}
-use Rattle.hybrid_tx.proofs.PoolGrounds.{any_element, all_there, pool_mine-each}
+use Rattle.hybrid_tx.proofs.PoolScope.{any_element, all_there, pool_has_word-each}
 
 not_so : (b : Bool) → (b ≡ true → ⊥) → b ≡ false
 not_so true never = absurd (never refl)
@@ -28,8 +28,8 @@ not_so false never = refl
 -- ---- where its words lie
 
 -- no word in front of the frames is of a frame
-pub mine_behind : (F : ℕ) (at : List (ℕ × Puddle)) (k : ℕ) → k < frames_at F → pool_mine F at k ≡ false
-mine_behind F at k below = not_so (pool_mine F at k) (λ mine. let m = pool_mine-each F at k mine in let low = m.low in absurd (omega arith))
+pub mine_behind : (F : ℕ) (at : List (ℕ × Puddle)) (k : ℕ) → k < frames_at F → pool_has_word F at k ≡ false
+mine_behind F at k below = not_so (pool_has_word F at k) (λ mine. let m = pool_has_word-each F at k mine in let low = m.low in absurd (omega arith))
 
 -- a word of a record
 pub record IsOpenRecord (F k : ℕ) : Type 0 where
@@ -65,25 +65,25 @@ open_record_place F p k slot known on_device is =
 -- ---- the values of its words
 
 module _ (F : ℕ) (p : OpenPool) (before : Image) where
-  own_same : (after : Image) (k : ℕ) → ((pool_mine F (finished_of p.puddles) k || is_open_record p k) ≡ true → after k ≡ before k) → (b : Bool) → (pool_mine F (finished_of p.puddles) k || is_open_record p k) ≡ b
+  own_same : (after : Image) (k : ℕ) → ((pool_has_word F (finished_of p.puddles) k || is_open_record p k) ≡ true → after k ≡ before k) → (b : Bool) → (pool_has_word F (finished_of p.puddles) k || is_open_record p k) ≡ b
       → cond b (Some (after k)) None ≡ cond b (Some (before k)) None
   own_same after k same true own = ap (λ (v : ℕ). Some v) (same own)
   own_same after k same false own = refl
 
-  pub mask_of_own : (k : ℕ) → is_in_log (log_number_at F p.log_number) k ≡ false → (pool_mine F (finished_of p.puddles) k || is_open_record p k) ≡ true → open_mask F p before k ≡ Some (before k)
+  pub mask_of_own : (k : ℕ) → is_in_log (log_number_at F p.log_number) k ≡ false → (pool_has_word F (finished_of p.puddles) k || is_open_record p k) ≡ true → open_mask F p before k ≡ Some (before k)
   unfolding open_mask
   mask_of_own k outside own = cond-false _ _ _ outside ∙ cond-true _ _ _ own
 
-  pub mask_of_mine : (k : ℕ) → p.log_number < ALL_LOGS → pool_mine F (finished_of p.puddles) k ≡ true → open_mask F p before k ≡ Some (before k)
+  pub mask_of_mine : (k : ℕ) → p.log_number < ALL_LOGS → pool_has_word F (finished_of p.puddles) k ≡ true → open_mask F p before k ≡ Some (before k)
   mask_of_mine k known mine =
-      let m = pool_mine-each F (finished_of p.puddles) k mine in
+      let m = pool_has_word-each F (finished_of p.puddles) k mine in
       let low = m.low in
       mask_of_own k (outside_log (log_number_at F p.log_number) k (inr (omega arith))) (or_left _ _ mine)
 
   pub mask_of_record : (k : ℕ) → k < tables_end F → is_open_record p k ≡ true → open_mask F p before k ≡ Some (before k)
-  mask_of_record k below is = mask_of_own k (outside_log (log_number_at F p.log_number) k (inl (omega arith))) (or_right (pool_mine F (finished_of p.puddles) k) _ is)
+  mask_of_record k below is = mask_of_own k (outside_log (log_number_at F p.log_number) k (inl (omega arith))) (or_right (pool_has_word F (finished_of p.puddles) k) _ is)
 
-  pub mask_of_others : (k : ℕ) → is_in_log (log_number_at F p.log_number) k ≡ false → pool_mine F (finished_of p.puddles) k ≡ false → is_open_record p k ≡ false → open_mask F p before k ≡ None
+  pub mask_of_others : (k : ℕ) → is_in_log (log_number_at F p.log_number) k ≡ false → pool_has_word F (finished_of p.puddles) k ≡ false → is_open_record p k ≡ false → open_mask F p before k ≡ None
   unfolding open_mask
   mask_of_others k outside others beside = cond-false _ _ _ outside ∙ cond-false _ _ _ (ap (λ (b : Bool). b || is_open_record p k) others ∙ beside)
 
@@ -99,19 +99,19 @@ module _ (F : ℕ) (p : OpenPool) (before : Image) where
 
   -- a masked word is one of the log, or one of the frames or of a record with its value of the beginning
   pub mask_cases : (k v : ℕ) → open_mask F p before k ≡ Some v
-      → (is_in_log (log_number_at F p.log_number) k ≡ true) ⊎ (((pool_mine F (finished_of p.puddles) k || is_open_record p k) ≡ true) × (before k ≡ v))
+      → (is_in_log (log_number_at F p.log_number) k ≡ true) ⊎ (((pool_has_word F (finished_of p.puddles) k || is_open_record p k) ≡ true) × (before k ≡ v))
   unfolding open_mask
   mask_cases k v is = elim (cases_Bool (is_in_log (log_number_at F p.log_number) k)) [
     | inl inside ↦ inl inside
-    | inr outside ↦ inr (cond_some (pool_mine F (finished_of p.puddles) k || is_open_record p k) (before k) v (sym (cond-false _ _ _ outside) ∙ is))
+    | inr outside ↦ inr (cond_some (pool_has_word F (finished_of p.puddles) k || is_open_record p k) (before k) v (sym (cond-false _ _ _ outside) ∙ is))
   ]
 
   -- of a word of a frame or a record its value alone counts
-  pub open_mask-same : (after : Image) (k : ℕ) → ((pool_mine F (finished_of p.puddles) k || is_open_record p k) ≡ true → after k ≡ before k) → open_mask F p after k ≡ open_mask F p before k
+  pub open_mask-same : (after : Image) (k : ℕ) → ((pool_has_word F (finished_of p.puddles) k || is_open_record p k) ≡ true → after k ≡ before k) → open_mask F p after k ≡ open_mask F p before k
   unfolding open_mask
   open_mask-same after k same = elim (cases_Bool (is_in_log (log_number_at F p.log_number) k)) [
     | inl inside ↦ cond-true _ _ _ inside ∙ sym (cond-true _ _ _ inside)
-    | inr outside ↦ cond-false _ _ _ outside ∙ own_same after k same (pool_mine F (finished_of p.puddles) k || is_open_record p k) refl ∙ sym (cond-false _ _ _ outside)
+    | inr outside ↦ cond-false _ _ _ outside ∙ own_same after k same (pool_has_word F (finished_of p.puddles) k || is_open_record p k) refl ∙ sym (cond-false _ _ _ outside)
   ]
 
   module _ (slot : p.slot < POOL_RECORDS) (known : p.log_number < ALL_LOGS) (on_device : IsOnDevice F (finished_of p.puddles)) where

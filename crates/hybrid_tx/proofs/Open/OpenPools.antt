@@ -16,13 +16,13 @@ use Rattle.pud_defs.specs.Spaces.{space_record_at, owner_by, owner_of}
 use Rattle.pud_defs.specs.Stored.{IsOnDevice}
 use Rattle.pud_defs.specs.Tables.{tables_of, puddles_in_turn}
 use Rattle.pud_defs.proofs.TablesOf.{pools_below, puddles_below, frames_of_tables, pool_at-same, puddle_at-same}
-use Rattle.word_transaction.specs.Ground.{IsGround}
+use Rattle.word_transaction.specs.Scope.{IsScope}
 use Rattle.word_transaction.specs.Running.{SettlesTo, HasPlaces}
-use Rattle.hybrid_tx.specs.Grounds.{pool_ground, IsPlaced, finished_of}
+use Rattle.hybrid_tx.specs.PoolScopes.{pool_scope, IsPlaced, finished_of}
 use Rattle.hybrid_tx.specs.Open.Masks.{OpenPool, is_in_pool_record, is_in_space_record, is_in_puddle_record, is_open_record, ArePuddlesOf, IsOpenPool}
 use Rattle.hybrid_tx.proofs.Open.OpenSettled.{GivesOwn}
 use Rattle.hybrid_tx.proofs.Open.OwnEntries.{new_value_placed, new_value_own}
-use Rattle.hybrid_tx.proofs.PoolGrounds.{all_there, element_passes, is_ground}
+use Rattle.hybrid_tx.proofs.PoolScope.{all_there, element_passes, is_ground}
 use Rattle.hybrid_tx.proofs.Open.PoolPlaces.{ArePuddlesOf-same, on_device_of_puddles, placed_of_puddles, places_of_puddles, placed_in_turn}
 use Rattle.hybrid_tx.proofs.Open.Rights.{MayWritePool, own_log_allowed}
 
@@ -89,23 +89,23 @@ module _ (F : ℕ) (p : OpenPool) (before image : Image) (opened : IsOpenPool F 
         (placed_of_puddles next (tables_of F image) sound p.slot (finished_of p.puddles) open_puddles)
 
     -- whose places are those of the tables
-    pub open_places : HasPlaces (pool_ground F (finished_of p.puddles)) (puddle_word (tables_of F image))
+    pub open_places : HasPlaces (pool_scope F (finished_of p.puddles)) (puddle_word (tables_of F image))
     open_places =
-        subst (λ (n : ℕ). HasPlaces (pool_ground n (finished_of p.puddles)) (puddle_word (tables_of F image))) (frames_of_tables F image)
+        subst (λ (n : ℕ). HasPlaces (pool_scope n (finished_of p.puddles)) (puddle_word (tables_of F image))) (frames_of_tables F image)
         (places_of_puddles next (tables_of F image) sound p.slot (finished_of p.puddles) open_puddles)
 
-    open_ground : IsGround (device_words F) (log_number_at F p.log_number) (pool_ground F (finished_of p.puddles))
+    open_ground : IsScope (device_words F) (log_number_at F p.log_number) (pool_scope F (finished_of p.puddles))
     open_ground = let few = opened.known in is_ground F (device_words F) (log_number_at F p.log_number) (finished_of p.puddles) open_placed (omega arith) (omega arith)
 
     -- where it settles to the values from the beginning, its log is allowed and gives them
-    pub gives_own : SettlesTo (pool_ground F (finished_of p.puddles)) (log_number_at F p.log_number) before image → GivesOwn F p before image
+    pub gives_own : SettlesTo (pool_scope F (finished_of p.puddles)) (log_number_at F p.log_number) before image → GivesOwn F p before image
     gives_own s =
         let log = log_of image (log_number_at F p.log_number) in
-        let same = λ (w : ℕ). new_value_placed (pool_ground F (finished_of p.puddles)) (puddle_word (tables_of F image)) log open_places s.es w s.spells s.own in
+        let same = λ (w : ℕ). new_value_placed (pool_scope F (finished_of p.puddles)) (puddle_word (tables_of F image)) log open_places s.es w s.spells s.own in
         record {
           owned = open_owned;
           allowed = own_log_allowed next (tables_of F image) sound p.slot (finished_of p.puddles) open_puddles p.who open_writable F log s.es s.spells s.own;
-          own = λ w v is. new_value_own (device_words F) (log_number_at F p.log_number) (pool_ground F (finished_of p.puddles)) log open_ground w v s.es s.spells s.own (sym (same w) ∙ is);
+          own = λ w v is. new_value_own (device_words F) (log_number_at F p.log_number) (pool_scope F (finished_of p.puddles)) log open_ground w v s.es s.spells s.own (sym (same w) ∙ is);
           settled = λ w mine. ap (λ (o : Option ℕ). unwrap_or o (image w)) (same w) ∙ s.settled w mine;
         }
 

@@ -18,7 +18,7 @@ use Rattle.pud_defs.proofs.TablesOf.{tables_of-same}
 use Rattle.pud_defs.proofs.Settled.{given_in_turn-none, given_in_turn-one, settled_over-own}
 use Rattle.pud_defs.proofs.Accepted.{gives_to-accepted}
 use Rattle.pud_defs.proofs.Idle.{given_by_log-closed}
-use Rattle.hybrid_tx.specs.Grounds.{pool_mine, finished_of}
+use Rattle.hybrid_tx.specs.PoolScopes.{pool_has_word, finished_of}
 use Rattle.hybrid_tx.specs.Open.Masks.{OpenPool}
 use Rattle.hybrid_tx.specs.Open.ManyOpen.{OpenTransaction, Opens, AreOpenPools}
 use Rattle.hybrid_tx.proofs.Open.OpenMasks.{mine_behind}
@@ -28,23 +28,23 @@ use Rattle.hybrid_tx.proofs.Open.OpenMasks.{mine_behind}
 -- the word is one of no open transaction's log, nor of its frames
 pub record IsOfNone (F : ℕ) (opens : Opens) (k : ℕ) : Type 0 where
   pub log : (n : ℕ) (o : OpenTransaction) → opens n ≡ Some o → is_in_log (log_number_at F n) k ≡ false
-  pub frames : (n : ℕ) (o : OpenTransaction) → opens n ≡ Some o → pool_mine F (finished_of o.pool.puddles) k ≡ false
+  pub frames : (n : ℕ) (o : OpenTransaction) → opens n ≡ Some o → pool_has_word F (finished_of o.pool.puddles) k ≡ false
 
 -- The second image is the first but for words of the transactions: those of the frames are in it as they were at the beginning of each.
 pub record AreLikeMasked (F : ℕ) (opens : Opens) (d m : Image) : Type 0 where
-  pub own : (n : ℕ) (o : OpenTransaction) → opens n ≡ Some o → (k : ℕ) → pool_mine F (finished_of o.pool.puddles) k ≡ true → m k ≡ o.before k
+  pub own : (n : ℕ) (o : OpenTransaction) → opens n ≡ Some o → (k : ℕ) → pool_has_word F (finished_of o.pool.puddles) k ≡ true → m k ≡ o.before k
   pub others : (k : ℕ) → IsOfNone F opens k → m k ≡ d k
 
 -- no word of the frames of one is of those of another
 pub record AreApart (F : ℕ) (opens : Opens) : Type 0 where
-  pub each : (n m : ℕ) (o q : OpenTransaction) → opens n ≡ Some o → opens m ≡ Some q → n ≢ m → (k : ℕ) → pool_mine F (finished_of o.pool.puddles) k ≡ true → pool_mine F (finished_of q.pool.puddles) k ≡ false
+  pub each : (n m : ℕ) (o q : OpenTransaction) → opens n ≡ Some o → opens m ≡ Some q → n ≢ m → (k : ℕ) → pool_has_word F (finished_of o.pool.puddles) k ≡ true → pool_has_word F (finished_of q.pool.puddles) k ≡ false
 
 -- In this image the transaction's log is allowed; what it gives it gives to own words, which then are as they were at the beginning.
 pub record GivesOwn (F : ℕ) (p : OpenPool) (before d : Image) : Type 0 where
   pub owned : owner_of d (client_of_log p.log_number) ≡ Some p.who
   pub allowed : is_allowed_log (tables_of F d) p.who (log_of d (log_number_at F p.log_number)) ≡ true
-  pub own : (k v : ℕ) → new_value (puddle_word (tables_of F d)) (log_of d (log_number_at F p.log_number)) k ≡ Some v → pool_mine F (finished_of p.puddles) k ≡ true
-  pub settled : (k : ℕ) → pool_mine F (finished_of p.puddles) k ≡ true → replayed (puddle_word (tables_of F d)) (log_of d (log_number_at F p.log_number)) d k ≡ before k
+  pub own : (k v : ℕ) → new_value (puddle_word (tables_of F d)) (log_of d (log_number_at F p.log_number)) k ≡ Some v → pool_has_word F (finished_of p.puddles) k ≡ true
+  pub settled : (k : ℕ) → pool_has_word F (finished_of p.puddles) k ≡ true → replayed (puddle_word (tables_of F d)) (log_of d (log_number_at F p.log_number)) d k ≡ before k
 
 log_place : (F number : ℕ) → log_number_at F number ≡ tables_end F + LOG_WORDS * number
 log_place F number = omega arith
@@ -91,17 +91,17 @@ record IsMineOf (F : ℕ) (opens : Opens) (w : ℕ) : Type 0 where
   number : ℕ
   transaction : OpenTransaction
   there : opens number ≡ Some transaction
-  mine : pool_mine F (finished_of transaction.pool.puddles) w ≡ true
+  mine : pool_has_word F (finished_of transaction.pool.puddles) w ≡ true
 
 module _ (F : ℕ) (opens : Opens) (w : ℕ) where
   abbrev IsNotOf : ℕ → Type 0
-  IsNotOf n = (o : OpenTransaction) → opens n ≡ Some o → pool_mine F (finished_of o.pool.puddles) w ≡ false
+  IsNotOf n = (o : OpenTransaction) → opens n ≡ Some o → pool_has_word F (finished_of o.pool.puddles) w ≡ false
 
   mine_under : (n : ℕ) (o : Option OpenTransaction) → opens n ≡ o → IsMineOf F opens w ⊎ IsNotOf n
   mine_under n None e = inr (λ q is. absurd (none-some q (sym e ∙ is)))
-  mine_under n (Some o) e = elim (cases_Bool (pool_mine F (finished_of o.pool.puddles) w)) [
-    | inl mine ↦ inl (record { number = n; transaction = o; there = e; mine = mine })
-    | inr other ↦ inr (λ q is. ap (λ (t : OpenTransaction). pool_mine F (finished_of t.pool.puddles) w) (same_Some q o (sym is ∙ e)) ∙ other)
+  mine_under n (Some o) e = elim (cases_Bool (pool_has_word F (finished_of o.pool.puddles) w)) [
+    | inl mine ↦ inl (record { number = n; transaction = o; there = e; has_word = mine })
+    | inr other ↦ inr (λ q is. ap (λ (t : OpenTransaction). pool_has_word F (finished_of t.pool.puddles) w) (same_Some q o (sym is ∙ e)) ∙ other)
   ]
 
   mine_below : (count : ℕ) → IsMineOf F opens w ⊎ ((n : ℕ) → n < count → IsNotOf n)
@@ -173,10 +173,10 @@ module _ (F : ℕ) (opens : Opens) (d m : Image) (are : AreOpenPools F opens) (l
           let few = known of.number of.transaction of.there in
           ap (λ (o : Option ℕ). unwrap_or o (d w))
           (given_in_turn-one (given_by_log F d) 0 ALL_LOGS of.number w (omega arith) (omega arith)
-          (λ n low high differs. gives_none closed w n (omega arith) (λ q is. apart.each of.number n of.transaction q of.there is (λ same. differs (sym same)) w of.mine) (opens n) refl)
+          (λ n low high differs. gives_none closed w n (omega arith) (λ q is. apart.each of.number n of.transaction q of.there is (λ same. differs (sym same)) w of.has_word) (opens n) refl)
           ∙ own_gives of.number of.transaction of.there w)
-          ∙ (gives of.number of.transaction of.there).settled w of.mine
-          ∙ sym (like.own of.number of.transaction of.there w of.mine)
+          ∙ (gives of.number of.transaction of.there).settled w of.has_word
+          ∙ sym (like.own of.number of.transaction of.there w of.has_word)
       gives_alike w outside (inr none) =
           ap (λ (o : Option ℕ). unwrap_or o (d w)) (given_in_turn-none (given_by_log F d) 0 ALL_LOGS w (λ n low high. gives_none closed w n (omega arith) (none n (omega arith)) (opens n) refl))
           ∙ sym (like.others w (record {

@@ -16,7 +16,7 @@ use Rattle.pud_defs.proofs.Parts.Part.{Pools}
 use Rattle.pud_defs.proofs.SoundChanged.{sound_from}
 use Rattle.word_transaction.specs.Running.{SettlesTo}
 use Rattle.word_transaction.proofs.Images.{SettlesTo-local}
-use Rattle.hybrid_tx.specs.Grounds.{pool_ground, finished_of}
+use Rattle.hybrid_tx.specs.PoolScopes.{pool_scope, finished_of}
 use Rattle.hybrid_tx.specs.Open.Masks.{open_mask}
 use Rattle.hybrid_tx.specs.Open.ManyOpen.{OpenTransaction, Opens, open_masks, AreOpenPools, HasRecords, AreLeftOpen, MasksAll}
 use Rattle.hybrid_tx.proofs.Open.OpenMasks.{mask_of_mine, mask_of_log}
@@ -49,9 +49,9 @@ module _ (size F : ℕ) (s : StoredWorld) (opens : Opens) (mask : Write) (j : Im
       stays : (k v : ℕ) → open_mask F o.pool o.before k ≡ Some v → behind k ≡ j k
       stays k v is = masked_word_stays mask (masks_below F opens mask are all) j unnamed_all k v (all.has n o there k v is)
 
-      settles_behind : SettlesTo (pool_ground F (finished_of o.pool.puddles)) (log_number_at F o.pool.log_number) o.before behind
+      settles_behind : SettlesTo (pool_scope F (finished_of o.pool.puddles)) (log_number_at F o.pool.log_number) o.before behind
       settles_behind =
-          SettlesTo-local (pool_ground F (finished_of o.pool.puddles)) (log_number_at F o.pool.log_number) o.before j behind
+          SettlesTo-local (pool_scope F (finished_of o.pool.puddles)) (log_number_at F o.pool.log_number) o.before j behind
           (λ k inside.
           let v = mask_of_log F o.pool o.before k (and_from (leb (log_number_at F o.pool.log_number) k) _ (le-leb _ _ inside.low) (lt-ltb _ _ inside.high)) in
           stays k v.0 v.1)

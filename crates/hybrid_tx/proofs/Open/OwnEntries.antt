@@ -9,7 +9,7 @@ use Rattle.pud_defs.specs.declared.log_words.TheConstants.{UNDO_ORDER, REDO_ORDE
 use Rattle.pud_defs.specs.Entries.{Entry, Log}
 use Rattle.pud_defs.specs.Replay.{Place, is_in_range, given_by, undone, redone, given, new_value}
 use Rattle.pud_defs.proofs.Replay.{undone-first, redone-first, given_by-out, or_none, new_value-of}
-use Rattle.word_transaction.specs.Ground.{Ground, IsGround, IsOwn}
+use Rattle.word_transaction.specs.Scope.{Scope, IsScope, IsInScope}
 use Rattle.word_transaction.specs.Running.{HasPlaces}
 use Rattle.word_transaction.proofs.Saved.{undone_is_mine, redone_is_mine}
 use Rattle.word_transaction.proofs.Growing.{undone-places, redone-places}
@@ -17,20 +17,20 @@ use Rattle.word_transaction.proofs.Growing.{undone-places, redone-places}
 -- ---- entries in range alone count
 
 -- an entry that the transaction may write, where it counts in the log
-abbrev pub IsOwnInRange : Ground → Log → Entry → Type 0
-IsOwnInRange g log e = is_in_range log e ≡ true → IsOwn g e
+abbrev pub IsOwnInRange : Scope → Log → Entry → Type 0
+IsOwnInRange g log e = is_in_range log e ≡ true → IsInScope g e
 
 -- those that count
 abbrev counted : Log → List Entry → List Entry
 counted log es = filter (is_in_range log) es
 
-counted_own : (g : Ground) (log : Log) (es : List Entry) → All (IsOwnInRange g log) es → All (IsOwn g) (counted log es)
-counted_own g log [] own = All-nil (IsOwn g)
+counted_own : (g : Scope) (log : Log) (es : List Entry) → All (IsOwnInRange g log) es → All (IsInScope g) (counted log es)
+counted_own g log [] own = All-nil (IsInScope g)
 counted_own g log (e ∷ es) own =
     let rest = counted_own g log es (All-tail (IsOwnInRange g log) e es own) in
     elim (cases_Bool (is_in_range log e)) [
-      | inl inside ↦ subst (λ (xs : List Entry). All (IsOwn g) xs) (sym (cond-true _ _ _ inside)) (All-cons (IsOwn g) e (counted log es) (All-head (IsOwnInRange g log) e es own inside) rest)
-      | inr out ↦ subst (λ (xs : List Entry). All (IsOwn g) xs) (sym (cond-false _ _ _ out)) rest
+      | inl inside ↦ subst (λ (xs : List Entry). All (IsInScope g) xs) (sym (cond-true _ _ _ inside)) (All-cons (IsInScope g) e (counted log es) (All-head (IsOwnInRange g log) e es own inside) rest)
+      | inr out ↦ subst (λ (xs : List Entry). All (IsInScope g) xs) (sym (cond-false _ _ _ out)) rest
     ]
 
 undone-counted : (place : Place) (log : Log) (es : List Entry) (w : ℕ) → undone place log es w ≡ undone place log (counted log es) w
@@ -68,7 +68,7 @@ new_value-counted place log es w are = new_value-of place log es w are ∙ ap₂
 -- ---- what they give
 
 -- over places that agree the log gives the same
-pub new_value_placed : (g : Ground) (place : Place) (log : Log) → HasPlaces g place → (es : List Entry) (w : ℕ) → log.entries ≡ Some es → All (IsOwnInRange g log) es
+pub new_value_placed : (g : Scope) (place : Place) (log : Log) → HasPlaces g place → (es : List Entry) (w : ℕ) → log.entries ≡ Some es → All (IsOwnInRange g log) es
     → new_value place log w ≡ new_value g.place log w
 new_value_placed g place log places es w are own =
     let counts = counted log es in
@@ -81,7 +81,7 @@ either_of None b v is = inr is
 either_of (Some x) b v is = inl is
 
 -- it gives values to own words alone
-pub new_value_own : (size at : ℕ) (g : Ground) (log : Log) → IsGround size at g → (w v : ℕ) (es : List Entry) → log.entries ≡ Some es → All (IsOwnInRange g log) es → new_value g.place log w ≡ Some v → g.mine w ≡ true
+pub new_value_own : (size at : ℕ) (g : Scope) (log : Log) → IsScope size at g → (w v : ℕ) (es : List Entry) → log.entries ≡ Some es → All (IsOwnInRange g log) es → new_value g.place log w ≡ Some v → g.has_word w ≡ true
 new_value_own size at g log ground w v es are own is =
     let counts = counted log es in
     let all = counted_own g log es own in

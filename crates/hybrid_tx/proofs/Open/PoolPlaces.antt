@@ -15,9 +15,9 @@ use Rattle.pud_defs.specs.Tables.{Tables, puddles_in_turn}
 use Rattle.pud_defs.proofs.PuddlesListed.{puddles_in_turn-on_device}
 use Rattle.graph_laws.specs.Changes.{AreBases}
 use Rattle.word_transaction.specs.Running.{HasPlaces}
-use Rattle.hybrid_tx.specs.Grounds.{pool_place, pool_mine, pool_ground, IsPlaced}
+use Rattle.hybrid_tx.specs.PoolScopes.{pool_place, pool_has_word, pool_scope, IsPlaced}
 use Rattle.hybrid_tx.specs.Open.Masks.{IsPuddleOf, ArePuddlesOf}
-use Rattle.hybrid_tx.proofs.PoolGrounds.{IsNamed, pool_may-named, pool_place-there, pool_mine-each}
+use Rattle.hybrid_tx.proofs.PoolScope.{IsNamed, pool_may_name-named, pool_place-there, pool_has_word-each}
 use Rattle.pud_defs.proofs.PoolMembers.{IsMemberOf, HasMembers, members_in_turn, multiple_of_legal, legal_of_member, one_ordinal, one_frame, puddle_word_of_member}
 
 -- the puddle of a base
@@ -106,8 +106,8 @@ module _ (next : ℕ) (t : Tables) (sound : HasSoundTables next t) (slot : ℕ) 
         puddle_word_of_member next t sound slot is.member.ordinal e (as_member t slot e is) address low (omega arith)
         ∙ sym (pool_place-there t.frames at named.ordinal e address are_bases named.there low (omega arith))
 
-    pub places_of_puddles : HasPlaces (pool_ground t.frames at) (puddle_word t)
-    places_of_puddles = record { each = λ address count may. named_place address count (pool_may-named at address count may) }
+    pub places_of_puddles : HasPlaces (pool_scope t.frames at) (puddle_word t)
+    places_of_puddles = record { each = λ address count may. named_place address count (pool_may_name-named at address count may) }
 
 -- in sound tables those of a pool in turn are such
 pub are_puddles_in_turn : (next : ℕ) (t : Tables) (slot : ℕ) → HasSoundTables next t → ArePuddlesOf t slot (puddles_in_turn t slot)
@@ -132,12 +132,12 @@ each_in_turn t slot i e there = as_puddle t slot i e ((members_in_turn t slot).e
 
 -- no word of the frames of one is of those of the other
 pub puddles_apart : (F : ℕ) (t : Tables) (slot other : ℕ) (at bt : List (ℕ × Puddle)) → EachIsOf t slot at → EachIsOf t other bt → slot ≢ other
-    → (k : ℕ) → pool_mine F at k ≡ true → pool_mine F bt k ≡ false
-puddles_apart F t slot other at bt are its apart k mine = elim (cases_Bool (pool_mine F bt k)) [
+    → (k : ℕ) → pool_has_word F at k ≡ true → pool_has_word F bt k ≡ false
+puddles_apart F t slot other at bt are its apart k mine = elim (cases_Bool (pool_has_word F bt k)) [
   | inr beside ↦ beside
   | inl also ↦ absurd (
-      let here = pool_mine-each F at k mine in
-      let there = pool_mine-each F bt k also in
+      let here = pool_has_word-each F at k mine in
+      let there = pool_has_word-each F bt k also in
       let one = are here.ordinal here.puddle here.there in
       let two = its there.ordinal there.puddle there.there in
       let a = here.low in

@@ -16,9 +16,9 @@ use Rattle.pud_defs.specs.Rights.{may_write}
 use Rattle.pud_defs.specs.SoundTables.{HasSoundTables}
 use Rattle.pud_defs.specs.Spaces.{Owner, owner}
 use Rattle.pud_defs.specs.Tables.{Tables}
-use Rattle.hybrid_tx.specs.Grounds.{pool_ground}
+use Rattle.hybrid_tx.specs.PoolScopes.{pool_scope}
 use Rattle.hybrid_tx.specs.Open.Masks.{IsPuddleOf, ArePuddlesOf}
-use Rattle.hybrid_tx.proofs.PoolGrounds.{IsNamed, pool_may-named}
+use Rattle.hybrid_tx.proofs.PoolScope.{IsNamed, pool_may_name-named}
 use Rattle.hybrid_tx.proofs.Open.OwnEntries.{IsOwnInRange}
 use Rattle.pud_defs.proofs.PoolMembers.{located_of_member}
 use Rattle.hybrid_tx.proofs.Open.PoolPlaces.{as_member}
@@ -53,17 +53,17 @@ module _ (next : ℕ) (t : Tables) (sound : HasSoundTables next t) (slot : ℕ) 
       (le-leb _ _ (let few : (e.address - d.1.base) / WORD_BYTES + length e.vals ≤ FRAME_WORDS = omega arith in few))
       (may_write_one d is))
 
-  all_own_allowed : (F : ℕ) (log : Log) (es : List Entry) → All (IsOwnInRange (pool_ground F at) log) es → list_all (λ e. not (is_in_range log e) || is_allowed_entry t who e) es ≡ true
+  all_own_allowed : (F : ℕ) (log : Log) (es : List Entry) → All (IsOwnInRange (pool_scope F at) log) es → list_all (λ e. not (is_in_range log e) || is_allowed_entry t who e) es ≡ true
   all_own_allowed F log [] own = refl
   all_own_allowed F log (e ∷ es) own =
       and_from _ _
       (elim (cases_Bool (is_in_range log e)) [
-        | inl inside ↦ or_right (not (is_in_range log e)) _ (allowed_named e (pool_may-named at e.address (length e.vals) (All-head (IsOwnInRange (pool_ground F at) log) e es own inside).may))
+        | inl inside ↦ or_right (not (is_in_range log e)) _ (allowed_named e (pool_may_name-named at e.address (length e.vals) (All-head (IsOwnInRange (pool_scope F at) log) e es own inside).may))
         | inr out ↦ or_left (not (is_in_range log e)) _ (ap not out)
       ])
-      (all_own_allowed F log es (All-tail (IsOwnInRange (pool_ground F at) log) e es own))
+      (all_own_allowed F log es (All-tail (IsOwnInRange (pool_scope F at) log) e es own))
 
   -- and a log whose entries in range are the transaction's is allowed
-  pub own_log_allowed : (F : ℕ) (log : Log) (es : List Entry) → log.entries ≡ Some es → All (IsOwnInRange (pool_ground F at) log) es → is_allowed_log t who log ≡ true
+  pub own_log_allowed : (F : ℕ) (log : Log) (es : List Entry) → log.entries ≡ Some es → All (IsOwnInRange (pool_scope F at) log) es → is_allowed_log t who log ≡ true
   unfolding is_allowed_log
   own_log_allowed F log es spells own = ap (are_allowed_entries t who log) spells ∙ all_own_allowed F log es own

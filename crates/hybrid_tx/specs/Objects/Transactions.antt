@@ -23,9 +23,9 @@ use Rattle.graph_laws.specs.Slots.{IsLowestFreeSlot}
 use Rattle.puddle_header.specs.Places.{place_of_slot, IsSlotOf}
 use Rattle.graph_read.specs.Reading.{place_in_pool}
 use Rattle.log_store.specs.Store.{OpenLog}
-use Rattle.word_transaction.specs.Ground.{redo_entry, asked}
+use Rattle.word_transaction.specs.Scope.{redo_entry, asked}
 use Rattle.word_transaction.specs.Running.{IsRunning, IsIdle, begun, Runs, Closes, Ends}
-use Rattle.hybrid_tx.specs.Grounds.{pool_mine, pool_ground, finished_of, IsRewrittenAt}
+use Rattle.hybrid_tx.specs.PoolScopes.{pool_has_word, pool_scope, finished_of, IsRewrittenAt}
 use Rattle.hybrid_tx.specs.Objects.Stores.{word_for, field_word, making, ByMaking}
 
 -- ---- an open transaction
@@ -97,12 +97,12 @@ AreLaters F at types image now laters redo = AllZip (IsLater F at types image no
 -- entries, the oldest first.
 pub record IsSaving (F : ℕ) (at : List (ℕ × Puddle)) (log : OpenLog) (before : Image) (redo : List Entry) (words : Words) : Type 0 where
   pub es : List Entry
-  pub running : IsRunning (pool_ground F at) log es before words
+  pub running : IsRunning (pool_scope F at) log es before words
   pub asks : asked es ≡ redo
 
 -- Each word of the puddles that are not finished has the value that it had at the beginning, and no other.
 pub record RestsAs (F : ℕ) (at : List (ℕ × Puddle)) (before : Image) (words : Words) : Type 0 where
-  pub each : (k : ℕ) → pool_mine F at k ≡ true → pool_mine F (finished_of at) k ≡ false → HasOnly (words k) (before k)
+  pub each : (k : ℕ) → pool_has_word F at k ≡ true → pool_has_word F (finished_of at) k ≡ false → HasOnly (words k) (before k)
 
 -- A transaction on the pool of these puddles is open: one on the words of the finished ones is, and those of the others rest. The pool had the graph that
 -- comes back if the transaction is undone when the words held what they held at the beginning, by what is read it has another now, and these values of
@@ -118,7 +118,7 @@ pub record IsOpenOn (F : ℕ) (at : List (ℕ × Puddle)) (types : List (ℕ × 
 -- No transaction is open on the pool: the log whose gate is this word is closed in each image, each word of the pool's frames has one value, and by
 -- these the pool has this graph.
 pub record IsAtRest (F : ℕ) (at : List (ℕ × Puddle)) (types : List (ℕ × ℕ)) (log_at : ℕ) (g : Graph) (words : Words) : Type 0 where
-  pub idle : IsIdle (pool_ground F at) log_at (reads words) words
+  pub idle : IsIdle (pool_scope F at) log_at (reads words) words
   pub is : graph_of types (stored_in F at (reads words)) ≡ Some g
 
 -- ---- what calls do
@@ -127,7 +127,7 @@ pub record IsAtRest (F : ℕ) (at : List (ℕ × Puddle)) (types : List (ℕ × 
 -- beginning. Without a fault these words are written, and the transaction asks for words by these redo entries.
 pub record Saves (F : ℕ) (at : List (ℕ × Puddle)) (log : OpenLog) (before : Image) (redo : List Entry) (write : Write) (fault : Option HostFault) (old new : State) : Type 0 where
   pub es : List Entry
-  pub runs : Runs (pool_ground F at) log es before write fault old new
+  pub runs : Runs (pool_scope F at) log es before write fault old new
   pub asks : asked es ≡ redo
 
 -- A call within a transaction on the pool: it runs on the words of its finished puddles, and those of the others rest. Without a fault the pool has the next graph by what is read, and these values of
@@ -154,7 +154,7 @@ pub record MakesIn (F : ℕ) (at : List (ℕ × Puddle)) (log_at : ℕ) (slot : 
 
 -- The transaction is undone, and its log, whose gate is this word, closed: each image settles to what the words held at the beginning.
 pub record ClosesOn (F : ℕ) (at : List (ℕ × Puddle)) (types : List (ℕ × ℕ)) (log_at : ℕ) (before : Image) (undone : Graph) (fault : Option HostFault) (old new : State) : Type 0 where
-  pub closes : Closes (pool_ground F (finished_of at)) log_at before fault old new
+  pub closes : Closes (pool_scope F (finished_of at)) log_at before fault old new
   pub rests : fault ≡ None → RestsAs F at before new.now.words
   pub was : graph_of types (stored_in F at before) ≡ Some undone
 
@@ -162,8 +162,8 @@ pub record ClosesOn (F : ℕ) (at : List (ℕ × Puddle)) (types : List (ℕ × 
 -- then on to what they come to hold, by which the pool has the new graph; the words of the puddles that are not finished stay.
 pub record EndsOn (F : ℕ) (at : List (ℕ × Puddle)) (types : List (ℕ × ℕ)) (log_at : ℕ) (before : Image) (undone next : Graph) (fault : Option HostFault) (old new : State) : Type 0 where
   pub after : Image
-  pub ends : Ends (pool_ground F (finished_of at)) log_at before after fault old new
-  pub beside : (k : ℕ) → pool_mine F at k ≡ true → pool_mine F (finished_of at) k ≡ false → after k ≡ before k
+  pub ends : Ends (pool_scope F (finished_of at)) log_at before after fault old new
+  pub beside : (k : ℕ) → pool_has_word F at k ≡ true → pool_has_word F (finished_of at) k ≡ false → after k ≡ before k
   pub rests : fault ≡ None → RestsAs F at before new.now.words
   pub was : graph_of types (stored_in F at before) ≡ Some undone
   pub is : graph_of types (stored_in F at after) ≡ Some next

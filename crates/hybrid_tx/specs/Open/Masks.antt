@@ -18,7 +18,7 @@ use Rattle.pud_defs.specs.Tables.{Tables, tables_of}
 use Rattle.pud_defs.specs.Settled.{ALL_LOGS, client_of_log, log_number_at}
 use Rattle.graph_laws.specs.Reads.{HasDistinctFrames}
 use Rattle.word_transaction.specs.Running.{SettlesTo}
-use Rattle.hybrid_tx.specs.Grounds.{pool_mine, pool_ground, finished_of}
+use Rattle.hybrid_tx.specs.PoolScopes.{pool_has_word, pool_scope, finished_of}
 
 -- Where a transaction is open: the slot and the record of its pool; the puddles of the pool, each with its frame, of which the words of the finished
 -- ones are its own; the number of its log among those of all clients; and as whom its client acts.
@@ -53,7 +53,7 @@ is_open_record p k = is_in_pool_record p.slot k || is_in_space_record (client_of
 unfoldable pub open_mask : ℕ → OpenPool → Image → Write
 open_mask F p before k =
     cond (is_in_log (log_number_at F p.log_number) k) (Some (cond (k == log_number_at F p.log_number) CLOSED_GATE 0))
-    (cond (pool_mine F (finished_of p.puddles) k || is_open_record p k) (Some (before k)) None)
+    (cond (pool_has_word F (finished_of p.puddles) k || is_open_record p k) (Some (before k)) None)
 
 -- ---- what is known of it
 
@@ -84,4 +84,4 @@ pub record IsOpenPool (F : ℕ) (p : OpenPool) (before : Image) : Type 0 where
 pub record IsLeftOpen (F : ℕ) (p : OpenPool) (before image : Image) : Type 0 where
   pub unnamed : (k v : ℕ) → open_mask F p before k ≡ Some v → new_value device_word (log_of image DAEMON_LOG) k ≡ None
   pub records : (k : ℕ) → is_open_record p k ≡ true → image k ≡ before k
-  pub settles : SettlesTo (pool_ground F (finished_of p.puddles)) (log_number_at F p.log_number) before image
+  pub settles : SettlesTo (pool_scope F (finished_of p.puddles)) (log_number_at F p.log_number) before image

@@ -3,7 +3,7 @@ use Rattle.std.proofs.lemmas.Option.{get_or_from_slice_get}
 use Rattle.std.proofs.lemmas.Result.{err_from_is_err_and}
 use Rattle.pud_defs.specs.declared.records.Puddle.{Puddle}
 use Rattle.log_store.specs.Store.{OpenLog}
-use Rattle.hybrid_tx.specs.Grounds.{pool_ground, finished_of}
+use Rattle.hybrid_tx.specs.PoolScopes.{pool_scope, finished_of}
 use Rattle.hybrid_tx.proofs.FinishedPuddles.{finished_placed, finished_there}
 use Rattle.hybrid_tx.proofs.Objects.InFrames.{Saves-asked}
 use Rattle.hybrid_tx.proofs.Tx.ask_in_frame.Goals as goal
@@ -19,7 +19,7 @@ returns-in_err-ask-clause-asks g c =
     Saves-asked frames _ own c.args.word e within.0 log _ before redo _ c.args.value (Err _) _ _
     (finished_placed frames c.args.pool.now placed) device apart within.1 c.requires.within (c.word_address-field.ensures ∙ ap (λ (d : ℕ × Puddle). (d.1.base + 8 * c.args.word) % 2 ^ 64) same) s
     (ap (λ (l : OpenLog). l.gate_at) c.in_err-ask.ensures.failed) tt
-    (λ es ground may running. c.in_err-ask.ensures.runs t _ refl (pool_ground frames own) es before ground may running))
+    (λ es ground may running. c.in_err-ask.ensures.runs t _ refl (pool_scope frames own) es before ground may running))
 
 pub returns-clause-asks : goal.returns-clause-asks
 returns-clause-asks g c =
@@ -31,4 +31,4 @@ returns-clause-asks g c =
     Saves-asked frames _ own c.args.word e within.0 log _ before redo _ c.args.value (Ok _) _ _
     (finished_placed frames c.args.pool.now placed) device apart within.1 c.requires.within (c.word_address-field.ensures ∙ ap (λ (d : ℕ × Puddle). (d.1.base + 8 * c.args.word) % 2 ^ 64) same) s
     (search rules) c.in_ok-ask.ensures.asked
-    (λ es ground may running. c.in_ok-ask.ensures.runs t _ refl (pool_ground frames own) es before ground may running))
+    (λ es ground may running. c.in_ok-ask.ensures.runs t _ refl (pool_scope frames own) es before ground may running))

@@ -8,16 +8,16 @@ use Rattle.pud_defs.specs.Layout.{frames_at}
 use Rattle.log_store.specs.Store.{InLog}
 use Rattle.object_alloc.specs.Alloc.{serial_word_at}
 use Rattle.word_transaction.specs.Running.{ByTransaction}
-use Rattle.hybrid_tx.specs.Grounds.{pool_ground, finished_of}
+use Rattle.hybrid_tx.specs.PoolScopes.{pool_scope, finished_of}
 use Rattle.hybrid_tx.specs.Objects.Transactions.{OpenTx}
-use Rattle.hybrid_tx.proofs.PoolGrounds.{all_there}
+use Rattle.hybrid_tx.proofs.PoolScope.{all_there}
 use Rattle.hybrid_tx.proofs.Objects.SlotFreed.{Changes-freed, Saves-unfreed, Saves-freed}
 use Rattle.hybrid_tx.proofs.Tx.clear.Goals as goal
 
 pub returns-in_err-save-clause-changes : goal.returns-in_err-save-clause-changes
 returns-in_err-save-clause-changes g c =
     let p = err_from_is_err_and c.from_residual.result c.from_residual.ensures.1 in
-    rw (p.1, p.2, ← c.self.view_is) (λ t. Changes-wider (InLog _) (ByTransaction (pool_ground c.args.frames c.args.pool.now) _) _ _ _ (λ k v may. inl may) (c.in_err-save.ensures.changes t))
+    rw (p.1, p.2, ← c.self.view_is) (λ t. Changes-wider (InLog _) (ByTransaction (pool_scope c.args.frames c.args.pool.now) _) _ _ _ (λ k v may. inl may) (c.in_err-save.ensures.changes t))
 
 pub returns-in_err-save-clause-saves : goal.returns-in_err-save-clause-saves
 returns-in_err-save-clause-saves g c =
@@ -27,7 +27,7 @@ returns-in_err-save-clause-saves g c =
     let apart = subst (λ (x : OpenTx). x.log.gate_at + LOG_WORDS ≤ frames_at c.args.frames) (sym c.self.view_is) c.requires.place in
     rw (p.1, p.2, ← c.self.view_is) (λ t is_placed rewritten before redo s.
     Saves-unfreed c.args.frames _ c.args.pool.now at c.requires.within _ _ before redo _ _ _ is_placed c.requires.device apart (c.slot_address.ensures.address is_placed.legal) is_first rewritten s c.in_err-save.ensures.at _ _
-    (λ es ground may place r. c.in_err-save.ensures.keeps t _ refl (pool_ground c.args.frames (finished_of c.args.pool.now)) es before ground may place r))
+    (λ es ground may place r. c.in_err-save.ensures.keeps t _ refl (pool_scope c.args.frames (finished_of c.args.pool.now)) es before ground may place r))
 
 pub free_slot-requires-clause-known : goal.free_slot-requires-clause-known
 free_slot-requires-clause-known g c =
@@ -47,5 +47,5 @@ returns-clause-saves g c =
     let apart = subst (λ (x : OpenTx). x.log.gate_at + LOG_WORDS ≤ frames_at F) (sym c.self.view_is) c.requires.place in
     rw (← c.self.view_is) (λ t is_placed rewritten before redo s.
     Saves-freed F _ pool at c.requires.within _ _ before redo _ _ _ is_placed c.requires.device apart (c.slot_address.ensures.address is_placed.legal) is_first rewritten s c.in_ok-save.ensures.at (fault_of c.free_slot.result) _ _
-    (λ es ground may place r. c.in_ok-save.ensures.keeps t _ refl (pool_ground F (finished_of pool)) es before ground may place r)
+    (λ es ground may place r. c.in_ok-save.ensures.keeps t _ refl (pool_scope F (finished_of pool)) es before ground may place r)
     (c.free_slot.ensures.writes t))

@@ -9,7 +9,7 @@ use Rattle.pud_defs.specs.Laters.{Later, laters_name}
 use Rattle.puddle_header.specs.Places.{place_of_slot}
 use Rattle.graph_read.specs.Reading.{place_in_pool}
 use Rattle.log_entry.proofs.Left.{IsReading}
-use Rattle.hybrid_tx.specs.Grounds.{IsPlaced}
+use Rattle.hybrid_tx.specs.PoolScopes.{IsPlaced}
 use Rattle.hybrid_tx.specs.Objects.Transactions.{IsOpenOn}
 use Rattle.hybrid_tx.proofs.Objects.LatersNamed.{NamesRest}
 use Rattle.hybrid_tx.proofs.Tx.later_names_at.Given as goal

@@ -2,7 +2,7 @@ use Rattle.std.proofs.Common.{ℕ, ap, sym, refl, subst, length, ◌∙◌}
 use Rattle.std.proofs.lemmas.Result.{err_from_is_err_and}
 use Rattle.pm_model.specs.Counts.{Counts, fault_of}
 use Rattle.pm_model.specs.Changes.{placed}
-use Rattle.word_transaction.specs.Ground.{IsGround}
+use Rattle.word_transaction.specs.Scope.{IsScope}
 use Rattle.word_transaction.specs.Running.{IsOneOf}
 use Rattle.word_transaction.proofs.Kept.{WritesKept-placed, Puts-unkept, Puts-written}
 use Rattle.hybrid_tx.proofs.Objects.Putting.{ByPut-saved, ByPut-written}
@@ -27,7 +27,7 @@ returns-clause-puts g c =
     let vals = c.args.vals.now in
     let size_stays = sym (ap (λ (n : Counts). n.size) c.in_ok-save.ensures.cause) in
     rw (← c.self.view_is) (λ t size same g' es before ground may place r.
-    let ground_behind = subst (λ (k : ℕ). IsGround size k g') (sym c.in_ok-save.ensures.at) ground in
+    let ground_behind = subst (λ (k : ℕ). IsScope size k g') (sym c.in_ok-save.ensures.at) ground in
     Puts-written g' _ es before (IsOneOf c.args.first (length vals)) (placed c.args.first vals) (fault_of c.write.result) _ _ _
     (c.in_ok-save.ensures.keeps t size same g' es before ground may place r) (WritesKept-placed size _ g' c.args.address c.args.first vals ground may place)
     (λ entries running covered. c.write.ensures.runs t size (same ∙ size_stays) g' entries before ground_behind running covered))

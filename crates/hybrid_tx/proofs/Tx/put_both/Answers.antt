@@ -2,7 +2,7 @@ use Rattle.std.proofs.Common.{◌≡◌, ◌⊎◌, inl, inr, ℕ, [], ◌∷◌
 use Rattle.std.proofs.lemmas.Result.{err_from_is_err_and}
 use Rattle.pm_model.specs.Counts.{Counts, fault_of}
 use Rattle.pm_model.specs.Changes.{placed}
-use Rattle.word_transaction.specs.Ground.{IsGround}
+use Rattle.word_transaction.specs.Scope.{IsScope}
 use Rattle.word_transaction.specs.Running.{IsOneOf}
 use Rattle.word_transaction.proofs.Kept.{WritesKept-placed, WritesKept-among, Puts-unkept, Puts-written, Puts-half, Puts-both}
 use Rattle.hybrid_tx.proofs.Objects.Putting.{ByPutBoth-saved, ByPutBoth-half, ByPutBoth-written}
@@ -30,7 +30,7 @@ returns-in_err-write-clause-puts g c =
     let vals = c.args.vals.now in
     let size_stays = sym (ap (λ (n : Counts). n.size) c.in_ok-save_both.ensures.cause) in
     rw (p.1, p.2, ← c.self.view_is) (λ t size same g' es before ground may place may2 place2 r.
-    let ground_behind = subst (λ (k : ℕ). IsGround size k g') (sym c.in_ok-save_both.ensures.at) ground in
+    let ground_behind = subst (λ (k : ℕ). IsScope size k g') (sym c.in_ok-save_both.ensures.at) ground in
     let all = λ (k : ℕ). IsOneOf c.args.first (length vals) k ⊎ (k ≡ c.args.second) in
     Puts-half g' _ es before (placed c.args.first vals) (placed c.args.second (c.args.value ∷ [])) _ _ _
     (Puts-written g' _ es before all (placed c.args.first vals) _ _ _ _
@@ -49,7 +49,7 @@ returns-clause-puts g c =
     let size_stays = sym (ap (λ (n : Counts). n.size) c.in_ok-save_both.ensures.cause) in
     let size_still = sym (ap (λ (n : Counts). n.size) c.in_ok-write.ensures.cause) in
     rw (← c.self.view_is) (λ t size same g' es before ground may place may2 place2 r.
-    let ground_behind = subst (λ (k : ℕ). IsGround size k g') (sym c.in_ok-save_both.ensures.at) ground in
+    let ground_behind = subst (λ (k : ℕ). IsScope size k g') (sym c.in_ok-save_both.ensures.at) ground in
     let all = λ (k : ℕ). IsOneOf c.args.first (length vals) k ⊎ (k ≡ c.args.second) in
     let single = c.args.value ∷ [] in
     Puts-both g' _ es before all (placed c.args.first vals) (placed c.args.second single) (fault_of c.write-2.result) _ _ _ _

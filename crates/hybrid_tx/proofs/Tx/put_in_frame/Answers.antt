@@ -4,7 +4,7 @@ use Rattle.pm_model.specs.Counts.{fault_of}
 use Rattle.pm_model.specs.Changes.{Changes}
 use Rattle.pud_defs.specs.declared.records.Puddle.{Puddle}
 use Rattle.pud_defs.specs.Frames.{frame_at}
-use Rattle.hybrid_tx.specs.Grounds.{pool_ground, finished_of}
+use Rattle.hybrid_tx.specs.PoolScopes.{pool_scope, finished_of}
 use Rattle.hybrid_tx.specs.Objects.Stores.{ByPut}
 use Rattle.hybrid_tx.proofs.FinishedPuddles.{finished_placed, finished_there}
 use Rattle.hybrid_tx.proofs.Objects.InFrames.{ByPut-in_frame, Saves-put}
@@ -29,4 +29,4 @@ returns-clause-saves g c = λ t placed e there finished before redo s.
     within.0 c.args.word e _ _ c.args.vals.now within.1 c.requires.some c.requires.within
     (c.word_address-address.ensures ∙ ap (λ (d : ℕ × Puddle). (d.1.base + 8 * c.args.word) % 2 ^ 64) same)
     (ap (λ (k : ℕ). k + c.args.word) (c.frame_at.ensures ∙ ap (λ (d : ℕ × Puddle). frame_at c.args.frames d.0) same))
-    (λ es ground may place running. c.put.ensures.puts t _ refl (pool_ground c.args.frames own) es before ground may place running)
+    (λ es ground may place running. c.put.ensures.puts t _ refl (pool_scope c.args.frames own) es before ground may place running)

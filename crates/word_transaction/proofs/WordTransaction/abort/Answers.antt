@@ -5,7 +5,7 @@ use Rattle.pm_model.specs.Changes.{Leaves, Silently}
 use Rattle.log_replay.specs.declared.Target.TheVariants.{Puddles}
 use Rattle.log_replay.specs.Replaying.{place_of, IsReplayable, HasDurableLog, IsSettling, SettlesLog}
 use Rattle.log_replay.proofs.Applying.{any_wider}
-use Rattle.word_transaction.specs.Ground.{saved}
+use Rattle.word_transaction.specs.Scope.{saved}
 use Rattle.word_transaction.proofs.Undone.{Closes-empty, Gives-running}
 use Rattle.word_transaction.proofs.Settled.{replayable, durable_log, Closes-settled}
 use Rattle.word_transaction.proofs.WordTransaction.abort.Goals as goal

@@ -10,26 +10,26 @@ use Rattle.log_store.specs.Store.{is_redo}
 
 -- Which word an address names; which entries the transaction may write, by their address and their number of values; and which words are its
 -- own.
-pub record Ground : Type 0 where
+pub record Scope : Type 0 where
   pub place : Place
-  pub may : (address count : ℕ) → Bool
-  pub mine : ℕ → Bool
+  pub may_name : (address count : ℕ) → Bool
+  pub has_word : ℕ → Bool
 
 -- so many words from that of an address on, one at least, lie in the device, each under the address behind the one before it, and are the
 -- transaction's own
-pub record Spans (size : ℕ) (g : Ground) (address count : ℕ) : Type 0 where
+pub record Spans (size : ℕ) (g : Scope) (address count : ℕ) : Type 0 where
   pub some : 1 ≤ count
   pub first : ℕ
   pub placed : g.place address ≡ Some first
   pub fits : address + WORD_BYTES * count ≤ 2 ^ 64
   pub each : (i : ℕ) → i < count → g.place (address + WORD_BYTES * i) ≡ Some (first + i)
   pub within : first + count ≤ size
-  pub own : (k : ℕ) → first ≤ k → k < first + count → g.mine k ≡ true
+  pub own : (k : ℕ) → first ≤ k → k < first + count → g.has_word k ≡ true
 
 -- What the transaction may name are its own words, and none of them is one of its log, whose gate is this word.
-pub record IsGround (size at : ℕ) (g : Ground) : Type 0 where
-  pub named : (address count : ℕ) → g.may address count ≡ true → Spans size g address count
-  pub apart : (k : ℕ) → g.mine k ≡ true → is_in_log at k ≡ false
+pub record IsScope (size at : ℕ) (g : Scope) : Type 0 where
+  pub named : (address count : ℕ) → g.may_name address count ≡ true → Spans size g address count
+  pub apart : (k : ℕ) → g.has_word k ≡ true → is_in_log at k ≡ false
 
 -- ---- entries
 
@@ -46,8 +46,8 @@ pub record IsRedo (e : Entry) : Type 0 where
   pub order : e.order ≡ REDO_ORDER
 
 -- an entry that the transaction may write: what words held, or what they are to hold
-pub record IsOwn (g : Ground) (e : Entry) : Type 0 where
-  pub may : g.may e.address (length e.vals) ≡ true
+pub record IsInScope (g : Scope) (e : Entry) : Type 0 where
+  pub may : g.may_name e.address (length e.vals) ≡ true
   pub kind : IsUndo e ⊎ IsRedo e
 
 -- ---- what is asked for

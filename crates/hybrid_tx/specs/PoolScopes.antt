@@ -13,7 +13,7 @@ use Rattle.pud_defs.specs.Replay.{Place}
 use Rattle.pud_defs.specs.Stored.{IsOnDevice}
 use Rattle.graph_laws.specs.Changes.{AreBases}
 use Rattle.graph_laws.specs.Reads.{HasDistinctFrames}
-use Rattle.word_transaction.specs.Ground.{Ground}
+use Rattle.word_transaction.specs.Scope.{Scope}
 
 -- ---- addresses
 
@@ -31,8 +31,8 @@ abbrev pub has_words : (address count : ℕ) → ℕ × Puddle → Bool
 has_words address count e = nat_le e.1.base address && nat_le (address + WORD_BYTES * count) (e.1.base + RANGE_BYTES)
 
 -- the address is that of a word, and at least one word from it on lies in the range of one of these puddles, and all so many in the same
-unfoldable pub pool_may : List (ℕ × Puddle) → (address count : ℕ) → Bool
-pool_may at address count = (address % WORD_BYTES) == 0 && nat_le 1 count && list_any (has_words address count) at
+unfoldable pub pool_may_name : List (ℕ × Puddle) → (address count : ℕ) → Bool
+pool_may_name at address count = (address % WORD_BYTES) == 0 && nat_le 1 count && list_any (has_words address count) at
 
 -- ---- words
 
@@ -41,12 +41,12 @@ abbrev pub is_in_frame : (F k : ℕ) → ℕ × Puddle → Bool
 is_in_frame F k e = nat_le (frame_at F e.0) k && nat_lt k (frame_at F e.0 + FRAME_WORDS)
 
 -- the word is one of the frames of these puddles
-unfoldable pub pool_mine : ℕ → List (ℕ × Puddle) → ℕ → Bool
-pool_mine F at k = list_any (is_in_frame F k) at
+unfoldable pub pool_has_word : ℕ → List (ℕ × Puddle) → ℕ → Bool
+pool_has_word F at k = list_any (is_in_frame F k) at
 
 -- the ground of a transaction on these puddles
-abbrev pub pool_ground : ℕ → List (ℕ × Puddle) → Ground
-pool_ground F at = record { place = pool_place F at; may = pool_may at; mine = pool_mine F at }
+abbrev pub pool_scope : ℕ → List (ℕ × Puddle) → Scope
+pool_scope F at = record { place = pool_place F at; may_name = pool_may_name at; has_word = pool_has_word F at }
 
 -- ---- how puddles lie
 

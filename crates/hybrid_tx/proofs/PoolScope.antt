@@ -16,8 +16,8 @@ use Rattle.pud_defs.specs.Places.{word_in}
 use Rattle.pud_defs.specs.Replay.{is_in_log}
 use Rattle.graph_laws.specs.Changes.{AreBases}
 use Rattle.graph_laws.proofs.Pointers.{behind}
-use Rattle.word_transaction.specs.Ground.{Spans, IsGround}
-use Rattle.hybrid_tx.specs.Grounds.{word_by, pool_place, has_words, pool_may, is_in_frame, pool_mine, pool_ground, IsPlaced}
+use Rattle.word_transaction.specs.Scope.{Spans, IsScope}
+use Rattle.hybrid_tx.specs.PoolScopes.{word_by, pool_place, has_words, pool_may_name, is_in_frame, pool_has_word, pool_scope, IsPlaced}
 
 -- ---- elements of lists
 
@@ -98,9 +98,9 @@ pub record IsNamed (at : List (ℕ × Puddle)) (address count : ℕ) : Type 0 wh
   pub aligned : address % WORD_BYTES ≡ 0
   pub some : 1 ≤ count
 
-pub pool_may-named : (at : List (ℕ × Puddle)) (address count : ℕ) → pool_may at address count ≡ true → IsNamed at address count
-unfolding pool_may
-pool_may-named at address count may =
+pub pool_may_name-named : (at : List (ℕ × Puddle)) (address count : ℕ) → pool_may_name at address count ≡ true → IsNamed at address count
+unfolding pool_may_name
+pool_may_name-named at address count may =
     let parts = and_parts _ (list_any (has_words address count) at) may in
     let front = and_parts (eqb (address % WORD_BYTES) 0) (leb 1 count) parts.0 in
     let found = any_element (has_words address count) at parts.1 in
@@ -115,9 +115,9 @@ pool_may-named at address count may =
       some = leb-true _ _ front.1;
     }
 
-pub pool_may-from : (at : List (ℕ × Puddle)) (address count : ℕ) → IsNamed at address count → pool_may at address count ≡ true
-unfolding pool_may
-pool_may-from at address count named =
+pub pool_may_name-from : (at : List (ℕ × Puddle)) (address count : ℕ) → IsNamed at address count → pool_may_name at address count ≡ true
+unfolding pool_may_name
+pool_may_name-from at address count named =
     and_from _ _ (and_from _ _ (eq-eqb _ _ named.aligned) (le-leb _ _ named.some))
     (element_passes (has_words address count) at named.ordinal named.puddle named.there (and_from _ _ (le-leb _ _ named.low) (le-leb _ _ named.high)))
 
@@ -131,16 +131,16 @@ pub record IsMine (F : ℕ) (at : List (ℕ × Puddle)) (k : ℕ) : Type 0 where
   pub low : frame_at F puddle.0 ≤ k
   pub high : k < frame_at F puddle.0 + FRAME_WORDS
 
-pub pool_mine-each : (F : ℕ) (at : List (ℕ × Puddle)) (k : ℕ) → pool_mine F at k ≡ true → IsMine F at k
-unfolding pool_mine
-pool_mine-each F at k mine =
+pub pool_has_word-each : (F : ℕ) (at : List (ℕ × Puddle)) (k : ℕ) → pool_has_word F at k ≡ true → IsMine F at k
+unfolding pool_has_word
+pool_has_word-each F at k mine =
     let found = any_element (is_in_frame F k) at mine in
     let parts = and_parts (leb (frame_at F found.element.0) k) (ltb k (frame_at F found.element.0 + FRAME_WORDS)) found.passes in
     record { ordinal = found.index; puddle = found.element; there = found.there; low = leb-true _ _ parts.0; high = ltb-true _ _ parts.1 }
 
-pub pool_mine-from : (F : ℕ) (at : List (ℕ × Puddle)) (k : ℕ) → IsMine F at k → pool_mine F at k ≡ true
-unfolding pool_mine
-pool_mine-from F at k m = element_passes (is_in_frame F k) at m.ordinal m.puddle m.there (and_from _ _ (le-leb _ _ m.low) (lt-ltb _ _ m.high))
+pub pool_has_word-from : (F : ℕ) (at : List (ℕ × Puddle)) (k : ℕ) → IsMine F at k → pool_has_word F at k ≡ true
+unfolding pool_has_word
+pool_has_word-from F at k m = element_passes (is_in_frame F k) at m.ordinal m.puddle m.there (and_from _ _ (le-leb _ _ m.low) (lt-ltb _ _ m.high))
 
 -- ---- the ground
 
@@ -151,7 +151,7 @@ base_below base legal =
     ltb-true base (SPACE_START + SPACE_BYTES) (and_parts _ _ parts.0).1
 
 module _ (F size log : ℕ) (at : List (ℕ × Puddle)) (placed : IsPlaced F at) (room : device_words F ≤ size) (before : log + LOG_WORDS ≤ frames_at F) where
-  spans : (address count : ℕ) → IsNamed at address count → Spans size (pool_ground F at) address count
+  spans : (address count : ℕ) → IsNamed at address count → Spans size (pool_scope F at) address count
   spans address count named =
       let e = named.puddle in
       let low = named.low in
@@ -170,16 +170,16 @@ module _ (F size log : ℕ) (at : List (ℕ × Puddle)) (placed : IsPlaced F at)
         within = omega arith;
         fits = omega arith;
         each = λ i inside. there i inside ∙ ap (λ (n : ℕ). Some n) (let further = one_further i in let it : frame_at F e.0 + (address + WORD_BYTES * i - e.1.base) / WORD_BYTES ≡ frame_at F e.0 + (address - e.1.base) / WORD_BYTES + i = omega arith in it);
-        own = λ k from end. pool_mine-from F at k (record { ordinal = named.ordinal; puddle = e; there = named.there; low = omega arith; high = omega arith });
+        own = λ k from end. pool_has_word-from F at k (record { ordinal = named.ordinal; puddle = e; there = named.there; low = omega arith; high = omega arith });
       }
 
   outside_log : (k : ℕ) → IsMine F at k → is_in_log log k ≡ false
   outside_log k m = let low = m.low in and_right (leb log k) (ltb k (log + LOG_WORDS)) (le-ltb k (log + LOG_WORDS) (omega arith))
 
-  pub is_ground : IsGround size log (pool_ground F at)
+  pub is_ground : IsScope size log (pool_scope F at)
   is_ground = record {
-    named = λ address count may. spans address count (pool_may-named at address count may);
-    apart = λ k mine. outside_log k (pool_mine-each F at k mine);
+    named = λ address count may. spans address count (pool_may_name-named at address count may);
+    apart = λ k mine. outside_log k (pool_has_word-each F at k mine);
   }
 
 -- ---- words by ordinal
@@ -190,10 +190,10 @@ module _ (F : ℕ) (at : List (ℕ × Puddle)) (placed : IsPlaced F at) (o k : �
       let word : (e.1.base + WORD_BYTES * k - e.1.base) / WORD_BYTES ≡ k = omega arith in
       pool_place-there F at o e (e.1.base + WORD_BYTES * k) placed.bases there (omega arith) (omega arith) ∙ ap (λ n. Some (frame_at F e.0 + n)) word
 
-  pub may_name_words : (count : ℕ) → 1 ≤ count → k + count ≤ FRAME_WORDS → pool_may at (e.1.base + WORD_BYTES * k) count ≡ true
+  pub may_name_words : (count : ℕ) → 1 ≤ count → k + count ≤ FRAME_WORDS → pool_may_name at (e.1.base + WORD_BYTES * k) count ≡ true
   may_name_words count some few =
       let base : e.1.base % RANGE_BYTES ≡ 0 = placed.bases.multiples o e.1.base (base_there at o e there) in
-      pool_may-from at (e.1.base + WORD_BYTES * k) count (record {
+      pool_may_name-from at (e.1.base + WORD_BYTES * k) count (record {
         ordinal = o;
         puddle = e;
         there = there;
