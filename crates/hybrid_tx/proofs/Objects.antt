@@ -4,11 +4,11 @@ pub mod ObjectsMade
 pub mod ObjectsFreed
 pub mod RootsSet
 pub mod Putting
-pub mod LatersKept
-pub mod LatersBehind
-pub mod LatersSpared
-pub mod LatersApplied
-pub mod LatersNamed
+pub mod DeferredKept
+pub mod DeferredBehind
+pub mod DeferredSpared
+pub mod DeferredApplied
+pub mod DeferredNamed
 pub mod Opening
 pub mod InFrames
 pub mod FieldPut

@@ -1,4 +1,4 @@
 -- Transactions on a pool's objects: what is stored, what is deferred, and what each call does.
 pub mod Stores
-pub mod Laters
+pub mod FieldAddresses
 pub mod Transactions

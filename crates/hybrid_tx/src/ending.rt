@@ -13,8 +13,8 @@ ghost use Rattle.pud_defs.specs.Layout.{device_words, frames_at};
 ghost use Rattle.pud_defs.specs.Tables.{tables_of};
 ghost use Rattle.pud_defs.specs.Allowed.{puddle_word};
 ghost use Rattle.pud_defs.specs.Graph.{Graph};
-ghost use Rattle.pud_defs.specs.Laters.{Later, with_laters};
-ghost use Rattle.log_store.specs.Store.{IsOpen, asks};
+ghost use Rattle.pud_defs.specs.DeferredValues.{DeferredValue, with_deferred_set};
+ghost use Rattle.log_store.specs.Store.{IsOpen, defers};
 ghost use Rattle.log_replay.specs.Replaying.{HasPuddleTable, Anything};
 ghost use Rattle.word_transaction.specs.Running.{ByCommit, HasPlaces, HasOneTable, CanRedo};
 ghost use Rattle.hybrid_tx.specs.PoolScopes.{pool_scope, finished_of, IsPlaced};
@@ -40,11 +40,11 @@ impl Tx {
     pub fn commit<H: Host>(self, h: &mut H, frames: u32) -> Result<(), HostFault>
         requires log { self.log.gate_at + LOG_WORDS ≤ (H.counts h.old).size }
         requires tables { HasPuddleTable frames (H.counts h.old).size }
-        ensures ends { H.tells → (pool : List (ℕ × Puddle)) (types : List (ℕ × ℕ)) (before : Image) (undone : Graph) (now : Graph) (laters : List Later) → IsPlaced frames pool
-            → device_words frames ≤ (H.counts h.old).size → self.log.gate_at + LOG_WORDS ≤ frames_at frames → IsOpenOn frames pool types self.log before undone now laters (H.state h.old).now.words
-            → (laters ≢ [] → CanRedo (pool_scope frames (finished_of pool)) frames self.log.gate_at (H.state h.old).now.words)
-            → EndsOn frames pool types self.log.gate_at before undone (with_laters laters now) (fault_of result) (H.state h.old) (H.state h.new) }
-        ensures gate { H.tells → (es : List Entry) → IsOpen self.log es (H.state h.old).now.words → asks es ≡ false → Changes (ByCommit self.log) (fault_of result) (H.state h.old) (H.state h.new) }
+        ensures ends { H.tells → (pool : List (ℕ × Puddle)) (types : List (ℕ × ℕ)) (before : Image) (undone : Graph) (now : Graph) (deferred : List DeferredValue) → IsPlaced frames pool
+            → device_words frames ≤ (H.counts h.old).size → self.log.gate_at + LOG_WORDS ≤ frames_at frames → IsOpenOn frames pool types self.log before undone now deferred (H.state h.old).now.words
+            → (deferred ≢ [] → CanRedo (pool_scope frames (finished_of pool)) frames self.log.gate_at (H.state h.old).now.words)
+            → EndsOn frames pool types self.log.gate_at before undone (with_deferred_set deferred now) (fault_of result) (H.state h.old) (H.state h.new) }
+        ensures gate { H.tells → (es : List Entry) → IsOpen self.log es (H.state h.old).now.words → defers es ≡ false → Changes (ByCommit self.log) (fault_of result) (H.state h.old) (H.state h.new) }
         ensures any { H.tells → Changes Anything (fault_of result) (H.state h.old) (H.state h.new) }
         ensures cause { H.counts h.new ≡ after_fault (fault_of result) (H.counts h.old) }
     {
@@ -65,8 +65,8 @@ impl Tx {
     pub fn abort<H: Host>(self, h: &mut H, frames: u32) -> Result<(), HostFault>
         requires log { self.log.gate_at + LOG_WORDS ≤ (H.counts h.old).size }
         requires tables { HasPuddleTable frames (H.counts h.old).size }
-        ensures closes { H.tells → (pool : List (ℕ × Puddle)) (types : List (ℕ × ℕ)) (before : Image) (undone : Graph) (now : Graph) (laters : List Later) → IsPlaced frames pool
-            → device_words frames ≤ (H.counts h.old).size → self.log.gate_at + LOG_WORDS ≤ frames_at frames → IsOpenOn frames pool types self.log before undone now laters (H.state h.old).now.words
+        ensures closes { H.tells → (pool : List (ℕ × Puddle)) (types : List (ℕ × ℕ)) (before : Image) (undone : Graph) (now : Graph) (deferred : List DeferredValue) → IsPlaced frames pool
+            → device_words frames ≤ (H.counts h.old).size → self.log.gate_at + LOG_WORDS ≤ frames_at frames → IsOpenOn frames pool types self.log before undone now deferred (H.state h.old).now.words
             → HasPlaces (pool_scope frames (finished_of pool)) (puddle_word (tables_of frames (reads (H.state h.old).now.words))) → HasOneTable frames (H.state h.old).now.words
             → ClosesOn frames pool types self.log.gate_at before undone (fault_of result) (H.state h.old) (H.state h.new) }
         ensures any { H.tells → Changes Anything (fault_of result) (H.state h.old) (H.state h.new) }

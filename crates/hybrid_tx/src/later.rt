@@ -15,16 +15,16 @@ ghost use Rattle.pud_defs.specs.Bases.{is_legal_base};
 ghost use Rattle.pud_defs.specs.Types.{types_of};
 ghost use Rattle.pud_defs.specs.Stored.{IsOnDevice, stored_in};
 ghost use Rattle.pud_defs.specs.Graph.{Graph, graph_of};
-ghost use Rattle.pud_defs.specs.Laters.{Later, later_names, laters_name};
+ghost use Rattle.pud_defs.specs.DeferredValues.{DeferredValue, deferred_value_names, deferred_set_names};
 ghost use Rattle.log_entry.specs.Reading.{entry_from};
 ghost use Rattle.log_store.specs.Store.{InLog};
 ghost use Rattle.graph_laws.specs.Changes.{AreBases};
 ghost use Rattle.puddle_header.specs.Places.{place_of_slot, IsSlotOf};
 ghost use Rattle.graph_read.specs.Reading.{place_in_pool};
 ghost use Rattle.hybrid_tx.specs.PoolScopes.{IsPlaced};
-ghost use Rattle.hybrid_tx.specs.Objects.Laters.{IsFieldAddress, IsFieldOf};
+ghost use Rattle.hybrid_tx.specs.Objects.FieldAddresses.{IsFieldAddress, IsFieldOf};
 ghost use Rattle.hybrid_tx.specs.Objects.Stores.{address_at, word_for};
-ghost use Rattle.hybrid_tx.specs.Objects.Transactions.{MaySet, IsRewrittenFor, IsLater, IsOpenOn, RunsOn};
+ghost use Rattle.hybrid_tx.specs.Objects.Transactions.{MaySet, IsRewrittenFor, IsDeferredEntry, IsOpenOn, RunsOn};
 
 use crate::Tx;
 use crate::changing::{place_and_word, slot_address};
@@ -100,9 +100,9 @@ fn names<H: Host>(
     requires room { device_words frames ≤ (H.counts h.old).size }
     requires known { IsOnDevice frames pool.now }
     requires source { entry.now.at < (H.counts h.old).size }
-    ensures names { H.tells → (image : Image) → reads (H.state h.old).now.words ≡ image → (now : Graph) (l : Later) (p : ℕ) → IsPlaced frames pool.now
-        → graph_of (types_of image) (stored_in frames pool.now image) ≡ Option.Some now → IsLater frames pool.now (types_of image) image now l (entry_from image entry.now)
-        → s ≢ 0 → place_in_pool frames pool.now image s ≡ Option.Some p → address ≡ address_at pool.now p → IfOk result (λ named. named ≡ later_names s l) }
+    ensures names { H.tells → (image : Image) → reads (H.state h.old).now.words ≡ image → (now : Graph) (l : DeferredValue) (p : ℕ) → IsPlaced frames pool.now
+        → graph_of (types_of image) (stored_in frames pool.now image) ≡ Option.Some now → IsDeferredEntry frames pool.now (types_of image) image now l (entry_from image entry.now)
+        → s ≢ 0 → place_in_pool frames pool.now image s ≡ Option.Some p → address ≡ address_at pool.now p → IfOk result (λ named. named ≡ deferred_value_names s l) }
     ensures saves { entry.now.order ≢ REDO_ORDER → IfOk result (λ named. named ≡ false) }
     ensures only_reads { OnlyReads H.tells H.state H.counts (fault_of result) h.old h.new }
 {
@@ -152,11 +152,11 @@ impl Tx {
         requires room { (self.old).units + SET_UNITS ≤ LOG_ENTRY_WORDS }
         ensures at { (self.new).log.gate_at ≡ (self.old).log.gate_at }
         ensures changes { H.tells → Changes (InLog (self.old).log.gate_at) (fault_of result) (H.state h.old) (H.state h.new) }
-        ensures runs { H.tells → (types : List (ℕ × ℕ)) (before : Image) (undone : Graph) (now : Graph) (laters : List Later) → IsPlaced frames pool.now
-            → IsRewrittenFor frames pool.now (reads (H.state h.old).now.words) s → IsOpenOn frames pool.now types (self.old).log before undone now laters (H.state h.old).now.words → MaySet types now s f x
-            → RunsOn frames pool.now types (self.new).log before undone now (laters ++ record { s = s; f = f; x = x } ∷ []) (fault_of result) (H.state h.old) (H.state h.new) }
-        ensures counts { H.tells → (types : List (ℕ × ℕ)) (before : Image) (undone : Graph) (now : Graph) (laters : List Later) → IsPlaced frames pool.now
-            → IsOpenOn frames pool.now types (self.old).log before undone now laters (H.state h.old).now.words → MaySet types now s f x
+        ensures runs { H.tells → (types : List (ℕ × ℕ)) (before : Image) (undone : Graph) (now : Graph) (deferred : List DeferredValue) → IsPlaced frames pool.now
+            → IsRewrittenFor frames pool.now (reads (H.state h.old).now.words) s → IsOpenOn frames pool.now types (self.old).log before undone now deferred (H.state h.old).now.words → MaySet types now s f x
+            → RunsOn frames pool.now types (self.new).log before undone now (deferred ++ record { s = s; f = f; x = x } ∷ []) (fault_of result) (H.state h.old) (H.state h.new) }
+        ensures counts { H.tells → (types : List (ℕ × ℕ)) (before : Image) (undone : Graph) (now : Graph) (deferred : List DeferredValue) → IsPlaced frames pool.now
+            → IsOpenOn frames pool.now types (self.old).log before undone now deferred (H.state h.old).now.words → MaySet types now s f x
             → IfOk result (λ _. (self.new).units ≡ (self.old).units + SET_UNITS) }
         ensures nothing { H.tells → All (λ e. is_legal_base e.1.base ≡ true) pool.now
             → (place_in_pool frames pool.now (reads (H.state h.old).now.words) s ≡ Option.None) ⊎ (word_for frames pool.now (reads (H.state h.old).now.words) x ≡ Option.None)
@@ -191,22 +191,22 @@ impl Tx {
         requires room { (self.old).units + SET_UNITS ≤ LOG_ENTRY_WORDS }
         ensures at { (self.new).log.gate_at ≡ (self.old).log.gate_at }
         ensures changes { H.tells → Changes (InLog (self.old).log.gate_at) (fault_of result) (H.state h.old) (H.state h.new) }
-        ensures runs { H.tells → (types : List (ℕ × ℕ)) (before : Image) (undone : Graph) (now : Graph) (laters : List Later) (s : ℕ) (x : Val) → IsPlaced frames pool.now
-            → IsRewrittenFor frames pool.now (reads (H.state h.old).now.words) s → IsOpenOn frames pool.now types (self.old).log before undone now laters (H.state h.old).now.words → MaySet types now s f x
+        ensures runs { H.tells → (types : List (ℕ × ℕ)) (before : Image) (undone : Graph) (now : Graph) (deferred : List DeferredValue) (s : ℕ) (x : Val) → IsPlaced frames pool.now
+            → IsRewrittenFor frames pool.now (reads (H.state h.old).now.words) s → IsOpenOn frames pool.now types (self.old).log before undone now deferred (H.state h.old).now.words → MaySet types now s f x
             → place_in_pool frames pool.now (reads (H.state h.old).now.words) s ≡ Option.Some (place_of_slot at.now) → word_for frames pool.now (reads (H.state h.old).now.words) x ≡ Option.Some word
-            → RunsOn frames pool.now types (self.new).log before undone now (laters ++ record { s = s; f = f; x = x } ∷ []) (fault_of result) (H.state h.old) (H.state h.new) }
+            → RunsOn frames pool.now types (self.new).log before undone now (deferred ++ record { s = s; f = f; x = x } ∷ []) (fault_of result) (H.state h.old) (H.state h.new) }
         ensures counts { IfOk result (λ _. (self.new).units ≡ (self.old).units + SET_UNITS) }
         ensures cause { H.counts h.new ≡ after_fault (fault_of result) (H.counts h.old) }
     {
         let field = slot_begins(at) + SLOT_FIELDS_WORD + f;
-        self.ask_in_frame(h, pool, at.ordinal, field, word)
+        self.defer_in_frame(h, pool, at.ordinal, field, word)
     }
 
     /// Whether a value that is asked for later is one of a field of the object of serial `s`, or names that object.
     ///
     /// The log lies in the device, and the serial is not 0. Where no object has it the answer is no. Nothing changes, and the only
     /// errors are the host's own. It looks the object up, and then reads the log's entries, up to the first that names it.
-    pub fn later_names<H: Host>(
+    pub fn deferred_names<H: Host>(
         &self,
         h: &mut H,
         frames: u32,
@@ -217,18 +217,18 @@ impl Tx {
         requires device { device_words frames ≤ (H.counts h.old).size }
         requires known { IsOnDevice frames pool.now }
         requires place { (self.now).log.gate_at + LOG_WORDS ≤ (H.counts h.old).size }
-        ensures names { H.tells → (image : Image) → reads (H.state h.old).now.words ≡ image → (before : Image) (undone : Graph) (now : Graph) (laters : List Later) → IsPlaced frames pool.now
-            → IsOpenOn frames pool.now (types_of image) (self.now).log before undone now laters (H.state h.old).now.words → s ≢ 0 → IfOk result (λ named. named ≡ laters_name s laters) }
+        ensures names { H.tells → (image : Image) → reads (H.state h.old).now.words ≡ image → (before : Image) (undone : Graph) (now : Graph) (deferred : List DeferredValue) → IsPlaced frames pool.now
+            → IsOpenOn frames pool.now (types_of image) (self.now).log before undone now deferred (H.state h.old).now.words → s ≢ 0 → IfOk result (λ named. named ≡ deferred_set_names s deferred) }
         ensures only_reads { OnlyReads H.tells H.state H.counts (fault_of result) h.old h.new }
     {
         match find_serial(h, frames, pool, s)? {
-            Some(at) => self.later_names_at(h, frames, pool, s, &at),
+            Some(at) => self.deferred_names_at(h, frames, pool, s, &at),
             None => Ok(false),
         }
     }
 
     /// The same of the object of serial `s`, not 0, that is in a slot, but for the search.
-    pub fn later_names_at<H: Host>(
+    pub fn deferred_names_at<H: Host>(
         &self,
         h: &mut H,
         frames: u32,
@@ -241,9 +241,9 @@ impl Tx {
         requires known { IsOnDevice frames pool.now }
         requires place { (self.now).log.gate_at + LOG_WORDS ≤ (H.counts h.old).size }
         requires within { IsSlotOf pool.now at.now }
-        ensures names { H.tells → (image : Image) → reads (H.state h.old).now.words ≡ image → (before : Image) (undone : Graph) (now : Graph) (laters : List Later) → IsPlaced frames pool.now
-            → IsOpenOn frames pool.now (types_of image) (self.now).log before undone now laters (H.state h.old).now.words → s ≢ 0
-            → place_in_pool frames pool.now image s ≡ Option.Some (place_of_slot at.now) → IfOk result (λ named. named ≡ laters_name s laters) }
+        ensures names { H.tells → (image : Image) → reads (H.state h.old).now.words ≡ image → (before : Image) (undone : Graph) (now : Graph) (deferred : List DeferredValue) → IsPlaced frames pool.now
+            → IsOpenOn frames pool.now (types_of image) (self.now).log before undone now deferred (H.state h.old).now.words → s ≢ 0
+            → place_in_pool frames pool.now image s ≡ Option.Some (place_of_slot at.now) → IfOk result (λ named. named ≡ deferred_set_names s deferred) }
         ensures only_reads { OnlyReads H.tells H.state H.counts (fault_of result) h.old h.new }
     {
         let address = slot_address(pool, at);

@@ -18,7 +18,7 @@ ghost use Rattle.pud_defs.specs.Replay.{overwritten, replayed};
 ghost use Rattle.pud_defs.specs.Stored.{stored_in, IsFreePlace};
 ghost use Rattle.pud_defs.specs.Graph.{Graph, graph_of, is_referenced, next_serial_of};
 ghost use Rattle.pud_defs.specs.GraphChanges.{with_field, with_new, blank_object, without_object, with_root};
-ghost use Rattle.pud_defs.specs.Laters.{Later, with_laters};
+ghost use Rattle.pud_defs.specs.DeferredValues.{DeferredValue, with_deferred_set};
 ghost use Rattle.puddle_header.specs.Places.{place_of_slot, IsSlotOf};
 ghost use Rattle.graph_read.specs.Reading.{place_in_pool};
 ghost use Rattle.object_alloc.specs.Alloc.{serial_word_at};
@@ -27,7 +27,7 @@ ghost use Rattle.word_transaction.specs.Scope.{IsScope, written_in_turn};
 ghost use Rattle.word_transaction.specs.Running.{SettlesTo};
 ghost use Rattle.hybrid_tx.specs.PoolScopes.{pool_place, pool_has_word, pool_scope, finished_of, IsPlaced, IsRewrittenAt};
 ghost use Rattle.hybrid_tx.specs.Objects.Stores.{word_for, field_word, making};
-ghost use Rattle.hybrid_tx.specs.Objects.Transactions.{MaySet, AreLaters, IsOpenOn, IsAtRest, RunsOn, ClosesOn, EndsOn};
+ghost use Rattle.hybrid_tx.specs.Objects.Transactions.{MaySet, AreDeferredEntries, IsOpenOn, IsAtRest, RunsOn, ClosesOn, EndsOn};
 
 /// What the addresses of a pool's ranges name are words of its frames, none of which is one of a log before all frames.
 pub fn pools_are_scopes()
@@ -67,16 +67,16 @@ pub fn cleared_serial_frees_the_object()
 {}
 
 /// The redo entries of what is asked for later, written in turn over an image, make its graph the one with what is asked for.
-pub fn entries_of_laters_make_the_graph()
-    ensures { (frames : ℕ) (at : List (ℕ × Puddle)) (types : List (ℕ × ℕ)) → IsPlaced frames at → (laters : List Later) (redo : List Entry) (image : Image) (now : Graph)
-        → graph_of types (stored_in frames at image) ≡ Option.Some now → AreLaters frames at types image now laters redo
-        → graph_of types (stored_in frames at (written_in_turn (pool_place frames (finished_of at)) redo image)) ≡ Option.Some (with_laters laters now) }
+pub fn deferred_entries_make_the_graph()
+    ensures { (frames : ℕ) (at : List (ℕ × Puddle)) (types : List (ℕ × ℕ)) → IsPlaced frames at → (deferred : List DeferredValue) (redo : List Entry) (image : Image) (now : Graph)
+        → graph_of types (stored_in frames at image) ≡ Option.Some now → AreDeferredEntries frames at types image now deferred redo
+        → graph_of types (stored_in frames at (written_in_turn (pool_place frames (finished_of at)) redo image)) ≡ Option.Some (with_deferred_set deferred now) }
 {}
 
 /// Behind a call within a transaction on a pool that did not fail one is open, on the next graph, with what is asked for later.
 pub fn transaction_stays_open()
-    ensures { (frames : ℕ) (at : List (ℕ × Puddle)) (types : List (ℕ × ℕ)) (log : OpenLog) (before : Image) (undone : Graph) (next : Graph) (laters : List Later) (old : State) (new : State)
-        → RunsOn frames at types log before undone next laters Option.None old new → IsOpenOn frames at types log before undone next laters new.now.words }
+    ensures { (frames : ℕ) (at : List (ℕ × Puddle)) (types : List (ℕ × ℕ)) (log : OpenLog) (before : Image) (undone : Graph) (next : Graph) (deferred : List DeferredValue) (old : State) (new : State)
+        → RunsOn frames at types log before undone next deferred Option.None old new → IsOpenOn frames at types log before undone next deferred new.now.words }
 {}
 
 /// With the log replayed an image has the graph of the words that it settles to, where the words of the puddles that are not finished are these too.

@@ -17,7 +17,7 @@ ghost use Rattle.pud_defs.specs.Replay.{over};
 ghost use Rattle.pud_defs.specs.Settled.{ALL_LOGS, log_number_at};
 ghost use Rattle.pud_defs.specs.Stored.{IsOnDevice, stored_in};
 ghost use Rattle.pud_defs.specs.Graph.{Graph, graph_of};
-ghost use Rattle.log_store.specs.Store.{InLog, asking};
+ghost use Rattle.log_store.specs.Store.{InLog, with_deferred_words};
 ghost use Rattle.word_transaction.specs.Scope.{Scope, IsScope, redo_entry};
 ghost use Rattle.word_transaction.specs.Running.{IsRunning, IsIdle, nothing, begun, ByTransaction, Runs, Puts};
 ghost use Rattle.hybrid_tx.specs.PoolScopes.{pool_scope, finished_of, IsPlaced};
@@ -156,7 +156,7 @@ impl Tx {
     }
 
     /// Asks for a value in word `word` of a puddle's frame.
-    pub(crate) fn ask_in_frame<H: Host>(
+    pub(crate) fn defer_in_frame<H: Host>(
         &mut self,
         h: &mut H,
         pool: &[(u32, Puddle)],
@@ -169,10 +169,10 @@ impl Tx {
         requires within { word < FRAME_WORDS }
         requires room { (self.old).units + SET_UNITS ≤ LOG_ENTRY_WORDS }
         ensures at { (self.new).log.gate_at ≡ (self.old).log.gate_at }
-        ensures done { IfOk result (λ _. (self.new).log ≡ asking SET_UNITS (self.old).log) }
+        ensures done { IfOk result (λ _. (self.new).log ≡ with_deferred_words SET_UNITS (self.old).log) }
         ensures counts { IfOk result (λ _. (self.new).units ≡ (self.old).units + SET_UNITS) }
         ensures changes { H.tells → Changes (InLog (self.old).log.gate_at) (fault_of result) (H.state h.old) (H.state h.new) }
-        ensures asks { H.tells → (frames : ℕ) → IsPlaced frames pool.now → device_words frames ≤ (H.counts h.old).size → (self.old).log.gate_at + LOG_WORDS ≤ frames_at frames
+        ensures defers { H.tells → (frames : ℕ) → IsPlaced frames pool.now → device_words frames ≤ (H.counts h.old).size → (self.old).log.gate_at + LOG_WORDS ≤ frames_at frames
             → (e : ℕ × Puddle) → slice_get pool.now ordinal ≡ Option.Some e → e.1.frontier ≡ steps_of e.1 → (before : Image) (redo : List Entry)
             → IsSaving frames (finished_of pool.now) (self.old).log before redo (H.state h.old).now.words
             → Saves frames (finished_of pool.now) (self.new).log before (redo ++ redo_entry (e.1.base + WORD_BYTES * word) (value ∷ []) ∷ []) nothing (fault_of result) (H.state h.old) (H.state h.new) }
@@ -180,7 +180,7 @@ impl Tx {
     {
         let (_, puddle) = pool[ordinal as usize];
         let field = word_address(puddle.base, word);
-        self.words.ask(h, field, &[value])?;
+        self.words.defer(h, field, &[value])?;
         self.units += SET_UNITS;
         Ok(())
     }

@@ -14,7 +14,7 @@ use Rattle.pud_defs.specs.Tables.{Pool}
 use Rattle.pud_defs.specs.World.{World, Transaction, open_on, no_clients}
 use Rattle.pud_defs.specs.PoolChanges.{pool_named, new_pool, read_by, with_puddle_more, with_new_pool, with_pool_mode, without_pool, with_type_defined}
 use Rattle.pud_defs.specs.Imports.{types_missing, with_types_defined, imported_pool, with_imported_pool, with_pool_of}
-use Rattle.pud_defs.specs.Transactions.{is_own, begun, charged, asked, lowered}
+use Rattle.pud_defs.specs.Transactions.{is_own, begun, charged, deferring, lowered}
 use Rattle.pud_defs.specs.Step.{name_in, graph_in, graph_seen, is_all_live, grows, contents_named, owner_acting, after}
 use Rattle.independence.specs.Shares.{unnumbered, seen, Share, share}
 use Rattle.independence.proofs.Shares.{kept, seen_put, seen_without, seen_changed, seen_kept, seen_changed_if, committed, seen_committed, seen_read, reread, types_with, seen_typed, types_typed}
@@ -60,7 +60,7 @@ effect clients types contents (New client name t) s = record {
   transaction = option_map (charged NEW_UNITS (with_new (blank_object t (unwrap_or (map_of t types) 0)))) s.transaction;
 }
 effect clients types contents (Set client name o f x) s = record s { transaction = option_map (charged SET_UNITS (with_field o f x)) s.transaction }
-effect clients types contents (Later client name o f x) s = record s { transaction = option_map (asked SET_UNITS (record { s = o; f = f; x = x })) s.transaction }
+effect clients types contents (Later client name o f x) s = record s { transaction = option_map (deferring SET_UNITS (record { s = o; f = f; x = x })) s.transaction }
 effect clients types contents (Root client name o) s = record s { transaction = option_map (charged SET_UNITS (with_root o)) s.transaction }
 effect clients types contents (Free client name o) s = record s { transaction = option_map (charged SET_UNITS (without_object o)) s.transaction }
 effect clients types None (Import client name file mode) s = s

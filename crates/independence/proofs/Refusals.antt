@@ -12,12 +12,12 @@ use Rattle.pud_defs.specs.declared.objects.Val.TheVariants.{Ref}
 use Rattle.pud_defs.specs.Types.{map_of}
 use Rattle.pud_defs.specs.Spaces.{Owner}
 use Rattle.pud_defs.specs.Graph.{Graph}
-use Rattle.pud_defs.specs.Laters.{laters_name}
+use Rattle.pud_defs.specs.DeferredValues.{deferred_set_names}
 use Rattle.pud_defs.specs.DumpText.{dump_text}
 use Rattle.pud_defs.specs.ExportFile.{FileContents, file_graph}
 use Rattle.pud_defs.specs.Tables.{Pool}
 use Rattle.pud_defs.specs.World.{World, Transaction}
-use Rattle.pud_defs.specs.Transactions.{is_own, units_of, depth_of, laters_of}
+use Rattle.pud_defs.specs.Transactions.{is_own, units_of, depth_of, deferred_of}
 use Rattle.pud_defs.specs.Step.{owns, reads, writes, causes, client_of, name_in, is_allowed, charge, is_present, acting, graph_in, graph_seen, object_of, field_of, object_named, field_named, pool_for, open_for, graph_for, holds_own, holds_others, is_deep, type_named, lacks_object, are_of_two_kinds, mixes_kinds, is_referenced_in, frees_referenced, is_full_graph, file_for, contents_in, contents_named, of_contents, is_clash, is_full, clashes_with, clashes, overfills, holds, refusal_of, text_for, next_in, value_for, value_or_ok, text_or, answer}
 use Rattle.independence.specs.Own.{Names, is_within}
 use Rattle.independence.specs.Shares.{seen}
@@ -137,7 +137,7 @@ kind-same w v (Later client n s f x) graph = ap (λ (g : Option Graph). are_of_t
 kind-same w v c graph = refl
 
 held-same : (w v : World) (c : Command) → graph_for w c ≡ graph_for v c → open_for w c ≡ open_for v c → frees_referenced w c ≡ frees_referenced v c
-held-same w v (Free client n s) graph opened = ap₂ (λ (g : Option Graph) (t : Option Transaction). is_referenced_in s g || laters_name s (laters_of t)) graph opened
+held-same w v (Free client n s) graph opened = ap₂ (λ (g : Option Graph) (t : Option Transaction). is_referenced_in s g || deferred_set_names s (deferred_of t)) graph opened
 held-same w v c graph opened = refl
 
 deep-same : (w v : World) (c : Command) → open_for w c ≡ open_for v c → is_deep w c ≡ is_deep v c

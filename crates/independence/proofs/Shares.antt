@@ -13,7 +13,7 @@ use Rattle.pud_defs.specs.World.{StoredWorld, Transaction}
 use Rattle.pud_defs.specs.PoolChanges.{changed_pool, read_by, pools_read, with_type_defined}
 use Rattle.pud_defs.specs.Imports.{with_types_defined}
 use Rattle.pud_defs.specs.Transactions.{holding_graph, committed_pools}
-use Rattle.pud_defs.specs.Laters.{with_laters}
+use Rattle.pud_defs.specs.DeferredValues.{with_deferred_set}
 use Rattle.pud_defs.proofs.DistinctKeys.{same_tests}
 use Rattle.pud_defs.proofs.KeyedMaps.{find-mapped}
 use Rattle.pud_defs.proofs.PoolsChanged.{same_name}
@@ -101,12 +101,12 @@ seen_changed_if false q n change each pools = seen_kept q n pools
 -- the pool on which a transaction is committed
 abbrev pub committed : Option Transaction → Option Pool → Option Pool
 committed None p = p
-committed (Some t) p = cond (nat_le t.depth 1) (option_map (holding_graph (with_laters t.laters t.now)) p) p
+committed (Some t) p = cond (nat_le t.depth 1) (option_map (holding_graph (with_deferred_set t.deferred t.now)) p) p
 
 pub seen_committed : (q n : List ℕ) (opened : Option Transaction) (pools : Pools)
     → seen (find name_cmp q (committed_pools n opened pools)) ≡ cond (bytes_eq q n) (committed opened (seen (find name_cmp n pools))) (seen (find name_cmp q pools))
 seen_committed q n None pools = seen_kept q n pools
-seen_committed q n (Some t) pools = seen_changed_if (nat_le t.depth 1) q n (holding_graph (with_laters t.laters t.now)) (λ p. refl) pools
+seen_committed q n (Some t) pools = seen_changed_if (nat_le t.depth 1) q n (holding_graph (with_deferred_set t.deferred t.now)) (λ p. refl) pools
 
 -- ---- types
 

@@ -15,7 +15,7 @@ use Rattle.pud_defs.specs.declared.layout.TheConstants.{LOG_HEADER_WORDS, LOG_EN
 use Rattle.pud_defs.specs.Image.{Image}
 use Rattle.pud_defs.specs.Entries.{Entry, IsLegalEntry, log_of, gate_word, spelled, words_from, entries_in}
 use Rattle.pud_defs.proofs.Entries.{words_from-add, words_from-same, words_from-holds, entries_in-spelled, entries_in-append}
-use Rattle.log_store.specs.Store.{OpenLog, undo_entry, is_redo, asks, asks_with, with_entries, saying, InLog, IsOpen, spelled_all, words_write, with_last, HasGrown, Appends}
+use Rattle.log_store.specs.Store.{OpenLog, undo_entry, is_redo, defers, defers_with, with_entries, saying, InLog, IsOpen, spelled_all, words_write, with_last, HasGrown, Appends}
 use Rattle.log_store.specs.declared.AppendFault.TheVariants.{Host}
 use Rattle.log_store.proofs.Open.{IsCounted, log_of-is, IsOpen-fits, IsOpen-words, IsOpen-log, IsOpen-log_by, IsOpen-kept_by, only_here}
 use Rattle.std.proofs.lemmas.Option.{same_Some}
@@ -105,17 +105,17 @@ or_swap true false c = refl
 or_swap true true c = refl
 
 -- one of more entries asks for values, or one of those before them
-asks_with-none : (more : List Entry) → asks more ≡ asks_with more false
-asks_with-none [] = refl
-asks_with-none (e ∷ more) = ap (λ (b : Bool). is_redo e || b) (asks_with-none more)
+defers_with-none : (more : List Entry) → defers more ≡ defers_with more false
+defers_with-none [] = refl
+defers_with-none (e ∷ more) = ap (λ (b : Bool). is_redo e || b) (defers_with-none more)
 
-asks_with-first : (d : Entry) (more : List Entry) (was : Bool) → is_redo d || asks_with more was ≡ asks_with more (is_redo d || was)
-asks_with-first d [] was = refl
-asks_with-first d (e ∷ more) was = or_swap (is_redo d) (is_redo e) (asks_with more was) ∙ ap (λ (b : Bool). is_redo e || b) (asks_with-first d more was)
+defers_with-first : (d : Entry) (more : List Entry) (was : Bool) → is_redo d || defers_with more was ≡ defers_with more (is_redo d || was)
+defers_with-first d [] was = refl
+defers_with-first d (e ∷ more) was = or_swap (is_redo d) (is_redo e) (defers_with more was) ∙ ap (λ (b : Bool). is_redo e || b) (defers_with-first d more was)
 
-asks-append : (es more : List Entry) → asks (es ++ more) ≡ asks_with more (asks es)
-asks-append [] more = asks_with-none more
-asks-append (d ∷ es) more = ap (λ (b : Bool). is_redo d || b) (asks-append es more) ∙ asks_with-first d more (asks es)
+defers-append : (es more : List Entry) → defers (es ++ more) ≡ defers_with more (defers es)
+defers-append [] more = defers_with-none more
+defers-append (d ∷ es) more = ap (λ (b : Bool). is_redo d || b) (defers-append es more) ∙ defers_with-first d more (defers es)
 
 -- the words that spell one entry
 pub spells_one : (ws : List ℕ) (e : Entry) → ws ≡ spelled_all (e ∷ []) → IsLegalEntry e → entries_in 0 ws ≡ Some (e ∷ [])
@@ -181,7 +181,7 @@ module _ (log : OpenLog) (es : List Entry) (count : ℕ) (ws : List ℕ) (more :
         says = log_of-grown (reads u.now.words) (HasOnly-newest (u.now.words log.gate_at) _ gate)
             (λ k low high. HasOnly-newest (u.now.words k) (s.now.words k).newest (kept k low high))
             (λ i h. HasOnly-newest (u.now.words (behind log + i)) _ (new i h));
-        asked = ap (asks_with more) open_log.asked ∙ sym (asks-append es more);
+        defers_is = ap (defers_with more) open_log.defers_is ∙ sym (defers-append es more);
       }
 
   -- the words that count get no value while the block is written

@@ -94,7 +94,7 @@ IsOpen-kept_by may fault old new log es changes apart open_log =
       counted = λ k low high. HasOnly-own (new.now.words k) (old.now.words k).newest (counted k low high);
       says = IsOpen-log_by log es old.now.words (reads new.now.words) open_log (HasOnly-newest (new.now.words log.gate_at) _ gate)
           (λ k low high. HasOnly-newest (new.now.words k) (old.now.words k).newest (counted k low high));
-      asked = open_log.asked;
+      defers_is = open_log.defers_is;
     }
 
 -- calls that give the words of the log no value leave it open
@@ -113,17 +113,17 @@ only_here w v = rw (eq-eqb w w refl) refl
 
 -- the gate of a running log alone makes it an open one without entries
 pub IsOpen-running : (at : ℕ) (old new : State) → Persists (only at RUNNING_GATE) None old new
-    → IsOpen (record { gate_at = at; lo = RUNNING_LO; hi = RUNNING_HI; used = 0; asks = false }) [] new.now.words
+    → IsOpen (record { gate_at = at; lo = RUNNING_LO; hi = RUNNING_HI; used = 0; defers = false }) [] new.now.words
 unfolding entries_in
 IsOpen-running at old new p =
     let gate = p.durable refl at RUNNING_GATE (only_here at RUNNING_GATE) in
-    let log : OpenLog = record { gate_at = at; lo = RUNNING_LO; hi = RUNNING_HI; used = 0; asks = false } in
+    let log : OpenLog = record { gate_at = at; lo = RUNNING_LO; hi = RUNNING_HI; used = 0; defers = false } in
     record {
       gate = gate;
       counted = λ k low high. absurd (omega arith);
       says = log_of-is (reads new.now.words) log [] [] (record { lo_fits = omega arith; hi_fits = omega arith; used_within = omega arith })
           (HasOnly-newest (new.now.words at) RUNNING_GATE gate) (words_from-none (reads new.now.words) (at + LOG_HEADER_WORDS) 0 refl) refl;
-      asked = refl;
+      defers_is = refl;
     }
 
 -- the gate of another range alone makes it one with that range
@@ -143,7 +143,7 @@ IsOpen-moved lo hi log es old new lo_fits hi_fits open_log p =
           (HasOnly-newest (new.now.words log.gate_at) g gate)
           (words_from-same (reads new.now.words) (reads old.now.words) (log.gate_at + LOG_HEADER_WORDS) log.used (λ k low high. HasOnly-newest (new.now.words k) (old.now.words k).newest (counted k low high)))
           (IsOpen-words log es old.now.words open_log);
-      asked = open_log.asked;
+      defers_is = open_log.defers_is;
     }
 
 -- while its gate is given another range, each image has the log as it was or with that range
@@ -167,5 +167,5 @@ log_of-moving lo hi log es words before image lo_fits hi_fits open_log picked fr
 pub log_of-closed : (at : ℕ) (image : Image) → image at ≡ CLOSED_GATE → log_of image at ≡ record { lo = COMMITTING_HI; hi = COMMITTING_HI; entries = Some [] }
 unfolding entries_in
 log_of-closed at image gate =
-    let log : OpenLog = record { gate_at = at; lo = COMMITTING_HI; hi = COMMITTING_HI; used = 0; asks = false } in
+    let log : OpenLog = record { gate_at = at; lo = COMMITTING_HI; hi = COMMITTING_HI; used = 0; defers = false } in
     log_of-is image log [] [] (record { lo_fits = omega arith; hi_fits = omega arith; used_within = omega arith }) gate (words_from-none image (at + LOG_HEADER_WORDS) 0 refl) refl

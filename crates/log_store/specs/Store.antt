@@ -19,20 +19,20 @@ pub record OpenLog : Type 0 where
   pub lo : ℕ
   pub hi : ℕ
   pub used : ℕ
-  pub asks : Bool
+  pub defers : Bool
 
 -- the entry asks for values to come
 abbrev pub is_redo : Entry → Bool
 is_redo e = e.order == REDO_ORDER
 
 -- one of some entries does
-abbrev pub asks : List Entry → Bool
-asks es = list_any is_redo es
+abbrev pub defers : List Entry → Bool
+defers es = list_any is_redo es
 
 -- whether one of some entries does, or it was so before
-abbrev pub asks_with : List Entry → Bool → Bool
-asks_with [] was = was
-asks_with (e ∷ es) was = is_redo e || asks_with es was
+abbrev pub defers_with : List Entry → Bool → Bool
+defers_with [] was = was
+defers_with (e ∷ es) was = is_redo e || defers_with es was
 
 -- what words held, from that of an address on
 abbrev pub undo_entry : (address : ℕ) → List ℕ → Entry
@@ -43,12 +43,12 @@ abbrev pub longer : ℕ → OpenLog → OpenLog
 longer words log = record log { used = log.used + words }
 
 -- of one that asks for values
-abbrev pub asking : ℕ → OpenLog → OpenLog
-asking words log = record log { used = log.used + words; asks = true }
+abbrev pub with_deferred_words : ℕ → OpenLog → OpenLog
+with_deferred_words words log = record log { used = log.used + words; defers = true }
 
 -- of these entries
 abbrev pub with_entries : (words : ℕ) → List Entry → OpenLog → OpenLog
-with_entries words es log = record log { used = log.used + words; asks = asks_with es log.asks }
+with_entries words es log = record log { used = log.used + words; defers = defers_with es log.defers }
 
 -- of this entry
 abbrev pub with_entry : Entry → OpenLog → OpenLog
@@ -77,7 +77,7 @@ pub record IsOpen (log : OpenLog) (es : List Entry) (words : Words) : Type 0 whe
   pub gate : HasOnly (words log.gate_at) (gate_word log.lo log.hi log.used)
   pub counted : (k : ℕ) → log.gate_at + LOG_HEADER_WORDS ≤ k → k < log.gate_at + LOG_HEADER_WORDS + log.used → HasOnly (words k) (words k).newest
   pub says : log_of (reads words) log.gate_at ≡ saying log es
-  pub asked : log.asks ≡ asks es
+  pub defers_is : log.defers ≡ defers es
 
 -- the words that spell entries, one behind the other
 abbrev pub spelled_all : List Entry → List ℕ

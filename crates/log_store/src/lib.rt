@@ -50,13 +50,13 @@ pub struct Log {
     lo: u32,
     hi: u32,
     used: u32,
-    asks: bool,
+    defers: bool,
 }
 
 impl Model for Log {
     ghost Value = { OpenLog };
 
-    ghost view = { λ log. record { gate_at = log.gate_at; lo = log.lo; hi = log.hi; used = log.used; asks = log.asks } };
+    ghost view = { λ log. record { gate_at = log.gate_at; lo = log.lo; hi = log.hi; used = log.used; defers = log.defers } };
 
     ghost invariant = { λ log. (log.lo < 2 ^ 8) × (log.hi < 2 ^ 8) × (log.used ≤ LOG_ENTRY_WORDS) };
 }
@@ -107,7 +107,7 @@ impl Log {
     /// The log lies in the device. The only errors are the host's own. The one word written is the gate.
     pub fn open_running<H: Host>(h: &mut H, at: u32) -> Result<Log, HostFault>
         requires { at + LOG_WORDS ≤ (H.counts h.old).size }
-        ensures opened { IfOk result (λ log. log ≡ record { gate_at = at; lo = RUNNING_LO; hi = RUNNING_HI; used = 0; asks = false }) }
+        ensures opened { IfOk result (λ log. log ≡ record { gate_at = at; lo = RUNNING_LO; hi = RUNNING_HI; used = 0; defers = false }) }
         ensures persists { H.tells → Persists (only at RUNNING_GATE) (fault_of result) (H.state h.old) (H.state h.new) }
         ensures open { H.tells → IfOk result (λ log. IsOpen log [] (H.state h.new).now.words) }
         ensures cause { H.counts h.new ≡ after_fault (fault_of result) (H.counts h.old) }
@@ -118,7 +118,7 @@ impl Log {
             lo: RUNNING_LO,
             hi: RUNNING_HI,
             used: 0,
-            asks: false,
+            defers: false,
         })
     }
 
@@ -138,10 +138,10 @@ impl Log {
     }
 
     /// Whether one of its entries asks for values, by their order. No device is touched.
-    pub fn asks(&self) -> bool
-        ensures { result ≡ self.now.asks }
+    pub fn defers(&self) -> bool
+        ensures { result ≡ self.now.defers }
     {
-        self.asks
+        self.defers
     }
 
     /// Appends words that spell entries, for which the log has room: they are durable before the gate that counts them is
@@ -196,7 +196,7 @@ impl Log {
         let n = encode(addr, seq, order, vals, &mut buffer);
         self.append_fitting(h, &buffer[..n])?;
         self.used += words;
-        self.asks = (order == REDO_ORDER) | self.asks;
+        self.defers = (order == REDO_ORDER) | self.defers;
         Ok(())
     }
 

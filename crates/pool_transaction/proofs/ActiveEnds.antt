@@ -17,7 +17,7 @@ use Rattle.pud_defs.specs.declared.machine.Command.TheVariants.{Commit, Abort}
 use Rattle.pud_defs.specs.declared.records.Puddle.{Puddle}
 use Rattle.pud_defs.specs.Allowed.{puddle_word}
 use Rattle.pud_defs.specs.Graph.{Graph, graph_of}
-use Rattle.pud_defs.specs.Laters.{Later, with_laters}
+use Rattle.pud_defs.specs.DeferredValues.{DeferredValue, with_deferred_set}
 use Rattle.pud_defs.specs.Image.{Image}
 use Rattle.pud_defs.specs.Layout.{tables_end, frames_at, device_words}
 use Rattle.pud_defs.specs.Entries.{is_idle_gate}
@@ -85,15 +85,15 @@ mask_agrees F p after before k same q = cond (is_in_log (log_number_at F p.log_n
 -- on so many frames of a device of so many words, with this log
 abbrev pub Undoes : (F sz : ℕ) → OpenLog → Option HostFault → State → State → Type 0
 Undoes F sz log fault old new =
-    (pool : List (ℕ × Puddle)) (types : List (ℕ × ℕ)) (before : Image) (undone : Graph) (seen : Graph) (laters : List Later) → IsPlaced F pool → device_words F ≤ sz → log.gate_at + LOG_WORDS ≤ frames_at F
-    → IsOpenOn F pool types log before undone seen laters old.now.words → HasPlaces (pool_scope F (finished_of pool)) (puddle_word (tables_of F (reads old.now.words))) → HasOneTable F old.now.words
+    (pool : List (ℕ × Puddle)) (types : List (ℕ × ℕ)) (before : Image) (undone : Graph) (seen : Graph) (deferred : List DeferredValue) → IsPlaced F pool → device_words F ≤ sz → log.gate_at + LOG_WORDS ≤ frames_at F
+    → IsOpenOn F pool types log before undone seen deferred old.now.words → HasPlaces (pool_scope F (finished_of pool)) (puddle_word (tables_of F (reads old.now.words))) → HasOneTable F old.now.words
     → ClosesOn F pool types log.gate_at before undone fault old new
 
 abbrev pub Commits : (F sz : ℕ) → OpenLog → Option HostFault → State → State → Type 0
 Commits F sz log fault old new =
-    (pool : List (ℕ × Puddle)) (types : List (ℕ × ℕ)) (before : Image) (undone : Graph) (seen : Graph) (laters : List Later) → IsPlaced F pool → device_words F ≤ sz → log.gate_at + LOG_WORDS ≤ frames_at F
-    → IsOpenOn F pool types log before undone seen laters old.now.words → (laters ≢ [] → CanRedo (pool_scope F (finished_of pool)) F log.gate_at old.now.words)
-    → EndsOn F pool types log.gate_at before undone (with_laters laters seen) fault old new
+    (pool : List (ℕ × Puddle)) (types : List (ℕ × ℕ)) (before : Image) (undone : Graph) (seen : Graph) (deferred : List DeferredValue) → IsPlaced F pool → device_words F ≤ sz → log.gate_at + LOG_WORDS ≤ frames_at F
+    → IsOpenOn F pool types log before undone seen deferred old.now.words → (deferred ≢ [] → CanRedo (pool_scope F (finished_of pool)) F log.gate_at old.now.words)
+    → EndsOn F pool types log.gate_at before undone (with_deferred_set deferred seen) fault old new
 
 -- a transaction writes no word in front of the clients' logs
 behind_tables : (F number : ℕ) (at : List (ℕ × Puddle)) (k v : ℕ) → ByTransaction (pool_scope F at) (log_number_at F number) k v → BehindTables F k v
@@ -145,7 +145,7 @@ module _ (size : ℕ) (w : World) (memory : Memory) (number : ℕ) (active : Act
   module _ (F sz : ℕ) (fault : Option HostFault) (new : State) (on : F ≡ n) (same : size ≡ sz) (undoes : Undoes F sz active.tx.log fault old new) where
     closes : ClosesOn n is.puddles w.stored.types active.tx.log.gate_at is.before is.undone fault old new
     closes =
-        subst (λ (m : ℕ). Undoes m sz active.tx.log fault old new) on undoes is.puddles w.stored.types is.before is.undone is.transaction.now is.transaction.laters placed (omega (arith, same, room)) log_apart is.running active_places active_table
+        subst (λ (m : ℕ). Undoes m sz active.tx.log fault old new) on undoes is.puddles w.stored.types is.before is.undone is.transaction.now is.transaction.deferred placed (omega (arith, same, room)) log_apart is.running active_places active_table
 
     pub undone_behind : Changes (BehindTables n) fault old new
     undone_behind =
@@ -169,7 +169,7 @@ module _ (size : ℕ) (w : World) (memory : Memory) (number : ℕ) (active : Act
 
   -- the graph that it makes, with what it asked for
   abbrev made : Graph
-  made = with_laters is.transaction.laters is.transaction.now
+  made = with_deferred_set is.transaction.deferred is.transaction.now
 
   module _ (x : Image) (graph : graph_of w.stored.types (stored_in n is.puddles x) ≡ Some made)
       (beside : (k : ℕ) → pool_has_word n is.puddles k ≡ true → pool_has_word n (finished_of is.puddles) k ≡ false → x k ≡ is.before k) where
@@ -244,7 +244,7 @@ module _ (size : ℕ) (w : World) (memory : Memory) (number : ℕ) (active : Act
     pub Applies-committed : (F sz : ℕ) (fault : Option HostFault) (new : State) → F ≡ n → size ≡ sz → Commits F sz active.tx.log fault old new
         → Applies size w (after w (Commit client active.name)) (with_ended number active memory) fault old new
     Applies-committed F sz fault new on same commits =
-        let e = subst (λ (m : ℕ). Commits m sz active.tx.log fault old new) on commits is.puddles w.stored.types is.before is.undone is.transaction.now is.transaction.laters placed (omega (arith, same, room)) log_apart is.running
+        let e = subst (λ (m : ℕ). Commits m sz active.tx.log fault old new) on commits is.puddles w.stored.types is.before is.undone is.transaction.now is.transaction.deferred placed (omega (arith, same, room)) log_apart is.running
         (λ some. can_redo) in
         subst (λ (v : World). Applies size w v (with_ended number active memory) fault old new) (sym committed_world)
         (Applies-ended size w memory number active old ready there (values e.after e.is e.beside) (values_beside e.after e.is e.beside) (pools_after e.after e.is e.beside) (stands_after e.after e.is e.beside) (pools_beside e.after e.is e.beside) made

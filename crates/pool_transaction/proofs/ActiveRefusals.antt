@@ -16,10 +16,10 @@ use Rattle.pud_defs.specs.Image.{Image}
 use Rattle.pud_defs.specs.Types.{types_of}
 use Rattle.pud_defs.specs.Stored.{stored_in}
 use Rattle.pud_defs.specs.Graph.{Graph, Object, object_at, object_in, is_referenced, graph_of}
-use Rattle.pud_defs.specs.Laters.{laters_name}
+use Rattle.pud_defs.specs.DeferredValues.{deferred_set_names}
 use Rattle.pud_defs.specs.PoolChanges.{pool_named}
 use Rattle.pud_defs.specs.World.{Transaction, World, open_on}
-use Rattle.pud_defs.specs.Transactions.{units_of, laters_of}
+use Rattle.pud_defs.specs.Transactions.{units_of, deferred_of}
 use Rattle.pud_defs.specs.Step.{graph_seen, field_of, misses, are_of_two_kinds, refusal_of}
 use Rattle.puddle_header.specs.Places.{place_of_slot}
 use Rattle.graph_read.specs.declared.fields.FieldRead.{FieldRead}
@@ -87,10 +87,10 @@ module _ (size : ℕ) (w : World) (memory : Memory) (s : State) (ready : IsReady
   placed_at frames on = subst (λ (n : ℕ). IsPlaced n is.puddles) (sym on) (active_placed size w memory active s number there ready)
 
   -- a change of it is refused by its own causes alone
-  refused_by : (change : Update) → change_refusal change (Some is.transaction.now) is.transaction.laters is.transaction.units ≡ refusal_of w (update_line change active.client active.name)
+  refused_by : (change : Update) → change_refusal change (Some is.transaction.now) is.transaction.deferred is.transaction.units ≡ refusal_of w (update_line change active.client active.name)
   refused_by change =
-      ap (λ (o : Option Transaction). change_refusal change (graph_seen o (pool_named active.name w.stored)) (laters_of o) (units_of o)) (sym is.is)
-      ∙ ap (λ (r : Option Refusal). option_or r (change_refusal change (graph_seen (open_on active.name w) (pool_named active.name w.stored)) (laters_of (open_on active.name w)) (units_of (open_on active.name w)))) (sym own_active)
+      ap (λ (o : Option Transaction). change_refusal change (graph_seen o (pool_named active.name w.stored)) (deferred_of o) (units_of o)) (sym is.is)
+      ∙ ap (λ (r : Option Refusal). option_or r (change_refusal change (graph_seen (open_on active.name w) (pool_named active.name w.stored)) (deferred_of (open_on active.name w)) (units_of (open_on active.name w)))) (sym own_active)
       ∙ sym (refusal_of-change w active.client active.name change)
 
   module _ (frames : ℕ) (at : List (ℕ × Puddle)) (on : frames ≡ w.stored.frames) (same : at ≡ is.puddles) where
@@ -157,13 +157,13 @@ module _ (size : ℕ) (w : World) (memory : Memory) (s : State) (ready : IsReady
     -- why an object is not freed: there is none
     pub refused_none_to_free : (serial : ℕ) → place_in_pool frames at image serial ≡ None → Some refusals.Object ≡ refusal_of w (Free active.client active.name serial)
     refused_none_to_free serial none =
-        ap (λ (o : Option Object). cond (is_none o) (Some refusals.Object) (refusal_to_free (is_referenced serial now) (laters_name serial is.transaction.laters) is.transaction.units))
+        ap (λ (o : Option Object). cond (is_none o) (Some refusals.Object) (refusal_to_free (is_referenced serial now) (deferred_set_names serial is.transaction.deferred) is.transaction.units))
         (sym (object_is serial ∙ ap (option_map (object_at (table_in frames at image))) none))
         ∙ refused_by (changes.Free serial)
 
   -- it is open on these puddles, by these types and with this log, in a state
   abbrev pub IsOpenIn : State → ℕ → List (ℕ × Puddle) → List (ℕ × ℕ) → OpenLog → Type 0
-  IsOpenIn then frames at types log = IsOpenOn frames at types log is.before is.undone is.transaction.now is.transaction.laters then.now.words
+  IsOpenIn then frames at types log = IsOpenOn frames at types log is.before is.undone is.transaction.now is.transaction.deferred then.now.words
 
   -- so it is by the types that are read, and its puddles lie as those of a ground
   open_read : (then : State) (frames : ℕ) (at : List (ℕ × Puddle)) (log : OpenLog) → then ≡ s → frames ≡ w.stored.frames → at ≡ is.puddles → log ≡ active.tx.log
@@ -178,11 +178,11 @@ module _ (size : ℕ) (w : World) (memory : Memory) (s : State) (ready : IsReady
   pub refused_to_free : (then : State) (frames serial units place : ℕ) (at : List (ℕ × Puddle)) (log : OpenLog) (named asked : Bool) → then ≡ s → (on : frames ≡ w.stored.frames) (same : at ≡ is.puddles) → log ≡ active.tx.log
       → place_in_pool frames at image serial ≡ Some place
       → ((g : Graph) → graph_of (types_of image) (stored_in frames at image) ≡ Some g → named ≡ is_referenced serial g)
-      → (IsPlaced frames at → IsOpenIn then frames at (types_of image) log → asked ≡ laters_name serial is.transaction.laters) → units ≡ active.tx.units
+      → (IsPlaced frames at → IsOpenIn then frames at (types_of image) log → asked ≡ deferred_set_names serial is.transaction.deferred) → units ≡ active.tx.units
       → refusal_to_free named asked units ≡ refusal_of w (Free active.client active.name serial)
-  refused_to_free then frames serial units place at log named asked still on same logged found names laters used =
+  refused_to_free then frames serial units place at log named asked still on same logged found names deferred used =
       let now : Graph = is.transaction.now in
       let object = object_is frames at on same serial ∙ ap (option_map (object_at (table_in frames at image))) found in
       let opened = open_read then frames at log still on same logged in
-      (λ p. cond (is_none (sym object p)) (Some refusals.Object) (refusal_to_free (names now (graph_at frames at on same) p) (laters opened.0 opened.1 p) ((used ∙ sym is.units) p)))
+      (λ p. cond (is_none (sym object p)) (Some refusals.Object) (refusal_to_free (names now (graph_at frames at on same) p) (deferred opened.0 opened.1 p) ((used ∙ sym is.units) p)))
       ∙ refused_by (changes.Free serial)

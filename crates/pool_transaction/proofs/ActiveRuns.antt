@@ -199,7 +199,7 @@ module _ (size : ℕ) (w : World) (memory : Memory) (active : ActiveTransaction)
   -- the transaction was changed, and used so many units more
   module _ (known : KnowsAlone memory.judged active.slot is.puddles) (tx : OpenTx) (units : ℕ) (change : Transaction → Transaction) (charges : Charges units change) (fault : Option HostFault) (new : State) (at : tx.log.gate_at ≡ active.tx.log.gate_at)
       (used : fault ≡ None → tx.units ≡ active.tx.units + units)
-      (runs : RunsOn F is.puddles w.stored.types tx.log is.before is.undone (change is.transaction).now (change is.transaction).laters fault old new) where
+      (runs : RunsOn F is.puddles w.stored.types tx.log is.before is.undone (change is.transaction).now (change is.transaction).deferred fault old new) where
     abbrev next : World
     next = record w { transactions = with_changed active.name change w.transactions }
 
@@ -241,7 +241,7 @@ module _ (size : ℕ) (w : World) (memory : Memory) (active : ActiveTransaction)
           kept_within none k place.high ∙ is.records k of;
       running = record {
         redo = runs.redo;
-        saving = record { es = runs.saves.es; running = runs.saves.runs.running none; asks = runs.saves.asks };
+        saving = record { es = runs.saves.es; running = runs.saves.runs.running none; defers = runs.saves.defers };
         rests = runs.rests none;
         was = runs.was;
         is = runs.is none;

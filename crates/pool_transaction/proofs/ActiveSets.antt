@@ -23,7 +23,7 @@ use Rattle.ready_daemon.specs.ActiveTransactions.{IsActive}
 use Rattle.ready_daemon.specs.Ready.{IsReady, Applies}
 use Rattle.pool_transaction.proofs.FieldsTyped.{may_change_unrefused}
 use Rattle.pool_transaction.proofs.ActiveRuns.{with_tx, is_active, active_placed, Applies-runs}
-use Rattle.ready_daemon.proofs.OpenNames.{Charges, Charges-charged, Charges-asked}
+use Rattle.ready_daemon.proofs.OpenNames.{Charges, Charges-charged, Charges-deferring}
 
 -- what a call used that did not fail
 pub used_more : {X : Type 0} (done : Result X HostFault) (units now old : ℕ) → IfOk done (λ _. now ≡ old + units) → fault_of done ≡ None → now ≡ old + units
@@ -44,7 +44,7 @@ same_stored w client name change = ap closed (sym (after_line w client name chan
 
 Charges-change : (change : Update) → Charges SET_UNITS (changed_by change)
 Charges-change (Set s f x) = Charges-charged SET_UNITS (with_field s f x)
-Charges-change (Later s f x) = Charges-asked SET_UNITS (record { s = s; f = f; x = x })
+Charges-change (Later s f x) = Charges-deferring SET_UNITS (record { s = s; f = f; x = x })
 Charges-change (Root s) = Charges-charged SET_UNITS (with_root s)
 Charges-change (Free s) = Charges-charged SET_UNITS (without_object s)
 
@@ -56,20 +56,20 @@ module _ (size : ℕ) (w : World) (memory : Memory) (active : ActiveTransaction)
     -- what a call owes that changes the transaction so, on these puddles
     abbrev pub OwesRuns : ℕ → List (ℕ × Puddle) → (change : Transaction → Transaction) → Option HostFault → Type 0
     OwesRuns n puddles change fault =
-        IsPlaced n puddles → IsOpenOn n puddles w.stored.types active.tx.log is.before is.undone is.transaction.now is.transaction.laters old.now.words
-        → RunsOn n puddles w.stored.types tx.log is.before is.undone (change is.transaction).now (change is.transaction).laters fault old new
+        IsPlaced n puddles → IsOpenOn n puddles w.stored.types active.tx.log is.before is.undone is.transaction.now is.transaction.deferred old.now.words
+        → RunsOn n puddles w.stored.types tx.log is.before is.undone (change is.transaction).now (change is.transaction).deferred fault old new
 
     -- and where it did not fail these units
     abbrev pub OwesUsed : ℕ → List (ℕ × Puddle) → {X : Type 0} → (units : ℕ) → Result X HostFault → Type 0
     OwesUsed n puddles units done =
-        IsPlaced n puddles → IsOpenOn n puddles w.stored.types active.tx.log is.before is.undone is.transaction.now is.transaction.laters old.now.words → IfOk done (λ _. tx.units ≡ active.tx.units + units)
+        IsPlaced n puddles → IsOpenOn n puddles w.stored.types active.tx.log is.before is.undone is.transaction.now is.transaction.deferred old.now.words → IfOk done (λ _. tx.units ≡ active.tx.units + units)
 
     pub told : {X : Type 0} (units : ℕ) (done : Result X HostFault) → OwesUsed F at units done → IfOk done (λ _. tx.units ≡ active.tx.units + units)
     told units done used =
         subst (λ (n : ℕ). OwesUsed n is.puddles units done) same (subst (λ (puddles : List (ℕ × Puddle)). OwesUsed F puddles units done) listed used) (active_placed size w memory active old number there ready) is.running
 
     pub owed : (change : Transaction → Transaction) (fault : Option HostFault) → OwesRuns F at change fault
-        → RunsOn w.stored.frames is.puddles w.stored.types tx.log is.before is.undone (change is.transaction).now (change is.transaction).laters fault old new
+        → RunsOn w.stored.frames is.puddles w.stored.types tx.log is.before is.undone (change is.transaction).now (change is.transaction).deferred fault old new
     owed change fault runs =
         subst (λ (n : ℕ). OwesRuns n is.puddles change fault) same (subst (λ (puddles : List (ℕ × Puddle)). OwesRuns F puddles change fault) listed runs) (active_placed size w memory active old number there ready) is.running
 

@@ -42,7 +42,7 @@ use Rattle.hybrid_tx.specs.Open.ManyOpen.{OpenTransaction}
 use Rattle.hybrid_tx.specs.Objects.Transactions.{IsOpenOn, RestsAs}
 use Rattle.hybrid_tx.proofs.FinishedPuddles.{stood, finished_there, finished_placed, mine_of_finished}
 use Rattle.hybrid_tx.proofs.PoolScope.{all_there, pool_has_word-each, pool_has_word-from, is_ground}
-use Rattle.hybrid_tx.proofs.Objects.LatersKept.{KeepsFinished, KeepsObjects-same, AreLaters-wider}
+use Rattle.hybrid_tx.proofs.Objects.DeferredKept.{KeepsFinished, KeepsObjects-same, AreLaters-wider}
 use Rattle.hybrid_tx.proofs.Objects.Opening.{stored_in-has_word}
 use Rattle.hybrid_tx.proofs.Open.OpenPools.{placed_by_tables}
 use Rattle.ready_daemon.specs.Memory.{ActiveTransaction}
@@ -232,7 +232,7 @@ module _ (w : World) (active : ActiveTransaction) (mask : Write) (old new : Stat
             cc)
             (λ frontier. let below = frames.below o e next.here in absurd (omega arith))
 
-    pub running_stepped : IsOpenOn F at w.stored.types active.tx.log before is.undone is.transaction.now is.transaction.laters new.now.words
+    pub running_stepped : IsOpenOn F at w.stored.types active.tx.log before is.undone is.transaction.now is.transaction.deferred new.now.words
     running_stepped =
         let r = is.running in
         let g = pool_scope F (finished_of is.puddles) in
@@ -244,14 +244,14 @@ module _ (w : World) (active : ActiveTransaction) (mask : Write) (old new : Stat
                 (IsRunning-values (device_words F) g active.tx.log r.saving.es is.before before new.now.words ground (λ k own. sym (own_word k own))
                 (IsRunning-kept g active.tx.log r.saving.es is.before (ByOthers mask) None old new beside (λ k v inside none. log_masked w active mask old.now.words is k inside none)
                 (λ k v own none. own_masked w active mask old.now.words is k own none) r.saving.running));
-            asks = r.saving.asks;
+            defers = r.saving.defers;
           };
           rests = rests_stepped;
           was = graph_over is.before before is.undone frame_was over_before r.was;
           is = graph_over (reads old.now.words) now is.transaction.now (λ k low. refl) read_over r.is;
           are = AreLaters-wider F is.puddles at w.stored.types w.stored.types (reads old.now.words) now is.transaction.now is.transaction.now (keeps F is.puddles goal o m e next) (record { each = λ id x there. there })
               (record { each = λ s object live. place_in_pool-spared F is.puddles at (reads old.now.words) now (batch_spares F is.puddles goal o m e old new next c frames) s }) (KeepsObjects-same is.transaction.now)
-              is.transaction.laters r.redo r.are;
+              is.transaction.deferred r.redo r.are;
         }
 
     -- It is held so, where its words are masked.

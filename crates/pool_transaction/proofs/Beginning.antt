@@ -299,7 +299,7 @@ module _ (size : ℕ) (w : World) (memory : Memory) (old : State) (ready : IsRea
       }
 
   abbrev begun_transaction : Transaction
-  begun_transaction = record { client = client; depth = 1; units = 0; now = may.graph; laters = [] }
+  begun_transaction = record { client = client; depth = 1; units = 0; now = may.graph; deferred = [] }
 
   module _ (fault : Option HostFault) (new : State) (persists : Persists (only gate RUNNING_GATE) fault old new) (runs : Runs g (begun gate) [] now nothing fault old new) where
     abbrev c : Changes By fault old new

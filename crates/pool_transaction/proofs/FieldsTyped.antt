@@ -20,7 +20,7 @@ use Rattle.pud_defs.specs.Types.{map_of}
 use Rattle.pud_defs.specs.Keyed.{keyed, under}
 use Rattle.pud_defs.specs.Stored.{Stored, places_of, place_word}
 use Rattle.pud_defs.specs.Graph.{Content, Number, Null, at_place, place_in, target, puddles_by, content, field_count, Table, table_of, contents_by, contents_or_none, value_of, object_at, live, all_stand, Graph, Object, object_in, is_referenced, graph_of}
-use Rattle.pud_defs.specs.Laters.{laters_name}
+use Rattle.pud_defs.specs.DeferredValues.{deferred_set_names}
 use Rattle.pud_defs.specs.Step.{misses, are_of_two_kinds, refusal_of}
 use Rattle.pud_defs.specs.World.{Transaction, World, open_on}
 use Rattle.pud_defs.proofs.Keyed.{find-keyed, first_from_some}
@@ -150,15 +150,15 @@ may_set types st g units s f x is settable =
       holds = may_hold g typed.type_map f settable.was x typed.kind settable.kind settable.named;
     }
 
-may_free : (t : Transaction) (s : ℕ) → freeing_refusal (Some t.now) t.laters t.units s ≡ None → MayFree t.now s × (laters_name s t.laters ≡ false)
+may_free : (t : Transaction) (s : ℕ) → freeing_refusal (Some t.now) t.deferred t.units s ≡ None → MayFree t.now s × (deferred_set_names s t.deferred ≡ false)
 may_free t s none =
     let object = unless (is_none (object_in s t.now)) refusals.Object _ none in
-    let held = unless (is_referenced s t.now || laters_name s t.laters) refusals.Held _ object.1 in
-    let spared = or_parts (is_referenced s t.now) (laters_name s t.laters) held.0 in
+    let held = unless (is_referenced s t.now || deferred_set_names s t.deferred) refusals.Held _ object.1 in
+    let spared = or_parts (is_referenced s t.now) (deferred_set_names s t.deferred) held.0 in
     let o = some_there (object_in s t.now) object.0 in
     (record { object = o.0; live = o.1; spared = spared.0 }, spared.1)
 
-may_change : (types : List (ℕ × ℕ)) (st : Stored) (t : Transaction) (change : Update) → graph_of types st ≡ Some t.now → change_refusal change (Some t.now) t.laters t.units ≡ None → MayChange types t change
+may_change : (types : List (ℕ × ℕ)) (st : Stored) (t : Transaction) (change : Update) → graph_of types st ≡ Some t.now → change_refusal change (Some t.now) t.deferred t.units ≡ None → MayChange types t change
 may_change types st t (Set s f x) is none = may_set types st t.now t.units s f x is (settable_by t.now t.units s f x none)
 may_change types st t (Later s f x) is none = may_set types st t.now t.units s f x is (settable_by t.now t.units s f x none)
 may_change types st t (Root s) is none = live_or_null s (object_in s t.now) (unless (misses (Some t.now) (Ref s)) refusals.Object _ none).0

@@ -16,11 +16,11 @@ use Rattle.pud_defs.specs.declared.machine.Refusal.TheVariants as refusals
 use Rattle.pud_defs.specs.Types.{map_of}
 use Rattle.pud_defs.specs.Spaces.{Owner}
 use Rattle.pud_defs.specs.Graph.{Graph, Object, object_in}
-use Rattle.pud_defs.specs.Laters.{Later, laters_name}
+use Rattle.pud_defs.specs.DeferredValues.{DeferredValue, deferred_set_names}
 use Rattle.pud_defs.specs.Tables.{Pool}
 use Rattle.pud_defs.specs.PoolChanges.{pool_named, lacks_frames}
 use Rattle.pud_defs.specs.World.{Transaction, World, open_on}
-use Rattle.pud_defs.specs.Transactions.{is_own, is_others, units_of, laters_of}
+use Rattle.pud_defs.specs.Transactions.{is_own, is_others, units_of, deferred_of}
 use Rattle.pud_defs.specs.Step.{graph_in, graph_seen, object_of, field_of, misses, are_of_two_kinds, is_referenced_in, grows, lacks_room, holds, refusal_of}
 use Rattle.pool_transaction.specs.declared.changing.Update.{Update}
 use Rattle.pool_transaction.specs.declared.changing.Update.TheVariants as changes
@@ -54,18 +54,18 @@ abbrev pub rooting_refusal : Option Graph → (units s : ℕ) → Option Refusal
 rooting_refusal g units s = cond (misses g (Ref s)) (Some refusals.Object) (cond (ltb LOG_ENTRY_WORDS (units + SET_UNITS)) (Some refusals.TooBig) None)
 
 -- of `free`, also by what is asked for later
-abbrev pub freeing_refusal : Option Graph → List Later → (units s : ℕ) → Option Refusal
-freeing_refusal g laters units s =
+abbrev pub freeing_refusal : Option Graph → List DeferredValue → (units s : ℕ) → Option Refusal
+freeing_refusal g deferred units s =
     cond (is_none (object_of s g)) (Some refusals.Object)
-    (cond (is_referenced_in s g || laters_name s laters) (Some refusals.Held)
+    (cond (is_referenced_in s g || deferred_set_names s deferred) (Some refusals.Held)
     (cond (ltb LOG_ENTRY_WORDS (units + SET_UNITS)) (Some refusals.TooBig) None))
 
 -- of any such line
-abbrev pub change_refusal : Update → Option Graph → List Later → (units : ℕ) → Option Refusal
-change_refusal (changes.Set s f x) g laters units = setting_refusal g units s f x
-change_refusal (changes.Later s f x) g laters units = setting_refusal g units s f x
-change_refusal (changes.Root s) g laters units = rooting_refusal g units s
-change_refusal (changes.Free s) g laters units = freeing_refusal g laters units s
+abbrev pub change_refusal : Update → Option Graph → List DeferredValue → (units : ℕ) → Option Refusal
+change_refusal (changes.Set s f x) g deferred units = setting_refusal g units s f x
+change_refusal (changes.Later s f x) g deferred units = setting_refusal g units s f x
+change_refusal (changes.Root s) g deferred units = rooting_refusal g units s
+change_refusal (changes.Free s) g deferred units = freeing_refusal g deferred units s
 
 -- of `new`, where the client's own transaction is open, by the map of the type and by what is full
 abbrev pub making_refusal : (map : Option ℕ) → (units : ℕ) → (full lacks : Bool) → Option Refusal
@@ -109,7 +109,7 @@ module _ (w : World) (client : ℕ) (name : List ℕ) where
   refusal_of-later s f x = refl
 
   abbrev its_own : Update → Option Refusal
-  its_own change = change_refusal change (graph_seen opened found) (laters_of opened) (units_of opened)
+  its_own change = change_refusal change (graph_seen opened found) (deferred_of opened) (units_of opened)
 
   behind_own : (rest : Option Refusal)
       → cond (not (is_some acts)) (Some refusals.Client)
@@ -219,7 +219,7 @@ settable_by g units s f x none =
 
 module _ (w : World) (client : ℕ) (name : List ℕ) (t : Transaction) (open_there : open_on name w ≡ Some t) where
   -- nothing of its own refuses it
-  pub change_parts : (change : Update) → refusal_of w (update_line change client name) ≡ None → change_refusal change (Some t.now) t.laters t.units ≡ None
+  pub change_parts : (change : Update) → refusal_of w (update_line change client name) ≡ None → change_refusal change (Some t.now) t.deferred t.units ≡ None
   change_parts change none =
-      ap (λ (o : Option Transaction). change_refusal change (graph_seen o (pool_named name w.stored)) (laters_of o) (units_of o)) (sym open_there)
+      ap (λ (o : Option Transaction). change_refusal change (graph_seen o (pool_named name w.stored)) (deferred_of o) (units_of o)) (sym open_there)
       ∙ (neither (refusal_of w (Commit client name)) _ (sym (refusal_of-change w client name change) ∙ none)).1

@@ -37,7 +37,7 @@ use Rattle.hybrid_tx.specs.Open.ManyOpen.{OpenTransaction, Opens, with_transacti
 use Rattle.hybrid_tx.specs.Objects.Transactions.{IsOpenOn, RestsAs}
 use Rattle.hybrid_tx.proofs.Open.ManyMasks.{masks_of_others, opens_apart}
 use Rattle.hybrid_tx.proofs.Open.OpenMasks.{open_record_place}
-use Rattle.hybrid_tx.proofs.Objects.LatersKept.{KeepsObjects-same, AreLaters-wider, keeps_front}
+use Rattle.hybrid_tx.proofs.Objects.DeferredKept.{KeepsObjects-same, AreLaters-wider, keeps_front}
 use Rattle.hybrid_tx.proofs.Objects.Opening.{stored_in-has_word}
 use Rattle.hybrid_tx.proofs.Open.OpenPools.{open_on_device, placed_by_tables}
 use Rattle.hybrid_tx.proofs.Open.PoolPlaces.{placed_of_puddles}
@@ -187,7 +187,7 @@ module _ (w : World) (active : ActiveTransaction) (mask : Write) (words : Words)
           let known = is.pool.known in
           is_ground F (device_words F) active.tx.log.gate_at (finished_of is.puddles) placed_before (omega arith) (omega arith)
 
-      pub running_more : IsOpenOn F at w.stored.types active.tx.log before is.undone is.transaction.now is.transaction.laters words
+      pub running_more : IsOpenOn F at w.stored.types active.tx.log before is.undone is.transaction.now is.transaction.deferred words
       running_more =
           let r = is.running in
           let g = pool_scope F (finished_of is.puddles) in
@@ -198,13 +198,13 @@ module _ (w : World) (active : ActiveTransaction) (mask : Write) (words : Words)
               es = r.saving.es;
               running = IsRunning-wider g (pool_scope F (finished_of at)) active.tx.log r.saving.es before words wider fresh_word
                   (IsRunning-values (device_words F) g active.tx.log r.saving.es is.before before words ground (λ k own. sym (own_begun F is.puddles is.before now k own)) r.saving.running);
-              asks = r.saving.asks;
+              defers = r.saving.defers;
             };
             rests = rests_more;
             was = graph_longer w.stored.types F before is.puddles e is.undone some fresh_before (ap (graph_of w.stored.types) (stored_in-has_word F is.puddles is.before before pool_word) ∙ r.was);
             is = graph_longer w.stored.types F now is.puddles e is.transaction.now some fresh r.is;
             are = AreLaters-wider F is.puddles at w.stored.types w.stored.types now now is.transaction.now is.transaction.now (keeps_front is.puddles at front) (record { each = λ id m is. is })
-                (places_longer w.stored.types F now is.puddles e is.transaction.now r.is) (KeepsObjects-same is.transaction.now) is.transaction.laters r.redo r.are;
+                (places_longer w.stored.types F now is.puddles e is.transaction.now r.is) (KeepsObjects-same is.transaction.now) is.transaction.deferred r.redo r.are;
           }
 
       -- The next world holds it with that puddle, where its words are masked.
@@ -228,8 +228,8 @@ module _ (w : World) (active : ActiveTransaction) (mask : Write) (words : Words)
             stored = grows.stored ∙ is.stored;
             pool = subst (λ (m : ℕ). IsOpenPool m q before) back comes_more.pool;
             records = comes_more.records;
-            running = subst (λ (m : ℕ). IsOpenOn m at next.stored.types active.tx.log before is.undone is.transaction.now is.transaction.laters words) back
-                (subst (λ (types : List (ℕ × ℕ)). IsOpenOn F at types active.tx.log before is.undone is.transaction.now is.transaction.laters words) (sym grows.types) running_more);
+            running = subst (λ (m : ℕ). IsOpenOn m at next.stored.types active.tx.log before is.undone is.transaction.now is.transaction.deferred words) back
+                (subst (λ (types : List (ℕ × ℕ)). IsOpenOn F at types active.tx.log before is.undone is.transaction.now is.transaction.deferred words) (sym grows.types) running_more);
             masked = subst (λ (m : ℕ). (k v : ℕ) → open_mask m q before k ≡ Some v → anew k ≡ Some v) back masks;
           }
 

@@ -13,11 +13,11 @@ use Rattle.pud_defs.specs.declared.records.Puddle.{Puddle}
 use Rattle.pud_defs.specs.declared.records.Slot.{Slot}
 use Rattle.pud_defs.specs.GraphChanges.{with_field, with_root, without_object, with_new}
 use Rattle.pud_defs.specs.Image.{Image}
-use Rattle.pud_defs.specs.Laters.{laters_name}
+use Rattle.pud_defs.specs.DeferredValues.{deferred_set_names}
 use Rattle.pud_defs.specs.PoolChanges.{pool_named, with_grown_pool}
 use Rattle.pud_defs.specs.Step.{graph_seen, next_in, object_made}
 use Rattle.pud_defs.specs.Tables.{tables_of}
-use Rattle.pud_defs.specs.Transactions.{with_changed, charged, asked}
+use Rattle.pud_defs.specs.Transactions.{with_changed, charged, deferring}
 use Rattle.pud_defs.specs.Types.{map_of}
 use Rattle.pud_defs.specs.World.{Transaction, World, open_on}
 use Rattle.registry.specs.declared.adding.Added.{Added}
@@ -88,7 +88,7 @@ IsLegalChange (changes.Update update) = IsLegalUpdate update
 -- the transaction with it
 abbrev pub changed_by : Update → Transaction → Transaction
 changed_by (Set s f x) = charged SET_UNITS (with_field s f x)
-changed_by (Later s f x) = asked SET_UNITS (record { s = s; f = f; x = x })
+changed_by (Later s f x) = deferring SET_UNITS (record { s = s; f = f; x = x })
 changed_by (Root s) = charged SET_UNITS (with_root s)
 changed_by (Free s) = charged SET_UNITS (without_object s)
 
@@ -97,7 +97,7 @@ abbrev pub MayChange : List (ℕ × ℕ) → Transaction → Update → Type 0
 MayChange types t (Set s f x) = MaySet types t.now s f x
 MayChange types t (Later s f x) = MaySet types t.now s f x
 MayChange types t (Root s) = MayName t.now s
-MayChange types t (Free s) = MayFree t.now s × (laters_name s t.laters ≡ false)
+MayChange types t (Free s) = MayFree t.now s × (deferred_set_names s t.deferred ≡ false)
 
 -- ---- what was found of it
 

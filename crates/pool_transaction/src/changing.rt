@@ -12,7 +12,7 @@ ghost use Rattle.pud_defs.specs.Layout.{device_words, frames_at};
 ghost use Rattle.pud_defs.specs.Types.{map_of, types_of};
 ghost use Rattle.pud_defs.specs.Stored.{IsOnDevice, stored_in};
 ghost use Rattle.pud_defs.specs.Graph.{Graph, next_serial_of};
-ghost use Rattle.pud_defs.specs.Laters.{Later};
+ghost use Rattle.pud_defs.specs.DeferredValues.{DeferredValue};
 ghost use Rattle.pud_defs.specs.PoolChanges.{pool_named};
 ghost use Rattle.pud_defs.specs.Step.{refusal_of, after, graph_seen, next_in, grows, answer_by, world_by};
 ghost use Rattle.pud_defs.specs.Step.Answer.{of_reply};
@@ -151,11 +151,11 @@ fn carry_out<H: Host>(
     ensures at { (tx.new).log.gate_at ≡ (tx.old).log.gate_at }
     ensures changes { H.tells → Changes (ByTransaction (pool_scope frames pool.now) (tx.old).log.gate_at) (fault_of result) (H.state h.old) (H.state h.new) }
     ensures runs { H.tells → (types : List (ℕ × ℕ)) (before : Image) (undone : Graph) (t : Transaction) (update : Update) → IsPlaced frames pool.now → IsRewrittenAt pool.now (ordinal_written found)
-        → IsOpenOn frames pool.now types (tx.old).log before undone t.now t.laters (H.state h.old).now.words → MayChange types t update
+        → IsOpenOn frames pool.now types (tx.old).log before undone t.now t.deferred (H.state h.old).now.words → MayChange types t update
         → IsFoundBy frames pool.now (reads (H.state h.old).now.words) update found
-        → RunsOn frames pool.now types (tx.new).log before undone (changed_by update t).now (changed_by update t).laters (fault_of result) (H.state h.old) (H.state h.new) }
-    ensures counts { H.tells → (types : List (ℕ × ℕ)) (before : Image) (undone : Graph) (now : Graph) (laters : List Later)
-        → IsOpenOn frames pool.now types (tx.old).log before undone now laters (H.state h.old).now.words → IfOk result (λ _. (tx.new).units ≡ (tx.old).units + SET_UNITS) }
+        → RunsOn frames pool.now types (tx.new).log before undone (changed_by update t).now (changed_by update t).deferred (fault_of result) (H.state h.old) (H.state h.new) }
+    ensures counts { H.tells → (types : List (ℕ × ℕ)) (before : Image) (undone : Graph) (now : Graph) (deferred : List DeferredValue)
+        → IsOpenOn frames pool.now types (tx.old).log before undone now deferred (H.state h.old).now.words → IfOk result (λ _. (tx.new).units ≡ (tx.old).units + SET_UNITS) }
     ensures cause { H.counts h.new ≡ after_fault (fault_of result) (H.counts h.old) }
 {
     match found {

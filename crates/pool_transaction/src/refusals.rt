@@ -182,7 +182,7 @@ impl PoolTransaction {
             return Ok(Err(Refusal::Object));
         };
         let referenced = pool.is_referenced(h, frames, s)?;
-        let asked = self.tx.later_names_at(h, frames, pool.as_slice(), s, &at)?;
+        let asked = self.tx.deferred_names_at(h, frames, pool.as_slice(), s, &at)?;
         match refusal_to_free(referenced, asked, self.tx.units()) {
             Some(refusal) => Ok(Err(refusal)),
             None => Ok(Ok(Found::Object { at })),

@@ -37,7 +37,7 @@ start = world_with empty_graph None
 
 -- a transaction of client 0 that was begun so often, has used so many units and sees this graph; nothing was asked for that is to come
 abbrev pub under_way : (depth units : ℕ) → Graph → Option Transaction
-under_way depth units g = Some (record { client = 0; depth = depth; units = units; now = g; laters = [] })
+under_way depth units g = Some (record { client = 0; depth = depth; units = units; now = g; deferred = [] })
 
 -- one that has made nothing yet
 abbrev used : (depth units : ℕ) → Option Transaction

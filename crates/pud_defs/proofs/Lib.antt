@@ -59,7 +59,7 @@ pub mod ExamplesImage
 pub mod ExamplesRun
 pub mod ExamplesPools
 pub mod ExamplesTransactions
-pub mod ExamplesLaters
+pub mod ExamplesDeferred
 pub mod ExamplesChecks
 pub mod ExamplesRewriting
 pub mod ExamplesLogs

@@ -18,7 +18,7 @@ pub mod Rights
 pub mod Stored
 pub mod Graph
 pub mod GraphChanges
-pub mod Laters
+pub mod DeferredValues
 pub mod Holdings
 pub mod ExportFile
 pub mod Exported

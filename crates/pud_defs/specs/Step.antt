@@ -18,14 +18,14 @@ use Rattle.pud_defs.specs.declared.objects.Val.TheVariants.{Num, Ref}
 use Rattle.pud_defs.specs.Rights.{may_read, may_write}
 use Rattle.pud_defs.specs.Graph.{Graph, Object, object_in, is_referenced, empty_graph}
 use Rattle.pud_defs.specs.GraphChanges.{blank_object, with_field, with_root, without_object, with_new}
-use Rattle.pud_defs.specs.Laters.{laters_name}
+use Rattle.pud_defs.specs.DeferredValues.{deferred_set_names}
 use Rattle.pud_defs.specs.Holdings.{graph_held}
 use Rattle.pud_defs.specs.ExportFile.{FileContents, file_graph}
 use Rattle.pud_defs.specs.Tables.{Pool}
 use Rattle.pud_defs.specs.World.{StoredWorld, Transaction, World, restart, open_on}
 use Rattle.pud_defs.specs.PoolChanges.{pool_named, is_full_of_pools, lacks_frames, lacks_a_number, changed_pool, with_puddle_more, with_new_pool, with_pool_mode, without_pool, with_type_defined}
 use Rattle.pud_defs.specs.Imports.{is_full_for_file, lacks_frames_for_file, with_pool_of}
-use Rattle.pud_defs.specs.Transactions.{is_own, is_others, units_of, depth_of, laters_of, with_open, with_changed, without_client, begun, charged, asked, lowered, committed_pools}
+use Rattle.pud_defs.specs.Transactions.{is_own, is_others, units_of, depth_of, deferred_of, with_open, with_changed, without_client, begun, charged, deferring, lowered, committed_pools}
 use Rattle.pud_defs.specs.Listing.{name_text, pools_text}
 use Rattle.pud_defs.specs.DumpText.{dump_text}
 use Rattle.pud_defs.specs.Grammar.{command_of}
@@ -284,7 +284,7 @@ is_referenced_in s (Some g) = is_referenced s g
 
 -- the object that a command frees is named by the root, by a field, also its own, or by what was asked for and is to come
 abbrev pub frees_referenced : World → Command → Bool
-frees_referenced w (Free client name s) = is_referenced_in s (graph_for w (Free client name s)) || laters_name s (laters_of (open_for w (Free client name s)))
+frees_referenced w (Free client name s) = is_referenced_in s (graph_for w (Free client name s)) || deferred_set_names s (deferred_of (open_for w (Free client name s)))
 frees_referenced w c = false
 
 -- ---- room for one object more
@@ -432,7 +432,7 @@ after w (New client name t) = record w {
   transactions = with_changed name (charged NEW_UNITS (with_new (object_made w t))) w.transactions;
 }
 after w (Set client name s f x) = record w { transactions = with_changed name (charged SET_UNITS (with_field s f x)) w.transactions }
-after w (Later client name s f x) = record w { transactions = with_changed name (asked SET_UNITS (record { s = s; f = f; x = x })) w.transactions }
+after w (Later client name s f x) = record w { transactions = with_changed name (deferring SET_UNITS (record { s = s; f = f; x = x })) w.transactions }
 after w (Root client name s) = record w { transactions = with_changed name (charged SET_UNITS (with_root s)) w.transactions }
 after w (Free client name s) = record w { transactions = with_changed name (charged SET_UNITS (without_object s)) w.transactions }
 after w (Dump client name) = w

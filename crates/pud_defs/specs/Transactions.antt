@@ -1,7 +1,7 @@
 -- Open transactions of a world: whose they are, what they use, how they begin and end.
 use Rattle.std.specs.Prelude.{ℕ, ◌+◌, ◌-◌, Bool, false, not, nat_le, ◌==◌, cond, List, [], ◌∷◌, ◌++◌, bytes_eq, Option, Some, None, option_map}
 use Rattle.pud_defs.specs.Graph.{Graph}
-use Rattle.pud_defs.specs.Laters.{Later, with_laters}
+use Rattle.pud_defs.specs.DeferredValues.{DeferredValue, with_deferred_set}
 use Rattle.pud_defs.specs.Holdings.Holding.{Sound}
 use Rattle.pud_defs.specs.Tables.{Pool}
 use Rattle.pud_defs.specs.PoolChanges.{changed_pool}
@@ -32,9 +32,9 @@ depth_of None = 0
 depth_of (Some t) = t.depth
 
 -- what was asked for and is to come
-abbrev pub laters_of : Option Transaction → List Later
-laters_of None = []
-laters_of (Some t) = t.laters
+abbrev pub deferred_of : Option Transaction → List DeferredValue
+deferred_of None = []
+deferred_of (Some t) = t.deferred
 
 -- this is open on the pool of the name, and all else as before
 abbrev pub with_open : List ℕ → Option Transaction → OpenTransactions → OpenTransactions
@@ -52,7 +52,7 @@ without_client client opened name = cond (is_own client (opened name)) None (ope
 
 -- begun once by a client that sees this graph; or what is open, one deeper
 abbrev pub begun : (client : ℕ) → Graph → Option Transaction → Option Transaction
-begun client g None = Some (record { client = client; depth = 1; units = 0; now = g; laters = [] })
+begun client g None = Some (record { client = client; depth = 1; units = 0; now = g; deferred = [] })
 begun client g (Some t) = Some (record t { depth = t.depth + 1 })
 
 -- its graph changed, and so many units more used
@@ -60,8 +60,8 @@ abbrev pub charged : (units : ℕ) → (Graph → Graph) → Transaction → Tra
 charged units change t = record t { units = t.units + units; now = change t.now }
 
 -- a value asked for, behind what was, and so many units more used: its graph is as it was
-abbrev pub asked : (units : ℕ) → Later → Transaction → Transaction
-asked units l t = record t { units = t.units + units; laters = t.laters ++ l ∷ [] }
+abbrev pub deferring : (units : ℕ) → DeferredValue → Transaction → Transaction
+deferring units l t = record t { units = t.units + units; deferred = t.deferred ++ l ∷ [] }
 
 -- ---- it ends
 
@@ -77,4 +77,4 @@ holding_graph g p = record p { holding = Sound g }
 -- the pools behind a commit: where the transaction was begun once its pool has the graph that it made, with what was asked for
 abbrev pub committed_pools : List ℕ → Option Transaction → List (List ℕ × Pool) → List (List ℕ × Pool)
 committed_pools name None pools = pools
-committed_pools name (Some t) pools = cond (nat_le t.depth 1) (changed_pool name (holding_graph (with_laters t.laters t.now)) pools) pools
+committed_pools name (Some t) pools = cond (nat_le t.depth 1) (changed_pool name (holding_graph (with_deferred_set t.deferred t.now)) pools) pools

@@ -6,7 +6,7 @@ use Rattle.pud_defs.specs.Image.{Image}
 use Rattle.pud_defs.specs.Replay.{settled_by}
 use Rattle.pud_defs.specs.Types.{types_of}
 use Rattle.pud_defs.specs.Graph.{Graph}
-use Rattle.pud_defs.specs.Laters.{Later}
+use Rattle.pud_defs.specs.DeferredValues.{DeferredValue}
 use Rattle.pud_defs.specs.Holdings.{holding_in}
 use Rattle.pud_defs.specs.Tables.{Pool, tables_of, pools_of}
 use Rattle.pud_defs.specs.Spaces.{Owner}
@@ -59,7 +59,7 @@ pub record Transaction : Type 0 where
   pub depth : ℕ
   pub units : ℕ
   pub now : Graph
-  pub laters : List Later
+  pub deferred : List DeferredValue
 
 -- the stored world; the clients that are present, by their numbers, and as whom each acts; the shelf: which files
 -- there are, by the bytes of their names, and what they hold; and the transactions that are open, by the names of their pools. Of such a

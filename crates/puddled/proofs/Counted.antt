@@ -156,10 +156,10 @@ kind_unstarted (arms step pick) fault before mid after c last = absurd (let no :
 
 -- where no power was lost, no cut was counted
 pub no_power_lost : (kind : Kind) (before after : Counts) → CountsCommand kind None before after → (is_loss_kind kind ≡ true) ⊎ (after.cuts ≢ before.cuts) → ⊥
-no_power_lost ordinary before after c (inl asks) = let no : false ≡ true = asks in cc
+no_power_lost ordinary before after c (inl defers) = let no : false ≡ true = defers in cc
 no_power_lost ordinary before after c (inr moved) = moved (ap (λ (x : Counts). x.cuts) c)
 no_power_lost (loses pick) before after c lost = absurd (let no : None ≡ Some hosts.Cut = c.0 in cc)
-no_power_lost (arms step pick) before after c (inl asks) = let no : false ≡ true = asks in cc
+no_power_lost (arms step pick) before after c (inl defers) = let no : false ≡ true = defers in cc
 no_power_lost (arms step pick) before after c (inr moved) = moved (ap (λ (x : Counts). x.cuts) c.1)
 
 -- a line that is no command loses none

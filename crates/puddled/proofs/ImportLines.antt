@@ -177,8 +177,8 @@ CarriesOut-memory size w memory s ready client uid gid mode name file bytes may 
 
 module _ (size : ℕ) (w : World) (memory : Memory) (old new : State) (ready : IsReady size w memory old) (client uid gid mode : ℕ) (name file : List ℕ) (may : MayName w client name uid gid)
     (bytes : List ℕ) (given : IsFrontOf w file bytes) where
-  abbrev asks : Command
-  asks = Import client name file mode
+  abbrev defers : Command
+  defers = Import client name file mode
 
   -- they decide what the whole file holds
   same_file : file_graph given.whole ≡ file_graph bytes
@@ -190,9 +190,9 @@ module _ (size : ℕ) (w : World) (memory : Memory) (old new : State) (ready : I
 
   -- they are no export file
   pub CarriesOut-bad_file : is_some (file_graph bytes) ≡ false → new ≡ old → (first last : Counts) → last ≡ first
-      → CarriesOut size w memory (Some asks) (as_answered (Ok (replies.No refusals.BadFile))) first last old new
+      → CarriesOut size w memory (Some defers) (as_answered (Ok (replies.No refusals.BadFile))) first last old new
   CarriesOut-bad_file none same first last cause =
-      CarriesOut-refused size w memory first last old new asks (import_is_plain client name file mode) same (subst (λ (s : State). IsReady size w memory s) (sym same) ready) refusals.BadFile
+      CarriesOut-refused size w memory first last old new defers (import_is_plain client name file mode) same (subst (λ (s : State). IsReady size w memory s) (sym same) ready) refusals.BadFile
       (import_bad w client mode name file uid gid may given.whole given.there (same_file ∙ none_active (file_graph bytes) none)) cause
 
   -- they are one, and it was placed, or not
@@ -209,7 +209,7 @@ module _ (size : ℕ) (w : World) (memory : Memory) (old new : State) (ready : I
         → ChangesMasked ready.mask size w.stored (with_imported_pool name (owner uid gid) mode c w.stored) (λ _. ⊤) (place_fault done) old new)
         → ((c : FileContents) → Holds c → pool_in (tables_of n read) name ≡ None → (refusal_by n read c ≡ None → ⊥) → new ≡ old)
         → ((c : FileContents) → Holds c → place_fault done ≡ None → pool_in (tables_of n read) name ≡ None → refusal_in done ≡ refusal_by n read c)
-        → (first last : Counts) → last ≡ after_fault (place_fault done) first → CarriesOut size w memory (Some asks) (as_answered (reply_of_placing done)) first last old new
+        → (first last : Counts) → last ≡ after_fault (place_fault done) first → CarriesOut size w memory (Some defers) (as_answered (reply_of_placing done)) first last old new
     CarriesOut-view rests rest commits places stays told first last cause =
         let found = found_some (file_graph bytes) is in
         let c = found.0 in

@@ -8,7 +8,7 @@ use Rattle.std.proofs.lemmas.Slice.Eq.{bytes_eq-Decides}
 use Rattle.pm_model.specs.Moments.{State}
 use Rattle.pud_defs.specs.declared.machine.Command.TheVariants as commands
 use Rattle.pud_defs.specs.Graph.{Graph}
-use Rattle.pud_defs.specs.Laters.{Later}
+use Rattle.pud_defs.specs.DeferredValues.{DeferredValue}
 use Rattle.pud_defs.specs.Step.{graph_at_begin, after}
 use Rattle.pud_defs.specs.Transactions.{with_open, begun}
 use Rattle.pud_defs.specs.World.{Transaction, World, open_on}
@@ -58,8 +58,8 @@ module _ (size : ℕ) (w : World) (memory : Memory) (s : State) (ready : IsReady
 
     -- each is held as it was
     under_as : (m : ℕ) (h : ActiveTransaction) (u : IsActiveUnder w ready.active.opens ready.mask s.now.words m h) (x : Transaction) → open_on h.name next ≡ Some x → x.client ≡ u.is.transaction.client
-        → x.units ≡ u.is.transaction.units → u.is.transaction.now ≡ x.now → u.is.transaction.laters ≡ x.laters → IsActiveUnder next ready.active.opens ready.mask s.now.words m h
-    under_as m h u x is client units now laters =
+        → x.units ≡ u.is.transaction.units → u.is.transaction.now ≡ x.now → u.is.transaction.deferred ≡ x.deferred → IsActiveUnder next ready.active.opens ready.mask s.now.words m h
+    under_as m h u x is client units now deferred =
         let i : IsActive w h ready.mask s.now.words = u.is in
         record {
           is = record {
@@ -79,8 +79,8 @@ module _ (size : ℕ) (w : World) (memory : Memory) (s : State) (ready : IsReady
             stored = i.stored;
             pool = i.pool;
             records = i.records;
-            running = subst (λ (ls : List Later). IsOpenOn w.stored.frames i.at w.stored.types h.tx.log i.before i.undone x.now ls s.now.words) laters
-                (subst (λ (g : Graph). IsOpenOn w.stored.frames i.at w.stored.types h.tx.log i.before i.undone g i.transaction.laters s.now.words) now i.running);
+            running = subst (λ (ls : List DeferredValue). IsOpenOn w.stored.frames i.at w.stored.types h.tx.log i.before i.undone x.now ls s.now.words) deferred
+                (subst (λ (g : Graph). IsOpenOn w.stored.frames i.at w.stored.types h.tx.log i.before i.undone g i.transaction.deferred s.now.words) now i.running);
             masked = i.masked;
           };
           number_is = u.number_is;

@@ -33,7 +33,7 @@ use Rattle.hybrid_tx.proofs.Open.OpenSettled.{nothing_given}
 use Rattle.hybrid_tx.proofs.Open.OpenWorlds.{world_with_masked, none_refused_with_masked}
 use Rattle.hybrid_tx.specs.Objects.Transactions.{IsOpenOn, RestsAs}
 use Rattle.hybrid_tx.proofs.Objects.Opening.{stored_in-has_word}
-use Rattle.hybrid_tx.proofs.Objects.LatersKept.{KeepsObjects-same, place_in_pool-stored, AreLaters-wider, keeps_front}
+use Rattle.hybrid_tx.proofs.Objects.DeferredKept.{KeepsObjects-same, place_in_pool-stored, AreLaters-wider, keeps_front}
 use Rattle.batch.specs.Tables.{HasDurableTables}
 use Rattle.nesting.specs.declared.Session.{Session}
 use Rattle.word_transaction.specs.Running.{SettlesTo, ByTransaction}
@@ -168,7 +168,7 @@ module _ (w next : World) (active : ActiveTransaction) (mask anew : Write) (old 
             HasOnly-newest (new.now.words k) (is.before k) (rests.each k mine other) ∙ sym (HasOnly-newest (old.now.words k) (is.before k) (is.running.rests.each k mine other))
       ])
 
-  pub still_running : IsOpenOn n is.puddles next.stored.types active.tx.log is.before is.undone is.transaction.now is.transaction.laters new.now.words
+  pub still_running : IsOpenOn n is.puddles next.stored.types active.tx.log is.before is.undone is.transaction.now is.transaction.deferred new.now.words
   still_running =
       let r = is.running in
       record {
@@ -177,7 +177,7 @@ module _ (w next : World) (active : ActiveTransaction) (mask anew : Write) (old 
           es = r.saving.es;
           running = IsRunning-kept (pool_scope n (finished_of is.puddles)) active.tx.log r.saving.es is.before may None old new c
               (λ k v inside wrote. apart.log k v wrote inside) (λ k v mine wrote. apart.has_word k v wrote mine) r.saving.running;
-          asks = r.saving.asks;
+          defers = r.saving.defers;
         };
         rests = rests;
         was = keeps.graphs (stored_in n is.puddles is.before) is.undone r.was;
@@ -185,7 +185,7 @@ module _ (w next : World) (active : ActiveTransaction) (mask anew : Write) (old 
             (ap (graph_of w.stored.types) stored_still ∙ r.is);
         are = AreLaters-wider n is.puddles is.puddles w.stored.types next.stored.types (reads old.now.words) (reads new.now.words) is.transaction.now is.transaction.now (keeps_front is.puddles is.puddles (λ o e there. there))
             (record { each = keeps.types }) (record { each = λ s o live. place_in_pool-stored n is.puddles (reads old.now.words) (reads new.now.words) stored_still s }) (KeepsObjects-same is.transaction.now)
-            is.transaction.laters r.redo r.are;
+            is.transaction.deferred r.redo r.are;
       }
 
   -- with these words masked behind calls that write none of its own
@@ -209,7 +209,7 @@ module _ (w next : World) (active : ActiveTransaction) (mask anew : Write) (old 
         stored = keeps.stored ∙ is.stored;
         pool = subst (λ (m : ℕ). IsOpenPool m (open_pool_of active is.puddles is.rec is.who) is.before) back is.pool;
         records = λ k of. reads_kept may old new k c (λ v wrote. apart.records k v wrote of) ∙ is.records k of;
-        running = subst (λ (m : ℕ). IsOpenOn m is.puddles next.stored.types active.tx.log is.before is.undone is.transaction.now is.transaction.laters new.now.words) back still_running;
+        running = subst (λ (m : ℕ). IsOpenOn m is.puddles next.stored.types active.tx.log is.before is.undone is.transaction.now is.transaction.deferred new.now.words) back still_running;
         masked = subst (λ (m : ℕ). (k v : ℕ) → open_mask m (open_pool_of active is.puddles is.rec is.who) is.before k ≡ Some v → anew k ≡ Some v) back masked_so;
       }
 

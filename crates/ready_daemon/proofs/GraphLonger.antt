@@ -17,7 +17,7 @@ use Rattle.graph_laws.proofs.Places.{object_in-place}
 use Rattle.puddle_header.specs.Places.{places_in}
 use Rattle.graph_read.specs.Reading.{place_in_pool}
 use Rattle.registry.proofs.Grown.{still_holds}
-use Rattle.hybrid_tx.proofs.Objects.LatersKept.{KeepsPlaces}
+use Rattle.hybrid_tx.proofs.Objects.DeferredKept.{KeepsPlaces}
 
 pub graph_as : (st : Stored) (o : Option Graph) → graph_held (held_as st o) ≡ o
 graph_as st None = refl

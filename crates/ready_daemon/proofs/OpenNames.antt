@@ -4,8 +4,8 @@ use Rattle.std.proofs.lemmas.Bool.{cases_Bool, cond-true, cond-false}
 use Rattle.std.proofs.lemmas.Option.{none-some, same_Some}
 use Rattle.std.proofs.lemmas.Slice.Eq.{bytes_eq-Decides}
 use Rattle.pud_defs.specs.Graph.{Graph}
-use Rattle.pud_defs.specs.Laters.{Later}
-use Rattle.pud_defs.specs.Transactions.{OpenTransactions, with_open, with_changed, charged, asked}
+use Rattle.pud_defs.specs.DeferredValues.{DeferredValue}
+use Rattle.pud_defs.specs.Transactions.{OpenTransactions, with_open, with_changed, charged, deferring}
 use Rattle.pud_defs.specs.World.{Transaction}
 
 other_name : (name other : List ℕ) → other ≢ name → bytes_eq other name ≡ false
@@ -74,5 +74,5 @@ pub record Charges (units : ℕ) (change : Transaction → Transaction) : Type 0
 pub Charges-charged : (units : ℕ) (change : Graph → Graph) → Charges units (charged units change)
 Charges-charged units change = record { client = λ t. refl; depth = λ t. refl; used = λ t. refl }
 
-pub Charges-asked : (units : ℕ) (l : Later) → Charges units (asked units l)
-Charges-asked units l = record { client = λ t. refl; depth = λ t. refl; used = λ t. refl }
+pub Charges-deferring : (units : ℕ) (l : DeferredValue) → Charges units (deferring units l)
+Charges-deferring units l = record { client = λ t. refl; depth = λ t. refl; used = λ t. refl }

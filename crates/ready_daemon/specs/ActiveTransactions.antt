@@ -56,7 +56,7 @@ pub record IsActive (w : World) (active : ActiveTransaction) (mask : Write) (wor
   pub stored : graph_in (pool_named active.name w.stored) ≡ Some undone
   pub pool : IsOpenPool w.stored.frames (open_pool_of active puddles rec who) before
   pub records : (k : ℕ) → is_open_record (open_pool_of active puddles rec who) k ≡ true → reads words k ≡ before k
-  pub running : IsOpenOn w.stored.frames puddles w.stored.types active.tx.log before undone transaction.now transaction.laters words
+  pub running : IsOpenOn w.stored.frames puddles w.stored.types active.tx.log before undone transaction.now transaction.deferred words
   pub masked : (k v : ℕ) → open_mask w.stored.frames (open_pool_of active puddles rec who) before k ≡ Some v → mask k ≡ Some v
 
 -- It is held under this number, that of its log, and is one of these that are open.

@@ -17,7 +17,7 @@ use Rattle.pud_defs.specs.Entries.{Entry, Log, log_of, gate_lo, gate_hi, gate_wo
 use Rattle.pud_defs.specs.Replay.{overwritten}
 use Rattle.pud_defs.proofs.Entries.{gate_lo-of, gate_hi-of}
 use Rattle.pud_defs.proofs.Replay.{not_inside, overwritten-stays}
-use Rattle.log_store.specs.Store.{OpenLog, IsOpen, asks, saying, committing}
+use Rattle.log_store.specs.Store.{OpenLog, IsOpen, defers, saying, committing}
 use Rattle.log_store.proofs.Open.{IsOpen-fits, IsOpen-log, IsOpen-kept, IsOpen-moved, log_of-moving, only_here}
 use Rattle.word_transaction.specs.Scope.{Scope, IsScope, pending}
 use Rattle.word_transaction.specs.Running.{IsRunning, SettlesTo, HasRange, SettlesByRange, ByTransaction, ByCommit, Closes, MovesRange, Ends}
@@ -272,7 +272,7 @@ module _ (size : ℕ) (log : OpenLog) (es : List Entry) (g : Scope) (before : Im
       }
 
   -- at once where nothing is asked for
-  pub Ends-close : (fault : Option HostFault) (b c d : State) → asks es ≡ false → Moves log None a b c → Persists (only log.gate_at CLOSED_GATE) fault c d → Ends g log.gate_at before after fault a d
+  pub Ends-close : (fault : Option HostFault) (b c d : State) → defers es ≡ false → Moves log None a b c → Persists (only log.gate_at CLOSED_GATE) fault c d → Ends g log.gate_at before after fault a d
   Ends-close fault b c d none m p =
       Ends-closes fault b c d m
       (Shuts-shut size log.gate_at g ground after fault c d (moved_settles b c m)

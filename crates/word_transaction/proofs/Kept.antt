@@ -12,11 +12,11 @@ use Rattle.pud_defs.specs.Image.{Image}
 use Rattle.pud_defs.specs.Entries.{Entry}
 use Rattle.pud_defs.specs.Replay.{Place, over}
 use Rattle.log_store.specs.Store.{OpenLog, undo_entry, with_entries}
-use Rattle.word_transaction.specs.Scope.{Scope, IsScope, saved, asked}
+use Rattle.word_transaction.specs.Scope.{Scope, IsScope, saved, deferred_entries}
 use Rattle.word_transaction.specs.Running.{IsRunning, IsCovered, IsOneOf, MayAppend, nothing, Runs, Keeps, Puts}
 use Rattle.word_transaction.proofs.Saved.{saved-none_first, saved-none_more, saved_by_one}
 use Rattle.word_transaction.proofs.Calls.{Runs-still, Runs-failed, Runs-behind, Runs-then}
-use Rattle.word_transaction.proofs.Pending.{asked-undo}
+use Rattle.word_transaction.proofs.Pending.{deferred_entries-undo}
 use Rattle.word_transaction.proofs.Saving.{IsRead, MayAppend-read}
 
 -- ---- what entries save
@@ -38,7 +38,7 @@ saved_by_two place address first address2 second k word vals is also one none =
 pub Keeps-still : (g : Scope) (log : OpenLog) (es : List Entry) (before : Image) (which : ℕ → Type 0) (fault : Option HostFault) (old new : State) → (fault ≡ Some Cut → ⊥) → new ≡ old
     → IsRunning g log es before old.now.words → (fault ≡ None → (k : ℕ) → which k → saved g.place es k ≡ None → ⊥) → Keeps g log es before which fault old new
 Keeps-still g log es before which fault old new uncut same r kept =
-    record { entries = es; runs = Runs-still g log es before fault old new uncut same r; asks = refl; still = λ k none. none; kept = kept }
+    record { entries = es; runs = Runs-still g log es before fault old new uncut same r; defers = refl; still = λ k none. none; kept = kept }
 
 -- the log behind a call, whatever it answered
 pub Runs-now : (g : Scope) (log longer now : OpenLog) (es : List Entry) (before : Image) (result : Result (Unit {0}) HostFault) (old new : State) → longer.gate_at ≡ log.gate_at
@@ -49,7 +49,7 @@ Runs-now g log longer now es before (Err fault) old new at ok err r =
 
 -- entries of what own words hold were read, and then appended
 pub Keeps-appended : (size : ℕ) (g : Scope) (log now : OpenLog) (es : List Entry) (before : Image) (which : ℕ → Type 0) (count : ℕ) (more : List Entry) (result : Result (Unit {0}) HostFault) (s b t : State)
-    → IsScope size log.gate_at g → IsRunning g log es before s.now.words → b ≡ s → All (IsRead g (reads s.now.words)) more → asked more ≡ [] → ((k : ℕ) → which k → saved g.place more k ≡ None → ⊥)
+    → IsScope size log.gate_at g → IsRunning g log es before s.now.words → b ≡ s → All (IsRead g (reads s.now.words)) more → deferred_entries more ≡ [] → ((k : ℕ) → which k → saved g.place more k ≡ None → ⊥)
     → IfOk result (λ _. now ≡ with_entries count more log) → OnErr result (now ≡ log)
     → (IsRunning g log es before b.now.words → MayAppend g es before more → Runs g (with_entries count more log) (es ++ more) before nothing (fault_of result) b t)
     → Keeps g now es before which (fault_of result) s t
@@ -58,7 +58,7 @@ Keeps-appended size g log now es before which count more result s b t ground r s
     record {
       entries = es ++ more;
       runs = subst (λ (x : State). Runs g now (es ++ more) before nothing (fault_of result) x t) same (Runs-now g log (with_entries count more log) now (es ++ more) before result b t refl ok err runs);
-      asks = asked-undo es more none;
+      defers = deferred_entries-undo es more none;
       still = λ k gone. saved-none_first g.place es more k gone;
       kept = λ _ k is gone. saves k is (saved-none_more g.place es more k gone);
     }
@@ -76,7 +76,7 @@ Keeps-beside g now es before which also all fault old new either was keeps =
     record {
       entries = keeps.entries;
       runs = keeps.runs;
-      asks = keeps.asks;
+      defers = keeps.defers;
       still = keeps.still;
       kept = λ none k is gone. elim (either k is) [ inl here ↦ keeps.kept none k here gone | inr there ↦ was k there (keeps.still k gone) ];
     }
@@ -112,7 +112,7 @@ covered_by g log es before which write old new keeps writes = record { has_word 
 pub Puts-unkept : (g : Scope) (log now : OpenLog) (es : List Entry) (before : Image) (which : ℕ → Type 0) (write : Write) (fault : HostFault) (old new : State) → now.gate_at ≡ log.gate_at
     → Keeps g log es before which (Some fault) old new → Puts g now es before write (Some fault) old new
 Puts-unkept g log now es before which write fault old new at keeps =
-    record { entries = keeps.entries; runs = Runs-failed g log now keeps.entries keeps.entries before nothing write fault old new at keeps.runs; asks = keeps.asks }
+    record { entries = keeps.entries; runs = Runs-failed g log now keeps.entries keeps.entries before nothing write fault old new at keeps.runs; defers = keeps.defers }
 
 -- they were, and then written
 pub Puts-written : (g : Scope) (log : OpenLog) (es : List Entry) (before : Image) (which : ℕ → Type 0) (write : Write) (fault : Option HostFault) (a b c : State)
@@ -123,7 +123,7 @@ Puts-written g log es before which write fault a b c keeps writes runs =
       entries = keeps.entries;
       runs = Runs-behind g log log keeps.entries keeps.entries before write fault a b c refl keeps.runs
           (runs keeps.entries (keeps.runs.running refl) (covered_by g log es before which write a b keeps writes));
-      asks = keeps.asks;
+      defers = keeps.defers;
     }
 
 -- they were, and then some of them were written, and others behind them
@@ -138,11 +138,11 @@ Puts-both g log es before which first later fault a b c d keeps writes_first wri
     record {
       entries = es_kept;
       runs = Runs-behind g log log es_kept es_kept before (over first later) fault a b d refl keeps.runs (Runs-then g log log es_kept es_kept before first later fault b c d refl one two);
-      asks = keeps.asks;
+      defers = keeps.defers;
     }
 
 -- the first of them were not written whole
 pub Puts-half : (g : Scope) (log : OpenLog) (es : List Entry) (before : Image) (first later : Write) (fault : HostFault) (old new : State) → Puts g log es before first (Some fault) old new
     → Puts g log es before (over first later) (Some fault) old new
 Puts-half g log es before first later fault old new puts =
-    record { entries = puts.entries; runs = Runs-failed g log log puts.entries puts.entries before first (over first later) fault old new refl puts.runs; asks = puts.asks }
+    record { entries = puts.entries; runs = Runs-failed g log log puts.entries puts.entries before first (over first later) fault old new refl puts.runs; defers = puts.defers }

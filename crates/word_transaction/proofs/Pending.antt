@@ -10,8 +10,8 @@ use Rattle.pud_defs.specs.Image.{Image}
 use Rattle.pud_defs.specs.Entries.{Entry, Log, log_of}
 use Rattle.pud_defs.specs.Replay.{Place, is_in_range, value_in, given_by, undone, redone, new_value, over, overwritten, replayed}
 use Rattle.pud_defs.proofs.Replay.{undone-first, redone-first, undone-none, redone-none, given_by-out, given_by-other, or_none, new_value-of, overwritten-nothing, overwritten-then}
-use Rattle.log_store.specs.Store.{OpenLog, is_redo, asks, saying, committing}
-use Rattle.word_transaction.specs.Scope.{Scope, redo_entry, IsUndo, IsRedo, IsInScope, asked, written_in_turn, committing_range, pending}
+use Rattle.log_store.specs.Store.{OpenLog, is_redo, defers, saying, committing}
+use Rattle.word_transaction.specs.Scope.{Scope, redo_entry, IsUndo, IsRedo, IsInScope, deferred_entries, written_in_turn, committing_range, pending}
 use Rattle.word_transaction.specs.Running.{SettlesTo}
 use Rattle.word_transaction.proofs.Saved.{given_by-range, undone-range}
 
@@ -54,49 +54,49 @@ pending-undo place (e ∷ es) k undo =
     (given_by-other place committing_range REDO_ORDER e k (λ redo. let h = (All-head IsUndo e es undo).order in absurd (omega arith)))
 
 -- nor do entries none of which is a redo entry
-pub pending-none : (place : Place) (es : List Entry) (k : ℕ) → asks es ≡ false → pending place es k ≡ None
+pub pending-none : (place : Place) (es : List Entry) (k : ℕ) → defers es ≡ false → pending place es k ≡ None
 pending-none place [] k none = redone-none place committing_range k
 pending-none place (e ∷ es) k none =
-    let parts = or_parts (is_redo e) (asks es) none in
+    let parts = or_parts (is_redo e) (defers es) none in
     redone-first place committing_range e es k
     ∙ ap₂ option_or (pending-none place es k parts.1) (given_by-other place committing_range REDO_ORDER e k (λ redo. absurd (let it : true ≡ false = sym (eq-eqb e.order REDO_ORDER redo) ∙ parts.0 in cc)))
 
 -- there is none where no values are asked for
-pub asks-none : (es : List Entry) → asked es ≡ [] → asks es ≡ false
-asks-none [] none = refl
-asks-none (e ∷ es) none = elim (cases_Bool (is_redo e)) [
-  | inl redo ↦ absurd (let it : e ∷ asked es ≡ [] = sym (cond-true _ _ _ redo) ∙ none in cc)
-  | inr other ↦ ap (λ (b : Bool). b || asks es) other ∙ asks-none es (sym (cond-false _ _ _ other) ∙ none)
+pub defers-none : (es : List Entry) → deferred_entries es ≡ [] → defers es ≡ false
+defers-none [] none = refl
+defers-none (e ∷ es) none = elim (cases_Bool (is_redo e)) [
+  | inl redo ↦ absurd (let it : e ∷ deferred_entries es ≡ [] = sym (cond-true _ _ _ redo) ∙ none in cc)
+  | inr other ↦ ap (λ (b : Bool). b || defers es) other ∙ defers-none es (sym (cond-false _ _ _ other) ∙ none)
 ]
 
 -- behind entries that ask for nothing no more is asked for
-pub asked-undo : (es more : List Entry) → asked more ≡ [] → asked (es ++ more) ≡ asked es
-asked-undo es more none = filter-append is_redo es more ∙ ap (λ (l : List Entry). asked es ++ l) none ∙ append-nil (asked es)
+pub deferred_entries-undo : (es more : List Entry) → deferred_entries more ≡ [] → deferred_entries (es ++ more) ≡ deferred_entries es
+deferred_entries-undo es more none = filter-append is_redo es more ∙ ap (λ (l : List Entry). deferred_entries es ++ l) none ∙ append-nil (deferred_entries es)
 
 -- behind a redo entry that one, last
-pub asked-redo : (es : List Entry) (address : ℕ) (vals : List ℕ) → asked (es ++ redo_entry address vals ∷ []) ≡ asked es ++ redo_entry address vals ∷ []
-asked-redo es address vals = filter-append is_redo es (redo_entry address vals ∷ [])
+pub deferred_entries-redo : (es : List Entry) (address : ℕ) (vals : List ℕ) → deferred_entries (es ++ redo_entry address vals ∷ []) ≡ deferred_entries es ++ redo_entry address vals ∷ []
+deferred_entries-redo es address vals = filter-append is_redo es (redo_entry address vals ∷ [])
 
 -- ---- in turn
 
 -- what an entry gives to a committing log over an image, and then the others
 one_in_turn : (place : Place) (e : Entry) (es : List Entry) (image : Image) → IsUndo e ⊎ IsRedo e
-    → written_in_turn place (asked es) (overwritten (given_by place committing_range REDO_ORDER e) image) ≡ written_in_turn place (asked (e ∷ es)) image
+    → written_in_turn place (deferred_entries es) (overwritten (given_by place committing_range REDO_ORDER e) image) ≡ written_in_turn place (deferred_entries (e ∷ es)) image
 one_in_turn place e es image (inl undo) =
     let nothing : (k : ℕ) → given_by place committing_range REDO_ORDER e k ≡ None = λ k. given_by-other place committing_range REDO_ORDER e k (λ redo. let h = undo.order in absurd (omega arith)) in
     let other : is_redo e ≡ false = ap (λ (n : ℕ). eqb n REDO_ORDER) undo.order in
-    ap (written_in_turn place (asked es)) (overwritten-nothing (given_by place committing_range REDO_ORDER e) image nothing)
-    ∙ ap (λ (xs : List Entry). written_in_turn place xs image) (sym (cond-false (is_redo e) (e ∷ asked es) (asked es) other))
+    ap (written_in_turn place (deferred_entries es)) (overwritten-nothing (given_by place committing_range REDO_ORDER e) image nothing)
+    ∙ ap (λ (xs : List Entry). written_in_turn place xs image) (sym (cond-false (is_redo e) (e ∷ deferred_entries es) (deferred_entries es) other))
 one_in_turn place e es image (inr redo) =
     let counts : (is_in_range committing_range e && eqb e.order REDO_ORDER) ≡ true = ap₂ (λ (a b : ℕ). (ltb COMMITTING_LO a && ltb a COMMITTING_HI) && eqb b REDO_ORDER) redo.seq redo.order in
     let gives : (k : ℕ) → given_by place committing_range REDO_ORDER e k ≡ value_in place e k = λ k. cond-true _ _ _ counts in
     let one : is_redo e ≡ true = ap (λ (n : ℕ). eqb n REDO_ORDER) redo.order in
     let same : given_by place committing_range REDO_ORDER e ≡ value_in place e = λ i k. gives k i in
-    ap (λ (w : ℕ → Option ℕ). written_in_turn place (asked es) (overwritten w image)) same
-    ∙ ap (λ (xs : List Entry). written_in_turn place xs image) (sym (cond-true (is_redo e) (e ∷ asked es) (asked es) one))
+    ap (λ (w : ℕ → Option ℕ). written_in_turn place (deferred_entries es) (overwritten w image)) same
+    ∙ ap (λ (xs : List Entry). written_in_turn place xs image) (sym (cond-true (is_redo e) (e ∷ deferred_entries es) (deferred_entries es) one))
 
 -- what is asked for, over an image, is the values of the redo entries in turn
-pub pending-in_turn : (g : Scope) (place : Place) (es : List Entry) (image : Image) → All (IsInScope g) es → overwritten (pending place es) image ≡ written_in_turn place (asked es) image
+pub pending-in_turn : (g : Scope) (place : Place) (es : List Entry) (image : Image) → All (IsInScope g) es → overwritten (pending place es) image ≡ written_in_turn place (deferred_entries es) image
 pending-in_turn g place [] image own = overwritten-nothing (pending place []) image (λ k. redone-none place committing_range k)
 pending-in_turn g place (e ∷ es) image own =
     let each : (k : ℕ) → pending place (e ∷ es) k ≡ over (given_by place committing_range REDO_ORDER e) (pending place es) k = λ k. redone-first place committing_range e es k in

@@ -14,7 +14,7 @@ use Rattle.pud_defs.specs.Spaces.{is_closed_log}
 use Rattle.pud_defs.specs.Tables.{tables_of}
 use Rattle.pud_defs.specs.Allowed.{puddle_word}
 use Rattle.log_store.specs.Store.{OpenLog, IsOpen}
-use Rattle.word_transaction.specs.Scope.{Scope, IsInScope, saved, asked}
+use Rattle.word_transaction.specs.Scope.{Scope, IsInScope, saved, deferred_entries}
 
 -- ---- what is known between calls
 
@@ -55,7 +55,7 @@ nothing k = None
 
 -- the log of a transaction that has just begun
 abbrev pub begun : (at : ℕ) → OpenLog
-begun at = record { gate_at = at; lo = RUNNING_LO; hi = RUNNING_HI; used = 0; asks = false }
+begun at = record { gate_at = at; lo = RUNNING_LO; hi = RUNNING_HI; used = 0; defers = false }
 
 -- ---- what an image has
 
@@ -110,7 +110,7 @@ pub record Runs (g : Scope) (log : OpenLog) (es : List Entry) (before : Image) (
 pub record Keeps (g : Scope) (log : OpenLog) (es : List Entry) (before : Image) (which : ℕ → Type 0) (fault : Option HostFault) (old new : State) : Type 0 where
   pub entries : List Entry
   pub runs : Runs g log entries before nothing fault old new
-  pub asks : asked entries ≡ asked es
+  pub defers : deferred_entries entries ≡ deferred_entries es
   pub still : (k : ℕ) → saved g.place entries k ≡ None → saved g.place es k ≡ None
   pub kept : fault ≡ None → (k : ℕ) → which k → saved g.place entries k ≡ None → ⊥
 
@@ -118,7 +118,7 @@ pub record Keeps (g : Scope) (log : OpenLog) (es : List Entry) (before : Image) 
 pub record Puts (g : Scope) (log : OpenLog) (es : List Entry) (before : Image) (write : Write) (fault : Option HostFault) (old new : State) : Type 0 where
   pub entries : List Entry
   pub runs : Runs g log entries before write fault old new
-  pub asks : asked entries ≡ asked es
+  pub defers : deferred_entries entries ≡ deferred_entries es
 
 -- The transaction is undone and its log closed: each image left meanwhile settles to these values. Without a fault each own word has its value
 -- and no other, and the log is closed.

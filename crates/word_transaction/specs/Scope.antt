@@ -53,8 +53,8 @@ pub record IsInScope (g : Scope) (e : Entry) : Type 0 where
 -- ---- what is asked for
 
 -- the entries among some that ask for values to come, the oldest first
-abbrev pub asked : List Entry → List Entry
-asked es = filter is_redo es
+abbrev pub deferred_entries : List Entry → List Entry
+deferred_entries es = filter is_redo es
 
 -- an image over which the values of entries are written in turn, the oldest first
 abbrev pub written_in_turn : Place → List Entry → Image → Image

@@ -11,7 +11,7 @@ ghost use Rattle.pud_defs.specs.Entries.{Entry};
 ghost use Rattle.pud_defs.specs.Replay.{overwritten};
 ghost use Rattle.pud_defs.specs.Tables.{tables_of};
 ghost use Rattle.pud_defs.specs.Allowed.{puddle_word};
-ghost use Rattle.log_store.specs.Store.{IsOpen, asks};
+ghost use Rattle.log_store.specs.Store.{IsOpen, defers};
 ghost use Rattle.log_replay.specs.Replaying.{HasPuddleTable, Anything};
 ghost use Rattle.word_transaction.specs.Scope.{Scope, IsScope, pending};
 ghost use Rattle.word_transaction.specs.Running.{IsRunning, ByCommit, Closes, Ends, HasPlaces, HasOneTable, CanRedo};
@@ -36,15 +36,15 @@ impl WordTransaction {
         requires tables { HasPuddleTable frames (H.counts h.old).size }
         ensures ends { H.tells → (size : ℕ) → size ≡ (H.counts h.old).size → (g : Scope) (es : List Entry) (before : Image) → IsScope size self.at g
             → IsRunning g self es before (H.state h.old).now.words
-            → (asks es ≡ true → CanRedo g frames self.at (H.state h.old).now.words)
+            → (defers es ≡ true → CanRedo g frames self.at (H.state h.old).now.words)
             → Ends g self.at before (overwritten (pending g.place es) (reads (H.state h.old).now.words)) (fault_of result) (H.state h.old) (H.state h.new) }
-        ensures gate { H.tells → (es : List Entry) → IsOpen self es (H.state h.old).now.words → asks es ≡ false → Changes (ByCommit self) (fault_of result) (H.state h.old) (H.state h.new) }
+        ensures gate { H.tells → (es : List Entry) → IsOpen self es (H.state h.old).now.words → defers es ≡ false → Changes (ByCommit self) (fault_of result) (H.state h.old) (H.state h.new) }
         ensures any { H.tells → Changes Anything (fault_of result) (H.state h.old) (H.state h.new) }
         ensures cause { H.counts h.new ≡ after_fault (fault_of result) (H.counts h.old) }
     {
         let WordTransaction { mut log } = self;
         let at = log.gate_at();
-        let asked = log.asks();
+        let asked = log.defers();
         h.fence()?;
         log.to_committing(h)?;
         if asked {

@@ -9,7 +9,7 @@ ghost use Rattle.pud_defs.specs.declared.layout.TheConstants.{LOG_WORDS, LOG_ENT
 ghost use Rattle.pud_defs.specs.declared.log_words.TheConstants.{RUNNING_GATE, REDO_ORDER};
 ghost use Rattle.pud_defs.specs.Image.{Image};
 ghost use Rattle.pud_defs.specs.Entries.{Entry};
-ghost use Rattle.log_store.specs.Store.{InLog, undo_entry, longer, asking, with_entry};
+ghost use Rattle.log_store.specs.Store.{InLog, undo_entry, longer, with_deferred_words, with_entry};
 ghost use Rattle.word_transaction.specs.Scope.{Scope, IsScope, redo_entry};
 ghost use Rattle.word_transaction.specs.Running.{IsRunning, IsIdle, MayAppend, IsCovered, nothing, begun, Runs};
 
@@ -102,17 +102,17 @@ impl WordTransaction {
     /// The log lies in the device, and has room for the values and two more. Nothing changes that is read. At `Ok` each image
     /// left has the transaction's words with the log replayed as they were when it began, and so it has before. After an error
     /// `self` is as it was; the only errors are the host's own. Two fences.
-    pub fn ask<H: Host>(&mut self, h: &mut H, address: u64, vals: &[u64]) -> Result<(), HostFault>
+    pub fn defer<H: Host>(&mut self, h: &mut H, address: u64, vals: &[u64]) -> Result<(), HostFault>
         requires place { self.old.gate_at + LOG_WORDS ≤ (H.counts h.old).size }
         requires some { 1 ≤ length vals.now }
         requires no_more { length vals.now ≤ MAX_ENTRY_VALUES }
         requires room { self.old.used + (length vals.now + ENTRY_HEADER_WORDS) ≤ LOG_ENTRY_WORDS }
-        ensures asked { IfOk result (λ _. self.new ≡ asking (length vals.now + ENTRY_HEADER_WORDS) self.old) }
+        ensures asked { IfOk result (λ _. self.new ≡ with_deferred_words (length vals.now + ENTRY_HEADER_WORDS) self.old) }
         ensures failed { OnErr result (self.new ≡ self.old) }
         ensures changes { H.tells → Changes (InLog self.old.gate_at) (fault_of result) (H.state h.old) (H.state h.new) }
         ensures runs { H.tells → (size : ℕ) → size ≡ (H.counts h.old).size → (g : Scope) → (es : List Entry) → (before : Image) → IsScope size self.old.gate_at g
             → g.may_name address (length vals.now) ≡ true → IsRunning g self.old es before (H.state h.old).now.words
-            → Runs g (asking (length vals.now + ENTRY_HEADER_WORDS) self.old) (es ++ redo_entry address vals.now ∷ []) before nothing
+            → Runs g (with_deferred_words (length vals.now + ENTRY_HEADER_WORDS) self.old) (es ++ redo_entry address vals.now ∷ []) before nothing
             (fault_of result) (H.state h.old) (H.state h.new) }
         ensures cause { H.counts h.new ≡ after_fault (fault_of result) (H.counts h.old) }
     {

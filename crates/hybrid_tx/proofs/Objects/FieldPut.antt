@@ -24,7 +24,7 @@ use Rattle.pud_defs.proofs.Replay.{overwritten-nothing}
 use Rattle.pud_defs.specs.Stored.{stored_in}
 use Rattle.pud_defs.specs.Graph.{Graph, graph_of}
 use Rattle.pud_defs.specs.GraphChanges.{with_field}
-use Rattle.pud_defs.specs.Laters.{Later}
+use Rattle.pud_defs.specs.DeferredValues.{DeferredValue}
 use Rattle.pud_defs.specs.Exported.{address_in}
 use Rattle.graph_laws.proofs.Words.{few_fields}
 use Rattle.puddle_header.specs.Places.{place_of_slot, IsSlotOf}
@@ -36,11 +36,11 @@ use Rattle.word_transaction.specs.Running.{nothing}
 use Rattle.word_transaction.proofs.Calls.{Runs-stopped, some_fault}
 use Rattle.hybrid_tx.specs.PoolScopes.{pool_scope, finished_of, IsPlaced}
 use Rattle.hybrid_tx.specs.Objects.Stores.{address_at, word_for, IsPlaceAndWord, LacksPlaceOrWord, field_word}
-use Rattle.hybrid_tx.specs.Objects.Transactions.{MaySet, IsRewrittenFor, IsLater, AreLaters, IsSaving, IsOpenOn, Saves, RunsOn}
+use Rattle.hybrid_tx.specs.Objects.Transactions.{MaySet, IsRewrittenFor, IsDeferredEntry, AreDeferredEntries, IsSaving, IsOpenOn, Saves, RunsOn}
 use Rattle.hybrid_tx.proofs.PoolScope.{all_there}
 use Rattle.hybrid_tx.proofs.Objects.FieldsSet.{placed_if_live, word_if_held, set_value}
-use Rattle.hybrid_tx.proofs.Objects.LatersKept.{AreLaters-kept, AreLaters-more}
-use Rattle.hybrid_tx.proofs.Objects.LatersBehind.{KeepsObjects-field, KeepsPlaces-field}
+use Rattle.hybrid_tx.proofs.Objects.DeferredKept.{AreDeferredEntries-kept, AreDeferredEntries-more}
+use Rattle.hybrid_tx.proofs.Objects.DeferredBehind.{KeepsObjects-field, KeepsPlaces-field}
 use Rattle.hybrid_tx.proofs.Objects.Opening.{RunsOn-write}
 use Rattle.hybrid_tx.proofs.Objects.InFrames.{no_wrap}
 
@@ -64,10 +64,10 @@ slot_address-read at slot of e same legal =
     ∙ ap (λ (o : ℕ). address_in (slice_get (map (λ (d : ℕ × Puddle). d.1) at) o) slot.slot) (sym ordinal)
     ∙ ap (λ (n : ℕ). address_in (slice_get (map (λ (d : ℕ × Puddle). d.1) at) (ordinal_of (place_of_slot slot))) n) (sym number)
 
-module _ (F : ℕ) (at : List (ℕ × Puddle)) (types : List (ℕ × ℕ)) (log behind : OpenLog) (before : Image) (undone now : Graph) (laters : List Later) where
+module _ (F : ℕ) (at : List (ℕ × Puddle)) (types : List (ℕ × ℕ)) (log behind : OpenLog) (before : Image) (undone now : Graph) (deferred : List DeferredValue) where
   -- a call that failed before it did more than read
-  pub RunsOn-stopped : {H : Type 0} {tells : Type 0} {state : H → State} {counts : H → Counts} {old new : H} (next : Graph) (more : List Later) (fault : HostFault) → behind.gate_at ≡ log.gate_at
-      → OnlyReads tells state counts (Some fault) old new → tells → IsOpenOn F at types log before undone now laters (state old).now.words
+  pub RunsOn-stopped : {H : Type 0} {tells : Type 0} {state : H → State} {counts : H → Counts} {old new : H} (next : Graph) (more : List DeferredValue) (fault : HostFault) → behind.gate_at ≡ log.gate_at
+      → OnlyReads tells state counts (Some fault) old new → tells → IsOpenOn F at types log before undone now deferred (state old).now.words
       → RunsOn F at types behind before undone next more (Some fault) (state old) (state new)
   RunsOn-stopped {state = state} {old = old} {new = new} next more fault same only t is_open =
       let s = is_open.saving in
@@ -75,13 +75,13 @@ module _ (F : ℕ) (at : List (ℕ × Puddle)) (types : List (ℕ × ℕ)) (log 
         write = nothing;
         redo = is_open.redo;
         rests = λ none. absurd (some_fault fault none);
-        saves = record { es = s.es; runs = Runs-stopped (pool_scope F (finished_of at)) log behind s.es s.es before nothing fault (state old) (state new) same only.never_cut (only.stays t) s.running; asks = s.asks };
+        saves = record { es = s.es; runs = Runs-stopped (pool_scope F (finished_of at)) log behind s.es s.es before nothing fault (state old) (state new) same only.never_cut (only.stays t) s.running; defers = s.defers };
         was = is_open.was;
         is = λ none. absurd (some_fault fault none);
         are = λ none. absurd (some_fault fault none);
       }
 
-  module _ (s f : ℕ) (x : Val) (old : State) (is_open : IsOpenOn F at types log before undone now laters old.now.words) (may : MaySet types now s f x) where
+  module _ (s f : ℕ) (x : Val) (old : State) (is_open : IsOpenOn F at types log before undone now deferred old.now.words) (may : MaySet types now s f x) where
     no_place : place_in_pool F at (reads old.now.words) s ≡ None → ⊥
     no_place = placed_if_live types F at (reads old.now.words) now is_open.is s may.object may.live
 
@@ -95,7 +95,7 @@ module _ (F : ℕ) (at : List (ℕ × Puddle)) (types : List (ℕ × ℕ)) (log 
         → behind.gate_at ≡ log.gate_at → mid ≡ old → IsSlotOf at slot → place_in_pool F at (reads old.now.words) s ≡ Some (place_of_slot slot) → word_for F at (reads old.now.words) x ≡ Some v → word ≡ field_word slot f
         → ((e : ℕ × Puddle) → slice_get at slot.ordinal ≡ Some e → e.1.frontier ≡ steps_of e.1 → (b : Image) (redo : List Entry) → IsSaving F (finished_of at) log b redo mid.now.words
         → Saves F (finished_of at) behind b redo (placed (frame_at F e.0 + word) (v ∷ [])) fault mid new)
-        → RunsOn F at types behind before undone (with_field s f x now) laters fault old new
+        → RunsOn F at types behind before undone (with_field s f x now) deferred fault old new
     RunsOn-set size word slot v fault mid new is_placed rewritten device apart same stays of found value is_word put =
         let image = reads old.now.words in
         let write = placed (frame_at F slot.frame + field_word slot f) (v ∷ []) in
@@ -104,28 +104,28 @@ module _ (F : ℕ) (at : List (ℕ × Puddle)) (types : List (ℕ × ℕ)) (log 
         let below = may.below in
         let put_here = subst (λ (k : ℕ). IsSaving F (finished_of at) log before redo mid.now.words → Saves F (finished_of at) behind before redo (placed (frame_at F slot.frame + k) (v ∷ [])) fault mid new) is_word
         (put (slot.frame, of.puddle) of.there ((rewritten.each slot of found).each (slot.frame, of.puddle) of.there) before redo) in
-        RunsOn-write F size at types before log behind undone now (with_field s f x now) laters laters redo write fault old mid new is_placed device apart same stays is_open put_here
+        RunsOn-write F size at types before log behind undone now (with_field s f x now) deferred deferred redo write fault old mid new is_placed device apart same stays is_open put_here
         (set_value types F at image now is_open.is is_placed s f slot (rewritten.each slot of found) of found x v may value)
-        (AreLaters-kept F at types image (overwritten write image) now (with_field s f x now)
-        (KeepsPlaces-field F at image is_placed.frames slot of f v (omega arith) now) (KeepsObjects-field s f x now) laters redo is_open.are)
+        (AreDeferredEntries-kept F at types image (overwritten write image) now (with_field s f x now)
+        (KeepsPlaces-field F at image is_placed.frames slot of f v (omega arith) now) (KeepsObjects-field s f x now) deferred redo is_open.are)
 
     -- the value asked for
     pub RunsOn-later : (size word : ℕ) (slot : Slot) (v : ℕ) (fault : Option HostFault) (mid new : State) → IsPlaced F at → IsRewrittenFor F at (reads old.now.words) s → device_words F ≤ size → log.gate_at + LOG_WORDS ≤ frames_at F
         → behind.gate_at ≡ log.gate_at → mid ≡ old → IsSlotOf at slot → place_in_pool F at (reads old.now.words) s ≡ Some (place_of_slot slot) → word_for F at (reads old.now.words) x ≡ Some v → word ≡ field_word slot f
         → ((e : ℕ × Puddle) → slice_get at slot.ordinal ≡ Some e → e.1.frontier ≡ steps_of e.1 → (b : Image) (redo : List Entry) → IsSaving F (finished_of at) log b redo mid.now.words
         → Saves F (finished_of at) behind b (redo ++ redo_entry (e.1.base + WORD_BYTES * word) (v ∷ []) ∷ []) nothing fault mid new)
-        → RunsOn F at types behind before undone now (laters ++ record { s = s; f = f; x = x } ∷ []) fault old new
+        → RunsOn F at types behind before undone now (deferred ++ record { s = s; f = f; x = x } ∷ []) fault old new
     RunsOn-later size word slot v fault mid new is_placed rewritten device apart same stays of found value is_word ask =
         let finished = (rewritten.each slot of found).each (slot.frame, of.puddle) of.there in
         let image = reads old.now.words in
         let redo = is_open.redo in
         let entry = redo_entry (of.puddle.base + WORD_BYTES * field_word slot f) (v ∷ []) in
-        let later : IsLater F at types image now (record { s = s; f = f; x = x }) entry = record { slot = slot; of = of; finished = finished; place = found; value = v; word = value; may = may; is = refl } in
+        let later : IsDeferredEntry F at types image now (record { s = s; f = f; x = x }) entry = record { slot = slot; of = of; finished = finished; place = found; value = v; word = value; may = may; is = refl } in
         let ask_here = subst (λ (k : ℕ). IsSaving F (finished_of at) log before redo mid.now.words → Saves F (finished_of at) behind before (redo ++ redo_entry (of.puddle.base + WORD_BYTES * k) (v ∷ []) ∷ []) nothing fault mid new)
         is_word (ask (slot.frame, of.puddle) of.there finished before redo) in
         let same_image : overwritten nothing image ≡ image = overwritten-nothing nothing image (λ k. refl) in
-        RunsOn-write F size at types before log behind undone now now laters (laters ++ record { s = s; f = f; x = x } ∷ []) (redo ++ entry ∷ []) nothing fault old mid new
+        RunsOn-write F size at types before log behind undone now now deferred (deferred ++ record { s = s; f = f; x = x } ∷ []) (redo ++ entry ∷ []) nothing fault old mid new
         is_placed device apart same stays is_open ask_here
         (ap (λ (i : Image). graph_of types (stored_in F at i)) same_image ∙ is_open.is)
-        (subst (λ (i : Image). AreLaters F at types i now (laters ++ record { s = s; f = f; x = x } ∷ []) (redo ++ entry ∷ [])) (sym same_image)
-        (AreLaters-more F at types image now (record { s = s; f = f; x = x }) entry later laters redo is_open.are))
+        (subst (λ (i : Image). AreDeferredEntries F at types i now (deferred ++ record { s = s; f = f; x = x } ∷ []) (redo ++ entry ∷ [])) (sym same_image)
+        (AreDeferredEntries-more F at types image now (record { s = s; f = f; x = x }) entry later deferred redo is_open.are))

@@ -33,7 +33,7 @@ use Rattle.puddle_header.proofs.Placed.{place_ordinal, place_slot}
 use Rattle.hybrid_tx.specs.PoolScopes.{IsPlaced, IsRewrittenAt}
 use Rattle.hybrid_tx.specs.Objects.Stores.{address_at, word_for, field_word}
 use Rattle.hybrid_tx.specs.Objects.Transactions.{MayName, MayHold, MaySet}
-use Rattle.hybrid_tx.proofs.Objects.LatersKept.{some_object}
+use Rattle.hybrid_tx.proofs.Objects.DeferredKept.{some_object}
 
 -- one word written over an image
 pub overwritten-one : (w v : ℕ) (image : Image) → overwritten (put_from w (v ∷ [])) image ≡ written w v image

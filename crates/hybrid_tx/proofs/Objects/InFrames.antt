@@ -17,11 +17,11 @@ use Rattle.pud_defs.specs.Geometry.{steps_of}
 use Rattle.pud_defs.specs.Frames.{frame_at}
 use Rattle.pud_defs.specs.Entries.{Entry}
 use Rattle.pud_defs.specs.Replay.{over}
-use Rattle.log_store.specs.Store.{OpenLog, asking}
+use Rattle.log_store.specs.Store.{OpenLog, with_deferred_words}
 use Rattle.word_transaction.specs.Scope.{Scope, IsScope, redo_entry}
 use Rattle.word_transaction.specs.Running.{IsRunning, ByTransaction, nothing, Runs, Puts}
 use Rattle.word_transaction.proofs.Calls.{Runs-failed}
-use Rattle.word_transaction.proofs.Pending.{asked-redo}
+use Rattle.word_transaction.proofs.Pending.{deferred_entries-redo}
 use Rattle.hybrid_tx.specs.PoolScopes.{pool_place, pool_may_name, pool_has_word, pool_scope, finished_of, IsPlaced}
 use Rattle.hybrid_tx.specs.Objects.Stores.{ByPut, ByPutBoth}
 use Rattle.hybrid_tx.specs.Objects.Transactions.{IsSaving, Saves}
@@ -69,7 +69,7 @@ no_wrap base word legal below =
 pub Saves-failed : (F : ℕ) (at : List (ℕ × Puddle)) (log behind : OpenLog) (before : Image) (redo : List Entry) (same : behind.gate_at ≡ log.gate_at) (write later : Write) (fault : HostFault) (old new : State)
     → Saves F at log before redo write (Some fault) old new → Saves F at behind before redo later (Some fault) old new
 Saves-failed F at log behind before redo same write later fault old new s =
-    record { es = s.es; runs = Runs-failed (pool_scope F at) log behind s.es s.es before write later fault old new same s.runs; asks = s.asks }
+    record { es = s.es; runs = Runs-failed (pool_scope F at) log behind s.es s.es before write later fault old new same s.runs; defers = s.defers }
 
 -- the log behind a call, which at Ok is this
 pub Saves-behind : (F : ℕ) (at : List (ℕ × Puddle)) (long now : OpenLog) (before : Image) (redo : List Entry) (write : Write) (result : Result (Unit {0}) HostFault) (old new : State) → now.gate_at ≡ long.gate_at
@@ -97,7 +97,7 @@ module _ (F size : ℕ) (at : List (ℕ × Puddle)) (log now : OpenLog) (before 
   g = pool_scope F at
 
   Saves-puts : (write : Write) → Puts g now s.es before write fault old new → Saves F at now before redo write fault old new
-  Saves-puts write puts = record { es = puts.entries; runs = puts.runs; asks = puts.asks ∙ s.asks }
+  Saves-puts write puts = record { es = puts.entries; runs = puts.runs; defers = puts.defers ∙ s.defers }
 
   -- of one frame
   pub Saves-put : (o word : ℕ) (e : ℕ × Puddle) (address first : ℕ) (vals : List ℕ) → slice_get at o ≡ Some e → 1 ≤ length vals → word + length vals ≤ FRAME_WORDS
@@ -141,16 +141,16 @@ PutsAt F at o word vals log behind fault old new =
 -- by the log behind the call, which at Ok has one entry more
 pub Saves-asked : (F size : ℕ) (at : List (ℕ × Puddle)) (word : ℕ) (e : ℕ × Puddle) (o : ℕ) (log now : OpenLog) (before : Image) (redo : List Entry) (address value : ℕ) (result : Result (Unit {0}) HostFault) (old new : State)
     → IsPlaced F at → device_words F ≤ size → log.gate_at + LOG_WORDS ≤ frames_at F → slice_get at o ≡ Some e → word < FRAME_WORDS → address ≡ (e.1.base + WORD_BYTES * word) % 2 ^ 64
-    → IsSaving F at log before redo old.now.words → now.gate_at ≡ log.gate_at → IfOk result (λ _. now ≡ asking SET_UNITS log)
+    → IsSaving F at log before redo old.now.words → now.gate_at ≡ log.gate_at → IfOk result (λ _. now ≡ with_deferred_words SET_UNITS log)
     → ((es : List Entry) → IsScope size log.gate_at (pool_scope F at) → pool_may_name at address 1 ≡ true → IsRunning (pool_scope F at) log es before old.now.words
-    → Runs (pool_scope F at) (asking SET_UNITS log) (es ++ redo_entry address (value ∷ []) ∷ []) before nothing (fault_of result) old new)
+    → Runs (pool_scope F at) (with_deferred_words SET_UNITS log) (es ++ redo_entry address (value ∷ []) ∷ []) before nothing (fault_of result) old new)
     → Saves F at now before (redo ++ redo_entry (e.1.base + WORD_BYTES * word) (value ∷ []) ∷ []) nothing (fault_of result) old new
 Saves-asked F size at word e o log now before redo address value result old new is_placed device apart there below is_address s same is runs =
     let one : 1 ≤ 1 = omega arith in
     let single : word + 1 ≤ FRAME_WORDS = omega arith in
-    Saves-behind F at (asking SET_UNITS log) now before (redo ++ redo_entry (e.1.base + WORD_BYTES * word) (value ∷ []) ∷ []) nothing result old new same is (record {
+    Saves-behind F at (with_deferred_words SET_UNITS log) now before (redo ++ redo_entry (e.1.base + WORD_BYTES * word) (value ∷ []) ∷ []) nothing result old new same is (record {
       es = s.es ++ redo_entry address (value ∷ []) ∷ [];
       runs = runs s.es (is_ground F size log.gate_at at is_placed device apart) (may_name F at is_placed o word e 1 address there one single is_address) s.running;
-      asks = asked-redo s.es address (value ∷ [])
-          ∙ ap₂ (λ (es : List Entry) (a : ℕ). es ++ redo_entry a (value ∷ []) ∷ []) s.asks (named F at is_placed o word e 1 address there one single is_address);
+      defers = deferred_entries-redo s.es address (value ∷ [])
+          ∙ ap₂ (λ (es : List Entry) (a : ℕ). es ++ redo_entry a (value ∷ []) ∷ []) s.defers (named F at is_placed o word e 1 address there one single is_address);
     })

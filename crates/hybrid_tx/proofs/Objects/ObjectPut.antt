@@ -22,7 +22,7 @@ use Rattle.pud_defs.specs.Stored.{stored_in, place_word}
 use Rattle.pud_defs.specs.Graph.{Graph, next_serial_of, graph_of}
 use Rattle.pud_defs.proofs.Graphs.{graph_of-each}
 use Rattle.pud_defs.specs.GraphChanges.{with_new, blank_object}
-use Rattle.pud_defs.specs.Laters.{Later}
+use Rattle.pud_defs.specs.DeferredValues.{DeferredValue}
 use Rattle.puddle_header.specs.Places.{place_of_slot, IsSlotOf}
 use Rattle.puddle_header.proofs.Placed.{stored_word}
 use Rattle.log_store.specs.Store.{OpenLog}
@@ -32,8 +32,8 @@ use Rattle.hybrid_tx.specs.PoolScopes.{pool_scope, IsPlaced, finished_of}
 use Rattle.hybrid_tx.specs.Objects.Stores.{new_words, making, ByPutBoth, ByMaking}
 use Rattle.hybrid_tx.specs.Objects.Transactions.{IsSaving, IsOpenOn, Saves, RunsOn, MakesIn}
 use Rattle.hybrid_tx.proofs.Objects.ObjectsMade.{new_stored}
-use Rattle.hybrid_tx.proofs.Objects.LatersKept.{AreLaters-kept}
-use Rattle.hybrid_tx.proofs.Objects.LatersBehind.{KeepsObjects-new, serial_of_live, KeepsPlaces-new}
+use Rattle.hybrid_tx.proofs.Objects.DeferredKept.{AreDeferredEntries-kept}
+use Rattle.hybrid_tx.proofs.Objects.DeferredBehind.{KeepsObjects-new, serial_of_live, KeepsPlaces-new}
 use Rattle.hybrid_tx.proofs.Objects.Opening.{RunsOn-write}
 use Rattle.hybrid_tx.proofs.Objects.InFrames.{ByPutBoth-in_frames}
 
@@ -82,8 +82,8 @@ module _ (F : ℕ) (at : List (ℕ × Puddle)) (log_at : ℕ) (slot : Slot) (of 
 
 -- ---- an object is made
 
-module _ (F : ℕ) (at : List (ℕ × Puddle)) (types : List (ℕ × ℕ)) (log : OpenLog) (before : Image) (undone now : Graph) (laters : List Later) (old : State)
-    (is_open : IsOpenOn F at types log before undone now laters old.now.words) where
+module _ (F : ℕ) (at : List (ℕ × Puddle)) (types : List (ℕ × ℕ)) (log : OpenLog) (before : Image) (undone now : Graph) (deferred : List DeferredValue) (old : State)
+    (is_open : IsOpenOn F at types log before undone now deferred old.now.words) where
   -- the words of the slot are put, and the next serial, behind a read
   module _ (behind : OpenLog) (first : ℕ × Puddle) (slot : Slot) (serial bumped type_id : ℕ) (words : List ℕ) (fault : Option HostFault) (mid new : State)
       (same : behind.gate_at ≡ log.gate_at) (stays : mid ≡ old) (head : slice_get at 0 ≡ Some first) (of : IsSlotOf at slot) (read : serial ≡ frame_word F first.0 NEXT_SERIAL_WORD (reads old.now.words))
@@ -124,14 +124,14 @@ module _ (F : ℕ) (at : List (ℕ × Puddle)) (types : List (ℕ × ℕ)) (log 
 
     pub RunsOn-new : (size m : ℕ) → IsPlaced F at → device_words F ≤ size → log.gate_at + LOG_WORDS ≤ frames_at F
         → place_word (stored_in F at image) (place_of_slot slot) SLOT_SERIAL_WORD ≡ 0 → map_of type_id types ≡ Some m
-        → RunsOn F at types behind before undone (with_new (blank_object type_id m) now) laters fault old new
+        → RunsOn F at types behind before undone (with_new (blank_object type_id m) now) deferred fault old new
     RunsOn-new size m is_placed device apart free defined =
         let next = is_serial in
         let next_read = next_is F at types image first head serial read in
-        RunsOn-write F size at types before log behind undone now (with_new (blank_object type_id m) now) laters laters is_open.redo (making F first.0 slot serial type_id) fault old mid new
+        RunsOn-write F size at types before log behind undone now (with_new (blank_object type_id m) now) deferred deferred is_open.redo (making F first.0 slot serial type_id) fault old mid new
         is_placed device apart same stays is_open Saves-making
         (new_stored types F at image is_placed first head slot of serial type_id m free next_read defined now is_open.is room)
-        (AreLaters-kept F at types image (overwritten (making F first.0 slot serial type_id) image) now (with_new (blank_object type_id m) now)
+        (AreDeferredEntries-kept F at types image (overwritten (making F first.0 slot serial type_id) image) now (with_new (blank_object type_id m) now)
         (KeepsPlaces-new types F at image is_placed first head slot of serial type_id m free next_read defined now is_open.is)
         (KeepsObjects-new (blank_object type_id m) now
-        (λ s o live same. let below = (serial_of_live types (stored_in F at image) now is_open.is s o live).below in absurd (omega arith))) laters is_open.redo is_open.are)
+        (λ s o live same. let below = (serial_of_live types (stored_in F at image) now is_open.is s o live).below in absurd (omega arith))) deferred is_open.redo is_open.are)

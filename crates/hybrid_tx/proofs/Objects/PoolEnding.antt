@@ -15,20 +15,20 @@ use Rattle.pud_defs.specs.Entries.{Entry, log_of}
 use Rattle.pud_defs.specs.Replay.{new_value, overwritten, replayed}
 use Rattle.pud_defs.specs.Stored.{stored_in}
 use Rattle.pud_defs.specs.Graph.{Graph, graph_of}
-use Rattle.pud_defs.specs.Laters.{Later, with_laters}
-use Rattle.log_store.specs.Store.{OpenLog, asks}
+use Rattle.pud_defs.specs.DeferredValues.{DeferredValue, with_deferred_set}
+use Rattle.log_store.specs.Store.{OpenLog, defers}
 use Rattle.word_transaction.specs.Scope.{Scope, IsScope, written_in_turn, pending}
 use Rattle.word_transaction.specs.Running.{IsRunning, IsIdle, SettlesTo, ByTransaction, Closes, Ends, CanRedo}
 use Rattle.word_transaction.proofs.Saved.{pending_is_mine}
-use Rattle.word_transaction.proofs.Pending.{asks-none, pending-in_turn}
+use Rattle.word_transaction.proofs.Pending.{defers-none, pending-in_turn}
 use Rattle.word_transaction.proofs.Ended.{Ends-idle, Closes-idle}
 use Rattle.hybrid_tx.specs.PoolScopes.{pool_place, pool_has_word, pool_scope, finished_of, IsPlaced}
 use Rattle.hybrid_tx.specs.Objects.Transactions.{RestsAs, IsOpenOn, IsAtRest, ClosesOn, EndsOn}
 use Rattle.hybrid_tx.proofs.PoolScope.{is_ground}
 use Rattle.hybrid_tx.proofs.FinishedPuddles.{finished_placed}
 use Rattle.hybrid_tx.proofs.Objects.Opening.{stored_in-has_word, RestsAs-behind}
-use Rattle.hybrid_tx.proofs.Objects.LatersKept.{AreLaters-none}
-use Rattle.hybrid_tx.proofs.Objects.LatersApplied.{laters_applied}
+use Rattle.hybrid_tx.proofs.Objects.DeferredKept.{AreDeferredEntries-none}
+use Rattle.hybrid_tx.proofs.Objects.DeferredApplied.{laters_applied}
 use Rattle.hybrid_tx.proofs.Open.OwnEntries.{new_value_own}
 
 -- a value that comes to own words alone is none where a word is none of them
@@ -36,8 +36,8 @@ off_own : (write : Option ℕ) (mine : Bool) → ((v : ℕ) → write ≡ Some v
 off_own None mine own other w = refl
 off_own (Some v) mine own other w = absurd (let it : true ≡ false = sym (own v refl) ∙ other in cc)
 
-module _ (F size : ℕ) (at : List (ℕ × Puddle)) (types : List (ℕ × ℕ)) (log : OpenLog) (before : Image) (undone now : Graph) (laters : List Later) (fault : Option HostFault) (old new : State)
-    (is_placed : IsPlaced F at) (device : device_words F ≤ size) (apart : log.gate_at + LOG_WORDS ≤ frames_at F) (is_open : IsOpenOn F at types log before undone now laters old.now.words) where
+module _ (F size : ℕ) (at : List (ℕ × Puddle)) (types : List (ℕ × ℕ)) (log : OpenLog) (before : Image) (undone now : Graph) (deferred : List DeferredValue) (fault : Option HostFault) (old new : State)
+    (is_placed : IsPlaced F at) (device : device_words F ≤ size) (apart : log.gate_at + LOG_WORDS ≤ frames_at F) (is_open : IsOpenOn F at types log before undone now deferred old.now.words) where
   abbrev own : Scope
   own = pool_scope F (finished_of at)
 
@@ -52,12 +52,12 @@ module _ (F size : ℕ) (at : List (ℕ × Puddle)) (types : List (ℕ × ℕ)) 
   in_turn =
       let s = is_open.saving in
       pending-in_turn own (pool_place F (finished_of at)) s.es (reads old.now.words) s.running.own
-      ∙ ap (λ (redo : List Entry). written_in_turn (pool_place F (finished_of at)) redo (reads old.now.words)) s.asks
+      ∙ ap (λ (redo : List Entry). written_in_turn (pool_place F (finished_of at)) redo (reads old.now.words)) s.defers
 
-  some_asked : asks is_open.saving.es ≡ true → laters ≢ []
+  some_asked : defers is_open.saving.es ≡ true → deferred ≢ []
   some_asked asked_some none =
-      let empty = AreLaters-none F at types (reads old.now.words) now laters is_open.redo none is_open.are in
-      absurd (let it : true ≡ false = sym asked_some ∙ asks-none is_open.saving.es (is_open.saving.asks ∙ empty) in cc)
+      let empty = AreDeferredEntries-none F at types (reads old.now.words) now deferred is_open.redo none is_open.are in
+      absurd (let it : true ≡ false = sym asked_some ∙ defers-none is_open.saving.es (is_open.saving.defers ∙ empty) in cc)
 
   -- the words of the puddles that are not finished are as they were
   rests_behind : Changes (ByTransaction own log.gate_at) fault old new → RestsAs F at before new.now.words
@@ -69,9 +69,9 @@ module _ (F size : ℕ) (at : List (ℕ × Puddle)) (types : List (ℕ × ℕ)) 
       off_own (pending (pool_place F (finished_of at)) s.es k) (pool_has_word F (finished_of at) k) (λ v is. pending_is_mine size log.gate_at own s.es k v own_ground s.running.own is) other (reads old.now.words k)
       ∙ HasOnly-newest (old.now.words k) (before k) (is_open.rests.each k mine other)
 
-  pub EndsOn-ends : (laters ≢ [] → CanRedo (pool_scope F (finished_of at)) F log.gate_at old.now.words)
-      → ((g : Scope) (es : List Entry) (b : Image) → IsScope size log.gate_at g → IsRunning g log es b old.now.words → (asks es ≡ true → CanRedo g F log.gate_at old.now.words)
-      → Ends g log.gate_at b (overwritten (pending g.place es) (reads old.now.words)) fault old new) → EndsOn F at types log.gate_at before undone (with_laters laters now) fault old new
+  pub EndsOn-ends : (deferred ≢ [] → CanRedo (pool_scope F (finished_of at)) F log.gate_at old.now.words)
+      → ((g : Scope) (es : List Entry) (b : Image) → IsScope size log.gate_at g → IsRunning g log es b old.now.words → (defers es ≡ true → CanRedo g F log.gate_at old.now.words)
+      → Ends g log.gate_at b (overwritten (pending g.place es) (reads old.now.words)) fault old new) → EndsOn F at types log.gate_at before undone (with_deferred_set deferred now) fault old new
   EndsOn-ends can ends =
       let s = is_open.saving in
       let its = ends own s.es before own_ground s.running (λ asked_some. can (some_asked asked_some)) in
@@ -81,7 +81,7 @@ module _ (F size : ℕ) (at : List (ℕ × Puddle)) (types : List (ℕ × ℕ)) 
         beside = after_beside;
         rests = λ none. rests_behind its.changes;
         was = is_open.was;
-        is = ap (λ (i : Image). graph_of types (stored_in F at i)) in_turn ∙ laters_applied F at types is_placed laters is_open.redo (reads old.now.words) now is_open.is is_open.are;
+        is = ap (λ (i : Image). graph_of types (stored_in F at i)) in_turn ∙ laters_applied F at types is_placed deferred is_open.redo (reads old.now.words) now is_open.is is_open.are;
       }
 
   pub ClosesOn-closes : ((es : List Entry) → IsScope size log.gate_at (pool_scope F (finished_of at)) → IsRunning (pool_scope F (finished_of at)) log es before old.now.words

@@ -10,14 +10,14 @@ use Rattle.pud_defs.specs.Types.{map_of}
 use Rattle.pud_defs.specs.Image.{Image}
 use Rattle.pud_defs.specs.Stored.{Stored, stored_in}
 use Rattle.pud_defs.specs.Graph.{Graph, graph_of}
-use Rattle.pud_defs.specs.Laters.{Later}
+use Rattle.pud_defs.specs.DeferredValues.{DeferredValue}
 use Rattle.log_store.specs.Store.{OpenLog, InLog}
 use Rattle.pm_model.proofs.Changes.{HasOnly-kept}
 use Rattle.word_transaction.proofs.Calls.{IsRunning-kept}
 use Rattle.hybrid_tx.specs.PoolScopes.{pool_has_word, pool_scope, finished_of}
 use Rattle.hybrid_tx.proofs.FinishedPuddles.{mine_of_finished}
 use Rattle.hybrid_tx.specs.Objects.Transactions.{IsOpenOn}
-use Rattle.hybrid_tx.proofs.Objects.LatersKept.{KeepsObjects-same, place_in_pool-stored, AreLaters-wider, keeps_front}
+use Rattle.hybrid_tx.proofs.Objects.DeferredKept.{KeepsObjects-same, place_in_pool-stored, AreLaters-wider, keeps_front}
 use Rattle.hybrid_tx.proofs.Objects.Opening.{stored_in-has_word}
 
 module _ (F : ℕ) (at : List (ℕ × Puddle)) (may : Footprint) (fault : Option HostFault) (old new : State) (c : Changes may fault old new) (uncut : fault ≡ Some Cut → ⊥)
@@ -26,20 +26,20 @@ module _ (F : ℕ) (at : List (ℕ × Puddle)) (may : Footprint) (fault : Option
   stored_kept : stored_in F at (reads new.now.words) ≡ stored_in F at (reads old.now.words)
   stored_kept = stored_in-has_word F at (reads old.now.words) (reads new.now.words) (λ k mine. (c.keeps uncut k (λ v. own k v mine)).newest)
 
-  pub IsOpenOn-kept : (types more : List (ℕ × ℕ)) (log : OpenLog) (before : Image) (undone now : Graph) (laters : List Later) → ((k v : ℕ) → InLog log.gate_at k v → may k v → ⊥)
+  pub IsOpenOn-kept : (types more : List (ℕ × ℕ)) (log : OpenLog) (before : Image) (undone now : Graph) (deferred : List DeferredValue) → ((k v : ℕ) → InLog log.gate_at k v → may k v → ⊥)
       → ((id m : ℕ) → map_of id types ≡ Some m → map_of id more ≡ Some m) → ((st : Stored) (g : Graph) → graph_of types st ≡ Some g → graph_of more st ≡ Some g)
-      → IsOpenOn F at types log before undone now laters old.now.words → IsOpenOn F at more log before undone now laters new.now.words
-  IsOpenOn-kept types more log before undone now laters in_log defined graphs o =
+      → IsOpenOn F at types log before undone now deferred old.now.words → IsOpenOn F at more log before undone now deferred new.now.words
+  IsOpenOn-kept types more log before undone now deferred in_log defined graphs o =
       record {
         redo = o.redo;
         saving = record {
           es = o.saving.es;
           running = IsRunning-kept (pool_scope F (finished_of at)) log o.saving.es before may fault old new c in_log (λ k v mine. own k v (mine_of_finished F at k mine)) o.saving.running;
-          asks = o.saving.asks;
+          defers = o.saving.defers;
         };
         rests = record { each = λ k mine other. HasOnly-kept may fault old new k (before k) c (λ v. own k v mine) (o.rests.each k mine other) };
         was = graphs (stored_in F at before) undone o.was;
         is = graphs (stored_in F at (reads new.now.words)) now (ap (graph_of types) stored_kept ∙ o.is);
         are = AreLaters-wider F at at types more (reads old.now.words) (reads new.now.words) now now (keeps_front at at (λ o e there. there)) (record { each = defined })
-            (record { each = λ s o live. place_in_pool-stored F at (reads old.now.words) (reads new.now.words) stored_kept s }) (KeepsObjects-same now) laters o.redo o.are;
+            (record { each = λ s o live. place_in_pool-stored F at (reads old.now.words) (reads new.now.words) stored_kept s }) (KeepsObjects-same now) deferred o.redo o.are;
       }

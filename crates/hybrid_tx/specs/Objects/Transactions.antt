@@ -18,12 +18,12 @@ use Rattle.pud_defs.specs.Entries.{Entry}
 use Rattle.pud_defs.specs.Replay.{overwritten, is_in_log}
 use Rattle.pud_defs.specs.Stored.{stored_in}
 use Rattle.pud_defs.specs.Graph.{Object, Graph, object_in, field_count, is_referenced, next_serial_of, graph_of}
-use Rattle.pud_defs.specs.Laters.{Later}
+use Rattle.pud_defs.specs.DeferredValues.{DeferredValue}
 use Rattle.graph_laws.specs.Slots.{IsLowestFreeSlot}
 use Rattle.puddle_header.specs.Places.{place_of_slot, IsSlotOf}
 use Rattle.graph_read.specs.Reading.{place_in_pool}
 use Rattle.log_store.specs.Store.{OpenLog}
-use Rattle.word_transaction.specs.Scope.{redo_entry, asked}
+use Rattle.word_transaction.specs.Scope.{redo_entry, deferred_entries}
 use Rattle.word_transaction.specs.Running.{IsRunning, IsIdle, begun, Runs, Closes, Ends}
 use Rattle.hybrid_tx.specs.PoolScopes.{pool_has_word, pool_scope, finished_of, IsRewrittenAt}
 use Rattle.hybrid_tx.specs.Objects.Stores.{word_for, field_word, making, ByMaking}
@@ -77,7 +77,7 @@ pub record MayFree (g : Graph) (s : ℕ) : Type 0 where
 
 -- By this image of the pool, which has the graph, the redo entry is that of what is asked for: it names the word of the field, and has the word that
 -- stands for the value; the field may be set so; and the puddle is finished.
-pub record IsLater (F : ℕ) (at : List (ℕ × Puddle)) (types : List (ℕ × ℕ)) (image : Image) (now : Graph) (l : Later) (e : Entry) : Type 0 where
+pub record IsDeferredEntry (F : ℕ) (at : List (ℕ × Puddle)) (types : List (ℕ × ℕ)) (image : Image) (now : Graph) (l : DeferredValue) (e : Entry) : Type 0 where
   pub slot : Slot
   pub of : IsSlotOf at slot
   pub finished : of.puddle.frontier ≡ steps_of of.puddle
@@ -88,8 +88,8 @@ pub record IsLater (F : ℕ) (at : List (ℕ × Puddle)) (types : List (ℕ × �
   pub is : e ≡ redo_entry (of.puddle.base + WORD_BYTES * field_word slot l.f) (value ∷ [])
 
 -- each of the entries is that of what is asked for in its place
-abbrev pub AreLaters : (F : ℕ) → List (ℕ × Puddle) → List (ℕ × ℕ) → Image → Graph → List Later → List Entry → Type 0
-AreLaters F at types image now laters redo = AllZip (IsLater F at types image now) laters redo
+abbrev pub AreDeferredEntries : (F : ℕ) → List (ℕ × Puddle) → List (ℕ × ℕ) → Image → Graph → List DeferredValue → List Entry → Type 0
+AreDeferredEntries F at types image now deferred redo = AllZip (IsDeferredEntry F at types image now) deferred redo
 
 -- ---- what is known between calls
 
@@ -98,7 +98,7 @@ AreLaters F at types image now laters redo = AllZip (IsLater F at types image no
 pub record IsSaving (F : ℕ) (at : List (ℕ × Puddle)) (log : OpenLog) (before : Image) (redo : List Entry) (words : Words) : Type 0 where
   pub es : List Entry
   pub running : IsRunning (pool_scope F at) log es before words
-  pub asks : asked es ≡ redo
+  pub defers : deferred_entries es ≡ redo
 
 -- Each word of the puddles that are not finished has the value that it had at the beginning, and no other.
 pub record RestsAs (F : ℕ) (at : List (ℕ × Puddle)) (before : Image) (words : Words) : Type 0 where
@@ -107,13 +107,13 @@ pub record RestsAs (F : ℕ) (at : List (ℕ × Puddle)) (before : Image) (words
 -- A transaction on the pool of these puddles is open: one on the words of the finished ones is, and those of the others rest. The pool had the graph that
 -- comes back if the transaction is undone when the words held what they held at the beginning, by what is read it has another now, and these values of
 -- fields are asked for, the oldest first.
-pub record IsOpenOn (F : ℕ) (at : List (ℕ × Puddle)) (types : List (ℕ × ℕ)) (log : OpenLog) (before : Image) (undone now : Graph) (laters : List Later) (words : Words) : Type 0 where
+pub record IsOpenOn (F : ℕ) (at : List (ℕ × Puddle)) (types : List (ℕ × ℕ)) (log : OpenLog) (before : Image) (undone now : Graph) (deferred : List DeferredValue) (words : Words) : Type 0 where
   pub redo : List Entry
   pub saving : IsSaving F (finished_of at) log before redo words
   pub rests : RestsAs F at before words
   pub was : graph_of types (stored_in F at before) ≡ Some undone
   pub is : graph_of types (stored_in F at (reads words)) ≡ Some now
-  pub are : AreLaters F at types (reads words) now laters redo
+  pub are : AreDeferredEntries F at types (reads words) now deferred redo
 
 -- No transaction is open on the pool: the log whose gate is this word is closed in each image, each word of the pool's frames has one value, and by
 -- these the pool has this graph.
@@ -128,11 +128,11 @@ pub record IsAtRest (F : ℕ) (at : List (ℕ × Puddle)) (types : List (ℕ × 
 pub record Saves (F : ℕ) (at : List (ℕ × Puddle)) (log : OpenLog) (before : Image) (redo : List Entry) (write : Write) (fault : Option HostFault) (old new : State) : Type 0 where
   pub es : List Entry
   pub runs : Runs (pool_scope F at) log es before write fault old new
-  pub asks : asked es ≡ redo
+  pub defers : deferred_entries es ≡ redo
 
 -- A call within a transaction on the pool: it runs on the words of its finished puddles, and those of the others rest. Without a fault the pool has the next graph by what is read, and these values of
 -- fields are asked for.
-pub record RunsOn (F : ℕ) (at : List (ℕ × Puddle)) (types : List (ℕ × ℕ)) (log : OpenLog) (before : Image) (undone next : Graph) (laters : List Later) (fault : Option HostFault) (old new : State)
+pub record RunsOn (F : ℕ) (at : List (ℕ × Puddle)) (types : List (ℕ × ℕ)) (log : OpenLog) (before : Image) (undone next : Graph) (deferred : List DeferredValue) (fault : Option HostFault) (old new : State)
     : Type 0 where
   pub write : Write
   pub redo : List Entry
@@ -140,7 +140,7 @@ pub record RunsOn (F : ℕ) (at : List (ℕ × Puddle)) (types : List (ℕ × �
   pub rests : fault ≡ None → RestsAs F at before new.now.words
   pub was : graph_of types (stored_in F at before) ≡ Some undone
   pub is : fault ≡ None → graph_of types (stored_in F at (reads new.now.words)) ≡ Some next
-  pub are : fault ≡ None → AreLaters F at types (reads new.now.words) next laters redo
+  pub are : fault ≡ None → AreDeferredEntries F at types (reads new.now.words) next deferred redo
 
 -- A call that makes an object of this type in this slot, under the pool's next serial: at each moment only words of the log, whose gate is this word, of the
 -- slot, and that of the next serial get values. Without a fault what is read outside the log is as it was but for the object's words in the slot, and

@@ -1,8 +1,8 @@
 use Rattle.std.proofs.Common.{ℕ, ◌<◌, length, Some, sym, subst, arith, below_more}
 use Rattle.std.proofs.lemmas.Option.{slice_get-get_or, get_or_from_slice_get, slice_get_within}
 use Rattle.pud_defs.specs.declared.records.Puddle.{Puddle}
-use Rattle.hybrid_tx.specs.Objects.Laters.{IsFieldAddress}
-use Rattle.hybrid_tx.proofs.Objects.LatersNamed.{field_unique}
+use Rattle.hybrid_tx.specs.Objects.FieldAddresses.{IsFieldAddress}
+use Rattle.hybrid_tx.proofs.Objects.DeferredNamed.{field_unique}
 use Rattle.hybrid_tx.proofs.later.field_of.Goals as goal
 
 pub returns-in-Some-clause-is : goal.returns-in-Some-clause-is

@@ -1,7 +1,7 @@
 use Rattle.std.proofs.Common.{◌≡◌, ℕ, ◌<◌, Some}
 use Rattle.std.specs.Prelude.{slice_get}
 use Rattle.pud_defs.specs.declared.records.Puddle.{Puddle}
-use Rattle.hybrid_tx.specs.Objects.Laters.{IsFieldAddress}
+use Rattle.hybrid_tx.specs.Objects.FieldAddresses.{IsFieldAddress}
 use Rattle.hybrid_tx.proofs.later.field_of.Given as goal
 
 abbrev pub invariant-loop-ordinal : goal.invariant-loop-ordinal

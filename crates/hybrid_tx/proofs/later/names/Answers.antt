@@ -4,7 +4,7 @@ use Rattle.pm_model.specs.Words.{Image}
 use Rattle.pud_defs.specs.TypeMap.{is_pointer}
 use Rattle.pud_defs.specs.Types.{types_of}
 use Rattle.hybrid_tx.proofs.PoolScope.{all_there}
-use Rattle.hybrid_tx.proofs.Objects.LatersNamed.{names-object, address_of_later, read_of_later, map_of_later, names-value, names-neither, value_found}
+use Rattle.hybrid_tx.proofs.Objects.DeferredNamed.{names-object, address_of_later, read_of_later, map_of_later, names-value, names-neither, value_found}
 use Rattle.pm_model.proofs.Reading.{OnlyReads-then, still_reads}
 use Rattle.hybrid_tx.proofs.later.names.Goals as goal
 

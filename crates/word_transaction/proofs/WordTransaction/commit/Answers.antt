@@ -58,7 +58,7 @@ returns-then-asked-clause-ends g c =
     let fault = fault_of c.settle_log.result in
     let size_now = ap (λ (n : Counts). n.size) (c.in_ok-to_committing.ensures.cause ∙ c.in_ok-fence.ensures.cause) in
     rw (← c.self.view_is) (λ t size same ground es before is r can.
-    let some = sym (c.asks-asked.ensures ∙ r.opened.asked) ∙ c.if-asked.true in
+    let some = sym (c.defers-asked.ensures ∙ r.opened.defers_is) ∙ c.if-asked.true in
     Ends-redone size _ es ground before old is r c.args.frames c.at-at.result fault _ _ _ c.at-at.ensures (can some)
     (record { fence = c.in_ok-fence.ensures.state t; move = c.in_ok-to_committing.ensures.persists t })
     (λ may. c.settle_log.ensures.settles t size (same ∙ sym size_now) es may) (λ may durable. c.settle_log.ensures.moments t size (same ∙ sym size_now) es may durable))
@@ -66,7 +66,7 @@ returns-then-asked-clause-ends g c =
 pub returns-then-asked-clause-gate : goal.returns-then-asked-clause-gate
 returns-then-asked-clause-gate g c =
     rw (← c.self.view_is) (λ t es opened none.
-    let some = sym (c.asks-asked.ensures ∙ opened.asked) ∙ c.if-asked.true in
+    let some = sym (c.defers-asked.ensures ∙ opened.defers_is) ∙ c.if-asked.true in
     absurd (let it : true ≡ false = sym some ∙ none in cc))
 
 pub returns-then-asked-clause-any : goal.returns-then-asked-clause-any
@@ -82,7 +82,7 @@ pub returns-clause-ends : goal.returns-clause-ends
 returns-clause-ends g c =
     let fault = fault_of c.close.result in
     rw (← c.self.view_is) (λ t size same ground es before is r can.
-    let none = sym (c.asks-asked.ensures ∙ r.opened.asked) ∙ c.if-asked.false in
+    let none = sym (c.defers-asked.ensures ∙ r.opened.defers_is) ∙ c.if-asked.false in
     let close = subst (λ (l : OpenLog). Persists (only l.gate_at CLOSED_GATE) fault (g.H.Host.state c.to_committing.new.h) (g.H.Host.state c.close.new.h)) c.in_ok-to_committing.ensures.moved (c.close.ensures.persists t) in
     Ends-close size _ es ground before _ is r fault _ _ _ none (record { fence = c.in_ok-fence.ensures.state t; move = c.in_ok-to_committing.ensures.persists t }) close)
 

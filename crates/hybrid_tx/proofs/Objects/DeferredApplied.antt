@@ -10,20 +10,20 @@ use Rattle.pud_defs.specs.Frames.{frame_at}
 use Rattle.pud_defs.specs.Replay.{value_in, value_from, overwritten}
 use Rattle.pud_defs.specs.Stored.{stored_in}
 use Rattle.pud_defs.specs.Graph.{Graph, graph_of}
-use Rattle.pud_defs.specs.Laters.{Later, with_later, with_laters}
+use Rattle.pud_defs.specs.DeferredValues.{DeferredValue, with_deferred_value, with_deferred_set}
 use Rattle.graph_laws.proofs.Words.{few_fields}
 use Rattle.word_transaction.specs.Scope.{written_in_turn}
 use Rattle.hybrid_tx.specs.PoolScopes.{pool_place, finished_of, IsPlaced, IsRewrittenAt}
 use Rattle.hybrid_tx.specs.Objects.Stores.{field_word}
-use Rattle.hybrid_tx.specs.Objects.Transactions.{IsLater, AreLaters}
+use Rattle.hybrid_tx.specs.Objects.Transactions.{IsDeferredEntry, AreDeferredEntries}
 use Rattle.hybrid_tx.proofs.PoolScope.{place_of_word}
 use Rattle.hybrid_tx.proofs.FinishedPuddles.{finished_placed, finished_there}
 use Rattle.hybrid_tx.proofs.Objects.FieldsSet.{set_value}
-use Rattle.hybrid_tx.proofs.Objects.LatersKept.{KeepsPlaces, AreLaters-kept}
-use Rattle.hybrid_tx.proofs.Objects.LatersBehind.{KeepsObjects-field, KeepsPlaces-field}
+use Rattle.hybrid_tx.proofs.Objects.DeferredKept.{KeepsPlaces, AreDeferredEntries-kept}
+use Rattle.hybrid_tx.proofs.Objects.DeferredBehind.{KeepsObjects-field, KeepsPlaces-field}
 
 module _ (F : ℕ) (at : List (ℕ × Puddle)) (types : List (ℕ × ℕ)) (is_placed : IsPlaced F at) where
-  module _ (image : Image) (now : Graph) (l : Later) (e : Entry) (later : IsLater F at types image now l e) where
+  module _ (image : Image) (now : Graph) (l : DeferredValue) (e : Entry) (later : IsDeferredEntry F at types image now l e) where
     abbrev word : ℕ
     word = frame_at F later.slot.frame + field_word later.slot l.f
 
@@ -53,7 +53,7 @@ module _ (F : ℕ) (at : List (ℕ × Puddle)) (types : List (ℕ × ℕ)) (is_p
           each = λ d there. subst (λ (c : ℕ × Puddle). c.1.frontier ≡ steps_of c.1) (same_Some (later.slot.frame, later.of.puddle) d (sym later.of.there ∙ there)) later.finished;
         }
 
-    entry_graph : graph_of types (stored_in F at image) ≡ Some now → graph_of types (stored_in F at behind) ≡ Some (with_later l now)
+    entry_graph : graph_of types (stored_in F at image) ≡ Some now → graph_of types (stored_in F at behind) ≡ Some (with_deferred_value l now)
     entry_graph is =
         set_value types F at image now is is_placed l.s l.f later.slot rewritten later.of later.place l.x later.value later.may later.word
 
@@ -63,16 +63,16 @@ module _ (F : ℕ) (at : List (ℕ × Puddle)) (types : List (ℕ × ℕ)) (is_p
         let below = later.may.below in
         KeepsPlaces-field F at image is_placed.frames later.slot later.of l.f later.value (omega arith) now
 
-    others_stay : (ls : List Later) (es : List Entry) → AreLaters F at types image now ls es → AreLaters F at types behind (with_later l now) ls es
-    others_stay ls es are = AreLaters-kept F at types image behind now (with_later l now) places_stay (KeepsObjects-field l.s l.f l.x now) ls es are
+    others_stay : (ls : List DeferredValue) (es : List Entry) → AreDeferredEntries F at types image now ls es → AreDeferredEntries F at types behind (with_deferred_value l now) ls es
+    others_stay ls es are = AreDeferredEntries-kept F at types image behind now (with_deferred_value l now) places_stay (KeepsObjects-field l.s l.f l.x now) ls es are
 
   -- the entries written in turn make the graph with what is asked for
-  pub laters_applied : (laters : List Later) (redo : List Entry) (image : Image) (now : Graph) → graph_of types (stored_in F at image) ≡ Some now → AreLaters F at types image now laters redo
-      → graph_of types (stored_in F at (written_in_turn (pool_place F (finished_of at)) redo image)) ≡ Some (with_laters laters now)
+  pub laters_applied : (deferred : List DeferredValue) (redo : List Entry) (image : Image) (now : Graph) → graph_of types (stored_in F at image) ≡ Some now → AreDeferredEntries F at types image now deferred redo
+      → graph_of types (stored_in F at (written_in_turn (pool_place F (finished_of at)) redo image)) ≡ Some (with_deferred_set deferred now)
   laters_applied [] [] image now is are = is
   laters_applied [] (e ∷ es) image now is are = absurd are
   laters_applied (l ∷ ls) [] image now is are = absurd are
   laters_applied (l ∷ ls) (e ∷ es) image now is are =
       ap (λ (i : Image). graph_of types (stored_in F at (written_in_turn (pool_place F (finished_of at)) es i))) (entry_image image now l e are.0)
-      ∙ laters_applied ls es (behind image now l e are.0) (with_later l now) (entry_graph image now l e are.0 is)
+      ∙ laters_applied ls es (behind image now l e are.0) (with_deferred_value l now) (entry_graph image now l e are.0 is)
       (others_stay image now l e are.0 ls es are.1)

@@ -14,13 +14,13 @@ use Rattle.pud_defs.specs.Keyed.{first_from}
 use Rattle.pud_defs.specs.Entries.{Entry}
 use Rattle.pud_defs.specs.Stored.{Stored, stored_in, place_word}
 use Rattle.pud_defs.specs.Graph.{slot_address, under_serial, Object, Graph, object_in}
-use Rattle.pud_defs.specs.Laters.{Later}
+use Rattle.pud_defs.specs.DeferredValues.{DeferredValue}
 use Rattle.pud_defs.specs.Exported.{address_in}
 use Rattle.graph_laws.proofs.Words.{place_of-some}
 use Rattle.puddle_header.specs.Places.{places_in}
 use Rattle.graph_read.specs.Reading.{place_in_pool, table_in}
 use Rattle.hybrid_tx.specs.Objects.Stores.{address_at, word_for}
-use Rattle.hybrid_tx.specs.Objects.Transactions.{MayHold, MaySet, IsLater, AreLaters}
+use Rattle.hybrid_tx.specs.Objects.Transactions.{MayHold, MaySet, IsDeferredEntry, AreDeferredEntries}
 
 -- ---- objects
 
@@ -142,7 +142,7 @@ module _ (F : ℕ) (at wide : List (ℕ × Puddle)) (types more : List (ℕ × �
     ]
   ]
 
-  IsLater-kept : (l : Later) (e : Entry) → IsLater F at types i now l e → IsLater F wide more j next l e
+  IsLater-kept : (l : DeferredValue) (e : Entry) → IsDeferredEntry F at types i now l e → IsDeferredEntry F wide more j next l e
   IsLater-kept l e later =
       record {
         slot = later.slot;
@@ -155,35 +155,35 @@ module _ (F : ℕ) (at wide : List (ℕ × Puddle)) (types more : List (ℕ × �
         is = later.is;
       }
 
-  pub AreLaters-wider : (laters : List Later) (redo : List Entry) → AreLaters F at types i now laters redo → AreLaters F wide more j next laters redo
+  pub AreLaters-wider : (deferred : List DeferredValue) (redo : List Entry) → AreDeferredEntries F at types i now deferred redo → AreDeferredEntries F wide more j next deferred redo
   AreLaters-wider [] [] are = tt
   AreLaters-wider [] (e ∷ es) are = absurd are
   AreLaters-wider (l ∷ ls) [] are = absurd are
   AreLaters-wider (l ∷ ls) (e ∷ es) are = (IsLater-kept l e are.0, AreLaters-wider ls es are.1)
 
 -- in the same puddles, by the same types
-pub AreLaters-kept : (F : ℕ) (at : List (ℕ × Puddle)) (types : List (ℕ × ℕ)) (i j : Image) (now next : Graph) → KeepsPlaces F at at i j now → KeepsObjects now next → (laters : List Later) (redo : List Entry)
-    → AreLaters F at types i now laters redo → AreLaters F at types j next laters redo
-AreLaters-kept F at types i j now next places objects laters redo are =
-    AreLaters-wider F at at types types i j now next (keeps_front at at (λ o e there. there)) (record { each = λ id m is. is }) places objects laters redo are
+pub AreDeferredEntries-kept : (F : ℕ) (at : List (ℕ × Puddle)) (types : List (ℕ × ℕ)) (i j : Image) (now next : Graph) → KeepsPlaces F at at i j now → KeepsObjects now next → (deferred : List DeferredValue) (redo : List Entry)
+    → AreDeferredEntries F at types i now deferred redo → AreDeferredEntries F at types j next deferred redo
+AreDeferredEntries-kept F at types i j now next places objects deferred redo are =
+    AreLaters-wider F at at types types i j now next (keeps_front at at (λ o e there. there)) (record { each = λ id m is. is }) places objects deferred redo are
 
 -- images that store the same of the pool
-pub AreLaters-stored : (F : ℕ) (at : List (ℕ × Puddle)) (types : List (ℕ × ℕ)) (i j : Image) (now : Graph) → stored_in F at j ≡ stored_in F at i → (laters : List Later) (redo : List Entry)
-    → AreLaters F at types i now laters redo → AreLaters F at types j now laters redo
-AreLaters-stored F at types i j now same laters redo are =
-    AreLaters-kept F at types i j now now (record { each = λ s o live. place_in_pool-stored F at i j same s }) (KeepsObjects-same now) laters redo are
+pub AreDeferredEntries-stored : (F : ℕ) (at : List (ℕ × Puddle)) (types : List (ℕ × ℕ)) (i j : Image) (now : Graph) → stored_in F at j ≡ stored_in F at i → (deferred : List DeferredValue) (redo : List Entry)
+    → AreDeferredEntries F at types i now deferred redo → AreDeferredEntries F at types j now deferred redo
+AreDeferredEntries-stored F at types i j now same deferred redo are =
+    AreDeferredEntries-kept F at types i j now now (record { each = λ s o live. place_in_pool-stored F at i j same s }) (KeepsObjects-same now) deferred redo are
 
 -- one more, last
-pub AreLaters-more : (F : ℕ) (at : List (ℕ × Puddle)) (types : List (ℕ × ℕ)) (image : Image) (now : Graph) (l : Later) (e : Entry) → IsLater F at types image now l e → (laters : List Later) (redo : List Entry)
-    → AreLaters F at types image now laters redo → AreLaters F at types image now (laters ++ l ∷ []) (redo ++ e ∷ [])
-AreLaters-more F at types image now l e later [] [] are = (later, tt)
-AreLaters-more F at types image now l e later [] (d ∷ ds) are = absurd are
-AreLaters-more F at types image now l e later (k ∷ ks) [] are = absurd are
-AreLaters-more F at types image now l e later (k ∷ ks) (d ∷ ds) are = (are.0, AreLaters-more F at types image now l e later ks ds are.1)
+pub AreDeferredEntries-more : (F : ℕ) (at : List (ℕ × Puddle)) (types : List (ℕ × ℕ)) (image : Image) (now : Graph) (l : DeferredValue) (e : Entry) → IsDeferredEntry F at types image now l e → (deferred : List DeferredValue) (redo : List Entry)
+    → AreDeferredEntries F at types image now deferred redo → AreDeferredEntries F at types image now (deferred ++ l ∷ []) (redo ++ e ∷ [])
+AreDeferredEntries-more F at types image now l e later [] [] are = (later, tt)
+AreDeferredEntries-more F at types image now l e later [] (d ∷ ds) are = absurd are
+AreDeferredEntries-more F at types image now l e later (k ∷ ks) [] are = absurd are
+AreDeferredEntries-more F at types image now l e later (k ∷ ks) (d ∷ ds) are = (are.0, AreDeferredEntries-more F at types image now l e later ks ds are.1)
 
 -- where nothing is asked for there is no entry
-pub AreLaters-none : (F : ℕ) (at : List (ℕ × Puddle)) (types : List (ℕ × ℕ)) (image : Image) (now : Graph) (laters : List Later) (redo : List Entry) → laters ≡ [] → AreLaters F at types image now laters redo
+pub AreDeferredEntries-none : (F : ℕ) (at : List (ℕ × Puddle)) (types : List (ℕ × ℕ)) (image : Image) (now : Graph) (deferred : List DeferredValue) (redo : List Entry) → deferred ≡ [] → AreDeferredEntries F at types image now deferred redo
     → redo ≡ []
-AreLaters-none F at types image now [] [] none are = refl
-AreLaters-none F at types image now [] (e ∷ es) none are = absurd are
-AreLaters-none F at types image now (l ∷ ls) redo none are = absurd (cc)
+AreDeferredEntries-none F at types image now [] [] none are = refl
+AreDeferredEntries-none F at types image now [] (e ∷ es) none are = absurd are
+AreDeferredEntries-none F at types image now (l ∷ ls) redo none are = absurd (cc)

@@ -1,5 +1,5 @@
 use Rattle.word_transaction.proofs.Saving.{MayAppend-redo}
-use Rattle.word_transaction.proofs.WordTransaction.ask.Goals as goal
+use Rattle.word_transaction.proofs.WordTransaction.defer.Goals as goal
 
 pub returns-clause-runs : goal.returns-clause-runs
 returns-clause-runs g c = λ t size is ground es before stands may running.

@@ -34,7 +34,7 @@ use Rattle.hybrid_tx.specs.PoolScopes.{IsPlaced}
 use Rattle.hybrid_tx.specs.Objects.Stores.{field_word, making}
 use Rattle.hybrid_tx.proofs.Objects.FieldsSet.{stored_in-one}
 use Rattle.hybrid_tx.proofs.Objects.ObjectsMade.{made}
-use Rattle.hybrid_tx.proofs.Objects.LatersKept.{IsOfType, KeepsObjects, KeepsPlaces}
+use Rattle.hybrid_tx.proofs.Objects.DeferredKept.{IsOfType, KeepsObjects, KeepsPlaces}
 
 -- ---- objects
 

@@ -3,7 +3,7 @@ use Rattle.std.proofs.Common.{◌≡◌, ℕ, List, [], ◌∷◌, codes, Option
 use Rattle.pud_defs.specs.declared.objects.Val.{Val}
 use Rattle.pud_defs.specs.declared.objects.Val.TheVariants.{Num, Ref}
 use Rattle.pud_defs.specs.Graph.{Object, Graph, empty_graph}
-use Rattle.pud_defs.specs.Laters.{Later}
+use Rattle.pud_defs.specs.DeferredValues.{DeferredValue}
 use Rattle.pud_defs.specs.World.{Transaction, World, no_clients, open_on}
 use Rattle.pud_defs.proofs.Opened.{opened}
 use Rattle.pud_defs.proofs.ExamplesPools.{said, behind, lines_said}
@@ -21,12 +21,12 @@ used_on units g = world_with g (under_way 1 units g)
 abbrev begun_on : Graph → World
 begun_on g = used_on 0 g
 
-abbrev later : (s f : ℕ) → Val → Later
+abbrev later : (s f : ℕ) → Val → DeferredValue
 later s f x = record { s = s; f = f; x = x }
 
 -- a transaction of client 0 that was begun once, has used so many units, sees this graph and has asked for this
-abbrev asking : (units : ℕ) → Graph → List Later → Option Transaction
-asking units g laters = Some (record { client = 0; depth = 1; units = units; now = g; laters = laters })
+abbrev asking : (units : ℕ) → Graph → List DeferredValue → Option Transaction
+asking units g deferred = Some (record { client = 0; depth = 1; units = units; now = g; deferred = deferred })
 
 -- an object of type 1
 abbrev node : (number pointer : ℕ) → Object

@@ -17,7 +17,7 @@ use Rattle.pud_defs.specs.Replay.{overwritten}
 use Rattle.pud_defs.specs.Stored.{Stored, stored_in, place_word}
 use Rattle.pud_defs.specs.Graph.{Object, Graph, object_in, names_serial, graph_of}
 use Rattle.pud_defs.specs.GraphChanges.{without_object}
-use Rattle.pud_defs.specs.Laters.{Later, later_names, laters_name}
+use Rattle.pud_defs.specs.DeferredValues.{DeferredValue, deferred_value_names, deferred_set_names}
 use Rattle.pud_defs.proofs.TypeLists.{same_test, same_number}
 use Rattle.graph_laws.specs.Changes.{with_serial_word}
 use Rattle.graph_laws.proofs.Words.{place_of-some, slot_word-there, slot_word-other}
@@ -25,10 +25,10 @@ use Rattle.puddle_header.specs.Places.{places_in, place_of_slot, IsSlotOf}
 use Rattle.graph_read.specs.Reading.{place_in_pool, table_in}
 use Rattle.object_alloc.specs.Alloc.{serial_word_at}
 use Rattle.hybrid_tx.specs.PoolScopes.{IsPlaced}
-use Rattle.hybrid_tx.specs.Objects.Transactions.{MayHold, IsLater, AreLaters}
+use Rattle.hybrid_tx.specs.Objects.Transactions.{MayHold, IsDeferredEntry, AreDeferredEntries}
 use Rattle.hybrid_tx.proofs.Objects.ObjectsFreed.{stored_in-cleared}
-use Rattle.hybrid_tx.proofs.Objects.LatersKept.{KeepsPlaces, KeepsObjects-same, AreLaters-kept}
-use Rattle.hybrid_tx.proofs.Objects.LatersBehind.{serial_of_live, serial_at_place, place_beside}
+use Rattle.hybrid_tx.proofs.Objects.DeferredKept.{KeepsPlaces, KeepsObjects-same, AreDeferredEntries-kept}
+use Rattle.hybrid_tx.proofs.Objects.DeferredBehind.{serial_of_live, serial_at_place, place_beside}
 
 -- ---- the objects without one
 
@@ -57,7 +57,7 @@ module _ (F : ℕ) (at : List (ℕ × Puddle)) (types : List (ℕ × ℕ)) (imag
     ],
   )
 
-  IsLater-spared : (l : Later) (e : Entry) → later_names s l ≡ false → IsLater F at types image g l e → IsLater F at types image (without_object s g) l e
+  IsLater-spared : (l : DeferredValue) (e : Entry) → deferred_value_names s l ≡ false → IsDeferredEntry F at types image g l e → IsDeferredEntry F at types image (without_object s g) l e
   IsLater-spared l e other later =
       let parts = or_parts (eqb l.s s) (names_serial s l.x) other in
       let may = later.may in
@@ -79,12 +79,12 @@ module _ (F : ℕ) (at : List (ℕ × Puddle)) (types : List (ℕ × ℕ)) (imag
         is = later.is;
       }
 
-  AreLaters-spared : (laters : List Later) (redo : List Entry) → laters_name s laters ≡ false → AreLaters F at types image g laters redo → AreLaters F at types image (without_object s g) laters redo
+  AreLaters-spared : (deferred : List DeferredValue) (redo : List Entry) → deferred_set_names s deferred ≡ false → AreDeferredEntries F at types image g deferred redo → AreDeferredEntries F at types image (without_object s g) deferred redo
   AreLaters-spared [] [] other are = tt
   AreLaters-spared [] (e ∷ es) other are = absurd are
   AreLaters-spared (l ∷ ls) [] other are = absurd are
   AreLaters-spared (l ∷ ls) (e ∷ es) other are =
-      let parts = or_parts (later_names s l) (list_any (later_names s) ls) other in
+      let parts = or_parts (deferred_value_names s l) (list_any (deferred_value_names s) ls) other in
       (IsLater-spared l e parts.0 are.0, AreLaters-spared ls es parts.1 are.1)
 
 -- ---- when the slot is freed
@@ -114,7 +114,7 @@ module _ (types : List (ℕ × ℕ)) (F : ℕ) (at : List (ℕ × Puddle)) (imag
             place_beside F at image freed (place_of_slot slot) other_serial r (λ same. apart (sym same ∙ there.is)) (λ same. known.used (sym same ∙ now_free));
       }
 
-  pub AreLaters-freed : (laters : List Later) (redo : List Entry) → laters_name s laters ≡ false → AreLaters F at types image now laters redo → AreLaters F at types freed (without_object s now) laters redo
-  AreLaters-freed laters redo unnamed are =
-      AreLaters-kept F at types image freed (without_object s now) (without_object s now) KeepsPlaces-freed (KeepsObjects-same (without_object s now)) laters redo
-      (AreLaters-spared F at types image s now laters redo unnamed are)
+  pub AreLaters-freed : (deferred : List DeferredValue) (redo : List Entry) → deferred_set_names s deferred ≡ false → AreDeferredEntries F at types image now deferred redo → AreDeferredEntries F at types freed (without_object s now) deferred redo
+  AreLaters-freed deferred redo unnamed are =
+      AreDeferredEntries-kept F at types image freed (without_object s now) (without_object s now) KeepsPlaces-freed (KeepsObjects-same (without_object s now)) deferred redo
+      (AreLaters-spared F at types image s now deferred redo unnamed are)

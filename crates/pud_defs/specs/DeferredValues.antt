@@ -6,24 +6,24 @@ use Rattle.pud_defs.specs.Graph.{Graph, names_serial}
 use Rattle.pud_defs.specs.GraphChanges.{with_field}
 
 -- field f of the object of serial s is to have the value
-pub record Later : Type 0 where
+pub record DeferredValue : Type 0 where
   pub s : ℕ
   pub f : ℕ
   pub x : Val
 
 -- the graph with it
-abbrev pub with_later : Later → Graph → Graph
-with_later l g = with_field l.s l.f l.x g
+abbrev pub with_deferred_value : DeferredValue → Graph → Graph
+with_deferred_value l g = with_field l.s l.f l.x g
 
 -- with all of them, in turn
-abbrev pub with_laters : List Later → Graph → Graph
-with_laters [] g = g
-with_laters (l ∷ ls) g = with_laters ls (with_later l g)
+abbrev pub with_deferred_set : List DeferredValue → Graph → Graph
+with_deferred_set [] g = g
+with_deferred_set (l ∷ ls) g = with_deferred_set ls (with_deferred_value l g)
 
 -- its object has the serial, or its value names it
-abbrev pub later_names : (s : ℕ) → Later → Bool
-later_names s l = l.s == s || names_serial s l.x
+abbrev pub deferred_value_names : (s : ℕ) → DeferredValue → Bool
+deferred_value_names s l = l.s == s || names_serial s l.x
 
 -- one of them names the serial
-abbrev pub laters_name : (s : ℕ) → List Later → Bool
-laters_name s ls = list_any (later_names s) ls
+abbrev pub deferred_set_names : (s : ℕ) → List DeferredValue → Bool
+deferred_set_names s ls = list_any (deferred_value_names s) ls

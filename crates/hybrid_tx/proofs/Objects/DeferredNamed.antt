@@ -17,7 +17,7 @@ use Rattle.pud_defs.specs.Headers.{slot_word}
 use Rattle.pud_defs.specs.Entries.{Entry, entries_of, words_from}
 use Rattle.pud_defs.specs.Stored.{stored_in, place_word}
 use Rattle.pud_defs.specs.Graph.{slot_address, At, target, Object, Graph, names_serial, graph_of}
-use Rattle.pud_defs.specs.Laters.{Later, later_names, laters_name}
+use Rattle.pud_defs.specs.DeferredValues.{DeferredValue, deferred_value_names, deferred_set_names}
 use Rattle.pud_defs.proofs.Entries.{words_from-length, words_from-step}
 use Rattle.log_entry.specs.declared.Entry.{Entry as Found}
 use Rattle.log_entry.specs.Reading.{Reading, entries_left, entry_from, left_before}
@@ -29,14 +29,14 @@ use Rattle.puddle_header.specs.Places.{places_in, place_of_slot, IsSlotOf}
 use Rattle.graph_read.specs.Reading.{place_in_pool, table_in}
 use Rattle.puddle_header.proofs.Placed.{slot_at_place}
 use Rattle.log_store.specs.Store.{is_redo}
-use Rattle.word_transaction.specs.Scope.{redo_entry, asked}
+use Rattle.word_transaction.specs.Scope.{redo_entry, deferred_entries}
 use Rattle.hybrid_tx.specs.PoolScopes.{IsPlaced}
-use Rattle.hybrid_tx.specs.Objects.Laters.{IsFieldAddress, IsFieldOf}
+use Rattle.hybrid_tx.specs.Objects.FieldAddresses.{IsFieldAddress, IsFieldOf}
 use Rattle.hybrid_tx.specs.Objects.Stores.{address_at, word_for}
-use Rattle.hybrid_tx.specs.Objects.Transactions.{MayHold, IsLater, AreLaters}
+use Rattle.hybrid_tx.specs.Objects.Transactions.{MayHold, IsDeferredEntry, AreDeferredEntries}
 use Rattle.hybrid_tx.proofs.PoolScope.{bases_of, base_there}
 use Rattle.hybrid_tx.proofs.Objects.FieldsSet.{object_at_place}
-use Rattle.hybrid_tx.proofs.Objects.LatersKept.{some_element, address_by}
+use Rattle.hybrid_tx.proofs.Objects.DeferredKept.{some_element, address_by}
 
 -- ---- which field has an address
 
@@ -103,10 +103,10 @@ module _ (at : List (ℕ × Puddle)) (bases : AreBases (bases_of at)) where
 -- ---- one entry
 
 -- it names its object
-pub names-object : (s : ℕ) (l : Later) → l.s ≡ s → later_names s l ≡ true
+pub names-object : (s : ℕ) (l : DeferredValue) → l.s ≡ s → deferred_value_names s l ≡ true
 names-object s l same = ap (λ (b : Bool). b || names_serial s l.x) (eq-eqb l.s s same)
 
-module _ (F : ℕ) (at : List (ℕ × Puddle)) (types : List (ℕ × ℕ)) (image : Image) (now : Graph) (l : Later) (e : Entry) (later : IsLater F at types image now l e) where
+module _ (F : ℕ) (at : List (ℕ × Puddle)) (types : List (ℕ × ℕ)) (image : Image) (now : Graph) (l : DeferredValue) (e : Entry) (later : IsDeferredEntry F at types image now l e) where
   -- it has the address of the field
   pub address_of_later : IsFieldOf at e.address later.slot l.f
   address_of_later =
@@ -182,10 +182,10 @@ module _ (F : ℕ) (at : List (ℕ × Puddle)) (types : List (ℕ × ℕ)) (imag
     value_apart (Num n) v m f holds word apart = refl
     value_apart (Ref r) v m f holds word apart = ne_eqb r s (λ same. apart (word_of_named r v word same))
 
-    pub names-value : (l.s ≡ s → ⊥) → later.value ≡ address_at at p → later_names s l ≡ is_pointer later.may.map l.f
+    pub names-value : (l.s ≡ s → ⊥) → later.value ≡ address_at at p → deferred_value_names s l ≡ is_pointer later.may.map l.f
     names-value other same = ap (λ (b : Bool). b || names_serial s l.x) (ne_eqb l.s s other) ∙ sym (value_by l.x later.value later.may.map l.f later.may.holds later.word same)
 
-    pub names-neither : (l.s ≡ s → ⊥) → (later.value ≡ address_at at p → ⊥) → later_names s l ≡ false
+    pub names-neither : (l.s ≡ s → ⊥) → (later.value ≡ address_at at p → ⊥) → deferred_value_names s l ≡ false
     names-neither other apart = ap (λ (b : Bool). b || names_serial s l.x) (ne_eqb l.s s other) ∙ value_apart l.x later.value later.may.map l.f later.may.holds later.word apart
 
 -- an entry found on an image that has one value has it in its first word
@@ -203,74 +203,74 @@ value_found image found address v is =
 pub record NamesRest (F : ℕ) (at : List (ℕ × Puddle)) (types : List (ℕ × ℕ)) (image : Image) (now : Graph) (s : ℕ) (r : Reading) (whole : Bool) : Type 0 where
   pub rest : List Entry
   pub left : entries_left image r ≡ Some rest
-  pub ls : List Later
-  pub are : AreLaters F at types image now ls (asked rest)
-  pub same : laters_name s ls ≡ whole
+  pub ls : List DeferredValue
+  pub are : AreDeferredEntries F at types image now ls (deferred_entries rest)
+  pub same : deferred_set_names s ls ≡ whole
 
 -- the entry asks for one of them, or for nothing
 pub record NamesOne (F : ℕ) (at : List (ℕ × Puddle)) (types : List (ℕ × ℕ)) (image : Image) (now : Graph) (s : ℕ) (r : Reading) (e : Entry) (whole : Bool) : Type 0 where
-  pub l : Later
-  pub later : IsLater F at types image now l e
+  pub l : DeferredValue
+  pub later : IsDeferredEntry F at types image now l e
   pub behind : Bool
-  pub is : (later_names s l || behind) ≡ whole
+  pub is : (deferred_value_names s l || behind) ≡ whole
   pub rest : NamesRest F at types image now s r behind
 
 module _ (F : ℕ) (at : List (ℕ × Puddle)) (types : List (ℕ × ℕ)) (image : Image) (now : Graph) (s : ℕ) where
-  pub NamesRest-start : (log_at : ℕ) (r : Reading) (es redo : List Entry) (laters : List Later) → r ≡ record { log_at = log_at; passed = 0 } → entries_of image log_at ≡ Some es → asked es ≡ redo
-      → AreLaters F at types image now laters redo → NamesRest F at types image now s r (laters_name s laters)
-  NamesRest-start log_at r es redo laters start spells asks are =
+  pub NamesRest-start : (log_at : ℕ) (r : Reading) (es redo : List Entry) (deferred : List DeferredValue) → r ≡ record { log_at = log_at; passed = 0 } → entries_of image log_at ≡ Some es → deferred_entries es ≡ redo
+      → AreDeferredEntries F at types image now deferred redo → NamesRest F at types image now s r (deferred_set_names s deferred)
+  NamesRest-start log_at r es redo deferred start spells defers are =
       record {
         rest = es;
         left = entries_left-start image log_at r start ∙ spells;
-        ls = laters;
-        are = subst (λ (ds : List Entry). AreLaters F at types image now laters ds) (sym asks) are;
+        ls = deferred;
+        are = subst (λ (ds : List Entry). AreDeferredEntries F at types image now deferred ds) (sym defers) are;
         same = refl;
       }
 
-  one_by : (r : Reading) (e : Entry) (behind : List Entry) (ls : List Later) (whole : Bool) → entries_left image r ≡ Some behind → AreLaters F at types image now ls (e ∷ asked behind) → laters_name s ls ≡ whole
+  one_by : (r : Reading) (e : Entry) (behind : List Entry) (ls : List DeferredValue) (whole : Bool) → entries_left image r ≡ Some behind → AreDeferredEntries F at types image now ls (e ∷ deferred_entries behind) → deferred_set_names s ls ≡ whole
       → NamesOne F at types image now s r e whole
   one_by r e behind [] whole left are same = absurd are
   one_by r e behind (l ∷ ls) whole left are same =
-      record { l = l; later = are.0; behind = laters_name s ls; is = same; rest = record { rest = behind; left = left; ls = ls; are = are.1; same = refl } }
+      record { l = l; later = are.0; behind = deferred_set_names s ls; is = same; rest = record { rest = behind; left = left; ls = ls; are = are.1; same = refl } }
 
   pub NamesRest-more : (found : Option Found) (e : Found) (old new : Reading) (whole : Bool) → NamesRest F at types image now s old whole → found ≡ Some e → entries_left image old ≡ left_before image found new
       → (NamesOne F at types image now s new (entry_from image e) whole) ⊎ ((e.order ≡ REDO_ORDER → ⊥) × NamesRest F at types image now s new whole)
   NamesRest-more found e old new whole names one before =
       let next = taken image found e old new names.rest one before names.left in
       let it = entry_from image e in
-      let are = subst (λ (es : List Entry). AreLaters F at types image now names.ls (asked es)) next.is names.are in
+      let are = subst (λ (es : List Entry). AreDeferredEntries F at types image now names.ls (deferred_entries es)) next.is names.are in
       elim (cases_eq e.order REDO_ORDER) [
         | inl redo ↦ inl (one_by new it next.behind names.ls whole next.left
-            (subst (λ (es : List Entry). AreLaters F at types image now names.ls es) (cond-true (is_redo it) (it ∷ asked next.behind) (asked next.behind) (eq-eqb e.order REDO_ORDER redo)) are) names.same)
+            (subst (λ (es : List Entry). AreDeferredEntries F at types image now names.ls es) (cond-true (is_redo it) (it ∷ deferred_entries next.behind) (deferred_entries next.behind) (eq-eqb e.order REDO_ORDER redo)) are) names.same)
         | inr other ↦ inr (
           other,
           record {
             rest = next.behind;
             left = next.left;
             ls = names.ls;
-            are = subst (λ (es : List Entry). AreLaters F at types image now names.ls es) (cond-false (is_redo it) (it ∷ asked next.behind) (asked next.behind) (ne_eqb e.order REDO_ORDER other)) are;
+            are = subst (λ (es : List Entry). AreDeferredEntries F at types image now names.ls es) (cond-false (is_redo it) (it ∷ deferred_entries next.behind) (deferred_entries next.behind) (ne_eqb e.order REDO_ORDER other)) are;
             same = names.same;
           },
         )
       ]
 
   -- one that does not name the serial is passed by, and one that does decides
-  pub NamesRest-passed : (r : Reading) (e : Entry) (whole : Bool) → NamesOne F at types image now s r e whole → ((l : Later) → IsLater F at types image now l e → false ≡ later_names s l) → NamesRest F at types image now s r whole
+  pub NamesRest-passed : (r : Reading) (e : Entry) (whole : Bool) → NamesOne F at types image now s r e whole → ((l : DeferredValue) → IsDeferredEntry F at types image now l e → false ≡ deferred_value_names s l) → NamesRest F at types image now s r whole
   NamesRest-passed r e whole one apart =
       subst (λ (b : Bool). NamesRest F at types image now s r b) (ap (λ (b : Bool). b || one.behind) (apart one.l one.later) ∙ one.is) one.rest
 
-  pub NamesOne-decided : (r : Reading) (e : Entry) (whole : Bool) → NamesOne F at types image now s r e whole → ((l : Later) → IsLater F at types image now l e → true ≡ later_names s l) → true ≡ whole
+  pub NamesOne-decided : (r : Reading) (e : Entry) (whole : Bool) → NamesOne F at types image now s r e whole → ((l : DeferredValue) → IsDeferredEntry F at types image now l e → true ≡ deferred_value_names s l) → true ≡ whole
   NamesOne-decided r e whole one names = ap (λ (b : Bool). b || one.behind) (names one.l one.later) ∙ one.is
 
-  no_laters : (ls : List Later) → AreLaters F at types image now ls [] → ls ≡ []
+  no_laters : (ls : List DeferredValue) → AreDeferredEntries F at types image now ls [] → ls ≡ []
   no_laters [] are = refl
   no_laters (l ∷ ls) are = absurd are
 
   pub NamesRest-end : (found : Option Found) (old new : Reading) (whole : Bool) → NamesRest F at types image now s old whole → found ≡ None → entries_left image old ≡ left_before image found new → false ≡ whole
   NamesRest-end found old new whole names none before =
       let empty = none_left image found old new names.rest none before names.left in
-      let are = subst (λ (es : List Entry). AreLaters F at types image now names.ls (asked es)) empty names.are in
-      sym (ap (laters_name s) (no_laters names.ls are)) ∙ names.same
+      let are = subst (λ (es : List Entry). AreDeferredEntries F at types image now names.ls (deferred_entries es)) empty names.are in
+      sym (ap (deferred_set_names s) (no_laters names.ls are)) ∙ names.same
 
 -- ---- an object that is not live
 
@@ -286,7 +286,7 @@ module _ (F : ℕ) (at : List (ℕ × Puddle)) (types : List (ℕ × ℕ)) (imag
   value_of_none (Num n) v word = refl
   value_of_none (Ref r) v word = ne_eqb r s (reference_of_none r v word)
 
-  pub none_named : (laters : List Later) (redo : List Entry) → AreLaters F at types image now laters redo → laters_name s laters ≡ false
+  pub none_named : (deferred : List DeferredValue) (redo : List Entry) → AreDeferredEntries F at types image now deferred redo → deferred_set_names s deferred ≡ false
   none_named [] redo are = refl
   none_named (l ∷ ls) [] are = absurd are
   none_named (l ∷ ls) (e ∷ es) are =
