@@ -25,7 +25,7 @@ use Rattle.pud_defs.proofs.Parts.Part.{Header}
 use Rattle.pud_defs.proofs.IdleWorlds.{standing_of_idle_world, legal_log_of_idle_world, legal_log_idle, idle_world_of_legal, frames_of_idle_world}
 use Rattle.log_replay.specs.Replaying.{NamesApart}
 use Rattle.batch.specs.Batches.{batch_write, committed, IsBatchEntry, AreBatched, IsFree, ByBatch, IsBatched, Commits}
-use Rattle.batch.specs.Worlds.{IsSettled, with_batch, MovesBy, IsBetween, HasBatch, Moves}
+use Rattle.batch.specs.Worlds.{IsQuiescent, with_batch, MovesBy, IsBetween, HasBatch, Moves}
 use Rattle.batch.proofs.Writes.{new_value-committed, batch_write-apart, counts}
 
 -- ---- entries that lie where the daemon log may write
@@ -45,7 +45,7 @@ all_apart F size all (e ∷ es) room batched allowed =
 
 -- ---- a batch that owes no more
 
-module _ (size : ℕ) (s next : StoredWorld) (es : List Entry) (a : State) (batched : AreBatched es) (settled : IsSettled size s a.now.words) (m : MovesBy size s next es a.now.words) where
+module _ (size : ℕ) (s next : StoredWorld) (es : List Entry) (a : State) (batched : AreBatched es) (settled : IsQuiescent size s a.now.words) (m : MovesBy size s next es a.now.words) where
   apart : All (NamesApart device_word size DAEMON_LOG) es
   apart = all_apart s.frames size es es ((standing_of_idle_world size (reads a.now.words) s (settled.stands (reads a.now.words) (Picks-reads a.now.words))).holds Header).room batched m.allowed
 

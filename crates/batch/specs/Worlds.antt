@@ -14,7 +14,7 @@ use Rattle.pud_defs.specs.World.{StoredWorld, idle_registry, idle_world_of}
 use Rattle.batch.specs.Batches.{batch_write, committed, IsBatched, Commits}
 
 -- Each image that may be left stands for this world, with each registered log closed, and the daemon log counts nothing in it.
-pub record IsSettled (size : ℕ) (s : StoredWorld) (words : Words) : Type 0 where
+pub record IsQuiescent (size : ℕ) (s : StoredWorld) (words : Words) : Type 0 where
   pub stands : (image : Image) → Picks words image → idle_world_of size image ≡ Some s
   pub idle : (v : ℕ) → Has (values (words DAEMON_LOG)) v → is_idle_gate v ≡ true
 
@@ -47,5 +47,5 @@ pub record HasBatch (es : List Entry) (words : Words) (image : Image) : Type 0 w
 pub record Moves (size : ℕ) (s next : StoredWorld) (es : List Entry) (fault : Option HostFault) (old new : State) : Type 0 where
   pub commits : Commits DAEMON_LOG es fault old new
   pub moments : Leaves (Silently (IsBetween size s next es old.now.words)) old new
-  pub settled : fault ≡ None → IsSettled size next new.now.words
+  pub settled : fault ≡ None → IsQuiescent size next new.now.words
   pub done : fault ≡ None → (image : Image) → Picks new.now.words image → HasBatch es old.now.words image

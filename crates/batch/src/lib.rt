@@ -14,7 +14,7 @@ ghost use Rattle.pud_defs.specs.declared.layout.TheConstants.{DAEMON_LOG, LOG_WO
 ghost use Rattle.pud_defs.specs.Entries.{Entry, entries_in};
 ghost use Rattle.pud_defs.specs.World.{StoredWorld};
 ghost use Rattle.batch.specs.Batches.{batch_entry, words_of, AreBatched, IsFree, ByBatch, Prepares, Commits};
-ghost use Rattle.batch.specs.Worlds.{IsSettled, MovesBy, Moves};
+ghost use Rattle.batch.specs.Worlds.{IsQuiescent, MovesBy, Moves};
 
 use log_entry::encode;
 use log_replay::{Target, settle_log};
@@ -130,7 +130,7 @@ impl Batch {
             → Commits DAEMON_LOG self (fault_of result) (H.state h.old) (H.state h.new) }
         // Whatever words are masked that it does not write.
         ensures moves { H.tells → (size : ℕ) → size ≡ (H.counts h.old).size → (s next : StoredWorld) → (mask : Write) → IsOff mask (ByBatch DAEMON_LOG self)
-            → IsSettled size s (masked mask (H.state h.old).now.words) → MovesBy size s next self (masked mask (H.state h.old).now.words)
+            → IsQuiescent size s (masked mask (H.state h.old).now.words) → MovesBy size s next self (masked mask (H.state h.old).now.words)
             → Moves size s next self (fault_of result) (masked_state mask (H.state h.old)) (masked_state mask (H.state h.new)) }
         ensures any { H.tells → Changes Anything (fault_of result) (H.state h.old) (H.state h.new) }
         ensures cause { H.counts h.new ≡ after_fault (fault_of result) (H.counts h.old) }

@@ -24,7 +24,7 @@ ghost use Rattle.graph_read.specs.Reading.{place_in_pool};
 ghost use Rattle.object_alloc.specs.Alloc.{serial_word_at};
 ghost use Rattle.log_store.specs.Store.{OpenLog};
 ghost use Rattle.word_transaction.specs.Scope.{IsScope, written_in_turn};
-ghost use Rattle.word_transaction.specs.Running.{SettlesTo};
+ghost use Rattle.word_transaction.specs.Running.{RecoversTo};
 ghost use Rattle.hybrid_tx.specs.PoolScopes.{pool_place, pool_has_word, pool_scope, finished_of, IsPlaced, IsRewrittenAt};
 ghost use Rattle.hybrid_tx.specs.Objects.Stores.{word_for, field_word, making};
 ghost use Rattle.hybrid_tx.specs.Objects.Transactions.{MaySet, AreDeferredEntries, IsOpenOn, IsAtRest, RunsOn, ClosesOn, EndsOn};
@@ -82,7 +82,7 @@ pub fn transaction_stays_open()
 /// With the log replayed an image has the graph of the words that it settles to, where the words of the puddles that are not finished are these too.
 pub fn settled_pool_has_the_graph()
     ensures { (frames : ℕ) (at : List (ℕ × Puddle)) (types : List (ℕ × ℕ)) (size : ℕ) (log : ℕ) (values : Image) (image : Image) (g : Graph) → IsScope size log (pool_scope frames (finished_of at))
-        → SettlesTo (pool_scope frames (finished_of at)) log values image → ((k : ℕ) → pool_has_word frames at k ≡ true → pool_has_word frames (finished_of at) k ≡ false → image k ≡ values k)
+        → RecoversTo (pool_scope frames (finished_of at)) log values image → ((k : ℕ) → pool_has_word frames at k ≡ true → pool_has_word frames (finished_of at) k ≡ false → image k ≡ values k)
         → graph_of types (stored_in frames at values) ≡ Option.Some g → graph_of types (stored_in frames at (replayed (pool_place frames (finished_of at)) (log_of image log) image)) ≡ Option.Some g }
 {}
 

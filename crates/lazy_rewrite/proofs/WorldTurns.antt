@@ -20,7 +20,7 @@ use Rattle.pud_defs.specs.World.{StoredWorld, idle_world_of}
 use Rattle.graph_laws.specs.Steps.{steps_in}
 use Rattle.graph_laws.proofs.StepsStored.{steps_in-same}
 use Rattle.batch.specs.Batches.{HasIdleGate, ByBatch}
-use Rattle.batch.specs.Worlds.{IsSettled}
+use Rattle.batch.specs.Worlds.{IsQuiescent}
 use Rattle.batch.proofs.Masked.{Commits-masked}
 use Rattle.lazy_rewrite.specs.Batches.{ByRewriting, AreNextSteps, CommitsSteps, RewritesOnce, RewritesInTurn, Rewrites}
 use Rattle.lazy_rewrite.specs.Graphs.{IsOffTypes, MayStop, MayRewrite, IsRewritableIn, KeepsWorld}
@@ -68,7 +68,7 @@ module _ (size : ℕ) (s : StoredWorld) (slot : ℕ) (goal : ℕ → ℕ) (g : G
       → KeepsWorld size s fault old new
   turns_world zero at later fault old new turns r stop = record {
     moments = Leaves-still (Silently (λ image. idle_world_of size image ≡ Some s)) old new (λ image picked. (refl, r.settled.stands image picked)) turns.1.1;
-    settled = λ none. subst (λ (x : State). IsSettled size s x.now.words) (sym turns.1.1) r.settled;
+    settled = λ none. subst (λ (x : State). IsQuiescent size s x.now.words) (sym turns.1.1) r.settled;
   }
   turns_world (suc batches) at later fault old new turns r stop =
       let mid = turns.0 in

@@ -21,7 +21,7 @@ use Rattle.pud_defs.specs.Graph.{Graph, graph_of}
 use Rattle.pud_defs.specs.World.{StoredWorld, idle_world_of}
 use Rattle.graph_laws.specs.Changes.{AreBases}
 use Rattle.batch.specs.Batches.{HasIdleGate}
-use Rattle.batch.specs.Worlds.{IsSettled}
+use Rattle.batch.specs.Worlds.{IsQuiescent}
 use Rattle.batch.specs.Tables.{HasDurableTables}
 use Rattle.lazy_rewrite.specs.Batches.{IsRewritten, ByRewriting}
 
@@ -57,7 +57,7 @@ pub record MayStop (at : List (ℕ × Puddle)) (goal : ℕ → ℕ) : Type 0 whe
 
 -- The same where each image stands for a world besides, and all words of the pool's frames have one value.
 pub record IsRewritableIn (size : ℕ) (s : StoredWorld) (slot : ℕ) (at : List (ℕ × Puddle)) (g : Graph) (words : Words) : Type 0 where
-  pub settled : IsSettled size s words
+  pub settled : IsQuiescent size s words
   pub pool : IsRewritable s.frames slot at g words
   pub rec : PoolRec
   pub below : slot < POOL_RECORDS
@@ -78,4 +78,4 @@ pub record MayRewrite (size : ℕ) (s : StoredWorld) (slot : ℕ) (at : List (�
 -- Each image left stands for the same world, and without a fault the device is as settled as before.
 pub record KeepsWorld (size : ℕ) (s : StoredWorld) (fault : Option HostFault) (old new : State) : Type 0 where
   pub moments : Leaves (Silently (λ image. idle_world_of size image ≡ Some s)) old new
-  pub settled : fault ≡ None → IsSettled size s new.now.words
+  pub settled : fault ≡ None → IsQuiescent size s new.now.words

@@ -23,7 +23,7 @@ use Rattle.pud_defs.proofs.Spaces.{are_legal_spaces-none, are_closed_logs-none}
 use Rattle.pud_defs.proofs.Parts.{StandsFor, standing_spaces}
 use Rattle.pud_defs.proofs.IdleWorlds.{standing_of_idle_world, idle_registry_standing}
 use Rattle.batch.specs.Batches.{batch_entry, words_of, batch_write, committed, IsBatched, Commits}
-use Rattle.batch.specs.Worlds.{IsSettled, with_batch, MovesBy, IsBetween, Moves}
+use Rattle.batch.specs.Worlds.{IsQuiescent, with_batch, MovesBy, IsBetween, Moves}
 use Rattle.batch.proofs.Writes.{batch_write-append, batch_write-single}
 use Rattle.batch.proofs.Worlds.{stands_still}
 use Rattle.log_space.specs.Clearing.{clearing, HasNoOwners, MayBeEmptied, Empties, Clears}
@@ -131,7 +131,7 @@ module _ (size : ℕ) (s : StoredWorld) where
       (are_legal_spaces-none (overwritten write image) free)
       (are_closed_logs-none (overwritten write image) s.frames free)
 
-  pub MovesBy-clearing : (words : Words) → IsSettled size s words → MovesBy size s s (clearing CLIENTS) words
+  pub MovesBy-clearing : (words : Words) → IsQuiescent size s words → MovesBy size s s (clearing CLIENTS) words
   MovesBy-clearing words settled = record {
     allowed = clearing-allowed s.frames CLIENTS (committed (clearing CLIENTS)) (omega arith);
     stands = λ image picked.

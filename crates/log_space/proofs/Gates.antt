@@ -20,7 +20,7 @@ use Rattle.pud_defs.specs.Image.{Image}
 use Rattle.pud_defs.specs.Layout.{log_at}
 use Rattle.pud_defs.specs.World.{StoredWorld, idle_world_of}
 use Rattle.pud_defs.proofs.ClosedLogs.{IsClosedAnew, idle_world_of-anew, has_closed_logs-gates}
-use Rattle.batch.specs.Worlds.{IsSettled}
+use Rattle.batch.specs.Worlds.{IsQuiescent}
 use Rattle.log_space.specs.Closed.{ByClosing, WritesGates, ClosesGates, Closes}
 
 -- no gate is written yet
@@ -104,7 +104,7 @@ ClosesGates-masked mask F slot fault a b off p = record {
 }
 
 -- what is done to gates of a device that stands for a world
-pub Closes-gates : (size : ℕ) (s : StoredWorld) (slot : ℕ) (fault : Option HostFault) (a b : State) → slot < CLIENTS → IsSettled size s a.now.words → ClosesGates s.frames slot fault a b → Closes size s slot fault a b
+pub Closes-gates : (size : ℕ) (s : StoredWorld) (slot : ℕ) (fault : Option HostFault) (a b : State) → slot < CLIENTS → IsQuiescent size s a.now.words → ClosesGates s.frames slot fault a b → Closes size s slot fault a b
 Closes-gates size s slot fault a b known settled p =
     let moments = Leaves-changes (λ (image : Image). idle_world_of size image ≡ Some s) (ByClosing s.frames slot) fault a b
     (λ before image picked from.

@@ -19,7 +19,7 @@ use Rattle.pud_defs.proofs.Logged.{may_be_logged-table, is_allowed-there}
 use Rattle.pud_defs.proofs.Spaces.{owner_of-same, has_closed_logs-same}
 use Rattle.pud_defs.proofs.IdleWorlds.{standing_of_idle_world, idle_registry_standing}
 use Rattle.batch.specs.Batches.{batch_entry, batch_write, committed, ByBatch}
-use Rattle.batch.specs.Worlds.{IsSettled, with_batch, MovesBy, IsBetween, Moves}
+use Rattle.batch.specs.Worlds.{IsQuiescent, with_batch, MovesBy, IsBetween, Moves}
 use Rattle.batch.proofs.Writes.{batch_write-single}
 use Rattle.batch.proofs.Worlds.{stands_still}
 use Rattle.batch.proofs.Tables.{reads_committed}
@@ -56,7 +56,7 @@ pub record GivesOwner (s : StoredWorld) (slot : ℕ) (now : Option Owner) (vals 
       (eqb (with_batch (record_batch slot vals) image (space_record_at slot)) 0 || has_closed_logs (with_batch (record_batch slot vals) image) s.frames slot) ≡ true
 
 module _ (size : ℕ) (s : StoredWorld) (slot : ℕ) (now : Option Owner) (vals : List ℕ) (words : Words) (g : GivesOwner s slot now vals words) where
-  pub MovesBy-record : IsSettled size s words → MovesBy size s s (record_batch slot vals) words
+  pub MovesBy-record : IsQuiescent size s words → MovesBy size s s (record_batch slot vals) words
   MovesBy-record settled = record {
     allowed =
         let e = batch_entry (space_record_at slot) vals in
@@ -135,7 +135,7 @@ module _ (slot uid gid : ℕ) (image : Image) where
       λ p. is_space (first_word p) (second_word p) (third_word p) in
       is ∙ and_from (leb uid MAX_OWNER_ID) (leb gid MAX_OWNER_ID) (le-leb uid MAX_OWNER_ID uid_fits) (le-leb gid MAX_OWNER_ID gid_fits)
 
-pub GivesOwner-registration : (size : ℕ) (s : StoredWorld) (slot uid gid : ℕ) (words : Words) → IsSettled size s words → slot < CLIENTS → uid ≤ MAX_OWNER_ID → gid ≤ MAX_OWNER_ID
+pub GivesOwner-registration : (size : ℕ) (s : StoredWorld) (slot uid gid : ℕ) (words : Words) → IsQuiescent size s words → slot < CLIENTS → uid ≤ MAX_OWNER_ID → gid ≤ MAX_OWNER_ID
     → HasClosedLogs s.frames slot words → GivesOwner s slot (Some (owner uid gid)) (1 ∷ uid ∷ gid ∷ []) words
 GivesOwner-registration size s slot uid gid words settled known uid_fits gid_fits logs = record {
   known = known;

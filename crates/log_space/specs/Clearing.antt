@@ -11,7 +11,7 @@ use Rattle.pud_defs.specs.Replay.{is_in_log}
 use Rattle.pud_defs.specs.Spaces.{Owner, space_record_at}
 use Rattle.pud_defs.specs.World.{StoredWorld, idle_world_of}
 use Rattle.batch.specs.Batches.{batch_entry, batch_write, ByBatch, Commits}
-use Rattle.batch.specs.Worlds.{IsSettled}
+use Rattle.batch.specs.Worlds.{IsQuiescent}
 use Rattle.log_space.specs.Records.{owners}
 
 -- the batch that empties the records of the clients below n
@@ -40,6 +40,6 @@ pub record Empties (fault : Option HostFault) (old new : State) : Type 0 where
 pub record Clears (size : ℕ) (s : StoredWorld) (fault : Option HostFault) (old new : State) : Type 0 where
   pub changes : Changes (ByBatch DAEMON_LOG (clearing CLIENTS)) fault old new
   pub moments : Leaves (Silently (λ image. idle_world_of size image ≡ Some s)) old new
-  pub settled : fault ≡ None → IsSettled size s new.now.words
+  pub settled : fault ≡ None → IsQuiescent size s new.now.words
   pub durable : fault ≡ None → (k v : ℕ) → batch_write (clearing CLIENTS) k ≡ Some v → HasOnly (new.now.words k) v
   pub cleared : fault ≡ None → (client : ℕ) → client < CLIENTS → HasOnly (new.now.words (space_record_at client)) 0

@@ -9,7 +9,7 @@ use Rattle.pud_defs.specs.declared.log_words.TheConstants.{CLOSED_GATE}
 use Rattle.pud_defs.specs.Layout.{log_at}
 use Rattle.pud_defs.specs.Spaces.{IsGateOf}
 use Rattle.pud_defs.specs.World.{StoredWorld, idle_world_of}
-use Rattle.batch.specs.Worlds.{IsSettled}
+use Rattle.batch.specs.Worlds.{IsQuiescent}
 use Rattle.log_space.specs.Records.{HasClosedLogs}
 
 -- to each gate of the client's logs the one of a closed log may come
@@ -31,5 +31,5 @@ pub record ClosesGates (F slot : ℕ) (fault : Option HostFault) (old new : Stat
 pub record Closes (size : ℕ) (s : StoredWorld) (slot : ℕ) (fault : Option HostFault) (old new : State) : Type 0 where
   pub changes : Changes (ByClosing s.frames slot) fault old new
   pub moments : Leaves (Silently (λ image. idle_world_of size image ≡ Some s)) old new
-  pub settled : fault ≡ None → IsSettled size s new.now.words
+  pub settled : fault ≡ None → IsQuiescent size s new.now.words
   pub closed : fault ≡ None → HasClosedLogs s.frames slot new.now.words

@@ -11,7 +11,7 @@ use Rattle.pud_defs.specs.Replay.{is_in_log, settled_by}
 use Rattle.pud_defs.specs.Spaces.{Owner, owner, with_owner, space_record_at, owner_of, has_closed_logs}
 use Rattle.pud_defs.specs.World.{StoredWorld, idle_world_of}
 use Rattle.batch.specs.Batches.{batch_entry, batch_write, ByBatch}
-use Rattle.batch.specs.Worlds.{IsSettled}
+use Rattle.batch.specs.Worlds.{IsQuiescent}
 
 -- the batch that gives the first words of a client's record these values
 abbrev pub record_batch : ℕ → List ℕ → List Entry
@@ -55,7 +55,7 @@ pub record HasOwner (slot : ℕ) (now : Option Owner) (es : List Entry) (words :
 pub record ChangesOwner (size : ℕ) (s : StoredWorld) (slot : ℕ) (now : Option Owner) (es : List Entry) (fault : Option HostFault) (old new : State) : Type 0 where
   pub changes : Changes (ByBatch DAEMON_LOG es) fault old new
   pub moments : Leaves (Silently (MayHaveOwner size s slot now es old.now.words)) old new
-  pub settled : fault ≡ None → IsSettled size s new.now.words
+  pub settled : fault ≡ None → IsQuiescent size s new.now.words
   pub done : fault ≡ None → (image : Image) → Picks new.now.words image → HasOwner slot now es old.now.words image
   pub durable : fault ≡ None → (k v : ℕ) → batch_write es k ≡ Some v → HasOnly (new.now.words k) v
   pub read : fault ≡ None → (client : ℕ) → client < CLIENTS → owner_of (reads new.now.words) client ≡ with_owner slot now (owner_of (reads old.now.words)) client

@@ -17,7 +17,7 @@ ghost use Rattle.pud_defs.specs.Spaces.{owner_by, owner_of};
 ghost use Rattle.pud_defs.specs.World.{StoredWorld};
 ghost use Rattle.log_replay.specs.Replaying.{Anything};
 ghost use Rattle.batch.specs.Batches.{HasIdleGate, ByBatch, Commits};
-ghost use Rattle.batch.specs.Worlds.{IsSettled, MovesBy, Moves};
+ghost use Rattle.batch.specs.Worlds.{IsQuiescent, MovesBy, Moves};
 ghost use Rattle.log_space.specs.Records.{record_batch, registration, unregistration, HasClosedLogs, Registers, Unregisters};
 ghost use Rattle.log_space.specs.Clearing.{clearing, Clears, Empties};
 ghost use Rattle.log_space.specs.Owners.{owner_read};
@@ -40,7 +40,7 @@ fn write_record<H: Host>(h: &mut H, slot: u32, vals: &[u64]) -> Result<(), HostF
     requires no_more { length vals.now ≤ SPACE_RECORD_WORDS }
     ensures commits { H.tells → HasIdleGate DAEMON_LOG (H.state h.old).now.words → Commits DAEMON_LOG (record_batch slot vals.now) (fault_of result) (H.state h.old) (H.state h.new) }
     ensures moves { H.tells → (size : ℕ) → size ≡ (H.counts h.old).size → (s next : StoredWorld) → (mask : Write) → IsOff mask (ByBatch DAEMON_LOG (record_batch slot vals.now))
-        → IsSettled size s (masked mask (H.state h.old).now.words) → MovesBy size s next (record_batch slot vals.now) (masked mask (H.state h.old).now.words)
+        → IsQuiescent size s (masked mask (H.state h.old).now.words) → MovesBy size s next (record_batch slot vals.now) (masked mask (H.state h.old).now.words)
         → Moves size s next (record_batch slot vals.now) (fault_of result) (masked_state mask (H.state h.old)) (masked_state mask (H.state h.new)) }
     ensures any { H.tells → Changes Anything (fault_of result) (H.state h.old) (H.state h.new) }
     ensures cause { H.counts h.new ≡ after_fault (fault_of result) (H.counts h.old) }
@@ -63,7 +63,7 @@ pub fn register<H: Host>(h: &mut H, slot: u32, uid: u32, gid: u32) -> Result<(),
     requires gid_fits { gid ≤ MAX_OWNER_ID }
     ensures commits { H.tells → HasIdleGate DAEMON_LOG (H.state h.old).now.words → Commits DAEMON_LOG (registration slot uid gid) (fault_of result) (H.state h.old) (H.state h.new) }
     ensures registers { H.tells → (size : ℕ) → size ≡ (H.counts h.old).size → (s : StoredWorld) → (mask : Write) → IsOff mask (ByBatch DAEMON_LOG (registration slot uid gid))
-        → IsSettled size s (masked mask (H.state h.old).now.words) → HasClosedLogs s.frames slot (masked mask (H.state h.old).now.words)
+        → IsQuiescent size s (masked mask (H.state h.old).now.words) → HasClosedLogs s.frames slot (masked mask (H.state h.old).now.words)
         → Registers size s slot uid gid (fault_of result) (masked_state mask (H.state h.old)) (masked_state mask (H.state h.new)) }
     ensures any { H.tells → Changes Anything (fault_of result) (H.state h.old) (H.state h.new) }
     ensures cause { H.counts h.new ≡ after_fault (fault_of result) (H.counts h.old) }
@@ -82,7 +82,7 @@ pub fn unregister<H: Host>(h: &mut H, slot: u32) -> Result<(), HostFault>
     requires known { slot < CLIENTS }
     ensures commits { H.tells → HasIdleGate DAEMON_LOG (H.state h.old).now.words → Commits DAEMON_LOG (unregistration slot) (fault_of result) (H.state h.old) (H.state h.new) }
     ensures unregisters { H.tells → (size : ℕ) → size ≡ (H.counts h.old).size → (s : StoredWorld) → (mask : Write) → IsOff mask (ByBatch DAEMON_LOG (unregistration slot))
-        → IsSettled size s (masked mask (H.state h.old).now.words) → Unregisters size s slot (fault_of result) (masked_state mask (H.state h.old)) (masked_state mask (H.state h.new)) }
+        → IsQuiescent size s (masked mask (H.state h.old).now.words) → Unregisters size s slot (fault_of result) (masked_state mask (H.state h.old)) (masked_state mask (H.state h.new)) }
     ensures any { H.tells → Changes Anything (fault_of result) (H.state h.old) (H.state h.new) }
     ensures cause { H.counts h.new ≡ after_fault (fault_of result) (H.counts h.old) }
 {
@@ -110,7 +110,7 @@ fn clearing(count: u32) -> Batch
 pub fn clear_spaces<H: Host>(h: &mut H) -> Result<(), HostFault>
     requires { PUDDLE_TABLE ≤ (H.counts h.old).size }
     ensures empties { H.tells → HasIdleGate DAEMON_LOG (H.state h.old).now.words → Empties (fault_of result) (H.state h.old) (H.state h.new) }
-    ensures clears { H.tells → (size : ℕ) → size ≡ (H.counts h.old).size → (s : StoredWorld) → IsSettled size s (H.state h.old).now.words
+    ensures clears { H.tells → (size : ℕ) → size ≡ (H.counts h.old).size → (s : StoredWorld) → IsQuiescent size s (H.state h.old).now.words
         → Clears size s (fault_of result) (H.state h.old) (H.state h.new) }
     ensures any { H.tells → Changes Anything (fault_of result) (H.state h.old) (H.state h.new) }
     ensures cause { H.counts h.new ≡ after_fault (fault_of result) (H.counts h.old) }

@@ -13,7 +13,7 @@ use Rattle.pud_defs.specs.Image.{Image}
 use Rattle.pud_defs.specs.Layout.{log_at}
 use Rattle.pud_defs.specs.Spaces.{Owner}
 use Rattle.pud_defs.specs.World.{StoredWorld, World}
-use Rattle.batch.specs.Worlds.{IsSettled}
+use Rattle.batch.specs.Worlds.{IsQuiescent}
 use Rattle.batch.proofs.Tables.{reads_kept}
 use Rattle.hybrid_tx.specs.Open.Masks.{is_open_record, open_mask}
 use Rattle.hybrid_tx.specs.Open.ManyOpen.{OpenTransaction, Opens, with_transaction, open_masks, MasksAll, AreOpenPools, HasRecords, IsOneMore}
@@ -174,7 +174,7 @@ module _ (w : World) (all : List (Option ActiveTransaction)) (mask : Write) (old
 
   -- ---- what was so with the words masked is so with those masked that are
 
-  pub settled_anew : (size : ℕ) (next : StoredWorld) → IsSettled size next (masked mask new.now.words) → IsSettled size next (masked wide new.now.words)
+  pub settled_anew : (size : ℕ) (next : StoredWorld) → IsQuiescent size next (masked mask new.now.words) → IsQuiescent size next (masked wide new.now.words)
   settled_anew size next settled = record {
     stands = λ image picked. settled.stands image (record { each = λ k. masked_more mask wide new.now.words k (image k) (wider_mask k) (picked.each k) });
     idle = λ v had. settled.idle v (masked_more mask wide new.now.words DAEMON_LOG v (wider_mask DAEMON_LOG) had);

@@ -19,9 +19,9 @@ use Rattle.pud_defs.specs.Layout.{tables_end, log_at}
 use Rattle.pud_defs.specs.Transactions.{with_changed}
 use Rattle.pud_defs.specs.World.{Transaction, World, world_of, idle_world_of, closed}
 use Rattle.pud_defs.proofs.Spaces.{owner_of-same}
-use Rattle.batch.specs.Worlds.{IsSettled}
+use Rattle.batch.specs.Worlds.{IsQuiescent}
 use Rattle.batch.proofs.Tables.{reads_kept, HasDurableTables-kept}
-use Rattle.word_transaction.specs.Running.{SettlesTo, ByTransaction}
+use Rattle.word_transaction.specs.Running.{RecoversTo, ByTransaction}
 use Rattle.hybrid_tx.specs.PoolScopes.{pool_scope, IsPlaced, finished_of}
 use Rattle.hybrid_tx.specs.Open.ManyOpen.{OpenTransaction, AreLeftOpen}
 use Rattle.hybrid_tx.specs.Open.Masks.{OpenPool, IsLeftOpen}
@@ -122,17 +122,17 @@ module _ (size : ℕ) (w : World) (memory : Memory) (active : ActiveTransaction)
     log_idle : is_idle_gate (image DAEMON_LOG) ≡ true
     log_idle = ap is_idle_gate (same_before DAEMON_LOG (omega arith)) ∙ ready_idle size w memory old ready o.before o.picked
 
-    left_open : SettlesTo (pool_scope F (finished_of is.puddles)) active.tx.log.gate_at is.before image → IsLeftOpen F p is.before image
+    left_open : RecoversTo (pool_scope F (finished_of is.puddles)) active.tx.log.gate_at is.before image → IsLeftOpen F p is.before image
     left_open settles = record {
       unnamed = λ k v e. (names_none_idle ready.mask image log_idle).each k v (is.masked k v e);
       records = λ k of.
           let place = open_record_place F p k is.pool.slot is.pool.known (open_on_device F p is.before is.pool) of in
           same_before k place.high ∙ record_picked w active ready.mask old.now.words is ready.tables o.before o.picked k of;
-      settles = subst (λ (n : ℕ). SettlesTo (pool_scope F (finished_of is.puddles)) n is.before image) is.gate settles;
+      settles = subst (λ (n : ℕ). RecoversTo (pool_scope F (finished_of is.puddles)) n is.before image) is.gate settles;
     }
 
     -- each is left open: it by its log, and any other since none of its words was written
-    each_open : SettlesTo (pool_scope F (finished_of is.puddles)) active.tx.log.gate_at is.before image → (n : ℕ) (g : ActiveTransaction) (there : active_under memory.active n ≡ Some g) (is : IsActiveUnder w ready.active.opens ready.mask old.now.words n g)
+    each_open : RecoversTo (pool_scope F (finished_of is.puddles)) active.tx.log.gate_at is.before image → (n : ℕ) (g : ActiveTransaction) (there : active_under memory.active n ≡ Some g) (is : IsActiveUnder w ready.active.opens ready.mask old.now.words n g)
         → IsLeftOpen F (open_pool_of g is.is.puddles is.is.rec is.is.who) is.is.before image
     each_open settles n g has other = elim (cases_eq n number) [
       | inl same ↦
@@ -148,7 +148,7 @@ module _ (size : ℕ) (w : World) (memory : Memory) (active : ActiveTransaction)
     ]
 
     -- so it stands for the world, where its log gives back what was there at the beginning
-    pub stands_within : SettlesTo (pool_scope F (finished_of is.puddles)) active.tx.log.gate_at is.before image → (world_of size image ≡ Some (closed w)) × RefusesNone image
+    pub stands_within : RecoversTo (pool_scope F (finished_of is.puddles)) active.tx.log.gate_at is.before image → (world_of size image ≡ Some (closed w)) × RefusesNone image
     stands_within settles =
         let left : AreLeftOpen F ready.active.opens image = left_all w memory.active ready.mask old.now.words ready.active image (each_open settles) in
         let it = under_left w memory.active ready.mask old.now.words ready.active size image left in
@@ -158,11 +158,11 @@ module _ (size : ℕ) (w : World) (memory : Memory) (active : ActiveTransaction)
 
   module _ (fault : Option HostFault) (new : State) (changes : Changes own fault old new) where
     -- each image left stands for the world
-    pub moments_within : Leaves (Silently (SettlesTo (pool_scope F (finished_of is.puddles)) active.tx.log.gate_at is.before)) old new → Leaves (Silently (λ image. (world_of size image ≡ Some (closed w)) × RefusesNone image)) old new
+    pub moments_within : Leaves (Silently (RecoversTo (pool_scope F (finished_of is.puddles)) active.tx.log.gate_at is.before)) old new → Leaves (Silently (λ image. (world_of size image ≡ Some (closed w)) × RefusesNone image)) old new
     moments_within moments =
-        Leaves-weaker (Silently (λ image. SettlesTo (pool_scope F (finished_of is.puddles)) active.tx.log.gate_at is.before image × HasOrigin own old.now.words image)) (Silently (λ image. (world_of size image ≡ Some (closed w)) × RefusesNone image)) old new
+        Leaves-weaker (Silently (λ image. RecoversTo (pool_scope F (finished_of is.puddles)) active.tx.log.gate_at is.before image × HasOrigin own old.now.words image)) (Silently (λ image. (world_of size image ≡ Some (closed w)) × RefusesNone image)) old new
         (λ bytes image m. (m.0, stands_within image m.1.1 m.1.0))
-        (Leaves-from (SettlesTo (pool_scope F (finished_of is.puddles)) active.tx.log.gate_at is.before) own fault old new changes moments)
+        (Leaves-from (RecoversTo (pool_scope F (finished_of is.puddles)) active.tx.log.gate_at is.before) own fault old new changes moments)
 
     -- masked, a word has no value that it had not
     masked_value : (k v : ℕ) (x : Option ℕ) → ready.mask k ≡ x → Has (values (masked ready.mask new.now.words k)) v → Has (values (masked ready.mask old.now.words k)) v
@@ -172,7 +172,7 @@ module _ (size : ℕ) (w : World) (memory : Memory) (active : ActiveTransaction)
     masked_value k v (Some x) there had =
         subst (λ (c : Cell). Has (values c) v) (masked-there ready.mask new.now.words k x there ∙ sym (masked-there ready.mask old.now.words k x there)) had
 
-    settled_within : IsSettled size (closed w) (masked ready.mask new.now.words)
+    settled_within : IsQuiescent size (closed w) (masked ready.mask new.now.words)
     settled_within = record {
       stands = λ image picked. ready.settled.stands image (record { each = λ k. masked_value k (image k) (ready.mask k) refl (picked.each k) });
       idle = λ v had. ready.settled.idle v (masked_value DAEMON_LOG v (ready.mask DAEMON_LOG) refl had);
@@ -213,7 +213,7 @@ module _ (size : ℕ) (w : World) (memory : Memory) (active : ActiveTransaction)
     moments_own =
         Leaves-weaker (Silently (λ image. (world_of size image ≡ Some (closed w)) × RefusesNone image)) (Silently (StandsBetween size w next)) old new
         (λ bytes image m. (m.0, (inl m.1.0, m.1.1)))
-        (moments_within fault new changes_own (subst (λ (n : ℕ). Leaves (Silently (SettlesTo (pool_scope F (finished_of is.puddles)) n is.before)) old new) at runs.saves.runs.moments))
+        (moments_within fault new changes_own (subst (λ (n : ℕ). Leaves (Silently (RecoversTo (pool_scope F (finished_of is.puddles)) n is.before)) old new) at runs.saves.runs.moments))
 
     kept_within : fault ≡ None → (k : ℕ) → k < tables_end F → reads new.now.words k ≡ now k
     kept_within none k below =

@@ -39,10 +39,10 @@ use Rattle.pud_defs.proofs.IdleWorlds.{standing_beside, standing_idle}
 use Rattle.pud_defs.proofs.Parts.Part.{Spaces}
 use Rattle.pud_defs.proofs.Spaces.{owner_of-same, is_closed_log-same}
 use Rattle.batch.specs.Batches.{HasIdleGate}
-use Rattle.batch.specs.Worlds.{IsSettled}
+use Rattle.batch.specs.Worlds.{IsQuiescent}
 use Rattle.batch.proofs.Tables.{HasDurableTables-kept, reads_kept}
 use Rattle.word_transaction.specs.Scope.{Scope, IsScope}
-use Rattle.word_transaction.specs.Running.{IsIdle, nothing, begun, SettlesTo, Runs}
+use Rattle.word_transaction.specs.Running.{IsIdle, nothing, begun, RecoversTo, Runs}
 use Rattle.hybrid_tx.specs.PoolScopes.{pool_has_word, pool_scope, IsPlaced, finished_of}
 use Rattle.hybrid_tx.specs.Open.Masks.{OpenPool, is_open_record, open_mask, ArePuddlesOf, IsOpenPool}
 use Rattle.hybrid_tx.specs.Open.ManyOpen.{OpenTransaction, AreLeftOpen, AreOpenPools, HasRecords, IsOneMore, MasksAll, Opens, open_masks, with_transaction}
@@ -317,7 +317,7 @@ module _ (size : ℕ) (w : World) (memory : Memory) (old : State) (ready : IsRea
         world_now size w.stored number o opens opens_then more are_then from.before j (idle_there from.before from.picked) (from_same j from) (records_there from.before from.picked) (world_there from.before from.picked)
 
     -- each image is left with all of them open
-    left_open : (j : Image) → SettlesTo g gate now j → HasOrigin By old.now.words j → AreLeftOpen n opens_then j
+    left_open : (j : Image) → RecoversTo g gate now j → HasOrigin By old.now.words j → AreLeftOpen n opens_then j
     left_open j settles from =
         let gate_idle = idle_of j from in
         left_more number o opens opens_then more n j
@@ -330,16 +330,16 @@ module _ (size : ℕ) (w : World) (memory : Memory) (old : State) (ready : IsRea
           settles = settles;
         })
 
-    image_stands : (j : Image) → SettlesTo g gate now j → HasOrigin By old.now.words j → (world_of size j ≡ Some w.stored) × RefusesNone j
+    image_stands : (j : Image) → RecoversTo g gate now j → HasOrigin By old.now.words j → (world_of size j ≡ Some w.stored) × RefusesNone j
     image_stands j settles from =
         left_stands size w.stored number o opens opens_then more are_then from.before j (idle_there from.before from.picked) (from_same j from) (records_there from.before from.picked)
         (world_there from.before from.picked) (left_open j settles from)
 
     all_moments : (next : World) → Leaves (Silently (StandsBetween size w next)) old new
     all_moments next =
-        Leaves-weaker (Silently (λ image. SettlesTo g gate now image × HasOrigin By old.now.words image)) (Silently (StandsBetween size w next)) old new
+        Leaves-weaker (Silently (λ image. RecoversTo g gate now image × HasOrigin By old.now.words image)) (Silently (StandsBetween size w next)) old new
         (λ bytes image m. (m.0, let both = image_stands image m.1.0 m.1.1 in (inl both.0, both.1)))
-        (Leaves-from (SettlesTo g gate now) By fault old new c runs.moments)
+        (Leaves-from (RecoversTo g gate now) By fault old new c runs.moments)
 
     module _ (done : fault ≡ None) (placed_there : number < length memory.active) where
       changed : Changes By None old new
@@ -355,7 +355,7 @@ module _ (size : ℕ) (w : World) (memory : Memory) (old : State) (ready : IsRea
       kept k outside = reads_kept By old new k changed (λ v. not_gate k v outside)
 
       -- masked, each image stands for the world
-      settled_begun : IsSettled size w.stored (masked mask_then new.now.words)
+      settled_begun : IsQuiescent size w.stored (masked mask_then new.now.words)
       settled_begun = record {
         stands = λ image picked.
             let u = Picks-unmasked mask_then new.now.words image picked in

@@ -31,10 +31,10 @@ use Rattle.pud_defs.proofs.ClosedLogs.{closed_by_gate}
 use Rattle.pud_defs.proofs.Replay.{outside_log}
 use Rattle.pud_defs.proofs.Spaces.{owner_of-same}
 use Rattle.batch.specs.Batches.{HasIdleGate}
-use Rattle.batch.specs.Worlds.{IsSettled}
+use Rattle.batch.specs.Worlds.{IsQuiescent}
 use Rattle.batch.proofs.Tables.{HasDurableTables-kept, reads_kept}
 use Rattle.word_transaction.specs.Scope.{Scope}
-use Rattle.word_transaction.specs.Running.{ByTransaction, SettlesTo, Closes, Ends}
+use Rattle.word_transaction.specs.Running.{ByTransaction, RecoversTo, Closes, Ends}
 use Rattle.word_transaction.proofs.Ended.{beside_transaction, Ends-either}
 use Rattle.hybrid_tx.specs.PoolScopes.{pool_has_word, pool_scope, finished_of}
 use Rattle.hybrid_tx.specs.Open.Masks.{OpenPool, is_open_record, IsOpenPool, IsLeftOpen}
@@ -132,7 +132,7 @@ module _ (size : ℕ) (s : StoredWorld) (number : ℕ) (o : OpenTransaction) (ot
 -- the log is closed.
 pub record EndsBy (g : Scope) (at : ℕ) (before after : Image) (fault : Option HostFault) (old new : State) : Type 0 where
   pub changes : Changes (ByTransaction g at) fault old new
-  pub moments : Leaves (Silently (λ image. SettlesTo g at before image ⊎ SettlesTo g at after image)) old new
+  pub moments : Leaves (Silently (λ image. RecoversTo g at before image ⊎ RecoversTo g at after image)) old new
   pub durable : fault ≡ None → (k : ℕ) → g.has_word k ≡ true → HasOnly (new.now.words k) (after k)
   pub closed : fault ≡ None → HasOnly (new.now.words at) CLOSED_GATE
 
@@ -140,7 +140,7 @@ pub record EndsBy (g : Scope) (at : ℕ) (before after : Image) (fault : Option 
 pub EndsBy-closes : (g : Scope) (at : ℕ) (before : Image) (fault : Option HostFault) (old new : State) → Closes g at before fault old new → EndsBy g at before before fault old new
 EndsBy-closes g at before fault old new c = record {
   changes = c.changes;
-  moments = Leaves-weaker (Silently (SettlesTo g at before)) (Silently (λ image. SettlesTo g at before image ⊎ SettlesTo g at before image)) old new (λ bytes image m. (m.0, inl m.1)) c.moments;
+  moments = Leaves-weaker (Silently (RecoversTo g at before)) (Silently (λ image. RecoversTo g at before image ⊎ RecoversTo g at before image)) old new (λ bytes image m. (m.0, inl m.1)) c.moments;
   durable = c.durable;
   closed = c.closed;
 }
@@ -149,15 +149,15 @@ EndsBy-closes g at before fault old new c = record {
 abbrev pub mixed : Scope → (after before : Image) → Image
 mixed g after before k = cond (g.has_word k) (after k) (before k)
 
-SettlesTo-mixed : (g : Scope) (at : ℕ) (after before image : Image) → SettlesTo g at after image → SettlesTo g at (mixed g after before) image
-SettlesTo-mixed g at after before image s = record { es = s.es; spells = s.spells; own = s.own; settled = λ k mine. s.settled k mine ∙ sym (cond-true _ _ _ mine) }
+RecoversTo-mixed : (g : Scope) (at : ℕ) (after before image : Image) → RecoversTo g at after image → RecoversTo g at (mixed g after before) image
+RecoversTo-mixed g at after before image s = record { es = s.es; spells = s.spells; own = s.own; settled = λ k mine. s.settled k mine ∙ sym (cond-true _ _ _ mine) }
 
 -- committed: the own words alone matter of the values
 pub EndsBy-ends : (g : Scope) (at : ℕ) (before after : Image) (fault : Option HostFault) (old new : State) → Ends g at before after fault old new → EndsBy g at before (mixed g after before) fault old new
 EndsBy-ends g at before after fault old new e = record {
   changes = e.changes;
-  moments = Leaves-weaker (Silently (λ image. SettlesTo g at before image ⊎ SettlesTo g at after image)) (Silently (λ image. SettlesTo g at before image ⊎ SettlesTo g at (mixed g after before) image)) old new
-      (λ bytes image m. (m.0, elim m.1 [ inl was ↦ inl was | inr now ↦ inr (SettlesTo-mixed g at after before image now) ])) (Ends-either g at before after fault old new e);
+  moments = Leaves-weaker (Silently (λ image. RecoversTo g at before image ⊎ RecoversTo g at after image)) (Silently (λ image. RecoversTo g at before image ⊎ RecoversTo g at (mixed g after before) image)) old new
+      (λ bytes image m. (m.0, elim m.1 [ inl was ↦ inl was | inr now ↦ inr (RecoversTo-mixed g at after before image now) ])) (Ends-either g at before after fault old new e);
   durable = λ none k mine. subst (λ (v : ℕ). HasOnly (new.now.words k) v) (sym (cond-true _ _ _ mine)) (e.durable none k mine);
   closed = e.closed;
 }
@@ -296,11 +296,11 @@ module _ (size : ℕ) (w : World) (memory : Memory) (number : ℕ) (active : Act
     }
 
     -- and this one is, as if it had begun with the values to which it settles
-    own_left : (values : Image) → ((k : ℕ) → is_open_record pool k ≡ true → j k ≡ values k) → SettlesTo g active.tx.log.gate_at values j → IsLeftOpen n pool values j
+    own_left : (values : Image) → ((k : ℕ) → is_open_record pool k ≡ true → j k ≡ values k) → RecoversTo g active.tx.log.gate_at values j → IsLeftOpen n pool values j
     own_left values records settles = record {
       unnamed = λ k v is. unnamed_idle j k idle_left;
       records = records;
-      settles = subst (λ (at : ℕ). SettlesTo g at values j) is_active.gate settles;
+      settles = subst (λ (at : ℕ). RecoversTo g at values j) is_active.gate settles;
     }
 
   -- all, with this one as it is
@@ -356,18 +356,18 @@ module _ (size : ℕ) (w : World) (memory : Memory) (number : ℕ) (active : Act
       next = record w { stored = s; transactions = with_open active.name None w.transactions }
 
       -- an image that settles to them stands for the next world
-      stands_after : (j : Image) → HasOrigin may old.now.words j → SettlesTo g active.tx.log.gate_at after j → (world_of size j ≡ Some s) × RefusesNone j
+      stands_after : (j : Image) → HasOrigin may old.now.words j → RecoversTo g active.tx.log.gate_at after j → (world_of size j ≡ Some s) × RefusesNone j
       stands_after j f settles =
           left_stands size s number later others all_later later_more later_are f.before j (idle_there f.before f.picked) (from_number j f) (later_records f.before f.picked) (stands f.before f.picked)
           (left_more number later others all_later later_more n j (others_left j f) (own_left j f after (λ k of. record_left j f k of ∙ sym (agrees k (below_mine k (record_below k of)))) settles))
 
-      image_stands : (j : Image) → SettlesTo g active.tx.log.gate_at before j ⊎ SettlesTo g active.tx.log.gate_at after j → HasOrigin may old.now.words j → StandsBetween size w next j
+      image_stands : (j : Image) → RecoversTo g active.tx.log.gate_at before j ⊎ RecoversTo g active.tx.log.gate_at after j → HasOrigin may old.now.words j → StandsBetween size w next j
       image_stands j (inl settles) f = let both = stands_within size w memory active old number there ready j f settles in (inl both.0, both.1)
       image_stands j (inr settles) f = let both = stands_after j f settles in (inr both.0, both.1)
 
       all_moments : Leaves (Silently (StandsBetween size w next)) old new
       all_moments =
-          let P = λ (image : Image). SettlesTo g active.tx.log.gate_at before image ⊎ SettlesTo g active.tx.log.gate_at after image in
+          let P = λ (image : Image). RecoversTo g active.tx.log.gate_at before image ⊎ RecoversTo g active.tx.log.gate_at after image in
           Leaves-weaker (Silently (λ image. P image × HasOrigin may old.now.words image)) (Silently (StandsBetween size w next)) old new
           (λ bytes image m. (m.0, image_stands image m.1.0 m.1.1)) (Leaves-from P may fault old new e.changes e.moments)
 
@@ -389,7 +389,7 @@ module _ (size : ℕ) (w : World) (memory : Memory) (number : ℕ) (active : Act
         gate_idle : HasIdleGate DAEMON_LOG new.now.words
         gate_idle = gate_kept may None old new changed (λ v. not_below DAEMON_LOG v (omega arith)) (ready_gate size w memory old ready)
 
-        settled_ended : IsSettled size s (masked rest new.now.words)
+        settled_ended : IsQuiescent size s (masked rest new.now.words)
         settled_ended = record {
           stands = λ image picked. let u = Picks-unmasked rest new.now.words image picked in ap (idle_world_of size) u.is ∙ ended_world u.under u.picked;
           idle = λ v had. gate_idle.each v (subst (λ (c : Cell). Has (values c) v) (masked-elsewhere rest new.now.words DAEMON_LOG (masks_below n others rest rest_are rest_masks DAEMON_LOG (omega arith))) had);

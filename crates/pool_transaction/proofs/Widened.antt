@@ -27,7 +27,7 @@ use Rattle.pud_defs.specs.Tables.{tables_of, puddles_in_turn}
 use Rattle.pud_defs.specs.World.{Transaction, StoredWorld, World}
 use Rattle.pud_defs.proofs.Replay.{outside_log}
 use Rattle.pud_defs.proofs.TablesOf.{frames_of_tables}
-use Rattle.batch.specs.Worlds.{IsSettled}
+use Rattle.batch.specs.Worlds.{IsQuiescent}
 use Rattle.graph_laws.proofs.Grown.{slice_get-front, slice_get-push}
 use Rattle.word_transaction.specs.Scope.{IsScope}
 use Rattle.word_transaction.proofs.Growing.{IsWider, IsRunning-values, IsRunning-wider}
@@ -349,7 +349,7 @@ module _ (w : World) (all : List (Option ActiveTransaction)) (mask : Write) (s :
         HasSessions-later all number active active there same_pool w next (subst (λ (t : List ℕ → Option Transaction). WereOpen w.transactions t) (sym grows.transactions) (WereOpen-same w.transactions)) sessions
 
   -- What was so with the words masked is so with those of that puddle masked too.
-  pub settled_more : (size : ℕ) (next : StoredWorld) → IsSettled size next (masked mask s.now.words) → IsSettled size next (masked wide s.now.words)
+  pub settled_more : (size : ℕ) (next : StoredWorld) → IsQuiescent size next (masked mask s.now.words) → IsQuiescent size next (masked wide s.now.words)
   settled_more = settled_anew w all mask s s holds active number there still anew
 
   pub rest_more : HasDurableFrames n (masked wide s.now.words)

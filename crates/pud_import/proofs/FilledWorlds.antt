@@ -23,7 +23,7 @@ use Rattle.pud_defs.proofs.IdleWorlds.{idle_registry_standing, idle_world_of-bes
 use Rattle.pud_defs.proofs.Parts.{Header, Types, Pools, Spaces, Part, IsReadBy, Holds, Holds-same, part_place, StandsFor}
 use Rattle.pud_defs.proofs.Replay.{settled_by-beside}
 use Rattle.pud_defs.proofs.TablesOf.{tables_of-same}
-use Rattle.batch.specs.Worlds.{IsSettled}
+use Rattle.batch.specs.Worlds.{IsQuiescent}
 use Rattle.batch.specs.Tables.{HasDurableTables}
 use Rattle.batch.proofs.Tables.{HasDurableTables-kept}
 use Rattle.registry.specs.declared.adding.Added.{Added}
@@ -97,7 +97,7 @@ module _ (size : ℕ) (s : StoredWorld) (puddles : List Added) where
 
   -- ---- moments
 
-  module _ (fault : Option HostFault) (a b : State) (settled : IsSettled size s a.now.words) (tables : HasDurableTables F a.now.words) (are : AreFree F (tables_of F (reads a.now.words)) puddles)
+  module _ (fault : Option HostFault) (a b : State) (settled : IsQuiescent size s a.now.words) (tables : HasDurableTables F a.now.words) (are : AreFree F (tables_of F (reads a.now.words)) puddles)
       (c : Changes (ByFrames F puddles) fault a b) where
     tables_then : (before : Image) → Picks a.now.words before → tables_of F (beside_log DAEMON_LOG before) ≡ tables_of F (reads a.now.words)
     tables_then before picked =
@@ -113,7 +113,7 @@ module _ (size : ℕ) (s : StoredWorld) (puddles : List Added) where
     pub not_before : (k v : ℕ) → k < frames_at F → ByFrames F puddles k v → ⊥
     not_before k v below of = let low = (frame_word_in (tables_of F (reads a.now.words)) are k of).low in absurd (omega arith)
 
-    pub IsSettled-frames : IsSettled size s b.now.words
+    pub IsSettled-frames : IsQuiescent size s b.now.words
     IsSettled-frames = record {
       stands = λ image picked. (Leaves-now (Silently stands) [] a b (Changes-said (ByFrames F puddles) fault a b c ∙ sym (append-nil a.now.said)) Leaves-frames image picked).1;
       idle = λ v had. ⊎_elim (λ was. settled.idle v was) (λ may. absurd (not_before DAEMON_LOG v (omega arith) may)) (Changes-now (ByFrames F puddles) fault a b c DAEMON_LOG v had);
@@ -135,7 +135,7 @@ module _ (size : ℕ) (s : StoredWorld) (puddles : List Added) where
     }
 
   -- they were, and then pools were changed
-  pub ChangesPools-filled : (next : StoredWorld) (also : Image → Type 0) (fault : Option HostFault) (a b d : State) → IsSettled size s a.now.words → HasDurableTables F a.now.words → AreFree F (tables_of F (reads a.now.words)) puddles
+  pub ChangesPools-filled : (next : StoredWorld) (also : Image → Type 0) (fault : Option HostFault) (a b d : State) → IsQuiescent size s a.now.words → HasDurableTables F a.now.words → AreFree F (tables_of F (reads a.now.words)) puddles
       → Changes (ByFrames F puddles) None a b → ChangesPools size s next also fault b d → ChangesPools size s next also fault a d
   ChangesPools-filled next also fault a b d settled tables are c q = record {
     changes = Changes-then (ByPools F) fault a b d (Changes-wider (ByFrames F puddles) (ByPools F) None a b (λ k v of. inr (inr (inl (frame_word_in (tables_of F (reads a.now.words)) are k of)))) c) q.changes;

@@ -36,7 +36,7 @@ use Rattle.pud_defs.proofs.Replay.{settled_by-idle, outside_log}
 use Rattle.pud_defs.proofs.TablesOf.{frames_of_tables, tables_of-same}
 use Rattle.pud_defs.proofs.TypeMore.{graph_of-wider}
 use Rattle.pud_defs.proofs.TypeTable.{type_at-same}
-use Rattle.batch.specs.Worlds.{IsSettled}
+use Rattle.batch.specs.Worlds.{IsQuiescent}
 use Rattle.batch.proofs.Tables.{reads_kept}
 use Rattle.graph_laws.specs.Placed.{AreFrontiers}
 use Rattle.registry.specs.declared.adding.Added.{Added}
@@ -196,7 +196,7 @@ module _ (size : ℕ) (s : StoredWorld) (name : List ℕ) (uid gid mode : ℕ) (
       kept : (k : ℕ) → k < frames_at F → reads b.now.words k ≡ reads a.now.words k
       kept k below = reads_kept (ByFrames F p.puddles) a b k there (λ v. not_before size s p.puddles None a b m.settled m.tables are there k v below)
 
-      settled_then : IsSettled size s b.now.words
+      settled_then : IsQuiescent size s b.now.words
       settled_then = IsSettled-frames size s p.puddles None a b m.settled m.tables are there
 
       still_placed : IsPlacedFor F (reads b.now.words) file.types wanted p.slot rec p.types p.puddles

@@ -17,7 +17,7 @@ use Rattle.pud_defs.specs.Tables.{Tables, tables_of, pool_in}
 use Rattle.pud_defs.specs.Types.{type_at, types_of, used_types}
 use Rattle.pud_defs.specs.World.{StoredWorld}
 use Rattle.batch.specs.Batches.{ByBatch}
-use Rattle.batch.specs.Worlds.{IsSettled}
+use Rattle.batch.specs.Worlds.{IsQuiescent}
 use Rattle.batch.specs.Tables.{HasDurableTables}
 use Rattle.registry.specs.declared.adding.Added.{Added}
 use Rattle.registry.specs.declared.placing.NewType.{NewType}
@@ -106,7 +106,7 @@ pub record MayImport (size : ℕ) (s : StoredWorld) (F : ℕ) (name : List ℕ) 
   pub keeps : KeepsTables F mask (reads words)
   pub types : KeepsTypes mask words
   pub off : IsOffPlacing mask F (reads words) stored file.types name uid gid mode
-  pub settled : IsSettled size s (masked mask words)
+  pub settled : IsQuiescent size s (masked mask words)
   pub tables : HasDurableTables F (masked mask words)
   pub legal : IsLegalPool name uid gid mode
   pub absent : pool_in (tables_of F (reads words)) name ≡ None

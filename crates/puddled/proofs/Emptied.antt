@@ -34,7 +34,7 @@ use Rattle.pud_defs.proofs.Worlds.{settled-below, holding_of_world, frames_of_wo
 use Rattle.pud_defs.proofs.IdleWorlds.{legal_log_idle}
 use Rattle.pud_defs.proofs.Idle.{given_by_log-unowned, idle_world_of-unowned}
 use Rattle.batch.specs.Batches.{HasIdleGate, batch_write, ByBatch, committed, IsBatched}
-use Rattle.batch.specs.Worlds.{IsSettled}
+use Rattle.batch.specs.Worlds.{IsQuiescent}
 use Rattle.log_space.specs.Clearing.{clearing, Empties}
 use Rattle.log_space.proofs.Cleared.{clearing-there, clearing-outside, clearing-allowed}
 use Rattle.recover.specs.Recovery.{ByRecovery, StandsStill, ReplaysLogs, RecoversDevice}
@@ -252,7 +252,7 @@ module _ (size : ℕ) (s : StoredWorld) (i : Image) (world : world_of size i ≡
     reads_d k outside beside spaces = kept_d k outside (clearing-outside CLIENTS k (omega arith) spaces) ∙ behind.reads_so k outside beside
 
     -- each image stands for the world, with nothing under way
-    pub settled_d : IsSettled size s d.now.words
+    pub settled_d : IsQuiescent size s d.now.words
     settled_d = record {
       stands = λ image picked.
           let said = Changes-said (ByBatch DAEMON_LOG emptied) None c d empties.commits.changes ∙ sym (append-nil c.now.said) in

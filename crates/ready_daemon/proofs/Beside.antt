@@ -36,9 +36,9 @@ use Rattle.hybrid_tx.proofs.Objects.Opening.{stored_in-has_word}
 use Rattle.hybrid_tx.proofs.Objects.DeferredKept.{KeepsObjects-same, place_in_pool-stored, AreLaters-wider, keeps_front}
 use Rattle.batch.specs.Tables.{HasDurableTables}
 use Rattle.nesting.specs.declared.Session.{Session}
-use Rattle.word_transaction.specs.Running.{SettlesTo, ByTransaction}
+use Rattle.word_transaction.specs.Running.{RecoversTo, ByTransaction}
 use Rattle.word_transaction.proofs.Calls.{IsRunning-kept}
-use Rattle.word_transaction.proofs.Images.{SettlesTo-local, IsRunning-settles}
+use Rattle.word_transaction.proofs.Images.{RecoversTo-local, IsRunning-settles}
 use Rattle.pm_model.proofs.Words.{HasOnly-newest}
 use Rattle.ready_daemon.specs.Memory.{ActiveTransaction, Memory, active_under}
 use Rattle.ready_daemon.specs.ActiveTransactions.{open_pool_of, open_transaction_of, IsActive, IsActiveUnder, AreActive, HasSessions, HasDurableFrames, ByOthers, NamesNone, StaysSingle, KeepsActive}
@@ -144,8 +144,8 @@ module _ (w : World) (active : ActiveTransaction) (mask : Write) (words : Words)
       left_apart = record {
         unnamed = λ k v e. names.each k v (is.masked k v e);
         records = λ k of. same k (λ v wrote. apart.records k v wrote of) ∙ was_record k of;
-        settles = subst (λ (n : ℕ). SettlesTo (pool_scope F (finished_of is.puddles)) n is.before image) is.gate
-            (SettlesTo-local (pool_scope F (finished_of is.puddles)) active.tx.log.gate_at is.before o.before image
+        settles = subst (λ (n : ℕ). RecoversTo (pool_scope F (finished_of is.puddles)) n is.before image) is.gate
+            (RecoversTo-local (pool_scope F (finished_of is.puddles)) active.tx.log.gate_at is.before o.before image
             (λ k inside. same k (λ v wrote. apart.log k v wrote inside)) (λ k mine. same k (λ v wrote. apart.has_word k v wrote mine))
             (IsRunning-settles (pool_scope F (finished_of is.puddles)) active.tx.log is.running.saving.es is.before o.before words is.running.saving.running o.picked));
       }

@@ -47,7 +47,7 @@ use Rattle.type_maps.specs.declared.TypeFault.{TypeFault}
 use Rattle.type_maps.specs.declared.TypeFault.TheVariants as faults
 use Rattle.type_maps.specs.Define.{fault_in, refusal_in, table_refusal, place_for, record_write, half_defined, defined, IsDefining, IsDefined, Defines}
 use Rattle.batch.specs.Tables.{HasDurableTables}
-use Rattle.batch.specs.Worlds.{IsSettled}
+use Rattle.batch.specs.Worlds.{IsQuiescent}
 use Rattle.batch.proofs.Tables.{reads_kept, HasDurableTables-persisted}
 use Rattle.ready_daemon.proofs.RestBeside.{rest_beside}
 use Rattle.ready_daemon.specs.Memory.{ActiveTransaction, Memory}
@@ -189,7 +189,7 @@ module _ (mask : Write) (r id map : ℕ) (id_beside : mask (type_record_at r) �
 
 -- ---- a new type is defined in the lowest free record
 
-module _ (size : ℕ) (w : World) (id map r : ℕ) (old : State) (settled : IsSettled size (closed w) old.now.words) (durable : HasDurableTables w.stored.frames old.now.words)
+module _ (size : ℕ) (w : World) (id map r : ℕ) (old : State) (settled : IsQuiescent size (closed w) old.now.words) (durable : HasDurableTables w.stored.frames old.now.words)
     (stands : StandsFor size (reads old.now.words) (closed w)) (legal_id : is_legal_type_id id ≡ true) (legal_map : is_legal_map map ≡ true) (is_new : IsNew size w (reads old.now.words) id map stands r) where
   within : r < TYPE_RECORDS
   within = let high = is_new.lowest.high in omega arith
@@ -216,7 +216,7 @@ module _ (size : ℕ) (w : World) (id map r : ℕ) (old : State) (settled : IsSe
     | inr may ↦ absurd (not_outside r id map DAEMON_LOG v within (inl (omega arith)) may)
   ]
 
-  settled_now : (new : State) → Defines r id map None old new → IsSettled size (closed (after w (Define id map))) new.now.words
+  settled_now : (new : State) → Defines r id map None old new → IsQuiescent size (closed (after w (Define id map))) new.now.words
   settled_now new d = record {
     stands = λ image picked. let h = d.done refl image picked in ap (idle_world_of size) h.is ∙ gives h.before h.picked ∙ ap Some (sym (closed_after w id map));
     idle = still_closed new d;

@@ -41,7 +41,7 @@ use Rattle.pud_defs.proofs.PoolRefusals.{making_refusal, refusal_of-pool, refusa
 use Rattle.pud_defs.proofs.Spaces.{all_below-each}
 use Rattle.pud_defs.proofs.Steps.{answer_is_ok, refused_answer, refused_world, done_world}
 use Rattle.pud_defs.proofs.TablesOf.{pools_beyond, frames_of_tables}
-use Rattle.batch.specs.Worlds.{IsSettled}
+use Rattle.batch.specs.Worlds.{IsQuiescent}
 use Rattle.batch.specs.Tables.{HasDurableTables}
 use Rattle.batch.specs.Batches.{HasIdleGate, ByBatch, Commits}
 use Rattle.log_space.specs.Owners.{owner_read}
@@ -349,7 +349,7 @@ module _ (size : ℕ) (w : World) (memory : Memory) (client uid gid mode F : ℕ
   abbrev Makes : ℕ → (Image → Type 0) → Type 0
   Makes n also =
       KeepsTables n ready.mask (reads old.now.words) → IsOffMaking ready.mask (tables_of n (reads old.now.words)) (reads old.now.words NEXT_NUMBER_WORD) name uid gid mode
-      → IsSettled size w.stored (masked ready.mask old.now.words) → HasDurableTables n (masked ready.mask old.now.words) → refused_on n ≡ None
+      → IsQuiescent size w.stored (masked ready.mask old.now.words) → HasDurableTables n (masked ready.mask old.now.words) → refused_on n ≡ None
       → ChangesPools size w.stored world_made also (make_fault done) (masked_state ready.mask old) (masked_state ready.mask new)
 
   abbrev Does : ℕ → Type 0
@@ -534,7 +534,7 @@ module _ (size : ℕ) (w : World) (memory : Memory) (client slot : ℕ) (name : 
 
   pub Applies-mode : (mode : ℕ) → (fault ≡ Some Cut → IsRested new.now.words)
       → (HasIdleGate DAEMON_LOG old.now.words → Commits DAEMON_LOG (puts_batch (changing slot mode)) fault old new)
-      → (IsOff m (ByBatch DAEMON_LOG (puts_batch (changing slot mode))) → IsSettled size w.stored (masked m old.now.words) → (r : PoolRec) → IsPoolAt N slot r (masked m old.now.words)
+      → (IsOff m (ByBatch DAEMON_LOG (puts_batch (changing slot mode))) → IsQuiescent size w.stored (masked m old.now.words) → (r : PoolRec) → IsPoolAt N slot r (masked m old.now.words)
       → ChangesPools size w.stored (with_pool_mode r.name mode w.stored) (λ _. ⊤) fault (masked_state m old) (masked_state m new))
       → Applies size w (world_by w (Some (Chmod client name mode))) memory fault old new
   unfolding after
@@ -560,7 +560,7 @@ module _ (size : ℕ) (w : World) (memory : Memory) (client slot : ℕ) (name : 
   abbrev Drops : ℕ → Type 0
   Drops n =
       KeepsTables n m (reads old.now.words) → IsOff m (ByBatch DAEMON_LOG (puts_batch (dropping (tables_of n (reads old.now.words)) slot)))
-      → IsSettled size w.stored (masked m old.now.words) → (r : PoolRec) → IsPoolAt N slot r (masked m old.now.words)
+      → IsQuiescent size w.stored (masked m old.now.words) → (r : PoolRec) → IsPoolAt N slot r (masked m old.now.words)
       → ChangesPools size w.stored (without_pool r.name w.stored) (λ _. ⊤) fault (masked_state m old) (masked_state m new)
 
   few : count_used (members (tables_of N (reads old.now.words)) slot) 0 N ≤ MAX_PUDDLES

@@ -18,7 +18,7 @@ use Rattle.pud_defs.specs.World.{World, world_of, idle_world_of, closed}
 use Rattle.pud_defs.specs.declared.machine.Command.{Command}
 use Rattle.pud_defs.specs.declared.machine.Command.TheVariants.{Leave}
 use Rattle.batch.specs.Tables.{HasDurableTables}
-use Rattle.batch.specs.Worlds.{IsSettled}
+use Rattle.batch.specs.Worlds.{IsQuiescent}
 use Rattle.ready_daemon.specs.Memory.{Memory}
 use Rattle.ready_daemon.specs.ActiveTransactions.{AreActive, HasSessions, HasDurableFrames, HasIdleLogs, LeavesMasked}
 use Rattle.ready_daemon.specs.KnownPools.{KnowsPools}
@@ -42,7 +42,7 @@ pub record KeepsInput (old new : State) : Type 0 where
 -- session. What it knows of pools that it judged is what a scan gives, and it knows each on which a transaction is open.
 pub record IsReady (size : ℕ) (w : World) (memory : Memory) (s : State) : Type 0 where
   pub mask : Write
-  pub settled : IsSettled size (closed w) (masked mask s.now.words)
+  pub settled : IsQuiescent size (closed w) (masked mask s.now.words)
   pub tables : HasDurableTables w.stored.frames s.now.words
   pub clients : (client : ℕ) → client < CLIENTS → owner_of (reads s.now.words) client ≡ w.clients client
   pub frames : memory.frames ≡ w.stored.frames
@@ -66,7 +66,7 @@ StandsBetween size w next image = ((world_of size image ≡ Some (closed w)) ⊎
 pub record AppliesMasked (size : ℕ) (w next : World) (mask : Write) (fault : Option HostFault) (old new : State) : Type 0 where
   pub beside : LeavesMasked mask fault old new
   pub moments : Leaves (Silently (λ image. (idle_world_of size image ≡ Some (closed w)) ⊎ (idle_world_of size image ≡ Some (closed next)))) (masked_state mask old) (masked_state mask new)
-  pub settled : fault ≡ None → IsSettled size (closed next) (masked mask new.now.words)
+  pub settled : fault ≡ None → IsQuiescent size (closed next) (masked mask new.now.words)
   pub tables : fault ≡ None → HasDurableTables next.stored.frames new.now.words
   pub clients : fault ≡ None → (client : ℕ) → client < CLIENTS → owner_of (reads new.now.words) client ≡ next.clients client
   pub logs : fault ≡ None → HasIdleLogs next.stored.frames next.clients (masked mask new.now.words)

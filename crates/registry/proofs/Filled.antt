@@ -22,7 +22,7 @@ use Rattle.pud_defs.specs.Tables.{Tables, tables_of}
 use Rattle.pud_defs.proofs.Parts.{standing_filled}
 use Rattle.pud_defs.proofs.IdleWorlds.{idle_registry_standing, idle_world_of-beside, standing_idle}
 use Rattle.batch.specs.Batches.{HasIdleGate, IsBatched}
-use Rattle.batch.specs.Worlds.{IsSettled}
+use Rattle.batch.specs.Worlds.{IsQuiescent}
 use Rattle.batch.specs.Tables.{HasDurableTables}
 use Rattle.batch.proofs.Tables.{HasDurableTables-kept}
 use Rattle.registry.specs.Puts.{puts_batch, AreOfPools, IsPoolsWord, ByPools}
@@ -94,7 +94,7 @@ module _ (F frame : ℕ) (words : List ℕ) (whole : length words ≡ FRAME_WORD
     stands image = idle_world_of size image ≡ Some s
 
     -- its record is free in each image
-    still_free : (held : Words) → IsSettled size s held → IsFreeFrame F frame held → (before : Image) → Picks held before → (tables_of s.frames (beside_log DAEMON_LOG before)).puddles frame ≡ None
+    still_free : (held : Words) → IsQuiescent size s held → IsFreeFrame F frame held → (before : Image) → Picks held before → (tables_of s.frames (beside_log DAEMON_LOG before)).puddles frame ≡ None
     still_free held settled is before picked =
         let here = subst (λ (n : ℕ). IsFreeFrame n frame held) same is in
         let idle = settled.idle (before DAEMON_LOG) (picked.each DAEMON_LOG) in
@@ -102,15 +102,15 @@ module _ (F frame : ℕ) (words : List ℕ) (whole : length words ≡ FRAME_WORD
         ∙ ap (λ (t : Tables). t.puddles frame) (settled_tables size s held before settled here.tables picked)
         ∙ here.free
 
-    still : (held : Words) → IsSettled size s held → IsFreeFrame F frame held → (before image : Image) → Picks held before → IsFrom (written write) before image → stands image
+    still : (held : Words) → IsQuiescent size s held → IsFreeFrame F frame held → (before image : Image) → Picks held before → IsFrom (written write) before image → stands image
     still held settled is before image picked from =
         world_beside_frame size s frame before image (settled.idle (before DAEMON_LOG) (picked.each DAEMON_LOG)) (settled.stands before picked) (still_free held settled is before picked)
         (λ k outside. filled_from before image from k (λ of. let low = of.low in let high = of.high in outside (record { low = omega (arith, same); high = omega (arith, same) })))
 
-    pub Leaves-filled : (fault : Option HostFault) (a b : State) → IsSettled size s a.now.words → IsFreeFrame F frame a.now.words → Changes (written write) fault a b → Leaves (Silently stands) a b
+    pub Leaves-filled : (fault : Option HostFault) (a b : State) → IsQuiescent size s a.now.words → IsFreeFrame F frame a.now.words → Changes (written write) fault a b → Leaves (Silently stands) a b
     Leaves-filled fault a b settled is c = Leaves-changes stands (written write) fault a b (still a.now.words settled is) c
 
-    pub IsSettled-filled : (fault : Option HostFault) (a b : State) → IsSettled size s a.now.words → IsFreeFrame F frame a.now.words → Changes (written write) fault a b → IsSettled size s b.now.words
+    pub IsSettled-filled : (fault : Option HostFault) (a b : State) → IsQuiescent size s a.now.words → IsFreeFrame F frame a.now.words → Changes (written write) fault a b → IsQuiescent size s b.now.words
     IsSettled-filled fault a b settled is c = record {
       stands = λ image picked. (Leaves-now (Silently stands) [] a b (Changes-said (written write) fault a b c ∙ sym (append-nil a.now.said)) (Leaves-filled fault a b settled is c) image picked).1;
       idle = (HasIdleGate-filled fault a b c (record { each = settled.idle })).each;
@@ -135,14 +135,14 @@ module _ (F frame : ℕ) (words : List ℕ) (whole : length words ≡ FRAME_WORD
         not_pools k behind (inr (inr word)) = let high = word.high in absurd (omega arith)
 
     -- it is so in each image before the batch, with the daemon log replayed
-    pub filled_before : (b : State) (image : Image) → IsSettled size s b.now.words → ((k v : ℕ) → write k ≡ Some v → HasOnly (b.now.words k) v) → Picks b.now.words image
+    pub filled_before : (b : State) (image : Image) → IsQuiescent size s b.now.words → ((k v : ℕ) → write k ≡ Some v → HasOnly (b.now.words k) v) → Picks b.now.words image
         → (k : ℕ) → k < FRAME_WORDS → frame_word F frame k (settled_by DAEMON_LOG image) ≡ slice_index words k
     filled_before b image settled durable picked k below =
         let at = frame_at F frame + k in
         settled_frames size s b.now.words image at settled picked (omega (arith, same)) ∙ (filled_word b durable k below).each (image at) (picked.each at)
 
     -- the frame could not be filled
-    pub ChangesPools-unfilled : (next : StoredWorld) (also : Image → Type 0) (fault : HostFault) (a b : State) → IsSettled size s a.now.words → IsFreeFrame F frame a.now.words → Changes (written write) (Some fault) a b
+    pub ChangesPools-unfilled : (next : StoredWorld) (also : Image → Type 0) (fault : HostFault) (a b : State) → IsQuiescent size s a.now.words → IsFreeFrame F frame a.now.words → Changes (written write) (Some fault) a b
         → ChangesPools size s next also (Some fault) a b
     ChangesPools-unfilled next also fault a b settled is c = record {
       changes = subst (λ (n : ℕ). Changes (ByPools n) (Some fault) a b) same (Changes-wider (written write) (ByPools F) (Some fault) a b ByPools-filled c);
@@ -152,7 +152,7 @@ module _ (F frame : ℕ) (words : List ℕ) (whole : length words ≡ FRAME_WORD
     }
 
     -- it was, and then pools were changed
-    pub ChangesPools-filled : (next : StoredWorld) (also : Image → Type 0) (fault : Option HostFault) (a b c : State) → IsSettled size s a.now.words → IsFreeFrame F frame a.now.words → Changes (written write) None a b
+    pub ChangesPools-filled : (next : StoredWorld) (also : Image → Type 0) (fault : Option HostFault) (a b c : State) → IsQuiescent size s a.now.words → IsFreeFrame F frame a.now.words → Changes (written write) None a b
         → ChangesPools size s next also fault b c → ChangesPools size s next also fault a c
     ChangesPools-filled next also fault a b c settled is p q = record {
       changes = Changes-then (ByPools s.frames) fault a b c (subst (λ (n : ℕ). Changes (ByPools n) None a b) same (Changes-wider (written write) (ByPools F) None a b ByPools-filled p)) q.changes;

@@ -29,7 +29,7 @@ use Rattle.pud_defs.specs.World.{StoredWorld}
 use Rattle.pud_defs.proofs.TablesOf.{tables_of-same, frames_of_tables}
 use Rattle.pud_defs.proofs.PoolsCounted.{few_members, length_puddles}
 use Rattle.batch.specs.Batches.{HasIdleGate, IsFree, Commits}
-use Rattle.batch.specs.Worlds.{IsSettled, MovesBy, Moves, IsBetween}
+use Rattle.batch.specs.Worlds.{IsQuiescent, MovesBy, Moves, IsBetween}
 use Rattle.batch.specs.Tables.{HasDurableTables}
 use Rattle.batch.proofs.Tables.{reads_kept}
 use Rattle.registry.specs.declared.adding.Added.{Added}
@@ -47,7 +47,7 @@ use Rattle.registry.proofs.Filled.{length-fresh_frame, not_filled, IsSettled-fil
 
 -- the batch of changes that makes these pools
 changes_by : (size : ℕ) (s next : StoredWorld) (number : ℕ) (ps : List (List ℕ × Pool)) (puts : List Put) (has also : Image → Type 0) (fault : Option HostFault) (a b : State) → pools_next s number ps ≡ next
-    → IsSettled size s a.now.words → HasDurableTables s.frames a.now.words → MakesPools s number ps puts has (tables_of s.frames (reads a.now.words))
+    → IsQuiescent size s a.now.words → HasDurableTables s.frames a.now.words → MakesPools s number ps puts has (tables_of s.frames (reads a.now.words))
     → ((image : Image) → Picks a.now.words image → has (settled_by DAEMON_LOG image))
     → ((image : Image) → IsBetween size s next (puts_batch puts) a.now.words image → also image)
     → (MovesBy size s next (puts_batch puts) a.now.words → Moves size s next (puts_batch puts) fault a b)
@@ -57,7 +57,7 @@ changes_by size s next number ps puts has also fault a b is settled tables makes
     (moves (subst (λ (n : StoredWorld). MovesBy size s n (puts_batch puts) a.now.words) is (MovesBy-puts size s number ps puts a.now.words settled tables has makes before)))
 
 -- a pool's mode is changed
-pub ChangesPools-mode : (size : ℕ) (s : StoredWorld) (slot mode : ℕ) (r : PoolRec) (es : List Entry) (fault : Option HostFault) (a b : State) → slot < POOL_RECORDS → IsSettled size s a.now.words
+pub ChangesPools-mode : (size : ℕ) (s : StoredWorld) (slot mode : ℕ) (r : PoolRec) (es : List Entry) (fault : Option HostFault) (a b : State) → slot < POOL_RECORDS → IsQuiescent size s a.now.words
     → IsPoolAt s.frames slot r a.now.words → is_legal_mode mode ≡ true → es ≡ puts_batch (changing slot mode)
     → (MovesBy size s (with_pool_mode r.name mode s) es a.now.words → Moves size s (with_pool_mode r.name mode s) es fault a b)
     → ChangesPools size s (with_pool_mode r.name mode s) (λ _. ⊤) fault a b
@@ -68,7 +68,7 @@ ChangesPools-mode size s slot mode r es fault a b within settled at legal is mov
     (subst (λ (es : List Entry). MovesBy size s (with_pool_mode r.name mode s) es a.now.words → Moves size s (with_pool_mode r.name mode s) es fault a b) is moves)
 
 -- a pool that is there has few puddles
-pub few_puddles : (size : ℕ) (s : StoredWorld) (slot : ℕ) (r : PoolRec) (a : State) → slot < POOL_RECORDS → IsSettled size s a.now.words → IsPoolAt s.frames slot r a.now.words
+pub few_puddles : (size : ℕ) (s : StoredWorld) (slot : ℕ) (r : PoolRec) (a : State) → slot < POOL_RECORDS → IsQuiescent size s a.now.words → IsPoolAt s.frames slot r a.now.words
     → count_used (members (tables_of s.frames (reads a.now.words)) slot) 0 s.frames ≤ MAX_PUDDLES
 few_puddles size s slot r a within settled at =
     let world = reads_world size s a.now.words settled at.tables in
@@ -78,7 +78,7 @@ few_puddles size s slot r a within settled at =
     subst (λ (n : ℕ). count_used (members t slot) 0 n ≤ MAX_PUDDLES) (frames_of_tables s.frames (reads a.now.words)) (let most = few.few in omega (arith, count))
 
 -- a pool is dropped
-pub ChangesPools-drop : (size : ℕ) (s : StoredWorld) (slot : ℕ) (r : PoolRec) (es : List Entry) (fault : Option HostFault) (a b : State) → slot < POOL_RECORDS → IsSettled size s a.now.words
+pub ChangesPools-drop : (size : ℕ) (s : StoredWorld) (slot : ℕ) (r : PoolRec) (es : List Entry) (fault : Option HostFault) (a b : State) → slot < POOL_RECORDS → IsQuiescent size s a.now.words
     → IsPoolAt s.frames slot r a.now.words → es ≡ puts_batch (dropping (tables_of s.frames (reads a.now.words)) slot)
     → (MovesBy size s (without_pool r.name s) es a.now.words → Moves size s (without_pool r.name s) es fault a b)
     → ChangesPools size s (without_pool r.name s) (λ _. ⊤) fault a b
@@ -90,17 +90,17 @@ ChangesPools-drop size s slot r es fault a b within settled at is moves =
 
 -- behind the search for its puddles
 pub ChangesPools-dropped : (size : ℕ) (s : StoredWorld) (F slot : ℕ) (r : PoolRec) (es : List Entry) (fault : Option HostFault) (a b c : State) → b ≡ a → F ≡ s.frames → slot < POOL_RECORDS
-    → IsSettled size s a.now.words → IsPoolAt s.frames slot r a.now.words
+    → IsQuiescent size s a.now.words → IsPoolAt s.frames slot r a.now.words
     → (count_used (members (tables_of F (reads a.now.words)) slot) 0 F ≤ MAX_PUDDLES → es ≡ puts_batch (dropping (tables_of F (reads a.now.words)) slot))
-    → (IsSettled size s b.now.words → MovesBy size s (without_pool r.name s) es b.now.words → Moves size s (without_pool r.name s) es fault b c)
+    → (IsQuiescent size s b.now.words → MovesBy size s (without_pool r.name s) es b.now.words → Moves size s (without_pool r.name s) es fault b c)
     → ChangesPools size s (without_pool r.name s) (λ _. ⊤) fault a c
 ChangesPools-dropped size s F slot r es fault a b c same frames within settled at gathered moves =
-    let here = subst (λ (b : State). IsSettled size s b.now.words → MovesBy size s (without_pool r.name s) es b.now.words → Moves size s (without_pool r.name s) es fault b c) same moves in
+    let here = subst (λ (b : State). IsQuiescent size s b.now.words → MovesBy size s (without_pool r.name s) es b.now.words → Moves size s (without_pool r.name s) es fault b c) same moves in
     let batch = subst (λ (n : ℕ). count_used (members (tables_of n (reads a.now.words)) slot) 0 n ≤ MAX_PUDDLES → es ≡ puts_batch (dropping (tables_of n (reads a.now.words)) slot)) frames gathered in
     ChangesPools-drop size s slot r es fault a c within settled at (batch (few_puddles size s slot r a within settled at)) (here settled)
 
 -- the batch that frees the records was gathered whole, with words masked that leave the tables as they are
-pub whole_batch : (size : ℕ) (s : StoredWorld) (F slot : ℕ) (r : PoolRec) (mask : Write) (a : State) (es : List Entry) → F ≡ s.frames → slot < POOL_RECORDS → IsSettled size s (masked mask a.now.words)
+pub whole_batch : (size : ℕ) (s : StoredWorld) (F slot : ℕ) (r : PoolRec) (mask : Write) (a : State) (es : List Entry) → F ≡ s.frames → slot < POOL_RECORDS → IsQuiescent size s (masked mask a.now.words)
     → IsPoolAt s.frames slot r (masked mask a.now.words) → tables_of F (reads (masked mask a.now.words)) ≡ tables_of F (reads a.now.words)
     → (count_used (members (tables_of F (reads a.now.words)) slot) 0 F ≤ MAX_PUDDLES → es ≡ puts_batch (dropping (tables_of F (reads a.now.words)) slot))
     → es ≡ puts_batch (dropping (tables_of F (reads a.now.words)) slot)
@@ -127,7 +127,7 @@ module _ (size : ℕ) (s next : StoredWorld) (F : ℕ) (a : Added) (es : List En
   end = masked_state mask new
 
   abbrev MovesThen : Type 0
-  MovesThen = IsSettled size s filled.now.words → MovesBy size s next es filled.now.words → Moves size s next es fault filled end
+  MovesThen = IsQuiescent size s filled.now.words → MovesBy size s next es filled.now.words → Moves size s next es fault filled end
 
   added_here : a.frame < s.frames → Persists (filling s.frames a) None start filled → MovesThen → ChangesPools size s next (IsFilled s.frames a) fault start end
   added_here known fills moves =
@@ -187,7 +187,7 @@ module _ (size : ℕ) (s next : StoredWorld) (F : ℕ) (a : Added) (es : List En
 
 -- what holds of the tables and of the next number as they are read, with words masked that leave them so
 module _ (size : ℕ) (s : StoredWorld) (F : ℕ) (image : Image) (mask : Write) (words : Words) (read : reads words ≡ image) (same : F ≡ s.frames) (keeps : KeepsTables F mask image)
-    (settled : IsSettled size s (masked mask words)) (tables : HasDurableTables s.frames (masked mask words)) where
+    (settled : IsQuiescent size s (masked mask words)) (tables : HasDurableTables s.frames (masked mask words)) where
   read_masked : reads (masked mask words) ≡ masked_image mask image
   read_masked = reads-masked mask words ∙ ap (masked_image mask) read
 

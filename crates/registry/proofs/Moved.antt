@@ -25,7 +25,7 @@ use Rattle.pud_defs.proofs.Parts.{StandsFor, HasPools, standing_with_pools}
 use Rattle.pud_defs.proofs.Parts.Part.{Header, Pools}
 use Rattle.pud_defs.proofs.IdleWorlds.{standing_of_idle_world, idle_registry_standing}
 use Rattle.batch.specs.Batches.{ByBatch}
-use Rattle.batch.specs.Worlds.{IsSettled, with_batch, MovesBy, IsBetween, Moves}
+use Rattle.batch.specs.Worlds.{IsQuiescent, with_batch, MovesBy, IsBetween, Moves}
 use Rattle.batch.specs.Tables.{HasDurableTables}
 use Rattle.batch.proofs.Tables.{HasDurableTables-committed}
 use Rattle.registry.specs.Puts.{puts_batch, with_puts, AreOfTables, IsPoolsWord, ByPools}
@@ -36,17 +36,17 @@ use Rattle.registry.proofs.PutBatches.{of_tables, overwritten-puts, with_puts-st
 -- ---- tables that are durable
 
 -- a word of them is, in each image with the daemon log replayed, as it is read
-pub settled_word : (size : ℕ) (s : StoredWorld) (words : Words) (image : Image) (k : ℕ) → IsSettled size s words → HasDurableTables s.frames words → Picks words image
+pub settled_word : (size : ℕ) (s : StoredWorld) (words : Words) (image : Image) (k : ℕ) → IsQuiescent size s words → HasDurableTables s.frames words → Picks words image
     → (k < DAEMON_LOG) ⊎ (TYPE_TABLE ≤ k) → k < tables_end s.frames → settled_by DAEMON_LOG image k ≡ reads words k
 settled_word size s words image k settled tables picked outside below =
     settled_by-idle DAEMON_LOG image k (settled.idle (image DAEMON_LOG) (picked.each DAEMON_LOG)) (outside_log DAEMON_LOG k (⊎_elim (λ low. inl low) (λ high. inr (omega arith)) outside))
     ∙ (tables.each k outside below).each (image k) (picked.each k)
 
 -- a word of a frame is as it is
-pub settled_frames : (size : ℕ) (s : StoredWorld) (words : Words) (image : Image) (k : ℕ) → IsSettled size s words → Picks words image → frames_at s.frames ≤ k → settled_by DAEMON_LOG image k ≡ image k
+pub settled_frames : (size : ℕ) (s : StoredWorld) (words : Words) (image : Image) (k : ℕ) → IsQuiescent size s words → Picks words image → frames_at s.frames ≤ k → settled_by DAEMON_LOG image k ≡ image k
 settled_frames size s words image k settled picked above = settled_by-idle DAEMON_LOG image k (settled.idle (image DAEMON_LOG) (picked.each DAEMON_LOG)) (outside_log DAEMON_LOG k (inr (omega arith)))
 
-pub settled_tables : (size : ℕ) (s : StoredWorld) (words : Words) (image : Image) → IsSettled size s words → HasDurableTables s.frames words → Picks words image
+pub settled_tables : (size : ℕ) (s : StoredWorld) (words : Words) (image : Image) → IsQuiescent size s words → HasDurableTables s.frames words → Picks words image
     → tables_of s.frames (settled_by DAEMON_LOG image) ≡ tables_of s.frames (reads words)
 settled_tables size s words image settled tables picked =
     tables_of-same s.frames (settled_by DAEMON_LOG image) (reads words)
@@ -61,7 +61,7 @@ pub record ReadsWorld (s : StoredWorld) (image : Image) : Type 0 where
   pub pools : pools_in s.types s.frames image ≡ s.pools
   pub sound : HasSoundTables s.next_number (tables_of s.frames image)
 
-pub reads_world : (size : ℕ) (s : StoredWorld) (words : Words) → IsSettled size s words → HasDurableTables s.frames words → ReadsWorld s (reads words)
+pub reads_world : (size : ℕ) (s : StoredWorld) (words : Words) → IsQuiescent size s words → HasDurableTables s.frames words → ReadsWorld s (reads words)
 reads_world size s words settled tables =
     let image = reads words in
     let picked = Picks-reads words in
@@ -106,7 +106,7 @@ standing_with_puts size s number ps puts has t m i stands tables_before besides 
     (λ k below apart no_pool no_puddle. with_puts-stays s.frames puts i k m.of (not_of_pools s.frames k below apart no_pool no_puddle))
     (m.next i (stands.holds Header).next_number) m.low m.high pools
 
-module _ (size : ℕ) (s : StoredWorld) (number : ℕ) (ps : List (List ℕ × Pool)) (puts : List Put) (words : Words) (settled : IsSettled size s words) (tables : HasDurableTables s.frames words)
+module _ (size : ℕ) (s : StoredWorld) (number : ℕ) (ps : List (List ℕ × Pool)) (puts : List Put) (words : Words) (settled : IsQuiescent size s words) (tables : HasDurableTables s.frames words)
     (has : Image → Type 0) (m : MakesPools s number ps puts has (tables_of s.frames (reads words))) (besides : (image : Image) → Picks words image → has (settled_by DAEMON_LOG image)) where
   makes : (image : Image) → Picks words image → idle_registry size (with_batch (puts_batch puts) image) ≡ Some (pools_next s number ps)
   makes image picked =
@@ -121,7 +121,7 @@ module _ (size : ℕ) (s : StoredWorld) (number : ℕ) (ps : List (List ℕ × P
 -- ---- what a call owes
 
 -- nothing happened, since a read failed
-pub ChangesPools-still : (size : ℕ) (s next : StoredWorld) (also : Image → Type 0) (fault : Option HostFault) (old new : State) → IsSettled size s old.now.words → (fault ≡ Some Cut → ⊥) → (fault ≡ None → ⊥)
+pub ChangesPools-still : (size : ℕ) (s next : StoredWorld) (also : Image → Type 0) (fault : Option HostFault) (old new : State) → IsQuiescent size s old.now.words → (fault ≡ Some Cut → ⊥) → (fault ≡ None → ⊥)
     → new ≡ old → ChangesPools size s next also fault old new
 ChangesPools-still size s next also fault old new settled not_cut not_none same = record {
   changes = Changes-still (ByPools s.frames) fault old new not_cut same;

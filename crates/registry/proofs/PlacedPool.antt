@@ -51,7 +51,7 @@ use Rattle.pud_defs.proofs.TablesOf.{frames_of_tables}
 use Rattle.pud_defs.proofs.TypeTable.{type_at-same}
 use Rattle.pud_defs.proofs.TypesDefined.{types_missing-new, AreNewTypes, typed, typed-is}
 use Rattle.batch.specs.Batches.{HasIdleGate, IsFree, ByBatch, Commits}
-use Rattle.batch.specs.Worlds.{IsSettled, MovesBy, Moves}
+use Rattle.batch.specs.Worlds.{IsQuiescent, MovesBy, Moves}
 use Rattle.batch.specs.Tables.{HasDurableTables}
 use Rattle.registry.specs.declared.adding.Added.{Added}
 use Rattle.registry.specs.declared.placing.NewType.{NewType}
@@ -246,7 +246,7 @@ module _ (s : StoredWorld) (image : Image) (file : FileContents) (wanted : List 
 
 -- ---- the types that are read
 
-type_settled : (size : ℕ) (s : StoredWorld) (words : Words) (image : Image) → IsSettled size s words → HasDurableTables s.frames words → Picks words image
+type_settled : (size : ℕ) (s : StoredWorld) (words : Words) (image : Image) → IsQuiescent size s words → HasDurableTables s.frames words → Picks words image
     → (n : ℕ) → n < TYPE_RECORDS → type_at (settled_by DAEMON_LOG image) n ≡ type_at (reads words) n
 type_settled size s words image settled tables picked n below =
     type_at-same (reads words) (settled_by DAEMON_LOG image) n
@@ -254,7 +254,7 @@ type_settled size s words image settled tables picked n below =
     (settled_word size s words image (type_record_at n + 1) settled tables picked (inr (omega arith)) (omega arith))
 
 -- they are the world's
-pub types_read : (size : ℕ) (s : StoredWorld) (words : Words) → IsSettled size s words → HasDurableTables s.frames words → types_of (reads words) ≡ s.types
+pub types_read : (size : ℕ) (s : StoredWorld) (words : Words) → IsQuiescent size s words → HasDurableTables s.frames words → types_of (reads words) ≡ s.types
 types_read size s words settled tables =
     let picked = Picks-reads words in
     let stands = standing_of_idle_world size (reads words) s (settled.stands (reads words) picked) in
@@ -339,11 +339,11 @@ module _ (size : ℕ) (s : StoredWorld) (file : FileContents) (wanted : List ℕ
 -- what the call owes
 pub ChangesPools-placed : (size : ℕ) (s : StoredWorld) (F : ℕ) (file : FileContents) (wanted : List ℕ) (slot : ℕ) (r : PoolRec) (types : List NewType) (puddles : List Added) (mask : Write) (es : List Entry) (fault : Option HostFault) (a b : State)
     → MayPlace size s F file wanted slot r types puddles mask a.now.words → es ≡ puts_batch (placing slot r types puddles)
-    → ((next : StoredWorld) → IsOff mask (ByBatch DAEMON_LOG es) → IsSettled size s (masked mask a.now.words) → MovesBy size s next es (masked mask a.now.words) → Moves size s next es fault (masked_state mask a) (masked_state mask b))
+    → ((next : StoredWorld) → IsOff mask (ByBatch DAEMON_LOG es) → IsQuiescent size s (masked mask a.now.words) → MovesBy size s next es (masked mask a.now.words) → Moves size s next es fault (masked_state mask a) (masked_state mask b))
     → ChangesMasked mask size s (with_imported_pool r.name (owner r.uid r.gid) r.mode file s) (λ _. ⊤) fault a b
 ChangesPools-placed size s F file wanted slot r types puddles mask es fault a b may is moves =
     let here = subst (λ (n : ℕ). MayPlace size s n file wanted slot r types puddles mask a.now.words) may.frames may in
     let next = with_imported_pool r.name (owner r.uid r.gid) r.mode file s in
-    let then = subst (λ (es : List Entry). (n : StoredWorld) → IsOff mask (ByBatch DAEMON_LOG es) → IsSettled size s (masked mask a.now.words) → MovesBy size s n es (masked mask a.now.words) → Moves size s n es fault (masked_state mask a) (masked_state mask b)) is moves in
+    let then = subst (λ (es : List Entry). (n : StoredWorld) → IsOff mask (ByBatch DAEMON_LOG es) → IsQuiescent size s (masked mask a.now.words) → MovesBy size s n es (masked mask a.now.words) → Moves size s n es fault (masked_state mask a) (masked_state mask b)) is moves in
     ChangesPools-moves size s next (placing slot r types puddles) (λ _. ⊤) fault (masked_state mask a) (masked_state mask b) (are_of_tables size s file wanted slot r types puddles mask a.now.words here) here.tables (λ image between. tt)
     (then next here.off here.settled (MovesBy-placed size s file wanted slot r types puddles mask a.now.words here))

@@ -20,7 +20,7 @@ use Rattle.pud_defs.specs.SoundTables.{HasSoundTables}
 use Rattle.pud_defs.specs.Tables.{Tables, Pool, tables_of, pools_of}
 use Rattle.pud_defs.specs.World.{StoredWorld}
 use Rattle.batch.specs.Batches.{ByBatch, Commits}
-use Rattle.batch.specs.Worlds.{IsSettled}
+use Rattle.batch.specs.Worlds.{IsQuiescent}
 use Rattle.batch.specs.Tables.{HasDurableTables}
 use Rattle.registry.specs.declared.adding.Added.{Added}
 use Rattle.registry.specs.Puts.{puts_batch, with_puts, number_put, AreOfPools}
@@ -103,7 +103,7 @@ pub record AddsTo (size : ℕ) (s next : StoredWorld) (F : ℕ) (a : Added) (es 
   pub puts : List Put
   pub is : es ≡ puts_batch puts
   pub off : IsOffAdding mask F a puts
-  pub settled : IsSettled size s (masked mask words)
+  pub settled : IsQuiescent size s (masked mask words)
   pub tables : HasDurableTables s.frames (masked mask words)
   pub free : (tables_of s.frames (reads (masked mask words))).puddles a.frame ≡ None
   pub number : ℕ

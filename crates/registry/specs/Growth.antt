@@ -20,7 +20,7 @@ use Rattle.pud_defs.specs.Tables.{Tables, Pool, tables_of, members}
 use Rattle.pud_defs.specs.PoolChanges.{pool_named, changed_pool, with_grown_pool}
 use Rattle.pud_defs.specs.World.{StoredWorld}
 use Rattle.graph_laws.specs.Reads.{with_puddle}
-use Rattle.batch.specs.Worlds.{IsSettled}
+use Rattle.batch.specs.Worlds.{IsQuiescent}
 use Rattle.registry.specs.declared.adding.Added.{Added}
 use Rattle.registry.specs.Adding.{IsNewPuddle, IsOffAdding, adding}
 use Rattle.registry.specs.Pools.{IsPoolAt}
@@ -93,7 +93,7 @@ IsGrownBy name s d next =
 pub record GrowsAt (size : ℕ) (s next : StoredWorld) (F : ℕ) (a : Added) (mask : Write) (words : Words) : Type 0 where
   pub frames : F ≡ s.frames
   pub off : IsOffAdding mask F a (growing a)
-  pub settled : IsSettled size s (masked mask words)
+  pub settled : IsQuiescent size s (masked mask words)
   pub pool : PoolRec
   pub at : IsPoolAt s.frames a.puddle.pool pool (masked mask words)
   pub is : IsGrowthFor (tables_of s.frames (reads (masked mask words))) s.next_number a.puddle.pool (puddle_count (tables_of s.frames (reads (masked mask words))) a.puddle.pool) a

@@ -21,7 +21,7 @@ use Rattle.pud_defs.specs.Imports.{type_put, types_missing, numbers_drawn, with_
 use Rattle.pud_defs.specs.Tables.{tables_of, pool_in}
 use Rattle.pud_defs.specs.World.{StoredWorld}
 use Rattle.batch.specs.Batches.{ByBatch}
-use Rattle.batch.specs.Worlds.{IsSettled}
+use Rattle.batch.specs.Worlds.{IsQuiescent}
 use Rattle.batch.specs.Tables.{HasDurableTables}
 use Rattle.registry.specs.declared.adding.Added.{Added}
 use Rattle.registry.specs.declared.placing.NewType.{NewType}
@@ -74,7 +74,7 @@ pub record IsPlacedFor (F : ℕ) (image : Image) (file : List (ℕ × ℕ)) (wan
 pub record MayPlace (size : ℕ) (s : StoredWorld) (F : ℕ) (file : FileContents) (wanted : List ℕ) (slot : ℕ) (r : PoolRec) (types : List NewType) (puddles : List Added) (mask : Write) (words : Words) : Type 0 where
   pub frames : F ≡ s.frames
   pub off : IsOff mask (ByBatch DAEMON_LOG (puts_batch (placing slot r types puddles)))
-  pub settled : IsSettled size s (masked mask words)
+  pub settled : IsQuiescent size s (masked mask words)
   pub tables : HasDurableTables F (masked mask words)
   pub legal : IsLegalPool r.name r.uid r.gid r.mode
   pub legal_types : are_file_types file.types ≡ true

@@ -20,7 +20,7 @@ use Rattle.pud_defs.specs.PoolChanges.{with_new_pool}
 use Rattle.pud_defs.specs.Spaces.{owner}
 use Rattle.pud_defs.specs.World.{StoredWorld, idle_world_of}
 use Rattle.batch.specs.Batches.{Commits}
-use Rattle.batch.specs.Worlds.{IsSettled}
+use Rattle.batch.specs.Worlds.{IsQuiescent}
 use Rattle.batch.specs.Tables.{HasDurableTables}
 use Rattle.registry.specs.declared.adding.Added.{Added}
 use Rattle.registry.specs.Puts.{puts_batch, ByPools}
@@ -110,7 +110,7 @@ MayStand size s next also image = (idle_world_of size image ≡ Some s) ⊎ ((id
 pub record ChangesPools (size : ℕ) (s next : StoredWorld) (also : Image → Type 0) (fault : Option HostFault) (old new : State) : Type 0 where
   pub changes : Changes (ByPools s.frames) fault old new
   pub moments : Leaves (Silently (MayStand size s next also)) old new
-  pub settled : fault ≡ None → IsSettled size next new.now.words
+  pub settled : fault ≡ None → IsQuiescent size next new.now.words
   pub tables : fault ≡ None → HasDurableTables s.frames new.now.words
 
 -- the same with these words masked
@@ -122,7 +122,7 @@ pub record MayMake (size : ℕ) (s : StoredWorld) (F : ℕ) (name : List ℕ) (u
   pub frames : F ≡ s.frames
   pub keeps : KeepsTables F mask (reads words)
   pub off : IsOffMaking mask (tables_of F (reads words)) (reads words NEXT_NUMBER_WORD) name uid gid mode
-  pub settled : IsSettled size s (masked mask words)
+  pub settled : IsQuiescent size s (masked mask words)
   pub tables : HasDurableTables F (masked mask words)
   pub legal : IsLegalPool name uid gid mode
   pub none : make_refusal (tables_of F (reads words)) (reads words NEXT_NUMBER_WORD) name ≡ None

@@ -20,9 +20,9 @@ use Rattle.pud_defs.proofs.Replay.{undone-none, not_inside}
 use Rattle.log_store.specs.Store.{saying}
 use Rattle.log_store.proofs.Open.{log_of-is, IsOpen-running}
 use Rattle.word_transaction.specs.Scope.{Scope, IsScope, IsInScope, running_range, saved}
-use Rattle.word_transaction.specs.Running.{IsRunning, IsIdle, nothing, begun, SettlesTo, ByTransaction, Runs}
+use Rattle.word_transaction.specs.Running.{IsRunning, IsIdle, nothing, begun, RecoversTo, ByTransaction, Runs}
 use Rattle.word_transaction.proofs.Saved.{some_not_none}
-use Rattle.word_transaction.proofs.Images.{SettlesTo-running, SettlesTo-closed}
+use Rattle.word_transaction.proofs.Images.{RecoversTo-running, RecoversTo-closed}
 use Rattle.word_transaction.proofs.Calls.{not_cut}
 
 -- no word is saved yet
@@ -49,12 +49,12 @@ module _ (size at : ℕ) (g : Scope) (before : Image) (fault : Option HostFault)
   single : (k : ℕ) → g.has_word k ≡ true → HasOnly (t.now.words k) (before k)
   single k mine = HasOnly-kept (written (only at RUNNING_GATE)) fault s t k (before k) p.changes (gate_alone k (ground.apart k mine)) (idle.single k mine)
 
-  moment : (was image : Image) → Picks s.now.words was → IsFrom (written (only at RUNNING_GATE)) was image → SettlesTo g at before image
+  moment : (was image : Image) → Picks s.now.words was → IsFrom (written (only at RUNNING_GATE)) was image → RecoversTo g at before image
   moment was image picked from =
       let same : (k : ℕ) → g.has_word k ≡ true → was k ≡ before k = λ k mine. (idle.single k mine).each (was k) (picked.each k) in
       elim (one_word at RUNNING_GATE was image from) [
-        | inl still ↦ SettlesTo-closed g at before image (ap (λ (i : Image). is_closed_log i at) still ∙ idle.closed was picked) (λ k mine. ap (λ (i : Image). i k) still ∙ same k mine)
-        | inr runs ↦ SettlesTo-running g (begun at) [] before image refl refl (All-nil (IsInScope g)) (log_of-begun at image runs.there)
+        | inl still ↦ RecoversTo-closed g at before image (ap (λ (i : Image). is_closed_log i at) still ∙ idle.closed was picked) (λ k mine. ap (λ (i : Image). i k) still ∙ same k mine)
+        | inr runs ↦ RecoversTo-running g (begun at) [] before image refl refl (All-nil (IsInScope g)) (log_of-begun at image runs.there)
             (λ k v mine is. nothing_saved g before k v is) (λ k mine none. runs.others k (other k (ground.apart k mine)) ∙ same k mine)
       ]
 
@@ -75,7 +75,7 @@ module _ (size at : ℕ) (g : Scope) (before : Image) (fault : Option HostFault)
       record {
         changes = Changes-wider (written (only at RUNNING_GATE)) (ByTransaction g at) fault s t
             (λ k v may. inl (let here = only_at at RUNNING_GATE k v may in record { low = omega arith; high = omega arith })) p.changes;
-        moments = Leaves-changes (SettlesTo g at before) (written (only at RUNNING_GATE)) fault s t moment p.changes;
+        moments = Leaves-changes (RecoversTo g at before) (written (only at RUNNING_GATE)) fault s t moment p.changes;
         running = running;
         now = λ none k out. (p.changes.keeps (not_cut fault none) k (gate_alone k out)).newest;
       }

@@ -17,7 +17,7 @@ use Rattle.pud_defs.proofs.Replay.{overwritten-then, or_none}
 use Rattle.log_store.specs.Store.{OpenLog, InLog}
 use Rattle.log_store.proofs.Open.{IsOpen-kept}
 use Rattle.word_transaction.specs.Scope.{Scope}
-use Rattle.word_transaction.specs.Running.{IsRunning, nothing, SettlesTo, ByTransaction, Runs}
+use Rattle.word_transaction.specs.Running.{IsRunning, nothing, RecoversTo, ByTransaction, Runs}
 use Rattle.word_transaction.proofs.Images.{IsRunning-settles}
 
 pub some_fault : (fault : HostFault) → Some fault ≡ None → ⊥
@@ -59,7 +59,7 @@ pub Runs-still : (g : Scope) (log : OpenLog) (es : List Entry) (before : Image) 
 Runs-still g log es before fault old new uncut same r =
     record {
       changes = Changes-still (ByTransaction g log.gate_at) fault old new uncut same;
-      moments = Leaves-still (Silently (SettlesTo g log.gate_at before)) old new (λ image picked. (refl, IsRunning-settles g log es before image old.now.words r picked)) same;
+      moments = Leaves-still (Silently (RecoversTo g log.gate_at before)) old new (λ image picked. (refl, IsRunning-settles g log es before image old.now.words r picked)) same;
       running = λ _. subst (λ (x : State). IsRunning g log es before x.now.words) (sym same) r;
       now = λ _ k out. ap (λ (x : State). reads x.now.words k) same;
     }
@@ -70,7 +70,7 @@ pub Runs-failed : (g : Scope) (log behind : OpenLog) (es es_behind : List Entry)
 Runs-failed g log behind es es_behind before write write_behind fault old new at r =
     record {
       changes = subst (λ (k : ℕ). Changes (ByTransaction g k) (Some fault) old new) (sym at) r.changes;
-      moments = subst (λ (k : ℕ). Leaves (Silently (SettlesTo g k before)) old new) (sym at) r.moments;
+      moments = subst (λ (k : ℕ). Leaves (Silently (RecoversTo g k before)) old new) (sym at) r.moments;
       running = λ none. absurd (some_fault fault none);
       now = λ none. absurd (some_fault fault none);
     }
@@ -85,9 +85,9 @@ Runs-stopped g log behind es es_behind before write fault old new at uncut same 
 pub Runs-then : (g : Scope) (log behind : OpenLog) (es es_behind : List Entry) (before : Image) (first later : Write) (fault : Option HostFault) (a b c : State) → behind.gate_at ≡ log.gate_at
     → Runs g log es before first None a b → Runs g behind es_behind before later fault b c → Runs g behind es_behind before (over first later) fault a c
 Runs-then g log behind es es_behind before first later fault a b c at p q =
-    let P = Silently (SettlesTo g behind.gate_at before) in
+    let P = Silently (RecoversTo g behind.gate_at before) in
     let changes : Changes (ByTransaction g behind.gate_at) None a b = subst (λ (k : ℕ). Changes (ByTransaction g k) None a b) (sym at) p.changes in
-    let moments : Leaves P a b = subst (λ (k : ℕ). Leaves (Silently (SettlesTo g k before)) a b) (sym at) p.moments in
+    let moments : Leaves P a b = subst (λ (k : ℕ). Leaves (Silently (RecoversTo g k before)) a b) (sym at) p.moments in
     let said = Changes-said (ByTransaction g behind.gate_at) None a b changes in
     record {
       changes = Changes-then (ByTransaction g behind.gate_at) fault a b c changes q.changes;

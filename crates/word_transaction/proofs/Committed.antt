@@ -20,10 +20,10 @@ use Rattle.pud_defs.proofs.Replay.{not_inside, overwritten-stays}
 use Rattle.log_store.specs.Store.{OpenLog, IsOpen, defers, saying, committing}
 use Rattle.log_store.proofs.Open.{IsOpen-fits, IsOpen-log, IsOpen-kept, IsOpen-moved, log_of-moving, only_here}
 use Rattle.word_transaction.specs.Scope.{Scope, IsScope, pending}
-use Rattle.word_transaction.specs.Running.{IsRunning, SettlesTo, HasRange, SettlesByRange, ByTransaction, ByCommit, Closes, MovesRange, Ends}
-use Rattle.word_transaction.proofs.Images.{SettlesTo-running, SettlesTo-idle, IsRunning-settles}
+use Rattle.word_transaction.specs.Running.{IsRunning, RecoversTo, HasRange, RecoversByRange, ByTransaction, ByCommit, Closes, MovesRange, Ends}
+use Rattle.word_transaction.proofs.Images.{RecoversTo-running, RecoversTo-idle, IsRunning-settles}
 use Rattle.word_transaction.proofs.Calls.{some_fault, not_cut}
-use Rattle.word_transaction.proofs.Pending.{pending-none, SettlesTo-committing}
+use Rattle.word_transaction.proofs.Pending.{pending-none, RecoversTo-committing}
 use Rattle.word_transaction.proofs.Ended.{reads_beside}
 
 -- ---- words of the log, and the transaction's own
@@ -46,7 +46,7 @@ written_gate w x k v new make =
 
 -- An image left while the log is closed: its own words settle to these values, and its gate is as it was or that of a closed log.
 pub record IsShut (g : Scope) (at was : ℕ) (values image : Image) : Type 0 where
-  pub settles : SettlesTo g at values image
+  pub recovers : RecoversTo g at values image
   pub gate : (image at ≡ was) ⊎ (image at ≡ CLOSED_GATE)
 
 -- each image left meanwhile is such a one
@@ -57,12 +57,12 @@ pub record Shuts (g : Scope) (at was : ℕ) (values : Image) (fault : Option Hos
 -- ---- the log of words that each have one value is closed
 
 module _ (size at : ℕ) (g : Scope) (ground : IsScope size at g) (values : Image) (fault : Option HostFault) (c d : State)
-    (settles : (image : Image) → Picks c.now.words image → SettlesTo g at values image) (single : (k : ℕ) → g.has_word k ≡ true → HasOnly (c.now.words k) (values k))
+    (recovers : (image : Image) → Picks c.now.words image → RecoversTo g at values image) (single : (k : ℕ) → g.has_word k ≡ true → HasOnly (c.now.words k) (values k))
     (p : Persists (only at CLOSED_GATE) fault c d) where
-  shut_image : (before image : Image) → Picks c.now.words before → IsFrom (written (only at CLOSED_GATE)) before image → SettlesTo g at values image
+  shut_image : (before image : Image) → Picks c.now.words before → IsFrom (written (only at CLOSED_GATE)) before image → RecoversTo g at values image
   shut_image before image picked from = elim (one_word at CLOSED_GATE before image from) [
-    | inl same ↦ subst (λ (i : Image). SettlesTo g at values i) (sym same) (settles before picked)
-    | inr shut ↦ SettlesTo-idle g at values image (ap is_idle_gate shut.there)
+    | inl same ↦ subst (λ (i : Image). RecoversTo g at values i) (sym same) (recovers before picked)
+    | inr shut ↦ RecoversTo-idle g at values image (ap is_idle_gate shut.there)
         (λ k mine. shut.others k (mine_apart size at g k ground mine) ∙ (single k mine).each (before k) (picked.each k))
   ]
 
@@ -70,7 +70,7 @@ module _ (size at : ℕ) (g : Scope) (ground : IsScope size at g) (values : Imag
   Closes-shut =
       record {
         changes = Changes-wider (written (only at CLOSED_GATE)) (ByTransaction g at) fault c d (gate_by g at CLOSED_GATE) p.changes;
-        moments = Leaves-changes (SettlesTo g at values) (written (only at CLOSED_GATE)) fault c d shut_image p.changes;
+        moments = Leaves-changes (RecoversTo g at values) (written (only at CLOSED_GATE)) fault c d shut_image p.changes;
         durable = λ none k mine.
             HasOnly-kept (written (only at CLOSED_GATE)) fault c d k (values k) p.changes (λ x new. mine_apart size at g k ground mine (only_at at CLOSED_GATE k x new)) (single k mine);
         closed = λ none. p.durable none at CLOSED_GATE (only_here at CLOSED_GATE);
@@ -89,7 +89,7 @@ module _ (size at : ℕ) (g : Scope) (ground : IsScope size at g) (values : Imag
         record {
           closes = Closes-shut;
           moments = Leaves-changes (IsShut g at was values) (written (only at CLOSED_GATE)) fault c d
-              (λ before image picked from. record { settles = shut_image before image picked from; gate = shut_gate before image picked from }) p.changes;
+              (λ before image picked from. record { recovers = shut_image before image picked from; gate = shut_gate before image picked from }) p.changes;
         }
 
 -- ---- a fence
@@ -133,11 +133,11 @@ module _ (size : ℕ) (log : OpenLog) (es : List Entry) (g : Scope) (before : Im
 
   -- what an image has with the log replayed, at the start or at the end, as its range says
   abbrev ByRange : Image → Type 0
-  ByRange = SettlesByRange g log.gate_at before after
+  ByRange = RecoversByRange g log.gate_at before after
 
   -- with the range that it had it is as at the start
-  unmoved : (image : Image) → log_of image log.gate_at ≡ saying log es → SettlesTo g log.gate_at before image → ByRange image
-  unmoved image says settles = inl (record { range = record { lo_is = ap (λ (l : Log). l.lo) says ∙ r.lo; hi_is = ap (λ (l : Log). l.hi) says ∙ r.hi }; settles = settles })
+  unmoved : (image : Image) → log_of image log.gate_at ≡ saying log es → RecoversTo g log.gate_at before image → ByRange image
+  unmoved image says recovers = inl (record { range = record { lo_is = ap (λ (l : Log). l.lo) says ∙ r.lo; hi_is = ap (λ (l : Log). l.hi) says ∙ r.hi }; recovers = recovers })
 
   start_image : (image : Image) → Picks a.now.words image → ByRange image
   start_image image picked = unmoved image (IsOpen-log log es a.now.words image r.opened picked) (IsRunning-settles g log es before image a.now.words r picked)
@@ -153,7 +153,7 @@ module _ (size : ℕ) (log : OpenLog) (es : List Entry) (g : Scope) (before : Im
 
   -- and settles to the end, as it does with that of a closed one
   moved : (image : Image) → IsShut g log.gate_at (moved_gate log) after image → ByRange image
-  moved image s = inr (record { range = elim s.gate [ inl gate ↦ inl (moved_range image gate) | inr shut ↦ inr shut ]; settles = s.settles })
+  moved image s = inr (record { range = elim s.gate [ inl gate ↦ inl (moved_range image gate) | inr shut ↦ inr shut ]; recovers = s.recovers })
 
   fence_image : (was image : Image) → Picks a.now.words was → IsFrom Nowhere was image → ByRange image
   fence_image was image picked from =
@@ -185,11 +185,11 @@ module _ (size : ℕ) (log : OpenLog) (es : List Entry) (g : Scope) (before : Im
   moved_image b c fault m was image picked from =
       let own = moved_own b c fault m was image picked from in
       elim (log_of-moving COMMITTING_LO COMMITTING_HI log es b.now.words was image (omega arith) (omega arith) (fence_open b m.fence) picked from) [
-        | inl says ↦ unmoved image says (SettlesTo-running g log es before image r.lo r.hi r.own says (λ k v mine is. r.saves k v is)
+        | inl says ↦ unmoved image says (RecoversTo-running g log es before image r.lo r.hi r.own says (λ k v mine is. r.saves k v is)
             (λ k mine kept. own k mine ∙ HasOnly-newest (a.now.words k) (before k) (r.single k mine kept)))
         | inr says ↦ inr (record {
           range = inl (record { lo_is = ap (λ (l : Log). l.lo) says; hi_is = ap (λ (l : Log). l.hi) says });
-          settles = SettlesTo-committing g log es (reads a.now.words) image r.own says own;
+          recovers = RecoversTo-committing g log es (reads a.now.words) image r.own says own;
         })
       ]
 
@@ -210,9 +210,9 @@ module _ (size : ℕ) (log : OpenLog) (es : List Entry) (g : Scope) (before : Im
   moved_open b c m = IsOpen-moved COMMITTING_LO COMMITTING_HI log es b c (omega arith) (omega arith) (fence_open b m.fence) m.move
 
   -- so each image settles to what they come to hold
-  moved_settles : (b c : State) (m : Moves log None a b c) (image : Image) → Picks c.now.words image → SettlesTo g log.gate_at after image
+  moved_settles : (b c : State) (m : Moves log None a b c) (image : Image) → Picks c.now.words image → RecoversTo g log.gate_at after image
   moved_settles b c m image picked =
-      SettlesTo-committing g log es (reads a.now.words) image r.own (IsOpen-log (committing log) es c.now.words image (moved_open b c m) picked)
+      RecoversTo-committing g log es (reads a.now.words) image r.own (IsOpen-log (committing log) es c.now.words image (moved_open b c m) picked)
       (λ k mine. (moved_single b c m k mine).each (image k) (picked.each k))
 
   -- ---- the call

@@ -11,20 +11,20 @@ use Rattle.pud_defs.specs.Image.{Image}
 use Rattle.pud_defs.specs.Replay.{is_in_log}
 use Rattle.pud_defs.proofs.Replay.{not_inside}
 use Rattle.word_transaction.specs.Scope.{Scope}
-use Rattle.word_transaction.specs.Running.{ByTransaction, IsIdle, SettlesTo, SettlesByRange, Closes, Ends}
-use Rattle.word_transaction.proofs.Images.{SettlesTo-closed, closed_by_gate}
+use Rattle.word_transaction.specs.Running.{ByTransaction, IsIdle, RecoversTo, RecoversByRange, Closes, Ends}
+use Rattle.word_transaction.proofs.Images.{RecoversTo-closed, closed_by_gate}
 
 -- ---- whatever its range
 
 -- an image settles to one of the two
-pub settles_either : (g : Scope) (at : ℕ) (before after image : Image) → SettlesByRange g at before after image → SettlesTo g at before image ⊎ SettlesTo g at after image
-settles_either g at before after image (inl unmoved) = inl unmoved.settles
-settles_either g at before after image (inr moved) = inr moved.settles
+pub settles_either : (g : Scope) (at : ℕ) (before after image : Image) → RecoversByRange g at before after image → RecoversTo g at before image ⊎ RecoversTo g at after image
+settles_either g at before after image (inl unmoved) = inl unmoved.recovers
+settles_either g at before after image (inr moved) = inr moved.recovers
 
 pub Ends-either : (g : Scope) (at : ℕ) (before after : Image) (fault : Option HostFault) (old new : State) → Ends g at before after fault old new
-    → Leaves (Silently (λ image. SettlesTo g at before image ⊎ SettlesTo g at after image)) old new
+    → Leaves (Silently (λ image. RecoversTo g at before image ⊎ RecoversTo g at after image)) old new
 Ends-either g at before after fault old new e =
-    Leaves-weaker (Silently (SettlesByRange g at before after)) (Silently (λ image. SettlesTo g at before image ⊎ SettlesTo g at after image)) old new
+    Leaves-weaker (Silently (RecoversByRange g at before after)) (Silently (λ image. RecoversTo g at before image ⊎ RecoversTo g at after image)) old new
     (λ bytes image p. (p.0, settles_either g at before after image p.1)) e.moments
 
 -- ---- none is open any more
@@ -46,8 +46,8 @@ module _ (g : Scope) (at : ℕ) (values : Image) (words : Words) (idle : IsIdle 
   pub IsIdle-image : (image : Image) → Picks words image → (k : ℕ) → g.has_word k ≡ true → image k ≡ values k
   IsIdle-image image picked k mine = (idle.single k mine).each (image k) (picked.each k)
 
-  pub IsIdle-settles : (image : Image) → Picks words image → SettlesTo g at values image
-  IsIdle-settles image picked = SettlesTo-closed g at values image (idle.closed image picked) (IsIdle-image image picked)
+  pub IsIdle-settles : (image : Image) → Picks words image → RecoversTo g at values image
+  IsIdle-settles image picked = RecoversTo-closed g at values image (idle.closed image picked) (IsIdle-image image picked)
 
 -- ---- what stays meanwhile
 

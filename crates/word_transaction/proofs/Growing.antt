@@ -17,20 +17,20 @@ use Rattle.pud_defs.specs.Replay.{Place, is_in_range, value_from, undone, redone
 use Rattle.pud_defs.proofs.Replay.{undone-first, undone-none, redone-first, redone-none}
 use Rattle.log_store.specs.Store.{OpenLog, InLog}
 use Rattle.word_transaction.specs.Scope.{Scope, IsScope, IsInScope, running_range, committing_range, saved, pending}
-use Rattle.word_transaction.specs.Running.{IsRunning, IsCovered, SettlesTo}
+use Rattle.word_transaction.specs.Running.{IsRunning, IsCovered, RecoversTo}
 use Rattle.word_transaction.proofs.Saved.{saved_is_mine}
-use Rattle.word_transaction.proofs.Images.{SettlesTo-local, IsRunning-settles}
+use Rattle.word_transaction.proofs.Images.{RecoversTo-local, IsRunning-settles}
 
 -- ---- beside other calls
 
 -- each image left by calls that give no value to a word of the log or to an own word settles to the values from the beginning
 pub settles_beside : (g : Scope) (log : OpenLog) (es : List Entry) (before : Image) (may : Footprint) (fault : Option HostFault) (old new : State) → Changes may fault old new
     → ((k v : ℕ) → InLog log.gate_at k v → may k v → ⊥) → ((k v : ℕ) → g.has_word k ≡ true → may k v → ⊥) → IsRunning g log es before old.now.words
-    → Leaves (Silently (SettlesTo g log.gate_at before)) old new
+    → Leaves (Silently (RecoversTo g log.gate_at before)) old new
 settles_beside g log es before may fault old new c in_log own r =
-    Leaves-changes (SettlesTo g log.gate_at before) may fault old new
+    Leaves-changes (RecoversTo g log.gate_at before) may fault old new
     (λ was image picked from.
-    SettlesTo-local g log.gate_at before was image
+    RecoversTo-local g log.gate_at before was image
     (λ k inside. (let it : image k ≡ was k = elim (from.each k) [ inl same ↦ same | inr new ↦ absurd (in_log k (image k) inside new) ] in it))
     (λ k mine. (let it : image k ≡ was k = elim (from.each k) [ inl same ↦ same | inr new ↦ absurd (own k (image k) mine new) ] in it))
     (IsRunning-settles g log es before was old.now.words r picked)) c

@@ -14,14 +14,14 @@ use Rattle.pud_defs.proofs.Replay.{closed_range, replayed-none, empty_range_of, 
 use Rattle.log_store.specs.Store.{OpenLog, saying}
 use Rattle.log_store.proofs.Open.{IsOpen-log, log_of-closed}
 use Rattle.word_transaction.specs.Scope.{Scope, IsInScope, saved}
-use Rattle.word_transaction.specs.Running.{IsRunning, SettlesTo}
+use Rattle.word_transaction.specs.Running.{IsRunning, RecoversTo}
 use Rattle.word_transaction.proofs.Saved.{new_value-running}
 use Rattle.pud_defs.proofs.Keyed.{some_there}
 use Rattle.pud_defs.proofs.Idle.{closed_gate}
 
 -- it has to do with those words alone
-pub SettlesTo-local : (g : Scope) (at : ℕ) (values i j : Image) → ((k : ℕ) → IsInLog at k → j k ≡ i k) → ((k : ℕ) → g.has_word k ≡ true → j k ≡ i k) → SettlesTo g at values i → SettlesTo g at values j
-SettlesTo-local g at values i j in_log own s =
+pub RecoversTo-local : (g : Scope) (at : ℕ) (values i j : Image) → ((k : ℕ) → IsInLog at k → j k ≡ i k) → ((k : ℕ) → g.has_word k ≡ true → j k ≡ i k) → RecoversTo g at values i → RecoversTo g at values j
+RecoversTo-local g at values i j in_log own s =
     let used = used_within i at s.es s.spells in
     let same : log_of j at ≡ log_of i at =
     sym (log_of-same i j at (sym (in_log at (record { low = omega arith; high = omega arith }))) (λ k low high. sym (in_log k (record { low = omega arith; high = omega arith })))) in
@@ -39,10 +39,10 @@ unwrapped None x y some none = none refl
 unwrapped (Some v) x y some none = some v refl
 
 -- a word to which the log gives a value has that one, and any other is as it is
-pub SettlesTo-given : (g : Scope) (log : OpenLog) (es : List Entry) (write : ℕ → Option ℕ) (values image : Image) → All (IsInScope g) es → log_of image log.gate_at ≡ saying log es
+pub RecoversTo-given : (g : Scope) (log : OpenLog) (es : List Entry) (write : ℕ → Option ℕ) (values image : Image) → All (IsInScope g) es → log_of image log.gate_at ≡ saying log es
     → ((k : ℕ) → new_value g.place (saying log es) k ≡ write k) → ((k v : ℕ) → g.has_word k ≡ true → write k ≡ Some v → v ≡ values k)
-    → ((k : ℕ) → g.has_word k ≡ true → write k ≡ None → image k ≡ values k) → SettlesTo g log.gate_at values image
-SettlesTo-given g log es write values image own says given gives stays =
+    → ((k : ℕ) → g.has_word k ≡ true → write k ≡ None → image k ≡ values k) → RecoversTo g log.gate_at values image
+RecoversTo-given g log es write values image own says given gives stays =
     record {
       es = es;
       spells = ap (λ (l : Log). l.entries) says;
@@ -53,20 +53,20 @@ SettlesTo-given g log es write values image own says given gives stays =
     }
 
 -- what is saved has its value of the beginning, and what is not is as it was then
-pub SettlesTo-running : (g : Scope) (log : OpenLog) (es : List Entry) (before image : Image) → log.lo ≡ RUNNING_LO → log.hi ≡ RUNNING_HI → All (IsInScope g) es → log_of image log.gate_at ≡ saying log es
-    → ((k v : ℕ) → g.has_word k ≡ true → saved g.place es k ≡ Some v → v ≡ before k) → ((k : ℕ) → g.has_word k ≡ true → saved g.place es k ≡ None → image k ≡ before k) → SettlesTo g log.gate_at before image
-SettlesTo-running g log es before image lo hi own says saves single =
-    SettlesTo-given g log es (saved g.place es) before image own says (λ k. new_value-running g g.place (saying log es) es k lo hi refl own) saves single
+pub RecoversTo-running : (g : Scope) (log : OpenLog) (es : List Entry) (before image : Image) → log.lo ≡ RUNNING_LO → log.hi ≡ RUNNING_HI → All (IsInScope g) es → log_of image log.gate_at ≡ saying log es
+    → ((k v : ℕ) → g.has_word k ≡ true → saved g.place es k ≡ Some v → v ≡ before k) → ((k : ℕ) → g.has_word k ≡ true → saved g.place es k ≡ None → image k ≡ before k) → RecoversTo g log.gate_at before image
+RecoversTo-running g log es before image lo hi own says saves single =
+    RecoversTo-given g log es (saved g.place es) before image own says (λ k. new_value-running g g.place (saying log es) es k lo hi refl own) saves single
 
 -- each image that may be left while a transaction is open settles to the values from its beginning
-pub IsRunning-settles : (g : Scope) (log : OpenLog) (es : List Entry) (before image : Image) (words : Words) → IsRunning g log es before words → Picks words image → SettlesTo g log.gate_at before image
+pub IsRunning-settles : (g : Scope) (log : OpenLog) (es : List Entry) (before image : Image) (words : Words) → IsRunning g log es before words → Picks words image → RecoversTo g log.gate_at before image
 IsRunning-settles g log es before image words r picked =
-    SettlesTo-running g log es before image r.lo r.hi r.own (IsOpen-log log es words image r.opened picked)
+    RecoversTo-running g log es before image r.lo r.hi r.own (IsOpen-log log es words image r.opened picked)
     (λ k v mine is. r.saves k v is) (λ k mine none. (r.single k mine none).each (image k) (picked.each k))
 
 -- with a log that counts nothing it has them as they are
-pub SettlesTo-idle : (g : Scope) (at : ℕ) (before image : Image) → is_idle_gate (image at) ≡ true → ((k : ℕ) → g.has_word k ≡ true → image k ≡ before k) → SettlesTo g at before image
-SettlesTo-idle g at before image idle same =
+pub RecoversTo-idle : (g : Scope) (at : ℕ) (before image : Image) → is_idle_gate (image at) ≡ true → ((k : ℕ) → g.has_word k ≡ true → image k ≡ before k) → RecoversTo g at before image
+RecoversTo-idle g at before image idle same =
     record {
       es = [];
       spells = entries_of-idle image at idle;
@@ -77,8 +77,8 @@ SettlesTo-idle g at before image idle same =
 -- ---- images with a closed log
 
 -- none of its entries is the transaction's, and the words are as they are
-pub SettlesTo-closed : (g : Scope) (at : ℕ) (before image : Image) → is_closed_log image at ≡ true → ((k : ℕ) → g.has_word k ≡ true → image k ≡ before k) → SettlesTo g at before image
-SettlesTo-closed g at before image closed same =
+pub RecoversTo-closed : (g : Scope) (at : ℕ) (before image : Image) → is_closed_log image at ≡ true → ((k : ℕ) → g.has_word k ≡ true → image k ≡ before k) → RecoversTo g at before image
+RecoversTo-closed g at before image closed same =
     let parts = and_parts (is_closed_range (image at)) (is_some (entries_of image at)) closed in
     let range : gate_hi (image at) ≤ gate_lo (image at) + 1 = closed_gate (image at) parts.0 in
     let entries = some_there (entries_of image at) parts.1 in

@@ -12,7 +12,7 @@ use Rattle.pud_defs.specs.Replay.{Place, is_in_range, value_in, given_by, undone
 use Rattle.pud_defs.proofs.Replay.{undone-first, redone-first, undone-none, redone-none, given_by-out, given_by-other, or_none, new_value-of, overwritten-nothing, overwritten-then}
 use Rattle.log_store.specs.Store.{OpenLog, is_redo, defers, saying, committing}
 use Rattle.word_transaction.specs.Scope.{Scope, redo_entry, IsUndo, IsRedo, IsInScope, deferred_entries, written_in_turn, committing_range, pending}
-use Rattle.word_transaction.specs.Running.{SettlesTo}
+use Rattle.word_transaction.specs.Running.{RecoversTo}
 use Rattle.word_transaction.proofs.Saved.{given_by-range, undone-range}
 
 pub redone-range : (place : Place) (l m : Log) (es : List Entry) (k : ℕ) → l.lo ≡ m.lo → l.hi ≡ m.hi → redone place l es k ≡ redone place m es k
@@ -117,9 +117,9 @@ new_value-committing g place log es k lo hi entries own =
     ∙ sym (or_none (pending place es k))
 
 -- over what its own words hold an image settles to what they ask for
-pub SettlesTo-committing : (g : Scope) (log : OpenLog) (es : List Entry) (was image : Image) → All (IsInScope g) es → log_of image log.gate_at ≡ saying (committing log) es
-    → ((k : ℕ) → g.has_word k ≡ true → image k ≡ was k) → SettlesTo g log.gate_at (overwritten (pending g.place es) was) image
-SettlesTo-committing g log es was image own says same =
+pub RecoversTo-committing : (g : Scope) (log : OpenLog) (es : List Entry) (was image : Image) → All (IsInScope g) es → log_of image log.gate_at ≡ saying (committing log) es
+    → ((k : ℕ) → g.has_word k ≡ true → image k ≡ was k) → RecoversTo g log.gate_at (overwritten (pending g.place es) was) image
+RecoversTo-committing g log es was image own says same =
     record {
       es = es;
       spells = ap (λ (l : Log). l.entries) says;

@@ -67,14 +67,14 @@ module _ (size : ℕ) (log : OpenLog) (es : List Entry) (g : Scope) (before : Im
       → (IsReplayable (place_of (Puddles F) (reads c.now.words)) size at es (reads c.now.words) → HasDurableLog (Puddles F) at c.now.words
       → Leaves (Silently (IsSettling (Puddles F) at c.now.words)) c d)
       → Ends g log.gate_at before after fault a d
-  Ends-redone F at fault b c d here can m settles moments =
+  Ends-redone F at fault b c d here can m recovers moments =
       let changes = gate_moves log None a b c m in
       let table = one_table F g log a c changes can in
       let places = places_there F g log a c changes can in
       let given = gives b c m in
       let may = replayable size F g (committing log) es write after c ground given places table in
       let durable = durable_log size F g (committing log) es write after c ground given places table in
-      let settled = subst (λ (k : ℕ). IsReplayable (place_of (Puddles F) (reads c.now.words)) size k es (reads c.now.words) → SettlesLog (Puddles F) k fault c d) here settles in
+      let settled = subst (λ (k : ℕ). IsReplayable (place_of (Puddles F) (reads c.now.words)) size k es (reads c.now.words) → SettlesLog (Puddles F) k fault c d) here recovers in
       let left = subst (λ (k : ℕ). IsReplayable (place_of (Puddles F) (reads c.now.words)) size k es (reads c.now.words) → HasDurableLog (Puddles F) k c.now.words
       → Leaves (Silently (IsSettling (Puddles F) k c.now.words)) c d) here moments in
       Ends-closes size log es g before a ground r fault b c d m

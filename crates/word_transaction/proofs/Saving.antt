@@ -20,9 +20,9 @@ use Rattle.log_store.specs.declared.AppendFault.{AppendFault}
 use Rattle.log_store.specs.declared.AppendFault.TheVariants.{Host, TooBig}
 use Rattle.log_store.proofs.Open.{IsOpen-log}
 use Rattle.word_transaction.specs.Scope.{Scope, IsScope, IsUndo, IsInScope, redo_entry, running_range, saved}
-use Rattle.word_transaction.specs.Running.{IsRunning, MayAppend, nothing, SettlesTo, ByTransaction, Runs}
+use Rattle.word_transaction.specs.Running.{IsRunning, MayAppend, nothing, RecoversTo, ByTransaction, Runs}
 use Rattle.word_transaction.proofs.Saved.{some_not_none, either_some, value_of_given, saved_is_mine, saved-append, saved-none_first, saved-redo, placed_words}
-use Rattle.word_transaction.proofs.Images.{SettlesTo-running}
+use Rattle.word_transaction.proofs.Images.{RecoversTo-running}
 use Rattle.word_transaction.proofs.Calls.{some_fault, marked_still}
 
 -- ---- entries that may be appended
@@ -36,14 +36,14 @@ module _ (size : ℕ) (g : Scope) (log : OpenLog) (es : List Entry) (before : Im
   own_more = All-append (IsInScope g) es more r.own may.own
 
   -- with the log as it was, and with the entries last
-  moment : (image : Image) → HasGrown s.now.words log.gate_at more image → SettlesTo g log.gate_at before image
+  moment : (image : Image) → HasGrown s.now.words log.gate_at more image → RecoversTo g log.gate_at before image
   moment image grown =
       let was : log_of grown.before log.gate_at ≡ saying log es = IsOpen-log log es s.now.words grown.before r.opened grown.picked in
       let same : (k : ℕ) → g.has_word k ≡ true → saved g.place es k ≡ None → image k ≡ before k = λ k mine none.
       grown.outside k (not_inside log.gate_at k (ground.apart k mine)) ∙ (r.single k mine none).each (grown.before k) (grown.picked.each k) in
       elim grown.log [
-        | inl still ↦ SettlesTo-running g log es before image r.lo r.hi r.own (still ∙ was) (λ k v mine is. r.saves k v is) same
-        | inr grew ↦ SettlesTo-running g log (es ++ more) before image r.lo r.hi own_more (grew ∙ ap (with_last more) was)
+        | inl still ↦ RecoversTo-running g log es before image r.lo r.hi r.own (still ∙ was) (λ k v mine is. r.saves k v is) same
+        | inr grew ↦ RecoversTo-running g log (es ++ more) before image r.lo r.hi own_more (grew ∙ ap (with_last more) was)
             (λ k v mine is. may.saves k v is) (λ k mine none. same k mine (saved-none_first g.place es more k none))
       ]
 
@@ -62,8 +62,8 @@ module _ (size : ℕ) (g : Scope) (log : OpenLog) (es : List Entry) (before : Im
         marked = λ k mine. marked_still (InLog log.gate_at) None s t k changes (outside k mine) (r.marked k mine);
       }
 
-  grown_left : (t : State) → Leaves (Silently (HasGrown s.now.words log.gate_at more)) s t → Leaves (Silently (SettlesTo g log.gate_at before)) s t
-  grown_left t moments = Leaves-weaker (Silently (HasGrown s.now.words log.gate_at more)) (Silently (SettlesTo g log.gate_at before)) s t (λ bytes image p. (p.0, moment image p.1)) moments
+  grown_left : (t : State) → Leaves (Silently (HasGrown s.now.words log.gate_at more)) s t → Leaves (Silently (RecoversTo g log.gate_at before)) s t
+  grown_left t moments = Leaves-weaker (Silently (HasGrown s.now.words log.gate_at more)) (Silently (RecoversTo g log.gate_at before)) s t (λ bytes image p. (p.0, moment image p.1)) moments
 
   by_log : (fault : Option HostFault) (t : State) → Changes (InLog log.gate_at) fault s t → Changes (ByTransaction g log.gate_at) fault s t
   by_log fault t changes = Changes-wider (InLog log.gate_at) (ByTransaction g log.gate_at) fault s t (λ k v inside. inl inside) changes

@@ -22,8 +22,8 @@ use Rattle.log_replay.specs.declared.Target.TheVariants.{Puddles}
 use Rattle.log_replay.specs.Replaying.{place_of, NamesApart, IsReplayable, HasDurableLog, new_values, ByLog, IsSettling, SettlesLog}
 use Rattle.log_replay.proofs.Whole.{new_values-apart, new_values_picked}
 use Rattle.word_transaction.specs.Scope.{Scope, IsScope, IsInScope}
-use Rattle.word_transaction.specs.Running.{SettlesTo, ByTransaction, Closes, HasPlaces, HasOneTable}
-use Rattle.word_transaction.proofs.Images.{SettlesTo-given, SettlesTo-idle}
+use Rattle.word_transaction.specs.Running.{RecoversTo, ByTransaction, Closes, HasPlaces, HasOneTable}
+use Rattle.word_transaction.proofs.Images.{RecoversTo-given, RecoversTo-idle}
 use Rattle.word_transaction.proofs.Committed.{mine_apart, IsShut, Shuts}
 
 -- The log is open. It gives these words their values, which are the transaction's own, wherever places agree on what its entries name; and each own word
@@ -125,16 +125,16 @@ module _ (size F : ℕ) (g : Scope) (log : OpenLog) (es : List Entry) (write : W
         (gives_before k ∙ sym (gives k) ∙ new_values-apart (Puddles F) size log.gate_at es (reads a.now.words) replayable k inside)
         ∙ (r.opened.counted k low high).each (p.before k) (p.picked.each k))
 
-    settles : SettlesTo g log.gate_at values image
-    settles = elim p.closing.gate [
-      | inl gate ↦ SettlesTo-given g log es write values image r.own (says_still gate) (r.given g.place (λ n d below. refl)) (λ k v mine is. r.saves k v is) not_given
-      | inr shut ↦ SettlesTo-idle g log.gate_at values image (ap is_idle_gate shut.0)
+    recovers : RecoversTo g log.gate_at values image
+    recovers = elim p.closing.gate [
+      | inl gate ↦ RecoversTo-given g log es write values image r.own (says_still gate) (r.given g.place (λ n d below. refl)) (λ k v mine is. r.saves k v is) not_given
+      | inr shut ↦ RecoversTo-idle g log.gate_at values image (ap is_idle_gate shut.0)
           (λ k mine. by_given (write k) (image k) (values k) (λ v is. shut.1 k v (gives_before k ∙ is) ∙ r.saves k v is) (not_given k mine))
     ]
 
     shut : IsShut g log.gate_at (gate_word log.lo log.hi log.used) values image
     shut = record {
-      settles = settles;
+      recovers = recovers;
       gate = elim p.closing.gate [ inl gate ↦ inl (gate ∙ r.opened.gate.each (p.before log.gate_at) (p.picked.each log.gate_at)) | inr closed ↦ inr closed.0 ];
     }
 
@@ -146,7 +146,7 @@ module _ (size F : ℕ) (g : Scope) (log : OpenLog) (es : List Entry) (write : W
           | inl here ↦ inl (record { low = omega arith; high = omega arith })
           | inr named ↦ inr (r.has_word k named.value (sym (gives k) ∙ named.is))
         ]) s.changes;
-        moments = Leaves-weaker (Silently (IsSettling (Puddles F) log.gate_at a.now.words)) (Silently (SettlesTo g log.gate_at values)) a b (λ bytes image p. (p.0, settles image p.1)) moments;
+        moments = Leaves-weaker (Silently (IsSettling (Puddles F) log.gate_at a.now.words)) (Silently (RecoversTo g log.gate_at values)) a b (λ bytes image p. (p.0, recovers image p.1)) moments;
         durable = λ none k mine. durable_by (write k) (b.now.words k) (values k) (r.saves k)
             (λ v is. s.durable none k v (gives k ∙ is))
             (λ free. HasOnly-kept (ByLog log.gate_at given_now) fault a b k (values k) s.changes

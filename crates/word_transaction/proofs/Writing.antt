@@ -13,9 +13,9 @@ use Rattle.pud_defs.proofs.Replay.{overwritten-stays, overwritten-there, not_ins
 use Rattle.log_store.specs.Store.{OpenLog}
 use Rattle.log_store.proofs.Open.{IsOpen-fits, IsOpen-kept, IsOpen-log_by}
 use Rattle.word_transaction.specs.Scope.{Scope, IsScope}
-use Rattle.word_transaction.specs.Running.{IsRunning, IsCovered, SettlesTo, ByTransaction, Runs}
+use Rattle.word_transaction.specs.Running.{IsRunning, IsCovered, RecoversTo, ByTransaction, Runs}
 use Rattle.word_transaction.proofs.Saved.{some_not_none}
-use Rattle.word_transaction.proofs.Images.{SettlesTo-running}
+use Rattle.word_transaction.proofs.Images.{RecoversTo-running}
 use Rattle.word_transaction.proofs.Calls.{not_cut, marked_still}
 
 -- ---- words that are covered are written
@@ -29,11 +29,11 @@ module _ (size : ℕ) (g : Scope) (log : OpenLog) (es : List Entry) (before : Im
   none_comes : (k : ℕ) → write k ≡ None → (v : ℕ) → written write k v → ⊥
   none_comes k none v may = some_not_none (write k) v may none
 
-  moment : (was image : Image) → Picks s.now.words was → IsFrom (written write) was image → SettlesTo g log.gate_at before image
+  moment : (was image : Image) → Picks s.now.words was → IsFrom (written write) was image → RecoversTo g log.gate_at before image
   moment was image picked from =
       let used = (IsOpen-fits log es s.now.words r.opened).used_within in
       let in_log : (k : ℕ) → IsInLog log.gate_at k → image k ≡ was k = λ k inside. elim (from.each k) [ inl same ↦ same | inr new ↦ absurd (beside_log k (image k) inside new) ] in
-      SettlesTo-running g log es before image r.lo r.hi r.own
+      RecoversTo-running g log es before image r.lo r.hi r.own
       (IsOpen-log_by log es s.now.words image r.opened
       (in_log log.gate_at (record { low = omega arith; high = omega arith }) ∙ r.opened.gate.each (was log.gate_at) (picked.each log.gate_at))
       (λ k low high. in_log k (record { low = omega arith; high = omega arith }) ∙ (r.opened.counted k low high).each (was k) (picked.each k)))
@@ -65,7 +65,7 @@ module _ (size : ℕ) (g : Scope) (log : OpenLog) (es : List Entry) (before : Im
   Runs-written =
       record {
         changes = Changes-wider (written write) (ByTransaction g log.gate_at) fault s t (λ k v may. inr (covered.has_word k v may)) w.changes;
-        moments = Leaves-changes (SettlesTo g log.gate_at before) (written write) fault s t moment w.changes;
+        moments = Leaves-changes (RecoversTo g log.gate_at before) (written write) fault s t moment w.changes;
         running = running;
         now = λ none k out. now_by none k (write k) refl;
       }

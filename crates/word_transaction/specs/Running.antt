@@ -61,7 +61,7 @@ begun at = record { gate_at = at; lo = RUNNING_LO; hi = RUNNING_HI; used = 0; de
 
 -- With the log replayed whose gate is this word the transaction's own words have these values; the log is well formed, and its entries in range are the
 -- transaction's.
-pub record SettlesTo (g : Scope) (at : ℕ) (values image : Image) : Type 0 where
+pub record RecoversTo (g : Scope) (at : ℕ) (values image : Image) : Type 0 where
   pub es : List Entry
   pub spells : entries_of image at ≡ Some es
   pub own : All (λ e. is_in_range (log_of image at) e ≡ true → IsInScope g e) es
@@ -75,16 +75,16 @@ pub record HasRange (lo hi at : ℕ) (image : Image) : Type 0 where
 -- The range of the log is that of a running one still, and the transaction's own words settle to these values.
 pub record IsUnmoved (g : Scope) (at : ℕ) (values image : Image) : Type 0 where
   pub range : HasRange RUNNING_LO RUNNING_HI at image
-  pub settles : SettlesTo g at values image
+  pub recovers : RecoversTo g at values image
 
 -- The range of the log has moved to that of a committing one, or the log is closed, and the transaction's own words settle to these values.
 pub record IsMoved (g : Scope) (at : ℕ) (values image : Image) : Type 0 where
   pub range : HasRange COMMITTING_LO COMMITTING_HI at image ⊎ (image at ≡ CLOSED_GATE)
-  pub settles : SettlesTo g at values image
+  pub recovers : RecoversTo g at values image
 
 -- Until the range moves an image settles to the values from the beginning, and from then on to the new ones: which of the two is told by its gate.
-abbrev pub SettlesByRange : Scope → (at : ℕ) → (before after image : Image) → Type 0
-SettlesByRange g at before after image = IsUnmoved g at before image ⊎ IsMoved g at after image
+abbrev pub RecoversByRange : Scope → (at : ℕ) → (before after image : Image) → Type 0
+RecoversByRange g at before after image = IsUnmoved g at before image ⊎ IsMoved g at after image
 
 -- ---- what calls do
 
@@ -101,7 +101,7 @@ pub record ByCommit (log : OpenLog) (k v : ℕ) : Type 0 where
 -- with this log and these entries, and what is read outside the log is as it was but for these words.
 pub record Runs (g : Scope) (log : OpenLog) (es : List Entry) (before : Image) (write : Write) (fault : Option HostFault) (old new : State) : Type 0 where
   pub changes : Changes (ByTransaction g log.gate_at) fault old new
-  pub moments : Leaves (Silently (SettlesTo g log.gate_at before)) old new
+  pub moments : Leaves (Silently (RecoversTo g log.gate_at before)) old new
   pub running : fault ≡ None → IsRunning g log es before new.now.words
   pub now : fault ≡ None → (k : ℕ) → is_in_log log.gate_at k ≡ false → reads new.now.words k ≡ overwritten write (reads old.now.words) k
 
@@ -124,7 +124,7 @@ pub record Puts (g : Scope) (log : OpenLog) (es : List Entry) (before : Image) (
 -- and no other, and the log is closed.
 pub record Closes (g : Scope) (at : ℕ) (values : Image) (fault : Option HostFault) (old new : State) : Type 0 where
   pub changes : Changes (ByTransaction g at) fault old new
-  pub moments : Leaves (Silently (SettlesTo g at values)) old new
+  pub moments : Leaves (Silently (RecoversTo g at values)) old new
   pub durable : fault ≡ None → (k : ℕ) → g.has_word k ≡ true → HasOnly (new.now.words k) (values k)
   pub closed : fault ≡ None → HasOnly (new.now.words at) CLOSED_GATE
 
@@ -143,7 +143,7 @@ pub record MovesRange (g : Scope) (at : ℕ) (old new : State) : Type 0 where
 -- is read of other words is as it was.
 pub record Ends (g : Scope) (at : ℕ) (before after : Image) (fault : Option HostFault) (old new : State) : Type 0 where
   pub changes : Changes (ByTransaction g at) fault old new
-  pub moments : Leaves (Silently (SettlesByRange g at before after)) old new
+  pub moments : Leaves (Silently (RecoversByRange g at before after)) old new
   pub moves : fault ≡ None → MovesRange g at old new
   pub durable : fault ≡ None → (k : ℕ) → g.has_word k ≡ true → HasOnly (new.now.words k) (after k)
   pub closed : fault ≡ None → HasOnly (new.now.words at) CLOSED_GATE

@@ -10,7 +10,7 @@ ghost use Rattle.pud_defs.specs.Entries.{Entry};
 ghost use Rattle.pud_defs.specs.Replay.{is_in_log};
 ghost use Rattle.log_store.specs.Store.{OpenLog};
 ghost use Rattle.word_transaction.specs.Scope.{Scope, IsScope};
-ghost use Rattle.word_transaction.specs.Running.{IsRunning, SettlesTo};
+ghost use Rattle.word_transaction.specs.Running.{IsRunning, RecoversTo};
 
 /// A transaction stays open, with the same entries, beside calls that give no value to a word of its log or to one of its own.
 pub fn transaction_stays_open_beside_calls()
@@ -19,22 +19,22 @@ pub fn transaction_stays_open_beside_calls()
 {}
 
 /// Each image that may be left while a transaction is open settles to the values from its beginning.
-pub fn image_left_settles_to_the_beginning()
+pub fn image_left_recovers_to_the_beginning()
     ensures { (g : Scope) (log : OpenLog) (es : List Entry) (before : Image) (image : Image) (words : Words) → IsRunning g log es before words → Picks words image
-        → SettlesTo g log.gate_at before image }
+        → RecoversTo g log.gate_at before image }
 {}
 
 /// So does each image that is left, at any moment, by calls that give no value to a word of its log or to one of its own.
-pub fn images_left_beside_calls_settle_to_the_beginning()
+pub fn images_left_beside_calls_recover_to_the_beginning()
     ensures { (g : Scope) (log : OpenLog) (es : List Entry) (before : Image) (fault : Option HostFault) (old : State) (new : State)
         → Changes (λ k _. (is_in_log log.gate_at k ≡ false) × (g.has_word k ≡ false)) fault old new → IsRunning g log es before old.now.words
-        → Leaves (Silently (SettlesTo g log.gate_at before)) old new }
+        → Leaves (Silently (RecoversTo g log.gate_at before)) old new }
 {}
 
 /// What an image settles to is told by the words of the log and by the transaction's own words alone.
-pub fn image_settles_by_its_words_alone()
+pub fn image_recovers_by_its_words_alone()
     ensures { (g : Scope) (at : ℕ) (values : Image) (i : Image) (j : Image) → ((k : ℕ) → (is_in_log at k ≡ true) ⊎ (g.has_word k ≡ true) → j k ≡ i k)
-        → SettlesTo g at values i → SettlesTo g at values j }
+        → RecoversTo g at values i → RecoversTo g at values j }
 {}
 
 /// The values from the beginning count on the transaction's own words alone: it is open by any values that agree there.

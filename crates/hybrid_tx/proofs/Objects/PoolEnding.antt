@@ -18,7 +18,7 @@ use Rattle.pud_defs.specs.Graph.{Graph, graph_of}
 use Rattle.pud_defs.specs.DeferredValues.{DeferredValue, with_deferred_set}
 use Rattle.log_store.specs.Store.{OpenLog, defers}
 use Rattle.word_transaction.specs.Scope.{Scope, IsScope, written_in_turn, pending}
-use Rattle.word_transaction.specs.Running.{IsRunning, IsIdle, SettlesTo, ByTransaction, Closes, Ends, CanRedo}
+use Rattle.word_transaction.specs.Running.{IsRunning, IsIdle, RecoversTo, ByTransaction, Closes, Ends, CanRedo}
 use Rattle.word_transaction.proofs.Saved.{pending_is_mine}
 use Rattle.word_transaction.proofs.Pending.{defers-none, pending-in_turn}
 use Rattle.word_transaction.proofs.Ended.{Ends-idle, Closes-idle}
@@ -99,7 +99,7 @@ module _ (F : ℕ) (at : List (ℕ × Puddle)) (types : List (ℕ × ℕ)) where
   each_mine P own others k mine = elim (cases_Bool (pool_has_word F (finished_of at) k)) [ inl here ↦ own k here | inr other ↦ others k mine other ]
 
   -- with the log replayed the pool has the graph of what the image settles to
-  pub settled_graph : (size log : ℕ) (values image : Image) (g : Graph) → IsScope size log (pool_scope F (finished_of at)) → SettlesTo (pool_scope F (finished_of at)) log values image
+  pub settled_graph : (size log : ℕ) (values image : Image) (g : Graph) → IsScope size log (pool_scope F (finished_of at)) → RecoversTo (pool_scope F (finished_of at)) log values image
       → ((k : ℕ) → pool_has_word F at k ≡ true → pool_has_word F (finished_of at) k ≡ false → image k ≡ values k)
       → graph_of types (stored_in F at values) ≡ Some g → graph_of types (stored_in F at (replayed (pool_place F (finished_of at)) (log_of image log) image)) ≡ Some g
   settled_graph size log values image g ground s rests is =

@@ -17,7 +17,7 @@ use Rattle.pud_defs.specs.Stored.{IsOnDevice}
 use Rattle.pud_defs.specs.Tables.{tables_of, puddles_in_turn}
 use Rattle.pud_defs.proofs.TablesOf.{pools_below, puddles_below, frames_of_tables, pool_at-same, puddle_at-same}
 use Rattle.word_transaction.specs.Scope.{IsScope}
-use Rattle.word_transaction.specs.Running.{SettlesTo, HasPlaces}
+use Rattle.word_transaction.specs.Running.{RecoversTo, HasPlaces}
 use Rattle.hybrid_tx.specs.PoolScopes.{pool_scope, IsPlaced, finished_of}
 use Rattle.hybrid_tx.specs.Open.Masks.{OpenPool, is_in_pool_record, is_in_space_record, is_in_puddle_record, is_open_record, ArePuddlesOf, IsOpenPool}
 use Rattle.hybrid_tx.proofs.Open.OpenSettled.{GivesOwn}
@@ -98,7 +98,7 @@ module _ (F : ℕ) (p : OpenPool) (before image : Image) (opened : IsOpenPool F 
     open_ground = let few = opened.known in is_ground F (device_words F) (log_number_at F p.log_number) (finished_of p.puddles) open_placed (omega arith) (omega arith)
 
     -- where it settles to the values from the beginning, its log is allowed and gives them
-    pub gives_own : SettlesTo (pool_scope F (finished_of p.puddles)) (log_number_at F p.log_number) before image → GivesOwn F p before image
+    pub gives_own : RecoversTo (pool_scope F (finished_of p.puddles)) (log_number_at F p.log_number) before image → GivesOwn F p before image
     gives_own s =
         let log = log_of image (log_number_at F p.log_number) in
         let same = λ (w : ℕ). new_value_placed (pool_scope F (finished_of p.puddles)) (puddle_word (tables_of F image)) log open_places s.es w s.spells s.own in

@@ -14,8 +14,8 @@ use Rattle.pud_defs.specs.Tables.{tables_of}
 use Rattle.pud_defs.specs.World.{StoredWorld, world_of, idle_world_of}
 use Rattle.pud_defs.proofs.Parts.Part.{Pools}
 use Rattle.pud_defs.proofs.SoundChanged.{sound_from}
-use Rattle.word_transaction.specs.Running.{SettlesTo}
-use Rattle.word_transaction.proofs.Images.{SettlesTo-local}
+use Rattle.word_transaction.specs.Running.{RecoversTo}
+use Rattle.word_transaction.proofs.Images.{RecoversTo-local}
 use Rattle.hybrid_tx.specs.PoolScopes.{pool_scope, finished_of}
 use Rattle.hybrid_tx.specs.Open.Masks.{open_mask}
 use Rattle.hybrid_tx.specs.Open.ManyOpen.{OpenTransaction, Opens, open_masks, AreOpenPools, HasRecords, AreLeftOpen, MasksAll}
@@ -49,14 +49,14 @@ module _ (size F : ℕ) (s : StoredWorld) (opens : Opens) (mask : Write) (j : Im
       stays : (k v : ℕ) → open_mask F o.pool o.before k ≡ Some v → behind k ≡ j k
       stays k v is = masked_word_stays mask (masks_below F opens mask are all) j unnamed_all k v (all.has n o there k v is)
 
-      settles_behind : SettlesTo (pool_scope F (finished_of o.pool.puddles)) (log_number_at F o.pool.log_number) o.before behind
+      settles_behind : RecoversTo (pool_scope F (finished_of o.pool.puddles)) (log_number_at F o.pool.log_number) o.before behind
       settles_behind =
-          SettlesTo-local (pool_scope F (finished_of o.pool.puddles)) (log_number_at F o.pool.log_number) o.before j behind
+          RecoversTo-local (pool_scope F (finished_of o.pool.puddles)) (log_number_at F o.pool.log_number) o.before j behind
           (λ k inside.
           let v = mask_of_log F o.pool o.before k (and_from (leb (log_number_at F o.pool.log_number) k) _ (le-leb _ _ inside.low) (lt-ltb _ _ inside.high)) in
           stays k v.0 v.1)
           (λ k mine. stays k (o.before k) (mask_of_mine F o.pool o.before k (are.pool n o there).known mine))
-          (left.each n o there).settles
+          (left.each n o there).recovers
 
       gives_behind : GivesOwn F o.pool o.before behind
       gives_behind =

@@ -17,7 +17,7 @@ use Rattle.pud_defs.specs.Puddles.{Member, puddle_record_at}
 use Rattle.pud_defs.specs.Tables.{Tables, tables_of}
 use Rattle.pud_defs.specs.Settled.{ALL_LOGS, client_of_log, log_number_at}
 use Rattle.graph_laws.specs.Reads.{HasDistinctFrames}
-use Rattle.word_transaction.specs.Running.{SettlesTo}
+use Rattle.word_transaction.specs.Running.{RecoversTo}
 use Rattle.hybrid_tx.specs.PoolScopes.{pool_has_word, pool_scope, finished_of}
 
 -- Where a transaction is open: the slot and the record of its pool; the puddles of the pool, each with its frame, of which the words of the finished
@@ -84,4 +84,4 @@ pub record IsOpenPool (F : ℕ) (p : OpenPool) (before : Image) : Type 0 where
 pub record IsLeftOpen (F : ℕ) (p : OpenPool) (before image : Image) : Type 0 where
   pub unnamed : (k v : ℕ) → open_mask F p before k ≡ Some v → new_value device_word (log_of image DAEMON_LOG) k ≡ None
   pub records : (k : ℕ) → is_open_record p k ≡ true → image k ≡ before k
-  pub settles : SettlesTo (pool_scope F (finished_of p.puddles)) (log_number_at F p.log_number) before image
+  pub recovers : RecoversTo (pool_scope F (finished_of p.puddles)) (log_number_at F p.log_number) before image

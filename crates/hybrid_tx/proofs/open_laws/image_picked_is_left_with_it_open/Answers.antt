@@ -1,5 +1,5 @@
 use Rattle.std.proofs.Common.{subst, ℕ}
-use Rattle.word_transaction.specs.Running.{SettlesTo}
+use Rattle.word_transaction.specs.Running.{RecoversTo}
 use Rattle.word_transaction.proofs.Images.{IsRunning-settles}
 use Rattle.hybrid_tx.specs.PoolScopes.{pool_scope, finished_of}
 use Rattle.hybrid_tx.proofs.open_laws.image_picked_is_left_with_it_open.Goals as goal
@@ -9,6 +9,6 @@ returns c = λ F p types log before undone now deferred words image at is picked
     record {
       unnamed = unnamed;
       records = λ k of. (records k of).each (image k) (picked.each k);
-      settles = subst (λ (n : ℕ). SettlesTo (pool_scope F (finished_of p.puddles)) n before image) at
+      recovers = subst (λ (n : ℕ). RecoversTo (pool_scope F (finished_of p.puddles)) n before image) at
           (IsRunning-settles (pool_scope F (finished_of p.puddles)) log is.saving.es before image words is.saving.running picked);
     }

@@ -31,6 +31,6 @@ returns-clause-closes g c =
     let write = saved ground.place es in
     let may = subst (λ (k : ℕ). IsReplayable (place_of (Puddles F) (reads old.now.words)) size k es (reads old.now.words)) (sym here) (replayable size F ground log es write before old is gives places table) in
     let durable = subst (λ (k : ℕ). HasDurableLog (Puddles F) k old.now.words) (sym here) (durable_log size F ground log es write before old is gives places table) in
-    let settles = subst (λ (k : ℕ). SettlesLog (Puddles F) k fault old new) here (c.settle_log.ensures.settles t size same es may) in
+    let recovers = subst (λ (k : ℕ). SettlesLog (Puddles F) k fault old new) here (c.settle_log.ensures.settles t size same es may) in
     let moments = subst (λ (k : ℕ). Leaves (Silently (IsSettling (Puddles F) k old.now.words)) old new) here (c.settle_log.ensures.moments t size same es may durable) in
-    Closes-settled size F ground log es write before old is gives places table fault new settles moments)
+    Closes-settled size F ground log es write before old is gives places table fault new recovers moments)

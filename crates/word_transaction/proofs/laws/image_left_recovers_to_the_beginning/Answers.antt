@@ -1,5 +1,5 @@
 use Rattle.word_transaction.proofs.Images.{IsRunning-settles}
-use Rattle.word_transaction.proofs.laws.image_left_settles_to_the_beginning.Goals as goal
+use Rattle.word_transaction.proofs.laws.image_left_recovers_to_the_beginning.Goals as goal
 
 pub returns : goal.returns
 returns c = IsRunning-settles

@@ -1,7 +1,7 @@
 use Rattle.std.proofs.Common.{◌≡◌, true, false, sym, ◌∙◌}
 use Rattle.pud_defs.proofs.Replay.{not_inside}
 use Rattle.word_transaction.proofs.Growing.{settles_beside}
-use Rattle.word_transaction.proofs.laws.images_left_beside_calls_settle_to_the_beginning.Goals as goal
+use Rattle.word_transaction.proofs.laws.images_left_beside_calls_recover_to_the_beginning.Goals as goal
 
 pub returns : goal.returns
 returns c = λ g log es before fault old new changes running.
