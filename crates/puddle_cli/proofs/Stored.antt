@@ -13,7 +13,7 @@ use Rattle.pud_defs.specs.Step.{Answer}
 use Rattle.pud_defs.specs.World.{World, pools_in, stored_by, closed, nothing_open}
 use Rattle.ready_daemon.specs.Memory.{Memory, ActiveTransaction, active_under}
 use Rattle.ready_daemon.specs.Ready.{IsReady}
-use Rattle.puddled.proofs.Settling.{frames_by}
+use Rattle.puddled.proofs.LinesCarriedOut.{frames_by}
 use Rattle.ready_daemon.proofs.TablesBeside.{header_read, types_read, world_under}
 
 -- ---- a run keeps the number of frames

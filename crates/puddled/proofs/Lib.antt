@@ -17,7 +17,7 @@ pub mod Frontiers
 pub mod Carrying
 pub mod Commanding
 pub mod Listed
-pub mod Settling
+pub mod LinesCarriedOut
 pub mod Led
 pub mod Lines
 pub mod Beginning

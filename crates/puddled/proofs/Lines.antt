@@ -28,9 +28,9 @@ use Rattle.puddled.specs.Faults.{run_fault, CountsLine}
 use Rattle.ready_daemon.proofs.Beside.{ready_stands}
 use Rattle.ready_daemon.specs.Ready.{KeepsRest, KeepsInput, IsReady, IsClosedIfFree, ClosesFirst, ClosesLogs, RefusesNone}
 use Rattle.puddled.specs.Saying.{EndsIn, SaysPart}
-use Rattle.puddled.specs.Daemon.{KeepsAllBut, KeepsLine, Settles, spoken, IsAnswerText, SaysAnswer, Answers}
+use Rattle.puddled.specs.Daemon.{KeepsAllBut, KeepsLine, CarriesOutLine, spoken, IsAnswerText, SaysAnswer, Answers}
 use Rattle.puddled.proofs.Listed.{said_when_ready}
-use Rattle.puddled.proofs.Settling.{Between}
+use Rattle.puddled.proofs.LinesCarriedOut.{Between}
 use Rattle.pud_defs.proofs.Changing.{KeepsFiles-still, KeepsFiles-then}
 use Rattle.std.proofs.lemmas.Option.{none-some}
 
@@ -97,7 +97,7 @@ silent_moments size w t old new moments =
 
 -- the host failed before a byte was said
 pub Answers-fault : (size : ℕ) (w : World) (memory : Memory) (line : List ℕ) (aloud : Bool) (fault : RunFault) (before after : Counts) (old new : State)
-    → Settles size w line (Err fault) memory before after old new → Answers size w line aloud (Err fault) memory before after old new
+    → CarriesOutLine size w line (Err fault) memory before after old new → Answers size w line aloud (Err fault) memory before after old new
 Answers-fault size w memory line aloud fault before after old new s =
     record {
       turn = s.turn;
@@ -117,7 +117,7 @@ Answers-fault size w memory line aloud fault before after old new s =
 
 -- the reply is not said aloud
 pub Answers-unsaid : (size : ℕ) (w : World) (memory : Memory) (line : List ℕ) (answered : Answered) (ok : Bool) (before after : Counts) (old new : State)
-    → Settles size w line (Ok answered) memory before after old new → ((v : World) → ok ≡ begins_with_ok (answer_of v answered)) → Answers size w line false (Ok ok) memory before after old new
+    → CarriesOutLine size w line (Ok answered) memory before after old new → ((v : World) → ok ≡ begins_with_ok (answer_of v answered)) → Answers size w line false (Ok ok) memory before after old new
 Answers-unsaid size w memory line answered ok before after old new s is =
     record {
       turn = s.turn;
@@ -156,7 +156,7 @@ front_of_answer answer front prefix =
     omega arith
 
 -- the line was settled, and its reply is said
-module _ (size : ℕ) (w : World) (memory : Memory) (line : List ℕ) (answered : Answered) (before between after : Counts) (old mid new : State) (s : Settles size w line (Ok answered) memory before between old mid) where
+module _ (size : ℕ) (w : World) (memory : Memory) (line : List ℕ) (answered : Answered) (before between after : Counts) (old mid new : State) (s : CarriesOutLine size w line (Ok answered) memory before between old mid) where
   said_moments : (fault : Option HostFault) → Says (answer_text s.turn.answer) fault mid new → Leaves (StandsWith size w (s.turn ∷ [])) old new
   said_moments fault says =
       let t = s.turn in

@@ -63,7 +63,7 @@ pub record CarriesOut (size : ℕ) (w : World) (memory : Memory) (command : Opti
 -- A line was carried out, or refused, or cut off and the daemon started again, all without a word: at every moment the images stand for the
 -- world before it or the one that it gives, and without a fault the daemon is ready, with this memory, in the world from which the run goes on.
 -- A client that goes has its logs closed first. In no image a registered log is refused.
-pub record Settles (size : ℕ) (w : World) (line : List ℕ) (result : Result Answered RunFault) (memory : Memory) (before after : Counts) (old new : State) : Type 0 where
+pub record CarriesOutLine (size : ℕ) (w : World) (line : List ℕ) (result : Result Answered RunFault) (memory : Memory) (before after : Counts) (old new : State) : Type 0 where
   pub turn : Turn
   pub of_line : turn.line ≡ line
   pub is_turn : IsTurn w turn

@@ -17,7 +17,7 @@ ghost use Rattle.pud_defs.specs.Step.{refusal_of};
 ghost use Rattle.puddled.specs.Frontiers.{LeadFrontiers, MoveOnTheWay};
 ghost use Rattle.puddled.specs.Rewriting.{DoesSteps};
 ghost use Rattle.puddled.specs.Starting.{IsReplayed, Recovers};
-ghost use Rattle.puddled.specs.Daemon.{KeepsAllBut, KeepsLine, CarriesOut, Settles};
+ghost use Rattle.puddled.specs.Daemon.{KeepsAllBut, KeepsLine, CarriesOut, CarriesOutLine};
 
 use crate::answers::{Answered, say_answer, with_reply};
 use crate::clients::come;
@@ -153,7 +153,7 @@ fn restart<H: Host>(h: &mut H) -> Result<Daemon, StartFault>
 {
     let report = recover(h)?;
     clear_spaces(h)?;
-    Ok(Daemon::begun(report.frames))
+    Ok(Daemon::with_frames(report.frames))
 }
 
 /// Loses power at once: the daemon is to start again behind it, as behind each power loss.
@@ -279,7 +279,7 @@ fn reply_behind_loss(command: Command) -> Reply
 }
 
 /// Goes on behind the command: where power was lost in it, the daemon starts again.
-fn go_on<H: Host>(
+fn restart_if_cut<H: Host>(
     daemon: &mut Daemon,
     h: &mut H,
     command: Command,
@@ -290,7 +290,7 @@ fn go_on<H: Host>(
     ensures settles { H.tells → (size : ℕ) → size ≡ (H.counts h.old).size → (w : World) → (line : List ℕ) → (counted : Counts) → (before : State)
         → command_of line ≡ Option.Some command → before.shelf ≡ w.shelf
         → CarriesOut size w daemon.old (command_of line) done counted (H.counts h.old) before (H.state h.old)
-        → Settles size w line result daemon.new counted (H.counts h.new) before (H.state h.new) }
+        → CarriesOutLine size w line result daemon.new counted (H.counts h.new) before (H.state h.new) }
     // Each frontier is on the way to where the command leads it, and there where it was not cut.
     ensures frontiers { H.tells → (size : ℕ) → size ≡ (H.counts h.old).size → (w : World) → (line : List ℕ) → (counted : Counts) → (before : State)
         → command_of line ≡ Option.Some command → before.shelf ≡ w.shelf
@@ -328,7 +328,7 @@ fn go_on<H: Host>(
 }
 
 /// Carries out one line without a word. Where power is lost in it the daemon starts again.
-fn settle<H: Host>(
+fn carry_out_line<H: Host>(
     daemon: &mut Daemon,
     alloc: Global,
     h: &mut H,
@@ -336,7 +336,7 @@ fn settle<H: Host>(
 ) -> Result<Answered, RunFault>
     requires { device_words daemon.old.frames ≤ (H.counts h.old).size }
     ensures settles { H.tells → (size : ℕ) → size ≡ (H.counts h.old).size → (w : World) → IsReady size w daemon.old (H.state h.old)
-        → Settles size w line.now result daemon.new (H.counts h.old) (H.counts h.new) (H.state h.old) (H.state h.new) }
+        → CarriesOutLine size w line.now result daemon.new (H.counts h.old) (H.counts h.new) (H.state h.old) (H.state h.new) }
     ensures frontiers { H.tells → (size : ℕ) → size ≡ (H.counts h.old).size → (w : World) → IsReady size w daemon.old (H.state h.old)
         → IfOk result (λ answered. LeadFrontiers w (command_of line.now) (answered ≡ Answered.Reply Reply.Cut → ⊥) (reads (H.state h.old).now.words) (reads (H.state h.new).now.words)) }
     ensures moves { H.tells → (size : ℕ) → size ≡ (H.counts h.old).size → (w : World) → IsReady size w daemon.old (H.state h.old)
@@ -357,7 +357,7 @@ fn settle<H: Host>(
         return Ok(Answered::Reply(Reply::No(Refusal::Bad)));
     };
     let done = apply(daemon, alloc, h, command);
-    go_on(daemon, h, command, done)
+    restart_if_cut(daemon, h, command, done)
 }
 
 impl Daemon {
@@ -369,7 +369,7 @@ impl Daemon {
     ghost use Rattle.puddled.specs.Daemon.{spoken, SaysAnswer, Answers};
 
     /// The daemon of a device of so many frames behind a start: no transaction is open, and no pool was judged.
-    fn begun(frames: u32) -> Daemon
+    fn with_frames(frames: u32) -> Daemon
         requires some { MIN_FRAMES ≤ frames }
         requires no_more { frames ≤ MAX_FRAMES }
         ensures { result ≡ first_memory frames }
@@ -409,7 +409,7 @@ impl Daemon {
         say_refused(h, &report.marks)?;
         clear_spaces(h)?;
         say_ready(h)?;
-        Ok(Daemon::begun(report.frames))
+        Ok(Daemon::with_frames(report.frames))
     }
 
     /// How many frames the device has, 4 to 1,024, as the start found it.
@@ -473,7 +473,7 @@ impl Daemon {
         // line `cut N` that loss, and at a line `arm K N` that arming.
         ensures cause { CountsReply (command_of line.now) result false (H.counts h.old) (H.counts h.new) }
     {
-        let answered = settle(self, alloc, h, line)?;
+        let answered = carry_out_line(self, alloc, h, line)?;
         if aloud {
             say_answer(h, self.frames, &answered)?;
         }

@@ -59,7 +59,7 @@ returns-clause-recovers g c = λ t size same w rested world shelf.
     let recovers = c.in_ok-report.ensures.recovers t size same (closed w) rested world in
     let empties = c.in_ok-clear_spaces.ensures.empties t (idle_gate_behind size w a world b d said replays recovers) in
     let ready = ready_behind size w (reads a.now.words) world b d (behind_recovery size (closed w) a b replays recovers) empties c.in_ok-report.report.frames (c.in_ok-report.ensures.frames t) (rest.shelf ∙ shelf) in
-    Recovers-by size w a world b d said replays recovers None empties (Ok c.begun.result) rest.script rest.shelf (subst (λ (m : Memory). IsReady size (restart w) m d) (sym c.begun.ensures) ready)
+    Recovers-by size w a world b d said replays recovers None empties (Ok c.with_frames.result) rest.script rest.shelf (subst (λ (m : Memory). IsReady size (restart w) m d) (sym c.with_frames.ensures) ready)
 
 pub returns-clause-rest : goal.returns-clause-rest
 returns-clause-rest g c = λ t. KeepsRest-then _ _ _ (KeepsRest-changes _ _ _ _ (c.in_ok-report.ensures.any t)) (KeepsRest-changes _ _ _ _ (c.in_ok-clear_spaces.ensures.any t))

@@ -59,7 +59,7 @@ returns-in_err-say_answer-clause-answers g c =
     rw (p.1, p.2, c.if-aloud.true) (λ t size e w ready.
     let s = c.in_ok-answered.ensures.settles t size e w ready in
     let fault = c.in_err-say_answer.field-0.0 in
-    Answers-said size w _ c.args.line.now _ _ _ _ _ _ _ s (Err (of_host fault)) (Some fault) (said_by _ _ (reads (g.H.Host.state c.settle.new.h).now.words) c.in_ok-answered.answered _ _ _ (ap (λ (m : Memory). m.frames) c.self.view_is) (c.in_err-say_answer.ensures.says t _ refl)) (λ no. absurd (not_none (of_host fault) no)) (λ v. tt) (host_is_sound fault)
+    Answers-said size w _ c.args.line.now _ _ _ _ _ _ _ s (Err (of_host fault)) (Some fault) (said_by _ _ (reads (g.H.Host.state c.carry_out_line.new.h).now.words) c.in_ok-answered.answered _ _ _ (ap (λ (m : Memory). m.frames) c.self.view_is) (c.in_err-say_answer.ensures.says t _ refl)) (λ no. absurd (not_none (of_host fault) no)) (λ v. tt) (host_is_sound fault)
     (counted_say _ fault _ _ _ _ (one_reply s.turn) s.counted c.in_err-say_answer.ensures.cause c.in_err-say_answer.ensures.never_cut))
 
 pub returns-clause-restarted : goal.returns-clause-restarted
@@ -75,7 +75,7 @@ returns-clause-answers g c = λ t size e w ready.
     let s = c.in_ok-answered.ensures.settles t size e w ready in
     elim c.if-aloud.branch [
       | then-aloud+in_ok-say_answer b ↦
-          rw (b.if-aloud.true, b.h-is) (Answers-said size w _ c.args.line.now _ _ _ _ _ _ _ s (Ok c.is_ok.result) None (said_by _ _ (reads (g.H.Host.state c.settle.new.h).now.words) c.in_ok-answered.answered _ _ _ (ap (λ (m : Memory). m.frames) c.self.view_is) (b.in_ok-say_answer.ensures.says t _ refl)) (λ _. refl)
+          rw (b.if-aloud.true, b.h-is) (Answers-said size w _ c.args.line.now _ _ _ _ _ _ _ s (Ok c.is_ok.result) None (said_by _ _ (reads (g.H.Host.state c.carry_out_line.new.h).now.words) c.in_ok-answered.answered _ _ _ (ap (λ (m : Memory). m.frames) c.self.view_is) (b.in_ok-say_answer.ensures.says t _ refl)) (λ _. refl)
           c.is_ok.ensures (none_is_sound) (counted_same _ _ _ _ _ _ s.counted b.in_ok-say_answer.ensures.cause))
       | else-aloud b ↦ rw (b.if-aloud.false, b.h-is) (Answers-unsaid size w _ c.args.line.now _ c.is_ok.result _ _ _ _ s c.is_ok.ensures)
     ]
@@ -95,8 +95,8 @@ returns-clause-told g c = λ t. elim c.if-aloud.branch [
   | then-aloud+in_ok-say_answer b ↦
       rw (b.if-aloud.true, b.h-is) (λ _ moved.
       let cut = cut_is_answered _ c.in_ok-answered.answered (answers.Reply replies.Cut) _ _ _ c.in_ok-answered.ensures.cause b.in_ok-say_answer.ensures.cause moved in
-      answer_last _ (reads (g.H.Host.state c.settle.new.h).now.words) c.in_ok-answered.answered _ _ _ cut (b.in_ok-say_answer.ensures.says t _ refl))
-  | else-aloud b ↦ rw (b.if-aloud.false, b.h-is) (λ _ moved. nothing_last (g.H.Host.state c.settle.new.h))
+      answer_last _ (reads (g.H.Host.state c.carry_out_line.new.h).now.words) c.in_ok-answered.answered _ _ _ cut (b.in_ok-say_answer.ensures.says t _ refl))
+  | else-aloud b ↦ rw (b.if-aloud.false, b.h-is) (λ _ moved. nothing_last (g.H.Host.state c.carry_out_line.new.h))
 ]
 
 pub returns-in_err-say_answer-clause-rest : goal.returns-in_err-say_answer-clause-rest
@@ -134,7 +134,7 @@ returns-in_err-say_answer-clause-speaks g c =
 pub returns-clause-frontiers : goal.returns-clause-frontiers
 returns-clause-frontiers g c = λ t size e w ready.
     let old = reads (g.H.Host.state c.args.h.now).now.words in
-    let settled = reads (g.H.Host.state c.settle.new.h).now.words in
+    let settled = reads (g.H.Host.state c.carry_out_line.new.h).now.words in
     let line = command_of c.args.line.now in
     let uncut : c.is_ok.result ≡ true → c.in_ok-answered.answered ≡ answers.Reply replies.Cut → ⊥ = λ ok cut.
     let no : true ≡ false = sym ok ∙ c.is_ok.ensures no_world ∙ ap (λ (a : Answered). begins_with_ok (answer_of no_world a)) cut ∙ cut_is_not_ok in cc in

@@ -223,7 +223,7 @@ returns-clause-starts g c = λ t size same w rested world shelf.
     record {
       says = SaysPart-ready i a b rest.quiet c1 lines d still.quiet None e ready;
       moments = In-ready size w a world b rest.quiet replays recovers c1 lines d empties None e ready;
-      ready = subst (λ (m : Memory). IsReady size (restart w) m e) (sym c.begun.ensures) there;
+      ready = subst (λ (m : Memory). IsReady size (restart w) m e) (sym c.with_frames.ensures) there;
       script = kept.script;
       shelf = kept.shelf;
     }
@@ -290,4 +290,4 @@ returns-clause-frames g c = λ t rested.
     (λ s world. subst (λ (x : Words). IsBehindRecovery size s i x) (sym words) (behind_recovery size s a b (c.in_ok-report.ensures.replays t size refl s world) (c.in_ok-report.ensures.recovers t size refl s rested world)))
     (c.in_ok-clear_spaces.ensures.empties t) in
     let same = words_said _ _ d (g.H.Host.state c.say_ready.new.h) (c.in_ok-say_ready.ensures.says t) in
-    ap (λ (m : Memory). m.frames) c.begun.ensures ∙ c.in_ok-report.ensures.frames t ∙ behind.frames ∙ ap (λ (x : Words). frames_of (reads x)) (sym same)
+    ap (λ (m : Memory). m.frames) c.with_frames.ensures ∙ c.in_ok-report.ensures.frames t ∙ behind.frames ∙ ap (λ (x : Words). frames_of (reads x)) (sym same)

@@ -5,7 +5,7 @@ use Rattle.ready_daemon.specs.ActiveTransactions.{AreActiveWithin}
 use Rattle.ready_daemon.specs.Judged.{AreOnDevice}
 use Rattle.ready_daemon.proofs.Known.{AreOnDevice-none}
 use Rattle.ready_daemon.proofs.NoneActive.{AreActiveWithin-none}
-use Rattle.puddled.proofs.daemon.Daemon.begun.Goals as goal
+use Rattle.puddled.proofs.daemon.Daemon.with_frames.Goals as goal
 
 pub invariant_of-result : goal.invariant_of-result
 invariant_of-result c =

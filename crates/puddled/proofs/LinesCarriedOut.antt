@@ -32,7 +32,7 @@ use Rattle.puddled.specs.declared.answers.Answered.{Answered}
 use Rattle.puddled.specs.declared.answers.Answered.TheVariants as answers
 use Rattle.ready_daemon.specs.Ready.{IsReady, AppliesBy, IsClosedIfFree, IsClosedIfNamed, ClosesFirst, ClosesBefore, ClosesLogs, RefusesNone, StandsBetween}
 use Rattle.puddled.specs.Starting.{Recovers}
-use Rattle.puddled.specs.Daemon.{CarriesOut, Settles}
+use Rattle.puddled.specs.Daemon.{CarriesOut, CarriesOutLine}
 use Rattle.ready_daemon.proofs.Turns.{turn_of, is_turn_of, cut_turn, is_cut_turn}
 use Rattle.puddled.proofs.Counted.{counted_step, counted_cut, kind_done, kind_faulty, kind_unstarted, host_is_sound}
 use Rattle.puddled.proofs.Carrying.{restart_line, lost_answer}
@@ -65,7 +65,7 @@ unsound_start (starts.Host fault) is = absurd (host_is_sound fault (ap Some is))
 
 module _ (size : ℕ) (w : World) (memory : Memory) (line : List ℕ) (before between : Counts) (old mid : State) where
   -- the line was done: the reply is the machine's
-  pub Settles-done : (answered : Answered) → CarriesOut size w memory (command_of line) (Ok answered) before between old mid → Settles size w line (Ok answered) memory before between old mid
+  pub Settles-done : (answered : Answered) → CarriesOut size w memory (command_of line) (Ok answered) before between old mid → CarriesOutLine size w line (Ok answered) memory before between old mid
   Settles-done answered k =
       record {
         turn = turn_of line k.said k.under;
@@ -84,7 +84,7 @@ module _ (size : ℕ) (w : World) (memory : Memory) (line : List ℕ) (before be
       }
 
   -- the host failed: nothing was said of the line
-  pub Settles-failed : (now : Memory) → CarriesOut size w memory (command_of line) (Err hosts.Failed) before between old mid → Settles size w line (Err faults.Failed) now before between old mid
+  pub Settles-failed : (now : Memory) → CarriesOut size w memory (command_of line) (Err hosts.Failed) before between old mid → CarriesOutLine size w line (Err faults.Failed) now before between old mid
   Settles-failed now k =
       record {
         turn = turn_of line k.said k.under;
@@ -228,7 +228,7 @@ module _ (size : ℕ) (w : World) (memory : Memory) (line : List ℕ) (before be
 
   module _ (now : Memory) (after : Counts) (new : State) where
     -- the daemon started again behind a line that was cut off
-    Settles-cut : kind_of (command_of line) ≡ ordinary → Recovers size found_world (Ok now) mid new → after ≡ between → Settles size w line (Ok (answers.Reply replies.Cut)) now before after old new
+    Settles-cut : kind_of (command_of line) ≡ ordinary → Recovers size found_world (Ok now) mid new → after ≡ between → CarriesOutLine size w line (Ok (answers.Reply replies.Cut)) now before after old new
     Settles-cut is r same =
         let lost : between ≡ after_fault (Some hosts.Cut) before = subst (λ (x : Kind). CountsCommand x (Some hosts.Cut) before between) is k.counted in
         record {
@@ -248,7 +248,7 @@ module _ (size : ℕ) (w : World) (memory : Memory) (line : List ℕ) (before be
         }
 
     -- or behind one that asks for it
-    Settles-lost : (pick : ℕ) → kind_of (command_of line) ≡ loses pick → Recovers size found_world (Ok now) mid new → after ≡ between → Settles size w line (Ok (answers.Reply replies.Ok)) now before after old new
+    Settles-lost : (pick : ℕ) → kind_of (command_of line) ≡ loses pick → Recovers size found_world (Ok now) mid new → after ≡ between → CarriesOutLine size w line (Ok (answers.Reply replies.Ok)) now before after old new
     Settles-lost pick is r same =
         let it = restart_line w (command_of line) pick is in
         let lost = subst (λ (x : Kind). CountsCommand x (Some hosts.Cut) before between) is k.counted in
@@ -270,7 +270,7 @@ module _ (size : ℕ) (w : World) (memory : Memory) (line : List ℕ) (before be
         }
 
     -- the daemon started again
-    pub Settles-again : (kind : Kind) → kind_of (command_of line) ≡ kind → Recovers size found_world (Ok now) mid new → after ≡ between → Settles size w line (Ok (answers.Reply (behind_loss kind))) now before after old new
+    pub Settles-again : (kind : Kind) → kind_of (command_of line) ≡ kind → Recovers size found_world (Ok now) mid new → after ≡ between → CarriesOutLine size w line (Ok (answers.Reply (behind_loss kind))) now before after old new
     Settles-again ordinary is r same = Settles-cut is r same
     Settles-again (loses pick) is r same = Settles-lost pick is r same
     Settles-again (arms step pick) is r same =
@@ -278,7 +278,7 @@ module _ (size : ℕ) (w : World) (memory : Memory) (line : List ℕ) (before be
 
     -- the host failed in the restart, or power was lost in it
     Settles-failed_again : (fault : HostFault) → Recovers size found_world (Err (starts.Host fault)) mid new → CountsLine (command_of line) (Some (of_host fault)) 0 before after
-        → Settles size w line (Err (of_host fault)) now before after old new
+        → CarriesOutLine size w line (Err (of_host fault)) now before after old new
     Settles-failed_again fault r counts =
         record {
           turn = turn_of line k.said k.under;
@@ -297,7 +297,7 @@ module _ (size : ℕ) (w : World) (memory : Memory) (line : List ℕ) (before be
         }
 
     pub Settles-unstarted : (fault : StartFault) → (fault ≡ starts.NotSound → ⊥) → Recovers size found_world (Err fault) mid new → after ≡ after_fault (start_fault {T = Memory} (Err fault)) between
-        → Settles size w line (Err (of_start fault)) now before after old new
+        → CarriesOutLine size w line (Err (of_start fault)) now before after old new
     Settles-unstarted starts.NotSound sound r last = absurd (sound refl)
     Settles-unstarted (starts.Host fault) sound r last =
         Settles-failed_again fault r (kind_unstarted (kind_of (command_of line)) (starts.Host fault) before between after k.counted last)

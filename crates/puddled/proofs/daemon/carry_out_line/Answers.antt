@@ -18,13 +18,13 @@ use Rattle.puddled.specs.declared.daemon.RunFault.TheVariants as faults
 use Rattle.puddled.specs.Daemon.{KeepsAllBut, CarriesOut}
 use Rattle.puddled.proofs.Counted.{counted_nothing, bad_loses_nothing, size_of_command}
 use Rattle.puddled.proofs.Carrying.{CarriesOut-bad, KeepsAllBut-then}
-use Rattle.puddled.proofs.Settling.{Settles-done}
+use Rattle.puddled.proofs.LinesCarriedOut.{Settles-done}
 use Rattle.puddled.specs.Frontiers.{LeadFrontiers, MoveOnTheWay}
 use Rattle.puddled.proofs.Led.{LeadFrontiers-bad, MoveOnTheWay-done}
 use Rattle.std.proofs.lemmas.Option.{none-some, same_Some}
 use Rattle.pud_defs.specs.Step.{refusal_of}
 use Rattle.pud_defs.specs.declared.machine.Command.TheVariants.{Rewrite}
-use Rattle.puddled.proofs.daemon.settle.Goals as goal
+use Rattle.puddled.proofs.daemon.carry_out_line.Goals as goal
 
 pub returns-in_default-clause-settles : goal.returns-in_default-clause-settles
 returns-in_default-clause-settles g c = λ t size e w ready.
@@ -35,7 +35,7 @@ pub returns-clause-settles : goal.returns-clause-settles
 returns-clause-settles g c = λ t size e w ready.
     let is : command_of c.args.line.now ≡ Some c.in-Ok.command = sym c.in-Ok.ensures.command in
     let after = e ∙ sym (size_of_command (kind_of (Some c.in-Ok.command)) (fault_of c.apply-done.result) _ _ c.apply-done.ensures.cause) in
-    c.go_on.ensures.settles t size after w c.args.line.now _ _ is ready.shelf
+    c.restart_if_cut.ensures.settles t size after w c.args.line.now _ _ is ready.shelf
     (subst (λ (o : Option Command). CarriesOut size w c.apply-done.new.daemon o c.apply-done.result (g.H.Host.counts c.args.h.now) (g.H.Host.counts c.apply-done.new.h) (g.H.Host.state c.args.h.now) (g.H.Host.state c.apply-done.new.h)) (sym is) (c.apply-done.ensures.carries t size e w ready))
 
 pub returns-in_default-clause-restarted : goal.returns-in_default-clause-restarted
@@ -49,27 +49,27 @@ returns-in_default-clause-cause g c =
 pub returns-clause-restarted : goal.returns-clause-restarted
 returns-clause-restarted g c = λ t ok moved none.
     let same = size_of_command (kind_of (Some c.in-Ok.command)) (fault_of c.apply-done.result) _ _ c.apply-done.ensures.cause in
-    let lost = subst (λ (o : Option Command). HasLostPower o (g.H.Host.counts c.args.h.now) (g.H.Host.counts c.go_on.new.h)) (sym c.in-Ok.ensures.command) moved in
-    c.go_on.ensures.restarted t (c.apply-done.ensures.rests t) _ c.apply-done.ensures.cause ok lost
-    (ap (λ (n : ℕ). world_of n (reads (g.H.Host.state c.go_on.new.h).now.words)) same ∙ none)
+    let lost = subst (λ (o : Option Command). HasLostPower o (g.H.Host.counts c.args.h.now) (g.H.Host.counts c.restart_if_cut.new.h)) (sym c.in-Ok.ensures.command) moved in
+    c.restart_if_cut.ensures.restarted t (c.apply-done.ensures.rests t) _ c.apply-done.ensures.cause ok lost
+    (ap (λ (n : ℕ). world_of n (reads (g.H.Host.state c.restart_if_cut.new.h).now.words)) same ∙ none)
 
 pub returns-clause-not_sound : goal.returns-clause-not_sound
 returns-clause-not_sound g c = λ t unsound.
     let same = size_of_command (kind_of (Some c.in-Ok.command)) (fault_of c.apply-done.result) _ _ c.apply-done.ensures.cause in
-    ap (λ (n : ℕ). world_of n (reads (g.H.Host.state c.go_on.new.h).now.words)) (sym same) ∙ c.go_on.ensures.not_sound t unsound
+    ap (λ (n : ℕ). world_of n (reads (g.H.Host.state c.restart_if_cut.new.h).now.words)) (sym same) ∙ c.restart_if_cut.ensures.not_sound t unsound
 
 pub returns-clause-rest : goal.returns-clause-rest
 returns-clause-rest g c = λ t.
-    subst (λ (o : Option Command). KeepsAllBut (file_in o) (g.H.Host.state c.args.h.now) (g.H.Host.state c.go_on.new.h)) c.in-Ok.ensures.command (KeepsAllBut-then _ _ _ _ (c.apply-done.ensures.rest t) (c.go_on.ensures.rest t))
+    subst (λ (o : Option Command). KeepsAllBut (file_in o) (g.H.Host.state c.args.h.now) (g.H.Host.state c.restart_if_cut.new.h)) c.in-Ok.ensures.command (KeepsAllBut-then _ _ _ _ (c.apply-done.ensures.rest t) (c.restart_if_cut.ensures.rest t))
 
 pub returns-clause-cause : goal.returns-clause-cause
 returns-clause-cause g c =
-    subst (λ (o : Option Command). CountsReply o c.go_on.result (answers.Reply replies.Cut) (g.H.Host.counts c.args.h.now) (g.H.Host.counts c.go_on.new.h)) c.in-Ok.ensures.command (c.go_on.ensures.cause _ c.apply-done.ensures.cause)
+    subst (λ (o : Option Command). CountsReply o c.restart_if_cut.result (answers.Reply replies.Cut) (g.H.Host.counts c.args.h.now) (g.H.Host.counts c.restart_if_cut.new.h)) c.in-Ok.ensures.command (c.restart_if_cut.ensures.cause _ c.apply-done.ensures.cause)
 
 pub returns-clause-room : goal.returns-clause-room
 returns-clause-room g c =
     let same = size_of_command (kind_of (Some c.in-Ok.command)) (fault_of c.apply-done.result) _ _ c.apply-done.ensures.cause in
-    subst (λ (n : ℕ). device_words c.go_on.new.daemon.frames ≤ n) same c.go_on.ensures.room
+    subst (λ (n : ℕ). device_words c.restart_if_cut.new.daemon.frames ≤ n) same c.restart_if_cut.ensures.room
 
 pub returns-in_default-clause-frontiers : goal.returns-in_default-clause-frontiers
 returns-in_default-clause-frontiers g c = λ t size e w ready.
@@ -81,7 +81,7 @@ pub returns-clause-frontiers : goal.returns-clause-frontiers
 returns-clause-frontiers g c = λ t size e w ready.
     let is : command_of c.args.line.now ≡ Some c.in-Ok.command = sym c.in-Ok.ensures.command in
     let after = e ∙ sym (size_of_command (kind_of (Some c.in-Ok.command)) (fault_of c.apply-done.result) _ _ c.apply-done.ensures.cause) in
-    c.go_on.ensures.frontiers t size after w c.args.line.now _ _ is ready.shelf
+    c.restart_if_cut.ensures.frontiers t size after w c.args.line.now _ _ is ready.shelf
     (subst (λ (o : Option Command). CarriesOut size w c.apply-done.new.daemon o c.apply-done.result (g.H.Host.counts c.args.h.now) (g.H.Host.counts c.apply-done.new.h) (g.H.Host.state c.args.h.now) (g.H.Host.state c.apply-done.new.h)) (sym is) (c.apply-done.ensures.carries t size e w ready))
 
 pub returns-in_default-clause-steps : goal.returns-in_default-clause-steps
@@ -91,7 +91,7 @@ returns-in_default-clause-steps g c = λ t size e w ready name n is free cut.
 pub returns-clause-steps : goal.returns-clause-steps
 returns-clause-steps g c = λ t size e w ready name n is free.
     let asked : c.in-Ok.command ≡ Rewrite name n = same_Some c.in-Ok.command (Rewrite name n) (c.in-Ok.ensures.command ∙ is) in
-    c.go_on.ensures.steps t w.stored.frames name n (g.H.Host.state c.args.h.now) (c.apply-done.ensures.steps t size e w ready name n asked (ap (refusal_of w) asked ∙ free)) asked
+    c.restart_if_cut.ensures.steps t w.stored.frames name n (g.H.Host.state c.args.h.now) (c.apply-done.ensures.steps t size e w ready name n asked (ap (refusal_of w) asked ∙ free)) asked
 
 pub returns-in_default-clause-moves : goal.returns-in_default-clause-moves
 returns-in_default-clause-moves g c = λ t size e w ready.
@@ -104,5 +104,5 @@ pub returns-clause-moves : goal.returns-clause-moves
 returns-clause-moves g c = λ t size e w ready.
     let is : command_of c.args.line.now ≡ Some c.in-Ok.command = sym c.in-Ok.ensures.command in
     let after = e ∙ sym (size_of_command (kind_of (Some c.in-Ok.command)) (fault_of c.apply-done.result) _ _ c.apply-done.ensures.cause) in
-    c.go_on.ensures.moves t size after w c.args.line.now _ _ is ready.shelf
+    c.restart_if_cut.ensures.moves t size after w c.args.line.now _ _ is ready.shelf
     (subst (λ (o : Option Command). CarriesOut size w c.apply-done.new.daemon o c.apply-done.result (g.H.Host.counts c.args.h.now) (g.H.Host.counts c.apply-done.new.h) (g.H.Host.state c.args.h.now) (g.H.Host.state c.apply-done.new.h)) (sym is) (c.apply-done.ensures.carries t size e w ready))
