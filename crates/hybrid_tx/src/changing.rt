@@ -27,7 +27,7 @@ ghost use Rattle.word_transaction.specs.Running.{ByTransaction};
 ghost use Rattle.hybrid_tx.specs.PoolScopes.{pool_scope, finished_of, IsPlaced, IsRewrittenAt};
 ghost use Rattle.pud_defs.specs.DeferredValues.{DeferredValue, deferred_set_names};
 ghost use Rattle.hybrid_tx.specs.Objects.Stores.{address_at, word_for, IsPlaceAndWord, LacksPlaceOrWord, new_words, ByPutBoth};
-ghost use Rattle.hybrid_tx.specs.Objects.Transactions.{MayName, MaySet, IsRewrittenFor, IsRewrittenAtLowest, MayFree, IsSaving, IsOpenOn, Saves, RunsOn, MakesIn};
+ghost use Rattle.hybrid_tx.specs.Objects.Transactions.{MayName, MaySet, IsRewrittenFor, IsRewrittenAtLowest, MayFree, IsSaving, IsOpenOn, KeepsSaving, KeepsOpenOn, MakesIn};
 
 use crate::Tx;
 use graph_read::find_serial;
@@ -146,7 +146,7 @@ impl Tx {
         ensures changes { H.tells → Changes (ByTransaction (pool_scope frames pool.now) (self.old).log.gate_at) (fault_of result) (H.state h.old) (H.state h.new) }
         ensures runs { H.tells → (types : List (ℕ × ℕ)) (before : Image) (undone : Graph) (now : Graph) (deferred : List DeferredValue) → IsPlaced frames pool.now
             → IsRewrittenFor frames pool.now (reads (H.state h.old).now.words) s → IsOpenOn frames pool.now types (self.old).log before undone now deferred (H.state h.old).now.words → MaySet types now s f x
-            → RunsOn frames pool.now types (self.new).log before undone (with_field s f x now) deferred (fault_of result) (H.state h.old) (H.state h.new) }
+            → KeepsOpenOn frames pool.now types (self.new).log before undone (with_field s f x now) deferred (fault_of result) (H.state h.old) (H.state h.new) }
         ensures counts { H.tells → (types : List (ℕ × ℕ)) (before : Image) (undone : Graph) (now : Graph) (deferred : List DeferredValue) → IsPlaced frames pool.now
             → IsOpenOn frames pool.now types (self.old).log before undone now deferred (H.state h.old).now.words → MaySet types now s f x
             → IfOk result (λ _. (self.new).units ≡ (self.old).units + SET_UNITS) }
@@ -186,7 +186,7 @@ impl Tx {
         ensures runs { H.tells → (types : List (ℕ × ℕ)) (before : Image) (undone : Graph) (now : Graph) (deferred : List DeferredValue) (s : ℕ) (x : Val) → IsPlaced frames pool.now
             → IsRewrittenFor frames pool.now (reads (H.state h.old).now.words) s → IsOpenOn frames pool.now types (self.old).log before undone now deferred (H.state h.old).now.words → MaySet types now s f x
             → place_in_pool frames pool.now (reads (H.state h.old).now.words) s ≡ Option.Some (place_of_slot at.now) → word_for frames pool.now (reads (H.state h.old).now.words) x ≡ Option.Some word
-            → RunsOn frames pool.now types (self.new).log before undone (with_field s f x now) deferred (fault_of result) (H.state h.old) (H.state h.new) }
+            → KeepsOpenOn frames pool.now types (self.new).log before undone (with_field s f x now) deferred (fault_of result) (H.state h.old) (H.state h.new) }
         ensures counts { IfOk result (λ _. (self.new).units ≡ (self.old).units + SET_UNITS) }
         ensures cause { H.counts h.new ≡ after_fault (fault_of result) (H.counts h.old) }
     {
@@ -217,7 +217,7 @@ impl Tx {
             → Changes (ByPutBoth (self.old).log.gate_at (frame_at frames at.now.frame + slot_begins at.now) words.now (frame_at frames first.0 + NEXT_SERIAL_WORD) next) (fault_of result) (H.state h.old) (H.state h.new) }
         ensures saves { H.tells → IsPlaced frames pool.now → (first : ℕ × Puddle) → slice_get pool.now 0 ≡ Option.Some first → IsRewrittenAt pool.now 0 → IsRewrittenAt pool.now at.now.ordinal
             → (before : Image) (redo : List Entry) → IsSaving frames (finished_of pool.now) (self.old).log before redo (H.state h.old).now.words
-            → Saves frames (finished_of pool.now) (self.new).log before redo (over (placed (frame_at frames at.now.frame + slot_begins at.now) words.now) (placed (frame_at frames first.0 + NEXT_SERIAL_WORD) (next ∷ [])))
+            → KeepsSaving frames (finished_of pool.now) (self.new).log before redo (over (placed (frame_at frames at.now.frame + slot_begins at.now) words.now) (placed (frame_at frames first.0 + NEXT_SERIAL_WORD) (next ∷ [])))
             (fault_of result) (H.state h.old) (H.state h.new) }
         ensures cause { H.counts h.new ≡ after_fault (fault_of result) (H.counts h.old) }
     {
@@ -260,7 +260,7 @@ impl Tx {
         ensures runs { H.tells → (types : List (ℕ × ℕ)) (m : ℕ) (before : Image) (undone : Graph) (now : Graph) (deferred : List DeferredValue) → IsPlaced frames pool.now
             → IsOpenOn frames pool.now types (self.old).log before undone now deferred (H.state h.old).now.words → map_of t types ≡ Option.Some m → now.next_serial < NUMBER_LIMIT
             → IsRewrittenAt pool.now 0 → IsRewrittenAt pool.now at.now.ordinal → IsFreePlace (stored_in frames pool.now (reads (H.state h.old).now.words)) (place_of_slot at.now)
-            → RunsOn frames pool.now types (self.new).log before undone (with_new (blank_object t m) now) deferred (fault_of result) (H.state h.old) (H.state h.new) }
+            → KeepsOpenOn frames pool.now types (self.new).log before undone (with_new (blank_object t m) now) deferred (fault_of result) (H.state h.old) (H.state h.new) }
         ensures makes { H.tells → (types : List (ℕ × ℕ)) (before : Image) (undone : Graph) (now : Graph) (deferred : List DeferredValue) → IsPlaced frames pool.now
             → IsOpenOn frames pool.now types (self.old).log before undone now deferred (H.state h.old).now.words → now.next_serial < NUMBER_LIMIT
             → IsRewrittenAt pool.now 0 → IsRewrittenAt pool.now at.now.ordinal
@@ -301,7 +301,7 @@ impl Tx {
         ensures runs { H.tells → (types : List (ℕ × ℕ)) (m : ℕ) (before : Image) (undone : Graph) (now : Graph) (deferred : List DeferredValue) → IsPlaced frames pool.now
             → IsOpenOn frames pool.now types (self.old).log before undone now deferred (H.state h.old).now.words → map_of t types ≡ Option.Some m → now.next_serial < NUMBER_LIMIT
             → IsRewrittenAt pool.now 0 → IsRewrittenAtLowest frames pool.now (reads (H.state h.old).now.words) → (AreAllLive (stored_in frames pool.now (reads (H.state h.old).now.words)) → ⊥)
-            → RunsOn frames pool.now types (self.new).log before undone (with_new (blank_object t m) now) deferred (fault_of result) (H.state h.old) (H.state h.new) }
+            → KeepsOpenOn frames pool.now types (self.new).log before undone (with_new (blank_object t m) now) deferred (fault_of result) (H.state h.old) (H.state h.new) }
         ensures makes { H.tells → (types : List (ℕ × ℕ)) (before : Image) (undone : Graph) (now : Graph) (deferred : List DeferredValue) → IsPlaced frames pool.now
             → IsOpenOn frames pool.now types (self.old).log before undone now deferred (H.state h.old).now.words → now.next_serial < NUMBER_LIMIT
             → IsRewrittenAt pool.now 0 → IsRewrittenAtLowest frames pool.now (reads (H.state h.old).now.words) → (slot : Slot) → IsSlotOf pool.now slot → IsLowestFreeSlot (stored_in frames pool.now (reads (H.state h.old).now.words)) (place_of_slot slot)
@@ -339,7 +339,7 @@ impl Tx {
         ensures changes { H.tells → Changes (ByTransaction (pool_scope frames pool.now) (self.old).log.gate_at) (fault_of result) (H.state h.old) (H.state h.new) }
         ensures saves { H.tells → IsPlaced frames pool.now → IsRewrittenAt pool.now at.ordinal → (before : Image) (redo : List Entry)
             → IsSaving frames (finished_of pool.now) (self.old).log before redo (H.state h.old).now.words
-            → Saves frames (finished_of pool.now) (self.new).log before redo (placed (serial_word_at frames at) (0 ∷ [])) (fault_of result) (H.state h.old) (H.state h.new) }
+            → KeepsSaving frames (finished_of pool.now) (self.new).log before redo (placed (serial_word_at frames at) (0 ∷ [])) (fault_of result) (H.state h.old) (H.state h.new) }
         ensures cause { H.counts h.new ≡ after_fault (fault_of result) (H.counts h.old) }
     {
         let serial = slot_begins(&at) + SLOT_SERIAL_WORD;
@@ -371,7 +371,7 @@ impl Tx {
         ensures runs { H.tells → (types : List (ℕ × ℕ)) (before : Image) (undone : Graph) (now : Graph) (deferred : List DeferredValue) (s : ℕ) → IsPlaced frames pool.now
             → IsRewrittenFor frames pool.now (reads (H.state h.old).now.words) s → IsOpenOn frames pool.now types (self.old).log before undone now deferred (H.state h.old).now.words → MayFree now s → deferred_set_names s deferred ≡ false
             → place_in_pool frames pool.now (reads (H.state h.old).now.words) s ≡ Option.Some (place_of_slot at.now)
-            → RunsOn frames pool.now types (self.new).log before undone (without_object s now) deferred (fault_of result) (H.state h.old) (H.state h.new) }
+            → KeepsOpenOn frames pool.now types (self.new).log before undone (without_object s now) deferred (fault_of result) (H.state h.old) (H.state h.new) }
         ensures counts { IfOk result (λ _. (self.new).units ≡ (self.old).units + SET_UNITS) }
         ensures cause { H.counts h.new ≡ after_fault (fault_of result) (H.counts h.old) }
     {
@@ -400,7 +400,7 @@ impl Tx {
         ensures changes { H.tells → Changes (ByTransaction (pool_scope frames pool.now) (self.old).log.gate_at) (fault_of result) (H.state h.old) (H.state h.new) }
         ensures runs { H.tells → (types : List (ℕ × ℕ)) (before : Image) (undone : Graph) (now : Graph) (deferred : List DeferredValue) → IsPlaced frames pool.now
             → IsRewrittenFor frames pool.now (reads (H.state h.old).now.words) s → IsOpenOn frames pool.now types (self.old).log before undone now deferred (H.state h.old).now.words → MayFree now s → deferred_set_names s deferred ≡ false
-            → RunsOn frames pool.now types (self.new).log before undone (without_object s now) deferred (fault_of result) (H.state h.old) (H.state h.new) }
+            → KeepsOpenOn frames pool.now types (self.new).log before undone (without_object s now) deferred (fault_of result) (H.state h.old) (H.state h.new) }
         ensures counts { H.tells → (types : List (ℕ × ℕ)) (before : Image) (undone : Graph) (now : Graph) (deferred : List DeferredValue)
             → IsOpenOn frames pool.now types (self.old).log before undone now deferred (H.state h.old).now.words → MayFree now s
             → IfOk result (λ _. (self.new).units ≡ (self.old).units + SET_UNITS) }
@@ -436,7 +436,7 @@ impl Tx {
         ensures changes { H.tells → Changes (ByTransaction (pool_scope frames pool.now) (self.old).log.gate_at) (fault_of result) (H.state h.old) (H.state h.new) }
         ensures runs { H.tells → (types : List (ℕ × ℕ)) (before : Image) (undone : Graph) (now : Graph) (deferred : List DeferredValue) → IsPlaced frames pool.now
             → IsRewrittenAt pool.now 0 → IsOpenOn frames pool.now types (self.old).log before undone now deferred (H.state h.old).now.words → MayName now s
-            → RunsOn frames pool.now types (self.new).log before undone (with_root s now) deferred (fault_of result) (H.state h.old) (H.state h.new) }
+            → KeepsOpenOn frames pool.now types (self.new).log before undone (with_root s now) deferred (fault_of result) (H.state h.old) (H.state h.new) }
         ensures counts { H.tells → (types : List (ℕ × ℕ)) (before : Image) (undone : Graph) (now : Graph) (deferred : List DeferredValue) → IsPlaced frames pool.now
             → IsOpenOn frames pool.now types (self.old).log before undone now deferred (H.state h.old).now.words → MayName now s
             → IfOk result (λ _. (self.new).units ≡ (self.old).units + SET_UNITS) }
@@ -472,7 +472,7 @@ impl Tx {
         ensures runs { H.tells → (types : List (ℕ × ℕ)) (before : Image) (undone : Graph) (now : Graph) (deferred : List DeferredValue) (s : ℕ) → IsPlaced frames pool.now
             → IsRewrittenAt pool.now 0 → IsOpenOn frames pool.now types (self.old).log before undone now deferred (H.state h.old).now.words
             → word_for frames pool.now (reads (H.state h.old).now.words) (Val.Ref s) ≡ Option.Some word
-            → RunsOn frames pool.now types (self.new).log before undone (with_root s now) deferred (fault_of result) (H.state h.old) (H.state h.new) }
+            → KeepsOpenOn frames pool.now types (self.new).log before undone (with_root s now) deferred (fault_of result) (H.state h.old) (H.state h.new) }
         ensures counts { H.tells → (types : List (ℕ × ℕ)) (before : Image) (undone : Graph) (now : Graph) (deferred : List DeferredValue)
             → IsOpenOn frames pool.now types (self.old).log before undone now deferred (H.state h.old).now.words → IfOk result (λ _. (self.new).units ≡ (self.old).units + SET_UNITS) }
         ensures nothing { length pool.now ≡ 0 → (H.state h.new ≡ H.state h.old) × (self.new ≡ self.old) }

@@ -24,7 +24,7 @@ ghost use Rattle.graph_read.specs.Reading.{place_in_pool};
 ghost use Rattle.hybrid_tx.specs.PoolScopes.{IsPlaced};
 ghost use Rattle.hybrid_tx.specs.Objects.FieldAddresses.{IsFieldAddress, IsFieldOf};
 ghost use Rattle.hybrid_tx.specs.Objects.Stores.{address_at, word_for};
-ghost use Rattle.hybrid_tx.specs.Objects.Transactions.{MaySet, IsRewrittenFor, IsDeferredEntry, IsOpenOn, RunsOn};
+ghost use Rattle.hybrid_tx.specs.Objects.Transactions.{MaySet, IsRewrittenFor, IsDeferredEntry, IsOpenOn, KeepsOpenOn};
 
 use crate::Tx;
 use crate::changing::{place_and_word, slot_address};
@@ -154,7 +154,7 @@ impl Tx {
         ensures changes { H.tells → Changes (InLog (self.old).log.gate_at) (fault_of result) (H.state h.old) (H.state h.new) }
         ensures runs { H.tells → (types : List (ℕ × ℕ)) (before : Image) (undone : Graph) (now : Graph) (deferred : List DeferredValue) → IsPlaced frames pool.now
             → IsRewrittenFor frames pool.now (reads (H.state h.old).now.words) s → IsOpenOn frames pool.now types (self.old).log before undone now deferred (H.state h.old).now.words → MaySet types now s f x
-            → RunsOn frames pool.now types (self.new).log before undone now (deferred ++ record { s = s; f = f; x = x } ∷ []) (fault_of result) (H.state h.old) (H.state h.new) }
+            → KeepsOpenOn frames pool.now types (self.new).log before undone now (deferred ++ record { s = s; f = f; x = x } ∷ []) (fault_of result) (H.state h.old) (H.state h.new) }
         ensures counts { H.tells → (types : List (ℕ × ℕ)) (before : Image) (undone : Graph) (now : Graph) (deferred : List DeferredValue) → IsPlaced frames pool.now
             → IsOpenOn frames pool.now types (self.old).log before undone now deferred (H.state h.old).now.words → MaySet types now s f x
             → IfOk result (λ _. (self.new).units ≡ (self.old).units + SET_UNITS) }
@@ -194,7 +194,7 @@ impl Tx {
         ensures runs { H.tells → (types : List (ℕ × ℕ)) (before : Image) (undone : Graph) (now : Graph) (deferred : List DeferredValue) (s : ℕ) (x : Val) → IsPlaced frames pool.now
             → IsRewrittenFor frames pool.now (reads (H.state h.old).now.words) s → IsOpenOn frames pool.now types (self.old).log before undone now deferred (H.state h.old).now.words → MaySet types now s f x
             → place_in_pool frames pool.now (reads (H.state h.old).now.words) s ≡ Option.Some (place_of_slot at.now) → word_for frames pool.now (reads (H.state h.old).now.words) x ≡ Option.Some word
-            → RunsOn frames pool.now types (self.new).log before undone now (deferred ++ record { s = s; f = f; x = x } ∷ []) (fault_of result) (H.state h.old) (H.state h.new) }
+            → KeepsOpenOn frames pool.now types (self.new).log before undone now (deferred ++ record { s = s; f = f; x = x } ∷ []) (fault_of result) (H.state h.old) (H.state h.new) }
         ensures counts { IfOk result (λ _. (self.new).units ≡ (self.old).units + SET_UNITS) }
         ensures cause { H.counts h.new ≡ after_fault (fault_of result) (H.counts h.old) }
     {

@@ -27,7 +27,7 @@ ghost use Rattle.word_transaction.specs.Scope.{IsScope, written_in_turn};
 ghost use Rattle.word_transaction.specs.Running.{RecoversTo};
 ghost use Rattle.hybrid_tx.specs.PoolScopes.{pool_place, pool_has_word, pool_scope, finished_of, IsPlaced, IsRewrittenAt};
 ghost use Rattle.hybrid_tx.specs.Objects.Stores.{word_for, field_word, making};
-ghost use Rattle.hybrid_tx.specs.Objects.Transactions.{MaySet, AreDeferredEntries, IsOpenOn, IsAtRest, RunsOn, ClosesOn, EndsOn};
+ghost use Rattle.hybrid_tx.specs.Objects.Transactions.{MaySet, AreDeferredEntries, IsOpenOn, IsAtRest, KeepsOpenOn, AbortsOnPool, CommitsOnPool};
 
 /// What the addresses of a pool's ranges name are words of its frames, none of which is one of a log before all frames.
 pub fn pools_are_scopes()
@@ -76,7 +76,7 @@ pub fn deferred_entries_make_the_graph()
 /// Behind a call within a transaction on a pool that did not fail one is open, on the next graph, with what is asked for later.
 pub fn transaction_stays_open()
     ensures { (frames : ℕ) (at : List (ℕ × Puddle)) (types : List (ℕ × ℕ)) (log : OpenLog) (before : Image) (undone : Graph) (next : Graph) (deferred : List DeferredValue) (old : State) (new : State)
-        → RunsOn frames at types log before undone next deferred Option.None old new → IsOpenOn frames at types log before undone next deferred new.now.words }
+        → KeepsOpenOn frames at types log before undone next deferred Option.None old new → IsOpenOn frames at types log before undone next deferred new.now.words }
 {}
 
 /// With the log replayed an image has the graph of the words that it settles to, where the words of the puddles that are not finished are these too.
@@ -89,11 +89,11 @@ pub fn settled_pool_has_the_graph()
 /// Where a transaction was committed none is open any more, and the pool has the new graph.
 pub fn committed_pool_is_at_rest()
     ensures { (frames : ℕ) (at : List (ℕ × Puddle)) (types : List (ℕ × ℕ)) (log : ℕ) (before : Image) (undone : Graph) (next : Graph) (old : State) (new : State)
-        → EndsOn frames at types log before undone next Option.None old new → IsAtRest frames at types log next new.now.words }
+        → CommitsOnPool frames at types log before undone next Option.None old new → IsAtRest frames at types log next new.now.words }
 {}
 
 /// Where a transaction was undone none is open any more, and the pool has the graph from the beginning.
 pub fn undone_pool_is_at_rest()
     ensures { (frames : ℕ) (at : List (ℕ × Puddle)) (types : List (ℕ × ℕ)) (log : ℕ) (before : Image) (undone : Graph) (old : State) (new : State)
-        → ClosesOn frames at types log before undone Option.None old new → IsAtRest frames at types log undone new.now.words }
+        → AbortsOnPool frames at types log before undone Option.None old new → IsAtRest frames at types log undone new.now.words }
 {}

@@ -19,11 +19,11 @@ ghost use Rattle.pud_defs.specs.Stored.{IsOnDevice, stored_in};
 ghost use Rattle.pud_defs.specs.Graph.{Graph, graph_of};
 ghost use Rattle.log_store.specs.Store.{InLog, with_deferred_words};
 ghost use Rattle.word_transaction.specs.Scope.{Scope, IsScope, redo_entry};
-ghost use Rattle.word_transaction.specs.Running.{IsRunning, IsIdle, nothing, begun, ByTransaction, Runs, Puts};
+ghost use Rattle.word_transaction.specs.Running.{IsRunning, IsIdle, no_write, begun_log, ByTransaction, KeepsRunning, SavesAndWrites};
 ghost use Rattle.hybrid_tx.specs.PoolScopes.{pool_scope, finished_of, IsPlaced};
 ghost use Rattle.pud_defs.specs.Geometry.{steps_of};
 ghost use Rattle.hybrid_tx.specs.Objects.Stores.{ByPut, ByPutBoth};
-ghost use Rattle.hybrid_tx.specs.Objects.Transactions.{begun_tx, IsSaving, IsOpenOn, Saves};
+ghost use Rattle.hybrid_tx.specs.Objects.Transactions.{begun_tx, IsSaving, IsOpenOn, KeepsSaving};
 
 use crate::Tx;
 use pm_model::{Host, HostFault};
@@ -46,7 +46,7 @@ impl Tx {
         ensures opened { IfOk result (λ tx. tx ≡ begun_tx (log_number_at frames log)) }
         ensures persists { H.tells → Persists (only (log_number_at frames log) RUNNING_GATE) (fault_of result) (H.state h.old) (H.state h.new) }
         ensures runs { H.tells → (at : List (ℕ × Puddle)) (before : Image) → IsPlaced frames at → IsIdle (pool_scope frames at) (log_number_at frames log) before (H.state h.old).now.words
-            → Runs (pool_scope frames (finished_of at)) (begun (log_number_at frames log)) [] before nothing (fault_of result) (H.state h.old) (H.state h.new) }
+            → KeepsRunning (pool_scope frames (finished_of at)) (begun_log (log_number_at frames log)) [] before no_write (fault_of result) (H.state h.old) (H.state h.new) }
         ensures open { H.tells → (at : List (ℕ × Puddle)) (before : Image) → IsPlaced frames at → IsIdle (pool_scope frames at) (log_number_at frames log) before (H.state h.old).now.words
             → (types : List (ℕ × ℕ)) (g : Graph) → graph_of types (stored_in frames at before) ≡ Option.Some g
             → IfOk result (λ tx. IsOpenOn frames at types tx.log before g g [] (H.state h.new).now.words) }
@@ -76,7 +76,7 @@ impl Tx {
         ensures changes { H.tells → Changes (ByPut (self.old).log.gate_at first vals.now) (fault_of result) (H.state h.old) (H.state h.new) }
         ensures puts { H.tells → (size : ℕ) → size ≡ (H.counts h.old).size → (g : Scope) → (es : List Entry) → (before : Image) → IsScope size (self.old).log.gate_at g
             → g.may_name address (length vals.now) ≡ true → g.place address ≡ Option.Some first → IsRunning g (self.old).log es before (H.state h.old).now.words
-            → Puts g (self.new).log es before (placed first vals.now) (fault_of result) (H.state h.old) (H.state h.new) }
+            → SavesAndWrites g (self.new).log es before (placed first vals.now) (fault_of result) (H.state h.old) (H.state h.new) }
         ensures cause { H.counts h.new ≡ after_fault (fault_of result) (H.counts h.old) }
     {
         // With this call the proof has that a device's words are counted by 32 bits, so that places of them are, too.
@@ -110,7 +110,7 @@ impl Tx {
         ensures puts { H.tells → (size : ℕ) → size ≡ (H.counts h.old).size → (g : Scope) → (es : List Entry) → (before : Image) → IsScope size (self.old).log.gate_at g
             → g.may_name address (length vals.now) ≡ true → g.place address ≡ Option.Some first → g.may_name address2 1 ≡ true → g.place address2 ≡ Option.Some second
             → IsRunning g (self.old).log es before (H.state h.old).now.words
-            → Puts g (self.new).log es before (over (placed first vals.now) (placed second (value ∷ []))) (fault_of result) (H.state h.old) (H.state h.new) }
+            → SavesAndWrites g (self.new).log es before (over (placed first vals.now) (placed second (value ∷ []))) (fault_of result) (H.state h.old) (H.state h.new) }
         ensures cause { H.counts h.new ≡ after_fault (fault_of result) (H.counts h.old) }
     {
         // With this call the proof has that a device's words are counted by 32 bits, so that places of them are, too.
@@ -147,7 +147,7 @@ impl Tx {
         ensures changes { H.tells → Changes (ByTransaction (pool_scope frames pool.now) (self.old).log.gate_at) (fault_of result) (H.state h.old) (H.state h.new) }
         ensures saves { H.tells → IsPlaced frames pool.now → (e : ℕ × Puddle) → slice_get pool.now ordinal ≡ Option.Some e → e.1.frontier ≡ steps_of e.1 → (before : Image) (redo : List Entry)
             → IsSaving frames (finished_of pool.now) (self.old).log before redo (H.state h.old).now.words
-            → Saves frames (finished_of pool.now) (self.new).log before redo (placed (frame_at frames e.0 + word) vals.now) (fault_of result) (H.state h.old) (H.state h.new) }
+            → KeepsSaving frames (finished_of pool.now) (self.new).log before redo (placed (frame_at frames e.0 + word) vals.now) (fault_of result) (H.state h.old) (H.state h.new) }
         ensures cause { H.counts h.new ≡ after_fault (fault_of result) (H.counts h.old) }
     {
         let (frame, puddle) = pool[ordinal as usize];
@@ -175,7 +175,7 @@ impl Tx {
         ensures defers { H.tells → (frames : ℕ) → IsPlaced frames pool.now → device_words frames ≤ (H.counts h.old).size → (self.old).log.gate_at + LOG_WORDS ≤ frames_at frames
             → (e : ℕ × Puddle) → slice_get pool.now ordinal ≡ Option.Some e → e.1.frontier ≡ steps_of e.1 → (before : Image) (redo : List Entry)
             → IsSaving frames (finished_of pool.now) (self.old).log before redo (H.state h.old).now.words
-            → Saves frames (finished_of pool.now) (self.new).log before (redo ++ redo_entry (e.1.base + WORD_BYTES * word) (value ∷ []) ∷ []) nothing (fault_of result) (H.state h.old) (H.state h.new) }
+            → KeepsSaving frames (finished_of pool.now) (self.new).log before (redo ++ redo_entry (e.1.base + WORD_BYTES * word) (value ∷ []) ∷ []) no_write (fault_of result) (H.state h.old) (H.state h.new) }
         ensures cause { H.counts h.new ≡ after_fault (fault_of result) (H.counts h.old) }
     {
         let (_, puddle) = pool[ordinal as usize];

@@ -14,7 +14,7 @@ use Rattle.pud_defs.specs.Tables.{Pool}
 use Rattle.pud_defs.specs.World.{World, Transaction, open_on, no_clients}
 use Rattle.pud_defs.specs.PoolChanges.{pool_named, new_pool, read_by, with_puddle_more, with_new_pool, with_pool_mode, without_pool, with_type_defined}
 use Rattle.pud_defs.specs.Imports.{types_missing, with_types_defined, imported_pool, with_imported_pool, with_pool_of}
-use Rattle.pud_defs.specs.Transactions.{is_own, begun, charged, deferring, lowered}
+use Rattle.pud_defs.specs.Transactions.{is_own, open_after_begin, charged, deferring, lowered}
 use Rattle.pud_defs.specs.Step.{name_in, graph_in, graph_seen, is_all_live, grows, contents_named, owner_acting, after}
 use Rattle.independence.specs.Shares.{unnumbered, seen, Share, share}
 use Rattle.independence.proofs.Shares.{kept, seen_put, seen_without, seen_changed, seen_kept, seen_changed_if, committed, seen_committed, seen_read, reread, types_with, seen_typed, types_typed}
@@ -52,7 +52,7 @@ effect clients types contents (Define id map) s = record s { pool = option_map (
 effect clients types contents (commands.Pool client name mode) s = record s { pool = Some (new_pool (owner_acting clients client) mode 0) }
 effect clients types contents (Chmod client name mode) s = record s { pool = option_map (λ (p : Pool). record p { mode = mode }) s.pool }
 effect clients types contents (commands.Drop client name) s = record s { pool = None }
-effect clients types contents (Begin client name) s = record s { transaction = begun client (unwrap_or (graph_in s.pool) empty_graph) s.transaction }
+effect clients types contents (Begin client name) s = record s { transaction = open_after_begin client (unwrap_or (graph_in s.pool) empty_graph) s.transaction }
 effect clients types contents (Commit client name) s = record { pool = committed s.transaction s.pool; transaction = lowered s.transaction }
 effect clients types contents (Abort client name) s = record s { transaction = None }
 effect clients types contents (New client name t) s = record {
@@ -133,7 +133,7 @@ share_after w q (commands.Drop client n) =
 share_after w q (Get client n s f) = kept (share w) q n
 share_after w q (Begin client n) =
     joined (bytes_eq q n) (effect w.clients w.stored.types None (Begin client n) (share w n)) (share w q) _ _ (seen_kept q n w.stored.pools)
-    (ap (λ (g : Option Graph). cond (bytes_eq q n) (begun client (unwrap_or g empty_graph) (w.transactions n)) (w.transactions q)) (sym (graph_in-seen (pool_named n w.stored))))
+    (ap (λ (g : Option Graph). cond (bytes_eq q n) (open_after_begin client (unwrap_or g empty_graph) (w.transactions n)) (w.transactions q)) (sym (graph_in-seen (pool_named n w.stored))))
 share_after w q (Commit client n) =
     joined (bytes_eq q n) (effect w.clients w.stored.types None (Commit client n) (share w n)) (share w q) _ _ (seen_committed q n (w.transactions n) w.stored.pools) refl
 share_after w q (Abort client n) =

@@ -21,7 +21,7 @@ use Rattle.pud_defs.specs.Layout.{log_at}
 use Rattle.pud_defs.specs.World.{StoredWorld, idle_world_of}
 use Rattle.pud_defs.proofs.ClosedLogs.{IsClosedAnew, idle_world_of-anew, has_closed_logs-gates}
 use Rattle.batch.specs.Worlds.{IsQuiescent}
-use Rattle.log_space.specs.Closed.{ByClosing, WritesGates, ClosesGates, Closes}
+use Rattle.log_space.specs.Closed.{ByClosing, WritesGates, ClosesGates, ClosesClientLogs}
 
 -- no gate is written yet
 pub WritesGates-none : (F slot : ℕ) (s : State) → WritesGates F slot 0 None s s
@@ -104,8 +104,8 @@ ClosesGates-masked mask F slot fault a b off p = record {
 }
 
 -- what is done to gates of a device that stands for a world
-pub Closes-gates : (size : ℕ) (s : StoredWorld) (slot : ℕ) (fault : Option HostFault) (a b : State) → slot < CLIENTS → IsQuiescent size s a.now.words → ClosesGates s.frames slot fault a b → Closes size s slot fault a b
-Closes-gates size s slot fault a b known settled p =
+pub ClosesClientLogs-gates : (size : ℕ) (s : StoredWorld) (slot : ℕ) (fault : Option HostFault) (a b : State) → slot < CLIENTS → IsQuiescent size s a.now.words → ClosesGates s.frames slot fault a b → ClosesClientLogs size s slot fault a b
+ClosesClientLogs-gates size s slot fault a b known settled p =
     let moments = Leaves-changes (λ (image : Image). idle_world_of size image ≡ Some s) (ByClosing s.frames slot) fault a b
     (λ before image picked from.
     idle_world_of-anew size slot before image s known (settled.idle (before DAEMON_LOG) (picked.each DAEMON_LOG)) (settled.stands before picked) (closed_anew s.frames slot before image from))

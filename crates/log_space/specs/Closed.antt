@@ -28,7 +28,7 @@ pub record ClosesGates (F slot : ℕ) (fault : Option HostFault) (old new : Stat
   pub durable : fault ≡ None → (m : ℕ) → m < CLIENT_LOGS → HasOnly (new.now.words (log_at F slot m)) CLOSED_GATE
 
 -- The client's logs are closed: at each moment each image stands for the world; without a fault they are closed in each, and the device is settled.
-pub record Closes (size : ℕ) (s : StoredWorld) (slot : ℕ) (fault : Option HostFault) (old new : State) : Type 0 where
+pub record ClosesClientLogs (size : ℕ) (s : StoredWorld) (slot : ℕ) (fault : Option HostFault) (old new : State) : Type 0 where
   pub changes : Changes (ByClosing s.frames slot) fault old new
   pub moments : Leaves (Silently (λ image. idle_world_of size image ≡ Some s)) old new
   pub settled : fault ≡ None → IsQuiescent size s new.now.words

@@ -9,7 +9,7 @@ ghost use Rattle.pud_defs.specs.Layout.{device_words};
 ghost use Rattle.pud_defs.specs.World.{StoredWorld};
 ghost use Rattle.log_replay.specs.Replaying.{Anything};
 ghost use Rattle.batch.specs.Worlds.{IsQuiescent};
-ghost use Rattle.log_space.specs.Closed.{ByClosing, WritesGates, ClosesGates, Closes};
+ghost use Rattle.log_space.specs.Closed.{ByClosing, WritesGates, ClosesGates, ClosesClientLogs};
 
 use pm_model::{Host, HostFault};
 use pm_persist::write_range;
@@ -55,7 +55,7 @@ pub fn close_logs<H: Host>(h: &mut H, frames: u32, slot: u32) -> Result<(), Host
     requires known { slot < CLIENTS }
     ensures gates { H.tells → ClosesGates frames slot (fault_of result) (H.state h.old) (H.state h.new) }
     ensures closes { H.tells → (size : ℕ) → size ≡ (H.counts h.old).size → (s : StoredWorld) → frames ≡ s.frames → (mask : Write) → IsOff mask (ByClosing frames slot)
-        → IsQuiescent size s (masked mask (H.state h.old).now.words) → Closes size s slot (fault_of result) (masked_state mask (H.state h.old)) (masked_state mask (H.state h.new)) }
+        → IsQuiescent size s (masked mask (H.state h.old).now.words) → ClosesClientLogs size s slot (fault_of result) (masked_state mask (H.state h.old)) (masked_state mask (H.state h.new)) }
     ensures any { H.tells → Changes Anything (fault_of result) (H.state h.old) (H.state h.new) }
     ensures cause { H.counts h.new ≡ after_fault (fault_of result) (H.counts h.old) }
 {

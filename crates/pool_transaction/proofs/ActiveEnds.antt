@@ -38,7 +38,7 @@ use Rattle.word_transaction.specs.Running.{ByTransaction, HasPlaces, HasOneTable
 use Rattle.hybrid_tx.specs.PoolScopes.{pool_has_word, pool_scope, IsPlaced, finished_of}
 use Rattle.hybrid_tx.specs.Open.Masks.{OpenPool, is_open_record, open_mask}
 use Rattle.hybrid_tx.specs.Open.ManyOpen.{open_masks}
-use Rattle.hybrid_tx.specs.Objects.Transactions.{IsOpenOn, ClosesOn, EndsOn}
+use Rattle.hybrid_tx.specs.Objects.Transactions.{IsOpenOn, AbortsOnPool, CommitsOnPool}
 use Rattle.hybrid_tx.proofs.Open.ManyIdle.{masks_changed, places_beside}
 use Rattle.hybrid_tx.proofs.Objects.Opening.{stored_in-has_word}
 use Rattle.hybrid_tx.proofs.Open.OpenMasks.{mask_of_mine}
@@ -87,13 +87,13 @@ abbrev pub Undoes : (F sz : ℕ) → OpenLog → Option HostFault → State → 
 Undoes F sz log fault old new =
     (pool : List (ℕ × Puddle)) (types : List (ℕ × ℕ)) (before : Image) (undone : Graph) (seen : Graph) (deferred : List DeferredValue) → IsPlaced F pool → device_words F ≤ sz → log.gate_at + LOG_WORDS ≤ frames_at F
     → IsOpenOn F pool types log before undone seen deferred old.now.words → HasPlaces (pool_scope F (finished_of pool)) (puddle_word (tables_of F (reads old.now.words))) → HasOneTable F old.now.words
-    → ClosesOn F pool types log.gate_at before undone fault old new
+    → AbortsOnPool F pool types log.gate_at before undone fault old new
 
 abbrev pub Commits : (F sz : ℕ) → OpenLog → Option HostFault → State → State → Type 0
 Commits F sz log fault old new =
     (pool : List (ℕ × Puddle)) (types : List (ℕ × ℕ)) (before : Image) (undone : Graph) (seen : Graph) (deferred : List DeferredValue) → IsPlaced F pool → device_words F ≤ sz → log.gate_at + LOG_WORDS ≤ frames_at F
     → IsOpenOn F pool types log before undone seen deferred old.now.words → (deferred ≢ [] → CanRedo (pool_scope F (finished_of pool)) F log.gate_at old.now.words)
-    → EndsOn F pool types log.gate_at before undone (with_deferred_set deferred seen) fault old new
+    → CommitsOnPool F pool types log.gate_at before undone (with_deferred_set deferred seen) fault old new
 
 -- a transaction writes no word in front of the clients' logs
 behind_tables : (F number : ℕ) (at : List (ℕ × Puddle)) (k v : ℕ) → ByTransaction (pool_scope F at) (log_number_at F number) k v → BehindTables F k v
@@ -143,7 +143,7 @@ module _ (size : ℕ) (w : World) (memory : Memory) (number : ℕ) (active : Act
   -- ---- undone
 
   module _ (F sz : ℕ) (fault : Option HostFault) (new : State) (on : F ≡ n) (same : size ≡ sz) (undoes : Undoes F sz active.tx.log fault old new) where
-    closes : ClosesOn n is.puddles w.stored.types active.tx.log.gate_at is.before is.undone fault old new
+    closes : AbortsOnPool n is.puddles w.stored.types active.tx.log.gate_at is.before is.undone fault old new
     closes =
         subst (λ (m : ℕ). Undoes m sz active.tx.log fault old new) on undoes is.puddles w.stored.types is.before is.undone is.transaction.now is.transaction.deferred placed (omega (arith, same, room)) log_apart is.running active_places active_table
 

@@ -22,7 +22,7 @@ use Rattle.pud_defs.specs.Types.{map_of}
 use Rattle.pud_defs.specs.World.{Transaction, World, open_on}
 use Rattle.graph_laws.specs.Slots.{AreAllLive}
 use Rattle.hybrid_tx.specs.PoolScopes.{IsPlaced}
-use Rattle.hybrid_tx.specs.Objects.Transactions.{OpenTx, IsOpenOn, RunsOn, MakesIn}
+use Rattle.hybrid_tx.specs.Objects.Transactions.{OpenTx, IsOpenOn, KeepsOpenOn, MakesIn}
 use Rattle.ready_daemon.specs.Judged.{KnowsAlone}
 use Rattle.ready_daemon.specs.Memory.{ActiveTransaction, Memory, active_under, with_active}
 use Rattle.ready_daemon.specs.ActiveTransactions.{IsActive}
@@ -126,4 +126,4 @@ module _ (size : ℕ) (w : World) (memory : Memory) (active : ActiveTransaction)
           let at_first = owed size w memory active old number there ready F at same listed tx new gate (charged NEW_UNITS (with_new (blank_object id may.is))) (fault_of done) (runs may.is may.defined left) in
           Applies-runs size w memory active old number there ready (subst (KnowsAlone memory.judged active.slot) listed known) tx NEW_UNITS (charged NEW_UNITS (with_new (object_made w id))) (Charges-charged NEW_UNITS (with_new (object_made w id))) (fault_of done) new gate
           (used_more done NEW_UNITS tx.units active.tx.units used)
-          (subst (λ (change : Graph → Graph). RunsOn w.stored.frames is.puddles w.stored.types tx.log is.before is.undone (change is.transaction.now) is.transaction.deferred (fault_of done) old new) the_object at_first)
+          (subst (λ (change : Graph → Graph). KeepsOpenOn w.stored.frames is.puddles w.stored.types tx.log is.before is.undone (change is.transaction.now) is.transaction.deferred (fault_of done) old new) the_object at_first)

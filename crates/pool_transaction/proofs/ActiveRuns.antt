@@ -25,7 +25,7 @@ use Rattle.word_transaction.specs.Running.{RecoversTo, ByTransaction}
 use Rattle.hybrid_tx.specs.PoolScopes.{pool_scope, IsPlaced, finished_of}
 use Rattle.hybrid_tx.specs.Open.ManyOpen.{OpenTransaction, AreLeftOpen}
 use Rattle.hybrid_tx.specs.Open.Masks.{OpenPool, IsLeftOpen}
-use Rattle.hybrid_tx.specs.Objects.Transactions.{OpenTx, RunsOn}
+use Rattle.hybrid_tx.specs.Objects.Transactions.{OpenTx, KeepsOpenOn}
 use Rattle.hybrid_tx.proofs.Open.OpenMasks.{open_record_place, mine_behind}
 use Rattle.hybrid_tx.proofs.Open.OpenPools.{open_on_device, placed_by_tables}
 use Rattle.pool_transaction.specs.Changing.{StaysOpen}
@@ -199,7 +199,7 @@ module _ (size : ℕ) (w : World) (memory : Memory) (active : ActiveTransaction)
   -- the transaction was changed, and used so many units more
   module _ (known : KnowsAlone memory.judged active.slot is.puddles) (tx : OpenTx) (units : ℕ) (change : Transaction → Transaction) (charges : Charges units change) (fault : Option HostFault) (new : State) (at : tx.log.gate_at ≡ active.tx.log.gate_at)
       (used : fault ≡ None → tx.units ≡ active.tx.units + units)
-      (runs : RunsOn F is.puddles w.stored.types tx.log is.before is.undone (change is.transaction).now (change is.transaction).deferred fault old new) where
+      (runs : KeepsOpenOn F is.puddles w.stored.types tx.log is.before is.undone (change is.transaction).now (change is.transaction).deferred fault old new) where
     abbrev next : World
     next = record w { transactions = with_changed active.name change w.transactions }
 

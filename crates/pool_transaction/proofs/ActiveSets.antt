@@ -13,7 +13,7 @@ use Rattle.pud_defs.specs.Stored.{stored_in}
 use Rattle.pud_defs.specs.Transactions.{with_changed}
 use Rattle.pud_defs.specs.World.{Transaction, World, closed}
 use Rattle.hybrid_tx.specs.PoolScopes.{IsPlaced}
-use Rattle.hybrid_tx.specs.Objects.Transactions.{OpenTx, IsOpenOn, RunsOn}
+use Rattle.hybrid_tx.specs.Objects.Transactions.{OpenTx, IsOpenOn, KeepsOpenOn}
 use Rattle.pool_transaction.specs.declared.changing.Update.{Update}
 use Rattle.pool_transaction.specs.declared.changing.Update.TheVariants.{Set, Later, Root, Free}
 use Rattle.pool_transaction.specs.Changing.{update_line, changed_by, MayChange}
@@ -57,7 +57,7 @@ module _ (size : ℕ) (w : World) (memory : Memory) (active : ActiveTransaction)
     abbrev pub OwesRuns : ℕ → List (ℕ × Puddle) → (change : Transaction → Transaction) → Option HostFault → Type 0
     OwesRuns n puddles change fault =
         IsPlaced n puddles → IsOpenOn n puddles w.stored.types active.tx.log is.before is.undone is.transaction.now is.transaction.deferred old.now.words
-        → RunsOn n puddles w.stored.types tx.log is.before is.undone (change is.transaction).now (change is.transaction).deferred fault old new
+        → KeepsOpenOn n puddles w.stored.types tx.log is.before is.undone (change is.transaction).now (change is.transaction).deferred fault old new
 
     -- and where it did not fail these units
     abbrev pub OwesUsed : ℕ → List (ℕ × Puddle) → {X : Type 0} → (units : ℕ) → Result X HostFault → Type 0
@@ -69,7 +69,7 @@ module _ (size : ℕ) (w : World) (memory : Memory) (active : ActiveTransaction)
         subst (λ (n : ℕ). OwesUsed n is.puddles units done) same (subst (λ (puddles : List (ℕ × Puddle)). OwesUsed F puddles units done) listed used) (active_placed size w memory active old number there ready) is.running
 
     pub owed : (change : Transaction → Transaction) (fault : Option HostFault) → OwesRuns F at change fault
-        → RunsOn w.stored.frames is.puddles w.stored.types tx.log is.before is.undone (change is.transaction).now (change is.transaction).deferred fault old new
+        → KeepsOpenOn w.stored.frames is.puddles w.stored.types tx.log is.before is.undone (change is.transaction).now (change is.transaction).deferred fault old new
     owed change fault runs =
         subst (λ (n : ℕ). OwesRuns n is.puddles change fault) same (subst (λ (puddles : List (ℕ × Puddle)). OwesRuns F puddles change fault) listed runs) (active_placed size w memory active old number there ready) is.running
 

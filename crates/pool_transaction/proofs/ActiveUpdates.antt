@@ -18,7 +18,7 @@ use Rattle.lazy_rewrite.specs.Entries.{HasLowBases}
 use Rattle.lazy_rewrite.specs.Batches.{Rewrites}
 use Rattle.lazy_rewrite.specs.Frontiers.{finished_at, frontier_at}
 use Rattle.hybrid_tx.specs.PoolScopes.{IsPlaced, IsRewrittenAt}
-use Rattle.hybrid_tx.specs.Objects.Transactions.{OpenTx, IsOpenOn, RunsOn}
+use Rattle.hybrid_tx.specs.Objects.Transactions.{OpenTx, IsOpenOn, KeepsOpenOn}
 use Rattle.pool_transaction.specs.declared.changing.Found.{Found}
 use Rattle.pool_transaction.specs.declared.changing.Update.{Update}
 use Rattle.pool_transaction.specs.Changing.{IsActiveIn, with_opened, update_line, changed_by, MayChange, IsFoundBy, ordinal_written}
@@ -46,7 +46,7 @@ abbrev pub CarriesOut : (F : ℕ) → List (ℕ × Puddle) → Found → (log no
 CarriesOut F at found log now fault old new =
     (types : List (ℕ × ℕ)) (before : Image) (undone : Graph) (t : Transaction) (update : Update) → IsPlaced F at → IsRewrittenAt at (ordinal_written found)
     → IsOpenOn F at types log before undone t.now t.deferred old.now.words → MayChange types t update → IsFoundBy F at (reads old.now.words) update found
-    → RunsOn F at types now before undone (changed_by update t).now (changed_by update t).deferred fault old new
+    → KeepsOpenOn F at types now before undone (changed_by update t).now (changed_by update t).deferred fault old new
 
 -- and of the units
 abbrev pub CountsOut : (F : ℕ) → List (ℕ × Puddle) → (tx now : OpenTx) → Result Unit HostFault → State → Type 0

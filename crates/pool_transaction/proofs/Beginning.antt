@@ -42,7 +42,7 @@ use Rattle.batch.specs.Batches.{HasIdleGate}
 use Rattle.batch.specs.Worlds.{IsQuiescent}
 use Rattle.batch.proofs.Tables.{HasDurableTables-kept, reads_kept}
 use Rattle.word_transaction.specs.Scope.{Scope, IsScope}
-use Rattle.word_transaction.specs.Running.{IsIdle, nothing, begun, RecoversTo, Runs}
+use Rattle.word_transaction.specs.Running.{IsIdle, no_write, begun_log, RecoversTo, KeepsRunning}
 use Rattle.hybrid_tx.specs.PoolScopes.{pool_has_word, pool_scope, IsPlaced, finished_of}
 use Rattle.hybrid_tx.specs.Open.Masks.{OpenPool, is_open_record, open_mask, ArePuddlesOf, IsOpenPool}
 use Rattle.hybrid_tx.specs.Open.ManyOpen.{OpenTransaction, AreLeftOpen, AreOpenPools, HasRecords, IsOneMore, MasksAll, Opens, open_masks, with_transaction}
@@ -301,7 +301,7 @@ module _ (size : ℕ) (w : World) (memory : Memory) (old : State) (ready : IsRea
   abbrev begun_transaction : Transaction
   begun_transaction = record { client = client; depth = 1; units = 0; now = may.graph; deferred = [] }
 
-  module _ (fault : Option HostFault) (new : State) (persists : Persists (only gate RUNNING_GATE) fault old new) (runs : Runs g (begun gate) [] now nothing fault old new) where
+  module _ (fault : Option HostFault) (new : State) (persists : Persists (only gate RUNNING_GATE) fault old new) (runs : KeepsRunning g (begun_log gate) [] now no_write fault old new) where
     abbrev c : Changes By fault old new
     c = persists.changes
 
@@ -394,7 +394,7 @@ module _ (size : ℕ) (w : World) (memory : Memory) (old : State) (ready : IsRea
                 each = λ v had.
                     elim (subst (λ (x : Cell). Has (values x) v) (masked-there mask_then new.now.words gate CLOSED_GATE (masks_of_gate n opens_then mask_then are_then masks_then number o more.here)) had) [
                       | inl is ↦ ap is_idle_gate is
-                      | inr nothing ↦ absurd nothing
+                      | inr no_write ↦ absurd no_write
                     ];
               })
           | inr apart ↦
@@ -444,7 +444,7 @@ module _ (size : ℕ) (w : World) (memory : Memory) (old : State) (ready : IsRea
         stored = pool_graph;
         pool = opened;
         records = λ k of. let place = open_record_place n p k within known on_device of in kept k (before_logs k place.high);
-        running = IsOpenOn-begun n size at w.stored.types now gate may.graph old new ground idle graph_now (subst (λ (f : Option HostFault). Runs g (begun gate) [] now nothing f old new) done runs);
+        running = IsOpenOn-begun n size at w.stored.types now gate may.graph old new ground idle graph_now (subst (λ (f : Option HostFault). KeepsRunning g (begun_log gate) [] now no_write f old new) done runs);
         masked = masks_then.has number o more.here;
       }
 
@@ -511,7 +511,7 @@ pub Applies-begins : (size : ℕ) (w : World) (memory : Memory) (F client : ℕ)
     → IsLogOf client number → MayBeginIn memory (reads old.now.words) client name slot number → (fault ≡ None → number < length memory.active) → IsReady size w memory old
     → Persists (only (log_number_at F number) RUNNING_GATE) fault old new
     → ((pool : List (ℕ × Puddle)) (before : Image) → IsPlaced F pool → IsIdle (pool_scope F pool) (log_number_at F number) before old.now.words
-    → Runs (pool_scope F (finished_of pool)) (begun (log_number_at F number)) [] before nothing fault old new)
+    → KeepsRunning (pool_scope F (finished_of pool)) (begun_log (log_number_at F number)) [] before no_write fault old new)
     → Applies size w (after w (commands.Begin client name)) (with_begun (begins_as client name slot F number) memory) fault old new
 Applies-begins size w memory F client name slot number fault old new on below few of m place ready persists runs =
     let low = of.low in
@@ -532,7 +532,7 @@ Applies-begins size w memory F client name slot number fault old new on below fe
     subst (λ (k : ℕ).
     Persists (only (log_number_at k number) RUNNING_GATE) fault old new
     → ((pool : List (ℕ × Puddle)) (before : Image) → IsPlaced k pool → IsIdle (pool_scope k pool) (log_number_at k number) before old.now.words
-    → Runs (pool_scope k (finished_of pool)) (begun (log_number_at k number)) [] before nothing fault old new)
+    → KeepsRunning (pool_scope k (finished_of pool)) (begun_log (log_number_at k number)) [] before no_write fault old new)
     → Applies size w (after w (commands.Begin client name)) (with_begun (begins_as client name slot k number) memory) fault old new) same
     (λ persists runs.
     Applies-begun size w memory old ready client name slot number m.puddles vacant may fault new persists

@@ -34,8 +34,8 @@ use Rattle.batch.specs.Batches.{HasIdleGate}
 use Rattle.batch.specs.Worlds.{IsQuiescent}
 use Rattle.batch.proofs.Tables.{HasDurableTables-kept, reads_kept}
 use Rattle.word_transaction.specs.Scope.{Scope}
-use Rattle.word_transaction.specs.Running.{ByTransaction, RecoversTo, Closes, Ends}
-use Rattle.word_transaction.proofs.Ended.{beside_transaction, Ends-either}
+use Rattle.word_transaction.specs.Running.{ByTransaction, RecoversTo, AbortsTransaction, CommitsTransaction}
+use Rattle.word_transaction.proofs.Ended.{beside_transaction, CommitsTransaction-either}
 use Rattle.hybrid_tx.specs.PoolScopes.{pool_has_word, pool_scope, finished_of}
 use Rattle.hybrid_tx.specs.Open.Masks.{OpenPool, is_open_record, IsOpenPool, IsLeftOpen}
 use Rattle.hybrid_tx.specs.Open.ManyOpen.{OpenTransaction, Opens, with_transaction, open_masks, AreOpenPools, MasksAll, HasRecords, AreLeftOpen, IsOneMore}
@@ -137,7 +137,7 @@ pub record EndsBy (g : Scope) (at : ℕ) (before after : Image) (fault : Option 
   pub closed : fault ≡ None → HasOnly (new.now.words at) CLOSED_GATE
 
 -- undone
-pub EndsBy-closes : (g : Scope) (at : ℕ) (before : Image) (fault : Option HostFault) (old new : State) → Closes g at before fault old new → EndsBy g at before before fault old new
+pub EndsBy-closes : (g : Scope) (at : ℕ) (before : Image) (fault : Option HostFault) (old new : State) → AbortsTransaction g at before fault old new → EndsBy g at before before fault old new
 EndsBy-closes g at before fault old new c = record {
   changes = c.changes;
   moments = Leaves-weaker (Silently (RecoversTo g at before)) (Silently (λ image. RecoversTo g at before image ⊎ RecoversTo g at before image)) old new (λ bytes image m. (m.0, inl m.1)) c.moments;
@@ -153,11 +153,11 @@ RecoversTo-mixed : (g : Scope) (at : ℕ) (after before image : Image) → Recov
 RecoversTo-mixed g at after before image s = record { es = s.es; spells = s.spells; own = s.own; settled = λ k mine. s.settled k mine ∙ sym (cond-true _ _ _ mine) }
 
 -- committed: the own words alone matter of the values
-pub EndsBy-ends : (g : Scope) (at : ℕ) (before after : Image) (fault : Option HostFault) (old new : State) → Ends g at before after fault old new → EndsBy g at before (mixed g after before) fault old new
+pub EndsBy-ends : (g : Scope) (at : ℕ) (before after : Image) (fault : Option HostFault) (old new : State) → CommitsTransaction g at before after fault old new → EndsBy g at before (mixed g after before) fault old new
 EndsBy-ends g at before after fault old new e = record {
   changes = e.changes;
   moments = Leaves-weaker (Silently (λ image. RecoversTo g at before image ⊎ RecoversTo g at after image)) (Silently (λ image. RecoversTo g at before image ⊎ RecoversTo g at (mixed g after before) image)) old new
-      (λ bytes image m. (m.0, elim m.1 [ inl was ↦ inl was | inr now ↦ inr (RecoversTo-mixed g at after before image now) ])) (Ends-either g at before after fault old new e);
+      (λ bytes image m. (m.0, elim m.1 [ inl was ↦ inl was | inr now ↦ inr (RecoversTo-mixed g at after before image now) ])) (CommitsTransaction-either g at before after fault old new e);
   durable = λ none k mine. subst (λ (v : ℕ). HasOnly (new.now.words k) v) (sym (cond-true _ _ _ mine)) (e.durable none k mine);
   closed = e.closed;
 }

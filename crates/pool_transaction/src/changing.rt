@@ -25,7 +25,7 @@ ghost use Rattle.lazy_rewrite.specs.Frontiers.{frontiers_of, finished_at};
 ghost use Rattle.lazy_rewrite.specs.Batches.{Rewrites};
 ghost use Rattle.word_transaction.specs.Running.{ByTransaction};
 ghost use Rattle.hybrid_tx.specs.PoolScopes.{pool_scope, IsPlaced, IsRewrittenAt};
-ghost use Rattle.hybrid_tx.specs.Objects.Transactions.{IsOpenOn, RunsOn};
+ghost use Rattle.hybrid_tx.specs.Objects.Transactions.{IsOpenOn, KeepsOpenOn};
 ghost use Rattle.ready_daemon.specs.Memory.{Memory};
 ghost use Rattle.ready_daemon.specs.ActiveTransactions.{IsActiveWithin};
 ghost use Rattle.registry.specs.Adding.{IsAddedWithin};
@@ -153,7 +153,7 @@ fn carry_out<H: Host>(
     ensures runs { H.tells → (types : List (ℕ × ℕ)) (before : Image) (undone : Graph) (t : Transaction) (update : Update) → IsPlaced frames pool.now → IsRewrittenAt pool.now (ordinal_written found)
         → IsOpenOn frames pool.now types (tx.old).log before undone t.now t.deferred (H.state h.old).now.words → MayChange types t update
         → IsFoundBy frames pool.now (reads (H.state h.old).now.words) update found
-        → RunsOn frames pool.now types (tx.new).log before undone (changed_by update t).now (changed_by update t).deferred (fault_of result) (H.state h.old) (H.state h.new) }
+        → KeepsOpenOn frames pool.now types (tx.new).log before undone (changed_by update t).now (changed_by update t).deferred (fault_of result) (H.state h.old) (H.state h.new) }
     ensures counts { H.tells → (types : List (ℕ × ℕ)) (before : Image) (undone : Graph) (now : Graph) (deferred : List DeferredValue)
         → IsOpenOn frames pool.now types (tx.old).log before undone now deferred (H.state h.old).now.words → IfOk result (λ _. (tx.new).units ≡ (tx.old).units + SET_UNITS) }
     ensures cause { H.counts h.new ≡ after_fault (fault_of result) (H.counts h.old) }

@@ -25,7 +25,7 @@ use Rattle.pud_defs.specs.Tables.{Pool}
 use Rattle.pud_defs.specs.World.{StoredWorld, Transaction, World, restart, open_on}
 use Rattle.pud_defs.specs.PoolChanges.{pool_named, is_full_of_pools, lacks_frames, lacks_a_number, changed_pool, with_puddle_more, with_new_pool, with_pool_mode, without_pool, with_type_defined}
 use Rattle.pud_defs.specs.Imports.{is_full_for_file, lacks_frames_for_file, with_pool_of}
-use Rattle.pud_defs.specs.Transactions.{is_own, is_others, units_of, depth_of, deferred_of, with_open, with_changed, without_client, begun, charged, deferring, lowered, committed_pools}
+use Rattle.pud_defs.specs.Transactions.{is_own, is_others, units_of, depth_of, deferred_of, with_open, with_changed, without_client, open_after_begin, charged, deferring, lowered, committed_pools}
 use Rattle.pud_defs.specs.Listing.{name_text, pools_text}
 use Rattle.pud_defs.specs.DumpText.{dump_text}
 use Rattle.pud_defs.specs.Grammar.{command_of}
@@ -421,7 +421,7 @@ after w (commands.Pool client name mode) = record w { stored = with_new_pool nam
 after w (Chmod client name mode) = record w { stored = with_pool_mode name mode w.stored }
 after w (commands.Drop client name) = record w { stored = without_pool name w.stored }
 after w (Get client name s f) = w
-after w (Begin client name) = record w { transactions = with_open name (begun client (graph_at_begin w name) (open_on name w)) w.transactions }
+after w (Begin client name) = record w { transactions = with_open name (open_after_begin client (graph_at_begin w name) (open_on name w)) w.transactions }
 after w (Commit client name) = record w { stored = record w.stored { pools = committed_pools name (open_on name w) w.stored.pools }; transactions = with_open name (lowered (open_on name w)) w.transactions }
 after w (Abort client name) = record w { transactions = with_open name None w.transactions }
 after w (New client name t) = record w {

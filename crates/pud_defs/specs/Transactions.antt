@@ -51,9 +51,9 @@ without_client client opened name = cond (is_own client (opened name)) None (ope
 -- ---- a transaction begins, and is used
 
 -- begun once by a client that sees this graph; or what is open, one deeper
-abbrev pub begun : (client : ℕ) → Graph → Option Transaction → Option Transaction
-begun client g None = Some (record { client = client; depth = 1; units = 0; now = g; deferred = [] })
-begun client g (Some t) = Some (record t { depth = t.depth + 1 })
+abbrev pub open_after_begin : (client : ℕ) → Graph → Option Transaction → Option Transaction
+open_after_begin client g None = Some (record { client = client; depth = 1; units = 0; now = g; deferred = [] })
+open_after_begin client g (Some t) = Some (record t { depth = t.depth + 1 })
 
 -- its graph changed, and so many units more used
 abbrev pub charged : (units : ℕ) → (Graph → Graph) → Transaction → Transaction

@@ -7,7 +7,7 @@ use Rattle.pud_defs.specs.Image.{Image}
 use Rattle.pud_defs.specs.World.{StoredWorld, world_of}
 use Rattle.puddled.specs.declared.daemon.RunFault.{RunFault}
 use Rattle.puddled.specs.declared.daemon.RunFault.TheVariants as faults
-use Rattle.puddled.specs.Faults.{Grows, Ends}
+use Rattle.puddled.specs.Faults.{Grows, CountsToEnd}
 use Rattle.puddled.proofs.Counted.{Grows-still, risen_least}
 use Rattle.puddle_cli.specs.declared.status.TheConstants.{DONE, NOT_USABLE, DEVICE_FAULT, POWER_LOST, TOO_LONG}
 use Rattle.puddle_cli.specs.Status.{status_fault, run_fault_at, status_at, IsStatusOfMode, Causes}
@@ -61,7 +61,7 @@ module _ (old new : Counts) where
       Causes-nothing status (λ f. let no : TOO_LONG ≡ DEVICE_FAULT = sym long ∙ f in cc) (λ f. let no : TOO_LONG ≡ POWER_LOST = sym long ∙ f in cc) (e ∙ ap (λ (s : ℕ). after_fault (status_fault s) old) long)
 
   -- a run that could not go on
-  pub Causes-run : (fault : RunFault) → Ends (Some fault) old new → Causes (status_at fault) old new
+  pub Causes-run : (fault : RunFault) → CountsToEnd (Some fault) old new → Causes (status_at fault) old new
   Causes-run faults.Failed c = Causes-failed c.before c.grows c.last
   Causes-run faults.CutInStart c =
       let cuts : new.cuts ≡ c.before.cuts = ap (λ (x : Counts). x.cuts) c.last in
@@ -71,7 +71,7 @@ module _ (old new : Counts) where
       Causes-grows NOT_USABLE (λ f. let no : NOT_USABLE ≡ DEVICE_FAULT = f in cc) (λ f. absurd (let no : NOT_USABLE ≡ POWER_LOST = f in cc)) (subst (λ (x : Counts). Grows old x) (sym c.last) c.grows)
 
   -- where neither count rose, and the device stays sound, a run goes on
-  pub goes_on : (Rose old.faults new.faults → ⊥) → (Rose old.cuts new.cuts → ⊥) → (fault : RunFault) → Ends (Some fault) old new → (Some fault ≡ Some faults.NotSound → ⊥) → ⊥
+  pub goes_on : (Rose old.faults new.faults → ⊥) → (Rose old.cuts new.cuts → ⊥) → (fault : RunFault) → CountsToEnd (Some fault) old new → (Some fault ≡ Some faults.NotSound → ⊥) → ⊥
   goes_on no_fault no_cut faults.Failed c sound = no_fault ((Causes-run faults.Failed c).faults refl)
   goes_on no_fault no_cut faults.CutInStart c sound = no_cut ((Causes-run faults.CutInStart c).cuts refl)
   goes_on no_fault no_cut faults.NotSound c sound = sound refl

@@ -8,7 +8,7 @@ ghost use Rattle.pud_defs.specs.World.{World, no_clients, nothing_open, world_of
 ghost use Rattle.gen_work.specs.GenLines.{gen_lines};
 ghost use Rattle.command_line.specs.declared.modes.TheConstants.{MAX_SEED, MAX_OBJECTS};
 ghost use Rattle.ready_daemon.specs.Ready.{IsReady};
-ghost use Rattle.puddled.specs.Faults.{run_fault, Ends};
+ghost use Rattle.puddled.specs.Faults.{run_fault, CountsToEnd};
 ghost use Rattle.puddle_cli.specs.Status.{status_fault, run_fault_at, IsStatusOfMode, Causes};
 ghost use Rattle.puddle_cli.specs.Serving.{KeepsScript, IsUnsoundBehindLoss};
 ghost use Rattle.puddle_cli.specs.Generating.{SumsUp, RunsLines, SaysSummary};
@@ -39,7 +39,7 @@ fn sum_up<H: Host>(
     ensures says { H.tells → SaysSummary [] (length (gen_lines seed count)) (run_fault result ≡ Option.None) (H.state h.old) (H.state h.new) }
     ensures not_sound { H.tells → result ≡ Result.Err RunFault.NotSound → IsUnsoundBehindLoss (H.counts h.old) (H.counts h.new) (H.state h.new) }
     ensures rest { H.tells → KeepsScript (H.state h.old) (H.state h.new) }
-    ensures cause { Ends (run_fault result) (H.counts h.old) (H.counts h.new) }
+    ensures cause { CountsToEnd (run_fault result) (H.counts h.old) (H.counts h.new) }
 {
     let frames = daemon.frames();
     let mut source = Source::Generated(GeneratedBytes::new(seed, count));

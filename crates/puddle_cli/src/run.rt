@@ -6,7 +6,7 @@ ghost use Rattle.pm_model.specs.Counts.{Counts, Rose};
 ghost use Rattle.pud_defs.specs.declared.layout.TheConstants.{SCRIPT_LIMIT};
 ghost use Rattle.pud_defs.specs.Layout.{device_words};
 ghost use Rattle.pud_defs.specs.World.{World, no_clients, nothing_open, world_of, closed};
-ghost use Rattle.puddled.specs.Faults.{run_fault, Ends};
+ghost use Rattle.puddled.specs.Faults.{run_fault, CountsToEnd};
 ghost use Rattle.ready_daemon.specs.Ready.{IsReady};
 ghost use Rattle.puddle_cli.specs.declared.piece.TheConstants.{KEPT};
 ghost use Rattle.puddle_cli.specs.Status.{status_fault, status_to, IsStatusOfMode, Causes};
@@ -53,7 +53,7 @@ fn answer<H: Host>(
     ensures not_sound { H.tells → result ≡ Result.Err RunFault.NotSound → IsUnsoundBehindLoss (H.counts h.old) (H.counts h.new) (H.state h.new) }
     ensures room { device_words daemon.new.frames ≤ (H.counts h.old).size }
     ensures rest { H.tells → KeepsScript (H.state h.old) (H.state h.new) }
-    ensures cause { Ends (run_fault result) (H.counts h.old) (H.counts h.new) }
+    ensures cause { CountsToEnd (run_fault result) (H.counts h.old) (H.counts h.new) }
 {
     if piece.is_empty() {
         return Ok(0);
@@ -91,7 +91,7 @@ fn serve_byte<H: Host>(
     ensures one_more { refused.new ≤ refused.old + 1 }
     ensures not_sound { H.tells → result ≡ Result.Err RunFault.NotSound → IsUnsoundBehindLoss (H.counts h.old) (H.counts h.new) (H.state h.new) }
     ensures room { device_words daemon.new.frames ≤ (H.counts h.old).size }
-    ensures cause { Ends (run_fault result) (H.counts h.old) (H.counts h.new) }
+    ensures cause { CountsToEnd (run_fault result) (H.counts h.old) (H.counts h.new) }
 {
     match source.next(h)? {
         None => Ok(false),
@@ -121,7 +121,7 @@ fn serve_lines<H: Host>(
     ensures quiet { H.tells → is_aloud source.old ≡ false → IsQuiet (H.state h.old) (H.state h.new) }
     ensures takes { H.tells → TakesBy (bytes_left source.old (H.state h.old)) result (H.state h.old) (H.state h.new) (bytes_left source.new (H.state h.new)) }
     ensures not_sound { H.tells → result ≡ Result.Err RunFault.NotSound → IsUnsoundBehindLoss (H.counts h.old) (H.counts h.new) (H.state h.new) }
-    ensures cause { Ends (run_fault result) (H.counts h.old) (H.counts h.new) }
+    ensures cause { CountsToEnd (run_fault result) (H.counts h.old) (H.counts h.new) }
 {
     let mut piece = Piece::new();
     let mut refused = 0;
@@ -155,7 +155,7 @@ pub fn serve<H: Host>(
     ensures quiet { H.tells → is_aloud source.old ≡ false → IsQuiet (H.state h.old) (H.state h.new) }
     ensures takes { H.tells → TakesBy (bytes_left source.old (H.state h.old)) result (H.state h.old) (H.state h.new) (bytes_left source.new (H.state h.new)) }
     ensures not_sound { H.tells → result ≡ Result.Err RunFault.NotSound → IsUnsoundBehindLoss (H.counts h.old) (H.counts h.new) (H.state h.new) }
-    ensures cause { Ends (run_fault result) (H.counts h.old) (H.counts h.new) }
+    ensures cause { CountsToEnd (run_fault result) (H.counts h.old) (H.counts h.new) }
 {
     let mut daemon = daemon;
     let served = serve_lines(alloc, &mut daemon, h, source);

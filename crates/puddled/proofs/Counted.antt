@@ -20,7 +20,7 @@ use Rattle.puddled.specs.declared.daemon.RunFault.TheVariants as faults
 use Rattle.ready_daemon.specs.Memory.{Memory}
 use Rattle.ready_daemon.proofs.Turns.{turn_of, no_cut_reply}
 use Rattle.puddled.specs.Faults.Kind.{ordinary, loses, arms}
-use Rattle.puddled.specs.Faults.{start_fault, of_host, of_start, risen_by, RoseBy, after_cuts, CountsTurns, AreCuts, restart_cuts, run_fault, last_fault, IsCounted, Kind, kind_of, is_loss_kind, is_loss, CountsKind, CountsLine, CountsReply, CountsCommand, behind_loss, HasLostPower, Grows, Ends}
+use Rattle.puddled.specs.Faults.{start_fault, of_host, of_start, risen_by, RoseBy, after_cuts, CountsTurns, AreCuts, restart_cuts, run_fault, last_fault, IsCounted, Kind, kind_of, is_loss_kind, is_loss, CountsKind, CountsLine, CountsReply, CountsCommand, behind_loss, HasLostPower, Grows, CountsToEnd}
 
 least_by : (n : ℕ) (b : Bool) → n ≤ cond b (n + 1) n
 least_by n true = omega arith
@@ -247,7 +247,7 @@ rose_in_restart (Some faults.Failed) n count a are = risen_by-least count a
 rose_in_restart (Some faults.NotSound) n count a are = risen_by-least count a
 rose_in_restart (Some faults.CutInStart) n count a are = subst (λ (x : ℕ). RoseBy 1 a (risen_by x a)) (sym are.1) (risen_least (risen_by 1 a))
 
-ends_plain : (fault : Option RunFault) (n : ℕ) (a b : Counts) → IsCounted fault n a b → Ends fault a b
+ends_plain : (fault : Option RunFault) (n : ℕ) (a b : Counts) → IsCounted fault n a b → CountsToEnd fault a b
 ends_plain fault n a b c = record { before = after_cuts c.count a; grows = Grows-cuts c.count a; cuts = rose_in_restart fault n c.count a.cuts c.cuts; last = c.is }
 
 no_restart : (fault : Option RunFault) (a : ℕ) → AreCuts fault 0 0 → RoseBy (restart_cuts fault) a a
@@ -257,7 +257,7 @@ no_restart (Some faults.NotSound) a none = omega arith
 no_restart (Some faults.CutInStart) a none = absurd (let no : 0 ≡ 2 = none.1 in omega arith)
 
 -- whatever the line is
-kind_ends : (kind : Kind) (fault : Option RunFault) (n : ℕ) (a b : Counts) → CountsKind kind fault n a b → Ends fault a b
+kind_ends : (kind : Kind) (fault : Option RunFault) (n : ℕ) (a b : Counts) → CountsKind kind fault n a b → CountsToEnd fault a b
 kind_ends ordinary fault n a b c = ends_plain fault n a b c
 kind_ends (loses pick) fault n a b c =
     record {
@@ -268,27 +268,27 @@ kind_ends (loses pick) fault n a b c =
     }
 kind_ends (arms step pick) fault n a b c = record { before = after_arm step pick a; grows = Grows-arm step pick a; cuts = no_restart fault a.cuts c.1; last = c.2 }
 
-pub counted_ends : (command : Option Command) (fault : Option RunFault) (n : ℕ) (a b : Counts) → CountsLine command fault n a b → Ends fault a b
+pub counted_ends : (command : Option Command) (fault : Option RunFault) (n : ℕ) (a b : Counts) → CountsLine command fault n a b → CountsToEnd fault a b
 counted_ends command fault n a b c = kind_ends (kind_of command) fault n a b c
 
 -- whatever was answered
-pub reply_ends : {T : Type 0} → (command : Option Command) (result : Result T RunFault) (cut : T) (a b : Counts) → CountsReply command result cut a b → Ends (run_fault result) a b
+pub reply_ends : {T : Type 0} → (command : Option Command) (result : Result T RunFault) (cut : T) (a b : Counts) → CountsReply command result cut a b → CountsToEnd (run_fault result) a b
 reply_ends command result cut a b (inl c) = counted_ends command (run_fault result) 0 a b c
-reply_ends command result cut a b (inr c) = subst (λ (f : Option RunFault). Ends f a b) (sym (ap run_fault c.0)) (counted_ends command None 1 a b c.1)
+reply_ends command result cut a b (inr c) = subst (λ (f : Option RunFault). CountsToEnd f a b) (sym (ap run_fault c.0)) (counted_ends command None 1 a b c.1)
 
-pub Ends-none : (a b : Counts) → Ends None a b → Grows a b
-Ends-none a b e = subst (λ (x : Counts). Grows a x) (sym e.last) e.grows
+pub CountsToEnd-none : (a b : Counts) → CountsToEnd None a b → Grows a b
+CountsToEnd-none a b e = subst (λ (x : Counts). Grows a x) (sym e.last) e.grows
 
-pub Ends-nothing : (a b : Counts) → b ≡ a → Ends None a b
-Ends-nothing a b same = record { before = a; grows = Grows-still a a refl; cuts = omega arith; last = same }
+pub CountsToEnd-nothing : (a b : Counts) → b ≡ a → CountsToEnd None a b
+CountsToEnd-nothing a b same = record { before = a; grows = Grows-still a a refl; cuts = omega arith; last = same }
 
-pub Ends-host : (fault : HostFault) (a b : Counts) → b ≡ after_fault (Some fault) a → (Some fault ≡ Some hosts.Cut → ⊥) → Ends (Some (of_host fault)) a b
-Ends-host hosts.Failed a b last never_cut = record { before = a; grows = Grows-still a a refl; cuts = omega arith; last = last }
-Ends-host hosts.Cut a b last never_cut = absurd (never_cut refl)
+pub CountsToEnd-host : (fault : HostFault) (a b : Counts) → b ≡ after_fault (Some fault) a → (Some fault ≡ Some hosts.Cut → ⊥) → CountsToEnd (Some (of_host fault)) a b
+CountsToEnd-host hosts.Failed a b last never_cut = record { before = a; grows = Grows-still a a refl; cuts = omega arith; last = last }
+CountsToEnd-host hosts.Cut a b last never_cut = absurd (never_cut refl)
 
 -- lines went on, and then it ended so
-pub Ends-then : (fault : Option RunFault) (a b c : Counts) → Grows a b → Ends fault b c → Ends fault a c
-Ends-then fault a b c first later =
+pub CountsToEnd-then : (fault : Option RunFault) (a b c : Counts) → Grows a b → CountsToEnd fault b c → CountsToEnd fault a c
+CountsToEnd-then fault a b c first later =
     record {
       before = later.before;
       grows = Grows-then a b later.before first later.grows;
@@ -297,13 +297,13 @@ Ends-then fault a b c first later =
     }
 
 -- no line changes the device's size
-pub size_of_ends : (fault : Option RunFault) (a b : Counts) → Ends fault a b → b.size ≡ a.size
+pub size_of_ends : (fault : Option RunFault) (a b : Counts) → CountsToEnd fault a b → b.size ≡ a.size
 size_of_ends fault a b c = ap (λ (x : Counts). x.size) c.last ∙ size_after_fault (last_fault fault) c.before ∙ c.grows.size
 
 -- ---- how many cuts were counted in all
 
 -- none falls
-pub cuts_of_ends : (fault : Option RunFault) (a b : Counts) → Ends fault a b → a.cuts ≤ b.cuts
+pub cuts_of_ends : (fault : Option RunFault) (a b : Counts) → CountsToEnd fault a b → a.cuts ≤ b.cuts
 cuts_of_ends fault a b c =
     let first = c.grows.cuts in
     let later = cuts_after_fault (last_fault fault) c.before in

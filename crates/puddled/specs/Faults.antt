@@ -152,7 +152,7 @@ pub record Grows (old new : Counts) : Type 0 where
   pub losses : old.losses ≤ new.losses
 
 -- lines went on, a cut was counted in the restart at `CutInStart`, and then it ended so
-pub record Ends (fault : Option RunFault) (old new : Counts) : Type 0 where
+pub record CountsToEnd (fault : Option RunFault) (old new : Counts) : Type 0 where
   pub before : Counts
   pub grows : Grows old before
   pub cuts : RoseBy (restart_cuts fault) old.cuts before.cuts

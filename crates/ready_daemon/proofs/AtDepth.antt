@@ -10,7 +10,7 @@ use Rattle.pud_defs.specs.declared.machine.Command.TheVariants as commands
 use Rattle.pud_defs.specs.Graph.{Graph}
 use Rattle.pud_defs.specs.DeferredValues.{DeferredValue}
 use Rattle.pud_defs.specs.Step.{graph_at_begin, after}
-use Rattle.pud_defs.specs.Transactions.{with_open, begun}
+use Rattle.pud_defs.specs.Transactions.{with_open, open_after_begin}
 use Rattle.pud_defs.specs.World.{Transaction, World, open_on}
 use Rattle.hybrid_tx.specs.Objects.Transactions.{IsOpenOn}
 use Rattle.nesting.specs.declared.Session.{Session}
@@ -153,7 +153,7 @@ module _ (size : ℕ) (w : World) (memory : Memory) (s : State) (ready : IsReady
   deeper_world : (client : ℕ) → after w (commands.Begin client active.name) ≡ next (t.depth + 1)
   unfolding after
   deeper_world client =
-      ap (λ (o : Option Transaction). record w { transactions = with_open active.name (begun client (graph_at_begin w active.name) o) w.transactions }) its.is.is
+      ap (λ (o : Option Transaction). record w { transactions = with_open active.name (open_after_begin client (graph_at_begin w active.name) o) w.transactions }) its.is.is
 
   deeper_sessions : (client : ℕ) → client ≡ t.client → entered client active.slot number memory.sessions ≡ sessions_at (t.depth + 1)
   deeper_sessions client whose =

@@ -34,7 +34,7 @@ use Rattle.batch.specs.Batches.{batch_entry, IsBatchEntry, AreBatched, HasIdleGa
 use Rattle.batch.specs.Tables.{HasDurableTables}
 use Rattle.batch.proofs.Tables.{StaysDurable, reads_kept, HasDurableTables-kept, HasDurableTables-committed}
 use Rattle.log_space.specs.Records.{record_batch, registration, unregistration, MayHaveOwner, ChangesOwner, Registers, Unregisters}
-use Rattle.log_space.specs.Closed.{ByClosing, ClosesGates, Closes}
+use Rattle.log_space.specs.Closed.{ByClosing, ClosesGates, ClosesClientLogs}
 use Rattle.log_space.proofs.Writing.{writes_elsewhere}
 use Rattle.std.proofs.lemmas.Option.{none-some}
 use Rattle.ready_daemon.proofs.RestBeside.{rest_beside}
@@ -127,7 +127,7 @@ module _ (size : ℕ) (w : World) (memory : Memory) (slot : ℕ) (known : slot <
 
   -- the logs were not closed, for a fault
   unclosed : (F : ℕ) (now : Option Owner) (fault : HostFault) (b : State) → F ≡ w.stored.frames → ClosesGates F slot (Some fault) a b
-      → Closes size (closed w) slot (Some fault) (masked_state ready.mask a) (masked_state ready.mask b) → Applies size w (after_this w slot now) memory (Some fault) a b
+      → ClosesClientLogs size (closed w) slot (Some fault) (masked_state ready.mask a) (masked_state ready.mask b) → Applies size w (after_this w slot now) memory (Some fault) a b
   unclosed F now fault b is gates p =
       let none : Some fault ≡ None → ⊥ = λ no. let it : None ≡ Some fault = sym no in cc in
       Applies-beside size w (after_this w slot now) memory (Some fault) a b ready (keeps_active w memory.active slot now others) (record {
@@ -142,7 +142,7 @@ module _ (size : ℕ) (w : World) (memory : Memory) (slot : ℕ) (known : slot <
       }) Stays (LeavesPuddles-beside w.stored.frames (Some fault) a b ready.tables (λ frame m used. apart_closing F (Some fault) b is gates frame m used)) memory refl refl refl (λ no. absurd (none no)) (λ no. absurd (none no))
 
   module _ (F : ℕ) (now : Option Owner) (vals : List ℕ) (few : length vals ≤ SPACE_RECORD_WORDS) (b c : State) (is : F ≡ w.stored.frames) (gates : ClosesGates F slot None a b)
-      (p : Closes size (closed w) slot None (masked_state ready.mask a) (masked_state ready.mask b)) where
+      (p : ClosesClientLogs size (closed w) slot None (masked_state ready.mask a) (masked_state ready.mask b)) where
     abbrev es : List Entry
     es = record_batch slot vals
 
@@ -244,12 +244,12 @@ module _ (size : ℕ) (w : World) (memory : Memory) (slot : ℕ) (known : slot <
 
   -- a client came
   pub Applies-unadmitted : (F uid gid : ℕ) (fault : HostFault) (b : State) → F ≡ w.stored.frames → ClosesGates F slot (Some fault) a b
-      → Closes size (closed w) slot (Some fault) (masked_state ready.mask a) (masked_state ready.mask b) → Applies size w (after w (Client slot uid gid)) memory (Some fault) a b
+      → ClosesClientLogs size (closed w) slot (Some fault) (masked_state ready.mask a) (masked_state ready.mask b) → Applies size w (after w (Client slot uid gid)) memory (Some fault) a b
   unfolding after
   Applies-unadmitted F uid gid fault b is gates p = unclosed F (Some (owner uid gid)) fault b is gates p
 
   pub Applies-admitted : (F uid gid : ℕ) (fault : Option HostFault) (b c : State) → F ≡ w.stored.frames → ClosesGates F slot None a b
-      → Closes size (closed w) slot None (masked_state ready.mask a) (masked_state ready.mask b) → Commits DAEMON_LOG (registration slot uid gid) fault b c
+      → ClosesClientLogs size (closed w) slot None (masked_state ready.mask a) (masked_state ready.mask b) → Commits DAEMON_LOG (registration slot uid gid) fault b c
       → Registers size (closed w) slot uid gid fault (masked_state ready.mask b) (masked_state ready.mask c) → Applies size w (after w (Client slot uid gid)) memory fault a c
   unfolding after
   Applies-admitted F uid gid fault b c is gates p k r = changed F (Some (owner uid gid)) (1 ∷ uid ∷ gid ∷ []) (omega arith) b c is gates p fault k r.table
@@ -259,11 +259,11 @@ module _ (size : ℕ) (w : World) (memory : Memory) (slot : ℕ) (known : slot <
   to_gone fault c applies = subst (λ (v : World). Applies size w v memory fault a c) (sym (gone w memory.active ready.mask a.now.words slot ready.active others)) applies
 
   pub Applies-undismissed : (F : ℕ) (fault : HostFault) (b : State) → F ≡ w.stored.frames → ClosesGates F slot (Some fault) a b
-      → Closes size (closed w) slot (Some fault) (masked_state ready.mask a) (masked_state ready.mask b) → Applies size w (after w (Leave slot)) memory (Some fault) a b
+      → ClosesClientLogs size (closed w) slot (Some fault) (masked_state ready.mask a) (masked_state ready.mask b) → Applies size w (after w (Leave slot)) memory (Some fault) a b
   Applies-undismissed F fault b is gates p = to_gone (Some fault) b (unclosed F None fault b is gates p)
 
   pub Applies-dismissed : (F : ℕ) (fault : Option HostFault) (b c : State) → F ≡ w.stored.frames → ClosesGates F slot None a b
-      → Closes size (closed w) slot None (masked_state ready.mask a) (masked_state ready.mask b) → Commits DAEMON_LOG (unregistration slot) fault b c
+      → ClosesClientLogs size (closed w) slot None (masked_state ready.mask a) (masked_state ready.mask b) → Commits DAEMON_LOG (unregistration slot) fault b c
       → Unregisters size (closed w) slot fault (masked_state ready.mask b) (masked_state ready.mask c) → Applies size w (after w (Leave slot)) memory fault a c
   Applies-dismissed F fault b c is gates p k r = to_gone fault c (changed F None (0 ∷ []) (omega arith) b c is gates p fault k r.table)
 

@@ -20,7 +20,7 @@ use Rattle.pud_defs.proofs.Replay.{undone-none, not_inside}
 use Rattle.log_store.specs.Store.{saying}
 use Rattle.log_store.proofs.Open.{log_of-is, IsOpen-running}
 use Rattle.word_transaction.specs.Scope.{Scope, IsScope, IsInScope, running_range, saved}
-use Rattle.word_transaction.specs.Running.{IsRunning, IsIdle, nothing, begun, RecoversTo, ByTransaction, Runs}
+use Rattle.word_transaction.specs.Running.{IsRunning, IsIdle, no_write, begun_log, RecoversTo, ByTransaction, KeepsRunning}
 use Rattle.word_transaction.proofs.Saved.{some_not_none}
 use Rattle.word_transaction.proofs.Images.{RecoversTo-running, RecoversTo-closed}
 use Rattle.word_transaction.proofs.Calls.{not_cut}
@@ -30,9 +30,9 @@ nothing_saved : (g : Scope) (before : Image) (k v : ℕ) → saved g.place [] k 
 nothing_saved g before k v is = absurd (some_not_none (saved g.place [] k) v is (undone-none g.place running_range k))
 
 -- the gate of a running log alone makes a log that runs without entries
-log_of-begun : (at : ℕ) (image : Image) → image at ≡ RUNNING_GATE → log_of image at ≡ saying (begun at) []
-log_of-begun at image gate =
-    log_of-is image (begun at) [] [] (record { lo_fits = omega arith; hi_fits = omega arith; used_within = omega arith }) gate
+log_of-begun_log : (at : ℕ) (image : Image) → image at ≡ RUNNING_GATE → log_of image at ≡ saying (begun_log at) []
+log_of-begun_log at image gate =
+    log_of-is image (begun_log at) [] [] (record { lo_fits = omega arith; hi_fits = omega arith; used_within = omega arith }) gate
     (words_from-none image (at + LOG_HEADER_WORDS) 0 refl) (entries_in-nothing [] refl)
 
 module _ (size at : ℕ) (g : Scope) (before : Image) (fault : Option HostFault) (s t : State) (ground : IsScope size at g) (idle : IsIdle g at before s.now.words)
@@ -54,11 +54,11 @@ module _ (size at : ℕ) (g : Scope) (before : Image) (fault : Option HostFault)
       let same : (k : ℕ) → g.has_word k ≡ true → was k ≡ before k = λ k mine. (idle.single k mine).each (was k) (picked.each k) in
       elim (one_word at RUNNING_GATE was image from) [
         | inl still ↦ RecoversTo-closed g at before image (ap (λ (i : Image). is_closed_log i at) still ∙ idle.closed was picked) (λ k mine. ap (λ (i : Image). i k) still ∙ same k mine)
-        | inr runs ↦ RecoversTo-running g (begun at) [] before image refl refl (All-nil (IsInScope g)) (log_of-begun at image runs.there)
+        | inr runs ↦ RecoversTo-running g (begun_log at) [] before image refl refl (All-nil (IsInScope g)) (log_of-begun_log at image runs.there)
             (λ k v mine is. nothing_saved g before k v is) (λ k mine none. runs.others k (other k (ground.apart k mine)) ∙ same k mine)
       ]
 
-  running : fault ≡ None → IsRunning g (begun at) [] before t.now.words
+  running : fault ≡ None → IsRunning g (begun_log at) [] before t.now.words
   running none =
       record {
         opened = IsOpen-running at s t (subst (λ (f : Option HostFault). Persists (only at RUNNING_GATE) f s t) none p);
@@ -70,7 +70,7 @@ module _ (size at : ℕ) (g : Scope) (before : Image) (fault : Option HostFault)
         marked = λ k mine. inr (HasOnly-own (t.now.words k) (before k) (single k mine));
       }
 
-  pub Runs-begun : Runs g (begun at) [] before nothing fault s t
+  pub Runs-begun : KeepsRunning g (begun_log at) [] before no_write fault s t
   Runs-begun =
       record {
         changes = Changes-wider (written (only at RUNNING_GATE)) (ByTransaction g at) fault s t

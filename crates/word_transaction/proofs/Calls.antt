@@ -17,7 +17,7 @@ use Rattle.pud_defs.proofs.Replay.{overwritten-then, or_none}
 use Rattle.log_store.specs.Store.{OpenLog, InLog}
 use Rattle.log_store.proofs.Open.{IsOpen-kept}
 use Rattle.word_transaction.specs.Scope.{Scope}
-use Rattle.word_transaction.specs.Running.{IsRunning, nothing, RecoversTo, ByTransaction, Runs}
+use Rattle.word_transaction.specs.Running.{IsRunning, no_write, RecoversTo, ByTransaction, KeepsRunning}
 use Rattle.word_transaction.proofs.Images.{IsRunning-settles}
 
 pub some_fault : (fault : HostFault) → Some fault ≡ None → ⊥
@@ -54,9 +54,9 @@ IsRunning-kept g log es before may fault old new c in_log own r =
 -- ---- calls that do nothing, and calls in turn
 
 -- a call did nothing
-pub Runs-still : (g : Scope) (log : OpenLog) (es : List Entry) (before : Image) (fault : Option HostFault) (old new : State) → (fault ≡ Some Cut → ⊥) → new ≡ old
-    → IsRunning g log es before old.now.words → Runs g log es before nothing fault old new
-Runs-still g log es before fault old new uncut same r =
+pub KeepsRunning-still : (g : Scope) (log : OpenLog) (es : List Entry) (before : Image) (fault : Option HostFault) (old new : State) → (fault ≡ Some Cut → ⊥) → new ≡ old
+    → IsRunning g log es before old.now.words → KeepsRunning g log es before no_write fault old new
+KeepsRunning-still g log es before fault old new uncut same r =
     record {
       changes = Changes-still (ByTransaction g log.gate_at) fault old new uncut same;
       moments = Leaves-still (Silently (RecoversTo g log.gate_at before)) old new (λ image picked. (refl, IsRunning-settles g log es before image old.now.words r picked)) same;
@@ -65,9 +65,9 @@ Runs-still g log es before fault old new uncut same r =
     }
 
 -- what failed did not do what was to come behind it
-pub Runs-failed : (g : Scope) (log behind : OpenLog) (es es_behind : List Entry) (before : Image) (write write_behind : Write) (fault : HostFault) (old new : State) → behind.gate_at ≡ log.gate_at
-    → Runs g log es before write (Some fault) old new → Runs g behind es_behind before write_behind (Some fault) old new
-Runs-failed g log behind es es_behind before write write_behind fault old new at r =
+pub KeepsRunning-failed : (g : Scope) (log behind : OpenLog) (es es_behind : List Entry) (before : Image) (write write_behind : Write) (fault : HostFault) (old new : State) → behind.gate_at ≡ log.gate_at
+    → KeepsRunning g log es before write (Some fault) old new → KeepsRunning g behind es_behind before write_behind (Some fault) old new
+KeepsRunning-failed g log behind es es_behind before write write_behind fault old new at r =
     record {
       changes = subst (λ (k : ℕ). Changes (ByTransaction g k) (Some fault) old new) (sym at) r.changes;
       moments = subst (λ (k : ℕ). Leaves (Silently (RecoversTo g k before)) old new) (sym at) r.moments;
@@ -76,15 +76,15 @@ Runs-failed g log behind es es_behind before write write_behind fault old new at
     }
 
 -- a call failed before it did anything
-pub Runs-stopped : (g : Scope) (log behind : OpenLog) (es es_behind : List Entry) (before : Image) (write : Write) (fault : HostFault) (old new : State) → behind.gate_at ≡ log.gate_at
-    → (Some fault ≡ Some Cut → ⊥) → new ≡ old → IsRunning g log es before old.now.words → Runs g behind es_behind before write (Some fault) old new
-Runs-stopped g log behind es es_behind before write fault old new at uncut same r =
-    Runs-failed g log behind es es_behind before nothing write fault old new at (Runs-still g log es before (Some fault) old new uncut same r)
+pub KeepsRunning-stopped : (g : Scope) (log behind : OpenLog) (es es_behind : List Entry) (before : Image) (write : Write) (fault : HostFault) (old new : State) → behind.gate_at ≡ log.gate_at
+    → (Some fault ≡ Some Cut → ⊥) → new ≡ old → IsRunning g log es before old.now.words → KeepsRunning g behind es_behind before write (Some fault) old new
+KeepsRunning-stopped g log behind es es_behind before write fault old new at uncut same r =
+    KeepsRunning-failed g log behind es es_behind before no_write write fault old new at (KeepsRunning-still g log es before (Some fault) old new uncut same r)
 
 -- one call and then another: what they write is written in turn
-pub Runs-then : (g : Scope) (log behind : OpenLog) (es es_behind : List Entry) (before : Image) (first later : Write) (fault : Option HostFault) (a b c : State) → behind.gate_at ≡ log.gate_at
-    → Runs g log es before first None a b → Runs g behind es_behind before later fault b c → Runs g behind es_behind before (over first later) fault a c
-Runs-then g log behind es es_behind before first later fault a b c at p q =
+pub KeepsRunning-then : (g : Scope) (log behind : OpenLog) (es es_behind : List Entry) (before : Image) (first later : Write) (fault : Option HostFault) (a b c : State) → behind.gate_at ≡ log.gate_at
+    → KeepsRunning g log es before first None a b → KeepsRunning g behind es_behind before later fault b c → KeepsRunning g behind es_behind before (over first later) fault a c
+KeepsRunning-then g log behind es es_behind before first later fault a b c at p q =
     let P = Silently (RecoversTo g behind.gate_at before) in
     let changes : Changes (ByTransaction g behind.gate_at) None a b = subst (λ (k : ℕ). Changes (ByTransaction g k) None a b) (sym at) p.changes in
     let moments : Leaves P a b = subst (λ (k : ℕ). Leaves (Silently (RecoversTo g k before)) a b) (sym at) p.moments in
@@ -100,9 +100,9 @@ Runs-then g log behind es es_behind before first later fault a b c at p q =
     }
 
 -- a write is told by its values alone
-pub Runs-writes : (g : Scope) (log : OpenLog) (es : List Entry) (before : Image) (write same : Write) (fault : Option HostFault) (old new : State) → ((k : ℕ) → write k ≡ same k)
-    → Runs g log es before write fault old new → Runs g log es before same fault old new
-Runs-writes g log es before write same fault old new each r =
+pub KeepsRunning-writes : (g : Scope) (log : OpenLog) (es : List Entry) (before : Image) (write same : Write) (fault : Option HostFault) (old new : State) → ((k : ℕ) → write k ≡ same k)
+    → KeepsRunning g log es before write fault old new → KeepsRunning g log es before same fault old new
+KeepsRunning-writes g log es before write same fault old new each r =
     record {
       changes = r.changes;
       moments = r.moments;
@@ -111,8 +111,8 @@ Runs-writes g log es before write same fault old new each r =
     }
 
 -- a call behind one that wrote nothing
-pub Runs-behind : (g : Scope) (log behind : OpenLog) (es es_behind : List Entry) (before : Image) (write : Write) (fault : Option HostFault) (a b c : State) → behind.gate_at ≡ log.gate_at
-    → Runs g log es before nothing None a b → Runs g behind es_behind before write fault b c → Runs g behind es_behind before write fault a c
-Runs-behind g log behind es es_behind before write fault a b c at p q =
-    Runs-writes g behind es_behind before (over nothing write) write fault a c (λ k. sym (or_none (write k)))
-    (Runs-then g log behind es es_behind before nothing write fault a b c at p q)
+pub KeepsRunning-behind : (g : Scope) (log behind : OpenLog) (es es_behind : List Entry) (before : Image) (write : Write) (fault : Option HostFault) (a b c : State) → behind.gate_at ≡ log.gate_at
+    → KeepsRunning g log es before no_write None a b → KeepsRunning g behind es_behind before write fault b c → KeepsRunning g behind es_behind before write fault a c
+KeepsRunning-behind g log behind es es_behind before write fault a b c at p q =
+    KeepsRunning-writes g behind es_behind before (over no_write write) write fault a c (λ k. sym (or_none (write k)))
+    (KeepsRunning-then g log behind es es_behind before no_write write fault a b c at p q)

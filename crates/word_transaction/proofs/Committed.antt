@@ -20,7 +20,7 @@ use Rattle.pud_defs.proofs.Replay.{not_inside, overwritten-stays}
 use Rattle.log_store.specs.Store.{OpenLog, IsOpen, defers, saying, committing}
 use Rattle.log_store.proofs.Open.{IsOpen-fits, IsOpen-log, IsOpen-kept, IsOpen-moved, log_of-moving, only_here}
 use Rattle.word_transaction.specs.Scope.{Scope, IsScope, pending}
-use Rattle.word_transaction.specs.Running.{IsRunning, RecoversTo, HasRange, RecoversByRange, ByTransaction, ByCommit, Closes, MovesRange, Ends}
+use Rattle.word_transaction.specs.Running.{IsRunning, RecoversTo, HasGateRange, RecoversByRange, ByTransaction, ByCommit, AbortsTransaction, MovesRange, CommitsTransaction}
 use Rattle.word_transaction.proofs.Images.{RecoversTo-running, RecoversTo-idle, IsRunning-settles}
 use Rattle.word_transaction.proofs.Calls.{some_fault, not_cut}
 use Rattle.word_transaction.proofs.Pending.{pending-none, RecoversTo-committing}
@@ -51,7 +51,7 @@ pub record IsShut (g : Scope) (at was : ℕ) (values image : Image) : Type 0 whe
 
 -- each image left meanwhile is such a one
 pub record Shuts (g : Scope) (at was : ℕ) (values : Image) (fault : Option HostFault) (old new : State) : Type 0 where
-  pub closes : Closes g at values fault old new
+  pub closes : AbortsTransaction g at values fault old new
   pub moments : Leaves (Silently (IsShut g at was values)) old new
 
 -- ---- the log of words that each have one value is closed
@@ -66,7 +66,7 @@ module _ (size at : ℕ) (g : Scope) (ground : IsScope size at g) (values : Imag
         (λ k mine. shut.others k (mine_apart size at g k ground mine) ∙ (single k mine).each (before k) (picked.each k))
   ]
 
-  pub Closes-shut : Closes g at values fault c d
+  pub Closes-shut : AbortsTransaction g at values fault c d
   Closes-shut =
       record {
         changes = Changes-wider (written (only at CLOSED_GATE)) (ByTransaction g at) fault c d (gate_by g at CLOSED_GATE) p.changes;
@@ -143,7 +143,7 @@ module _ (size : ℕ) (log : OpenLog) (es : List Entry) (g : Scope) (before : Im
   start_image image picked = unmoved image (IsOpen-log log es a.now.words image r.opened picked) (IsRunning-settles g log es before image a.now.words r picked)
 
   -- with this gate it has that of a committing log
-  moved_range : (image : Image) → image log.gate_at ≡ moved_gate log → HasRange COMMITTING_LO COMMITTING_HI log.gate_at image
+  moved_range : (image : Image) → image log.gate_at ≡ moved_gate log → HasGateRange COMMITTING_LO COMMITTING_HI log.gate_at image
   moved_range image is =
       let few = (IsOpen-fits log es a.now.words r.opened).used_within in
       record {
@@ -220,7 +220,7 @@ module _ (size : ℕ) (log : OpenLog) (es : List Entry) (g : Scope) (before : Im
   own_gate : (k v : ℕ) → ByCommit log k v → ByTransaction g log.gate_at k v
   own_gate k v by = let here = by.gate in inl (record { low = omega arith; high = omega arith })
 
-  pub Ends-fence : (fault : HostFault) (b : State) → Steps after_fence (Some fault) a b → Ends g log.gate_at before after (Some fault) a b
+  pub Ends-fence : (fault : HostFault) (b : State) → Steps after_fence (Some fault) a b → CommitsTransaction g log.gate_at before after (Some fault) a b
   Ends-fence fault b step =
       record {
         changes = Changes-fence (ByTransaction g log.gate_at) (Some fault) a b step;
@@ -231,7 +231,7 @@ module _ (size : ℕ) (log : OpenLog) (es : List Entry) (g : Scope) (before : Im
         stays = λ e. absurd (some_fault fault e);
       }
 
-  pub Ends-move : (fault : HostFault) (b c : State) → Moves log (Some fault) a b c → Ends g log.gate_at before after (Some fault) a c
+  pub Ends-move : (fault : HostFault) (b c : State) → Moves log (Some fault) a b c → CommitsTransaction g log.gate_at before after (Some fault) a c
   Ends-move fault b c m =
       record {
         changes = Changes-wider (ByCommit log) (ByTransaction g log.gate_at) (Some fault) a c own_gate (gate_moves log (Some fault) a b c m);
@@ -256,7 +256,7 @@ module _ (size : ℕ) (log : OpenLog) (es : List Entry) (g : Scope) (before : Im
       }
 
   -- its log is closed, with all words as they come to be
-  pub Ends-closes : (fault : Option HostFault) (b c d : State) → Moves log None a b c → Shuts g log.gate_at (moved_gate log) after fault c d → Ends g log.gate_at before after fault a d
+  pub Ends-closes : (fault : Option HostFault) (b c d : State) → Moves log None a b c → Shuts g log.gate_at (moved_gate log) after fault c d → CommitsTransaction g log.gate_at before after fault a d
   Ends-closes fault b c d m shuts =
       let closes = shuts.closes in
       let moves = gate_moves log None a b c m in
@@ -272,7 +272,7 @@ module _ (size : ℕ) (log : OpenLog) (es : List Entry) (g : Scope) (before : Im
       }
 
   -- at once where nothing is asked for
-  pub Ends-close : (fault : Option HostFault) (b c d : State) → defers es ≡ false → Moves log None a b c → Persists (only log.gate_at CLOSED_GATE) fault c d → Ends g log.gate_at before after fault a d
+  pub Ends-close : (fault : Option HostFault) (b c d : State) → defers es ≡ false → Moves log None a b c → Persists (only log.gate_at CLOSED_GATE) fault c d → CommitsTransaction g log.gate_at before after fault a d
   Ends-close fault b c d none m p =
       Ends-closes fault b c d m
       (Shuts-shut size log.gate_at g ground after fault c d (moved_settles b c m)

@@ -11,7 +11,7 @@ use Rattle.pud_defs.specs.Image.{Image}
 use Rattle.pud_defs.specs.Replay.{is_in_log}
 use Rattle.pud_defs.proofs.Replay.{not_inside}
 use Rattle.word_transaction.specs.Scope.{Scope}
-use Rattle.word_transaction.specs.Running.{ByTransaction, IsIdle, RecoversTo, RecoversByRange, Closes, Ends}
+use Rattle.word_transaction.specs.Running.{ByTransaction, IsIdle, RecoversTo, RecoversByRange, AbortsTransaction, CommitsTransaction}
 use Rattle.word_transaction.proofs.Images.{RecoversTo-closed, closed_by_gate}
 
 -- ---- whatever its range
@@ -21,19 +21,19 @@ pub settles_either : (g : Scope) (at : ℕ) (before after image : Image) → Rec
 settles_either g at before after image (inl unmoved) = inl unmoved.recovers
 settles_either g at before after image (inr moved) = inr moved.recovers
 
-pub Ends-either : (g : Scope) (at : ℕ) (before after : Image) (fault : Option HostFault) (old new : State) → Ends g at before after fault old new
+pub CommitsTransaction-either : (g : Scope) (at : ℕ) (before after : Image) (fault : Option HostFault) (old new : State) → CommitsTransaction g at before after fault old new
     → Leaves (Silently (λ image. RecoversTo g at before image ⊎ RecoversTo g at after image)) old new
-Ends-either g at before after fault old new e =
+CommitsTransaction-either g at before after fault old new e =
     Leaves-weaker (Silently (RecoversByRange g at before after)) (Silently (λ image. RecoversTo g at before image ⊎ RecoversTo g at after image)) old new
     (λ bytes image p. (p.0, settles_either g at before after image p.1)) e.moments
 
 -- ---- none is open any more
 
-pub Ends-idle : (g : Scope) (at : ℕ) (before after : Image) (fault : Option HostFault) (old new : State) → fault ≡ None → Ends g at before after fault old new → IsIdle g at after new.now.words
-Ends-idle g at before after fault old new none e = record { closed = λ image picked. closed_by_gate at image ((e.closed none).each (image at) (picked.each at)); single = λ k mine. e.durable none k mine }
+pub CommitsTransaction-idle : (g : Scope) (at : ℕ) (before after : Image) (fault : Option HostFault) (old new : State) → fault ≡ None → CommitsTransaction g at before after fault old new → IsIdle g at after new.now.words
+CommitsTransaction-idle g at before after fault old new none e = record { closed = λ image picked. closed_by_gate at image ((e.closed none).each (image at) (picked.each at)); single = λ k mine. e.durable none k mine }
 
-pub Closes-idle : (g : Scope) (at : ℕ) (values : Image) (fault : Option HostFault) (old new : State) → fault ≡ None → Closes g at values fault old new → IsIdle g at values new.now.words
-Closes-idle g at values fault old new none c = record { closed = λ image picked. closed_by_gate at image ((c.closed none).each (image at) (picked.each at)); single = λ k mine. c.durable none k mine }
+pub AbortsTransaction-idle : (g : Scope) (at : ℕ) (values : Image) (fault : Option HostFault) (old new : State) → fault ≡ None → AbortsTransaction g at values fault old new → IsIdle g at values new.now.words
+AbortsTransaction-idle g at values fault old new none c = record { closed = λ image picked. closed_by_gate at image ((c.closed none).each (image at) (picked.each at)); single = λ k mine. c.durable none k mine }
 
 -- ---- then each own word has the value
 

@@ -13,9 +13,9 @@ use Rattle.pud_defs.specs.Entries.{Entry}
 use Rattle.pud_defs.specs.Replay.{Place, over}
 use Rattle.log_store.specs.Store.{OpenLog, undo_entry, with_entries}
 use Rattle.word_transaction.specs.Scope.{Scope, IsScope, saved, deferred_entries}
-use Rattle.word_transaction.specs.Running.{IsRunning, IsCovered, IsOneOf, MayAppend, nothing, Runs, Keeps, Puts}
+use Rattle.word_transaction.specs.Running.{IsRunning, IsCovered, IsOneOf, MayAppend, no_write, KeepsRunning, SavesWords, SavesAndWrites}
 use Rattle.word_transaction.proofs.Saved.{saved-none_first, saved-none_more, saved_by_one}
-use Rattle.word_transaction.proofs.Calls.{Runs-still, Runs-failed, Runs-behind, Runs-then}
+use Rattle.word_transaction.proofs.Calls.{KeepsRunning-still, KeepsRunning-failed, KeepsRunning-behind, KeepsRunning-then}
 use Rattle.word_transaction.proofs.Pending.{deferred_entries-undo}
 use Rattle.word_transaction.proofs.Saving.{IsRead, MayAppend-read}
 
@@ -35,44 +35,44 @@ saved_by_two place address first address2 second k word vals is also one none =
 -- ---- calls that keep
 
 -- nothing was done: all that was to be kept is so already, or the call failed
-pub Keeps-still : (g : Scope) (log : OpenLog) (es : List Entry) (before : Image) (which : ℕ → Type 0) (fault : Option HostFault) (old new : State) → (fault ≡ Some Cut → ⊥) → new ≡ old
-    → IsRunning g log es before old.now.words → (fault ≡ None → (k : ℕ) → which k → saved g.place es k ≡ None → ⊥) → Keeps g log es before which fault old new
-Keeps-still g log es before which fault old new uncut same r kept =
-    record { entries = es; runs = Runs-still g log es before fault old new uncut same r; defers = refl; still = λ k none. none; kept = kept }
+pub SavesWords-still : (g : Scope) (log : OpenLog) (es : List Entry) (before : Image) (which : ℕ → Type 0) (fault : Option HostFault) (old new : State) → (fault ≡ Some Cut → ⊥) → new ≡ old
+    → IsRunning g log es before old.now.words → (fault ≡ None → (k : ℕ) → which k → saved g.place es k ≡ None → ⊥) → SavesWords g log es before which fault old new
+SavesWords-still g log es before which fault old new uncut same r kept =
+    record { entries = es; runs = KeepsRunning-still g log es before fault old new uncut same r; defers = refl; still = λ k none. none; kept = kept }
 
 -- the log behind a call, whatever it answered
-pub Runs-now : (g : Scope) (log longer now : OpenLog) (es : List Entry) (before : Image) (result : Result (Unit {0}) HostFault) (old new : State) → longer.gate_at ≡ log.gate_at
-    → IfOk result (λ _. now ≡ longer) → OnErr result (now ≡ log) → Runs g longer es before nothing (fault_of result) old new → Runs g now es before nothing (fault_of result) old new
-Runs-now g log longer now es before (Ok x) old new at ok err r = subst (λ (l : OpenLog). Runs g l es before nothing None old new) (sym ok) r
-Runs-now g log longer now es before (Err fault) old new at ok err r =
-    Runs-failed g longer now es es before nothing nothing fault old new (ap (λ (l : OpenLog). l.gate_at) err ∙ sym at) r
+pub KeepsRunning-now : (g : Scope) (log longer now : OpenLog) (es : List Entry) (before : Image) (result : Result (Unit {0}) HostFault) (old new : State) → longer.gate_at ≡ log.gate_at
+    → IfOk result (λ _. now ≡ longer) → OnErr result (now ≡ log) → KeepsRunning g longer es before no_write (fault_of result) old new → KeepsRunning g now es before no_write (fault_of result) old new
+KeepsRunning-now g log longer now es before (Ok x) old new at ok err r = subst (λ (l : OpenLog). KeepsRunning g l es before no_write None old new) (sym ok) r
+KeepsRunning-now g log longer now es before (Err fault) old new at ok err r =
+    KeepsRunning-failed g longer now es es before no_write no_write fault old new (ap (λ (l : OpenLog). l.gate_at) err ∙ sym at) r
 
 -- entries of what own words hold were read, and then appended
-pub Keeps-appended : (size : ℕ) (g : Scope) (log now : OpenLog) (es : List Entry) (before : Image) (which : ℕ → Type 0) (count : ℕ) (more : List Entry) (result : Result (Unit {0}) HostFault) (s b t : State)
+pub SavesWords-appended : (size : ℕ) (g : Scope) (log now : OpenLog) (es : List Entry) (before : Image) (which : ℕ → Type 0) (count : ℕ) (more : List Entry) (result : Result (Unit {0}) HostFault) (s b t : State)
     → IsScope size log.gate_at g → IsRunning g log es before s.now.words → b ≡ s → All (IsRead g (reads s.now.words)) more → deferred_entries more ≡ [] → ((k : ℕ) → which k → saved g.place more k ≡ None → ⊥)
     → IfOk result (λ _. now ≡ with_entries count more log) → OnErr result (now ≡ log)
-    → (IsRunning g log es before b.now.words → MayAppend g es before more → Runs g (with_entries count more log) (es ++ more) before nothing (fault_of result) b t)
-    → Keeps g now es before which (fault_of result) s t
-Keeps-appended size g log now es before which count more result s b t ground r same read none saves ok err appends =
+    → (IsRunning g log es before b.now.words → MayAppend g es before more → KeepsRunning g (with_entries count more log) (es ++ more) before no_write (fault_of result) b t)
+    → SavesWords g now es before which (fault_of result) s t
+SavesWords-appended size g log now es before which count more result s b t ground r same read none saves ok err appends =
     let runs = appends (subst (λ (x : State). IsRunning g log es before x.now.words) (sym same) r) (MayAppend-read size g log es more before s.now.words ground r read) in
     record {
       entries = es ++ more;
-      runs = subst (λ (x : State). Runs g now (es ++ more) before nothing (fault_of result) x t) same (Runs-now g log (with_entries count more log) now (es ++ more) before result b t refl ok err runs);
+      runs = subst (λ (x : State). KeepsRunning g now (es ++ more) before no_write (fault_of result) x t) same (KeepsRunning-now g log (with_entries count more log) now (es ++ more) before result b t refl ok err runs);
       defers = deferred_entries-undo es more none;
       still = λ k gone. saved-none_first g.place es more k gone;
       kept = λ _ k is gone. saves k is (saved-none_more g.place es more k gone);
     }
 
 -- a call behind one that did nothing
-pub Keeps-from : (g : Scope) (log now : OpenLog) (es : List Entry) (before : Image) (which : ℕ → Type 0) (fault : Option HostFault) (s b t : State) → b ≡ s → IsRunning g log es before s.now.words
-    → (IsRunning g log es before b.now.words → Keeps g now es before which fault b t) → Keeps g now es before which fault s t
-Keeps-from g log now es before which fault s b t same r keeps =
-    subst (λ (x : State). Keeps g now es before which fault x t) same (keeps (subst (λ (x : State). IsRunning g log es before x.now.words) (sym same) r))
+pub SavesWords-from : (g : Scope) (log now : OpenLog) (es : List Entry) (before : Image) (which : ℕ → Type 0) (fault : Option HostFault) (s b t : State) → b ≡ s → IsRunning g log es before s.now.words
+    → (IsRunning g log es before b.now.words → SavesWords g now es before which fault b t) → SavesWords g now es before which fault s t
+SavesWords-from g log now es before which fault s b t same r keeps =
+    subst (λ (x : State). SavesWords g now es before which fault x t) same (keeps (subst (λ (x : State). IsRunning g log es before x.now.words) (sym same) r))
 
 -- some of the words were kept before
-pub Keeps-beside : (g : Scope) (now : OpenLog) (es : List Entry) (before : Image) (which also all : ℕ → Type 0) (fault : Option HostFault) (old new : State)
-    → ((k : ℕ) → all k → which k ⊎ also k) → ((k : ℕ) → also k → saved g.place es k ≡ None → ⊥) → Keeps g now es before which fault old new → Keeps g now es before all fault old new
-Keeps-beside g now es before which also all fault old new either was keeps =
+pub SavesWords-beside : (g : Scope) (now : OpenLog) (es : List Entry) (before : Image) (which also all : ℕ → Type 0) (fault : Option HostFault) (old new : State)
+    → ((k : ℕ) → all k → which k ⊎ also k) → ((k : ℕ) → also k → saved g.place es k ≡ None → ⊥) → SavesWords g now es before which fault old new → SavesWords g now es before all fault old new
+SavesWords-beside g now es before which also all fault old new either was keeps =
     record {
       entries = keeps.entries;
       runs = keeps.runs;
@@ -104,45 +104,45 @@ WritesKept-placed size at g address first vals ground may place =
 pub WritesKept-among : (g : Scope) (which all : ℕ → Type 0) (write : Write) → ((k : ℕ) → which k → all k) → WritesKept g which write → WritesKept g all write
 WritesKept-among g which all write more writes = record { has_word = writes.has_word; kept = λ k v is. more k (writes.kept k v is) }
 
-covered_by : (g : Scope) (log : OpenLog) (es : List Entry) (before : Image) (which : ℕ → Type 0) (write : Write) (old new : State) → (keeps : Keeps g log es before which None old new) → WritesKept g which write
+covered_by : (g : Scope) (log : OpenLog) (es : List Entry) (before : Image) (which : ℕ → Type 0) (write : Write) (old new : State) → (keeps : SavesWords g log es before which None old new) → WritesKept g which write
     → IsCovered g keeps.entries write
 covered_by g log es before which write old new keeps writes = record { has_word = writes.has_word; kept = λ k v is none. keeps.kept refl k (writes.kept k v is) none }
 
 -- the words were not kept, and so not written
-pub Puts-unkept : (g : Scope) (log now : OpenLog) (es : List Entry) (before : Image) (which : ℕ → Type 0) (write : Write) (fault : HostFault) (old new : State) → now.gate_at ≡ log.gate_at
-    → Keeps g log es before which (Some fault) old new → Puts g now es before write (Some fault) old new
-Puts-unkept g log now es before which write fault old new at keeps =
-    record { entries = keeps.entries; runs = Runs-failed g log now keeps.entries keeps.entries before nothing write fault old new at keeps.runs; defers = keeps.defers }
+pub SavesAndWrites-unkept : (g : Scope) (log now : OpenLog) (es : List Entry) (before : Image) (which : ℕ → Type 0) (write : Write) (fault : HostFault) (old new : State) → now.gate_at ≡ log.gate_at
+    → SavesWords g log es before which (Some fault) old new → SavesAndWrites g now es before write (Some fault) old new
+SavesAndWrites-unkept g log now es before which write fault old new at keeps =
+    record { entries = keeps.entries; runs = KeepsRunning-failed g log now keeps.entries keeps.entries before no_write write fault old new at keeps.runs; defers = keeps.defers }
 
 -- they were, and then written
-pub Puts-written : (g : Scope) (log : OpenLog) (es : List Entry) (before : Image) (which : ℕ → Type 0) (write : Write) (fault : Option HostFault) (a b c : State)
-    → Keeps g log es before which None a b → WritesKept g which write
-    → ((entries : List Entry) → IsRunning g log entries before b.now.words → IsCovered g entries write → Runs g log entries before write fault b c) → Puts g log es before write fault a c
-Puts-written g log es before which write fault a b c keeps writes runs =
+pub SavesAndWrites-written : (g : Scope) (log : OpenLog) (es : List Entry) (before : Image) (which : ℕ → Type 0) (write : Write) (fault : Option HostFault) (a b c : State)
+    → SavesWords g log es before which None a b → WritesKept g which write
+    → ((entries : List Entry) → IsRunning g log entries before b.now.words → IsCovered g entries write → KeepsRunning g log entries before write fault b c) → SavesAndWrites g log es before write fault a c
+SavesAndWrites-written g log es before which write fault a b c keeps writes runs =
     record {
       entries = keeps.entries;
-      runs = Runs-behind g log log keeps.entries keeps.entries before write fault a b c refl keeps.runs
+      runs = KeepsRunning-behind g log log keeps.entries keeps.entries before write fault a b c refl keeps.runs
           (runs keeps.entries (keeps.runs.running refl) (covered_by g log es before which write a b keeps writes));
       defers = keeps.defers;
     }
 
 -- they were, and then some of them were written, and others behind them
-pub Puts-both : (g : Scope) (log : OpenLog) (es : List Entry) (before : Image) (which : ℕ → Type 0) (first later : Write) (fault : Option HostFault) (a b c d : State)
-    → Keeps g log es before which None a b → WritesKept g which first → WritesKept g which later
-    → ((entries : List Entry) → IsRunning g log entries before b.now.words → IsCovered g entries first → Runs g log entries before first None b c)
-    → ((entries : List Entry) → IsRunning g log entries before c.now.words → IsCovered g entries later → Runs g log entries before later fault c d) → Puts g log es before (over first later) fault a d
-Puts-both g log es before which first later fault a b c d keeps writes_first writes_later runs_first runs_later =
+pub SavesAndWrites-both : (g : Scope) (log : OpenLog) (es : List Entry) (before : Image) (which : ℕ → Type 0) (first later : Write) (fault : Option HostFault) (a b c d : State)
+    → SavesWords g log es before which None a b → WritesKept g which first → WritesKept g which later
+    → ((entries : List Entry) → IsRunning g log entries before b.now.words → IsCovered g entries first → KeepsRunning g log entries before first None b c)
+    → ((entries : List Entry) → IsRunning g log entries before c.now.words → IsCovered g entries later → KeepsRunning g log entries before later fault c d) → SavesAndWrites g log es before (over first later) fault a d
+SavesAndWrites-both g log es before which first later fault a b c d keeps writes_first writes_later runs_first runs_later =
     let es_kept = keeps.entries in
     let one = runs_first es_kept (keeps.runs.running refl) (covered_by g log es before which first a b keeps writes_first) in
     let two = runs_later es_kept (one.running refl) (covered_by g log es before which later a b keeps writes_later) in
     record {
       entries = es_kept;
-      runs = Runs-behind g log log es_kept es_kept before (over first later) fault a b d refl keeps.runs (Runs-then g log log es_kept es_kept before first later fault b c d refl one two);
+      runs = KeepsRunning-behind g log log es_kept es_kept before (over first later) fault a b d refl keeps.runs (KeepsRunning-then g log log es_kept es_kept before first later fault b c d refl one two);
       defers = keeps.defers;
     }
 
 -- the first of them were not written whole
-pub Puts-half : (g : Scope) (log : OpenLog) (es : List Entry) (before : Image) (first later : Write) (fault : HostFault) (old new : State) → Puts g log es before first (Some fault) old new
-    → Puts g log es before (over first later) (Some fault) old new
-Puts-half g log es before first later fault old new puts =
-    record { entries = puts.entries; runs = Runs-failed g log log puts.entries puts.entries before first (over first later) fault old new refl puts.runs; defers = puts.defers }
+pub SavesAndWrites-half : (g : Scope) (log : OpenLog) (es : List Entry) (before : Image) (first later : Write) (fault : HostFault) (old new : State) → SavesAndWrites g log es before first (Some fault) old new
+    → SavesAndWrites g log es before (over first later) (Some fault) old new
+SavesAndWrites-half g log es before first later fault old new puts =
+    record { entries = puts.entries; runs = KeepsRunning-failed g log log puts.entries puts.entries before first (over first later) fault old new refl puts.runs; defers = puts.defers }

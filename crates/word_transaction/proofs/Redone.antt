@@ -17,7 +17,7 @@ use Rattle.log_replay.specs.declared.Target.TheVariants.{Puddles}
 use Rattle.log_replay.specs.Replaying.{place_of, IsReplayable, HasDurableLog, IsSettling, SettlesLog}
 use Rattle.log_replay.proofs.Places.{places_same}
 use Rattle.word_transaction.specs.Scope.{Scope, IsScope, committing_range, pending}
-use Rattle.word_transaction.specs.Running.{IsRunning, ByCommit, Ends, HasPlaces, HasOneTable, CanRedo}
+use Rattle.word_transaction.specs.Running.{IsRunning, ByCommit, CommitsTransaction, HasPlaces, HasOneTable, CanRedo}
 use Rattle.word_transaction.proofs.Saved.{pending_is_mine}
 use Rattle.word_transaction.proofs.Growing.{redone-places}
 use Rattle.word_transaction.proofs.Pending.{new_value-committing}
@@ -66,7 +66,7 @@ module _ (size : ℕ) (log : OpenLog) (es : List Entry) (g : Scope) (before : Im
       → (IsReplayable (place_of (Puddles F) (reads c.now.words)) size at es (reads c.now.words) → SettlesLog (Puddles F) at fault c d)
       → (IsReplayable (place_of (Puddles F) (reads c.now.words)) size at es (reads c.now.words) → HasDurableLog (Puddles F) at c.now.words
       → Leaves (Silently (IsSettling (Puddles F) at c.now.words)) c d)
-      → Ends g log.gate_at before after fault a d
+      → CommitsTransaction g log.gate_at before after fault a d
   Ends-redone F at fault b c d here can m recovers moments =
       let changes = gate_moves log None a b c m in
       let table = one_table F g log a c changes can in

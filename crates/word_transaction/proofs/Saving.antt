@@ -20,7 +20,7 @@ use Rattle.log_store.specs.declared.AppendFault.{AppendFault}
 use Rattle.log_store.specs.declared.AppendFault.TheVariants.{Host, TooBig}
 use Rattle.log_store.proofs.Open.{IsOpen-log}
 use Rattle.word_transaction.specs.Scope.{Scope, IsScope, IsUndo, IsInScope, redo_entry, running_range, saved}
-use Rattle.word_transaction.specs.Running.{IsRunning, MayAppend, nothing, RecoversTo, ByTransaction, Runs}
+use Rattle.word_transaction.specs.Running.{IsRunning, MayAppend, no_write, RecoversTo, ByTransaction, KeepsRunning}
 use Rattle.word_transaction.proofs.Saved.{some_not_none, either_some, value_of_given, saved_is_mine, saved-append, saved-none_first, saved-redo, placed_words}
 use Rattle.word_transaction.proofs.Images.{RecoversTo-running}
 use Rattle.word_transaction.proofs.Calls.{some_fault, marked_still}
@@ -70,7 +70,7 @@ module _ (size : ℕ) (g : Scope) (log : OpenLog) (es : List Entry) (before : Im
 
   -- they were not appended
   pub Runs-unappended : (fault : HostFault) (t : State) → Changes (InLog log.gate_at) (Some fault) s t → Appends log es count more (Err (Host fault)) s t
-      → Runs g longer_log (es ++ more) before nothing (Some fault) s t
+      → KeepsRunning g longer_log (es ++ more) before no_write (Some fault) s t
   Runs-unappended fault t changes a =
       record {
         changes = by_log (Some fault) t changes;
@@ -80,7 +80,7 @@ module _ (size : ℕ) (g : Scope) (log : OpenLog) (es : List Entry) (before : Im
       }
 
   -- they were
-  pub Runs-appended : (t : State) → Changes (InLog log.gate_at) None s t → Appends log es count more (Ok tt) s t → Runs g longer_log (es ++ more) before nothing None s t
+  pub Runs-appended : (t : State) → Changes (InLog log.gate_at) None s t → Appends log es count more (Ok tt) s t → KeepsRunning g longer_log (es ++ more) before no_write None s t
   Runs-appended t changes a =
       record {
         changes = by_log None t changes;
@@ -89,12 +89,12 @@ module _ (size : ℕ) (g : Scope) (log : OpenLog) (es : List Entry) (before : Im
         now = λ _ k out. (changes.keeps (λ cut. cc) k (λ v inside. not_inside log.gate_at k out inside)).newest;
       }
 
-pub Runs-append : (size : ℕ) (g : Scope) (log : OpenLog) (es : List Entry) (before : Image) (count : ℕ) (more : List Entry) (result : Result (Unit {0}) AppendFault) (s t : State)
+pub KeepsRunning-append : (size : ℕ) (g : Scope) (log : OpenLog) (es : List Entry) (before : Image) (count : ℕ) (more : List Entry) (result : Result (Unit {0}) AppendFault) (s t : State)
     → IsScope size log.gate_at g → IsRunning g log es before s.now.words → MayAppend g es before more → (result ≡ Err TooBig → ⊥)
-    → Changes (InLog log.gate_at) (append_fault result) s t → Appends log es count more result s t → Runs g (with_entries count more log) (es ++ more) before nothing (append_fault result) s t
-Runs-append size g log es before count more (Ok tt) s t ground r may room changes a = Runs-appended size g log es before count more s ground r may t changes a
-Runs-append size g log es before count more (Err TooBig) s t ground r may room changes a = absurd (room refl)
-Runs-append size g log es before count more (Err (Host fault)) s t ground r may room changes a = Runs-unappended size g log es before count more s ground r may fault t changes a
+    → Changes (InLog log.gate_at) (append_fault result) s t → Appends log es count more result s t → KeepsRunning g (with_entries count more log) (es ++ more) before no_write (append_fault result) s t
+KeepsRunning-append size g log es before count more (Ok tt) s t ground r may room changes a = Runs-appended size g log es before count more s ground r may t changes a
+KeepsRunning-append size g log es before count more (Err TooBig) s t ground r may room changes a = absurd (room refl)
+KeepsRunning-append size g log es before count more (Err (Host fault)) s t ground r may room changes a = Runs-unappended size g log es before count more s ground r may fault t changes a
 
 -- ---- what words hold
 

@@ -22,7 +22,7 @@ use Rattle.log_replay.specs.declared.Target.TheVariants.{Puddles}
 use Rattle.log_replay.specs.Replaying.{place_of, NamesApart, IsReplayable, HasDurableLog, new_values, ByLog, IsSettling, SettlesLog}
 use Rattle.log_replay.proofs.Whole.{new_values-apart, new_values_picked}
 use Rattle.word_transaction.specs.Scope.{Scope, IsScope, IsInScope}
-use Rattle.word_transaction.specs.Running.{RecoversTo, ByTransaction, Closes, HasPlaces, HasOneTable}
+use Rattle.word_transaction.specs.Running.{RecoversTo, ByTransaction, AbortsTransaction, HasPlaces, HasOneTable}
 use Rattle.word_transaction.proofs.Images.{RecoversTo-given, RecoversTo-idle}
 use Rattle.word_transaction.proofs.Committed.{mine_apart, IsShut, Shuts}
 
@@ -139,7 +139,7 @@ module _ (size F : ℕ) (g : Scope) (log : OpenLog) (es : List Entry) (write : W
     }
 
   pub Closes-settled : (fault : Option HostFault) (b : State) → SettlesLog (Puddles F) log.gate_at fault a b → Leaves (Silently (IsSettling (Puddles F) log.gate_at a.now.words)) a b
-      → Closes g log.gate_at values fault a b
+      → AbortsTransaction g log.gate_at values fault a b
   Closes-settled fault b s moments =
       record {
         changes = Changes-wider (ByLog log.gate_at given_now) (ByTransaction g log.gate_at) fault a b (λ k v by. elim by [

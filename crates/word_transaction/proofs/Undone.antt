@@ -13,7 +13,7 @@ use Rattle.pud_defs.proofs.Replay.{undone-none}
 use Rattle.log_store.specs.Store.{OpenLog, saying}
 use Rattle.log_store.proofs.Open.{IsOpen-words}
 use Rattle.word_transaction.specs.Scope.{Scope, IsScope, running_range, saved}
-use Rattle.word_transaction.specs.Running.{IsRunning, Closes}
+use Rattle.word_transaction.specs.Running.{IsRunning, AbortsTransaction}
 use Rattle.word_transaction.proofs.Saved.{new_value-running, saved_is_mine}
 use Rattle.word_transaction.proofs.Images.{IsRunning-settles}
 use Rattle.word_transaction.proofs.Growing.{undone-places}
@@ -24,9 +24,9 @@ no_words : (es : List Entry) (image : Image) (at used : ℕ) → used ≡ 0 → 
 no_words es image at used none is = let it : Some [] ≡ Some es = sym (entries_in-nothing (words_from image at used) (words_from-none image at used none)) ∙ is in cc
 
 -- a log without an entry is closed
-pub Closes-empty : (size : ℕ) (log : OpenLog) (es : List Entry) (g : Scope) (before : Image) (fault : Option HostFault) (a b : State) → IsScope size log.gate_at g
-    → IsRunning g log es before a.now.words → log.used ≡ 0 → Persists (only log.gate_at CLOSED_GATE) fault a b → Closes g log.gate_at before fault a b
-Closes-empty size log es g before fault a b ground r none p =
+pub AbortsTransaction-empty : (size : ℕ) (log : OpenLog) (es : List Entry) (g : Scope) (before : Image) (fault : Option HostFault) (a b : State) → IsScope size log.gate_at g
+    → IsRunning g log es before a.now.words → log.used ≡ 0 → Persists (only log.gate_at CLOSED_GATE) fault a b → AbortsTransaction g log.gate_at before fault a b
+AbortsTransaction-empty size log es g before fault a b ground r none p =
     let empty = no_words es (reads a.now.words) (log.gate_at + LOG_HEADER_WORDS) log.used none (IsOpen-words log es a.now.words r.opened) in
     Closes-shut size log.gate_at g ground before fault a b (λ image picked. IsRunning-settles g log es before image a.now.words r picked)
     (λ k mine. r.single k mine (ap (λ (fs : List Entry). saved g.place fs k) empty ∙ undone-none g.place running_range k)) p

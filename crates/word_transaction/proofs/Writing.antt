@@ -13,7 +13,7 @@ use Rattle.pud_defs.proofs.Replay.{overwritten-stays, overwritten-there, not_ins
 use Rattle.log_store.specs.Store.{OpenLog}
 use Rattle.log_store.proofs.Open.{IsOpen-fits, IsOpen-kept, IsOpen-log_by}
 use Rattle.word_transaction.specs.Scope.{Scope, IsScope}
-use Rattle.word_transaction.specs.Running.{IsRunning, IsCovered, RecoversTo, ByTransaction, Runs}
+use Rattle.word_transaction.specs.Running.{IsRunning, IsCovered, RecoversTo, ByTransaction, KeepsRunning}
 use Rattle.word_transaction.proofs.Saved.{some_not_none}
 use Rattle.word_transaction.proofs.Images.{RecoversTo-running}
 use Rattle.word_transaction.proofs.Calls.{not_cut, marked_still}
@@ -61,7 +61,7 @@ module _ (size : ℕ) (g : Scope) (log : OpenLog) (es : List Entry) (before : Im
   now_by none k (Some v) is = w.newest none k v is ∙ sym (overwritten-there write (reads s.now.words) k v is)
   now_by none k None is = (w.changes.keeps (not_cut fault none) k (none_comes k is)).newest ∙ sym (overwritten-stays write (reads s.now.words) k is)
 
-  pub Runs-written : Runs g log es before write fault s t
+  pub Runs-written : KeepsRunning g log es before write fault s t
   Runs-written =
       record {
         changes = Changes-wider (written write) (ByTransaction g log.gate_at) fault s t (λ k v may. inr (covered.has_word k v may)) w.changes;

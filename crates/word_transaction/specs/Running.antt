@@ -50,12 +50,12 @@ abbrev pub IsOneOf : (first count k : ℕ) → Type 0
 IsOneOf first count k = (first ≤ k) × (k < first + count)
 
 -- nothing is written
-abbrev pub nothing : Write
-nothing k = None
+abbrev pub no_write : Write
+no_write k = None
 
 -- the log of a transaction that has just begun
-abbrev pub begun : (at : ℕ) → OpenLog
-begun at = record { gate_at = at; lo = RUNNING_LO; hi = RUNNING_HI; used = 0; defers = false }
+abbrev pub begun_log : (at : ℕ) → OpenLog
+begun_log at = record { gate_at = at; lo = RUNNING_LO; hi = RUNNING_HI; used = 0; defers = false }
 
 -- ---- what an image has
 
@@ -68,18 +68,18 @@ pub record RecoversTo (g : Scope) (at : ℕ) (values image : Image) : Type 0 whe
   pub settled : (k : ℕ) → g.has_word k ≡ true → replayed g.place (log_of image at) image k ≡ values k
 
 -- the log whose gate is this word has this range
-pub record HasRange (lo hi at : ℕ) (image : Image) : Type 0 where
+pub record HasGateRange (lo hi at : ℕ) (image : Image) : Type 0 where
   pub lo_is : gate_lo (image at) ≡ lo
   pub hi_is : gate_hi (image at) ≡ hi
 
 -- The range of the log is that of a running one still, and the transaction's own words settle to these values.
 pub record IsUnmoved (g : Scope) (at : ℕ) (values image : Image) : Type 0 where
-  pub range : HasRange RUNNING_LO RUNNING_HI at image
+  pub range : HasGateRange RUNNING_LO RUNNING_HI at image
   pub recovers : RecoversTo g at values image
 
 -- The range of the log has moved to that of a committing one, or the log is closed, and the transaction's own words settle to these values.
 pub record IsMoved (g : Scope) (at : ℕ) (values image : Image) : Type 0 where
-  pub range : HasRange COMMITTING_LO COMMITTING_HI at image ⊎ (image at ≡ CLOSED_GATE)
+  pub range : HasGateRange COMMITTING_LO COMMITTING_HI at image ⊎ (image at ≡ CLOSED_GATE)
   pub recovers : RecoversTo g at values image
 
 -- Until the range moves an image settles to the values from the beginning, and from then on to the new ones: which of the two is told by its gate.
@@ -99,7 +99,7 @@ pub record ByCommit (log : OpenLog) (k v : ℕ) : Type 0 where
 
 -- A call within the transaction: each image left meanwhile settles to the values from the beginning. Without a fault the transaction is open,
 -- with this log and these entries, and what is read outside the log is as it was but for these words.
-pub record Runs (g : Scope) (log : OpenLog) (es : List Entry) (before : Image) (write : Write) (fault : Option HostFault) (old new : State) : Type 0 where
+pub record KeepsRunning (g : Scope) (log : OpenLog) (es : List Entry) (before : Image) (write : Write) (fault : Option HostFault) (old new : State) : Type 0 where
   pub changes : Changes (ByTransaction g log.gate_at) fault old new
   pub moments : Leaves (Silently (RecoversTo g log.gate_at before)) old new
   pub running : fault ≡ None → IsRunning g log es before new.now.words
@@ -107,22 +107,22 @@ pub record Runs (g : Scope) (log : OpenLog) (es : List Entry) (before : Image) (
 
 -- A call that keeps words, and writes none: whatever entries there are behind it, they ask for what was asked for, what was saved is so still, and
 -- without a fault these words are saved.
-pub record Keeps (g : Scope) (log : OpenLog) (es : List Entry) (before : Image) (which : ℕ → Type 0) (fault : Option HostFault) (old new : State) : Type 0 where
+pub record SavesWords (g : Scope) (log : OpenLog) (es : List Entry) (before : Image) (which : ℕ → Type 0) (fault : Option HostFault) (old new : State) : Type 0 where
   pub entries : List Entry
-  pub runs : Runs g log entries before nothing fault old new
+  pub runs : KeepsRunning g log entries before no_write fault old new
   pub defers : deferred_entries entries ≡ deferred_entries es
   pub still : (k : ℕ) → saved g.place entries k ≡ None → saved g.place es k ≡ None
   pub kept : fault ≡ None → (k : ℕ) → which k → saved g.place entries k ≡ None → ⊥
 
 -- A call that keeps words, and then writes these: whatever entries there are behind it, they ask for what was asked for.
-pub record Puts (g : Scope) (log : OpenLog) (es : List Entry) (before : Image) (write : Write) (fault : Option HostFault) (old new : State) : Type 0 where
+pub record SavesAndWrites (g : Scope) (log : OpenLog) (es : List Entry) (before : Image) (write : Write) (fault : Option HostFault) (old new : State) : Type 0 where
   pub entries : List Entry
-  pub runs : Runs g log entries before write fault old new
+  pub runs : KeepsRunning g log entries before write fault old new
   pub defers : deferred_entries entries ≡ deferred_entries es
 
 -- The transaction is undone and its log closed: each image left meanwhile settles to these values. Without a fault each own word has its value
 -- and no other, and the log is closed.
-pub record Closes (g : Scope) (at : ℕ) (values : Image) (fault : Option HostFault) (old new : State) : Type 0 where
+pub record AbortsTransaction (g : Scope) (at : ℕ) (values : Image) (fault : Option HostFault) (old new : State) : Type 0 where
   pub changes : Changes (ByTransaction g at) fault old new
   pub moments : Leaves (Silently (RecoversTo g at values)) old new
   pub durable : fault ≡ None → (k : ℕ) → g.has_word k ≡ true → HasOnly (new.now.words k) (values k)
@@ -135,13 +135,13 @@ pub record MovesRange (g : Scope) (at : ℕ) (old new : State) : Type 0 where
   pub history : new.now ∷ new.past ≡ added ++ old.now ∷ old.past
   pub moment : Moment
   pub among : (moment ≡ old.now) ⊎ Has added moment
-  pub range : (image : Image) → Picks moment.words image → HasRange COMMITTING_LO COMMITTING_HI at image
+  pub range : (image : Image) → Picks moment.words image → HasGateRange COMMITTING_LO COMMITTING_HI at image
   pub durable : (k : ℕ) → g.has_word k ≡ true → HasOnly (moment.words k) (reads old.now.words k)
 
 -- The transaction is committed: each image left meanwhile settles to the values from the beginning until its range has moved, and to the new ones from then
 -- on. Without a fault the range moved once all that was written was durable, each own word has its new value and no other, the log is closed, and what
 -- is read of other words is as it was.
-pub record Ends (g : Scope) (at : ℕ) (before after : Image) (fault : Option HostFault) (old new : State) : Type 0 where
+pub record CommitsTransaction (g : Scope) (at : ℕ) (before after : Image) (fault : Option HostFault) (old new : State) : Type 0 where
   pub changes : Changes (ByTransaction g at) fault old new
   pub moments : Leaves (Silently (RecoversByRange g at before after)) old new
   pub moves : fault ≡ None → MovesRange g at old new

@@ -14,7 +14,7 @@ ghost use Rattle.pud_defs.specs.Allowed.{puddle_word};
 ghost use Rattle.log_store.specs.Store.{IsOpen, defers};
 ghost use Rattle.log_replay.specs.Replaying.{HasPuddleTable, Anything};
 ghost use Rattle.word_transaction.specs.Scope.{Scope, IsScope, pending};
-ghost use Rattle.word_transaction.specs.Running.{IsRunning, ByCommit, Closes, Ends, HasPlaces, HasOneTable, CanRedo};
+ghost use Rattle.word_transaction.specs.Running.{IsRunning, ByCommit, AbortsTransaction, CommitsTransaction, HasPlaces, HasOneTable, CanRedo};
 
 use crate::WordTransaction;
 use log_replay::{Target, settle_log};
@@ -37,7 +37,7 @@ impl WordTransaction {
         ensures ends { H.tells → (size : ℕ) → size ≡ (H.counts h.old).size → (g : Scope) (es : List Entry) (before : Image) → IsScope size self.at g
             → IsRunning g self es before (H.state h.old).now.words
             → (defers es ≡ true → CanRedo g frames self.at (H.state h.old).now.words)
-            → Ends g self.at before (overwritten (pending g.place es) (reads (H.state h.old).now.words)) (fault_of result) (H.state h.old) (H.state h.new) }
+            → CommitsTransaction g self.at before (overwritten (pending g.place es) (reads (H.state h.old).now.words)) (fault_of result) (H.state h.old) (H.state h.new) }
         ensures gate { H.tells → (es : List Entry) → IsOpen self es (H.state h.old).now.words → defers es ≡ false → Changes (ByCommit self) (fault_of result) (H.state h.old) (H.state h.new) }
         ensures any { H.tells → Changes Anything (fault_of result) (H.state h.old) (H.state h.new) }
         ensures cause { H.counts h.new ≡ after_fault (fault_of result) (H.counts h.old) }
@@ -66,7 +66,7 @@ impl WordTransaction {
         requires tables { HasPuddleTable frames (H.counts h.old).size }
         ensures closes { H.tells → (size : ℕ) → size ≡ (H.counts h.old).size → (g : Scope) (es : List Entry) (before : Image) → IsScope size self.at g
             → IsRunning g self es before (H.state h.old).now.words → HasPlaces g (puddle_word (tables_of frames (reads (H.state h.old).now.words)))
-            → HasOneTable frames (H.state h.old).now.words → Closes g self.at before (fault_of result) (H.state h.old) (H.state h.new) }
+            → HasOneTable frames (H.state h.old).now.words → AbortsTransaction g self.at before (fault_of result) (H.state h.old) (H.state h.new) }
         ensures any { H.tells → Changes Anything (fault_of result) (H.state h.old) (H.state h.new) }
         ensures cause { H.counts h.new ≡ after_fault (fault_of result) (H.counts h.old) }
     {

@@ -11,7 +11,7 @@ ghost use Rattle.pud_defs.specs.Entries.{Entry, entries_of};
 ghost use Rattle.log_store.specs.Store.{InLog, longer};
 ghost use Rattle.word_transaction.specs.Scope.{Scope, IsScope};
 ghost use Rattle.word_transaction.specs.Coverage.{words_to_keep};
-ghost use Rattle.word_transaction.specs.Running.{IsRunning, IsOneOf, Keeps};
+ghost use Rattle.word_transaction.specs.Running.{IsRunning, IsOneOf, SavesWords};
 
 use crate::WordTransaction;
 use crate::covering::are_covered;
@@ -38,7 +38,7 @@ impl WordTransaction {
         ensures changes { H.tells → Changes (InLog self.old.gate_at) (fault_of result) (H.state h.old) (H.state h.new) }
         ensures keeps { H.tells → (size : ℕ) → size ≡ (H.counts h.old).size → (g : Scope) → (es : List Entry) → (before : Image) → IsScope size self.old.gate_at g
             → g.may_name address count ≡ true → g.place address ≡ Option.Some first → IsRunning g self.old es before (H.state h.old).now.words
-            → Keeps g self.new es before (IsOneOf first count) (fault_of result) (H.state h.old) (H.state h.new) }
+            → SavesWords g self.new es before (IsOneOf first count) (fault_of result) (H.state h.old) (H.state h.new) }
         ensures cause { H.counts h.new ≡ after_fault (fault_of result) (H.counts h.old) }
     {
         let values = read_values(h, first, count)?;
@@ -68,7 +68,7 @@ impl WordTransaction {
         ensures keeps { H.tells → (size : ℕ) → size ≡ (H.counts h.old).size → (g : Scope) → (es : List Entry) → (before : Image) → IsScope size self.old.gate_at g
             → g.may_name address count ≡ true → g.place address ≡ Option.Some first → g.may_name address2 1 ≡ true → g.place address2 ≡ Option.Some second
             → IsRunning g self.old es before (H.state h.old).now.words
-            → Keeps g self.new es before (λ k. IsOneOf first count k ⊎ (k ≡ second)) (fault_of result) (H.state h.old) (H.state h.new) }
+            → SavesWords g self.new es before (λ k. IsOneOf first count k ⊎ (k ≡ second)) (fault_of result) (H.state h.old) (H.state h.new) }
         ensures cause { H.counts h.new ≡ after_fault (fault_of result) (H.counts h.old) }
     {
         let values = read_values(h, first, count)?;
@@ -105,7 +105,7 @@ impl WordTransaction {
         ensures changes { H.tells → Changes (InLog self.old.gate_at) (fault_of result) (H.state h.old) (H.state h.new) }
         ensures keeps { H.tells → (size : ℕ) → size ≡ (H.counts h.old).size → (g : Scope) → (es : List Entry) → (before : Image) → IsScope size self.old.gate_at g
             → g.may_name address count ≡ true → g.place address ≡ Option.Some first → IsRunning g self.old es before (H.state h.old).now.words
-            → Keeps g self.new es before (IsOneOf first count) (fault_of result) (H.state h.old) (H.state h.new) }
+            → SavesWords g self.new es before (IsOneOf first count) (fault_of result) (H.state h.old) (H.state h.new) }
         ensures cause { H.counts h.new ≡ after_fault (fault_of result) (H.counts h.old) }
     {
         if are_covered(h, self.at(), address, count)? {
@@ -148,7 +148,7 @@ impl WordTransaction {
         ensures keeps { H.tells → (size : ℕ) → size ≡ (H.counts h.old).size → (g : Scope) → (es : List Entry) → (before : Image) → IsScope size self.old.gate_at g
             → g.may_name address count ≡ true → g.place address ≡ Option.Some first → g.may_name address2 1 ≡ true → g.place address2 ≡ Option.Some second
             → IsRunning g self.old es before (H.state h.old).now.words
-            → Keeps g self.new es before (λ k. IsOneOf first count k ⊎ (k ≡ second)) (fault_of result) (H.state h.old) (H.state h.new) }
+            → SavesWords g self.new es before (λ k. IsOneOf first count k ⊎ (k ≡ second)) (fault_of result) (H.state h.old) (H.state h.new) }
         ensures cause { H.counts h.new ≡ after_fault (fault_of result) (H.counts h.old) }
     {
         let one = are_covered(h, self.at(), address, count)?;

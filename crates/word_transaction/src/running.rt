@@ -11,7 +11,7 @@ ghost use Rattle.pud_defs.specs.Image.{Image};
 ghost use Rattle.pud_defs.specs.Entries.{Entry};
 ghost use Rattle.log_store.specs.Store.{InLog, undo_entry, longer, with_deferred_words, with_entry};
 ghost use Rattle.word_transaction.specs.Scope.{Scope, IsScope, redo_entry};
-ghost use Rattle.word_transaction.specs.Running.{IsRunning, IsIdle, MayAppend, IsCovered, nothing, begun, Runs};
+ghost use Rattle.word_transaction.specs.Running.{IsRunning, IsIdle, MayAppend, IsCovered, no_write, begun_log, KeepsRunning};
 
 use crate::WordTransaction;
 use log_store::{AppendFault, Log};
@@ -27,10 +27,10 @@ impl WordTransaction {
     /// word written is the gate. One fence.
     pub fn begin<H: Host>(h: &mut H, at: u32) -> Result<WordTransaction, HostFault>
         requires { at + LOG_WORDS ≤ (H.counts h.old).size }
-        ensures opened { IfOk result (λ transaction. transaction ≡ begun at) }
+        ensures opened { IfOk result (λ transaction. transaction ≡ begun_log at) }
         ensures persists { H.tells → Persists (only at RUNNING_GATE) (fault_of result) (H.state h.old) (H.state h.new) }
         ensures runs { H.tells → (size : ℕ) → size ≡ (H.counts h.old).size → (g : Scope) → (before : Image) → IsScope size at g → IsIdle g at before (H.state h.old).now.words
-            → Runs g (begun at) [] before nothing (fault_of result) (H.state h.old) (H.state h.new) }
+            → KeepsRunning g (begun_log at) [] before no_write (fault_of result) (H.state h.old) (H.state h.new) }
         ensures cause { H.counts h.new ≡ after_fault (fault_of result) (H.counts h.old) }
     {
         let log = Log::open_running(h, at)?;
@@ -57,7 +57,7 @@ impl WordTransaction {
         ensures changes { H.tells → Changes (InLog self.old.gate_at) (fault_of result) (H.state h.old) (H.state h.new) }
         ensures runs { H.tells → (size : ℕ) → size ≡ (H.counts h.old).size → (g : Scope) → (es : List Entry) → (before : Image) → IsScope size self.old.gate_at g
             → IsRunning g self.old es before (H.state h.old).now.words → MayAppend g es before (record { address = address; seq = seq; order = order; vals = vals.now } ∷ [])
-            → Runs g (with_entry (record { address = address; seq = seq; order = order; vals = vals.now }) self.old) (es ++ record { address = address; seq = seq; order = order; vals = vals.now } ∷ []) before nothing
+            → KeepsRunning g (with_entry (record { address = address; seq = seq; order = order; vals = vals.now }) self.old) (es ++ record { address = address; seq = seq; order = order; vals = vals.now } ∷ []) before no_write
             (fault_of result) (H.state h.old) (H.state h.new) }
         ensures cause { H.counts h.new ≡ after_fault (fault_of result) (H.counts h.old) }
     {
@@ -87,7 +87,7 @@ impl WordTransaction {
         ensures changes { H.tells → Changes (InLog self.old.gate_at) (fault_of result) (H.state h.old) (H.state h.new) }
         ensures runs { H.tells → (size : ℕ) → size ≡ (H.counts h.old).size → (g : Scope) → (es : List Entry) → (before : Image) → IsScope size self.old.gate_at g
             → IsRunning g self.old es before (H.state h.old).now.words → MayAppend g es before (undo_entry address vals.now ∷ undo_entry address2 (word ∷ []) ∷ [])
-            → Runs g (longer (length vals.now + 5) self.old) (es ++ undo_entry address vals.now ∷ undo_entry address2 (word ∷ []) ∷ []) before nothing (fault_of result) (H.state h.old) (H.state h.new) }
+            → KeepsRunning g (longer (length vals.now + 5) self.old) (es ++ undo_entry address vals.now ∷ undo_entry address2 (word ∷ []) ∷ []) before no_write (fault_of result) (H.state h.old) (H.state h.new) }
         ensures cause { H.counts h.new ≡ after_fault (fault_of result) (H.counts h.old) }
     {
         match self.log.append_two(h, address, vals, address2, word) {
@@ -112,7 +112,7 @@ impl WordTransaction {
         ensures changes { H.tells → Changes (InLog self.old.gate_at) (fault_of result) (H.state h.old) (H.state h.new) }
         ensures runs { H.tells → (size : ℕ) → size ≡ (H.counts h.old).size → (g : Scope) → (es : List Entry) → (before : Image) → IsScope size self.old.gate_at g
             → g.may_name address (length vals.now) ≡ true → IsRunning g self.old es before (H.state h.old).now.words
-            → Runs g (with_deferred_words (length vals.now + ENTRY_HEADER_WORDS) self.old) (es ++ redo_entry address vals.now ∷ []) before nothing
+            → KeepsRunning g (with_deferred_words (length vals.now + ENTRY_HEADER_WORDS) self.old) (es ++ redo_entry address vals.now ∷ []) before no_write
             (fault_of result) (H.state h.old) (H.state h.new) }
         ensures cause { H.counts h.new ≡ after_fault (fault_of result) (H.counts h.old) }
     {
@@ -128,7 +128,7 @@ impl WordTransaction {
         ensures writes { H.tells → Writes (placed first vals.now) (fault_of result) (H.state h.old) (H.state h.new) }
         ensures runs { H.tells → (size : ℕ) → size ≡ (H.counts h.old).size → (g : Scope) → (es : List Entry) → (before : Image) → IsScope size self.now.gate_at g
             → IsRunning g self.now es before (H.state h.old).now.words → IsCovered g es (placed first vals.now)
-            → Runs g self.now es before (placed first vals.now) (fault_of result) (H.state h.old) (H.state h.new) }
+            → KeepsRunning g self.now es before (placed first vals.now) (fault_of result) (H.state h.old) (H.state h.new) }
         ensures cause { H.counts h.new ≡ after_fault (fault_of result) (H.counts h.old) }
     {
         write_range(h, first, vals)

@@ -32,11 +32,11 @@ use Rattle.graph_read.specs.Reading.{place_in_pool}
 use Rattle.puddle_header.proofs.Placed.{place_ordinal, place_slot}
 use Rattle.log_store.specs.Store.{OpenLog}
 use Rattle.word_transaction.specs.Scope.{redo_entry}
-use Rattle.word_transaction.specs.Running.{nothing}
-use Rattle.word_transaction.proofs.Calls.{Runs-stopped, some_fault}
+use Rattle.word_transaction.specs.Running.{no_write}
+use Rattle.word_transaction.proofs.Calls.{KeepsRunning-stopped, some_fault}
 use Rattle.hybrid_tx.specs.PoolScopes.{pool_scope, finished_of, IsPlaced}
 use Rattle.hybrid_tx.specs.Objects.Stores.{address_at, word_for, IsPlaceAndWord, LacksPlaceOrWord, field_word}
-use Rattle.hybrid_tx.specs.Objects.Transactions.{MaySet, IsRewrittenFor, IsDeferredEntry, AreDeferredEntries, IsSaving, IsOpenOn, Saves, RunsOn}
+use Rattle.hybrid_tx.specs.Objects.Transactions.{MaySet, IsRewrittenFor, IsDeferredEntry, AreDeferredEntries, IsSaving, IsOpenOn, KeepsSaving, KeepsOpenOn}
 use Rattle.hybrid_tx.proofs.PoolScope.{all_there}
 use Rattle.hybrid_tx.proofs.Objects.FieldsSet.{placed_if_live, word_if_held, set_value}
 use Rattle.hybrid_tx.proofs.Objects.DeferredKept.{AreDeferredEntries-kept, AreDeferredEntries-more}
@@ -68,14 +68,14 @@ module _ (F : ℕ) (at : List (ℕ × Puddle)) (types : List (ℕ × ℕ)) (log 
   -- a call that failed before it did more than read
   pub RunsOn-stopped : {H : Type 0} {tells : Type 0} {state : H → State} {counts : H → Counts} {old new : H} (next : Graph) (more : List DeferredValue) (fault : HostFault) → behind.gate_at ≡ log.gate_at
       → OnlyReads tells state counts (Some fault) old new → tells → IsOpenOn F at types log before undone now deferred (state old).now.words
-      → RunsOn F at types behind before undone next more (Some fault) (state old) (state new)
+      → KeepsOpenOn F at types behind before undone next more (Some fault) (state old) (state new)
   RunsOn-stopped {state = state} {old = old} {new = new} next more fault same only t is_open =
       let s = is_open.saving in
       record {
-        write = nothing;
+        write = no_write;
         redo = is_open.redo;
         rests = λ none. absurd (some_fault fault none);
-        saves = record { es = s.es; runs = Runs-stopped (pool_scope F (finished_of at)) log behind s.es s.es before nothing fault (state old) (state new) same only.never_cut (only.stays t) s.running; defers = s.defers };
+        saves = record { es = s.es; runs = KeepsRunning-stopped (pool_scope F (finished_of at)) log behind s.es s.es before no_write fault (state old) (state new) same only.never_cut (only.stays t) s.running; defers = s.defers };
         was = is_open.was;
         is = λ none. absurd (some_fault fault none);
         are = λ none. absurd (some_fault fault none);
@@ -94,15 +94,15 @@ module _ (F : ℕ) (at : List (ℕ × Puddle)) (types : List (ℕ × ℕ)) (log 
     pub RunsOn-set : (size word : ℕ) (slot : Slot) (v : ℕ) (fault : Option HostFault) (mid new : State) → IsPlaced F at → IsRewrittenFor F at (reads old.now.words) s → device_words F ≤ size → log.gate_at + LOG_WORDS ≤ frames_at F
         → behind.gate_at ≡ log.gate_at → mid ≡ old → IsSlotOf at slot → place_in_pool F at (reads old.now.words) s ≡ Some (place_of_slot slot) → word_for F at (reads old.now.words) x ≡ Some v → word ≡ field_word slot f
         → ((e : ℕ × Puddle) → slice_get at slot.ordinal ≡ Some e → e.1.frontier ≡ steps_of e.1 → (b : Image) (redo : List Entry) → IsSaving F (finished_of at) log b redo mid.now.words
-        → Saves F (finished_of at) behind b redo (placed (frame_at F e.0 + word) (v ∷ [])) fault mid new)
-        → RunsOn F at types behind before undone (with_field s f x now) deferred fault old new
+        → KeepsSaving F (finished_of at) behind b redo (placed (frame_at F e.0 + word) (v ∷ [])) fault mid new)
+        → KeepsOpenOn F at types behind before undone (with_field s f x now) deferred fault old new
     RunsOn-set size word slot v fault mid new is_placed rewritten device apart same stays of found value is_word put =
         let image = reads old.now.words in
         let write = placed (frame_at F slot.frame + field_word slot f) (v ∷ []) in
         let redo = is_open.redo in
         let few = few_fields may.map in
         let below = may.below in
-        let put_here = subst (λ (k : ℕ). IsSaving F (finished_of at) log before redo mid.now.words → Saves F (finished_of at) behind before redo (placed (frame_at F slot.frame + k) (v ∷ [])) fault mid new) is_word
+        let put_here = subst (λ (k : ℕ). IsSaving F (finished_of at) log before redo mid.now.words → KeepsSaving F (finished_of at) behind before redo (placed (frame_at F slot.frame + k) (v ∷ [])) fault mid new) is_word
         (put (slot.frame, of.puddle) of.there ((rewritten.each slot of found).each (slot.frame, of.puddle) of.there) before redo) in
         RunsOn-write F size at types before log behind undone now (with_field s f x now) deferred deferred redo write fault old mid new is_placed device apart same stays is_open put_here
         (set_value types F at image now is_open.is is_placed s f slot (rewritten.each slot of found) of found x v may value)
@@ -113,18 +113,18 @@ module _ (F : ℕ) (at : List (ℕ × Puddle)) (types : List (ℕ × ℕ)) (log 
     pub RunsOn-later : (size word : ℕ) (slot : Slot) (v : ℕ) (fault : Option HostFault) (mid new : State) → IsPlaced F at → IsRewrittenFor F at (reads old.now.words) s → device_words F ≤ size → log.gate_at + LOG_WORDS ≤ frames_at F
         → behind.gate_at ≡ log.gate_at → mid ≡ old → IsSlotOf at slot → place_in_pool F at (reads old.now.words) s ≡ Some (place_of_slot slot) → word_for F at (reads old.now.words) x ≡ Some v → word ≡ field_word slot f
         → ((e : ℕ × Puddle) → slice_get at slot.ordinal ≡ Some e → e.1.frontier ≡ steps_of e.1 → (b : Image) (redo : List Entry) → IsSaving F (finished_of at) log b redo mid.now.words
-        → Saves F (finished_of at) behind b (redo ++ redo_entry (e.1.base + WORD_BYTES * word) (v ∷ []) ∷ []) nothing fault mid new)
-        → RunsOn F at types behind before undone now (deferred ++ record { s = s; f = f; x = x } ∷ []) fault old new
+        → KeepsSaving F (finished_of at) behind b (redo ++ redo_entry (e.1.base + WORD_BYTES * word) (v ∷ []) ∷ []) no_write fault mid new)
+        → KeepsOpenOn F at types behind before undone now (deferred ++ record { s = s; f = f; x = x } ∷ []) fault old new
     RunsOn-later size word slot v fault mid new is_placed rewritten device apart same stays of found value is_word ask =
         let finished = (rewritten.each slot of found).each (slot.frame, of.puddle) of.there in
         let image = reads old.now.words in
         let redo = is_open.redo in
         let entry = redo_entry (of.puddle.base + WORD_BYTES * field_word slot f) (v ∷ []) in
         let later : IsDeferredEntry F at types image now (record { s = s; f = f; x = x }) entry = record { slot = slot; of = of; finished = finished; place = found; value = v; word = value; may = may; is = refl } in
-        let ask_here = subst (λ (k : ℕ). IsSaving F (finished_of at) log before redo mid.now.words → Saves F (finished_of at) behind before (redo ++ redo_entry (of.puddle.base + WORD_BYTES * k) (v ∷ []) ∷ []) nothing fault mid new)
+        let ask_here = subst (λ (k : ℕ). IsSaving F (finished_of at) log before redo mid.now.words → KeepsSaving F (finished_of at) behind before (redo ++ redo_entry (of.puddle.base + WORD_BYTES * k) (v ∷ []) ∷ []) no_write fault mid new)
         is_word (ask (slot.frame, of.puddle) of.there finished before redo) in
-        let same_image : overwritten nothing image ≡ image = overwritten-nothing nothing image (λ k. refl) in
-        RunsOn-write F size at types before log behind undone now now deferred (deferred ++ record { s = s; f = f; x = x } ∷ []) (redo ++ entry ∷ []) nothing fault old mid new
+        let same_image : overwritten no_write image ≡ image = overwritten-nothing no_write image (λ k. refl) in
+        RunsOn-write F size at types before log behind undone now now deferred (deferred ++ record { s = s; f = f; x = x } ∷ []) (redo ++ entry ∷ []) no_write fault old mid new
         is_placed device apart same stays is_open ask_here
         (ap (λ (i : Image). graph_of types (stored_in F at i)) same_image ∙ is_open.is)
         (subst (λ (i : Image). AreDeferredEntries F at types i now (deferred ++ record { s = s; f = f; x = x } ∷ []) (redo ++ entry ∷ [])) (sym same_image)

@@ -19,12 +19,12 @@ use Rattle.pud_defs.specs.Entries.{Entry}
 use Rattle.pud_defs.specs.Replay.{over}
 use Rattle.log_store.specs.Store.{OpenLog, with_deferred_words}
 use Rattle.word_transaction.specs.Scope.{Scope, IsScope, redo_entry}
-use Rattle.word_transaction.specs.Running.{IsRunning, ByTransaction, nothing, Runs, Puts}
-use Rattle.word_transaction.proofs.Calls.{Runs-failed}
+use Rattle.word_transaction.specs.Running.{IsRunning, ByTransaction, no_write, KeepsRunning, SavesAndWrites}
+use Rattle.word_transaction.proofs.Calls.{KeepsRunning-failed}
 use Rattle.word_transaction.proofs.Pending.{deferred_entries-redo}
 use Rattle.hybrid_tx.specs.PoolScopes.{pool_place, pool_may_name, pool_has_word, pool_scope, finished_of, IsPlaced}
 use Rattle.hybrid_tx.specs.Objects.Stores.{ByPut, ByPutBoth}
-use Rattle.hybrid_tx.specs.Objects.Transactions.{IsSaving, Saves}
+use Rattle.hybrid_tx.specs.Objects.Transactions.{IsSaving, KeepsSaving}
 use Rattle.hybrid_tx.proofs.PoolScope.{all_there, base_below, pool_has_word-from, is_ground, place_of_word, may_name_words}
 
 -- ---- on any content
@@ -66,16 +66,16 @@ no_wrap base word legal below =
 -- ---- calls in turn
 
 -- what failed did not do what was to come behind it
-pub Saves-failed : (F : ℕ) (at : List (ℕ × Puddle)) (log behind : OpenLog) (before : Image) (redo : List Entry) (same : behind.gate_at ≡ log.gate_at) (write later : Write) (fault : HostFault) (old new : State)
-    → Saves F at log before redo write (Some fault) old new → Saves F at behind before redo later (Some fault) old new
-Saves-failed F at log behind before redo same write later fault old new s =
-    record { es = s.es; runs = Runs-failed (pool_scope F at) log behind s.es s.es before write later fault old new same s.runs; defers = s.defers }
+pub KeepsSaving-failed : (F : ℕ) (at : List (ℕ × Puddle)) (log behind : OpenLog) (before : Image) (redo : List Entry) (same : behind.gate_at ≡ log.gate_at) (write later : Write) (fault : HostFault) (old new : State)
+    → KeepsSaving F at log before redo write (Some fault) old new → KeepsSaving F at behind before redo later (Some fault) old new
+KeepsSaving-failed F at log behind before redo same write later fault old new s =
+    record { es = s.es; runs = KeepsRunning-failed (pool_scope F at) log behind s.es s.es before write later fault old new same s.runs; defers = s.defers }
 
 -- the log behind a call, which at Ok is this
-pub Saves-behind : (F : ℕ) (at : List (ℕ × Puddle)) (long now : OpenLog) (before : Image) (redo : List Entry) (write : Write) (result : Result (Unit {0}) HostFault) (old new : State) → now.gate_at ≡ long.gate_at
-    → IfOk result (λ _. now ≡ long) → Saves F at long before redo write (fault_of result) old new → Saves F at now before redo write (fault_of result) old new
-Saves-behind F at long now before redo write (Ok done) old new same is s = subst (λ (l : OpenLog). Saves F at l before redo write None old new) (sym is) s
-Saves-behind F at long now before redo write (Err fault) old new same is s = Saves-failed F at long now before redo same write write fault old new s
+pub KeepsSaving-behind : (F : ℕ) (at : List (ℕ × Puddle)) (long now : OpenLog) (before : Image) (redo : List Entry) (write : Write) (result : Result (Unit {0}) HostFault) (old new : State) → now.gate_at ≡ long.gate_at
+    → IfOk result (λ _. now ≡ long) → KeepsSaving F at long before redo write (fault_of result) old new → KeepsSaving F at now before redo write (fault_of result) old new
+KeepsSaving-behind F at long now before redo write (Ok done) old new same is s = subst (λ (l : OpenLog). KeepsSaving F at l before redo write None old new) (sym is) s
+KeepsSaving-behind F at long now before redo write (Err fault) old new same is s = KeepsSaving-failed F at long now before redo same write write fault old new s
 
 -- ---- the words of frames
 
@@ -96,18 +96,18 @@ module _ (F size : ℕ) (at : List (ℕ × Puddle)) (log now : OpenLog) (before 
   abbrev g : Scope
   g = pool_scope F at
 
-  Saves-puts : (write : Write) → Puts g now s.es before write fault old new → Saves F at now before redo write fault old new
+  Saves-puts : (write : Write) → SavesAndWrites g now s.es before write fault old new → KeepsSaving F at now before redo write fault old new
   Saves-puts write puts = record { es = puts.entries; runs = puts.runs; defers = puts.defers ∙ s.defers }
 
   -- of one frame
   pub Saves-put : (o word : ℕ) (e : ℕ × Puddle) (address first : ℕ) (vals : List ℕ) → slice_get at o ≡ Some e → 1 ≤ length vals → word + length vals ≤ FRAME_WORDS
       → address ≡ (e.1.base + WORD_BYTES * word) % 2 ^ 64 → first ≡ frame_at F e.0 + word
       → ((es : List Entry) → IsScope size log.gate_at g → g.may_name address (length vals) ≡ true → g.place address ≡ Some first → IsRunning g log es before old.now.words
-      → Puts g now es before (placed first vals) fault old new)
-      → Saves F at now before redo (placed (frame_at F e.0 + word) vals) fault old new
+      → SavesAndWrites g now es before (placed first vals) fault old new)
+      → KeepsSaving F at now before redo (placed (frame_at F e.0 + word) vals) fault old new
   Saves-put o word e address first vals there some few is_address is_first puts =
       Saves-puts (placed (frame_at F e.0 + word) vals)
-      (subst (λ (k : ℕ). Puts g now s.es before (placed k vals) fault old new) is_first
+      (subst (λ (k : ℕ). SavesAndWrites g now s.es before (placed k vals) fault old new) is_first
       (puts s.es (is_ground F size log.gate_at at is_placed device apart) (may_name F at is_placed o word e (length vals) address there some few is_address)
       (place_named F at is_placed o word e (length vals) address there some few is_address ∙ ap (λ k. Some k) (sym is_first)) s.running))
 
@@ -116,14 +116,14 @@ module _ (F size : ℕ) (at : List (ℕ × Puddle)) (log now : OpenLog) (before 
       → slice_get at o ≡ Some e → 1 ≤ length vals → word + length vals ≤ FRAME_WORDS → address ≡ (e.1.base + WORD_BYTES * word) % 2 ^ 64 → first ≡ frame_at F e.0 + word
       → slice_get at p ≡ Some d → other < FRAME_WORDS → address2 ≡ (d.1.base + WORD_BYTES * other) % 2 ^ 64 → second ≡ frame_at F d.0 + other
       → ((es : List Entry) → IsScope size log.gate_at g → g.may_name address (length vals) ≡ true → g.place address ≡ Some first → g.may_name address2 1 ≡ true → g.place address2 ≡ Some second
-      → IsRunning g log es before old.now.words → Puts g now es before (over (placed first vals) (placed second (value ∷ []))) fault old new)
-      → Saves F at now before redo (over (placed (frame_at F e.0 + word) vals) (placed (frame_at F d.0 + other) (value ∷ []))) fault old new
+      → IsRunning g log es before old.now.words → SavesAndWrites g now es before (over (placed first vals) (placed second (value ∷ []))) fault old new)
+      → KeepsSaving F at now before redo (over (placed (frame_at F e.0 + word) vals) (placed (frame_at F d.0 + other) (value ∷ []))) fault old new
   Saves-put_both o word e address first vals p other d address2 second value there some few is_address is_first also below is_other is_second puts =
       let one : 1 ≤ 1 = omega arith in
       let single : other + 1 ≤ FRAME_WORDS = omega arith in
       Saves-puts (over (placed (frame_at F e.0 + word) vals) (placed (frame_at F d.0 + other) (value ∷ [])))
-      (subst (λ (k : ℕ). Puts g now s.es before (over (placed k vals) (placed (frame_at F d.0 + other) (value ∷ []))) fault old new) is_first
-      (subst (λ (k : ℕ). Puts g now s.es before (over (placed first vals) (placed k (value ∷ []))) fault old new) is_second
+      (subst (λ (k : ℕ). SavesAndWrites g now s.es before (over (placed k vals) (placed (frame_at F d.0 + other) (value ∷ []))) fault old new) is_first
+      (subst (λ (k : ℕ). SavesAndWrites g now s.es before (over (placed first vals) (placed k (value ∷ []))) fault old new) is_second
       (puts s.es (is_ground F size log.gate_at at is_placed device apart)
       (may_name F at is_placed o word e (length vals) address there some few is_address)
       (place_named F at is_placed o word e (length vals) address there some few is_address ∙ ap (λ k. Some k) (sym is_first))
@@ -134,21 +134,21 @@ module _ (F size : ℕ) (at : List (ℕ × Puddle)) (log now : OpenLog) (before 
 abbrev pub PutsAt : (F : ℕ) (at : List (ℕ × Puddle)) (o word : ℕ) (vals : List ℕ) (log behind : OpenLog) (fault : Option HostFault) (old new : State) → Type 0
 PutsAt F at o word vals log behind fault old new =
     (e : ℕ × Puddle) → slice_get at o ≡ Some e → e.1.frontier ≡ steps_of e.1 → (b : Image) (redo : List Entry) → IsSaving F (finished_of at) log b redo old.now.words
-    → Saves F (finished_of at) behind b redo (placed (frame_at F e.0 + word) vals) fault old new
+    → KeepsSaving F (finished_of at) behind b redo (placed (frame_at F e.0 + word) vals) fault old new
 
 -- ---- a value asked for in a frame
 
 -- by the log behind the call, which at Ok has one entry more
-pub Saves-asked : (F size : ℕ) (at : List (ℕ × Puddle)) (word : ℕ) (e : ℕ × Puddle) (o : ℕ) (log now : OpenLog) (before : Image) (redo : List Entry) (address value : ℕ) (result : Result (Unit {0}) HostFault) (old new : State)
+pub KeepsSaving-asked : (F size : ℕ) (at : List (ℕ × Puddle)) (word : ℕ) (e : ℕ × Puddle) (o : ℕ) (log now : OpenLog) (before : Image) (redo : List Entry) (address value : ℕ) (result : Result (Unit {0}) HostFault) (old new : State)
     → IsPlaced F at → device_words F ≤ size → log.gate_at + LOG_WORDS ≤ frames_at F → slice_get at o ≡ Some e → word < FRAME_WORDS → address ≡ (e.1.base + WORD_BYTES * word) % 2 ^ 64
     → IsSaving F at log before redo old.now.words → now.gate_at ≡ log.gate_at → IfOk result (λ _. now ≡ with_deferred_words SET_UNITS log)
     → ((es : List Entry) → IsScope size log.gate_at (pool_scope F at) → pool_may_name at address 1 ≡ true → IsRunning (pool_scope F at) log es before old.now.words
-    → Runs (pool_scope F at) (with_deferred_words SET_UNITS log) (es ++ redo_entry address (value ∷ []) ∷ []) before nothing (fault_of result) old new)
-    → Saves F at now before (redo ++ redo_entry (e.1.base + WORD_BYTES * word) (value ∷ []) ∷ []) nothing (fault_of result) old new
-Saves-asked F size at word e o log now before redo address value result old new is_placed device apart there below is_address s same is runs =
+    → KeepsRunning (pool_scope F at) (with_deferred_words SET_UNITS log) (es ++ redo_entry address (value ∷ []) ∷ []) before no_write (fault_of result) old new)
+    → KeepsSaving F at now before (redo ++ redo_entry (e.1.base + WORD_BYTES * word) (value ∷ []) ∷ []) no_write (fault_of result) old new
+KeepsSaving-asked F size at word e o log now before redo address value result old new is_placed device apart there below is_address s same is runs =
     let one : 1 ≤ 1 = omega arith in
     let single : word + 1 ≤ FRAME_WORDS = omega arith in
-    Saves-behind F at (with_deferred_words SET_UNITS log) now before (redo ++ redo_entry (e.1.base + WORD_BYTES * word) (value ∷ []) ∷ []) nothing result old new same is (record {
+    KeepsSaving-behind F at (with_deferred_words SET_UNITS log) now before (redo ++ redo_entry (e.1.base + WORD_BYTES * word) (value ∷ []) ∷ []) no_write result old new same is (record {
       es = s.es ++ redo_entry address (value ∷ []) ∷ [];
       runs = runs s.es (is_ground F size log.gate_at at is_placed device apart) (may_name F at is_placed o word e 1 address there one single is_address) s.running;
       defers = deferred_entries-redo s.es address (value ∷ [])

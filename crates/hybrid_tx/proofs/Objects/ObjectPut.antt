@@ -30,7 +30,7 @@ use Rattle.word_transaction.specs.Running.{ByTransaction}
 use Rattle.word_transaction.proofs.Calls.{some_fault}
 use Rattle.hybrid_tx.specs.PoolScopes.{pool_scope, IsPlaced, finished_of}
 use Rattle.hybrid_tx.specs.Objects.Stores.{new_words, making, ByPutBoth, ByMaking}
-use Rattle.hybrid_tx.specs.Objects.Transactions.{IsSaving, IsOpenOn, Saves, RunsOn, MakesIn}
+use Rattle.hybrid_tx.specs.Objects.Transactions.{IsSaving, IsOpenOn, KeepsSaving, KeepsOpenOn, MakesIn}
 use Rattle.hybrid_tx.proofs.Objects.ObjectsMade.{new_stored}
 use Rattle.hybrid_tx.proofs.Objects.DeferredKept.{AreDeferredEntries-kept}
 use Rattle.hybrid_tx.proofs.Objects.DeferredBehind.{KeepsObjects-new, serial_of_live, KeepsPlaces-new}
@@ -89,7 +89,7 @@ module _ (F : ℕ) (at : List (ℕ × Puddle)) (types : List (ℕ × ℕ)) (log 
       (same : behind.gate_at ≡ log.gate_at) (stays : mid ≡ old) (head : slice_get at 0 ≡ Some first) (of : IsSlotOf at slot) (read : serial ≡ frame_word F first.0 NEXT_SERIAL_WORD (reads old.now.words))
       (room : now.next_serial < NUMBER_LIMIT) (are_words : words ≡ new_words serial type_id) (is_bumped : bumped ≡ (serial + 1) % 2 ^ 64)
       (put : (b : Image) (redo : List Entry) → IsSaving F (finished_of at) log b redo mid.now.words
-      → Saves F (finished_of at) behind b redo (over (placed (frame_at F slot.frame + slot_begins slot) words) (placed (frame_at F first.0 + NEXT_SERIAL_WORD) (bumped ∷ []))) fault mid new) where
+      → KeepsSaving F (finished_of at) behind b redo (over (placed (frame_at F slot.frame + slot_begins slot) words) (placed (frame_at F first.0 + NEXT_SERIAL_WORD) (bumped ∷ []))) fault mid new) where
     abbrev image : Image
     image = reads old.now.words
 
@@ -99,11 +99,11 @@ module _ (F : ℕ) (at : List (ℕ × Puddle)) (types : List (ℕ × ℕ)) (log 
     one_more : bumped ≡ serial + 1
     one_more = let is = is_serial in omega arith
 
-    Saves-making : IsSaving F (finished_of at) log before is_open.redo mid.now.words → Saves F (finished_of at) behind before is_open.redo (making F first.0 slot serial type_id) fault mid new
+    Saves-making : IsSaving F (finished_of at) log before is_open.redo mid.now.words → KeepsSaving F (finished_of at) behind before is_open.redo (making F first.0 slot serial type_id) fault mid new
     Saves-making saving =
-        subst (λ (ws : List ℕ). Saves F (finished_of at) behind before is_open.redo
+        subst (λ (ws : List ℕ). KeepsSaving F (finished_of at) behind before is_open.redo
         (over (placed (frame_at F slot.frame + slot_begins slot) ws) (placed (frame_at F first.0 + NEXT_SERIAL_WORD) ((serial + 1) ∷ []))) fault mid new) are_words
-        (subst (λ (n : ℕ). Saves F (finished_of at) behind before is_open.redo
+        (subst (λ (n : ℕ). KeepsSaving F (finished_of at) behind before is_open.redo
         (over (placed (frame_at F slot.frame + slot_begins slot) words) (placed (frame_at F first.0 + NEXT_SERIAL_WORD) (n ∷ []))) fault mid new) one_more
         (put before is_open.redo saving))
 
@@ -111,7 +111,7 @@ module _ (F : ℕ) (at : List (ℕ × Puddle)) (types : List (ℕ × ℕ)) (log 
     pub MakesIn-new : Changes (ByPutBoth log.gate_at (frame_at F slot.frame + slot_begins slot) words (frame_at F first.0 + NEXT_SERIAL_WORD) bumped) fault mid new → MakesIn F at log.gate_at slot type_id fault old new
     MakesIn-new changes =
         let next_read = next_is F at types image first head serial read in
-        let saves = subst (λ (s : State). IsSaving F (finished_of at) log before is_open.redo s.now.words → Saves F (finished_of at) behind before is_open.redo (making F first.0 slot serial type_id) fault s new) stays
+        let saves = subst (λ (s : State). IsSaving F (finished_of at) log before is_open.redo s.now.words → KeepsSaving F (finished_of at) behind before is_open.redo (making F first.0 slot serial type_id) fault s new) stays
         Saves-making is_open.saving in
         record {
           first = first;
@@ -124,7 +124,7 @@ module _ (F : ℕ) (at : List (ℕ × Puddle)) (types : List (ℕ × ℕ)) (log 
 
     pub RunsOn-new : (size m : ℕ) → IsPlaced F at → device_words F ≤ size → log.gate_at + LOG_WORDS ≤ frames_at F
         → place_word (stored_in F at image) (place_of_slot slot) SLOT_SERIAL_WORD ≡ 0 → map_of type_id types ≡ Some m
-        → RunsOn F at types behind before undone (with_new (blank_object type_id m) now) deferred fault old new
+        → KeepsOpenOn F at types behind before undone (with_new (blank_object type_id m) now) deferred fault old new
     RunsOn-new size m is_placed device apart free defined =
         let next = is_serial in
         let next_read = next_is F at types image first head serial read in

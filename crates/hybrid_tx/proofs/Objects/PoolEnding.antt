@@ -18,12 +18,12 @@ use Rattle.pud_defs.specs.Graph.{Graph, graph_of}
 use Rattle.pud_defs.specs.DeferredValues.{DeferredValue, with_deferred_set}
 use Rattle.log_store.specs.Store.{OpenLog, defers}
 use Rattle.word_transaction.specs.Scope.{Scope, IsScope, written_in_turn, pending}
-use Rattle.word_transaction.specs.Running.{IsRunning, IsIdle, RecoversTo, ByTransaction, Closes, Ends, CanRedo}
+use Rattle.word_transaction.specs.Running.{IsRunning, IsIdle, RecoversTo, ByTransaction, AbortsTransaction, CommitsTransaction, CanRedo}
 use Rattle.word_transaction.proofs.Saved.{pending_is_mine}
 use Rattle.word_transaction.proofs.Pending.{defers-none, pending-in_turn}
-use Rattle.word_transaction.proofs.Ended.{Ends-idle, Closes-idle}
+use Rattle.word_transaction.proofs.Ended.{CommitsTransaction-idle, AbortsTransaction-idle}
 use Rattle.hybrid_tx.specs.PoolScopes.{pool_place, pool_has_word, pool_scope, finished_of, IsPlaced}
-use Rattle.hybrid_tx.specs.Objects.Transactions.{RestsAs, IsOpenOn, IsAtRest, ClosesOn, EndsOn}
+use Rattle.hybrid_tx.specs.Objects.Transactions.{RestsAs, IsOpenOn, IsAtRest, AbortsOnPool, CommitsOnPool}
 use Rattle.hybrid_tx.proofs.PoolScope.{is_ground}
 use Rattle.hybrid_tx.proofs.FinishedPuddles.{finished_placed}
 use Rattle.hybrid_tx.proofs.Objects.Opening.{stored_in-has_word, RestsAs-behind}
@@ -71,7 +71,7 @@ module _ (F size : ℕ) (at : List (ℕ × Puddle)) (types : List (ℕ × ℕ)) 
 
   pub EndsOn-ends : (deferred ≢ [] → CanRedo (pool_scope F (finished_of at)) F log.gate_at old.now.words)
       → ((g : Scope) (es : List Entry) (b : Image) → IsScope size log.gate_at g → IsRunning g log es b old.now.words → (defers es ≡ true → CanRedo g F log.gate_at old.now.words)
-      → Ends g log.gate_at b (overwritten (pending g.place es) (reads old.now.words)) fault old new) → EndsOn F at types log.gate_at before undone (with_deferred_set deferred now) fault old new
+      → CommitsTransaction g log.gate_at b (overwritten (pending g.place es) (reads old.now.words)) fault old new) → CommitsOnPool F at types log.gate_at before undone (with_deferred_set deferred now) fault old new
   EndsOn-ends can ends =
       let s = is_open.saving in
       let its = ends own s.es before own_ground s.running (λ asked_some. can (some_asked asked_some)) in
@@ -85,7 +85,7 @@ module _ (F size : ℕ) (at : List (ℕ × Puddle)) (types : List (ℕ × ℕ)) 
       }
 
   pub ClosesOn-closes : ((es : List Entry) → IsScope size log.gate_at (pool_scope F (finished_of at)) → IsRunning (pool_scope F (finished_of at)) log es before old.now.words
-      → Closes (pool_scope F (finished_of at)) log.gate_at before fault old new) → ClosesOn F at types log.gate_at before undone fault old new
+      → AbortsTransaction (pool_scope F (finished_of at)) log.gate_at before fault old new) → AbortsOnPool F at types log.gate_at before undone fault old new
   ClosesOn-closes closes =
       let its = closes is_open.saving.es own_ground is_open.saving.running in
       record { closes = its; rests = λ none. rests_behind its.changes; was = is_open.was }
@@ -119,11 +119,11 @@ module _ (F : ℕ) (at : List (ℕ × Puddle)) (types : List (ℕ × ℕ)) where
         is = ap (graph_of types) (stored_in-has_word F at values (reads words) (λ k mine. HasOnly-newest (words k) (values k) (single k mine))) ∙ is;
       }
 
-  pub IsAtRest-closed : (log : ℕ) (before : Image) (undone : Graph) (old new : State) → ClosesOn F at types log before undone None old new → IsAtRest F at types log undone new.now.words
+  pub IsAtRest-closed : (log : ℕ) (before : Image) (undone : Graph) (old new : State) → AbortsOnPool F at types log before undone None old new → IsAtRest F at types log undone new.now.words
   IsAtRest-closed log before undone old new c =
-      at_rest log before undone new.now.words (Closes-idle (pool_scope F (finished_of at)) log before None old new refl c.closes) (c.rests refl) c.was
+      at_rest log before undone new.now.words (AbortsTransaction-idle (pool_scope F (finished_of at)) log before None old new refl c.closes) (c.rests refl) c.was
 
-  pub IsAtRest-ended : (log : ℕ) (before : Image) (undone next : Graph) (old new : State) → EndsOn F at types log before undone next None old new → IsAtRest F at types log next new.now.words
+  pub IsAtRest-ended : (log : ℕ) (before : Image) (undone next : Graph) (old new : State) → CommitsOnPool F at types log before undone next None old new → IsAtRest F at types log next new.now.words
   IsAtRest-ended log before undone next old new e =
-      at_rest log e.after next new.now.words (Ends-idle (pool_scope F (finished_of at)) log before e.after None old new refl e.ends)
+      at_rest log e.after next new.now.words (CommitsTransaction-idle (pool_scope F (finished_of at)) log before e.after None old new refl e.ends)
       (record { each = λ k mine other. subst (λ (v : ℕ). HasOnly (new.now.words k) v) (sym (e.beside k mine other)) ((e.rests refl).each k mine other) }) e.is

@@ -19,7 +19,7 @@ use Rattle.pud_defs.specs.DeferredValues.{DeferredValue}
 use Rattle.log_store.specs.Store.{OpenLog}
 use Rattle.hybrid_tx.specs.PoolScopes.{IsPlaced, IsRewrittenAt}
 use Rattle.hybrid_tx.specs.Objects.Stores.{word_for}
-use Rattle.hybrid_tx.specs.Objects.Transactions.{IsOpenOn, RunsOn}
+use Rattle.hybrid_tx.specs.Objects.Transactions.{IsOpenOn, KeepsOpenOn}
 use Rattle.hybrid_tx.proofs.Objects.RootsSet.{root_set}
 use Rattle.hybrid_tx.proofs.Objects.InFrames.{PutsAt}
 use Rattle.hybrid_tx.proofs.Objects.DeferredKept.{AreDeferredEntries-kept}
@@ -30,7 +30,7 @@ module _ (F : ℕ) (at : List (ℕ × Puddle)) (types : List (ℕ × ℕ)) (log 
     (is_open : IsOpenOn F at types log before undone now deferred old.now.words) where
   pub RunsOn-root : (size s v : ℕ) (first : ℕ × Puddle) (fault : Option HostFault) (mid new : State) → slice_get at 0 ≡ Some first → IsPlaced F at → IsRewrittenAt at 0 → device_words F ≤ size → log.gate_at + LOG_WORDS ≤ frames_at F → behind.gate_at ≡ log.gate_at → mid ≡ old
       → word_for F at (reads old.now.words) (Ref s) ≡ Some v → PutsAt F at 0 ROOT_WORD (v ∷ []) log behind fault mid new
-      → RunsOn F at types behind before undone (with_root s now) deferred fault old new
+      → KeepsOpenOn F at types behind before undone (with_root s now) deferred fault old new
   RunsOn-root size s v first fault mid new head is_placed rewritten device apart same stays word put =
       let image = reads old.now.words in
       let write = placed (frame_at F first.0 + ROOT_WORD) (v ∷ []) in

@@ -21,13 +21,13 @@ use Rattle.log_store.specs.Store.{OpenLog, InLog}
 use Rattle.object_alloc.specs.Alloc.{serial_word_at}
 use Rattle.object_alloc.proofs.Freed.{placed-single}
 use Rattle.word_transaction.specs.Scope.{Scope, IsScope}
-use Rattle.word_transaction.specs.Running.{IsRunning, IsOneOf, ByTransaction, Keeps, Puts}
+use Rattle.word_transaction.specs.Running.{IsRunning, IsOneOf, ByTransaction, SavesWords, SavesAndWrites}
 use Rattle.word_transaction.proofs.Writing.{Runs-written}
-use Rattle.word_transaction.proofs.Kept.{WritesKept-placed, Puts-unkept, Puts-written}
+use Rattle.word_transaction.proofs.Kept.{WritesKept-placed, SavesAndWrites-unkept, SavesAndWrites-written}
 use Rattle.hybrid_tx.specs.PoolScopes.{pool_scope, finished_of, IsPlaced, IsRewrittenAt}
 use Rattle.hybrid_tx.proofs.FinishedPuddles.{finished_placed, finished_there}
 use Rattle.hybrid_tx.specs.Objects.Stores.{address_at}
-use Rattle.hybrid_tx.specs.Objects.Transactions.{MayFree, IsSaving, IsOpenOn, Saves, RunsOn}
+use Rattle.hybrid_tx.specs.Objects.Transactions.{MayFree, IsSaving, IsOpenOn, KeepsSaving, KeepsOpenOn}
 use Rattle.hybrid_tx.proofs.Objects.Putting.{ByPut-written}
 use Rattle.hybrid_tx.proofs.Objects.InFrames.{ByPut-in_frame, Saves-put}
 use Rattle.hybrid_tx.proofs.Objects.FieldPut.{slot_address-read}
@@ -63,11 +63,11 @@ module _ (F size : ℕ) (at : List (ℕ × Puddle)) (slot : Slot) (of : IsSlotOf
   -- the word of the serial is kept
   abbrev IsKept : (fault : Option HostFault) (b : State) → Type 0
   IsKept fault b =
-      (es : List Entry) → IsScope size log.gate_at g → g.may_name address 1 ≡ true → g.place address ≡ Some first → IsRunning g log es before a.now.words → Keeps g now es before (IsOneOf first 1) fault a b
+      (es : List Entry) → IsScope size log.gate_at g → g.may_name address 1 ≡ true → g.place address ≡ Some first → IsRunning g log es before a.now.words → SavesWords g now es before (IsOneOf first 1) fault a b
 
   saves : (fault : Option HostFault) (c : State)
-      → ((es : List Entry) → IsScope size log.gate_at g → g.may_name address 1 ≡ true → g.place address ≡ Some first → IsRunning g log es before a.now.words → Puts g now es before (placed first (0 ∷ [])) fault a c)
-      → Saves F (finished_of at) now before redo (placed (serial_word_at F slot) (0 ∷ [])) fault a c
+      → ((es : List Entry) → IsScope size log.gate_at g → g.may_name address 1 ≡ true → g.place address ≡ Some first → IsRunning g log es before a.now.words → SavesAndWrites g now es before (placed first (0 ∷ [])) fault a c)
+      → KeepsSaving F (finished_of at) now before redo (placed (serial_word_at F slot) (0 ∷ [])) fault a c
   saves fault c puts =
       let some : 1 ≤ 1 = omega arith in
       let word : slot_begins slot ≡ slot_begins slot + SLOT_SERIAL_WORD = omega arith in
@@ -77,14 +77,14 @@ module _ (F size : ℕ) (at : List (ℕ × Puddle)) (slot : Slot) (of : IsSlotOf
       (is_address ∙ sym (slot_address-read at slot of (slot.frame, of.puddle) refl is_placed.legal) ∙ ap (λ (k : ℕ). (of.puddle.base + WORD_BYTES * k) % 2 ^ 64) word) is_first puts
 
   -- it could not be
-  pub Saves-unfreed : (fault : HostFault) (b : State) → IsKept (Some fault) b → Saves F (finished_of at) now before redo (placed (serial_word_at F slot) (0 ∷ [])) (Some fault) a b
+  pub Saves-unfreed : (fault : HostFault) (b : State) → IsKept (Some fault) b → KeepsSaving F (finished_of at) now before redo (placed (serial_word_at F slot) (0 ∷ [])) (Some fault) a b
   Saves-unfreed fault b keeps =
-      saves (Some fault) b (λ es ground may place r. Puts-unkept g now now es before (IsOneOf first 1) (placed first (0 ∷ [])) fault a b refl (keeps es ground may place r))
+      saves (Some fault) b (λ es ground may place r. SavesAndWrites-unkept g now now es before (IsOneOf first 1) (placed first (0 ∷ [])) fault a b refl (keeps es ground may place r))
 
-  pub Saves-freed : (fault : Option HostFault) (b c : State) → IsKept None b → Writes (only (serial_word_at F slot) 0) fault b c → Saves F (finished_of at) now before redo (placed (serial_word_at F slot) (0 ∷ [])) fault a c
+  pub Saves-freed : (fault : Option HostFault) (b c : State) → IsKept None b → Writes (only (serial_word_at F slot) 0) fault b c → KeepsSaving F (finished_of at) now before redo (placed (serial_word_at F slot) (0 ∷ [])) fault a c
   Saves-freed fault b c keeps writes =
       saves fault c (λ es ground may place r.
-      Puts-written g now es before (IsOneOf first 1) (placed first (0 ∷ [])) fault a b c (keeps es ground may place r) (WritesKept-placed size log.gate_at g address first (0 ∷ []) ground may place)
+      SavesAndWrites-written g now es before (IsOneOf first 1) (placed first (0 ∷ [])) fault a b c (keeps es ground may place r) (WritesKept-placed size log.gate_at g address first (0 ∷ []) ground may place)
       (λ entries running covered.
       Runs-written size g now entries before (placed first (0 ∷ [])) fault b c (subst (λ (k : ℕ). IsScope size k g) (sym same) ground) running covered (cleared F slot first fault b c is_first writes)))
 
@@ -94,8 +94,8 @@ module _ (F : ℕ) (at : List (ℕ × Puddle)) (types : List (ℕ × ℕ)) (log 
     (is_open : IsOpenOn F at types log before undone now deferred old.now.words) where
   pub RunsOn-free : (size s : ℕ) (slot : Slot) (fault : Option HostFault) (mid new : State) → MayFree now s → deferred_set_names s deferred ≡ false → IsPlaced F at → device_words F ≤ size → log.gate_at + LOG_WORDS ≤ frames_at F
       → behind.gate_at ≡ log.gate_at → mid ≡ old → IsSlotOf at slot → place_in_pool F at (reads old.now.words) s ≡ Some (place_of_slot slot)
-      → ((redo : List Entry) → IsSaving F (finished_of at) log before redo mid.now.words → Saves F (finished_of at) behind before redo (placed (serial_word_at F slot) (0 ∷ [])) fault mid new)
-      → RunsOn F at types behind before undone (without_object s now) deferred fault old new
+      → ((redo : List Entry) → IsSaving F (finished_of at) log before redo mid.now.words → KeepsSaving F (finished_of at) behind before redo (placed (serial_word_at F slot) (0 ∷ [])) fault mid new)
+      → KeepsOpenOn F at types behind before undone (without_object s now) deferred fault old new
   RunsOn-free size s slot fault mid new may unnamed is_placed device apart same stays of found saves =
       let image = reads old.now.words in
       let redo = is_open.redo in

@@ -24,7 +24,7 @@ use Rattle.puddle_header.specs.Places.{place_of_slot, IsSlotOf}
 use Rattle.graph_read.specs.Reading.{place_in_pool}
 use Rattle.log_store.specs.Store.{OpenLog}
 use Rattle.word_transaction.specs.Scope.{redo_entry, deferred_entries}
-use Rattle.word_transaction.specs.Running.{IsRunning, IsIdle, begun, Runs, Closes, Ends}
+use Rattle.word_transaction.specs.Running.{IsRunning, IsIdle, begun_log, KeepsRunning, AbortsTransaction, CommitsTransaction}
 use Rattle.hybrid_tx.specs.PoolScopes.{pool_has_word, pool_scope, finished_of, IsRewrittenAt}
 use Rattle.hybrid_tx.specs.Objects.Stores.{word_for, field_word, making, ByMaking}
 
@@ -37,7 +37,7 @@ pub record OpenTx : Type 0 where
 
 -- as it has just begun, in the log whose gate is this word
 abbrev pub begun_tx : (at : ℕ) → OpenTx
-begun_tx at = record { log = begun at; units = 0 }
+begun_tx at = record { log = begun_log at; units = 0 }
 
 -- ---- what may be named, set and freed
 
@@ -125,18 +125,18 @@ pub record IsAtRest (F : ℕ) (at : List (ℕ × Puddle)) (types : List (ℕ × 
 
 -- A call within a transaction on these words, behind which this is its log: at each moment each image settles to what the words held at the
 -- beginning. Without a fault these words are written, and the transaction asks for words by these redo entries.
-pub record Saves (F : ℕ) (at : List (ℕ × Puddle)) (log : OpenLog) (before : Image) (redo : List Entry) (write : Write) (fault : Option HostFault) (old new : State) : Type 0 where
+pub record KeepsSaving (F : ℕ) (at : List (ℕ × Puddle)) (log : OpenLog) (before : Image) (redo : List Entry) (write : Write) (fault : Option HostFault) (old new : State) : Type 0 where
   pub es : List Entry
-  pub runs : Runs (pool_scope F at) log es before write fault old new
+  pub runs : KeepsRunning (pool_scope F at) log es before write fault old new
   pub defers : deferred_entries es ≡ redo
 
 -- A call within a transaction on the pool: it runs on the words of its finished puddles, and those of the others rest. Without a fault the pool has the next graph by what is read, and these values of
 -- fields are asked for.
-pub record RunsOn (F : ℕ) (at : List (ℕ × Puddle)) (types : List (ℕ × ℕ)) (log : OpenLog) (before : Image) (undone next : Graph) (deferred : List DeferredValue) (fault : Option HostFault) (old new : State)
+pub record KeepsOpenOn (F : ℕ) (at : List (ℕ × Puddle)) (types : List (ℕ × ℕ)) (log : OpenLog) (before : Image) (undone next : Graph) (deferred : List DeferredValue) (fault : Option HostFault) (old new : State)
     : Type 0 where
   pub write : Write
   pub redo : List Entry
-  pub saves : Saves F (finished_of at) log before redo write fault old new
+  pub saves : KeepsSaving F (finished_of at) log before redo write fault old new
   pub rests : fault ≡ None → RestsAs F at before new.now.words
   pub was : graph_of types (stored_in F at before) ≡ Some undone
   pub is : fault ≡ None → graph_of types (stored_in F at (reads new.now.words)) ≡ Some next
@@ -153,16 +153,16 @@ pub record MakesIn (F : ℕ) (at : List (ℕ × Puddle)) (log_at : ℕ) (slot : 
       → reads new.now.words k ≡ overwritten (making F first.0 slot (next_serial_of (stored_in F at (reads old.now.words))) type_id) (reads old.now.words) k
 
 -- The transaction is undone, and its log, whose gate is this word, closed: each image settles to what the words held at the beginning.
-pub record ClosesOn (F : ℕ) (at : List (ℕ × Puddle)) (types : List (ℕ × ℕ)) (log_at : ℕ) (before : Image) (undone : Graph) (fault : Option HostFault) (old new : State) : Type 0 where
-  pub closes : Closes (pool_scope F (finished_of at)) log_at before fault old new
+pub record AbortsOnPool (F : ℕ) (at : List (ℕ × Puddle)) (types : List (ℕ × ℕ)) (log_at : ℕ) (before : Image) (undone : Graph) (fault : Option HostFault) (old new : State) : Type 0 where
+  pub closes : AbortsTransaction (pool_scope F (finished_of at)) log_at before fault old new
   pub rests : fault ≡ None → RestsAs F at before new.now.words
   pub was : graph_of types (stored_in F at before) ≡ Some undone
 
 -- The transaction is committed, and its log closed: until the range of the log moves each image settles to what the words held at the beginning, and from
 -- then on to what they come to hold, by which the pool has the new graph; the words of the puddles that are not finished stay.
-pub record EndsOn (F : ℕ) (at : List (ℕ × Puddle)) (types : List (ℕ × ℕ)) (log_at : ℕ) (before : Image) (undone next : Graph) (fault : Option HostFault) (old new : State) : Type 0 where
+pub record CommitsOnPool (F : ℕ) (at : List (ℕ × Puddle)) (types : List (ℕ × ℕ)) (log_at : ℕ) (before : Image) (undone next : Graph) (fault : Option HostFault) (old new : State) : Type 0 where
   pub after : Image
-  pub ends : Ends (pool_scope F (finished_of at)) log_at before after fault old new
+  pub ends : CommitsTransaction (pool_scope F (finished_of at)) log_at before after fault old new
   pub beside : (k : ℕ) → pool_has_word F at k ≡ true → pool_has_word F (finished_of at) k ≡ false → after k ≡ before k
   pub rests : fault ≡ None → RestsAs F at before new.now.words
   pub was : graph_of types (stored_in F at before) ≡ Some undone

@@ -9,7 +9,7 @@ use Rattle.object_alloc.specs.Alloc.{alloc_fault}
 use Rattle.pm_model.proofs.Reading.{Changes-read}
 use Rattle.pud_defs.specs.GraphChanges.{with_new, blank_object}
 use Rattle.puddle_header.specs.Places.{place_of_slot}
-use Rattle.hybrid_tx.specs.Objects.Transactions.{IsOpenOn, RunsOn, MakesIn}
+use Rattle.hybrid_tx.specs.Objects.Transactions.{IsOpenOn, KeepsOpenOn, MakesIn}
 use Rattle.hybrid_tx.proofs.Objects.FieldPut.{RunsOn-stopped}
 use Rattle.hybrid_tx.proofs.Objects.LowestSlot.{one_lowest, lowest_is_free, one_slot, first_there}
 use Rattle.hybrid_tx.proofs.Objects.ObjectPut.{MakesIn-stopped}
@@ -24,7 +24,7 @@ returns-in-Ok-clause-runs g c = λ t types m before undone now deferred placed i
     let found = c.in-Ok.ensures.free t (reads (g.H.Host.state c.args.h.now).now.words) refl in
     let rewritten = lowest.each c.in-Ok.at c.in-Ok.ensures.within found in
     subst (λ (s : State). IsOpenOn F pool types c.args.self.now.log before undone now deferred s.now.words → IsFreePlace (stored_in F pool (reads s.now.words)) (place_of_slot c.in-Ok.at)
-    → RunsOn F pool types c.new_at.new.self.log before undone (with_new (blank_object c.args.t m) now) deferred fault s new)
+    → KeepsOpenOn F pool types c.new_at.new.self.log before undone (with_new (blank_object c.args.t m) now) deferred fault s new)
     (c.in-Ok.ensures.only_reads.stays t) (λ still it. c.new_at.ensures.runs t types m before undone now deferred placed still defined room root rewritten it) is_open found.free
 
 pub returns-in-Err-Full-clause-changes : goal.returns-in-Err-Full-clause-changes

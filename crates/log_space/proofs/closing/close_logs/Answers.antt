@@ -4,7 +4,7 @@ use Rattle.pm_model.specs.Masks.{masked_state, IsOff}
 use Rattle.pm_model.proofs.Changes.{Changes-wider}
 use Rattle.log_replay.specs.Replaying.{Anything}
 use Rattle.log_space.specs.Closed.{ByClosing, ClosesGates}
-use Rattle.log_space.proofs.Gates.{ClosesGates-masked, Closes-gates}
+use Rattle.log_space.proofs.Gates.{ClosesGates-masked, ClosesClientLogs-gates}
 use Rattle.log_space.proofs.closing.close_logs.Goals as goal
 
 pub returns-clause-closes : goal.returns-clause-closes
@@ -13,7 +13,7 @@ returns-clause-closes g c = λ t size same s frames mask off settled.
     let new = g.H.Host.state c.close_gates.new.h in
     let fault = fault_of c.close_gates.result in
     let off_here = subst (λ (F : ℕ). IsOff mask (ByClosing F c.args.slot)) frames off in
-    Closes-gates size s c.args.slot fault (masked_state mask old) (masked_state mask new) c.requires.known settled
+    ClosesClientLogs-gates size s c.args.slot fault (masked_state mask old) (masked_state mask new) c.requires.known settled
     (ClosesGates-masked mask s.frames c.args.slot fault old new off_here (subst (λ (F : ℕ). ClosesGates F c.args.slot fault old new) frames (c.close_gates.ensures.closes t)))
 
 pub returns-clause-any : goal.returns-clause-any

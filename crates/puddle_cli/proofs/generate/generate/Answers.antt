@@ -4,7 +4,7 @@ use Rattle.pm_model.specs.Words.{reads}
 use Rattle.gen_work.specs.GenLines.{gen_lines}
 use Rattle.puddled.specs.declared.daemon.StartFault.TheVariants as starts
 use Rattle.puddled.specs.declared.daemon.RunFault.TheVariants as faults
-use Rattle.puddled.specs.Faults.{Ends}
+use Rattle.puddled.specs.Faults.{CountsToEnd}
 use Rattle.puddle_cli.proofs.Generating.{RunsLines-in_start, RunsLines-summed, lines_never_unsound, SaysSummary-part, SaysSummary-silent, SaysSummary-behind, text_whole}
 use Rattle.puddle_cli.proofs.Statuses.{fault_at_status, goes_on, stays_sound, usable_by, not_whole_of, not_whole_at}
 use Rattle.puddle_cli.proofs.generate.generate.Goals as goal
@@ -53,7 +53,7 @@ returns-in-Err-clause-completes g c = λ t rested sound no_fault no_cut.
     let size = (g.H.Host.counts c.args.h.now).size in
     let same = sym (ap (λ (x : Counts). x.size) c.in-Ok.ensures.cause) in
     let never = lines_never_unsound size (gen_lines c.args.seed c.args.count) _ _ _ _ _ _ c.in-Err.fault (λ w stands shelf. c.in-Ok.ensures.starts t size refl w rested stands shelf) (λ w ready. c.in-Err.ensures.sums t size same w ready) in
-    let ends = subst (λ (x : Counts). Ends (Some c.in-Err.fault) x (g.H.Host.counts c.sum_up.new.h)) c.in-Ok.ensures.cause c.in-Err.ensures.cause in
+    let ends = subst (λ (x : Counts). CountsToEnd (Some c.in-Err.fault) x (g.H.Host.counts c.sum_up.new.h)) c.in-Ok.ensures.cause c.in-Err.ensures.cause in
     absurd (goes_on (g.H.Host.counts c.args.h.now) (g.H.Host.counts c.sum_up.new.h) no_fault no_cut c.in-Err.fault ends (stays_sound size (reads (g.H.Host.state c.args.h.now).now.words) _ refl sound c.in-Err.fault never))
 
 -- ---- what is said, whatever the device holds

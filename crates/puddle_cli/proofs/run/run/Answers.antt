@@ -3,7 +3,7 @@ use Rattle.pm_model.specs.Counts.{Counts}
 use Rattle.pm_model.specs.Words.{reads}
 use Rattle.puddled.specs.declared.daemon.StartFault.TheVariants as starts
 use Rattle.puddled.specs.declared.daemon.RunFault.TheVariants as faults
-use Rattle.puddled.specs.Faults.{Ends}
+use Rattle.puddled.specs.Faults.{CountsToEnd}
 use Rattle.puddle_cli.specs.Headline.{TakesScript}
 use Rattle.puddle_cli.proofs.Running.{TakesScript-unstarted, TakesScript-served, Headline-in_start, Headline-served, never_unsound, script_left, fault_at_end}
 use Rattle.puddle_cli.proofs.Statuses.{fault_at_status, goes_on, stays_sound, usable_by, not_whole_of}
@@ -56,7 +56,7 @@ returns-in-Err-clause-completes g c = λ t rested sound no_fault no_cut.
     let size = (g.H.Host.counts c.args.h.now).size in
     let same = sym (ap (λ (x : Counts). x.size) c.in-Ok.ensures.cause) in
     let never = never_unsound size _ _ _ _ _ _ c.in-Err.fault (λ w stands shelf. c.in-Ok.ensures.starts t size refl w rested stands shelf) true _ _ (λ w ready. c.in-Err.ensures.answered t size same w ready) in
-    let ends = subst (λ (x : Counts). Ends (Some c.in-Err.fault) x (g.H.Host.counts c.serve.new.h)) c.in-Ok.ensures.cause c.in-Err.ensures.cause in
+    let ends = subst (λ (x : Counts). CountsToEnd (Some c.in-Err.fault) x (g.H.Host.counts c.serve.new.h)) c.in-Ok.ensures.cause c.in-Err.ensures.cause in
     absurd (goes_on (g.H.Host.counts c.args.h.now) (g.H.Host.counts c.serve.new.h) no_fault no_cut c.in-Err.fault ends (stays_sound size (reads (g.H.Host.state c.args.h.now).now.words) _ refl sound c.in-Err.fault never))
 
 pub returns-in-Err-NotSound-clause-takes : goal.returns-in-Err-NotSound-clause-takes

@@ -5,7 +5,7 @@ use Rattle.pm_model.specs.Counts.{Counts}
 use Rattle.pud_defs.specs.Run.{last_world, open_rest}
 use Rattle.puddled.specs.declared.daemon.RunFault.{RunFault}
 use Rattle.puddled.specs.Faults.{of_host}
-use Rattle.puddled.proofs.Counted.{Ends-host, host_is_sound}
+use Rattle.puddled.proofs.Counted.{CountsToEnd-host, host_is_sound}
 use Rattle.puddle_cli.specs.Source.{bytes_left}
 use Rattle.puddle_cli.specs.Serving.{TakesOne}
 use Rattle.puddle_cli.proofs.Answering.{counts_nothing_more, ready_read, AnswersLine-as, Answered-newline, Answered-so_far, Serves-line, Serves-byte, Takes-more, TakesAtMost-takes, KeepsScript-still, left_kept, took_aloud}
@@ -72,7 +72,7 @@ returns-in-Some-clause-takes g c = λ t all count start so_far.
 pub returns-in_err-next-clause-cause : goal.returns-in_err-next-clause-cause
 returns-in_err-next-clause-cause g c =
     let p = err_from_is_err_and c.from_residual.result c.from_residual.ensures.1 in
-    rw (p.1, p.2) (Ends-host c.in_err-next.field-0.0 _ _ c.in_err-next.ensures.cause c.in_err-next.ensures.never_cut)
+    rw (p.1, p.2) (CountsToEnd-host c.in_err-next.field-0.0 _ _ c.in_err-next.ensures.cause c.in_err-next.ensures.never_cut)
 
 -- ---- what is said, whatever the device holds
 

@@ -2,7 +2,7 @@ use Rattle.std.proofs.Common.{arith, true, false, Result, None, refl, sym, subst
 use Rattle.std.proofs.lemmas.Result.{err_from_is_err_and}
 use Rattle.pud_defs.specs.Run.{last_world, open_rest}
 use Rattle.puddled.specs.declared.daemon.RunFault.{RunFault}
-use Rattle.puddled.proofs.Counted.{none_is_sound, size_of_ends, Grows-still, Grows-then, Ends-none, Ends-then}
+use Rattle.puddled.proofs.Counted.{none_is_sound, size_of_ends, Grows-still, Grows-then, CountsToEnd-none, CountsToEnd-then}
 use Rattle.puddle_cli.specs.Source.{is_aloud, bytes_left}
 use Rattle.puddle_cli.specs.declared.run.Served.{Served}
 use Rattle.puddle_cli.specs.Serving.{AnsweredBy}
@@ -61,7 +61,7 @@ returns-clause-answered g c = λ t size e w ready.
 pub returns-in_err-refused-clause-cause : goal.returns-in_err-refused-clause-cause
 returns-in_err-refused-clause-cause g c =
     let p = err_from_is_err_and c.from_residual-in_err-refused.result c.from_residual-in_err-refused.ensures.1 in
-    rw (p.1, p.2) (Ends-then _ _ _ _ (Grows-then _ _ _ c.loop-taken.invariant.counts (Ends-none _ _ c.in_ok-serve_byte.ensures.cause)) c.in_err-refused.ensures.cause)
+    rw (p.1, p.2) (CountsToEnd-then _ _ _ _ (Grows-then _ _ _ c.loop-taken.invariant.counts (CountsToEnd-none _ _ c.in_ok-serve_byte.ensures.cause)) c.in_err-refused.ensures.cause)
 
 -- ---- what is said, whatever the device holds
 

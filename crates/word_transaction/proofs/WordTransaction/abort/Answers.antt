@@ -6,14 +6,14 @@ use Rattle.log_replay.specs.declared.Target.TheVariants.{Puddles}
 use Rattle.log_replay.specs.Replaying.{place_of, IsReplayable, HasDurableLog, IsSettling, SettlesLog}
 use Rattle.log_replay.proofs.Applying.{any_wider}
 use Rattle.word_transaction.specs.Scope.{saved}
-use Rattle.word_transaction.proofs.Undone.{Closes-empty, Gives-running}
+use Rattle.word_transaction.proofs.Undone.{AbortsTransaction-empty, Gives-running}
 use Rattle.word_transaction.proofs.Settled.{replayable, durable_log, Closes-settled}
 use Rattle.word_transaction.proofs.WordTransaction.abort.Goals as goal
 
 pub returns-then-used-eq0-clause-closes : goal.returns-then-used-eq0-clause-closes
 returns-then-used-eq0-clause-closes g c =
     rw (← c.self.view_is) (λ t size same ground es before is r places table.
-    Closes-empty size _ es ground before (fault_of c.close.result) _ _ is r (sym c.used-used.ensures.used ∙ c.if-used-eq0.true) (c.close.ensures.persists t))
+    AbortsTransaction-empty size _ es ground before (fault_of c.close.result) _ _ is r (sym c.used-used.ensures.used ∙ c.if-used-eq0.true) (c.close.ensures.persists t))
 
 pub returns-then-used-eq0-clause-any : goal.returns-then-used-eq0-clause-any
 returns-then-used-eq0-clause-any g c = λ t. any_wider _ (fault_of c.close.result) _ _ (c.close.ensures.persists t).changes

@@ -2,7 +2,7 @@ use Rattle.std.proofs.Common.{◌≡◌, Err, sym, ap, ◌∙◌}
 use Rattle.pm_model.specs.Counts.{fault_of}
 use Rattle.log_store.specs.Store.{append_fault}
 use Rattle.log_store.specs.declared.AppendFault.TheVariants.{TooBig}
-use Rattle.word_transaction.proofs.Saving.{Runs-append}
+use Rattle.word_transaction.proofs.Saving.{KeepsRunning-append}
 use Rattle.word_transaction.proofs.WordTransaction.append.Goals.{in-Ok, in-Err-Host}
 use Rattle.word_transaction.proofs.WordTransaction.append.Goals as goal
 
@@ -17,4 +17,4 @@ returns-clause-runs g c =
       | in-Err-Host w ↦ λ big. absurd (let it = ap Err (sym w.in-Err-Host.field-0-is) ∙ sym w.in-Err-Host.is ∙ big in cc)
     ] in
     rw (← fault, ← c.self.view_is) (λ t size is ground es before stands running may.
-    Runs-append size ground _ es before _ _ _ _ _ stands running may room (c.append.ensures.changes t) (c.append.ensures.appends t es running.opened))
+    KeepsRunning-append size ground _ es before _ _ _ _ _ stands running may room (c.append.ensures.changes t) (c.append.ensures.appends t es running.opened))
