@@ -7,8 +7,8 @@ use Rattle.std.proofs.lemmas.List.Elements.{All-head, All-tail}
 use Rattle.pud_defs.specs.declared.log_words.TheConstants.{UNDO_ORDER, REDO_ORDER, COMMITTING_LO, COMMITTING_HI}
 use Rattle.pud_defs.specs.Image.{Image}
 use Rattle.pud_defs.specs.Entries.{Entry, Log, log_of, is_idle_gate}
-use Rattle.pud_defs.specs.Replay.{device_word, value_at, is_in_range, given_by, undone, redone, new_value, overwritten, replayed, IsInLog, is_in_log, settled_by}
-use Rattle.pud_defs.proofs.Replay.{or_none, or_assoc, undone-first, redone-first, undone-none, redone-none, new_value-of, settled_by-inside, settled_by-outside, settled_by-idle, within_log}
+use Rattle.pud_defs.specs.Replay.{device_word, value_at, is_in_range, given_by, undo_value, redo_value, new_value, overwritten, replayed, IsInLog, is_in_log, settled_by}
+use Rattle.pud_defs.proofs.Replay.{or_none, or_assoc, undo_value-first, redo_value-first, undo_value-none, redo_value-none, new_value-of, settled_by-inside, settled_by-outside, settled_by-idle, within_log}
 use Rattle.log_replay.specs.Replaying.{NamesApart}
 use Rattle.log_replay.proofs.Left.{value_from-apart}
 use Rattle.batch.specs.Batches.{batch_write, committed, IsBatchEntry, AreBatched}
@@ -27,17 +27,17 @@ undo_given es e k b =
     let other : (is_in_range (committed es) e && eqb e.order UNDO_ORDER) ≡ false = ap₂ (λ (x : Bool) (n : ℕ). x && eqb n UNDO_ORDER) (counts es e b) b.order in
     cond-false _ _ _ other
 
-redone_written : (log : List Entry) (es : List Entry) (k : ℕ) → AreBatched es → redone device_word (committed log) es k ≡ batch_write es k
+redone_written : (log : List Entry) (es : List Entry) (k : ℕ) → AreBatched es → redo_value device_word (committed log) es k ≡ batch_write es k
 unfolding batch_write
-redone_written log [] k b = redone-none device_word (committed log) k
+redone_written log [] k b = redo_value-none device_word (committed log) k
 redone_written log (e ∷ es) k b =
-    redone-first device_word (committed log) e es k
+    redo_value-first device_word (committed log) e es k
     ∙ ap₂ option_or (redone_written log es k (All-tail IsBatchEntry e es b)) (redo_given log e k (All-head IsBatchEntry e es b))
 
-undone_nothing : (log : List Entry) (es : List Entry) (k : ℕ) → AreBatched es → undone device_word (committed log) es k ≡ None
-undone_nothing log [] k b = undone-none device_word (committed log) k
+undone_nothing : (log : List Entry) (es : List Entry) (k : ℕ) → AreBatched es → undo_value device_word (committed log) es k ≡ None
+undone_nothing log [] k b = undo_value-none device_word (committed log) k
 undone_nothing log (e ∷ es) k b =
-    undone-first device_word (committed log) e es k
+    undo_value-first device_word (committed log) e es k
     ∙ ap₂ option_or (undo_given log e k (All-head IsBatchEntry e es b)) (undone_nothing log es k (All-tail IsBatchEntry e es b))
 
 pub new_value-committed : (es : List Entry) (k : ℕ) → AreBatched es → new_value device_word (committed es) k ≡ batch_write es k

@@ -144,11 +144,11 @@ impl Tx {
         requires room { (self.old).units + SET_UNITS ≤ LOG_ENTRY_WORDS }
         ensures at { (self.new).log.gate_at ≡ (self.old).log.gate_at }
         ensures changes { H.tells → Changes (ByTransaction (pool_scope frames pool.now) (self.old).log.gate_at) (fault_of result) (H.state h.old) (H.state h.new) }
-        ensures runs { H.tells → (types : List (ℕ × ℕ)) (before : Image) (undone : Graph) (now : Graph) (deferred : List DeferredValue) → IsPlaced frames pool.now
-            → IsRewrittenFor frames pool.now (reads (H.state h.old).now.words) s → IsOpenOn frames pool.now types (self.old).log before undone now deferred (H.state h.old).now.words → MaySet types now s f x
-            → KeepsOpenOn frames pool.now types (self.new).log before undone (with_field s f x now) deferred (fault_of result) (H.state h.old) (H.state h.new) }
-        ensures counts { H.tells → (types : List (ℕ × ℕ)) (before : Image) (undone : Graph) (now : Graph) (deferred : List DeferredValue) → IsPlaced frames pool.now
-            → IsOpenOn frames pool.now types (self.old).log before undone now deferred (H.state h.old).now.words → MaySet types now s f x
+        ensures runs { H.tells → (types : List (ℕ × ℕ)) (before : Image) (graph_before : Graph) (now : Graph) (deferred : List DeferredValue) → IsPlaced frames pool.now
+            → IsRewrittenFor frames pool.now (reads (H.state h.old).now.words) s → IsOpenOn frames pool.now types (self.old).log before graph_before now deferred (H.state h.old).now.words → MaySet types now s f x
+            → KeepsOpenOn frames pool.now types (self.new).log before graph_before (with_field s f x now) deferred (fault_of result) (H.state h.old) (H.state h.new) }
+        ensures counts { H.tells → (types : List (ℕ × ℕ)) (before : Image) (graph_before : Graph) (now : Graph) (deferred : List DeferredValue) → IsPlaced frames pool.now
+            → IsOpenOn frames pool.now types (self.old).log before graph_before now deferred (H.state h.old).now.words → MaySet types now s f x
             → IfOk result (λ _. (self.new).units ≡ (self.old).units + SET_UNITS) }
         ensures nothing { H.tells → All (λ e. is_legal_base e.1.base ≡ true) pool.now
             → (place_in_pool frames pool.now (reads (H.state h.old).now.words) s ≡ Option.None) ⊎ (word_for frames pool.now (reads (H.state h.old).now.words) x ≡ Option.None)
@@ -183,10 +183,10 @@ impl Tx {
         requires room { (self.old).units + SET_UNITS ≤ LOG_ENTRY_WORDS }
         ensures at { (self.new).log.gate_at ≡ (self.old).log.gate_at }
         ensures changes { H.tells → Changes (ByTransaction (pool_scope frames pool.now) (self.old).log.gate_at) (fault_of result) (H.state h.old) (H.state h.new) }
-        ensures runs { H.tells → (types : List (ℕ × ℕ)) (before : Image) (undone : Graph) (now : Graph) (deferred : List DeferredValue) (s : ℕ) (x : Val) → IsPlaced frames pool.now
-            → IsRewrittenFor frames pool.now (reads (H.state h.old).now.words) s → IsOpenOn frames pool.now types (self.old).log before undone now deferred (H.state h.old).now.words → MaySet types now s f x
+        ensures runs { H.tells → (types : List (ℕ × ℕ)) (before : Image) (graph_before : Graph) (now : Graph) (deferred : List DeferredValue) (s : ℕ) (x : Val) → IsPlaced frames pool.now
+            → IsRewrittenFor frames pool.now (reads (H.state h.old).now.words) s → IsOpenOn frames pool.now types (self.old).log before graph_before now deferred (H.state h.old).now.words → MaySet types now s f x
             → place_in_pool frames pool.now (reads (H.state h.old).now.words) s ≡ Option.Some (place_of_slot at.now) → word_for frames pool.now (reads (H.state h.old).now.words) x ≡ Option.Some word
-            → KeepsOpenOn frames pool.now types (self.new).log before undone (with_field s f x now) deferred (fault_of result) (H.state h.old) (H.state h.new) }
+            → KeepsOpenOn frames pool.now types (self.new).log before graph_before (with_field s f x now) deferred (fault_of result) (H.state h.old) (H.state h.new) }
         ensures counts { IfOk result (λ _. (self.new).units ≡ (self.old).units + SET_UNITS) }
         ensures cause { H.counts h.new ≡ after_fault (fault_of result) (H.counts h.old) }
     {
@@ -257,12 +257,12 @@ impl Tx {
         requires room { (self.old).units + NEW_UNITS ≤ LOG_ENTRY_WORDS }
         ensures at { (self.new).log.gate_at ≡ (self.old).log.gate_at }
         ensures changes { H.tells → Changes (ByTransaction (pool_scope frames pool.now) (self.old).log.gate_at) (fault_of result) (H.state h.old) (H.state h.new) }
-        ensures runs { H.tells → (types : List (ℕ × ℕ)) (m : ℕ) (before : Image) (undone : Graph) (now : Graph) (deferred : List DeferredValue) → IsPlaced frames pool.now
-            → IsOpenOn frames pool.now types (self.old).log before undone now deferred (H.state h.old).now.words → map_of t types ≡ Option.Some m → now.next_serial < NUMBER_LIMIT
+        ensures runs { H.tells → (types : List (ℕ × ℕ)) (m : ℕ) (before : Image) (graph_before : Graph) (now : Graph) (deferred : List DeferredValue) → IsPlaced frames pool.now
+            → IsOpenOn frames pool.now types (self.old).log before graph_before now deferred (H.state h.old).now.words → map_of t types ≡ Option.Some m → now.next_serial < NUMBER_LIMIT
             → IsRewrittenAt pool.now 0 → IsRewrittenAt pool.now at.now.ordinal → IsFreePlace (stored_in frames pool.now (reads (H.state h.old).now.words)) (place_of_slot at.now)
-            → KeepsOpenOn frames pool.now types (self.new).log before undone (with_new (blank_object t m) now) deferred (fault_of result) (H.state h.old) (H.state h.new) }
-        ensures makes { H.tells → (types : List (ℕ × ℕ)) (before : Image) (undone : Graph) (now : Graph) (deferred : List DeferredValue) → IsPlaced frames pool.now
-            → IsOpenOn frames pool.now types (self.old).log before undone now deferred (H.state h.old).now.words → now.next_serial < NUMBER_LIMIT
+            → KeepsOpenOn frames pool.now types (self.new).log before graph_before (with_new (blank_object t m) now) deferred (fault_of result) (H.state h.old) (H.state h.new) }
+        ensures makes { H.tells → (types : List (ℕ × ℕ)) (before : Image) (graph_before : Graph) (now : Graph) (deferred : List DeferredValue) → IsPlaced frames pool.now
+            → IsOpenOn frames pool.now types (self.old).log before graph_before now deferred (H.state h.old).now.words → now.next_serial < NUMBER_LIMIT
             → IsRewrittenAt pool.now 0 → IsRewrittenAt pool.now at.now.ordinal
             → MakesIn frames pool.now (self.old).log.gate_at at.now t (fault_of result) (H.state h.old) (H.state h.new) }
         ensures serial { H.tells → (types : List (ℕ × ℕ)) (now : Graph) → graph_of types (stored_in frames pool.now (reads (H.state h.old).now.words)) ≡ Option.Some now
@@ -298,12 +298,12 @@ impl Tx {
         requires room { (self.old).units + NEW_UNITS ≤ LOG_ENTRY_WORDS }
         ensures at { (self.new).log.gate_at ≡ (self.old).log.gate_at }
         ensures changes { H.tells → Changes (ByTransaction (pool_scope frames pool.now) (self.old).log.gate_at) (fault_of result) (H.state h.old) (H.state h.new) }
-        ensures runs { H.tells → (types : List (ℕ × ℕ)) (m : ℕ) (before : Image) (undone : Graph) (now : Graph) (deferred : List DeferredValue) → IsPlaced frames pool.now
-            → IsOpenOn frames pool.now types (self.old).log before undone now deferred (H.state h.old).now.words → map_of t types ≡ Option.Some m → now.next_serial < NUMBER_LIMIT
+        ensures runs { H.tells → (types : List (ℕ × ℕ)) (m : ℕ) (before : Image) (graph_before : Graph) (now : Graph) (deferred : List DeferredValue) → IsPlaced frames pool.now
+            → IsOpenOn frames pool.now types (self.old).log before graph_before now deferred (H.state h.old).now.words → map_of t types ≡ Option.Some m → now.next_serial < NUMBER_LIMIT
             → IsRewrittenAt pool.now 0 → IsRewrittenAtLowest frames pool.now (reads (H.state h.old).now.words) → (AreAllLive (stored_in frames pool.now (reads (H.state h.old).now.words)) → ⊥)
-            → KeepsOpenOn frames pool.now types (self.new).log before undone (with_new (blank_object t m) now) deferred (fault_of result) (H.state h.old) (H.state h.new) }
-        ensures makes { H.tells → (types : List (ℕ × ℕ)) (before : Image) (undone : Graph) (now : Graph) (deferred : List DeferredValue) → IsPlaced frames pool.now
-            → IsOpenOn frames pool.now types (self.old).log before undone now deferred (H.state h.old).now.words → now.next_serial < NUMBER_LIMIT
+            → KeepsOpenOn frames pool.now types (self.new).log before graph_before (with_new (blank_object t m) now) deferred (fault_of result) (H.state h.old) (H.state h.new) }
+        ensures makes { H.tells → (types : List (ℕ × ℕ)) (before : Image) (graph_before : Graph) (now : Graph) (deferred : List DeferredValue) → IsPlaced frames pool.now
+            → IsOpenOn frames pool.now types (self.old).log before graph_before now deferred (H.state h.old).now.words → now.next_serial < NUMBER_LIMIT
             → IsRewrittenAt pool.now 0 → IsRewrittenAtLowest frames pool.now (reads (H.state h.old).now.words) → (slot : Slot) → IsSlotOf pool.now slot → IsLowestFreeSlot (stored_in frames pool.now (reads (H.state h.old).now.words)) (place_of_slot slot)
             → MakesIn frames pool.now (self.old).log.gate_at slot t (fault_of result) (H.state h.old) (H.state h.new) }
         ensures serial { H.tells → (types : List (ℕ × ℕ)) (now : Graph) → graph_of types (stored_in frames pool.now (reads (H.state h.old).now.words)) ≡ Option.Some now
@@ -368,10 +368,10 @@ impl Tx {
         requires room { (self.old).units + SET_UNITS ≤ LOG_ENTRY_WORDS }
         ensures at { (self.new).log.gate_at ≡ (self.old).log.gate_at }
         ensures changes { H.tells → Changes (ByTransaction (pool_scope frames pool.now) (self.old).log.gate_at) (fault_of result) (H.state h.old) (H.state h.new) }
-        ensures runs { H.tells → (types : List (ℕ × ℕ)) (before : Image) (undone : Graph) (now : Graph) (deferred : List DeferredValue) (s : ℕ) → IsPlaced frames pool.now
-            → IsRewrittenFor frames pool.now (reads (H.state h.old).now.words) s → IsOpenOn frames pool.now types (self.old).log before undone now deferred (H.state h.old).now.words → MayFree now s → deferred_set_names s deferred ≡ false
+        ensures runs { H.tells → (types : List (ℕ × ℕ)) (before : Image) (graph_before : Graph) (now : Graph) (deferred : List DeferredValue) (s : ℕ) → IsPlaced frames pool.now
+            → IsRewrittenFor frames pool.now (reads (H.state h.old).now.words) s → IsOpenOn frames pool.now types (self.old).log before graph_before now deferred (H.state h.old).now.words → MayFree now s → deferred_set_names s deferred ≡ false
             → place_in_pool frames pool.now (reads (H.state h.old).now.words) s ≡ Option.Some (place_of_slot at.now)
-            → KeepsOpenOn frames pool.now types (self.new).log before undone (without_object s now) deferred (fault_of result) (H.state h.old) (H.state h.new) }
+            → KeepsOpenOn frames pool.now types (self.new).log before graph_before (without_object s now) deferred (fault_of result) (H.state h.old) (H.state h.new) }
         ensures counts { IfOk result (λ _. (self.new).units ≡ (self.old).units + SET_UNITS) }
         ensures cause { H.counts h.new ≡ after_fault (fault_of result) (H.counts h.old) }
     {
@@ -398,11 +398,11 @@ impl Tx {
         requires room { (self.old).units + SET_UNITS ≤ LOG_ENTRY_WORDS }
         ensures at { (self.new).log.gate_at ≡ (self.old).log.gate_at }
         ensures changes { H.tells → Changes (ByTransaction (pool_scope frames pool.now) (self.old).log.gate_at) (fault_of result) (H.state h.old) (H.state h.new) }
-        ensures runs { H.tells → (types : List (ℕ × ℕ)) (before : Image) (undone : Graph) (now : Graph) (deferred : List DeferredValue) → IsPlaced frames pool.now
-            → IsRewrittenFor frames pool.now (reads (H.state h.old).now.words) s → IsOpenOn frames pool.now types (self.old).log before undone now deferred (H.state h.old).now.words → MayFree now s → deferred_set_names s deferred ≡ false
-            → KeepsOpenOn frames pool.now types (self.new).log before undone (without_object s now) deferred (fault_of result) (H.state h.old) (H.state h.new) }
-        ensures counts { H.tells → (types : List (ℕ × ℕ)) (before : Image) (undone : Graph) (now : Graph) (deferred : List DeferredValue)
-            → IsOpenOn frames pool.now types (self.old).log before undone now deferred (H.state h.old).now.words → MayFree now s
+        ensures runs { H.tells → (types : List (ℕ × ℕ)) (before : Image) (graph_before : Graph) (now : Graph) (deferred : List DeferredValue) → IsPlaced frames pool.now
+            → IsRewrittenFor frames pool.now (reads (H.state h.old).now.words) s → IsOpenOn frames pool.now types (self.old).log before graph_before now deferred (H.state h.old).now.words → MayFree now s → deferred_set_names s deferred ≡ false
+            → KeepsOpenOn frames pool.now types (self.new).log before graph_before (without_object s now) deferred (fault_of result) (H.state h.old) (H.state h.new) }
+        ensures counts { H.tells → (types : List (ℕ × ℕ)) (before : Image) (graph_before : Graph) (now : Graph) (deferred : List DeferredValue)
+            → IsOpenOn frames pool.now types (self.old).log before graph_before now deferred (H.state h.old).now.words → MayFree now s
             → IfOk result (λ _. (self.new).units ≡ (self.old).units + SET_UNITS) }
         ensures nothing { H.tells → place_in_pool frames pool.now (reads (H.state h.old).now.words) s ≡ Option.None
             → (H.state h.new ≡ H.state h.old) × (self.new ≡ self.old) }
@@ -434,11 +434,11 @@ impl Tx {
         requires room { (self.old).units + SET_UNITS ≤ LOG_ENTRY_WORDS }
         ensures at { (self.new).log.gate_at ≡ (self.old).log.gate_at }
         ensures changes { H.tells → Changes (ByTransaction (pool_scope frames pool.now) (self.old).log.gate_at) (fault_of result) (H.state h.old) (H.state h.new) }
-        ensures runs { H.tells → (types : List (ℕ × ℕ)) (before : Image) (undone : Graph) (now : Graph) (deferred : List DeferredValue) → IsPlaced frames pool.now
-            → IsRewrittenAt pool.now 0 → IsOpenOn frames pool.now types (self.old).log before undone now deferred (H.state h.old).now.words → MayName now s
-            → KeepsOpenOn frames pool.now types (self.new).log before undone (with_root s now) deferred (fault_of result) (H.state h.old) (H.state h.new) }
-        ensures counts { H.tells → (types : List (ℕ × ℕ)) (before : Image) (undone : Graph) (now : Graph) (deferred : List DeferredValue) → IsPlaced frames pool.now
-            → IsOpenOn frames pool.now types (self.old).log before undone now deferred (H.state h.old).now.words → MayName now s
+        ensures runs { H.tells → (types : List (ℕ × ℕ)) (before : Image) (graph_before : Graph) (now : Graph) (deferred : List DeferredValue) → IsPlaced frames pool.now
+            → IsRewrittenAt pool.now 0 → IsOpenOn frames pool.now types (self.old).log before graph_before now deferred (H.state h.old).now.words → MayName now s
+            → KeepsOpenOn frames pool.now types (self.new).log before graph_before (with_root s now) deferred (fault_of result) (H.state h.old) (H.state h.new) }
+        ensures counts { H.tells → (types : List (ℕ × ℕ)) (before : Image) (graph_before : Graph) (now : Graph) (deferred : List DeferredValue) → IsPlaced frames pool.now
+            → IsOpenOn frames pool.now types (self.old).log before graph_before now deferred (H.state h.old).now.words → MayName now s
             → IfOk result (λ _. (self.new).units ≡ (self.old).units + SET_UNITS) }
         ensures nothing { H.tells → All (λ e. is_legal_base e.1.base ≡ true) pool.now
             → (length pool.now ≡ 0) ⊎ (word_for frames pool.now (reads (H.state h.old).now.words) (Val.Ref s) ≡ Option.None)
@@ -469,12 +469,12 @@ impl Tx {
         requires room { (self.old).units + SET_UNITS ≤ LOG_ENTRY_WORDS }
         ensures at { (self.new).log.gate_at ≡ (self.old).log.gate_at }
         ensures changes { H.tells → Changes (ByTransaction (pool_scope frames pool.now) (self.old).log.gate_at) (fault_of result) (H.state h.old) (H.state h.new) }
-        ensures runs { H.tells → (types : List (ℕ × ℕ)) (before : Image) (undone : Graph) (now : Graph) (deferred : List DeferredValue) (s : ℕ) → IsPlaced frames pool.now
-            → IsRewrittenAt pool.now 0 → IsOpenOn frames pool.now types (self.old).log before undone now deferred (H.state h.old).now.words
+        ensures runs { H.tells → (types : List (ℕ × ℕ)) (before : Image) (graph_before : Graph) (now : Graph) (deferred : List DeferredValue) (s : ℕ) → IsPlaced frames pool.now
+            → IsRewrittenAt pool.now 0 → IsOpenOn frames pool.now types (self.old).log before graph_before now deferred (H.state h.old).now.words
             → word_for frames pool.now (reads (H.state h.old).now.words) (Val.Ref s) ≡ Option.Some word
-            → KeepsOpenOn frames pool.now types (self.new).log before undone (with_root s now) deferred (fault_of result) (H.state h.old) (H.state h.new) }
-        ensures counts { H.tells → (types : List (ℕ × ℕ)) (before : Image) (undone : Graph) (now : Graph) (deferred : List DeferredValue)
-            → IsOpenOn frames pool.now types (self.old).log before undone now deferred (H.state h.old).now.words → IfOk result (λ _. (self.new).units ≡ (self.old).units + SET_UNITS) }
+            → KeepsOpenOn frames pool.now types (self.new).log before graph_before (with_root s now) deferred (fault_of result) (H.state h.old) (H.state h.new) }
+        ensures counts { H.tells → (types : List (ℕ × ℕ)) (before : Image) (graph_before : Graph) (now : Graph) (deferred : List DeferredValue)
+            → IsOpenOn frames pool.now types (self.old).log before graph_before now deferred (H.state h.old).now.words → IfOk result (λ _. (self.new).units ≡ (self.old).units + SET_UNITS) }
         ensures nothing { length pool.now ≡ 0 → (H.state h.new ≡ H.state h.old) × (self.new ≡ self.old) }
         ensures cause { H.counts h.new ≡ after_fault (fault_of result) (H.counts h.old) }
     {

@@ -40,10 +40,10 @@ impl Tx {
     pub fn commit<H: Host>(self, h: &mut H, frames: u32) -> Result<(), HostFault>
         requires log { self.log.gate_at + LOG_WORDS ≤ (H.counts h.old).size }
         requires tables { HasPuddleTable frames (H.counts h.old).size }
-        ensures ends { H.tells → (pool : List (ℕ × Puddle)) (types : List (ℕ × ℕ)) (before : Image) (undone : Graph) (now : Graph) (deferred : List DeferredValue) → IsPlaced frames pool
-            → device_words frames ≤ (H.counts h.old).size → self.log.gate_at + LOG_WORDS ≤ frames_at frames → IsOpenOn frames pool types self.log before undone now deferred (H.state h.old).now.words
+        ensures ends { H.tells → (pool : List (ℕ × Puddle)) (types : List (ℕ × ℕ)) (before : Image) (graph_before : Graph) (now : Graph) (deferred : List DeferredValue) → IsPlaced frames pool
+            → device_words frames ≤ (H.counts h.old).size → self.log.gate_at + LOG_WORDS ≤ frames_at frames → IsOpenOn frames pool types self.log before graph_before now deferred (H.state h.old).now.words
             → (deferred ≢ [] → CanRedo (pool_scope frames (finished_of pool)) frames self.log.gate_at (H.state h.old).now.words)
-            → CommitsOnPool frames pool types self.log.gate_at before undone (with_deferred_set deferred now) (fault_of result) (H.state h.old) (H.state h.new) }
+            → CommitsOnPool frames pool types self.log.gate_at before graph_before (with_deferred_set deferred now) (fault_of result) (H.state h.old) (H.state h.new) }
         ensures gate { H.tells → (es : List Entry) → IsOpen self.log es (H.state h.old).now.words → defers es ≡ false → Changes (ByCommit self.log) (fault_of result) (H.state h.old) (H.state h.new) }
         ensures any { H.tells → Changes Anything (fault_of result) (H.state h.old) (H.state h.new) }
         ensures cause { H.counts h.new ≡ after_fault (fault_of result) (H.counts h.old) }
@@ -65,10 +65,10 @@ impl Tx {
     pub fn abort<H: Host>(self, h: &mut H, frames: u32) -> Result<(), HostFault>
         requires log { self.log.gate_at + LOG_WORDS ≤ (H.counts h.old).size }
         requires tables { HasPuddleTable frames (H.counts h.old).size }
-        ensures closes { H.tells → (pool : List (ℕ × Puddle)) (types : List (ℕ × ℕ)) (before : Image) (undone : Graph) (now : Graph) (deferred : List DeferredValue) → IsPlaced frames pool
-            → device_words frames ≤ (H.counts h.old).size → self.log.gate_at + LOG_WORDS ≤ frames_at frames → IsOpenOn frames pool types self.log before undone now deferred (H.state h.old).now.words
+        ensures closes { H.tells → (pool : List (ℕ × Puddle)) (types : List (ℕ × ℕ)) (before : Image) (graph_before : Graph) (now : Graph) (deferred : List DeferredValue) → IsPlaced frames pool
+            → device_words frames ≤ (H.counts h.old).size → self.log.gate_at + LOG_WORDS ≤ frames_at frames → IsOpenOn frames pool types self.log before graph_before now deferred (H.state h.old).now.words
             → HasPlaces (pool_scope frames (finished_of pool)) (puddle_word (tables_of frames (reads (H.state h.old).now.words))) → HasOneTable frames (H.state h.old).now.words
-            → AbortsOnPool frames pool types self.log.gate_at before undone (fault_of result) (H.state h.old) (H.state h.new) }
+            → AbortsOnPool frames pool types self.log.gate_at before graph_before (fault_of result) (H.state h.old) (H.state h.new) }
         ensures any { H.tells → Changes Anything (fault_of result) (H.state h.old) (H.state h.new) }
         ensures cause { H.counts h.new ≡ after_fault (fault_of result) (H.counts h.old) }
     {

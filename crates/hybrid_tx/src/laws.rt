@@ -75,8 +75,8 @@ pub fn deferred_entries_make_the_graph()
 
 /// Behind a call within a transaction on a pool that did not fail one is open, on the next graph, with what is asked for later.
 pub fn transaction_stays_open()
-    ensures { (frames : ℕ) (at : List (ℕ × Puddle)) (types : List (ℕ × ℕ)) (log : OpenLog) (before : Image) (undone : Graph) (next : Graph) (deferred : List DeferredValue) (old : State) (new : State)
-        → KeepsOpenOn frames at types log before undone next deferred Option.None old new → IsOpenOn frames at types log before undone next deferred new.now.words }
+    ensures { (frames : ℕ) (at : List (ℕ × Puddle)) (types : List (ℕ × ℕ)) (log : OpenLog) (before : Image) (graph_before : Graph) (next : Graph) (deferred : List DeferredValue) (old : State) (new : State)
+        → KeepsOpenOn frames at types log before graph_before next deferred Option.None old new → IsOpenOn frames at types log before graph_before next deferred new.now.words }
 {}
 
 /// With the log replayed an image has the graph of the words that it settles to, where the words of the puddles that are not finished are these too.
@@ -88,12 +88,12 @@ pub fn settled_pool_has_the_graph()
 
 /// Where a transaction was committed none is open any more, and the pool has the new graph.
 pub fn committed_pool_is_at_rest()
-    ensures { (frames : ℕ) (at : List (ℕ × Puddle)) (types : List (ℕ × ℕ)) (log : ℕ) (before : Image) (undone : Graph) (next : Graph) (old : State) (new : State)
-        → CommitsOnPool frames at types log before undone next Option.None old new → IsAtRest frames at types log next new.now.words }
+    ensures { (frames : ℕ) (at : List (ℕ × Puddle)) (types : List (ℕ × ℕ)) (log : ℕ) (before : Image) (graph_before : Graph) (next : Graph) (old : State) (new : State)
+        → CommitsOnPool frames at types log before graph_before next Option.None old new → IsAtRest frames at types log next new.now.words }
 {}
 
 /// Where a transaction was undone none is open any more, and the pool has the graph from the beginning.
 pub fn undone_pool_is_at_rest()
-    ensures { (frames : ℕ) (at : List (ℕ × Puddle)) (types : List (ℕ × ℕ)) (log : ℕ) (before : Image) (undone : Graph) (old : State) (new : State)
-        → AbortsOnPool frames at types log before undone Option.None old new → IsAtRest frames at types log undone new.now.words }
+    ensures { (frames : ℕ) (at : List (ℕ × Puddle)) (types : List (ℕ × ℕ)) (log : ℕ) (before : Image) (graph_before : Graph) (old : State) (new : State)
+        → AbortsOnPool frames at types log before graph_before Option.None old new → IsAtRest frames at types log graph_before new.now.words }
 {}

@@ -32,11 +32,11 @@ ghost use Rattle.hybrid_tx.specs.Objects.Transactions.{IsOpenOn};
 /// A transaction on a pool stays open, with the same graphs and the same deferred values, beside calls that give no value to a word of its log or of
 /// the pool's frames, unless power is lost. Types may be defined meanwhile, by which each pool keeps the graph that it has.
 pub fn transaction_stays_open_beside_calls()
-    ensures { (frames : ℕ) (at : List (ℕ × Puddle)) (types : List (ℕ × ℕ)) (more : List (ℕ × ℕ)) (log : OpenLog) (before : Image) (undone : Graph) (now : Graph) (deferred : List DeferredValue)
+    ensures { (frames : ℕ) (at : List (ℕ × Puddle)) (types : List (ℕ × ℕ)) (more : List (ℕ × ℕ)) (log : OpenLog) (before : Image) (graph_before : Graph) (now : Graph) (deferred : List DeferredValue)
         → (fault : Option HostFault) (old : State) (new : State) → Changes (λ k _. (is_in_log log.gate_at k ≡ false) × (pool_has_word frames at k ≡ false)) fault old new → fault ≢ Option.Some Cut
         → ((id : ℕ) (m : ℕ) → map_of id types ≡ Option.Some m → map_of id more ≡ Option.Some m)
         → ((stored : Stored) (g : Graph) → graph_of types stored ≡ Option.Some g → graph_of more stored ≡ Option.Some g)
-        → IsOpenOn frames at types log before undone now deferred old.now.words → IsOpenOn frames at more log before undone now deferred new.now.words }
+        → IsOpenOn frames at types log before graph_before now deferred old.now.words → IsOpenOn frames at more log before graph_before now deferred new.now.words }
 {}
 
 /// What one open transaction may write, the words of its log and of its pool's frames, is masked by no other: it is a word of no other's log, of no other's
@@ -50,8 +50,8 @@ pub fn words_of_one_are_masked_by_no_other()
 /// An image that may be left while a transaction is open on a pool is left with it open: where each word of the records that it rests on has its value
 /// from the beginning and no other, and the daemon log names none of its words.
 pub fn image_picked_is_left_with_it_open()
-    ensures { (frames : ℕ) (p : OpenPool) (types : List (ℕ × ℕ)) (log : OpenLog) (before : Image) (undone : Graph) (now : Graph) (deferred : List DeferredValue) (words : Words) (image : Image)
-        → log.gate_at ≡ log_number_at frames p.log_number → IsOpenOn frames p.puddles types log before undone now deferred words → Picks words image
+    ensures { (frames : ℕ) (p : OpenPool) (types : List (ℕ × ℕ)) (log : OpenLog) (before : Image) (graph_before : Graph) (now : Graph) (deferred : List DeferredValue) (words : Words) (image : Image)
+        → log.gate_at ≡ log_number_at frames p.log_number → IsOpenOn frames p.puddles types log before graph_before now deferred words → Picks words image
         → ((k : ℕ) → is_open_record p k ≡ true → HasOnly (words k) (before k))
         → ((k : ℕ) (v : ℕ) → open_mask frames p before k ≡ Option.Some v → new_value device_word (log_of image DAEMON_LOG) k ≡ Option.None)
         → IsLeftOpen frames p before image }

@@ -7,8 +7,8 @@ use Rattle.std.proofs.lemmas.List.Elements.{All-head, All-tail}
 use Rattle.pud_defs.specs.declared.log_words.TheConstants.{UNDO_ORDER, REDO_ORDER}
 use Rattle.pud_defs.specs.Image.{Image}
 use Rattle.pud_defs.specs.Entries.{Entry, Log}
-use Rattle.pud_defs.specs.Replay.{Place, device_word, is_in_range, value_from, value_in, given_by, undone, redone, over, IsInLog}
-use Rattle.pud_defs.proofs.Replay.{value_at-apart, undone-first, undone-none, redone-first, redone-none}
+use Rattle.pud_defs.specs.Replay.{Place, device_word, is_in_range, value_from, value_in, given_by, undo_value, redo_value, over, IsInLog}
+use Rattle.pud_defs.proofs.Replay.{value_at-apart, undo_value-first, undo_value-none, redo_value-first, redo_value-none}
 use Rattle.log_entry.specs.declared.Entry.{Entry as Found}
 use Rattle.log_entry.specs.Reading.{Reading, entries_left, entry_from, left_before}
 use Rattle.log_entry.proofs.Left.{taken, none_left}
@@ -26,18 +26,18 @@ given_by-nothing place log order e k none =
       | inl counts ↦ cond-true _ _ _ counts ∙ none ((and_parts (is_in_range log e) (eqb e.order order) counts).0)
     ]
 
-undone-nothing : (place : Place) (log : Log) (es : List Entry) (k : ℕ) → All (λ e. IsTrue (is_in_range log e) → value_in place e k ≡ None) es → undone place log es k ≡ None
-undone-nothing place log [] k none = undone-none place log k
-undone-nothing place log (e ∷ es) k none =
-    undone-first place log e es k
+undo_value-nothing : (place : Place) (log : Log) (es : List Entry) (k : ℕ) → All (λ e. IsTrue (is_in_range log e) → value_in place e k ≡ None) es → undo_value place log es k ≡ None
+undo_value-nothing place log [] k none = undo_value-none place log k
+undo_value-nothing place log (e ∷ es) k none =
+    undo_value-first place log e es k
     ∙ ap₂ option_or (given_by-nothing place log UNDO_ORDER e k (All-head (λ x. IsTrue (is_in_range log x) → value_in place x k ≡ None) e es none))
-    (undone-nothing place log es k (All-tail (λ x. IsTrue (is_in_range log x) → value_in place x k ≡ None) e es none))
+    (undo_value-nothing place log es k (All-tail (λ x. IsTrue (is_in_range log x) → value_in place x k ≡ None) e es none))
 
-redone-nothing : (place : Place) (log : Log) (es : List Entry) (k : ℕ) → All (λ e. IsTrue (is_in_range log e) → value_in place e k ≡ None) es → redone place log es k ≡ None
-redone-nothing place log [] k none = redone-none place log k
-redone-nothing place log (e ∷ es) k none =
-    redone-first place log e es k
-    ∙ ap₂ option_or (redone-nothing place log es k (All-tail (λ x. IsTrue (is_in_range log x) → value_in place x k ≡ None) e es none))
+redo_value-nothing : (place : Place) (log : Log) (es : List Entry) (k : ℕ) → All (λ e. IsTrue (is_in_range log e) → value_in place e k ≡ None) es → redo_value place log es k ≡ None
+redo_value-nothing place log [] k none = redo_value-none place log k
+redo_value-nothing place log (e ∷ es) k none =
+    redo_value-first place log e es k
+    ∙ ap₂ option_or (redo_value-nothing place log es k (All-tail (λ x. IsTrue (is_in_range log x) → value_in place x k ≡ None) e es none))
     (given_by-nothing place log REDO_ORDER e k (All-head (λ x. IsTrue (is_in_range log x) → value_in place x k ≡ None) e es none))
 
 -- ---- they give nothing to the words of their log
@@ -47,11 +47,11 @@ value_from-apart size at k place e names inside =
     ap (λ (o : Option ℕ). value_from o e.vals k) names.placed
     ∙ value_at-apart names.first k e.vals (⊎_elim (λ before. inr (omega arith)) (λ behind. inl (omega arith)) names.apart)
 
-pub undone-apart : (place : Place) (size at : ℕ) (log : Log) (es : List Entry) → AreApart place size at log es → (k : ℕ) → IsInLog at k → undone place log es k ≡ None
-undone-apart place size at log es apart k inside = undone-nothing place log es k (λ n d below within. value_from-apart size at k place (get_or es n d) (apart n d below within) inside)
+pub undo_value-apart : (place : Place) (size at : ℕ) (log : Log) (es : List Entry) → AreApart place size at log es → (k : ℕ) → IsInLog at k → undo_value place log es k ≡ None
+undo_value-apart place size at log es apart k inside = undo_value-nothing place log es k (λ n d below within. value_from-apart size at k place (get_or es n d) (apart n d below within) inside)
 
-pub redone-apart : (place : Place) (size at : ℕ) (log : Log) (es : List Entry) → AreApart place size at log es → (k : ℕ) → IsInLog at k → redone place log es k ≡ None
-redone-apart place size at log es apart k inside = redone-nothing place log es k (λ n d below within. value_from-apart size at k place (get_or es n d) (apart n d below within) inside)
+pub redo_value-apart : (place : Place) (size at : ℕ) (log : Log) (es : List Entry) → AreApart place size at log es → (k : ℕ) → IsInLog at k → redo_value place log es k ≡ None
+redo_value-apart place size at log es apart k inside = redo_value-nothing place log es k (λ n d below within. value_from-apart size at k place (get_or es n d) (apart n d below within) inside)
 
 -- ---- nor to those of which their places are read
 
@@ -60,11 +60,11 @@ module _ (to : Target) (image : Image) (place : Place) (same : place_of to image
   value_in-unplaced e None there = refl
   value_in-unplaced e (Some w) there = value_at-apart w k e.vals (inl (place_above to image place same k placing e.address w there))
 
-  pub undone-unplaced : (es : List Entry) → undone place log es k ≡ None
-  undone-unplaced es = undone-nothing place log es k (λ n d below within. value_in-unplaced (get_or es n d) (place (get_or es n d).address) refl)
+  pub undone-unplaced : (es : List Entry) → undo_value place log es k ≡ None
+  undone-unplaced es = undo_value-nothing place log es k (λ n d below within. value_in-unplaced (get_or es n d) (place (get_or es n d).address) refl)
 
-  pub redone-unplaced : (es : List Entry) → redone place log es k ≡ None
-  redone-unplaced es = redone-nothing place log es k (λ n d below within. value_in-unplaced (get_or es n d) (place (get_or es n d).address) refl)
+  pub redone-unplaced : (es : List Entry) → redo_value place log es k ≡ None
+  redone-unplaced es = redo_value-nothing place log es k (λ n d below within. value_in-unplaced (get_or es n d) (place (get_or es n d).address) refl)
 
 -- ---- one entry of a copy is read
 
@@ -92,16 +92,16 @@ is_first size log image found entry old now es some before left within =
 -- ---- what the entries left give, by the one that is read
 
 module _ (size : ℕ) (log : Log) (image : Image) (entry : Found) (now : Reading) (es : List Entry) (f : IsFirst size log image entry now es) where
-  pub undone-found : (w : ℕ) → undone device_word log es w ≡ over (undone device_word log f.behind) (given_by device_word log UNDO_ORDER (entry_from image entry)) w
-  undone-found w = ap (λ (fs : List Entry). undone device_word log fs w) f.is ∙ undone-first device_word log (entry_from image entry) f.behind w
+  pub undone-found : (w : ℕ) → undo_value device_word log es w ≡ over (undo_value device_word log f.behind) (given_by device_word log UNDO_ORDER (entry_from image entry)) w
+  undone-found w = ap (λ (fs : List Entry). undo_value device_word log fs w) f.is ∙ undo_value-first device_word log (entry_from image entry) f.behind w
 
-  pub redone-found : (w : ℕ) → redone device_word log es w ≡ over (given_by device_word log REDO_ORDER (entry_from image entry)) (redone device_word log f.behind) w
-  redone-found w = ap (λ (fs : List Entry). redone device_word log fs w) f.is ∙ redone-first device_word log (entry_from image entry) f.behind w
+  pub redone-found : (w : ℕ) → redo_value device_word log es w ≡ over (given_by device_word log REDO_ORDER (entry_from image entry)) (redo_value device_word log f.behind) w
+  redone-found w = ap (λ (fs : List Entry). redo_value device_word log fs w) f.is ∙ redo_value-first device_word log (entry_from image entry) f.behind w
 
-pub undone-end : (log : Log) (old now : Reading) (found : Option Found) (es : List Entry) (image : Image) → found ≡ None → entries_left image old ≡ left_before image found now
-    → entries_left image old ≡ Some es → (w : ℕ) → undone device_word log es w ≡ None
-undone-end log old now found es image none before left w = ap (λ (fs : List Entry). undone device_word log fs w) (none_left image found old now es none before left) ∙ undone-none device_word log w
+pub undo_value-end : (log : Log) (old now : Reading) (found : Option Found) (es : List Entry) (image : Image) → found ≡ None → entries_left image old ≡ left_before image found now
+    → entries_left image old ≡ Some es → (w : ℕ) → undo_value device_word log es w ≡ None
+undo_value-end log old now found es image none before left w = ap (λ (fs : List Entry). undo_value device_word log fs w) (none_left image found old now es none before left) ∙ undo_value-none device_word log w
 
-pub redone-end : (log : Log) (old now : Reading) (found : Option Found) (es : List Entry) (image : Image) → found ≡ None → entries_left image old ≡ left_before image found now
-    → entries_left image old ≡ Some es → (w : ℕ) → redone device_word log es w ≡ None
-redone-end log old now found es image none before left w = ap (λ (fs : List Entry). redone device_word log fs w) (none_left image found old now es none before left) ∙ redone-none device_word log w
+pub redo_value-end : (log : Log) (old now : Reading) (found : Option Found) (es : List Entry) (image : Image) → found ≡ None → entries_left image old ≡ left_before image found now
+    → entries_left image old ≡ Some es → (w : ℕ) → redo_value device_word log es w ≡ None
+redo_value-end log old now found es image none before left w = ap (λ (fs : List Entry). redo_value device_word log fs w) (none_left image found old now es none before left) ∙ redo_value-none device_word log w

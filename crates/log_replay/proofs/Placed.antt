@@ -5,8 +5,8 @@ use Rattle.std.proofs.lemmas.Bool.{cases_Bool, cond-true, cond-false}
 use Rattle.std.proofs.lemmas.List.Elements.{All-head, All-tail, All-nil, All-cons}
 use Rattle.pud_defs.specs.Image.{Image}
 use Rattle.pud_defs.specs.Entries.{Entry, Log, log_of}
-use Rattle.pud_defs.specs.Replay.{Place, device_word, is_in_range, value_from, given_by, given, undone, redone, new_value}
-use Rattle.pud_defs.proofs.Replay.{given_by-out, undone-first, undone-none, redone-first, redone-none, new_value-of}
+use Rattle.pud_defs.specs.Replay.{Place, device_word, is_in_range, value_from, given_by, given, undo_value, redo_value, new_value}
+use Rattle.pud_defs.proofs.Replay.{given_by-out, undo_value-first, undo_value-none, redo_value-first, redo_value-none, new_value-of}
 use Rattle.log_entry.specs.Copying.{Copied, log_copied, with_address}
 use Rattle.log_replay.specs.declared.Target.{Target}
 use Rattle.log_replay.specs.declared.Target.TheVariants as targets
@@ -73,22 +73,22 @@ module _ (place : Place) (size at : ℕ) (log : Log) where
     | inr out ↦ subst Within (sym (placed-out place log e out)) (λ in_range. absurd (let it : false ≡ true = sym out ∙ in_range in cc))
   ]
 
-  undone_placed : (es : List Entry) (w : ℕ) → AreApart place size at log es → undone device_word log (map f es) w ≡ undone place log es w
-  undone_placed [] w apart = undone-none device_word log w ∙ sym (undone-none place log w)
+  undone_placed : (es : List Entry) (w : ℕ) → AreApart place size at log es → undo_value device_word log (map f es) w ≡ undo_value place log es w
+  undone_placed [] w apart = undo_value-none device_word log w ∙ sym (undo_value-none place log w)
   undone_placed (e ∷ es) w apart =
-      undone-first device_word log (f e) (map f es) w
+      undo_value-first device_word log (f e) (map f es) w
       ∙ ap₂ option_or (given_placed _ e w (All-head Apart e es apart)) (undone_placed es w (All-tail Apart e es apart))
-      ∙ sym (undone-first place log e es w)
+      ∙ sym (undo_value-first place log e es w)
 
-  redone_placed : (es : List Entry) (w : ℕ) → AreApart place size at log es → redone device_word log (map f es) w ≡ redone place log es w
-  redone_placed [] w apart = redone-none device_word log w ∙ sym (redone-none place log w)
+  redone_placed : (es : List Entry) (w : ℕ) → AreApart place size at log es → redo_value device_word log (map f es) w ≡ redo_value place log es w
+  redone_placed [] w apart = redo_value-none device_word log w ∙ sym (redo_value-none place log w)
   redone_placed (e ∷ es) w apart =
-      redone-first device_word log (f e) (map f es) w
+      redo_value-first device_word log (f e) (map f es) w
       ∙ ap₂ option_or (redone_placed es w (All-tail Apart e es apart)) (given_placed _ e w (All-head Apart e es apart))
-      ∙ sym (redone-first place log e es w)
+      ∙ sym (redo_value-first place log e es w)
 
   given_same : (es : List Entry) (w : ℕ) → AreApart place size at log es → given device_word (placed_log place log) (map f es) w ≡ given place log es w
-  unfolding undone redone
+  unfolding undo_value redo_value
   given_same es w apart = ap₂ option_or (redone_placed es w apart) (undone_placed es w apart)
 
   all_within : (es : List Entry) → AreApart place size at log es → AreWithinDevice size log (map f es)

@@ -19,7 +19,7 @@ use Rattle.pud_defs.proofs.Replay.{overwritten-again, new_value-of}
 use Rattle.log_replay.specs.declared.Target.{Target}
 use Rattle.log_replay.specs.Replaying.{place_of, IsPlacing, IsReplayable, HasDurableLog, AreApart, new_values, Named, Applies, ReplaysSame, Replays, ReplaysAgain}
 use Rattle.log_replay.proofs.Places.{places_same}
-use Rattle.log_replay.proofs.Left.{undone-apart, redone-apart, undone-unplaced, redone-unplaced}
+use Rattle.log_replay.proofs.Left.{undo_value-apart, redo_value-apart, undone-unplaced, redone-unplaced}
 
 -- ---- words that are read of the log, and of places
 
@@ -29,7 +29,7 @@ new_values-apart to size at es image r k inside =
     let place = place_of to image in
     let log = log_of image at in
     new_value-of place log es k r.spells
-    ∙ ap₂ option_or (redone-apart place size at log es r.apart k inside) (undone-apart place size at log es r.apart k inside)
+    ∙ ap₂ option_or (redo_value-apart place size at log es r.apart k inside) (undo_value-apart place size at log es r.apart k inside)
 
 -- nor to those of which places are read
 pub new_values-unplaced : (to : Target) (at : ℕ) (es : List Entry) (image : Image) → entries_of image at ≡ Some es → (k : ℕ) → IsPlacing to k → new_values to at image k ≡ None

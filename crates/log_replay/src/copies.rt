@@ -4,7 +4,7 @@ ghost use Rattle.pm_model.specs.Counts.{after_fault, fault_of};
 ghost use Rattle.pm_model.specs.Changes.{Changes};
 ghost use Rattle.pud_defs.specs.declared.log_words.TheConstants.{UNDO_ORDER, REDO_ORDER};
 ghost use Rattle.pud_defs.specs.Entries.{Entry as LoggedEntry, Log};
-ghost use Rattle.pud_defs.specs.Replay.{device_word, is_in_range, given_by, undone, redone, new_value};
+ghost use Rattle.pud_defs.specs.Replay.{device_word, is_in_range, given_by, undo_value, redo_value, new_value};
 ghost use Rattle.log_entry.specs.Reading.{entry_from, entries_left};
 ghost use Rattle.log_entry.specs.Copying.{image_of, log_copied, IsOfCopy};
 ghost use Rattle.log_replay.specs.Placing.{IsWithinDevice, AreWithinDevice};
@@ -36,7 +36,7 @@ fn apply<H: Host>(h: &mut H, copy: &LogCopy, order: u32, entry: &Entry) -> Resul
 /// Applies the undo entries that are left to read, the newest first.
 fn undo<H: Host>(h: &mut H, copy: &LogCopy, reader: &mut CopyReader) -> Result<(), HostFault>
     ensures undoes { H.tells → (size : ℕ) → size ≡ (H.counts h.old).size → (log : Log) → log_copied copy.now ≡ log → (es : List LoggedEntry)
-        → entries_left (image_of copy.now) reader.old ≡ Option.Some es → AreWithinDevice size log es → Applies (undone device_word log es) (fault_of result) (H.state h.old) (H.state h.new) }
+        → entries_left (image_of copy.now) reader.old ≡ Option.Some es → AreWithinDevice size log es → Applies (undo_value device_word log es) (fault_of result) (H.state h.old) (H.state h.new) }
     ensures any { H.tells → Changes Anything (fault_of result) (H.state h.old) (H.state h.new) }
     ensures cause { H.counts h.new ≡ after_fault (fault_of result) (H.counts h.old) }
 {
@@ -52,7 +52,7 @@ fn undo<H: Host>(h: &mut H, copy: &LogCopy, reader: &mut CopyReader) -> Result<(
 /// Applies the redo entries that are left to read, the oldest first.
 fn redo<H: Host>(h: &mut H, copy: &LogCopy, reader: &mut CopyReader) -> Result<(), HostFault>
     ensures redoes { H.tells → (size : ℕ) → size ≡ (H.counts h.old).size → (log : Log) → log_copied copy.now ≡ log → (es : List LoggedEntry)
-        → entries_left (image_of copy.now) reader.old ≡ Option.Some es → AreWithinDevice size log es → Applies (redone device_word log es) (fault_of result) (H.state h.old) (H.state h.new) }
+        → entries_left (image_of copy.now) reader.old ≡ Option.Some es → AreWithinDevice size log es → Applies (redo_value device_word log es) (fault_of result) (H.state h.old) (H.state h.new) }
     ensures any { H.tells → Changes Anything (fault_of result) (H.state h.old) (H.state h.new) }
     ensures cause { H.counts h.new ≡ after_fault (fault_of result) (H.counts h.old) }
 {

@@ -85,15 +85,15 @@ mask_agrees F p after before k same q = cond (is_in_log (log_number_at F p.log_n
 -- on so many frames of a device of so many words, with this log
 abbrev pub Undoes : (F sz : ℕ) → OpenLog → Option HostFault → State → State → Type 0
 Undoes F sz log fault old new =
-    (pool : List (ℕ × Puddle)) (types : List (ℕ × ℕ)) (before : Image) (undone : Graph) (seen : Graph) (deferred : List DeferredValue) → IsPlaced F pool → device_words F ≤ sz → log.gate_at + LOG_WORDS ≤ frames_at F
-    → IsOpenOn F pool types log before undone seen deferred old.now.words → HasPlaces (pool_scope F (finished_of pool)) (puddle_word (tables_of F (reads old.now.words))) → HasOneTable F old.now.words
-    → AbortsOnPool F pool types log.gate_at before undone fault old new
+    (pool : List (ℕ × Puddle)) (types : List (ℕ × ℕ)) (before : Image) (graph_before : Graph) (seen : Graph) (deferred : List DeferredValue) → IsPlaced F pool → device_words F ≤ sz → log.gate_at + LOG_WORDS ≤ frames_at F
+    → IsOpenOn F pool types log before graph_before seen deferred old.now.words → HasPlaces (pool_scope F (finished_of pool)) (puddle_word (tables_of F (reads old.now.words))) → HasOneTable F old.now.words
+    → AbortsOnPool F pool types log.gate_at before graph_before fault old new
 
 abbrev pub Commits : (F sz : ℕ) → OpenLog → Option HostFault → State → State → Type 0
 Commits F sz log fault old new =
-    (pool : List (ℕ × Puddle)) (types : List (ℕ × ℕ)) (before : Image) (undone : Graph) (seen : Graph) (deferred : List DeferredValue) → IsPlaced F pool → device_words F ≤ sz → log.gate_at + LOG_WORDS ≤ frames_at F
-    → IsOpenOn F pool types log before undone seen deferred old.now.words → (deferred ≢ [] → CanRedo (pool_scope F (finished_of pool)) F log.gate_at old.now.words)
-    → CommitsOnPool F pool types log.gate_at before undone (with_deferred_set deferred seen) fault old new
+    (pool : List (ℕ × Puddle)) (types : List (ℕ × ℕ)) (before : Image) (graph_before : Graph) (seen : Graph) (deferred : List DeferredValue) → IsPlaced F pool → device_words F ≤ sz → log.gate_at + LOG_WORDS ≤ frames_at F
+    → IsOpenOn F pool types log before graph_before seen deferred old.now.words → (deferred ≢ [] → CanRedo (pool_scope F (finished_of pool)) F log.gate_at old.now.words)
+    → CommitsOnPool F pool types log.gate_at before graph_before (with_deferred_set deferred seen) fault old new
 
 -- a transaction writes no word in front of the clients' logs
 behind_tables : (F number : ℕ) (at : List (ℕ × Puddle)) (k v : ℕ) → ByTransaction (pool_scope F at) (log_number_at F number) k v → BehindTables F k v
@@ -143,9 +143,9 @@ module _ (size : ℕ) (w : World) (memory : Memory) (number : ℕ) (active : Act
   -- ---- undone
 
   module _ (F sz : ℕ) (fault : Option HostFault) (new : State) (on : F ≡ n) (same : size ≡ sz) (undoes : Undoes F sz active.tx.log fault old new) where
-    closes : AbortsOnPool n is.puddles w.stored.types active.tx.log.gate_at is.before is.undone fault old new
+    closes : AbortsOnPool n is.puddles w.stored.types active.tx.log.gate_at is.before is.graph_before fault old new
     closes =
-        subst (λ (m : ℕ). Undoes m sz active.tx.log fault old new) on undoes is.puddles w.stored.types is.before is.undone is.transaction.now is.transaction.deferred placed (omega (arith, same, room)) log_apart is.running active_places active_table
+        subst (λ (m : ℕ). Undoes m sz active.tx.log fault old new) on undoes is.puddles w.stored.types is.before is.graph_before is.transaction.now is.transaction.deferred placed (omega (arith, same, room)) log_apart is.running active_places active_table
 
     pub undone_behind : Changes (BehindTables n) fault old new
     undone_behind =
@@ -154,7 +154,7 @@ module _ (size : ℕ) (w : World) (memory : Memory) (number : ℕ) (active : Act
 
     pub Applies-aborted : Applies size w (world_without_log (Some active) w) (with_ended number active memory) fault old new
     Applies-aborted =
-        Applies-ended size w memory number active old ready there is.before (λ k other. refl) w.stored.pools (world_before size w memory number active old ready there) (λ name apart. refl) is.undone is.running.was fault new
+        Applies-ended size w memory number active old ready there is.before (λ k other. refl) w.stored.pools (world_before size w memory number active old ready there) (λ name apart. refl) is.graph_before is.running.was fault new
         (EndsBy-closes (pool_scope n (finished_of is.puddles)) active.tx.log.gate_at is.before fault old new closes.closes)
 
   -- ---- committed
@@ -244,7 +244,7 @@ module _ (size : ℕ) (w : World) (memory : Memory) (number : ℕ) (active : Act
     pub Applies-committed : (F sz : ℕ) (fault : Option HostFault) (new : State) → F ≡ n → size ≡ sz → Commits F sz active.tx.log fault old new
         → Applies size w (after w (Commit client active.name)) (with_ended number active memory) fault old new
     Applies-committed F sz fault new on same commits =
-        let e = subst (λ (m : ℕ). Commits m sz active.tx.log fault old new) on commits is.puddles w.stored.types is.before is.undone is.transaction.now is.transaction.deferred placed (omega (arith, same, room)) log_apart is.running
+        let e = subst (λ (m : ℕ). Commits m sz active.tx.log fault old new) on commits is.puddles w.stored.types is.before is.graph_before is.transaction.now is.transaction.deferred placed (omega (arith, same, room)) log_apart is.running
         (λ some. can_redo) in
         subst (λ (v : World). Applies size w v (with_ended number active memory) fault old new) (sym committed_world)
         (Applies-ended size w memory number active old ready there (values e.after e.is e.beside) (values_beside e.after e.is e.beside) (pools_after e.after e.is e.beside) (stands_after e.after e.is e.beside) (pools_beside e.after e.is e.beside) made

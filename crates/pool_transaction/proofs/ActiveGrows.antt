@@ -168,7 +168,7 @@ module _ (size : ℕ) (w : World) (memory : Memory) (active : ActiveTransaction)
         used = ap (λ (t : Tables). t.pools a.puddle.pool) (tables_read size w memory old ready) ∙ ap (tables_of F image).pools slot_is ∙ used_still w active ready.mask old.now.words is;
       };
       is = subst (λ (t : Tables). IsNext t w.stored.next_number) (sym (tables_read size w memory old ready)) (subst (IsNext (tables_of F image)) (header_read size w memory old ready).next_number next_read);
-      grown = inl (is.undone, its_graph size w memory active old number there ready, ap (λ (name : List ℕ). with_grown_pool name w.stored) (sym is.name));
+      grown = inl (is.graph_before, its_graph size w memory active old number there ready, ap (λ (name : List ℕ). with_grown_pool name w.stored) (sym is.name));
     }
 
   module _ (by : GrowsBy F active.slot is.puddles image a) (fault : Option HostFault) (new : State) (grows : OwesGrowth F fault new) (worlds : OwesWorld F fault new) where

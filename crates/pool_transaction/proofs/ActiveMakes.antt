@@ -96,7 +96,7 @@ module _ (size : ℕ) (w : World) (memory : Memory) (active : ActiveTransaction)
     -- what a call owes that makes an object in a slot, on these puddles
     abbrev OwesMakes : (slot : Slot) (id : ℕ) → Option HostFault → State → List (ℕ × Puddle) → Type 0
     OwesMakes slot id fault new puddles =
-        IsPlaced F puddles → IsOpenOn F puddles w.stored.types active.tx.log is.before is.undone is.transaction.now is.transaction.deferred old.now.words → is.transaction.now.next_serial < NUMBER_LIMIT
+        IsPlaced F puddles → IsOpenOn F puddles w.stored.types active.tx.log is.before is.graph_before is.transaction.now is.transaction.deferred old.now.words → is.transaction.now.next_serial < NUMBER_LIMIT
         → MakesIn F puddles active.tx.log.gate_at slot id fault old new
 
     -- it makes it in this one
@@ -105,8 +105,8 @@ module _ (size : ℕ) (w : World) (memory : Memory) (active : ActiveTransaction)
         let may = may_make (map_of id w.stored.types) active.tx.units (next_in (graph_seen (open_on active.name w) (pool_named active.name w.stored))) none in
         owes
         (subst (IsPlaced F) (sym listed) (subst (λ (n : ℕ). IsPlaced n is.puddles) (sym same) (active_placed size w memory active old number there ready)))
-        (subst (λ (puddles : List (ℕ × Puddle)). IsOpenOn F puddles w.stored.types active.tx.log is.before is.undone is.transaction.now is.transaction.deferred old.now.words) (sym listed)
-        (subst (λ (n : ℕ). IsOpenOn n is.puddles w.stored.types active.tx.log is.before is.undone is.transaction.now is.transaction.deferred old.now.words) (sym same) is.running))
+        (subst (λ (puddles : List (ℕ × Puddle)). IsOpenOn F puddles w.stored.types active.tx.log is.before is.graph_before is.transaction.now is.transaction.deferred old.now.words) (sym listed)
+        (subst (λ (n : ℕ). IsOpenOn n is.puddles w.stored.types active.tx.log is.before is.graph_before is.transaction.now is.transaction.deferred old.now.words) (sym same) is.running))
         (subst (λ (n : ℕ). n < NUMBER_LIMIT) next_serial may.left)
 
     module _ (id : ℕ) (none : refusal_by_world w active id ≡ None) (tx : OpenTx) (new : State) (gate : tx.log.gate_at ≡ active.tx.log.gate_at) where
@@ -126,4 +126,4 @@ module _ (size : ℕ) (w : World) (memory : Memory) (active : ActiveTransaction)
           let at_first = owed size w memory active old number there ready F at same listed tx new gate (charged NEW_UNITS (with_new (blank_object id may.is))) (fault_of done) (runs may.is may.defined left) in
           Applies-runs size w memory active old number there ready (subst (KnowsAlone memory.judged active.slot) listed known) tx NEW_UNITS (charged NEW_UNITS (with_new (object_made w id))) (Charges-charged NEW_UNITS (with_new (object_made w id))) (fault_of done) new gate
           (used_more done NEW_UNITS tx.units active.tx.units used)
-          (subst (λ (change : Graph → Graph). KeepsOpenOn w.stored.frames is.puddles w.stored.types tx.log is.before is.undone (change is.transaction.now) is.transaction.deferred (fault_of done) old new) the_object at_first)
+          (subst (λ (change : Graph → Graph). KeepsOpenOn w.stored.frames is.puddles w.stored.types tx.log is.before is.graph_before (change is.transaction.now) is.transaction.deferred (fault_of done) old new) the_object at_first)

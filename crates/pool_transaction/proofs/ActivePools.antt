@@ -56,13 +56,13 @@ module _ (size : ℕ) (w : World) (memory : Memory) (active : ActiveTransaction)
   st = stored_in F is.puddles (reads s.now.words)
 
   -- the world has it
-  pub its_pool : HasPool (pool_named active.name w.stored) is.undone
-  its_pool = has_pool (pool_named active.name w.stored) is.undone is.stored
+  pub its_pool : HasPool (pool_named active.name w.stored) is.graph_before
+  its_pool = has_pool (pool_named active.name w.stored) is.graph_before is.stored
 
   pub by_record : pool_named is.rec.name w.stored ≡ Some its_pool.pool
   by_record = ap (λ (name : List ℕ). pool_named name w.stored) is.name ∙ its_pool.there
 
-  pub its_graph : HoldsGraph is.rec.name w.stored is.undone
+  pub its_graph : HoldsGraph is.rec.name w.stored is.graph_before
   its_graph = record { pool = its_pool.pool; there = by_record; holds = its_pool.holds }
 
   -- with as many puddles as the tables have

@@ -163,7 +163,7 @@ module _ (size : ℕ) (w : World) (memory : Memory) (s : State) (ready : IsReady
 
   -- it is open on these puddles, by these types and with this log, in a state
   abbrev pub IsOpenIn : State → ℕ → List (ℕ × Puddle) → List (ℕ × ℕ) → OpenLog → Type 0
-  IsOpenIn then frames at types log = IsOpenOn frames at types log is.before is.undone is.transaction.now is.transaction.deferred then.now.words
+  IsOpenIn then frames at types log = IsOpenOn frames at types log is.before is.graph_before is.transaction.now is.transaction.deferred then.now.words
 
   -- so it is by the types that are read, and its puddles lie as those of a ground
   open_read : (then : State) (frames : ℕ) (at : List (ℕ × Puddle)) (log : OpenLog) → then ≡ s → frames ≡ w.stored.frames → at ≡ is.puddles → log ≡ active.tx.log

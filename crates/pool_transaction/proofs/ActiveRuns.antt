@@ -199,7 +199,7 @@ module _ (size : ℕ) (w : World) (memory : Memory) (active : ActiveTransaction)
   -- the transaction was changed, and used so many units more
   module _ (known : KnowsAlone memory.judged active.slot is.puddles) (tx : OpenTx) (units : ℕ) (change : Transaction → Transaction) (charges : Charges units change) (fault : Option HostFault) (new : State) (at : tx.log.gate_at ≡ active.tx.log.gate_at)
       (used : fault ≡ None → tx.units ≡ active.tx.units + units)
-      (runs : KeepsOpenOn F is.puddles w.stored.types tx.log is.before is.undone (change is.transaction).now (change is.transaction).deferred fault old new) where
+      (runs : KeepsOpenOn F is.puddles w.stored.types tx.log is.before is.graph_before (change is.transaction).now (change is.transaction).deferred fault old new) where
     abbrev next : World
     next = record w { transactions = with_changed active.name change w.transactions }
 
@@ -225,7 +225,7 @@ module _ (size : ℕ) (w : World) (memory : Memory) (active : ActiveTransaction)
       who = is.who;
       puddles = is.puddles;
       before = is.before;
-      undone = is.undone;
+      graph_before = is.graph_before;
       transaction = change is.transaction;
       is = changed_there active.name w.transactions change is.transaction is.is;
       client = charges.client is.transaction ∙ is.client;

@@ -56,20 +56,20 @@ module _ (size : ℕ) (w : World) (memory : Memory) (active : ActiveTransaction)
     -- what a call owes that changes the transaction so, on these puddles
     abbrev pub OwesRuns : ℕ → List (ℕ × Puddle) → (change : Transaction → Transaction) → Option HostFault → Type 0
     OwesRuns n puddles change fault =
-        IsPlaced n puddles → IsOpenOn n puddles w.stored.types active.tx.log is.before is.undone is.transaction.now is.transaction.deferred old.now.words
-        → KeepsOpenOn n puddles w.stored.types tx.log is.before is.undone (change is.transaction).now (change is.transaction).deferred fault old new
+        IsPlaced n puddles → IsOpenOn n puddles w.stored.types active.tx.log is.before is.graph_before is.transaction.now is.transaction.deferred old.now.words
+        → KeepsOpenOn n puddles w.stored.types tx.log is.before is.graph_before (change is.transaction).now (change is.transaction).deferred fault old new
 
     -- and where it did not fail these units
     abbrev pub OwesUsed : ℕ → List (ℕ × Puddle) → {X : Type 0} → (units : ℕ) → Result X HostFault → Type 0
     OwesUsed n puddles units done =
-        IsPlaced n puddles → IsOpenOn n puddles w.stored.types active.tx.log is.before is.undone is.transaction.now is.transaction.deferred old.now.words → IfOk done (λ _. tx.units ≡ active.tx.units + units)
+        IsPlaced n puddles → IsOpenOn n puddles w.stored.types active.tx.log is.before is.graph_before is.transaction.now is.transaction.deferred old.now.words → IfOk done (λ _. tx.units ≡ active.tx.units + units)
 
     pub told : {X : Type 0} (units : ℕ) (done : Result X HostFault) → OwesUsed F at units done → IfOk done (λ _. tx.units ≡ active.tx.units + units)
     told units done used =
         subst (λ (n : ℕ). OwesUsed n is.puddles units done) same (subst (λ (puddles : List (ℕ × Puddle)). OwesUsed F puddles units done) listed used) (active_placed size w memory active old number there ready) is.running
 
     pub owed : (change : Transaction → Transaction) (fault : Option HostFault) → OwesRuns F at change fault
-        → KeepsOpenOn w.stored.frames is.puddles w.stored.types tx.log is.before is.undone (change is.transaction).now (change is.transaction).deferred fault old new
+        → KeepsOpenOn w.stored.frames is.puddles w.stored.types tx.log is.before is.graph_before (change is.transaction).now (change is.transaction).deferred fault old new
     owed change fault runs =
         subst (λ (n : ℕ). OwesRuns n is.puddles change fault) same (subst (λ (puddles : List (ℕ × Puddle)). OwesRuns F puddles change fault) listed runs) (active_placed size w memory active old number there ready) is.running
 

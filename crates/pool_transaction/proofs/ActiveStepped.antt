@@ -232,7 +232,7 @@ module _ (w : World) (active : ActiveTransaction) (mask : Write) (old new : Stat
             cc)
             (λ frontier. let below = frames.below o e next.here in absurd (omega arith))
 
-    pub running_stepped : IsOpenOn F at w.stored.types active.tx.log before is.undone is.transaction.now is.transaction.deferred new.now.words
+    pub running_stepped : IsOpenOn F at w.stored.types active.tx.log before is.graph_before is.transaction.now is.transaction.deferred new.now.words
     running_stepped =
         let r = is.running in
         let g = pool_scope F (finished_of is.puddles) in
@@ -247,7 +247,7 @@ module _ (w : World) (active : ActiveTransaction) (mask : Write) (old new : Stat
             defers = r.saving.defers;
           };
           rests = rests_stepped;
-          was = graph_over is.before before is.undone frame_was over_before r.was;
+          was = graph_over is.before before is.graph_before frame_was over_before r.was;
           is = graph_over (reads old.now.words) now is.transaction.now (λ k low. refl) read_over r.is;
           are = AreLaters-wider F is.puddles at w.stored.types w.stored.types (reads old.now.words) now is.transaction.now is.transaction.now (keeps F is.puddles goal o m e next) (record { each = λ id x there. there })
               (record { each = λ s object live. place_in_pool-spared F is.puddles at (reads old.now.words) now (batch_spares F is.puddles goal o m e old new next c frames) s }) (KeepsObjects-same is.transaction.now)
@@ -261,7 +261,7 @@ module _ (w : World) (active : ActiveTransaction) (mask : Write) (old new : Stat
       who = is.who;
       puddles = at;
       before = before;
-      undone = is.undone;
+      graph_before = is.graph_before;
       transaction = is.transaction;
       is = is.is;
       client = is.client;

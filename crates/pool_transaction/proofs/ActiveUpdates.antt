@@ -44,14 +44,14 @@ use Rattle.pool_transaction.proofs.ActiveFinishes.{its_frontiers, Applies-unfini
 -- what the call owes that makes the update which was found
 abbrev pub CarriesOut : (F : ℕ) → List (ℕ × Puddle) → Found → (log now : OpenLog) → Option HostFault → State → State → Type 0
 CarriesOut F at found log now fault old new =
-    (types : List (ℕ × ℕ)) (before : Image) (undone : Graph) (t : Transaction) (update : Update) → IsPlaced F at → IsRewrittenAt at (ordinal_written found)
-    → IsOpenOn F at types log before undone t.now t.deferred old.now.words → MayChange types t update → IsFoundBy F at (reads old.now.words) update found
-    → KeepsOpenOn F at types now before undone (changed_by update t).now (changed_by update t).deferred fault old new
+    (types : List (ℕ × ℕ)) (before : Image) (graph_before : Graph) (t : Transaction) (update : Update) → IsPlaced F at → IsRewrittenAt at (ordinal_written found)
+    → IsOpenOn F at types log before graph_before t.now t.deferred old.now.words → MayChange types t update → IsFoundBy F at (reads old.now.words) update found
+    → KeepsOpenOn F at types now before graph_before (changed_by update t).now (changed_by update t).deferred fault old new
 
 -- and of the units
 abbrev pub CountsOut : (F : ℕ) → List (ℕ × Puddle) → (tx now : OpenTx) → Result Unit HostFault → State → Type 0
 CountsOut F at tx now done old =
-    (types : List (ℕ × ℕ)) (before : Image) (undone : Graph) (seen : Graph) (deferred : List DeferredValue) → IsOpenOn F at types tx.log before undone seen deferred old.now.words
+    (types : List (ℕ × ℕ)) (before : Image) (graph_before : Graph) (seen : Graph) (deferred : List DeferredValue) → IsOpenOn F at types tx.log before graph_before seen deferred old.now.words
     → IfOk done (λ _. now.units ≡ tx.units + SET_UNITS)
 
 -- the memory that holds it on the puddles by which it knows the pool is the same
@@ -116,5 +116,5 @@ module _ (size : ℕ) (w : World) (memory : Memory) (active : ActiveTransaction)
         (with_opened active.log_number active.slot (with_tx tx active) later memory) (fault_of done) new
         (same_stored w active.client active.name update) (ap puddles_known known_then ∙ ap (λ (ds : List (ℕ × Puddle)). Some ds) finished)
         (Applies-line size w then active mid active.log_number its.there still_ready F lent on listed tx new gate (subst (KnowsAlone then.judged active.slot) (sym same) known_then) update done free
-        (λ may placed running. runs w.stored.types one.before one.undone one.transaction update placed rewritten_lent running may (found_lent by))
-        (λ placed running. counts w.stored.types one.before one.undone one.transaction.now one.transaction.deferred running)))
+        (λ may placed running. runs w.stored.types one.before one.graph_before one.transaction update placed rewritten_lent running may (found_lent by))
+        (λ placed running. counts w.stored.types one.before one.graph_before one.transaction.now one.transaction.deferred running)))

@@ -432,7 +432,7 @@ module _ (size : ℕ) (w : World) (memory : Memory) (old : State) (ready : IsRea
         who = may.who;
         puddles = at;
         before = now;
-        undone = may.graph;
+        graph_before = may.graph;
         transaction = begun_transaction;
         is = open_there name w.transactions (Some begun_transaction);
         client = refl;

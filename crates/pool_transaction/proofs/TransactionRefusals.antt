@@ -165,7 +165,7 @@ own_by : (w : World) (active : ActiveTransaction) (mask : Write) (words : Words)
 own_by w active mask words is =
     refusal_of-commit w active.client active.name
     ∙ ap₂ (λ (acts : Option Owner) (opened : Option Transaction). own_refusal acts (pool_named active.name w.stored) active.client opened) is.present is.is
-    ∙ own_refusal-open is.who (pool_named active.name w.stored) is.undone active.client is.transaction is.stored
+    ∙ own_refusal-open is.who (pool_named active.name w.stored) is.graph_before active.client is.transaction is.stored
     ∙ ap busy_unless (eq-eqb is.transaction.client active.client is.client)
 
 pub own_is_open : (w : World) (active : List (Option ActiveTransaction)) (mask : Write) (words : Words) (client : ℕ) (name : List ℕ) (number : ℕ) → AreActive w active mask words → IsOwnTransaction client name number active

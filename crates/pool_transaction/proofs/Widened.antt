@@ -187,7 +187,7 @@ module _ (w : World) (active : ActiveTransaction) (mask : Write) (words : Words)
           let known = is.pool.known in
           is_ground F (device_words F) active.tx.log.gate_at (finished_of is.puddles) placed_before (omega arith) (omega arith)
 
-      pub running_more : IsOpenOn F at w.stored.types active.tx.log before is.undone is.transaction.now is.transaction.deferred words
+      pub running_more : IsOpenOn F at w.stored.types active.tx.log before is.graph_before is.transaction.now is.transaction.deferred words
       running_more =
           let r = is.running in
           let g = pool_scope F (finished_of is.puddles) in
@@ -201,7 +201,7 @@ module _ (w : World) (active : ActiveTransaction) (mask : Write) (words : Words)
               defers = r.saving.defers;
             };
             rests = rests_more;
-            was = graph_longer w.stored.types F before is.puddles e is.undone some fresh_before (ap (graph_of w.stored.types) (stored_in-has_word F is.puddles is.before before pool_word) ∙ r.was);
+            was = graph_longer w.stored.types F before is.puddles e is.graph_before some fresh_before (ap (graph_of w.stored.types) (stored_in-has_word F is.puddles is.before before pool_word) ∙ r.was);
             is = graph_longer w.stored.types F now is.puddles e is.transaction.now some fresh r.is;
             are = AreLaters-wider F is.puddles at w.stored.types w.stored.types now now is.transaction.now is.transaction.now (keeps_front is.puddles at front) (record { each = λ id m is. is })
                 (places_longer w.stored.types F now is.puddles e is.transaction.now r.is) (KeepsObjects-same is.transaction.now) is.transaction.deferred r.redo r.are;
@@ -216,7 +216,7 @@ module _ (w : World) (active : ActiveTransaction) (mask : Write) (words : Words)
             who = is.who;
             puddles = at;
             before = before;
-            undone = is.undone;
+            graph_before = is.graph_before;
             transaction = is.transaction;
             is = ap (λ (o : List ℕ → Option Transaction). o active.name) grows.transactions ∙ is.is;
             client = is.client;
@@ -228,8 +228,8 @@ module _ (w : World) (active : ActiveTransaction) (mask : Write) (words : Words)
             stored = grows.stored ∙ is.stored;
             pool = subst (λ (m : ℕ). IsOpenPool m q before) back comes_more.pool;
             records = comes_more.records;
-            running = subst (λ (m : ℕ). IsOpenOn m at next.stored.types active.tx.log before is.undone is.transaction.now is.transaction.deferred words) back
-                (subst (λ (types : List (ℕ × ℕ)). IsOpenOn F at types active.tx.log before is.undone is.transaction.now is.transaction.deferred words) (sym grows.types) running_more);
+            running = subst (λ (m : ℕ). IsOpenOn m at next.stored.types active.tx.log before is.graph_before is.transaction.now is.transaction.deferred words) back
+                (subst (λ (types : List (ℕ × ℕ)). IsOpenOn F at types active.tx.log before is.graph_before is.transaction.now is.transaction.deferred words) (sym grows.types) running_more);
             masked = subst (λ (m : ℕ). (k v : ℕ) → open_mask m q before k ≡ Some v → anew k ≡ Some v) back masks;
           }
 

@@ -150,12 +150,12 @@ fn carry_out<H: Host>(
     requires room { (tx.old).units + SET_UNITS ≤ LOG_ENTRY_WORDS }
     ensures at { (tx.new).log.gate_at ≡ (tx.old).log.gate_at }
     ensures changes { H.tells → Changes (ByTransaction (pool_scope frames pool.now) (tx.old).log.gate_at) (fault_of result) (H.state h.old) (H.state h.new) }
-    ensures runs { H.tells → (types : List (ℕ × ℕ)) (before : Image) (undone : Graph) (t : Transaction) (update : Update) → IsPlaced frames pool.now → IsRewrittenAt pool.now (ordinal_written found)
-        → IsOpenOn frames pool.now types (tx.old).log before undone t.now t.deferred (H.state h.old).now.words → MayChange types t update
+    ensures runs { H.tells → (types : List (ℕ × ℕ)) (before : Image) (graph_before : Graph) (t : Transaction) (update : Update) → IsPlaced frames pool.now → IsRewrittenAt pool.now (ordinal_written found)
+        → IsOpenOn frames pool.now types (tx.old).log before graph_before t.now t.deferred (H.state h.old).now.words → MayChange types t update
         → IsFoundBy frames pool.now (reads (H.state h.old).now.words) update found
-        → KeepsOpenOn frames pool.now types (tx.new).log before undone (changed_by update t).now (changed_by update t).deferred (fault_of result) (H.state h.old) (H.state h.new) }
-    ensures counts { H.tells → (types : List (ℕ × ℕ)) (before : Image) (undone : Graph) (now : Graph) (deferred : List DeferredValue)
-        → IsOpenOn frames pool.now types (tx.old).log before undone now deferred (H.state h.old).now.words → IfOk result (λ _. (tx.new).units ≡ (tx.old).units + SET_UNITS) }
+        → KeepsOpenOn frames pool.now types (tx.new).log before graph_before (changed_by update t).now (changed_by update t).deferred (fault_of result) (H.state h.old) (H.state h.new) }
+    ensures counts { H.tells → (types : List (ℕ × ℕ)) (before : Image) (graph_before : Graph) (now : Graph) (deferred : List DeferredValue)
+        → IsOpenOn frames pool.now types (tx.old).log before graph_before now deferred (H.state h.old).now.words → IfOk result (λ _. (tx.new).units ≡ (tx.old).units + SET_UNITS) }
     ensures cause { H.counts h.new ≡ after_fault (fault_of result) (H.counts h.old) }
 {
     match found {

@@ -8,7 +8,7 @@ use Rattle.std.proofs.lemmas.Option.{none-some}
 use Rattle.std.proofs.lemmas.List.Elements.{All-nil, All-cons}
 use Rattle.pud_defs.specs.declared.layout.TheConstants.{FRAME_WORDS}
 use Rattle.pud_defs.specs.Entries.{Entry, Log}
-use Rattle.pud_defs.specs.Replay.{Place, is_in_range, entries_or_none, undone, redone, new_value}
+use Rattle.pud_defs.specs.Replay.{Place, is_in_range, entries_or_none, undo_value, redo_value, new_value}
 use Rattle.pud_defs.specs.Spaces.{Owner}
 use Rattle.pud_defs.specs.Frames.{frame_at}
 use Rattle.pud_defs.specs.Puddles.{Member}
@@ -16,7 +16,7 @@ use Rattle.pud_defs.specs.Places.{word_in, first_some, place_by, located}
 use Rattle.pud_defs.specs.Tables.{Tables}
 use Rattle.pud_defs.specs.Allowed.{puddle_word, may_write_puddle, are_writable, is_allowed_entry, are_allowed_entries, is_allowed_log, is_refused, is_accepted, counts_any}
 use Rattle.pud_defs.specs.Settled.{gives_to}
-use Rattle.pud_defs.proofs.Replay.{given_by-out, undone-first, redone-first, undone-none, redone-none}
+use Rattle.pud_defs.proofs.Replay.{given_by-out, undo_value-first, redo_value-first, undo_value-none, redo_value-none}
 use Rattle.pud_defs.proofs.Settled.{gives_nothing}
 
 -- ---- accepted, refused, or neither
@@ -37,22 +37,22 @@ accepted_not_refused t (Some who) log accepted = ap not accepted
 
 -- ---- a log none of whose entries counts
 
-undone-none_counts : (place : Place) (log : Log) (es : List Entry) (w : ℕ) → list_any (is_in_range log) es ≡ false → undone place log es w ≡ None
-undone-none_counts place log [] w none = undone-none place log w
-undone-none_counts place log (e ∷ es) w none =
+undo_value-none_counts : (place : Place) (log : Log) (es : List Entry) (w : ℕ) → list_any (is_in_range log) es ≡ false → undo_value place log es w ≡ None
+undo_value-none_counts place log [] w none = undo_value-none place log w
+undo_value-none_counts place log (e ∷ es) w none =
     let parts = or_parts (is_in_range log e) (list_any (is_in_range log) es) none in
-    undone-first place log e es w ∙ ap₂ option_or (given_by-out place log _ e w parts.0) (undone-none_counts place log es w parts.1)
+    undo_value-first place log e es w ∙ ap₂ option_or (given_by-out place log _ e w parts.0) (undo_value-none_counts place log es w parts.1)
 
-redone-none_counts : (place : Place) (log : Log) (es : List Entry) (w : ℕ) → list_any (is_in_range log) es ≡ false → redone place log es w ≡ None
-redone-none_counts place log [] w none = redone-none place log w
-redone-none_counts place log (e ∷ es) w none =
+redo_value-none_counts : (place : Place) (log : Log) (es : List Entry) (w : ℕ) → list_any (is_in_range log) es ≡ false → redo_value place log es w ≡ None
+redo_value-none_counts place log [] w none = redo_value-none place log w
+redo_value-none_counts place log (e ∷ es) w none =
     let parts = or_parts (is_in_range log e) (list_any (is_in_range log) es) none in
-    redone-first place log e es w ∙ ap₂ option_or (redone-none_counts place log es w parts.1) (given_by-out place log _ e w parts.0)
+    redo_value-first place log e es w ∙ ap₂ option_or (redo_value-none_counts place log es w parts.1) (given_by-out place log _ e w parts.0)
 
 -- it gives no word a value
 pub new_value-none_counts : (place : Place) (log : Log) (w : ℕ) → counts_any log ≡ false → new_value place log w ≡ None
 unfolding new_value
-new_value-none_counts place log w none = ap₂ option_or (redone-none_counts place log (entries_or_none log.entries) w none) (undone-none_counts place log (entries_or_none log.entries) w none)
+new_value-none_counts place log w none = ap₂ option_or (redo_value-none_counts place log (entries_or_none log.entries) w none) (undo_value-none_counts place log (entries_or_none log.entries) w none)
 
 pub gives_to-none_counts : (t : Tables) (who : Option Owner) (log : Log) (w : ℕ) → counts_any log ≡ false → gives_to t who log w ≡ None
 unfolding gives_to

@@ -9,9 +9,9 @@ use Rattle.pud_defs.specs.declared.log_words.TheConstants.{UNDO_ORDER, REDO_ORDE
 use Rattle.pud_defs.specs.Image.{Image}
 use Rattle.pud_defs.specs.Layout.{tables_end, frames_at, device_words}
 use Rattle.pud_defs.specs.Entries.{Entry, Log, log_of}
-use Rattle.pud_defs.specs.Replay.{device_word, is_in_range, given_by, undone, redone, new_value, is_in_log, settled_by}
+use Rattle.pud_defs.specs.Replay.{device_word, is_in_range, given_by, undo_value, redo_value, new_value, is_in_log, settled_by}
 use Rattle.pud_defs.specs.Registry.{frames_of, may_be_logged, is_allowed, are_allowed, has_legal_log}
-use Rattle.pud_defs.proofs.Replay.{value_at-apart, undone-first, redone-first, undone-none, redone-none, new_value-of, overwritten-stays, settled_by-outside, outside_log}
+use Rattle.pud_defs.proofs.Replay.{value_at-apart, undo_value-first, redo_value-first, undo_value-none, redo_value-none, new_value-of, overwritten-stays, settled_by-outside, outside_log}
 
 -- ---- where the daemon log may write
 
@@ -105,17 +105,17 @@ not_given F order w log e allowed none = elim (cases_Bool (is_in_range log e && 
       cond-true _ _ _ counts ∙ value_at-apart e.address w e.vals (none.apart e.address (length e.vals) may)
 ]
 
-not_undone : (F w : ℕ) (log : Log) (es : List Entry) → list_all (is_allowed F log) es ≡ true → IsUnlogged F w → undone device_word log es w ≡ None
-not_undone F w log [] allowed none = undone-none device_word log w
+not_undone : (F w : ℕ) (log : Log) (es : List Entry) → list_all (is_allowed F log) es ≡ true → IsUnlogged F w → undo_value device_word log es w ≡ None
+not_undone F w log [] allowed none = undo_value-none device_word log w
 not_undone F w log (e ∷ es) allowed none =
     let parts = and_parts (is_allowed F log e) (list_all (is_allowed F log) es) allowed in
-    undone-first device_word log e es w ∙ ap₂ option_or (not_given F UNDO_ORDER w log e parts.0 none) (not_undone F w log es parts.1 none)
+    undo_value-first device_word log e es w ∙ ap₂ option_or (not_given F UNDO_ORDER w log e parts.0 none) (not_undone F w log es parts.1 none)
 
-not_redone : (F w : ℕ) (log : Log) (es : List Entry) → list_all (is_allowed F log) es ≡ true → IsUnlogged F w → redone device_word log es w ≡ None
-not_redone F w log [] allowed none = redone-none device_word log w
+not_redone : (F w : ℕ) (log : Log) (es : List Entry) → list_all (is_allowed F log) es ≡ true → IsUnlogged F w → redo_value device_word log es w ≡ None
+not_redone F w log [] allowed none = redo_value-none device_word log w
 not_redone F w log (e ∷ es) allowed none =
     let parts = and_parts (is_allowed F log e) (list_all (is_allowed F log) es) allowed in
-    redone-first device_word log e es w ∙ ap₂ option_or (not_redone F w log es parts.1 none) (not_given F REDO_ORDER w log e parts.0 none)
+    redo_value-first device_word log e es w ∙ ap₂ option_or (not_redone F w log es parts.1 none) (not_given F REDO_ORDER w log e parts.0 none)
 
 -- entries that are allowed give nothing to a word that may not be written
 pub new_value-allowed : (F w : ℕ) (log : Log) (es : List Entry) → log.entries ≡ Some es → list_all (is_allowed F log) es ≡ true → IsUnlogged F w → new_value device_word log w ≡ None

@@ -36,18 +36,18 @@ abbrev pub given_by : Place → Log → ℕ → Entry → ℕ → Option ℕ
 given_by place log order e w = cond (is_in_range log e && e.order == order) (value_in place e w) None
 
 -- what the undo entries give: the first that names the word decides
-unfoldable pub undone : Place → Log → List Entry → ℕ → Option ℕ
-undone place log [] w = None
-undone place log (e ∷ es) w = option_or (given_by place log UNDO_ORDER e w) (undone place log es w)
+unfoldable pub undo_value : Place → Log → List Entry → ℕ → Option ℕ
+undo_value place log [] w = None
+undo_value place log (e ∷ es) w = option_or (given_by place log UNDO_ORDER e w) (undo_value place log es w)
 
 -- what the redo entries give: the last that names the word decides
-unfoldable pub redone : Place → Log → List Entry → ℕ → Option ℕ
-redone place log [] w = None
-redone place log (e ∷ es) w = option_or (redone place log es w) (given_by place log REDO_ORDER e w)
+unfoldable pub redo_value : Place → Log → List Entry → ℕ → Option ℕ
+redo_value place log [] w = None
+redo_value place log (e ∷ es) w = option_or (redo_value place log es w) (given_by place log REDO_ORDER e w)
 
 -- what entries give to a word: a redo entry's value, else an undo entry's
 abbrev pub given : Place → Log → List Entry → ℕ → Option ℕ
-given place log es w = option_or (redone place log es w) (undone place log es w)
+given place log es w = option_or (redo_value place log es w) (undo_value place log es w)
 
 -- a log that is not well formed has no entry to apply
 abbrev pub entries_or_none : Option (List Entry) → List Entry

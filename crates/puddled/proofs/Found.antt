@@ -340,7 +340,7 @@ module _ (size : ℕ) (w : World) (memory : Memory) (s : State) (ready : IsReady
       abbrev pub its : IsActive w of_session.active ready.mask s.now.words
       its = active_is w memory.active ready.mask s.now.words ready.active session.log_number of_session.active of_session.is
 
-      pub its_graph : graph_in (pool_named name w.stored) ≡ Some its.undone
+      pub its_graph : graph_in (pool_named name w.stored) ≡ Some its.graph_before
       its_graph = ap (λ (n : List ℕ). graph_in (pool_named n w.stored)) (sym of_session.name_is) ∙ its.stored
 
       -- so it lacks none, as it is judged

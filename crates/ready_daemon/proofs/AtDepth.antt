@@ -67,7 +67,7 @@ module _ (size : ℕ) (w : World) (memory : Memory) (s : State) (ready : IsReady
             who = i.who;
             puddles = i.at;
             before = i.before;
-            undone = i.undone;
+            graph_before = i.graph_before;
             transaction = x;
             is = is;
             client = client ∙ i.client;
@@ -79,8 +79,8 @@ module _ (size : ℕ) (w : World) (memory : Memory) (s : State) (ready : IsReady
             stored = i.stored;
             pool = i.pool;
             records = i.records;
-            running = subst (λ (ls : List DeferredValue). IsOpenOn w.stored.frames i.at w.stored.types h.tx.log i.before i.undone x.now ls s.now.words) deferred
-                (subst (λ (g : Graph). IsOpenOn w.stored.frames i.at w.stored.types h.tx.log i.before i.undone g i.transaction.deferred s.now.words) now i.running);
+            running = subst (λ (ls : List DeferredValue). IsOpenOn w.stored.frames i.at w.stored.types h.tx.log i.before i.graph_before x.now ls s.now.words) deferred
+                (subst (λ (g : Graph). IsOpenOn w.stored.frames i.at w.stored.types h.tx.log i.before i.graph_before g i.transaction.deferred s.now.words) now i.running);
             masked = i.masked;
           };
           number_is = u.number_is;

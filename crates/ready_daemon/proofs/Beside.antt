@@ -168,7 +168,7 @@ module _ (w next : World) (active : ActiveTransaction) (mask anew : Write) (old 
             HasOnly-newest (new.now.words k) (is.before k) (rests.each k mine other) ∙ sym (HasOnly-newest (old.now.words k) (is.before k) (is.running.rests.each k mine other))
       ])
 
-  pub still_running : IsOpenOn n is.puddles next.stored.types active.tx.log is.before is.undone is.transaction.now is.transaction.deferred new.now.words
+  pub still_running : IsOpenOn n is.puddles next.stored.types active.tx.log is.before is.graph_before is.transaction.now is.transaction.deferred new.now.words
   still_running =
       let r = is.running in
       record {
@@ -180,7 +180,7 @@ module _ (w next : World) (active : ActiveTransaction) (mask anew : Write) (old 
           defers = r.saving.defers;
         };
         rests = rests;
-        was = keeps.graphs (stored_in n is.puddles is.before) is.undone r.was;
+        was = keeps.graphs (stored_in n is.puddles is.before) is.graph_before r.was;
         is = keeps.graphs (stored_in n is.puddles (reads new.now.words)) is.transaction.now
             (ap (graph_of w.stored.types) stored_still ∙ r.is);
         are = AreLaters-wider n is.puddles is.puddles w.stored.types next.stored.types (reads old.now.words) (reads new.now.words) is.transaction.now is.transaction.now (keeps_front is.puddles is.puddles (λ o e there. there))
@@ -197,7 +197,7 @@ module _ (w next : World) (active : ActiveTransaction) (mask anew : Write) (old 
         who = is.who;
         puddles = is.puddles;
         before = is.before;
-        undone = is.undone;
+        graph_before = is.graph_before;
         transaction = is.transaction;
         is = keeps.transaction ∙ is.is;
         client = is.client;
@@ -209,7 +209,7 @@ module _ (w next : World) (active : ActiveTransaction) (mask anew : Write) (old 
         stored = keeps.stored ∙ is.stored;
         pool = subst (λ (m : ℕ). IsOpenPool m (open_pool_of active is.puddles is.rec is.who) is.before) back is.pool;
         records = λ k of. reads_kept may old new k c (λ v wrote. apart.records k v wrote of) ∙ is.records k of;
-        running = subst (λ (m : ℕ). IsOpenOn m is.puddles next.stored.types active.tx.log is.before is.undone is.transaction.now is.transaction.deferred new.now.words) back still_running;
+        running = subst (λ (m : ℕ). IsOpenOn m is.puddles next.stored.types active.tx.log is.before is.graph_before is.transaction.now is.transaction.deferred new.now.words) back still_running;
         masked = subst (λ (m : ℕ). (k v : ℕ) → open_mask m (open_pool_of active is.puddles is.rec is.who) is.before k ≡ Some v → anew k ≡ Some v) back masked_so;
       }
 

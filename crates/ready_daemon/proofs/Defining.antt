@@ -272,7 +272,7 @@ KeepsActive-define w active mask words id map holds none = record {
   present = λ number h there. refl;
   stored = λ number h there.
       let is = active_is w active mask words holds number h there in
-      pool_kept id map w.stored h.name is.undone is.stored ∙ sym is.stored;
+      pool_kept id map w.stored h.name is.graph_before is.stored ∙ sym is.stored;
   types = types_kept id map w.stored none;
   graphs = graphs_kept id map w.stored none;
 }

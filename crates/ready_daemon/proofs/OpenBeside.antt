@@ -35,8 +35,8 @@ pub record IsOpenHere (w : World) (at : List (ℕ × Puddle)) (image : Image) (n
   pub transaction : Transaction
   pub is : open_on name w ≡ Some transaction
   pub whose : transaction.client ≡ client
-  pub undone : Graph
-  pub stored : graph_in (pool_named name w.stored) ≡ Some undone
+  pub graph_before : Graph
+  pub stored : graph_in (pool_named name w.stored) ≡ Some graph_before
   pub now : graph_of w.stored.types (stored_in w.stored.frames at image) ≡ Some transaction.now
 
 -- where its own is held
@@ -48,7 +48,7 @@ open_here w active mask words name client number holds own =
       transaction = is.transaction;
       is = ap w.transactions (sym own.pool) ∙ is.is;
       whose = is.client ∙ own.whose;
-      undone = is.undone;
+      graph_before = is.graph_before;
       stored = ap (λ (n : List ℕ). graph_in (pool_named n w.stored)) (sym own.pool) ∙ is.stored;
       now = is.running.is;
     }

@@ -156,7 +156,7 @@ KeepsActive-imported w active mask words name who mode file holds apart = record
   present = λ number h there. refl;
   stored = λ number h there.
       let is = active_is w active mask words holds number h there in
-      imported_pools name who mode file w.stored h.name is.undone (apart number h there) is.stored ∙ sym is.stored;
+      imported_pools name who mode file w.stored h.name is.graph_before (apart number h there) is.stored ∙ sym is.stored;
   types = (imported_types name who mode file w.stored).each;
   graphs = λ st g is. graphs_defined w.stored.types (with_imported_pool name who mode file w.stored).types (imported_types name who mode file w.stored) st g is;
 }

@@ -270,7 +270,7 @@ keeps_drop s name active apart = record {
 pub absent_apart : (w : World) (active : List (Option ActiveTransaction)) (mask : Write) (words : Words) (name : List ℕ) → AreActive w active mask words → pool_named name w.stored ≡ None → IsNotNamed name active
 absent_apart w active mask words name holds none number h there same =
     let is = active_is w active mask words holds number h there in
-    let no : Some is.undone ≡ None = sym is.stored ∙ ap (λ (n : List ℕ). graph_in (pool_named n w.stored)) same ∙ ap graph_in none in
+    let no : Some is.graph_before ≡ None = sym is.stored ∙ ap (λ (n : List ℕ). graph_in (pool_named n w.stored)) same ∙ ap graph_in none in
     cc
 
 absent_of : (who : Option spaces.Owner) (found : Option Pool) (full lacks : Bool) → making_refusal who found full lacks ≡ None → found ≡ None

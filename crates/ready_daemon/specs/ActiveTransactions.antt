@@ -44,7 +44,7 @@ pub record IsActive (w : World) (active : ActiveTransaction) (mask : Write) (wor
   pub who : Owner
   pub puddles : List (ℕ × Puddle)
   pub before : Image
-  pub undone : Graph
+  pub graph_before : Graph
   pub transaction : Transaction
   pub is : open_on active.name w ≡ Some transaction
   pub client : transaction.client ≡ active.client
@@ -53,10 +53,10 @@ pub record IsActive (w : World) (active : ActiveTransaction) (mask : Write) (wor
   pub owner : client_of_log active.log_number ≡ active.client
   pub gate : active.tx.log.gate_at ≡ log_number_at w.stored.frames active.log_number
   pub name : rec.name ≡ active.name
-  pub stored : graph_in (pool_named active.name w.stored) ≡ Some undone
+  pub stored : graph_in (pool_named active.name w.stored) ≡ Some graph_before
   pub pool : IsOpenPool w.stored.frames (open_pool_of active puddles rec who) before
   pub records : (k : ℕ) → is_open_record (open_pool_of active puddles rec who) k ≡ true → reads words k ≡ before k
-  pub running : IsOpenOn w.stored.frames puddles w.stored.types active.tx.log before undone transaction.now transaction.deferred words
+  pub running : IsOpenOn w.stored.frames puddles w.stored.types active.tx.log before graph_before transaction.now transaction.deferred words
   pub masked : (k v : ℕ) → open_mask w.stored.frames (open_pool_of active puddles rec who) before k ≡ Some v → mask k ≡ Some v
 
 -- It is held under this number, that of its log, and is one of these that are open.

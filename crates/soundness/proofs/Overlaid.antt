@@ -9,9 +9,9 @@ use Rattle.pud_defs.specs.declared.layout.TheConstants.{DAEMON_LOG}
 use Rattle.pud_defs.specs.declared.log_words.TheConstants.{UNDO_ORDER, REDO_ORDER}
 use Rattle.pud_defs.specs.Image.{Image}
 use Rattle.pud_defs.specs.Entries.{Entry, Log, log_of, words_from}
-use Rattle.pud_defs.specs.Replay.{device_word, is_in_range, value_in, given_by, undone, redone, is_in_log, settled_by}
+use Rattle.pud_defs.specs.Replay.{device_word, is_in_range, value_in, given_by, undo_value, redo_value, is_in_log, settled_by}
 use Rattle.pud_defs.proofs.Entries.{words_from-length}
-use Rattle.pud_defs.proofs.Replay.{or_none, or_assoc, given_by-out, undone-first, undone-none, redone-first, redone-none, new_value-of, replayed-none, settled_by-outside}
+use Rattle.pud_defs.proofs.Replay.{or_none, or_assoc, given_by-out, undo_value-first, undo_value-none, redo_value-first, redo_value-none, new_value-of, replayed-none, settled_by-outside}
 use Rattle.log_entry.specs.declared.Entry.{Entry as Found}
 use Rattle.log_entry.specs.declared.LogRange.{LogRange}
 use Rattle.log_entry.specs.Ranges.{HasRange}
@@ -84,26 +84,26 @@ gives_more log image e w v given after counts low high read undo redo = record {
 
 -- what is given so far, and then by these entries
 abbrev pub given_then : Log → ℕ → Given → List Entry → Given
-given_then log w given es = record { undo = option_or given.undo (undone device_word log es w); redo = option_or (redone device_word log es w) given.redo }
+given_then log w given es = record { undo = option_or given.undo (undo_value device_word log es w); redo = option_or (redo_value device_word log es w) given.redo }
 
 -- one entry further
 pub given_then-more : (log : Log) (e : Entry) (w : ℕ) (before after : Given) → GivesMore log e w before after → (es : List Entry) → given_then log w after es ≡ given_then log w before (e ∷ es)
 given_then-more log e w before after more es =
-    let undo : option_or after.undo (undone device_word log es w) ≡ option_or before.undo (undone device_word log (e ∷ es) w) =
-    ap (λ (x : Option ℕ). option_or x (undone device_word log es w)) more.undo
-    ∙ sym (or_assoc before.undo (given_by device_word log UNDO_ORDER e w) (undone device_word log es w))
-    ∙ ap (option_or before.undo) (sym (undone-first device_word log e es w)) in
-    let redo : option_or (redone device_word log es w) after.redo ≡ option_or (redone device_word log (e ∷ es) w) before.redo =
-    ap (option_or (redone device_word log es w)) more.redo
-    ∙ or_assoc (redone device_word log es w) (given_by device_word log REDO_ORDER e w) before.redo
-    ∙ ap (λ (x : Option ℕ). option_or x before.redo) (sym (redone-first device_word log e es w)) in
+    let undo : option_or after.undo (undo_value device_word log es w) ≡ option_or before.undo (undo_value device_word log (e ∷ es) w) =
+    ap (λ (x : Option ℕ). option_or x (undo_value device_word log es w)) more.undo
+    ∙ sym (or_assoc before.undo (given_by device_word log UNDO_ORDER e w) (undo_value device_word log es w))
+    ∙ ap (option_or before.undo) (sym (undo_value-first device_word log e es w)) in
+    let redo : option_or (redo_value device_word log es w) after.redo ≡ option_or (redo_value device_word log (e ∷ es) w) before.redo =
+    ap (option_or (redo_value device_word log es w)) more.redo
+    ∙ or_assoc (redo_value device_word log es w) (given_by device_word log REDO_ORDER e w) before.redo
+    ∙ ap (λ (x : Option ℕ). option_or x before.redo) (sym (redo_value-first device_word log e es w)) in
     λ p. record { undo = undo p; redo = redo p }
 
 -- all is given
 pub gives_all : (log : Log) (w : ℕ) (es : List Entry) (given : Given) → given_then log w given [] ≡ given_then log w (record { undo = None; redo = None }) es → Gives log es w given
 gives_all log w es given same = record {
-  undo = or_none given.undo ∙ ap (option_or given.undo) (sym (undone-none device_word log w)) ∙ ap (λ (x : Given). x.undo) same;
-  redo = ap (λ (x : Option ℕ). option_or x given.redo) (sym (redone-none device_word log w)) ∙ ap (λ (x : Given). x.redo) same ∙ sym (or_none (redone device_word log es w));
+  undo = or_none given.undo ∙ ap (option_or given.undo) (sym (undo_value-none device_word log w)) ∙ ap (λ (x : Given). x.undo) same;
+  redo = ap (λ (x : Option ℕ). option_or x given.redo) (sym (redo_value-none device_word log w)) ∙ ap (λ (x : Given). x.redo) same ∙ sym (or_none (redo_value device_word log es w));
 }
 
 -- ---- the word

@@ -5,7 +5,7 @@ use Rattle.pud_defs.specs.declared.layout.TheConstants.{DAEMON_LOG}
 use Rattle.pud_defs.specs.declared.log_words.TheConstants.{UNDO_ORDER, REDO_ORDER}
 use Rattle.pud_defs.specs.Image.{Image}
 use Rattle.pud_defs.specs.Entries.{Entry, Log, log_of, entries_of}
-use Rattle.pud_defs.specs.Replay.{device_word, given_by, undone, redone}
+use Rattle.pud_defs.specs.Replay.{device_word, given_by, undo_value, redo_value}
 use Rattle.log_entry.specs.Copying.{log_copied}
 use Rattle.soundness.specs.declared.overlay.Overlay.{Overlay}
 use Rattle.soundness.specs.declared.overlay.Given.{Given}
@@ -23,5 +23,5 @@ pub record GivesMore (log : Log) (e : Entry) (w : ℕ) (before after : Given) : 
 
 -- this is what the entries of a log give to a word
 pub record Gives (log : Log) (es : List Entry) (w : ℕ) (given : Given) : Type 0 where
-  pub undo : given.undo ≡ undone device_word log es w
-  pub redo : given.redo ≡ redone device_word log es w
+  pub undo : given.undo ≡ undo_value device_word log es w
+  pub redo : given.redo ≡ redo_value device_word log es w

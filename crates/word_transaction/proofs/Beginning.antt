@@ -16,7 +16,7 @@ use Rattle.pud_defs.specs.Entries.{log_of}
 use Rattle.pud_defs.specs.Replay.{IsInLog, is_in_log}
 use Rattle.pud_defs.specs.Spaces.{is_closed_log}
 use Rattle.pud_defs.proofs.Entries.{words_from-none, entries_in-nothing}
-use Rattle.pud_defs.proofs.Replay.{undone-none, not_inside}
+use Rattle.pud_defs.proofs.Replay.{undo_value-none, not_inside}
 use Rattle.log_store.specs.Store.{saying}
 use Rattle.log_store.proofs.Open.{log_of-is, IsOpen-running}
 use Rattle.word_transaction.specs.Scope.{Scope, IsScope, IsInScope, running_range, saved}
@@ -27,7 +27,7 @@ use Rattle.word_transaction.proofs.Calls.{not_cut}
 
 -- no word is saved yet
 nothing_saved : (g : Scope) (before : Image) (k v : ℕ) → saved g.place [] k ≡ Some v → v ≡ before k
-nothing_saved g before k v is = absurd (some_not_none (saved g.place [] k) v is (undone-none g.place running_range k))
+nothing_saved g before k v is = absurd (some_not_none (saved g.place [] k) v is (undo_value-none g.place running_range k))
 
 -- the gate of a running log alone makes a log that runs without entries
 log_of-begun_log : (at : ℕ) (image : Image) → image at ≡ RUNNING_GATE → log_of image at ≡ saying (begun_log at) []

@@ -9,7 +9,7 @@ use Rattle.pud_defs.specs.declared.space.TheConstants.{WORD_BYTES}
 use Rattle.pud_defs.specs.Entries.{Entry}
 use Rattle.pud_defs.specs.Replay.{is_in_range, value_from, value_in, given_by}
 use Rattle.pud_defs.proofs.Spaces.{all_below-each}
-use Rattle.pud_defs.proofs.Replay.{undone-first}
+use Rattle.pud_defs.proofs.Replay.{undo_value-first}
 use Rattle.word_transaction.specs.Scope.{Scope, IsScope, IsInScope, running_range, saved}
 use Rattle.word_transaction.specs.Coverage.{covers, is_covered, are_covered}
 use Rattle.word_transaction.specs.Running.{IsOneOf}
@@ -55,7 +55,7 @@ pub covered_is_saved : (size at : ℕ) (g : Scope) (es : List Entry) (address k 
     → saved g.place es k ≡ None → ⊥
 covered_is_saved size at g [] address k ground own told place none = absurd (cc)
 covered_is_saved size at g (e ∷ es) address k ground own told place none =
-    let either = sym (undone-first g.place running_range e es k) ∙ none in
+    let either = sym (undo_value-first g.place running_range e es k) ∙ none in
     elim (or_cases (covers address e) (is_covered es address) told) [
       | inl here ↦ given_there size at g e address k ground (All-head (IsInScope g) e es own) here place (or_first_none _ _ either)
       | inr later ↦ covered_is_saved size at g es address k ground (All-tail (IsInScope g) e es own) later place (or_second_none _ _ either)

@@ -13,8 +13,8 @@ use Rattle.pm_model.proofs.Leaves.{Leaves-changes}
 use Rattle.pud_defs.specs.declared.log_words.TheConstants.{UNDO_ORDER, REDO_ORDER}
 use Rattle.pud_defs.specs.Image.{Image}
 use Rattle.pud_defs.specs.Entries.{Entry, Log}
-use Rattle.pud_defs.specs.Replay.{Place, is_in_range, value_from, undone, redone}
-use Rattle.pud_defs.proofs.Replay.{undone-first, undone-none, redone-first, redone-none}
+use Rattle.pud_defs.specs.Replay.{Place, is_in_range, value_from, undo_value, redo_value}
+use Rattle.pud_defs.proofs.Replay.{undo_value-first, undo_value-none, redo_value-first, redo_value-none}
 use Rattle.log_store.specs.Store.{OpenLog, InLog}
 use Rattle.word_transaction.specs.Scope.{Scope, IsScope, IsInScope, running_range, committing_range, saved, pending}
 use Rattle.word_transaction.specs.Running.{IsRunning, IsCovered, RecoversTo}
@@ -60,22 +60,22 @@ pub record IsWider (g wide : Scope) : Type 0 where
   pub has_word : (k : ℕ) → g.has_word k ≡ true → wide.has_word k ≡ true
 
 -- entries give the same by places that agree on their addresses
-pub undone-places : (place other : Place) (log : Log) (es : List Entry) (k : ℕ) → All (λ e. other e.address ≡ place e.address) es → undone other log es k ≡ undone place log es k
-undone-places place other log [] k same = undone-none other log k ∙ sym (undone-none place log k)
-undone-places place other log (e ∷ es) k same =
-    undone-first other log e es k
+pub undo_value-places : (place other : Place) (log : Log) (es : List Entry) (k : ℕ) → All (λ e. other e.address ≡ place e.address) es → undo_value other log es k ≡ undo_value place log es k
+undo_value-places place other log [] k same = undo_value-none other log k ∙ sym (undo_value-none place log k)
+undo_value-places place other log (e ∷ es) k same =
+    undo_value-first other log e es k
     ∙ ap₂ option_or
     (ap (λ (o : Option ℕ). cond (is_in_range log e && eqb e.order UNDO_ORDER) (value_from o e.vals k) None) (All-head (λ x. other x.address ≡ place x.address) e es same))
-    (undone-places place other log es k (All-tail (λ x. other x.address ≡ place x.address) e es same))
-    ∙ sym (undone-first place log e es k)
+    (undo_value-places place other log es k (All-tail (λ x. other x.address ≡ place x.address) e es same))
+    ∙ sym (undo_value-first place log e es k)
 
-pub redone-places : (place other : Place) (log : Log) (es : List Entry) (k : ℕ) → All (λ e. other e.address ≡ place e.address) es → redone other log es k ≡ redone place log es k
-redone-places place other log [] k same = redone-none other log k ∙ sym (redone-none place log k)
-redone-places place other log (e ∷ es) k same =
-    redone-first other log e es k
-    ∙ ap₂ option_or (redone-places place other log es k (All-tail (λ x. other x.address ≡ place x.address) e es same))
+pub redo_value-places : (place other : Place) (log : Log) (es : List Entry) (k : ℕ) → All (λ e. other e.address ≡ place e.address) es → redo_value other log es k ≡ redo_value place log es k
+redo_value-places place other log [] k same = redo_value-none other log k ∙ sym (redo_value-none place log k)
+redo_value-places place other log (e ∷ es) k same =
+    redo_value-first other log e es k
+    ∙ ap₂ option_or (redo_value-places place other log es k (All-tail (λ x. other x.address ≡ place x.address) e es same))
     (ap (λ (o : Option ℕ). cond (is_in_range log e && eqb e.order REDO_ORDER) (value_from o e.vals k) None) (All-head (λ x. other x.address ≡ place x.address) e es same))
-    ∙ sym (redone-first place log e es k)
+    ∙ sym (redo_value-first place log e es k)
 
 own_wider : (g wide : Scope) (es : List Entry) → IsWider g wide → All (IsInScope g) es → All (IsInScope wide) es
 own_wider g wide [] wider own = All-nil (IsInScope wide)
@@ -91,11 +91,11 @@ places_wider g wide (e ∷ es) wider own =
 
 -- the same words are saved
 pub saved-wider : (g wide : Scope) (es : List Entry) (k : ℕ) → IsWider g wide → All (IsInScope g) es → saved wide.place es k ≡ saved g.place es k
-saved-wider g wide es k wider own = undone-places g.place wide.place running_range es k (places_wider g wide es wider own)
+saved-wider g wide es k wider own = undo_value-places g.place wide.place running_range es k (places_wider g wide es wider own)
 
 -- and the same are asked for
 pub pending-wider : (g wide : Scope) (es : List Entry) (k : ℕ) → IsWider g wide → All (IsInScope g) es → pending wide.place es k ≡ pending g.place es k
-pending-wider g wide es k wider own = redone-places g.place wide.place committing_range es k (places_wider g wide es wider own)
+pending-wider g wide es k wider own = redo_value-places g.place wide.place committing_range es k (places_wider g wide es wider own)
 
 -- an open transaction comes to own more words, each with one value, which it then has from the beginning
 pub IsRunning-wider : (g wide : Scope) (log : OpenLog) (es : List Entry) (before : Image) (words : Words) → IsWider g wide

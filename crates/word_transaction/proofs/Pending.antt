@@ -8,19 +8,19 @@ use Rattle.std.proofs.lemmas.List.Elements.{All-head, All-tail, filter-append}
 use Rattle.pud_defs.specs.declared.log_words.TheConstants.{UNDO_ORDER, REDO_ORDER, COMMITTING_LO, COMMITTING_HI}
 use Rattle.pud_defs.specs.Image.{Image}
 use Rattle.pud_defs.specs.Entries.{Entry, Log, log_of}
-use Rattle.pud_defs.specs.Replay.{Place, is_in_range, value_in, given_by, undone, redone, new_value, over, overwritten, replayed}
-use Rattle.pud_defs.proofs.Replay.{undone-first, redone-first, undone-none, redone-none, given_by-out, given_by-other, or_none, new_value-of, overwritten-nothing, overwritten-then}
+use Rattle.pud_defs.specs.Replay.{Place, is_in_range, value_in, given_by, undo_value, redo_value, new_value, over, overwritten, replayed}
+use Rattle.pud_defs.proofs.Replay.{undo_value-first, redo_value-first, undo_value-none, redo_value-none, given_by-out, given_by-other, or_none, new_value-of, overwritten-nothing, overwritten-then}
 use Rattle.log_store.specs.Store.{OpenLog, is_redo, defers, saying, committing}
 use Rattle.word_transaction.specs.Scope.{Scope, redo_entry, IsUndo, IsRedo, IsInScope, deferred_entries, written_in_turn, committing_range, pending}
 use Rattle.word_transaction.specs.Running.{RecoversTo}
-use Rattle.word_transaction.proofs.Saved.{given_by-range, undone-range}
+use Rattle.word_transaction.proofs.Saved.{given_by-range, undo_value-range}
 
-pub redone-range : (place : Place) (l m : Log) (es : List Entry) (k : ℕ) → l.lo ≡ m.lo → l.hi ≡ m.hi → redone place l es k ≡ redone place m es k
-redone-range place l m [] k lo hi = redone-none place l k ∙ sym (redone-none place m k)
-redone-range place l m (e ∷ es) k lo hi =
-    redone-first place l e es k
-    ∙ ap₂ option_or (redone-range place l m es k lo hi) (given_by-range place l m REDO_ORDER e k lo hi)
-    ∙ sym (redone-first place m e es k)
+pub redo_value-range : (place : Place) (l m : Log) (es : List Entry) (k : ℕ) → l.lo ≡ m.lo → l.hi ≡ m.hi → redo_value place l es k ≡ redo_value place m es k
+redo_value-range place l m [] k lo hi = redo_value-none place l k ∙ sym (redo_value-none place m k)
+redo_value-range place l m (e ∷ es) k lo hi =
+    redo_value-first place l e es k
+    ∙ ap₂ option_or (redo_value-range place l m es k lo hi) (given_by-range place l m REDO_ORDER e k lo hi)
+    ∙ sym (redo_value-first place m e es k)
 
 -- ---- entries that give nothing in a committing log
 
@@ -32,33 +32,33 @@ undo_gives_nothing place e k undo = given_by-out place committing_range UNDO_ORD
 redo_gives_nothing : (place : Place) (e : Entry) (k : ℕ) → IsRedo e → given_by place committing_range UNDO_ORDER e k ≡ None
 redo_gives_nothing place e k redo = given_by-other place committing_range UNDO_ORDER e k (λ undo. let h = redo.order in absurd (omega arith))
 
-undone-committing : (g : Scope) (place : Place) (es : List Entry) (k : ℕ) → All (IsInScope g) es → undone place committing_range es k ≡ None
-undone-committing g place [] k own = undone-none place committing_range k
-undone-committing g place (e ∷ es) k own =
-    undone-first place committing_range e es k
+undo_value-committing : (g : Scope) (place : Place) (es : List Entry) (k : ℕ) → All (IsInScope g) es → undo_value place committing_range es k ≡ None
+undo_value-committing g place [] k own = undo_value-none place committing_range k
+undo_value-committing g place (e ∷ es) k own =
+    undo_value-first place committing_range e es k
     ∙ ap₂ option_or
     (let first : given_by place committing_range UNDO_ORDER e k ≡ None = elim (All-head (IsInScope g) e es own).kind [
       | inl undo ↦ undo_gives_nothing place e k undo
       | inr redo ↦ redo_gives_nothing place e k redo
     ] in first)
-    (undone-committing g place es k (All-tail (IsInScope g) e es own))
+    (undo_value-committing g place es k (All-tail (IsInScope g) e es own))
 
 -- ---- what is asked for
 
 -- undo entries ask for nothing
 pub pending-undo : (place : Place) (es : List Entry) (k : ℕ) → All IsUndo es → pending place es k ≡ None
-pending-undo place [] k undo = redone-none place committing_range k
+pending-undo place [] k undo = redo_value-none place committing_range k
 pending-undo place (e ∷ es) k undo =
-    redone-first place committing_range e es k
+    redo_value-first place committing_range e es k
     ∙ ap₂ option_or (pending-undo place es k (All-tail IsUndo e es undo))
     (given_by-other place committing_range REDO_ORDER e k (λ redo. let h = (All-head IsUndo e es undo).order in absurd (omega arith)))
 
 -- nor do entries none of which is a redo entry
 pub pending-none : (place : Place) (es : List Entry) (k : ℕ) → defers es ≡ false → pending place es k ≡ None
-pending-none place [] k none = redone-none place committing_range k
+pending-none place [] k none = redo_value-none place committing_range k
 pending-none place (e ∷ es) k none =
     let parts = or_parts (is_redo e) (defers es) none in
-    redone-first place committing_range e es k
+    redo_value-first place committing_range e es k
     ∙ ap₂ option_or (pending-none place es k parts.1) (given_by-other place committing_range REDO_ORDER e k (λ redo. absurd (let it : true ≡ false = sym (eq-eqb e.order REDO_ORDER redo) ∙ parts.0 in cc)))
 
 -- there is none where no values are asked for
@@ -97,9 +97,9 @@ one_in_turn place e es image (inr redo) =
 
 -- what is asked for, over an image, is the values of the redo entries in turn
 pub pending-in_turn : (g : Scope) (place : Place) (es : List Entry) (image : Image) → All (IsInScope g) es → overwritten (pending place es) image ≡ written_in_turn place (deferred_entries es) image
-pending-in_turn g place [] image own = overwritten-nothing (pending place []) image (λ k. redone-none place committing_range k)
+pending-in_turn g place [] image own = overwritten-nothing (pending place []) image (λ k. redo_value-none place committing_range k)
 pending-in_turn g place (e ∷ es) image own =
-    let each : (k : ℕ) → pending place (e ∷ es) k ≡ over (given_by place committing_range REDO_ORDER e) (pending place es) k = λ k. redone-first place committing_range e es k in
+    let each : (k : ℕ) → pending place (e ∷ es) k ≡ over (given_by place committing_range REDO_ORDER e) (pending place es) k = λ k. redo_value-first place committing_range e es k in
     let same : pending place (e ∷ es) ≡ over (given_by place committing_range REDO_ORDER e) (pending place es) = λ i k. each k i in
     ap (λ (w : ℕ → Option ℕ). overwritten w image) same
     ∙ sym (overwritten-then (given_by place committing_range REDO_ORDER e) (pending place es) image)
@@ -113,7 +113,7 @@ pub new_value-committing : (g : Scope) (place : Place) (log : Log) (es : List En
     → new_value place log k ≡ pending place es k
 new_value-committing g place log es k lo hi entries own =
     new_value-of place log es k entries
-    ∙ ap₂ option_or (redone-range place log committing_range es k lo hi) (undone-range place log committing_range es k lo hi ∙ undone-committing g place es k own)
+    ∙ ap₂ option_or (redo_value-range place log committing_range es k lo hi) (undo_value-range place log committing_range es k lo hi ∙ undo_value-committing g place es k own)
     ∙ sym (or_none (pending place es k))
 
 -- over what its own words hold an image settles to what they ask for

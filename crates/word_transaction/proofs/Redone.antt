@@ -19,7 +19,7 @@ use Rattle.log_replay.proofs.Places.{places_same}
 use Rattle.word_transaction.specs.Scope.{Scope, IsScope, committing_range, pending}
 use Rattle.word_transaction.specs.Running.{IsRunning, ByCommit, CommitsTransaction, HasPlaces, HasOneTable, CanRedo}
 use Rattle.word_transaction.proofs.Saved.{pending_is_mine}
-use Rattle.word_transaction.proofs.Growing.{redone-places}
+use Rattle.word_transaction.proofs.Growing.{redo_value-places}
 use Rattle.word_transaction.proofs.Pending.{new_value-committing}
 use Rattle.word_transaction.proofs.Committed.{Moves, gate_moves, moved_single, moved_open, Ends-closes}
 use Rattle.word_transaction.proofs.Settled.{Gives, replayable, durable_log, Shuts-settled}
@@ -55,7 +55,7 @@ module _ (size : ℕ) (log : OpenLog) (es : List Entry) (g : Scope) (before : Im
       record {
         opened = moved_open size log es g before a ground r b c m;
         own = r.own;
-        given = λ place same k. new_value-committing g place (saying (committing log) es) es k refl refl refl r.own ∙ redone-places g.place place committing_range es k same;
+        given = λ place same k. new_value-committing g place (saying (committing log) es) es k refl refl refl r.own ∙ redo_value-places g.place place committing_range es k same;
         has_word = λ k v is. pending_is_mine size log.gate_at g es k v ground r.own is;
         saves = λ k v is. sym (overwritten-there write (reads a.now.words) k v is);
         single = λ k mine none.

@@ -10,8 +10,8 @@ use Rattle.pm_persist.proofs.Ranges.{placed_at, placed_within}
 use Rattle.pud_defs.specs.declared.log_words.TheConstants.{UNDO_ORDER, REDO_ORDER, RUNNING_LO, RUNNING_HI}
 use Rattle.pud_defs.specs.Image.{Image}
 use Rattle.pud_defs.specs.Entries.{Entry, Log, words_from}
-use Rattle.pud_defs.specs.Replay.{Place, is_in_range, value_from, value_in, given_by, undone, redone, new_value}
-use Rattle.pud_defs.proofs.Replay.{undone-first, undone-none, undone-append, redone-first, redone-none, given_by-out, given_by-other, new_value-of, or_none}
+use Rattle.pud_defs.specs.Replay.{Place, is_in_range, value_from, value_in, given_by, undo_value, redo_value, new_value}
+use Rattle.pud_defs.proofs.Replay.{undo_value-first, undo_value-none, undo_value-append, redo_value-first, redo_value-none, given_by-out, given_by-other, new_value-of, or_none}
 use Rattle.log_store.specs.Store.{undo_entry}
 use Rattle.word_transaction.specs.Scope.{Scope, IsScope, IsInScope, redo_entry, running_range, committing_range, saved, pending}
 use Rattle.word_transaction.specs.Running.{IsOneOf}
@@ -25,10 +25,10 @@ some_not_none o v is none = absurd (let it : Some v ≡ None = sym is ∙ none i
 pub given_by-range : (place : Place) (l m : Log) (order : ℕ) (e : Entry) (k : ℕ) → l.lo ≡ m.lo → l.hi ≡ m.hi → given_by place l order e k ≡ given_by place m order e k
 given_by-range place l m order e k lo hi = ap₂ (λ (a b : ℕ). cond ((ltb a e.seq && ltb e.seq b) && eqb e.order order) (value_in place e k) None) lo hi
 
-pub undone-range : (place : Place) (l m : Log) (es : List Entry) (k : ℕ) → l.lo ≡ m.lo → l.hi ≡ m.hi → undone place l es k ≡ undone place m es k
-undone-range place l m [] k lo hi = undone-none place l k ∙ sym (undone-none place m k)
-undone-range place l m (e ∷ es) k lo hi =
-    undone-first place l e es k ∙ ap₂ option_or (given_by-range place l m UNDO_ORDER e k lo hi) (undone-range place l m es k lo hi) ∙ sym (undone-first place m e es k)
+pub undo_value-range : (place : Place) (l m : Log) (es : List Entry) (k : ℕ) → l.lo ≡ m.lo → l.hi ≡ m.hi → undo_value place l es k ≡ undo_value place m es k
+undo_value-range place l m [] k lo hi = undo_value-none place l k ∙ sym (undo_value-none place m k)
+undo_value-range place l m (e ∷ es) k lo hi =
+    undo_value-first place l e es k ∙ ap₂ option_or (given_by-range place l m UNDO_ORDER e k lo hi) (undo_value-range place l m es k lo hi) ∙ sym (undo_value-first place m e es k)
 
 behind_range : (lo hi seq : ℕ) → hi ≤ seq → (ltb lo seq && ltb seq hi) ≡ false
 behind_range lo hi seq behind = grind (arith, nat_tests)
@@ -40,17 +40,17 @@ given_by-redo g place log e k hi own = elim own.kind [
   | inr redo ↦ given_by-out place log REDO_ORDER e k (let is = redo.seq in behind_range log.lo log.hi e.seq (omega arith))
 ]
 
-redone-running : (g : Scope) (place : Place) (log : Log) (es : List Entry) (k : ℕ) → log.hi ≡ RUNNING_HI → All (IsInScope g) es → redone place log es k ≡ None
-redone-running g place log [] k hi own = redone-none place log k
-redone-running g place log (e ∷ es) k hi own =
-    redone-first place log e es k
-    ∙ ap₂ option_or (redone-running g place log es k hi (All-tail (IsInScope g) e es own)) (given_by-redo g place log e k hi (All-head (IsInScope g) e es own))
+redo_value-running : (g : Scope) (place : Place) (log : Log) (es : List Entry) (k : ℕ) → log.hi ≡ RUNNING_HI → All (IsInScope g) es → redo_value place log es k ≡ None
+redo_value-running g place log [] k hi own = redo_value-none place log k
+redo_value-running g place log (e ∷ es) k hi own =
+    redo_value-first place log e es k
+    ∙ ap₂ option_or (redo_value-running g place log es k hi (All-tail (IsInScope g) e es own)) (given_by-redo g place log e k hi (All-head (IsInScope g) e es own))
 
 -- it gives what is saved
 pub new_value-running : (g : Scope) (place : Place) (log : Log) (es : List Entry) (k : ℕ) → log.lo ≡ RUNNING_LO → log.hi ≡ RUNNING_HI → log.entries ≡ Some es → All (IsInScope g) es
     → new_value place log k ≡ saved place es k
 new_value-running g place log es k lo hi entries own =
-    new_value-of place log es k entries ∙ ap₂ option_or (redone-running g place log es k hi own) (undone-range place log running_range es k lo hi)
+    new_value-of place log es k entries ∙ ap₂ option_or (redo_value-running g place log es k hi own) (undo_value-range place log running_range es k lo hi)
 
 -- ---- which words are saved
 
@@ -74,19 +74,19 @@ either_some None b v is = inr (refl, is)
 either_some (Some x) b v is = inl is
 
 -- a word to which a log gives a value by undo entries is one of the transaction's own
-pub undone_is_mine : (size at : ℕ) (g : Scope) (log : Log) (es : List Entry) (k v : ℕ) → IsScope size at g → All (IsInScope g) es → undone g.place log es k ≡ Some v → g.has_word k ≡ true
-undone_is_mine size at g log [] k v ground own is = absurd (some_not_none _ v is (undone-none g.place log k))
+pub undone_is_mine : (size at : ℕ) (g : Scope) (log : Log) (es : List Entry) (k v : ℕ) → IsScope size at g → All (IsInScope g) es → undo_value g.place log es k ≡ Some v → g.has_word k ≡ true
+undone_is_mine size at g log [] k v ground own is = absurd (some_not_none _ v is (undo_value-none g.place log k))
 undone_is_mine size at g log (e ∷ es) k v ground own is =
-    elim (either_some (given_by g.place log UNDO_ORDER e k) (undone g.place log es k) v (sym (undone-first g.place log e es k) ∙ is)) [
+    elim (either_some (given_by g.place log UNDO_ORDER e k) (undo_value g.place log es k) v (sym (undo_value-first g.place log e es k) ∙ is)) [
       | inl first ↦ named_is_mine size at g e k v ground (All-head (IsInScope g) e es own) (value_of_given g.place log UNDO_ORDER e k v first)
       | inr later ↦ undone_is_mine size at g log es k v ground (All-tail (IsInScope g) e es own) later.1
     ]
 
 -- or by redo entries
-pub redone_is_mine : (size at : ℕ) (g : Scope) (log : Log) (es : List Entry) (k v : ℕ) → IsScope size at g → All (IsInScope g) es → redone g.place log es k ≡ Some v → g.has_word k ≡ true
-redone_is_mine size at g log [] k v ground own is = absurd (some_not_none _ v is (redone-none g.place log k))
+pub redone_is_mine : (size at : ℕ) (g : Scope) (log : Log) (es : List Entry) (k v : ℕ) → IsScope size at g → All (IsInScope g) es → redo_value g.place log es k ≡ Some v → g.has_word k ≡ true
+redone_is_mine size at g log [] k v ground own is = absurd (some_not_none _ v is (redo_value-none g.place log k))
 redone_is_mine size at g log (e ∷ es) k v ground own is =
-    elim (either_some (redone g.place log es k) (given_by g.place log REDO_ORDER e k) v (sym (redone-first g.place log e es k) ∙ is)) [
+    elim (either_some (redo_value g.place log es k) (given_by g.place log REDO_ORDER e k) v (sym (redo_value-first g.place log e es k) ∙ is)) [
       | inl later ↦ redone_is_mine size at g log es k v ground (All-tail (IsInScope g) e es own) later
       | inr here ↦ named_is_mine size at g e k v ground (All-head (IsInScope g) e es own) (value_of_given g.place log REDO_ORDER e k v here.1)
     ]
@@ -100,7 +100,7 @@ pending_is_mine size at g es k v ground own is = redone_is_mine size at g commit
 -- ---- behind others
 
 pub saved-append : (place : Place) (es more : List Entry) (k : ℕ) → saved place (es ++ more) k ≡ option_or (saved place es k) (saved place more k)
-saved-append place es more k = undone-append place running_range es more k
+saved-append place es more k = undo_value-append place running_range es more k
 
 -- what is not saved by all of them is saved by none
 pub or_first_none : (a b : Option ℕ) → option_or a b ≡ None → a ≡ None
@@ -122,14 +122,14 @@ saved-none_more place es more k none = or_second_none (saved place es k) (saved 
 -- it saves its values, placed from its word on
 pub saved-one : (place : Place) (address first k : ℕ) (vals : List ℕ) → place address ≡ Some first → saved place (undo_entry address vals ∷ []) k ≡ placed first vals k
 saved-one place address first k vals is =
-    undone-first place running_range (undo_entry address vals) [] k
-    ∙ ap (option_or (value_from (place address) vals k)) (undone-none place running_range k)
+    undo_value-first place running_range (undo_entry address vals) [] k
+    ∙ ap (option_or (value_from (place address) vals k)) (undo_value-none place running_range k)
     ∙ sym (or_none (value_from (place address) vals k))
     ∙ ap (λ (o : Option ℕ). value_from o vals k) is
 
 -- a redo entry saves nothing
 pub saved-redo : (place : Place) (address k : ℕ) (vals : List ℕ) → saved place (redo_entry address vals ∷ []) k ≡ None
-saved-redo place address k vals = undone-first place running_range (redo_entry address vals) [] k ∙ undone-none place running_range k
+saved-redo place address k vals = undo_value-first place running_range (redo_entry address vals) [] k ∙ undo_value-none place running_range k
 
 -- so each of its words is saved
 pub saved_by_one : (place : Place) (address first k : ℕ) (vals : List ℕ) → place address ≡ Some first → IsOneOf first (length vals) k → saved place (undo_entry address vals ∷ []) k ≡ None → ⊥

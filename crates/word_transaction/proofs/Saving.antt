@@ -14,7 +14,7 @@ use Rattle.pud_defs.specs.Image.{Image}
 use Rattle.pud_defs.specs.Entries.{Entry, log_of, words_from}
 use Rattle.pud_defs.specs.Replay.{value_from, given_by}
 use Rattle.pud_defs.proofs.Entries.{words_from-length, words_from-step, words_from-none}
-use Rattle.pud_defs.proofs.Replay.{not_inside, or_none, undone-first, undone-none}
+use Rattle.pud_defs.proofs.Replay.{not_inside, or_none, undo_value-first, undo_value-none}
 use Rattle.log_store.specs.Store.{OpenLog, undo_entry, with_entries, saying, InLog, IsOpen, with_last, HasGrown, Appends, append_fault}
 use Rattle.log_store.specs.declared.AppendFault.{AppendFault}
 use Rattle.log_store.specs.declared.AppendFault.TheVariants.{Host, TooBig}
@@ -129,9 +129,9 @@ IsRead-own g image e read = record { may = read.may; kind = inl read.undo }
 
 -- what they save has its value of the image
 saved-read : (g : Scope) (image : Image) (more : List Entry) (k v : ℕ) → All (IsRead g image) more → saved g.place more k ≡ Some v → v ≡ image k
-saved-read g image [] k v read is = absurd (some_not_none _ v is (undone-none g.place running_range k))
+saved-read g image [] k v read is = absurd (some_not_none _ v is (undo_value-none g.place running_range k))
 saved-read g image (e ∷ more) k v read is =
-    elim (either_some (given_by g.place running_range UNDO_ORDER e k) (saved g.place more k) v (sym (undone-first g.place running_range e more k) ∙ is)) [
+    elim (either_some (given_by g.place running_range UNDO_ORDER e k) (saved g.place more k) v (sym (undo_value-first g.place running_range e more k) ∙ is)) [
       | inl here ↦
           let it = All-head (IsRead g image) e more read in
           placed_words image it.first (length e.vals) k v

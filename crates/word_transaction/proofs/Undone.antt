@@ -9,14 +9,14 @@ use Rattle.pud_defs.specs.declared.log_words.TheConstants.{CLOSED_GATE}
 use Rattle.pud_defs.specs.Image.{Image}
 use Rattle.pud_defs.specs.Entries.{Entry, entries_in, words_from}
 use Rattle.pud_defs.proofs.Entries.{words_from-none, entries_in-nothing}
-use Rattle.pud_defs.proofs.Replay.{undone-none}
+use Rattle.pud_defs.proofs.Replay.{undo_value-none}
 use Rattle.log_store.specs.Store.{OpenLog, saying}
 use Rattle.log_store.proofs.Open.{IsOpen-words}
 use Rattle.word_transaction.specs.Scope.{Scope, IsScope, running_range, saved}
 use Rattle.word_transaction.specs.Running.{IsRunning, AbortsTransaction}
 use Rattle.word_transaction.proofs.Saved.{new_value-running, saved_is_mine}
 use Rattle.word_transaction.proofs.Images.{IsRunning-settles}
-use Rattle.word_transaction.proofs.Growing.{undone-places}
+use Rattle.word_transaction.proofs.Growing.{undo_value-places}
 use Rattle.word_transaction.proofs.Committed.{Closes-shut}
 use Rattle.word_transaction.proofs.Settled.{Gives}
 
@@ -29,7 +29,7 @@ pub AbortsTransaction-empty : (size : ℕ) (log : OpenLog) (es : List Entry) (g 
 AbortsTransaction-empty size log es g before fault a b ground r none p =
     let empty = no_words es (reads a.now.words) (log.gate_at + LOG_HEADER_WORDS) log.used none (IsOpen-words log es a.now.words r.opened) in
     Closes-shut size log.gate_at g ground before fault a b (λ image picked. IsRunning-settles g log es before image a.now.words r picked)
-    (λ k mine. r.single k mine (ap (λ (fs : List Entry). saved g.place fs k) empty ∙ undone-none g.place running_range k)) p
+    (λ k mine. r.single k mine (ap (λ (fs : List Entry). saved g.place fs k) empty ∙ undo_value-none g.place running_range k)) p
 
 -- a running log gives what is saved
 pub Gives-running : (size : ℕ) (g : Scope) (log : OpenLog) (es : List Entry) (before : Image) (words : Words) → IsScope size log.gate_at g → IsRunning g log es before words
@@ -38,7 +38,7 @@ Gives-running size g log es before words ground r =
     record {
       opened = r.opened;
       own = r.own;
-      given = λ place same k. new_value-running g place (saying log es) es k r.lo r.hi refl r.own ∙ undone-places g.place place running_range es k same;
+      given = λ place same k. new_value-running g place (saying log es) es k r.lo r.hi refl r.own ∙ undo_value-places g.place place running_range es k same;
       has_word = λ k v is. saved_is_mine size log.gate_at g es k v ground r.own is;
       saves = r.saves;
       single = r.single;

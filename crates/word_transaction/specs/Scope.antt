@@ -5,7 +5,7 @@ use Rattle.pud_defs.specs.declared.log_words.TheConstants.{UNDO_SEQ, UNDO_ORDER,
 use Rattle.pud_defs.specs.declared.space.TheConstants.{WORD_BYTES}
 use Rattle.pud_defs.specs.Image.{Image}
 use Rattle.pud_defs.specs.Entries.{Entry, Log}
-use Rattle.pud_defs.specs.Replay.{Place, value_in, undone, redone, overwritten, is_in_log}
+use Rattle.pud_defs.specs.Replay.{Place, value_in, undo_value, redo_value, overwritten, is_in_log}
 use Rattle.log_store.specs.Store.{is_redo}
 
 -- Which word an address names; which entries the transaction may write, by their address and their number of values; and which words are its
@@ -72,8 +72,8 @@ committing_range = record { lo = COMMITTING_LO; hi = COMMITTING_HI; entries = No
 
 -- what the undo entries among some keep of a word
 abbrev pub saved : Place → List Entry → ℕ → Option ℕ
-saved place es k = undone place running_range es k
+saved place es k = undo_value place running_range es k
 
 -- what the redo entries among some ask for in a word
 abbrev pub pending : Place → List Entry → ℕ → Option ℕ
-pending place es k = redone place committing_range es k
+pending place es k = redo_value place committing_range es k

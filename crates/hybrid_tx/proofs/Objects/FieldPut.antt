@@ -64,11 +64,11 @@ slot_address-read at slot of e same legal =
     ∙ ap (λ (o : ℕ). address_in (slice_get (map (λ (d : ℕ × Puddle). d.1) at) o) slot.slot) (sym ordinal)
     ∙ ap (λ (n : ℕ). address_in (slice_get (map (λ (d : ℕ × Puddle). d.1) at) (ordinal_of (place_of_slot slot))) n) (sym number)
 
-module _ (F : ℕ) (at : List (ℕ × Puddle)) (types : List (ℕ × ℕ)) (log behind : OpenLog) (before : Image) (undone now : Graph) (deferred : List DeferredValue) where
+module _ (F : ℕ) (at : List (ℕ × Puddle)) (types : List (ℕ × ℕ)) (log behind : OpenLog) (before : Image) (graph_before now : Graph) (deferred : List DeferredValue) where
   -- a call that failed before it did more than read
   pub RunsOn-stopped : {H : Type 0} {tells : Type 0} {state : H → State} {counts : H → Counts} {old new : H} (next : Graph) (more : List DeferredValue) (fault : HostFault) → behind.gate_at ≡ log.gate_at
-      → OnlyReads tells state counts (Some fault) old new → tells → IsOpenOn F at types log before undone now deferred (state old).now.words
-      → KeepsOpenOn F at types behind before undone next more (Some fault) (state old) (state new)
+      → OnlyReads tells state counts (Some fault) old new → tells → IsOpenOn F at types log before graph_before now deferred (state old).now.words
+      → KeepsOpenOn F at types behind before graph_before next more (Some fault) (state old) (state new)
   RunsOn-stopped {state = state} {old = old} {new = new} next more fault same only t is_open =
       let s = is_open.saving in
       record {
@@ -81,7 +81,7 @@ module _ (F : ℕ) (at : List (ℕ × Puddle)) (types : List (ℕ × ℕ)) (log 
         are = λ none. absurd (some_fault fault none);
       }
 
-  module _ (s f : ℕ) (x : Val) (old : State) (is_open : IsOpenOn F at types log before undone now deferred old.now.words) (may : MaySet types now s f x) where
+  module _ (s f : ℕ) (x : Val) (old : State) (is_open : IsOpenOn F at types log before graph_before now deferred old.now.words) (may : MaySet types now s f x) where
     no_place : place_in_pool F at (reads old.now.words) s ≡ None → ⊥
     no_place = placed_if_live types F at (reads old.now.words) now is_open.is s may.object may.live
 
@@ -95,7 +95,7 @@ module _ (F : ℕ) (at : List (ℕ × Puddle)) (types : List (ℕ × ℕ)) (log 
         → behind.gate_at ≡ log.gate_at → mid ≡ old → IsSlotOf at slot → place_in_pool F at (reads old.now.words) s ≡ Some (place_of_slot slot) → word_for F at (reads old.now.words) x ≡ Some v → word ≡ field_word slot f
         → ((e : ℕ × Puddle) → slice_get at slot.ordinal ≡ Some e → e.1.frontier ≡ steps_of e.1 → (b : Image) (redo : List Entry) → IsSaving F (finished_of at) log b redo mid.now.words
         → KeepsSaving F (finished_of at) behind b redo (placed (frame_at F e.0 + word) (v ∷ [])) fault mid new)
-        → KeepsOpenOn F at types behind before undone (with_field s f x now) deferred fault old new
+        → KeepsOpenOn F at types behind before graph_before (with_field s f x now) deferred fault old new
     RunsOn-set size word slot v fault mid new is_placed rewritten device apart same stays of found value is_word put =
         let image = reads old.now.words in
         let write = placed (frame_at F slot.frame + field_word slot f) (v ∷ []) in
@@ -104,7 +104,7 @@ module _ (F : ℕ) (at : List (ℕ × Puddle)) (types : List (ℕ × ℕ)) (log 
         let below = may.below in
         let put_here = subst (λ (k : ℕ). IsSaving F (finished_of at) log before redo mid.now.words → KeepsSaving F (finished_of at) behind before redo (placed (frame_at F slot.frame + k) (v ∷ [])) fault mid new) is_word
         (put (slot.frame, of.puddle) of.there ((rewritten.each slot of found).each (slot.frame, of.puddle) of.there) before redo) in
-        RunsOn-write F size at types before log behind undone now (with_field s f x now) deferred deferred redo write fault old mid new is_placed device apart same stays is_open put_here
+        RunsOn-write F size at types before log behind graph_before now (with_field s f x now) deferred deferred redo write fault old mid new is_placed device apart same stays is_open put_here
         (set_value types F at image now is_open.is is_placed s f slot (rewritten.each slot of found) of found x v may value)
         (AreDeferredEntries-kept F at types image (overwritten write image) now (with_field s f x now)
         (KeepsPlaces-field F at image is_placed.frames slot of f v (omega arith) now) (KeepsObjects-field s f x now) deferred redo is_open.are)
@@ -114,7 +114,7 @@ module _ (F : ℕ) (at : List (ℕ × Puddle)) (types : List (ℕ × ℕ)) (log 
         → behind.gate_at ≡ log.gate_at → mid ≡ old → IsSlotOf at slot → place_in_pool F at (reads old.now.words) s ≡ Some (place_of_slot slot) → word_for F at (reads old.now.words) x ≡ Some v → word ≡ field_word slot f
         → ((e : ℕ × Puddle) → slice_get at slot.ordinal ≡ Some e → e.1.frontier ≡ steps_of e.1 → (b : Image) (redo : List Entry) → IsSaving F (finished_of at) log b redo mid.now.words
         → KeepsSaving F (finished_of at) behind b (redo ++ redo_entry (e.1.base + WORD_BYTES * word) (v ∷ []) ∷ []) no_write fault mid new)
-        → KeepsOpenOn F at types behind before undone now (deferred ++ record { s = s; f = f; x = x } ∷ []) fault old new
+        → KeepsOpenOn F at types behind before graph_before now (deferred ++ record { s = s; f = f; x = x } ∷ []) fault old new
     RunsOn-later size word slot v fault mid new is_placed rewritten device apart same stays of found value is_word ask =
         let finished = (rewritten.each slot of found).each (slot.frame, of.puddle) of.there in
         let image = reads old.now.words in
@@ -124,7 +124,7 @@ module _ (F : ℕ) (at : List (ℕ × Puddle)) (types : List (ℕ × ℕ)) (log 
         let ask_here = subst (λ (k : ℕ). IsSaving F (finished_of at) log before redo mid.now.words → KeepsSaving F (finished_of at) behind before (redo ++ redo_entry (of.puddle.base + WORD_BYTES * k) (v ∷ []) ∷ []) no_write fault mid new)
         is_word (ask (slot.frame, of.puddle) of.there finished before redo) in
         let same_image : overwritten no_write image ≡ image = overwritten-nothing no_write image (λ k. refl) in
-        RunsOn-write F size at types before log behind undone now now deferred (deferred ++ record { s = s; f = f; x = x } ∷ []) (redo ++ entry ∷ []) no_write fault old mid new
+        RunsOn-write F size at types before log behind graph_before now now deferred (deferred ++ record { s = s; f = f; x = x } ∷ []) (redo ++ entry ∷ []) no_write fault old mid new
         is_placed device apart same stays is_open ask_here
         (ap (λ (i : Image). graph_of types (stored_in F at i)) same_image ∙ is_open.is)
         (subst (λ (i : Image). AreDeferredEntries F at types i now (deferred ++ record { s = s; f = f; x = x } ∷ []) (redo ++ entry ∷ [])) (sym same_image)

@@ -82,8 +82,8 @@ module _ (F : ℕ) (at : List (ℕ × Puddle)) (log_at : ℕ) (slot : Slot) (of 
 
 -- ---- an object is made
 
-module _ (F : ℕ) (at : List (ℕ × Puddle)) (types : List (ℕ × ℕ)) (log : OpenLog) (before : Image) (undone now : Graph) (deferred : List DeferredValue) (old : State)
-    (is_open : IsOpenOn F at types log before undone now deferred old.now.words) where
+module _ (F : ℕ) (at : List (ℕ × Puddle)) (types : List (ℕ × ℕ)) (log : OpenLog) (before : Image) (graph_before now : Graph) (deferred : List DeferredValue) (old : State)
+    (is_open : IsOpenOn F at types log before graph_before now deferred old.now.words) where
   -- the words of the slot are put, and the next serial, behind a read
   module _ (behind : OpenLog) (first : ℕ × Puddle) (slot : Slot) (serial bumped type_id : ℕ) (words : List ℕ) (fault : Option HostFault) (mid new : State)
       (same : behind.gate_at ≡ log.gate_at) (stays : mid ≡ old) (head : slice_get at 0 ≡ Some first) (of : IsSlotOf at slot) (read : serial ≡ frame_word F first.0 NEXT_SERIAL_WORD (reads old.now.words))
@@ -124,11 +124,11 @@ module _ (F : ℕ) (at : List (ℕ × Puddle)) (types : List (ℕ × ℕ)) (log 
 
     pub RunsOn-new : (size m : ℕ) → IsPlaced F at → device_words F ≤ size → log.gate_at + LOG_WORDS ≤ frames_at F
         → place_word (stored_in F at image) (place_of_slot slot) SLOT_SERIAL_WORD ≡ 0 → map_of type_id types ≡ Some m
-        → KeepsOpenOn F at types behind before undone (with_new (blank_object type_id m) now) deferred fault old new
+        → KeepsOpenOn F at types behind before graph_before (with_new (blank_object type_id m) now) deferred fault old new
     RunsOn-new size m is_placed device apart free defined =
         let next = is_serial in
         let next_read = next_is F at types image first head serial read in
-        RunsOn-write F size at types before log behind undone now (with_new (blank_object type_id m) now) deferred deferred is_open.redo (making F first.0 slot serial type_id) fault old mid new
+        RunsOn-write F size at types before log behind graph_before now (with_new (blank_object type_id m) now) deferred deferred is_open.redo (making F first.0 slot serial type_id) fault old mid new
         is_placed device apart same stays is_open Saves-making
         (new_stored types F at image is_placed first head slot of serial type_id m free next_read defined now is_open.is room)
         (AreDeferredEntries-kept F at types image (overwritten (making F first.0 slot serial type_id) image) now (with_new (blank_object type_id m) now)

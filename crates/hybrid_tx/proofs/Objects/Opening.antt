@@ -48,9 +48,9 @@ RestsAs-behind F size at log before fault old new ground c rests =
 pub IsIdle-finished : (F : ℕ) (at : List (ℕ × Puddle)) (log : ℕ) (before : Image) (words : Words) → IsIdle (pool_scope F at) log before words → IsIdle (pool_scope F (finished_of at)) log before words
 IsIdle-finished F at log before words idle = record { closed = idle.closed; single = λ k mine. idle.single k (mine_of_finished F at k mine) }
 
-pub KeepsOpenOn-open : (F : ℕ) (at : List (ℕ × Puddle)) (types : List (ℕ × ℕ)) (log : OpenLog) (before : Image) (undone next : Graph) (deferred : List DeferredValue) (old new : State) → KeepsOpenOn F at types log before undone next deferred None old new
-    → IsOpenOn F at types log before undone next deferred new.now.words
-KeepsOpenOn-open F at types log before undone next deferred old new r =
+pub KeepsOpenOn-open : (F : ℕ) (at : List (ℕ × Puddle)) (types : List (ℕ × ℕ)) (log : OpenLog) (before : Image) (graph_before next : Graph) (deferred : List DeferredValue) (old new : State) → KeepsOpenOn F at types log before graph_before next deferred None old new
+    → IsOpenOn F at types log before graph_before next deferred new.now.words
+KeepsOpenOn-open F at types log before graph_before next deferred old new r =
     record {
       redo = r.redo;
       saving = record { es = r.saves.es; running = r.saves.runs.running refl; defers = r.saves.defers };
@@ -75,11 +75,11 @@ module _ (F size : ℕ) (at : List (ℕ × Puddle)) (types : List (ℕ × ℕ)) 
       }
 
   -- words that are written make the graph that images have over which they are written, and so of what is asked for later
-  pub RunsOn-saves : (log behind : OpenLog) (undone now next : Graph) (deferred more : List DeferredValue) (redo : List Entry) (write : Write) (fault : Option HostFault) (old new : State)
-      → IsScope size behind.gate_at (pool_scope F at) → IsOpenOn F at types log before undone now deferred old.now.words → KeepsSaving F (finished_of at) behind before redo write fault old new
+  pub RunsOn-saves : (log behind : OpenLog) (graph_before now next : Graph) (deferred more : List DeferredValue) (redo : List Entry) (write : Write) (fault : Option HostFault) (old new : State)
+      → IsScope size behind.gate_at (pool_scope F at) → IsOpenOn F at types log before graph_before now deferred old.now.words → KeepsSaving F (finished_of at) behind before redo write fault old new
       → graph_of types (stored_in F at (overwritten write (reads old.now.words))) ≡ Some next → AreDeferredEntries F at types (overwritten write (reads old.now.words)) next more redo
-      → KeepsOpenOn F at types behind before undone next more fault old new
-  RunsOn-saves log behind undone now next deferred more redo write fault old new ground is_open saves graph are =
+      → KeepsOpenOn F at types behind before graph_before next more fault old new
+  RunsOn-saves log behind graph_before now next deferred more redo write fault old new ground is_open saves graph are =
       let stored : fault ≡ None → stored_in F at (reads new.now.words) ≡ stored_in F at (overwritten write (reads old.now.words)) =
       λ none. stored_in-has_word F at (overwritten write (reads old.now.words)) (reads new.now.words) (λ k mine. saves.runs.now none k (ground.apart k mine)) in
       record {
@@ -93,11 +93,11 @@ module _ (F size : ℕ) (at : List (ℕ × Puddle)) (types : List (ℕ × ℕ)) 
       }
 
   -- what is saved and written, or asked for, behind calls that only read
-  pub RunsOn-write : (log behind : OpenLog) (undone now next : Graph) (deferred more : List DeferredValue) (redo : List Entry) (write : Write) (fault : Option HostFault) (old mid new : State)
-      → IsPlaced F at → device_words F ≤ size → log.gate_at + LOG_WORDS ≤ frames_at F → behind.gate_at ≡ log.gate_at → mid ≡ old → (is_open : IsOpenOn F at types log before undone now deferred old.now.words)
+  pub RunsOn-write : (log behind : OpenLog) (graph_before now next : Graph) (deferred more : List DeferredValue) (redo : List Entry) (write : Write) (fault : Option HostFault) (old mid new : State)
+      → IsPlaced F at → device_words F ≤ size → log.gate_at + LOG_WORDS ≤ frames_at F → behind.gate_at ≡ log.gate_at → mid ≡ old → (is_open : IsOpenOn F at types log before graph_before now deferred old.now.words)
       → (IsSaving F (finished_of at) log before is_open.redo mid.now.words → KeepsSaving F (finished_of at) behind before redo write fault mid new)
       → graph_of types (stored_in F at (overwritten write (reads old.now.words))) ≡ Some next → AreDeferredEntries F at types (overwritten write (reads old.now.words)) next more redo
-      → KeepsOpenOn F at types behind before undone next more fault old new
-  RunsOn-write log behind undone now next deferred more redo write fault old mid new is_placed device apart same stays is_open saves graph are =
-      RunsOn-saves log behind undone now next deferred more redo write fault old new (is_ground F size behind.gate_at at is_placed device (omega arith)) is_open
+      → KeepsOpenOn F at types behind before graph_before next more fault old new
+  RunsOn-write log behind graph_before now next deferred more redo write fault old mid new is_placed device apart same stays is_open saves graph are =
+      RunsOn-saves log behind graph_before now next deferred more redo write fault old new (is_ground F size behind.gate_at at is_placed device (omega arith)) is_open
       (subst (λ (m : State). IsSaving F (finished_of at) log before is_open.redo m.now.words → KeepsSaving F (finished_of at) behind before redo write fault m new) stays saves is_open.saving) graph are

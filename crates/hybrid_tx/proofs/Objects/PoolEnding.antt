@@ -36,8 +36,8 @@ off_own : (write : Option ℕ) (mine : Bool) → ((v : ℕ) → write ≡ Some v
 off_own None mine own other w = refl
 off_own (Some v) mine own other w = absurd (let it : true ≡ false = sym (own v refl) ∙ other in cc)
 
-module _ (F size : ℕ) (at : List (ℕ × Puddle)) (types : List (ℕ × ℕ)) (log : OpenLog) (before : Image) (undone now : Graph) (deferred : List DeferredValue) (fault : Option HostFault) (old new : State)
-    (is_placed : IsPlaced F at) (device : device_words F ≤ size) (apart : log.gate_at + LOG_WORDS ≤ frames_at F) (is_open : IsOpenOn F at types log before undone now deferred old.now.words) where
+module _ (F size : ℕ) (at : List (ℕ × Puddle)) (types : List (ℕ × ℕ)) (log : OpenLog) (before : Image) (graph_before now : Graph) (deferred : List DeferredValue) (fault : Option HostFault) (old new : State)
+    (is_placed : IsPlaced F at) (device : device_words F ≤ size) (apart : log.gate_at + LOG_WORDS ≤ frames_at F) (is_open : IsOpenOn F at types log before graph_before now deferred old.now.words) where
   abbrev own : Scope
   own = pool_scope F (finished_of at)
 
@@ -71,7 +71,7 @@ module _ (F size : ℕ) (at : List (ℕ × Puddle)) (types : List (ℕ × ℕ)) 
 
   pub EndsOn-ends : (deferred ≢ [] → CanRedo (pool_scope F (finished_of at)) F log.gate_at old.now.words)
       → ((g : Scope) (es : List Entry) (b : Image) → IsScope size log.gate_at g → IsRunning g log es b old.now.words → (defers es ≡ true → CanRedo g F log.gate_at old.now.words)
-      → CommitsTransaction g log.gate_at b (overwritten (pending g.place es) (reads old.now.words)) fault old new) → CommitsOnPool F at types log.gate_at before undone (with_deferred_set deferred now) fault old new
+      → CommitsTransaction g log.gate_at b (overwritten (pending g.place es) (reads old.now.words)) fault old new) → CommitsOnPool F at types log.gate_at before graph_before (with_deferred_set deferred now) fault old new
   EndsOn-ends can ends =
       let s = is_open.saving in
       let its = ends own s.es before own_ground s.running (λ asked_some. can (some_asked asked_some)) in
@@ -85,7 +85,7 @@ module _ (F size : ℕ) (at : List (ℕ × Puddle)) (types : List (ℕ × ℕ)) 
       }
 
   pub ClosesOn-closes : ((es : List Entry) → IsScope size log.gate_at (pool_scope F (finished_of at)) → IsRunning (pool_scope F (finished_of at)) log es before old.now.words
-      → AbortsTransaction (pool_scope F (finished_of at)) log.gate_at before fault old new) → AbortsOnPool F at types log.gate_at before undone fault old new
+      → AbortsTransaction (pool_scope F (finished_of at)) log.gate_at before fault old new) → AbortsOnPool F at types log.gate_at before graph_before fault old new
   ClosesOn-closes closes =
       let its = closes is_open.saving.es own_ground is_open.saving.running in
       record { closes = its; rests = λ none. rests_behind its.changes; was = is_open.was }
@@ -119,11 +119,11 @@ module _ (F : ℕ) (at : List (ℕ × Puddle)) (types : List (ℕ × ℕ)) where
         is = ap (graph_of types) (stored_in-has_word F at values (reads words) (λ k mine. HasOnly-newest (words k) (values k) (single k mine))) ∙ is;
       }
 
-  pub IsAtRest-closed : (log : ℕ) (before : Image) (undone : Graph) (old new : State) → AbortsOnPool F at types log before undone None old new → IsAtRest F at types log undone new.now.words
-  IsAtRest-closed log before undone old new c =
-      at_rest log before undone new.now.words (AbortsTransaction-idle (pool_scope F (finished_of at)) log before None old new refl c.closes) (c.rests refl) c.was
+  pub IsAtRest-closed : (log : ℕ) (before : Image) (graph_before : Graph) (old new : State) → AbortsOnPool F at types log before graph_before None old new → IsAtRest F at types log graph_before new.now.words
+  IsAtRest-closed log before graph_before old new c =
+      at_rest log before graph_before new.now.words (AbortsTransaction-idle (pool_scope F (finished_of at)) log before None old new refl c.closes) (c.rests refl) c.was
 
-  pub IsAtRest-ended : (log : ℕ) (before : Image) (undone next : Graph) (old new : State) → CommitsOnPool F at types log before undone next None old new → IsAtRest F at types log next new.now.words
-  IsAtRest-ended log before undone next old new e =
+  pub IsAtRest-ended : (log : ℕ) (before : Image) (graph_before next : Graph) (old new : State) → CommitsOnPool F at types log before graph_before next None old new → IsAtRest F at types log next new.now.words
+  IsAtRest-ended log before graph_before next old new e =
       at_rest log e.after next new.now.words (CommitsTransaction-idle (pool_scope F (finished_of at)) log before e.after None old new refl e.ends)
       (record { each = λ k mine other. subst (λ (v : ℕ). HasOnly (new.now.words k) v) (sym (e.beside k mine other)) ((e.rests refl).each k mine other) }) e.is

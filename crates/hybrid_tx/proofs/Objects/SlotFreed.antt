@@ -90,16 +90,16 @@ module _ (F size : ℕ) (at : List (ℕ × Puddle)) (slot : Slot) (of : IsSlotOf
 
 -- ---- the graph
 
-module _ (F : ℕ) (at : List (ℕ × Puddle)) (types : List (ℕ × ℕ)) (log behind : OpenLog) (before : Image) (undone now : Graph) (deferred : List DeferredValue) (old : State)
-    (is_open : IsOpenOn F at types log before undone now deferred old.now.words) where
+module _ (F : ℕ) (at : List (ℕ × Puddle)) (types : List (ℕ × ℕ)) (log behind : OpenLog) (before : Image) (graph_before now : Graph) (deferred : List DeferredValue) (old : State)
+    (is_open : IsOpenOn F at types log before graph_before now deferred old.now.words) where
   pub RunsOn-free : (size s : ℕ) (slot : Slot) (fault : Option HostFault) (mid new : State) → MayFree now s → deferred_set_names s deferred ≡ false → IsPlaced F at → device_words F ≤ size → log.gate_at + LOG_WORDS ≤ frames_at F
       → behind.gate_at ≡ log.gate_at → mid ≡ old → IsSlotOf at slot → place_in_pool F at (reads old.now.words) s ≡ Some (place_of_slot slot)
       → ((redo : List Entry) → IsSaving F (finished_of at) log before redo mid.now.words → KeepsSaving F (finished_of at) behind before redo (placed (serial_word_at F slot) (0 ∷ [])) fault mid new)
-      → KeepsOpenOn F at types behind before undone (without_object s now) deferred fault old new
+      → KeepsOpenOn F at types behind before graph_before (without_object s now) deferred fault old new
   RunsOn-free size s slot fault mid new may unnamed is_placed device apart same stays of found saves =
       let image = reads old.now.words in
       let redo = is_open.redo in
-      RunsOn-write F size at types before log behind undone now (without_object s now) deferred deferred redo (placed (serial_word_at F slot) (0 ∷ [])) fault old mid new
+      RunsOn-write F size at types before log behind graph_before now (without_object s now) deferred deferred redo (placed (serial_word_at F slot) (0 ∷ [])) fault old mid new
       is_placed device apart same stays is_open (saves redo)
       (free_stored types F at image now is_open.is is_placed s slot of found may.spared)
       (AreLaters-freed types F at image now is_open.is is_placed s slot of found deferred redo unnamed is_open.are)

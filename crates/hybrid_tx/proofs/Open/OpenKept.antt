@@ -26,10 +26,10 @@ module _ (F : ℕ) (at : List (ℕ × Puddle)) (may : Footprint) (fault : Option
   stored_kept : stored_in F at (reads new.now.words) ≡ stored_in F at (reads old.now.words)
   stored_kept = stored_in-has_word F at (reads old.now.words) (reads new.now.words) (λ k mine. (c.keeps uncut k (λ v. own k v mine)).newest)
 
-  pub IsOpenOn-kept : (types more : List (ℕ × ℕ)) (log : OpenLog) (before : Image) (undone now : Graph) (deferred : List DeferredValue) → ((k v : ℕ) → InLog log.gate_at k v → may k v → ⊥)
+  pub IsOpenOn-kept : (types more : List (ℕ × ℕ)) (log : OpenLog) (before : Image) (graph_before now : Graph) (deferred : List DeferredValue) → ((k v : ℕ) → InLog log.gate_at k v → may k v → ⊥)
       → ((id m : ℕ) → map_of id types ≡ Some m → map_of id more ≡ Some m) → ((st : Stored) (g : Graph) → graph_of types st ≡ Some g → graph_of more st ≡ Some g)
-      → IsOpenOn F at types log before undone now deferred old.now.words → IsOpenOn F at more log before undone now deferred new.now.words
-  IsOpenOn-kept types more log before undone now deferred in_log defined graphs o =
+      → IsOpenOn F at types log before graph_before now deferred old.now.words → IsOpenOn F at more log before graph_before now deferred new.now.words
+  IsOpenOn-kept types more log before graph_before now deferred in_log defined graphs o =
       record {
         redo = o.redo;
         saving = record {
@@ -38,7 +38,7 @@ module _ (F : ℕ) (at : List (ℕ × Puddle)) (may : Footprint) (fault : Option
           defers = o.saving.defers;
         };
         rests = record { each = λ k mine other. HasOnly-kept may fault old new k (before k) c (λ v. own k v mine) (o.rests.each k mine other) };
-        was = graphs (stored_in F at before) undone o.was;
+        was = graphs (stored_in F at before) graph_before o.was;
         is = graphs (stored_in F at (reads new.now.words)) now (ap (graph_of types) stored_kept ∙ o.is);
         are = AreLaters-wider F at at types more (reads old.now.words) (reads new.now.words) now now (keeps_front at at (λ o e there. there)) (record { each = defined })
             (record { each = λ s o live. place_in_pool-stored F at (reads old.now.words) (reads new.now.words) stored_kept s }) (KeepsObjects-same now) deferred o.redo o.are;

@@ -7,12 +7,12 @@ use Rattle.std.proofs.lemmas.Bool.{cases_Bool, cond-true, cond-false}
 use Rattle.std.proofs.lemmas.List.Elements.{All-nil, All-cons, All-head, All-tail}
 use Rattle.pud_defs.specs.declared.log_words.TheConstants.{UNDO_ORDER, REDO_ORDER}
 use Rattle.pud_defs.specs.Entries.{Entry, Log}
-use Rattle.pud_defs.specs.Replay.{Place, is_in_range, given_by, undone, redone, given, new_value}
-use Rattle.pud_defs.proofs.Replay.{undone-first, redone-first, given_by-out, or_none, new_value-of}
+use Rattle.pud_defs.specs.Replay.{Place, is_in_range, given_by, undo_value, redo_value, given, new_value}
+use Rattle.pud_defs.proofs.Replay.{undo_value-first, redo_value-first, given_by-out, or_none, new_value-of}
 use Rattle.word_transaction.specs.Scope.{Scope, IsScope, IsInScope}
 use Rattle.word_transaction.specs.Running.{HasPlaces}
 use Rattle.word_transaction.proofs.Saved.{undone_is_mine, redone_is_mine}
-use Rattle.word_transaction.proofs.Growing.{undone-places, redone-places}
+use Rattle.word_transaction.proofs.Growing.{undo_value-places, redo_value-places}
 
 -- ---- entries in range alone count
 
@@ -33,37 +33,37 @@ counted_own g log (e ∷ es) own =
       | inr out ↦ subst (λ (xs : List Entry). All (IsInScope g) xs) (sym (cond-false _ _ _ out)) rest
     ]
 
-undone-counted : (place : Place) (log : Log) (es : List Entry) (w : ℕ) → undone place log es w ≡ undone place log (counted log es) w
-undone-counted place log [] w = refl
-undone-counted place log (e ∷ es) w = elim (cases_Bool (is_in_range log e)) [
+undo_value-counted : (place : Place) (log : Log) (es : List Entry) (w : ℕ) → undo_value place log es w ≡ undo_value place log (counted log es) w
+undo_value-counted place log [] w = refl
+undo_value-counted place log (e ∷ es) w = elim (cases_Bool (is_in_range log e)) [
   | inl inside ↦
-      undone-first place log e es w
-      ∙ ap (option_or (given_by place log UNDO_ORDER e w)) (undone-counted place log es w)
-      ∙ sym (undone-first place log e (counted log es) w)
-      ∙ ap (λ (xs : List Entry). undone place log xs w) (sym (cond-true _ _ _ inside))
+      undo_value-first place log e es w
+      ∙ ap (option_or (given_by place log UNDO_ORDER e w)) (undo_value-counted place log es w)
+      ∙ sym (undo_value-first place log e (counted log es) w)
+      ∙ ap (λ (xs : List Entry). undo_value place log xs w) (sym (cond-true _ _ _ inside))
   | inr out ↦
-      undone-first place log e es w
-      ∙ ap₂ option_or (given_by-out place log UNDO_ORDER e w out) (undone-counted place log es w)
-      ∙ ap (λ (xs : List Entry). undone place log xs w) (sym (cond-false _ _ _ out))
+      undo_value-first place log e es w
+      ∙ ap₂ option_or (given_by-out place log UNDO_ORDER e w out) (undo_value-counted place log es w)
+      ∙ ap (λ (xs : List Entry). undo_value place log xs w) (sym (cond-false _ _ _ out))
 ]
 
-redone-counted : (place : Place) (log : Log) (es : List Entry) (w : ℕ) → redone place log es w ≡ redone place log (counted log es) w
-redone-counted place log [] w = refl
-redone-counted place log (e ∷ es) w = elim (cases_Bool (is_in_range log e)) [
+redo_value-counted : (place : Place) (log : Log) (es : List Entry) (w : ℕ) → redo_value place log es w ≡ redo_value place log (counted log es) w
+redo_value-counted place log [] w = refl
+redo_value-counted place log (e ∷ es) w = elim (cases_Bool (is_in_range log e)) [
   | inl inside ↦
-      redone-first place log e es w
-      ∙ ap (λ (o : Option ℕ). option_or o (given_by place log REDO_ORDER e w)) (redone-counted place log es w)
-      ∙ sym (redone-first place log e (counted log es) w)
-      ∙ ap (λ (xs : List Entry). redone place log xs w) (sym (cond-true _ _ _ inside))
+      redo_value-first place log e es w
+      ∙ ap (λ (o : Option ℕ). option_or o (given_by place log REDO_ORDER e w)) (redo_value-counted place log es w)
+      ∙ sym (redo_value-first place log e (counted log es) w)
+      ∙ ap (λ (xs : List Entry). redo_value place log xs w) (sym (cond-true _ _ _ inside))
   | inr out ↦
-      redone-first place log e es w
-      ∙ ap₂ option_or (redone-counted place log es w) (given_by-out place log REDO_ORDER e w out)
-      ∙ sym (or_none (redone place log (counted log es) w))
-      ∙ ap (λ (xs : List Entry). redone place log xs w) (sym (cond-false _ _ _ out))
+      redo_value-first place log e es w
+      ∙ ap₂ option_or (redo_value-counted place log es w) (given_by-out place log REDO_ORDER e w out)
+      ∙ sym (or_none (redo_value place log (counted log es) w))
+      ∙ ap (λ (xs : List Entry). redo_value place log xs w) (sym (cond-false _ _ _ out))
 ]
 
 new_value-counted : (place : Place) (log : Log) (es : List Entry) (w : ℕ) → log.entries ≡ Some es → new_value place log w ≡ given place log (counted log es) w
-new_value-counted place log es w are = new_value-of place log es w are ∙ ap₂ option_or (redone-counted place log es w) (undone-counted place log es w)
+new_value-counted place log es w are = new_value-of place log es w are ∙ ap₂ option_or (redo_value-counted place log es w) (undo_value-counted place log es w)
 
 -- ---- what they give
 
@@ -74,7 +74,7 @@ new_value_placed g place log places es w are own =
     let counts = counted log es in
     let all = counted_own g log es own in
     let same : All (λ e. place e.address ≡ g.place e.address) counts = λ n d below. places.each (get_or counts n d).address (length (get_or counts n d).vals) (all n d below).may in
-    new_value-counted place log es w are ∙ ap₂ option_or (redone-places g.place place log counts w same) (undone-places g.place place log counts w same) ∙ sym (new_value-counted g.place log es w are)
+    new_value-counted place log es w are ∙ ap₂ option_or (redo_value-places g.place place log counts w same) (undo_value-places g.place place log counts w same) ∙ sym (new_value-counted g.place log es w are)
 
 pub either_of : {A : Type 0} (a b : Option A) (v : A) → option_or a b ≡ Some v → (a ≡ Some v) ⊎ (b ≡ Some v)
 either_of None b v is = inr is
@@ -85,7 +85,7 @@ pub new_value_own : (size at : ℕ) (g : Scope) (log : Log) → IsScope size at 
 new_value_own size at g log ground w v es are own is =
     let counts = counted log es in
     let all = counted_own g log es own in
-    elim (either_of (redone g.place log counts w) (undone g.place log counts w) v (sym (new_value-counted g.place log es w are) ∙ is)) [
+    elim (either_of (redo_value g.place log counts w) (undo_value g.place log counts w) v (sym (new_value-counted g.place log es w are) ∙ is)) [
       | inl later ↦ redone_is_mine size at g log counts w v ground all later
       | inr first ↦ undone_is_mine size at g log counts w v ground all first
     ]

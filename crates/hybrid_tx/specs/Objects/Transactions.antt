@@ -107,11 +107,11 @@ pub record RestsAs (F : ℕ) (at : List (ℕ × Puddle)) (before : Image) (words
 -- A transaction on the pool of these puddles is open: one on the words of the finished ones is, and those of the others rest. The pool had the graph that
 -- comes back if the transaction is undone when the words held what they held at the beginning, by what is read it has another now, and these values of
 -- fields are asked for, the oldest first.
-pub record IsOpenOn (F : ℕ) (at : List (ℕ × Puddle)) (types : List (ℕ × ℕ)) (log : OpenLog) (before : Image) (undone now : Graph) (deferred : List DeferredValue) (words : Words) : Type 0 where
+pub record IsOpenOn (F : ℕ) (at : List (ℕ × Puddle)) (types : List (ℕ × ℕ)) (log : OpenLog) (before : Image) (graph_before now : Graph) (deferred : List DeferredValue) (words : Words) : Type 0 where
   pub redo : List Entry
   pub saving : IsSaving F (finished_of at) log before redo words
   pub rests : RestsAs F at before words
-  pub was : graph_of types (stored_in F at before) ≡ Some undone
+  pub was : graph_of types (stored_in F at before) ≡ Some graph_before
   pub is : graph_of types (stored_in F at (reads words)) ≡ Some now
   pub are : AreDeferredEntries F at types (reads words) now deferred redo
 
@@ -132,13 +132,13 @@ pub record KeepsSaving (F : ℕ) (at : List (ℕ × Puddle)) (log : OpenLog) (be
 
 -- A call within a transaction on the pool: it runs on the words of its finished puddles, and those of the others rest. Without a fault the pool has the next graph by what is read, and these values of
 -- fields are asked for.
-pub record KeepsOpenOn (F : ℕ) (at : List (ℕ × Puddle)) (types : List (ℕ × ℕ)) (log : OpenLog) (before : Image) (undone next : Graph) (deferred : List DeferredValue) (fault : Option HostFault) (old new : State)
+pub record KeepsOpenOn (F : ℕ) (at : List (ℕ × Puddle)) (types : List (ℕ × ℕ)) (log : OpenLog) (before : Image) (graph_before next : Graph) (deferred : List DeferredValue) (fault : Option HostFault) (old new : State)
     : Type 0 where
   pub write : Write
   pub redo : List Entry
   pub saves : KeepsSaving F (finished_of at) log before redo write fault old new
   pub rests : fault ≡ None → RestsAs F at before new.now.words
-  pub was : graph_of types (stored_in F at before) ≡ Some undone
+  pub was : graph_of types (stored_in F at before) ≡ Some graph_before
   pub is : fault ≡ None → graph_of types (stored_in F at (reads new.now.words)) ≡ Some next
   pub are : fault ≡ None → AreDeferredEntries F at types (reads new.now.words) next deferred redo
 
@@ -153,17 +153,17 @@ pub record MakesIn (F : ℕ) (at : List (ℕ × Puddle)) (log_at : ℕ) (slot : 
       → reads new.now.words k ≡ overwritten (making F first.0 slot (next_serial_of (stored_in F at (reads old.now.words))) type_id) (reads old.now.words) k
 
 -- The transaction is undone, and its log, whose gate is this word, closed: each image settles to what the words held at the beginning.
-pub record AbortsOnPool (F : ℕ) (at : List (ℕ × Puddle)) (types : List (ℕ × ℕ)) (log_at : ℕ) (before : Image) (undone : Graph) (fault : Option HostFault) (old new : State) : Type 0 where
+pub record AbortsOnPool (F : ℕ) (at : List (ℕ × Puddle)) (types : List (ℕ × ℕ)) (log_at : ℕ) (before : Image) (graph_before : Graph) (fault : Option HostFault) (old new : State) : Type 0 where
   pub closes : AbortsTransaction (pool_scope F (finished_of at)) log_at before fault old new
   pub rests : fault ≡ None → RestsAs F at before new.now.words
-  pub was : graph_of types (stored_in F at before) ≡ Some undone
+  pub was : graph_of types (stored_in F at before) ≡ Some graph_before
 
 -- The transaction is committed, and its log closed: until the range of the log moves each image settles to what the words held at the beginning, and from
 -- then on to what they come to hold, by which the pool has the new graph; the words of the puddles that are not finished stay.
-pub record CommitsOnPool (F : ℕ) (at : List (ℕ × Puddle)) (types : List (ℕ × ℕ)) (log_at : ℕ) (before : Image) (undone next : Graph) (fault : Option HostFault) (old new : State) : Type 0 where
+pub record CommitsOnPool (F : ℕ) (at : List (ℕ × Puddle)) (types : List (ℕ × ℕ)) (log_at : ℕ) (before : Image) (graph_before next : Graph) (fault : Option HostFault) (old new : State) : Type 0 where
   pub after : Image
   pub ends : CommitsTransaction (pool_scope F (finished_of at)) log_at before after fault old new
   pub beside : (k : ℕ) → pool_has_word F at k ≡ true → pool_has_word F (finished_of at) k ≡ false → after k ≡ before k
   pub rests : fault ≡ None → RestsAs F at before new.now.words
-  pub was : graph_of types (stored_in F at before) ≡ Some undone
+  pub was : graph_of types (stored_in F at before) ≡ Some graph_before
   pub is : graph_of types (stored_in F at after) ≡ Some next

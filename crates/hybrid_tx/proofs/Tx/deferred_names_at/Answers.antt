@@ -16,7 +16,7 @@ loop-entry-init g c =
     record {
       reading = IsReading-start c.args.self.now.log.gate_at c.new-reader.result start;
       only_reads = OnlyReads-none;
-      names = λ t image same before undone now deferred placed is_open used place.
+      names = λ t image same before graph_before now deferred placed is_open used place.
           let spells = ap (λ (i : Image). entries_of i c.args.self.now.log.gate_at) (sym same) ∙ ap (λ (l : Log). l.entries) is_open.saving.running.opened.says in
           let are = subst (λ (i : Image). AreDeferredEntries c.args.frames c.args.pool.now (types_of image) i now deferred is_open.redo) same is_open.are in
           NamesRest-start c.args.frames c.args.pool.now (types_of image) image now c.args.s c.args.self.now.log.gate_at _ is_open.saving.es is_open.redo deferred start spells is_open.saving.defers are;
@@ -28,11 +28,11 @@ loop-entry-preserved g c =
     record {
       reading = IsReading-more c.args.self.now.log.gate_at _ c.in-Some.entry _ _ old.reading c.in-Some.is c.in_ok-entry.ensures.passes;
       only_reads = OnlyReads-then old.only_reads (OnlyReads-then c.in_ok-entry.ensures.only_reads c.in_ok-names.ensures.only_reads);
-      names = λ t image same before undone now deferred placed is_open used place.
+      names = λ t image same before graph_before now deferred placed is_open used place.
           let here = still_reads old.only_reads t same in
           let behind = still_reads c.in_ok-entry.ensures.only_reads t here in
           let is = ap (λ (i : Image). graph_of (types_of image) (stored_in c.args.frames c.args.pool.now i)) (sym same) ∙ is_open.is in
-          elim (NamesRest-more c.args.frames c.args.pool.now (types_of image) image now c.args.s _ c.in-Some.entry _ _ _ (old.names t image same before undone now deferred placed is_open used place) c.in-Some.is
+          elim (NamesRest-more c.args.frames c.args.pool.now (types_of image) image now c.args.s _ c.in-Some.entry _ _ _ (old.names t image same before graph_before now deferred placed is_open used place) c.in-Some.is
           (c.in_ok-entry.ensures.left t image here)) [
             | inl one ↦ NamesRest-passed c.args.frames c.args.pool.now (types_of image) image now c.args.s _ _ _ one
                 (λ l later. sym c.if-branch.false ∙ c.in_ok-names.ensures.names t image behind now l _ placed is later used place (c.slot_address-address.ensures.address placed.legal))
@@ -41,12 +41,12 @@ loop-entry-preserved g c =
     }
 
 pub returns-then-branch-clause-names : goal.returns-then-branch-clause-names
-returns-then-branch-clause-names g c = λ t image same before undone now deferred placed is_open used place.
+returns-then-branch-clause-names g c = λ t image same before graph_before now deferred placed is_open used place.
     let old = c.loop-entry.invariant in
     let here = still_reads old.only_reads t same in
     let behind = still_reads c.in_ok-entry.ensures.only_reads t here in
     let is = ap (λ (i : Image). graph_of (types_of image) (stored_in c.args.frames c.args.pool.now i)) (sym same) ∙ is_open.is in
-    elim (NamesRest-more c.args.frames c.args.pool.now (types_of image) image now c.args.s _ c.in-Some.entry _ _ _ (old.names t image same before undone now deferred placed is_open used place) c.in-Some.is
+    elim (NamesRest-more c.args.frames c.args.pool.now (types_of image) image now c.args.s _ c.in-Some.entry _ _ _ (old.names t image same before graph_before now deferred placed is_open used place) c.in-Some.is
     (c.in_ok-entry.ensures.left t image here)) [
       | inl one ↦ NamesOne-decided c.args.frames c.args.pool.now (types_of image) image now c.args.s _ _ _ one
           (λ l later. sym c.if-branch.true ∙ c.in_ok-names.ensures.names t image behind now l _ placed is later used place (c.slot_address-address.ensures.address placed.legal))
@@ -54,8 +54,8 @@ returns-then-branch-clause-names g c = λ t image same before undone now deferre
     ]
 
 pub returns-clause-names : goal.returns-clause-names
-returns-clause-names g c = λ t image same before undone now deferred placed is_open used place.
+returns-clause-names g c = λ t image same before graph_before now deferred placed is_open used place.
     let old = c.loop-entry.invariant in
     let here = still_reads old.only_reads t same in
-    NamesRest-end c.args.frames c.args.pool.now (types_of image) image now c.args.s _ _ _ _ (old.names t image same before undone now deferred placed is_open used place) c.in_default.is
+    NamesRest-end c.args.frames c.args.pool.now (types_of image) image now c.args.s _ _ _ _ (old.names t image same before graph_before now deferred placed is_open used place) c.in_default.is
     (c.in_ok-entry.ensures.left t image here)

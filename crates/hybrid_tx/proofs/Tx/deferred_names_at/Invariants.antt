@@ -18,8 +18,8 @@ abbrev pub invariant-loop-entry : goal.invariant-loop-entry
 invariant-loop-entry g l = record {
   reading : IsReading l.self.log.gate_at l.reader;
   only_reads : OnlyReads g.H.Host.tells g.H.Host.state g.H.Host.counts None l.fn.h l.h;
-  names : g.H.Host.tells → (image : Image) → reads (g.H.Host.state l.fn.h).now.words ≡ image → (before : Image) (undone now : Graph) (deferred : List DeferredValue)
-      → IsPlaced l.frames l.pool → IsOpenOn l.frames l.pool (types_of image) l.self.log before undone now deferred (g.H.Host.state l.fn.h).now.words → l.s ≢ 0 → place_in_pool l.frames l.pool image l.s ≡ Some (place_of_slot l.gate_at)
+  names : g.H.Host.tells → (image : Image) → reads (g.H.Host.state l.fn.h).now.words ≡ image → (before : Image) (graph_before now : Graph) (deferred : List DeferredValue)
+      → IsPlaced l.frames l.pool → IsOpenOn l.frames l.pool (types_of image) l.self.log before graph_before now deferred (g.H.Host.state l.fn.h).now.words → l.s ≢ 0 → place_in_pool l.frames l.pool image l.s ≡ Some (place_of_slot l.gate_at)
       → NamesRest l.frames l.pool (types_of image) image now l.s l.reader (deferred_set_names l.s deferred);
 }
 

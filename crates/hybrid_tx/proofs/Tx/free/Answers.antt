@@ -16,13 +16,13 @@ returns-in_err-at-clause-changes g c =
 pub returns-in_err-at-clause-runs : goal.returns-in_err-at-clause-runs
 returns-in_err-at-clause-runs g c =
     let p = err_from_is_err_and c.from_residual.result c.from_residual.ensures.1 in
-    rw (p.1, p.2) (λ t types before undone now deferred placed rewritten is_open may unnamed.
-    RunsOn-stopped _ _ types c.args.self.now.log _ before undone now deferred _ _ _ refl c.in_err-at.ensures.only_reads t is_open)
+    rw (p.1, p.2) (λ t types before graph_before now deferred placed rewritten is_open may unnamed.
+    RunsOn-stopped _ _ types c.args.self.now.log _ before graph_before now deferred _ _ _ refl c.in_err-at.ensures.only_reads t is_open)
 
 pub returns-in-Some-clause-runs : goal.returns-in-Some-clause-runs
 returns-in-Some-clause-runs g c = λ t.
-    rw (← c.in_ok-at.ensures.only_reads.stays t) (λ types before undone now deferred placed rewritten is_open may unnamed.
-    c.free_at.ensures.runs t types before undone now deferred c.args.s placed rewritten is_open may unnamed
+    rw (← c.in_ok-at.ensures.only_reads.stays t) (λ types before graph_before now deferred placed rewritten is_open may unnamed.
+    c.free_at.ensures.runs t types before graph_before now deferred c.args.s placed rewritten is_open may unnamed
     (sym (c.in_ok-at.ensures.found t _ (sym (still_reads c.in_ok-at.ensures.only_reads t refl))) ∙ ap (option_map place_of_slot) c.in-Some.is))
 
 pub returns-in-Some-clause-nothing : goal.returns-in-Some-clause-nothing
@@ -33,11 +33,11 @@ pub returns-in-None-clause-changes : goal.returns-in-None-clause-changes
 returns-in-None-clause-changes g c = λ t. Changes-read c.in_ok-at.ensures.only_reads t
 
 pub returns-in-None-clause-runs : goal.returns-in-None-clause-runs
-returns-in-None-clause-runs g c = λ t types before undone now deferred placed rewritten is_open may unnamed.
+returns-in-None-clause-runs g c = λ t types before graph_before now deferred placed rewritten is_open may unnamed.
     let image = reads (g.H.Host.state c.args.h.now).now.words in
     absurd (placed_if_live types c.args.frames c.args.pool.now image now is_open.is c.args.s may.object may.live (sym (c.in_ok-at.ensures.found t image refl) ∙ ap (option_map place_of_slot) c.in-None.is))
 
 pub returns-in-None-clause-counts : goal.returns-in-None-clause-counts
-returns-in-None-clause-counts g c = λ t types before undone now deferred is_open may.
+returns-in-None-clause-counts g c = λ t types before graph_before now deferred is_open may.
     let image = reads (g.H.Host.state c.args.h.now).now.words in
     absurd (placed_if_live types c.args.frames c.args.pool.now image now is_open.is c.args.s may.object may.live (sym (c.in_ok-at.ensures.found t image refl) ∙ ap (option_map place_of_slot) c.in-None.is))

@@ -16,8 +16,8 @@ returns-in_err-serial-clause-changes g c =
 pub returns-in_err-serial-clause-runs : goal.returns-in_err-serial-clause-runs
 returns-in_err-serial-clause-runs g c =
     let p = err_from_is_err_and c.from_residual.result c.from_residual.ensures.1 in
-    rw (p.1, p.2) (λ t types m before undone now deferred placed is_open defined room root rewritten free.
-    RunsOn-stopped _ _ types c.args.self.now.log _ before undone now deferred _ _ _ refl c.in_err-serial.ensures.only_reads t is_open)
+    rw (p.1, p.2) (λ t types m before graph_before now deferred placed is_open defined room root rewritten free.
+    RunsOn-stopped _ _ types c.args.self.now.log _ before graph_before now deferred _ _ _ refl c.in_err-serial.ensures.only_reads t is_open)
 
 pub returns-in_err-put_object-clause-changes : goal.returns-in_err-put_object-clause-changes
 returns-in_err-put_object-clause-changes g c =
@@ -32,8 +32,8 @@ returns-in_err-put_object-clause-runs g c =
     let p = err_from_is_err_and c.from_residual-in_err-put_object.result c.from_residual-in_err-put_object.ensures.1 in
     let some = slice_get_within c.args.pool.now c.args.at.now.ordinal (c.args.at.now.frame, c.requires.within.puddle) c.requires.within.there in
     let head = slice_get-get_or c.args.pool.now 0 _ (omega (arith, some)) in
-    rw (p.1, p.2) (λ t types m before undone now deferred placed is_open defined room root rewritten free.
-    RunsOn-new c.args.frames c.args.pool.now types c.args.self.now.log before undone now deferred (g.H.Host.state c.args.h.now) is_open
+    rw (p.1, p.2) (λ t types m before graph_before now deferred placed is_open defined room root rewritten free.
+    RunsOn-new c.args.frames c.args.pool.now types c.args.self.now.log before graph_before now deferred (g.H.Host.state c.args.h.now) is_open
     _ _ c.args.at.now c.in_ok-serial.serial _ c.args.t _ _ _ _ c.in_err-put_object.ensures.at (c.in_ok-serial.ensures.only_reads.stays t) head c.requires.within
     (c.in_ok-serial.ensures.word t (reads (g.H.Host.state c.args.h.now).now.words) refl) room c.new_words-words.ensures refl (c.in_err-put_object.ensures.saves t placed _ head root rewritten)
     _ m placed c.requires.device c.requires.place free defined)
@@ -46,10 +46,10 @@ returns-clause-changes g c = λ t.
     Changes-put c.args.frames c.args.pool.now _ c.args.at.now c.requires.within _ _ _ _ _ _ _ whole head (c.in_ok-serial.ensures.only_reads.stays t) (c.in_ok-put_object.ensures.changes t _ head)
 
 pub returns-clause-runs : goal.returns-clause-runs
-returns-clause-runs g c = λ t types m before undone now deferred placed is_open defined room root rewritten free.
+returns-clause-runs g c = λ t types m before graph_before now deferred placed is_open defined room root rewritten free.
     let some = slice_get_within c.args.pool.now c.args.at.now.ordinal (c.args.at.now.frame, c.requires.within.puddle) c.requires.within.there in
     let head = slice_get-get_or c.args.pool.now 0 _ (omega (arith, some)) in
-    RunsOn-new c.args.frames c.args.pool.now types c.args.self.now.log before undone now deferred (g.H.Host.state c.args.h.now) is_open
+    RunsOn-new c.args.frames c.args.pool.now types c.args.self.now.log before graph_before now deferred (g.H.Host.state c.args.h.now) is_open
     _ _ c.args.at.now c.in_ok-serial.serial _ c.args.t _ _ _ _ c.in_ok-put_object.ensures.at (c.in_ok-serial.ensures.only_reads.stays t) head c.requires.within
     (c.in_ok-serial.ensures.word t (reads (g.H.Host.state c.args.h.now).now.words) refl) room c.new_words-words.ensures refl (c.in_ok-put_object.ensures.saves t placed _ head root rewritten)
     _ m placed c.requires.device c.requires.place free defined
@@ -66,7 +66,7 @@ pub returns-in_err-serial-clause-makes : goal.returns-in_err-serial-clause-makes
 returns-in_err-serial-clause-makes g c =
     let p = err_from_is_err_and c.from_residual.result c.from_residual.ensures.1 in
     let some = slice_get_within c.args.pool.now c.args.at.now.ordinal (c.args.at.now.frame, c.requires.within.puddle) c.requires.within.there in
-    rw (p.1, p.2) (λ t types before undone now deferred placed is_open room root rewritten.
+    rw (p.1, p.2) (λ t types before graph_before now deferred placed is_open room root rewritten.
     MakesIn-stopped c.args.frames c.args.pool.now _ c.args.at.now c.requires.within _ c.args.t _ _ _
     (slice_get-get_or c.args.pool.now 0 (c.args.at.now.frame, c.requires.within.puddle) (omega (arith, some)))
     c.in_err-serial.ensures.only_reads.never_cut (c.in_err-serial.ensures.only_reads.stays t))
@@ -76,17 +76,17 @@ returns-in_err-put_object-clause-makes g c =
     let p = err_from_is_err_and c.from_residual-in_err-put_object.result c.from_residual-in_err-put_object.ensures.1 in
     let some = slice_get_within c.args.pool.now c.args.at.now.ordinal (c.args.at.now.frame, c.requires.within.puddle) c.requires.within.there in
     let head = slice_get-get_or c.args.pool.now 0 _ (omega (arith, some)) in
-    rw (p.1, p.2) (λ t types before undone now deferred placed is_open room root rewritten.
-    MakesIn-new c.args.frames c.args.pool.now types c.args.self.now.log before undone now deferred (g.H.Host.state c.args.h.now) is_open
+    rw (p.1, p.2) (λ t types before graph_before now deferred placed is_open room root rewritten.
+    MakesIn-new c.args.frames c.args.pool.now types c.args.self.now.log before graph_before now deferred (g.H.Host.state c.args.h.now) is_open
     _ _ c.args.at.now c.in_ok-serial.serial _ c.args.t _ _ _ _ c.in_err-put_object.ensures.at (c.in_ok-serial.ensures.only_reads.stays t) head c.requires.within
     (c.in_ok-serial.ensures.word t (reads (g.H.Host.state c.args.h.now).now.words) refl) room c.new_words-words.ensures refl (c.in_err-put_object.ensures.saves t placed _ head root rewritten)
     (c.in_err-put_object.ensures.changes t _ head))
 
 pub returns-clause-makes : goal.returns-clause-makes
-returns-clause-makes g c = λ t types before undone now deferred placed is_open room root rewritten.
+returns-clause-makes g c = λ t types before graph_before now deferred placed is_open room root rewritten.
     let some = slice_get_within c.args.pool.now c.args.at.now.ordinal (c.args.at.now.frame, c.requires.within.puddle) c.requires.within.there in
     let head = slice_get-get_or c.args.pool.now 0 _ (omega (arith, some)) in
-    MakesIn-new c.args.frames c.args.pool.now types c.args.self.now.log before undone now deferred (g.H.Host.state c.args.h.now) is_open
+    MakesIn-new c.args.frames c.args.pool.now types c.args.self.now.log before graph_before now deferred (g.H.Host.state c.args.h.now) is_open
     _ _ c.args.at.now c.in_ok-serial.serial _ c.args.t _ _ _ _ c.in_ok-put_object.ensures.at (c.in_ok-serial.ensures.only_reads.stays t) head c.requires.within
     (c.in_ok-serial.ensures.word t (reads (g.H.Host.state c.args.h.now).now.words) refl) room c.new_words-words.ensures refl (c.in_ok-put_object.ensures.saves t placed _ head root rewritten)
     (c.in_ok-put_object.ensures.changes t _ head)

@@ -8,15 +8,15 @@ use Rattle.hybrid_tx.proofs.Objects.RootPut.{RunsOn-root}
 use Rattle.hybrid_tx.proofs.Tx.root_at.Goals as goal
 
 pub returns-then-is_empty-clause-runs : goal.returns-then-is_empty-clause-runs
-returns-then-is_empty-clause-runs g c = λ t types before undone now deferred s placed rewritten is_open word.
+returns-then-is_empty-clause-runs g c = λ t types before graph_before now deferred s placed rewritten is_open word.
     absurd (none_held types c.args.frames c.args.pool.now (reads (g.H.Host.state c.args.h.now).now.words) now (sym c.is_empty.ensures ∙ c.if-is_empty.true) is_open.is)
 
 pub returns-then-is_empty-clause-counts : goal.returns-then-is_empty-clause-counts
-returns-then-is_empty-clause-counts g c = λ t types before undone now deferred is_open.
+returns-then-is_empty-clause-counts g c = λ t types before graph_before now deferred is_open.
     absurd (none_held types c.args.frames c.args.pool.now (reads (g.H.Host.state c.args.h.now).now.words) now (sym c.is_empty.ensures ∙ c.if-is_empty.true) is_open.is)
 
 pub returns-clause-runs : goal.returns-clause-runs
-returns-clause-runs g c = λ t types before undone now deferred s placed rewritten is_open word.
+returns-clause-runs g c = λ t types before graph_before now deferred s placed rewritten is_open word.
     let some : 0 < length c.args.pool.now = positive_length c.args.pool.now (sym c.is_empty.ensures ∙ c.if-is_empty.false) in
-    RunsOn-root c.args.frames c.args.pool.now types c.args.self.now.log _ before undone now deferred (g.H.Host.state c.args.h.now) is_open _ s c.args.word (entry c.args.pool.now 0) (fault_of c.put_in_frame.result) _ _
+    RunsOn-root c.args.frames c.args.pool.now types c.args.self.now.log _ before graph_before now deferred (g.H.Host.state c.args.h.now) is_open _ s c.args.word (entry c.args.pool.now 0) (fault_of c.put_in_frame.result) _ _
     (slice_get-get_or c.args.pool.now 0 _ some) placed rewritten c.requires.device c.requires.place c.put_in_frame.ensures.at refl word (c.put_in_frame.ensures.saves t placed)

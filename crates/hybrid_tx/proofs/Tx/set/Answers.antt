@@ -15,16 +15,16 @@ returns-in_err-at-clause-changes g c =
 pub returns-in_err-at-clause-runs : goal.returns-in_err-at-clause-runs
 returns-in_err-at-clause-runs g c =
     let p = err_from_is_err_and c.from_residual.result c.from_residual.ensures.1 in
-    rw (p.1, p.2) (λ t types before undone now deferred placed rewritten is_open may.
-    RunsOn-stopped _ _ types c.args.self.now.log _ before undone now deferred _ _ _ refl c.in_err-at.ensures.only_reads t is_open)
+    rw (p.1, p.2) (λ t types before graph_before now deferred placed rewritten is_open may.
+    RunsOn-stopped _ _ types c.args.self.now.log _ before graph_before now deferred _ _ _ refl c.in_err-at.ensures.only_reads t is_open)
 
 pub returns-in-Some-clause-runs : goal.returns-in-Some-clause-runs
 returns-in-Some-clause-runs g c = λ t.
-    rw (← c.in_ok-at.ensures.only_reads.stays t) (λ types before undone now deferred placed rewritten is_open may.
+    rw (← c.in_ok-at.ensures.only_reads.stays t) (λ types before graph_before now deferred placed rewritten is_open may.
     let image = reads (g.H.Host.state c.place_and_word.new.h).now.words in
     let found = subst (λ (o : Option (Slot × ℕ)). IfSome o (IsPlaceAndWord c.args.frames c.args.pool.now image c.args.s c.args.x)) c.in-Some.is
     (c.in_ok-at.ensures.found t placed.legal image (sym (still_reads c.in_ok-at.ensures.only_reads t refl))) in
-    c.set_at.ensures.runs t types before undone now deferred c.args.s c.args.x placed rewritten is_open may found.0 found.1)
+    c.set_at.ensures.runs t types before graph_before now deferred c.args.s c.args.x placed rewritten is_open may found.0 found.1)
 
 pub returns-in-Some-clause-nothing : goal.returns-in-Some-clause-nothing
 returns-in-Some-clause-nothing g c = λ t legal lacks.
@@ -36,9 +36,9 @@ pub returns-in-None-clause-changes : goal.returns-in-None-clause-changes
 returns-in-None-clause-changes g c = λ t. Changes-read c.in_ok-at.ensures.only_reads t
 
 pub returns-in-None-clause-runs : goal.returns-in-None-clause-runs
-returns-in-None-clause-runs g c = λ t types before undone now deferred placed rewritten is_open may.
-    absurd (lacks_none _ _ types c.args.self.now.log c.args.self.now.log before undone now deferred c.args.s c.args.f c.args.x (g.H.Host.state c.args.h.now) is_open may (c.in_ok-at.ensures.none t placed.legal _ refl c.in-None.is))
+returns-in-None-clause-runs g c = λ t types before graph_before now deferred placed rewritten is_open may.
+    absurd (lacks_none _ _ types c.args.self.now.log c.args.self.now.log before graph_before now deferred c.args.s c.args.f c.args.x (g.H.Host.state c.args.h.now) is_open may (c.in_ok-at.ensures.none t placed.legal _ refl c.in-None.is))
 
 pub returns-in-None-clause-counts : goal.returns-in-None-clause-counts
-returns-in-None-clause-counts g c = λ t types before undone now deferred placed is_open may.
-    absurd (lacks_none _ _ types c.args.self.now.log c.args.self.now.log before undone now deferred c.args.s c.args.f c.args.x (g.H.Host.state c.args.h.now) is_open may (c.in_ok-at.ensures.none t placed.legal _ refl c.in-None.is))
+returns-in-None-clause-counts g c = λ t types before graph_before now deferred placed is_open may.
+    absurd (lacks_none _ _ types c.args.self.now.log c.args.self.now.log before graph_before now deferred c.args.s c.args.f c.args.x (g.H.Host.state c.args.h.now) is_open may (c.in_ok-at.ensures.none t placed.legal _ refl c.in-None.is))

@@ -5,7 +5,7 @@ use Rattle.hybrid_tx.specs.PoolScopes.{pool_scope, finished_of}
 use Rattle.hybrid_tx.proofs.open_laws.image_picked_is_left_with_it_open.Goals as goal
 
 pub returns : goal.returns
-returns c = λ F p types log before undone now deferred words image at is picked records unnamed.
+returns c = λ F p types log before graph_before now deferred words image at is picked records unnamed.
     record {
       unnamed = unnamed;
       records = λ k of. (records k of).each (image k) (picked.each k);
