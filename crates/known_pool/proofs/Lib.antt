@@ -2,4 +2,4 @@ pub mod KnownKept
 pub mod KnownChanged
 pub mod Bounded
 mod Asking
-mod LettingGo
+mod Releasing

@@ -33,11 +33,11 @@ pub record MayMove (was now : Val) (x : Index) : Type 0 where
   pub room : serial_named now ≢ 0 → MayBeReferenced (kept_under x (serial_named now))
 
 -- Each that is kept has let go what the object of this serial names.
-pub record HasLetGo (place : ℕ → Option ℕ) (g : Graph) (s : ℕ) (index : Option (List (ℕ × Kept))) : Type 0 where
+pub record HasReleased (place : ℕ → Option ℕ) (g : Graph) (s : ℕ) (index : Option (List (ℕ × Kept))) : Type 0 where
   pub each : (x : Index) → index ≡ Some (entries_of x) → IsIndexBy place (references_left g s []) x
 
 -- It has let go what the object of this serial names, and then the object: what it had before that is the places, and the holders without the object.
-pub record LetsGo (place : ℕ → Option ℕ) (g : Graph) (s : ℕ) (now : Index) : Type 0 where
+pub record Releases (place : ℕ → Option ℕ) (g : Graph) (s : ℕ) (now : Index) : Type 0 where
   pub before : Index
   pub left : IsIndexBy place (references_left g s []) before
   pub gone : KeepsBut before now s None

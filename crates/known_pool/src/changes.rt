@@ -17,7 +17,7 @@ ghost use Rattle.graph_read.specs.Index.{HasReference, MayBeReferenced, kept_und
 ghost use Rattle.graph_read.specs.Indexed.{IsIndexOf, serial_named};
 ghost use Rattle.graph_read.specs.Reading.{place_in_pool};
 ghost use Rattle.known_pool.specs.Known.{IsKnown, entries_of};
-ghost use Rattle.known_pool.specs.Indexes.{Follows, after_move, after_made, MayMove, HasLetGo, LetsGo};
+ghost use Rattle.known_pool.specs.Indexes.{Follows, after_move, after_made, MayMove, HasReleased, Releases};
 
 use crate::KnownPool;
 use graph_read::{Index, value_at};
@@ -86,7 +86,7 @@ fn retarget(index: &mut Option<Index>, was: Val, now: Val)
 }
 
 /// Lets go what the object in a slot names, where an index is kept: its fields are read.
-fn let_go<H: Loads>(
+fn release_fields<H: Loads>(
     index: &mut Option<Index>,
     h: &mut H,
     frames: u32,
@@ -101,7 +101,7 @@ fn let_go<H: Loads>(
         → (g : Graph) → graph_of (types_of image) (stored_in frames pool.now image) ≡ Option.Some g
         → (s : ℕ) → place_in_pool frames pool.now image s ≡ Option.Some (place_of_slot at.now)
         → ((x : Index) → index.old ≡ Option.Some x → IsIndexOf frames pool.now (types_of image) image x)
-        → IfOk result (λ _. HasLetGo (place_in_pool frames pool.now image) g s (option_map entries_of index.new)) }
+        → IfOk result (λ _. HasReleased (place_in_pool frames pool.now image) g s (option_map entries_of index.new)) }
     ensures only_reads { OnlyReads H.tells H.state H.counts (fault_of result) h.old h.new }
 {
     if index.is_none() {
@@ -166,12 +166,12 @@ impl KnownPool {
         ensures lets_go { H.tells → (image : Image) → reads (H.state h.old).now.words ≡ image
             → (g : Graph) → graph_of (types_of image) (stored_in frames self.old.puddles image) ≡ Option.Some g
             → place_in_pool frames self.old.puddles image s ≡ Option.Some (place_of_slot at.now) → IsKnown frames image self.old
-            → IfOk result (λ _. (x : Index) → self.new.index ≡ Option.Some (entries_of x) → LetsGo (place_in_pool frames self.old.puddles image) g s x) }
+            → IfOk result (λ _. (x : Index) → self.new.index ≡ Option.Some (entries_of x) → Releases (place_in_pool frames self.old.puddles image) g s x) }
         ensures puddles { self.new.puddles ≡ self.old.puddles }
         ensures full { IfOk result (λ _. self.new.full_below ≡ min self.old.full_below (place_of_slot at.now)) }
         ensures only_reads { OnlyReads H.tells H.state H.counts (fault_of result) h.old h.new }
     {
-        let_go(&mut self.index, h, frames, self.puddles.as_slice(), at)?;
+        release_fields(&mut self.index, h, frames, self.puddles.as_slice(), at)?;
         let place = place_of(self.puddles.as_slice(), at);
         self.full_below = self.full_below.min(place);
         if let Some(index) = &mut self.index {

@@ -93,7 +93,7 @@ pub(crate) enum Found {
 }
 
 /// The next serial of the pool of these puddles, 0 where there are none.
-fn serial_to_give<H: Host>(h: &mut H, frames: u32, pool: &[(u32, Puddle)]) -> Result<u64, HostFault>
+fn next_serial_of<H: Host>(h: &mut H, frames: u32, pool: &[(u32, Puddle)]) -> Result<u64, HostFault>
     requires few { frames ≤ MAX_FRAMES }
     requires room { device_words frames ≤ (H.counts h.old).size }
     requires known { IsOnDevice frames pool.now }
@@ -286,7 +286,7 @@ impl PoolTransaction {
         ensures only_reads { OnlyReads H.tells H.state H.counts (fault_of result) h.old h.new }
     {
         let map = find(h, u64::from(t))?;
-        let next = serial_to_give(h, frames, pool)?;
+        let next = next_serial_of(h, frames, pool)?;
         Ok(refusal_to_make(map, self.tx.units(), next))
     }
 
@@ -320,7 +320,7 @@ impl PoolTransaction {
     /// which has the next serial.
     ///
     /// The device has so many frames, and 37 units are left. At most two fences, and those of the batches of steps that are left of these puddles.
-    fn make<H: Host>(
+    fn make_object<H: Host>(
         &mut self,
         h: &mut H,
         frames: u32,
@@ -389,7 +389,7 @@ impl PoolTransaction {
     }
 
     /// Makes an object of type `t` where each slot is live, in one puddle more, or refuses to. A refused one changes nothing.
-    fn make_in_more<H: Host>(
+    fn make_in_new_puddle<H: Host>(
         &mut self,
         h: &mut H,
         frames: u32,
@@ -417,7 +417,7 @@ impl PoolTransaction {
             Err(refusal) => return Ok(Reply::No(refusal)),
         };
         self.grow(h, frames, pool, added)?;
-        let serial = self.make(h, frames, pool, t)?;
+        let serial = self.make_object(h, frames, pool, t)?;
         Ok(Reply::Ref(serial))
     }
 
@@ -450,11 +450,11 @@ impl PoolTransaction {
         if let Some(refusal) = self.find_refusal_to_make(h, frames, pool.as_slice(), t)? {
             return Ok(Reply::No(refusal));
         }
-        let serial = self.make(h, frames, pool, t)?;
+        let serial = self.make_object(h, frames, pool, t)?;
         if serial > 0 {
             return Ok(Reply::Ref(serial));
         }
-        self.make_in_more(h, frames, pool, t)
+        self.make_in_new_puddle(h, frames, pool, t)
     }
 
     /// Makes the change in the transaction, on the pool of which this is known, or refuses to, as its line of the transaction's client does. A refused
@@ -463,7 +463,7 @@ impl PoolTransaction {
     /// The device has so many frames. A puddle that is written is rewritten to its end first, by four fences for each batch of its steps that are left. An
     /// update takes at most two fences, and so does an object; where each slot is live the pool grows by a puddle first, which takes those of a batch and
     /// of a fresh frame; the puddle is then known.
-    pub fn change<H: Host>(
+    pub fn carry_out_change<H: Host>(
         &mut self,
         h: &mut H,
         frames: u32,

@@ -18,7 +18,7 @@ use pm_model::{Host, HostFault};
 use pud_defs::machine::{Refusal, Reply};
 
 /// Closes the client's logs, and then registers them for its owner.
-fn admit<H: Host>(h: &mut H, frames: u32, client: u32, uid: u32, gid: u32) -> Result<(), HostFault>
+fn close_and_register<H: Host>(h: &mut H, frames: u32, client: u32, uid: u32, gid: u32) -> Result<(), HostFault>
     requires known { client < CLIENTS }
     requires uid_fits { uid ≤ MAX_OWNER_ID }
     requires gid_fits { gid ≤ MAX_OWNER_ID }
@@ -36,7 +36,7 @@ fn admit<H: Host>(h: &mut H, frames: u32, client: u32, uid: u32, gid: u32) -> Re
 
 /// Lets the client come as this owner and this group, or refuses to. Its logs are closed durably before they are registered.
 /// A refused one changes nothing. The device has so many frames.
-pub(crate) fn come<H: Host>(
+pub(crate) fn register_client<H: Host>(
     h: &mut H,
     frames: u32,
     client: u32,
@@ -59,12 +59,12 @@ pub(crate) fn come<H: Host>(
     if is_registered(h, client)? {
         return Ok(Reply::No(Refusal::Taken));
     }
-    admit(h, frames, client, uid, gid)?;
+    close_and_register(h, frames, client, uid, gid)?;
     Ok(Reply::Ok)
 }
 
 /// Closes the logs of client `slot`, and then registers them no more.
-fn dismiss<H: Host>(h: &mut H, frames: u32, slot: u32) -> Result<(), HostFault>
+fn close_and_unregister<H: Host>(h: &mut H, frames: u32, slot: u32) -> Result<(), HostFault>
     requires known { slot < CLIENTS }
     requires few { frames ≤ MAX_FRAMES }
     requires room { device_words frames ≤ (H.counts h.old).size }
@@ -83,7 +83,7 @@ fn dismiss<H: Host>(h: &mut H, frames: u32, slot: u32) -> Result<(), HostFault>
 
 impl Daemon {
     /// Undoes the client's own transactions, closes its logs, and then registers them no more.
-    fn let_go<H: Host>(&mut self, h: &mut H, client: u8) -> Result<(), HostFault>
+    fn remove_client<H: Host>(&mut self, h: &mut H, client: u8) -> Result<(), HostFault>
         requires known { client < CLIENTS }
         requires room { device_words (self.old).frames ≤ (H.counts h.old).size }
         ensures applies { H.tells → (size : ℕ) → size ≡ (H.counts h.old).size → (w : World) → IsReady size w self.old (H.state h.old)
@@ -97,7 +97,7 @@ impl Daemon {
         ensures cause { H.counts h.new ≡ after_fault (fault_of result) (H.counts h.old) }
     {
         self.undo_of(h, client)?;
-        dismiss(h, self.frames, u32::from(client))
+        close_and_unregister(h, self.frames, u32::from(client))
     }
 
     /// Lets the client go, or refuses to. Its own transactions are undone, and its logs are closed durably before they are registered no more. A
@@ -120,7 +120,7 @@ impl Daemon {
         if !is_registered(h, u32::from(client))? {
             return Ok(Reply::No(Refusal::Client));
         }
-        self.let_go(h, client)?;
+        self.remove_client(h, client)?;
         Ok(Reply::Ok)
     }
 }

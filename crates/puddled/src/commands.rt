@@ -62,7 +62,7 @@ fn change_in<H: Host>(
 {
     match &mut all[own.log_number as usize] {
         Some(opened) => match &mut judged.pools[own.slot as usize] {
-            Some(pool) => opened.change(h, frames, pool, change),
+            Some(pool) => opened.carry_out_change(h, frames, pool, change),
             None => Ok(Reply::No(Refusal::Wild)),
         },
         None => Ok(Reply::No(Refusal::Tx)),

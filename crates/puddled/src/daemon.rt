@@ -20,10 +20,10 @@ ghost use Rattle.puddled.specs.Starting.{IsReplayed, Recovers};
 ghost use Rattle.puddled.specs.Daemon.{KeepsAllBut, KeepsLine, CarriesOut, CarriesOutLine};
 
 use crate::answers::{Answered, say_answer, with_reply};
-use crate::clients::come;
+use crate::clients::register_client;
 use crate::importing::import;
 use crate::judged::Judged;
-use crate::pools::make;
+use crate::pools::create_pool;
 use crate::starting::{say_ready, say_refused};
 use crate::types::define_type;
 use log_space::clear_spaces;
@@ -201,15 +201,15 @@ fn apply<H: Host>(
 {
     match command {
         Command::Client { client, uid, gid } => {
-            with_reply(come(h, daemon.frames, u32::from(client), uid, gid))
+            with_reply(register_client(h, daemon.frames, u32::from(client), uid, gid))
         }
         Command::Leave { client } => with_reply(daemon.leave(h, client)),
         Command::Define { t, map } => with_reply(define_type(h, t, map)),
         Command::Pool { client, name, mode } => {
-            with_reply(make(h, daemon.frames, u32::from(client), name, mode))
+            with_reply(create_pool(h, daemon.frames, u32::from(client), name, mode))
         }
         Command::Chmod { client, name, mode } => {
-            with_reply(daemon.change_for(h, client, name, mode))
+            with_reply(daemon.set_mode_for(h, client, name, mode))
         }
         Command::Drop { client, name } => with_reply(daemon.drop_for(h, client, name)),
         Command::Get { client, name, s, f } => {

@@ -40,7 +40,7 @@ fn reply_of(done: Result<(), MakeFault>) -> Result<Reply, HostFault>
 
 /// Makes the pool of this name with this mode for the client, or refuses to. A refused one changes nothing. The device has so many
 /// frames.
-pub(crate) fn make<H: Host>(
+pub(crate) fn create_pool<H: Host>(
     h: &mut H,
     frames: u32,
     client: u32,
@@ -98,7 +98,7 @@ impl Daemon {
     }
 
     /// Gives the client's pool of this name the mode, or refuses to. A refused one changes nothing.
-    pub(crate) fn change_for<H: Host>(
+    pub(crate) fn set_mode_for<H: Host>(
         &mut self,
         h: &mut H,
         client: u8,

@@ -14,10 +14,10 @@ use Rattle.puddled.proofs.Changing.{known_there, on_device_there, is_known, acti
 use Rattle.puddled.proofs.commands.change_in.Goals as goal
 use Rattle.puddled.proofs.commands.change_in.Goals.{in-Some-pools, in-None-pools}
 
-pub change-requires-clause-within : goal.change-requires-clause-within
+pub change-requires-clause-within : goal.carry_out_change-requires-clause-within
 change-requires-clause-within g c = read_within _ _ _ _ _ c.in-Some.opened c.requires.within (search rules) refl c.in-Some.is
 
-pub change-requires-clause-known : goal.change-requires-clause-known
+pub change-requires-clause-known : goal.carry_out_change-requires-clause-known
 change-requires-clause-known g c =
     on_device_there c.args.frames c.args.judged.now c.args.own.slot c.in-Some-pools.pool c.requires.known
     (ap (λ (ps : List (Option Known)). pool_in ps c.args.own.slot) (sym c.judged.view_is) ∙ known_there c.judged.inside.pools c.args.own.slot _ c.index-judged-own.result (search rules) refl ∙ c.in-Some-pools.is)

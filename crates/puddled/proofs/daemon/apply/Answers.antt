@@ -19,9 +19,9 @@ pub returns-in-Client-clause-carries : goal.returns-in-Client-clause-carries
 returns-in-Client-clause-carries g c = λ t size e w ready.
     let is : c.args.command ≡ Client c.from.result c.in-Client.uid c.in-Client.gid = c.in-Client.is ∙ ap (λ (k : ℕ). Client k c.in-Client.uid c.in-Client.gid) (sym c.from.ensures) in
     let frames = sym (ap (λ (m : Memory). m.frames) c.daemon.view_is) in
-    CarriesOut-as size w c.args.daemon.now _ _ _ _ c.args.command (Client c.from.result c.in-Client.uid c.in-Client.gid) c.with_reply.result c.come.result is c.with_reply.ensures
-    (CarriesOut-plain size w c.args.daemon.now _ _ _ _ (Client c.from.result c.in-Client.uid c.in-Client.gid) c.come.result refl refl (record { none = λ F before. refl }) (c.come.ensures.reply t size e w _ frames ready) (c.come.ensures.applies t size e w _ frames ready)
-    (ClosesLogs-other w _ _ _ (λ client no. cc)) (c.come.ensures.rest t) c.come.ensures.cause)
+    CarriesOut-as size w c.args.daemon.now _ _ _ _ c.args.command (Client c.from.result c.in-Client.uid c.in-Client.gid) c.with_reply.result c.register_client.result is c.with_reply.ensures
+    (CarriesOut-plain size w c.args.daemon.now _ _ _ _ (Client c.from.result c.in-Client.uid c.in-Client.gid) c.register_client.result refl refl (record { none = λ F before. refl }) (c.register_client.ensures.reply t size e w _ frames ready) (c.register_client.ensures.applies t size e w _ frames ready)
+    (ClosesLogs-other w _ _ _ (λ client no. cc)) (c.register_client.ensures.rest t) c.register_client.ensures.cause)
 
 pub returns-in-Leave-clause-carries : goal.returns-in-Leave-clause-carries
 returns-in-Leave-clause-carries g c = λ t size e w ready.
@@ -42,17 +42,17 @@ returns-in-Pool-clause-carries g c = λ t size e w ready.
     let is : c.args.command ≡ commands.Pool c.from-in-Pool.result c.in-Pool.name c.in-Pool.mode = c.in-Pool.is ∙ ap (λ (k : ℕ). commands.Pool k c.in-Pool.name c.in-Pool.mode) (sym c.from-in-Pool.ensures) in
     let frames = sym (ap (λ (m : Memory). m.frames) c.daemon-in-Pool.view_is) in
     let legal = subst IsLegalCommand is c.requires.legal in
-    CarriesOut-as size w c.args.daemon.now _ _ _ _ c.args.command (commands.Pool c.from-in-Pool.result c.in-Pool.name c.in-Pool.mode) c.with_reply-in-Pool.result c.make.result is c.with_reply-in-Pool.ensures
-    (CarriesOut-plain size w c.args.daemon.now _ _ _ _ (commands.Pool c.from-in-Pool.result c.in-Pool.name c.in-Pool.mode) c.make.result refl refl (record { none = λ F before. refl }) (c.make.ensures.reply t size e w _ frames ready) (c.make.ensures.applies t size e w _ frames ready legal)
-    (ClosesLogs-other w _ _ _ (λ client no. cc)) (c.make.ensures.rest t) c.make.ensures.cause)
+    CarriesOut-as size w c.args.daemon.now _ _ _ _ c.args.command (commands.Pool c.from-in-Pool.result c.in-Pool.name c.in-Pool.mode) c.with_reply-in-Pool.result c.create_pool.result is c.with_reply-in-Pool.ensures
+    (CarriesOut-plain size w c.args.daemon.now _ _ _ _ (commands.Pool c.from-in-Pool.result c.in-Pool.name c.in-Pool.mode) c.create_pool.result refl refl (record { none = λ F before. refl }) (c.create_pool.ensures.reply t size e w _ frames ready) (c.create_pool.ensures.applies t size e w _ frames ready legal)
+    (ClosesLogs-other w _ _ _ (λ client no. cc)) (c.create_pool.ensures.rest t) c.create_pool.ensures.cause)
 
 pub returns-in-Chmod-clause-carries : goal.returns-in-Chmod-clause-carries
 returns-in-Chmod-clause-carries g c = λ t size e w ready.
     let chmod = Chmod c.in-Chmod.client c.in-Chmod.name c.in-Chmod.mode in
     let legal = subst IsLegalCommand c.in-Chmod.is c.requires.legal in
-    CarriesOut-as size w c.change_for.new.self _ _ _ _ c.args.command chmod c.with_reply-in-Chmod.result c.change_for.result c.in-Chmod.is c.with_reply-in-Chmod.ensures
-    (CarriesOut-plain size w c.change_for.new.self _ _ _ _ chmod c.change_for.result refl refl (record { none = λ F before. refl }) (c.change_for.ensures.reply t size w ready) (c.change_for.ensures.applies t size e w ready legal)
-    (ClosesLogs-other w _ _ _ (λ client no. cc)) (c.change_for.ensures.rest t) c.change_for.ensures.cause)
+    CarriesOut-as size w c.set_mode_for.new.self _ _ _ _ c.args.command chmod c.with_reply-in-Chmod.result c.set_mode_for.result c.in-Chmod.is c.with_reply-in-Chmod.ensures
+    (CarriesOut-plain size w c.set_mode_for.new.self _ _ _ _ chmod c.set_mode_for.result refl refl (record { none = λ F before. refl }) (c.set_mode_for.ensures.reply t size w ready) (c.set_mode_for.ensures.applies t size e w ready legal)
+    (ClosesLogs-other w _ _ _ (λ client no. cc)) (c.set_mode_for.ensures.rest t) c.set_mode_for.ensures.cause)
 
 pub returns-in-Drop-clause-carries : goal.returns-in-Drop-clause-carries
 returns-in-Drop-clause-carries g c = λ t size e w ready.

@@ -52,13 +52,13 @@ returns-in_err-serial-clause-applies g c =
     let old = g.H.Host.state c.args.h.now in
     let active = c.args.self.now in
     let start = g.H.Host.state c.find_refusal_to_make.new.h in
-    let new = g.H.Host.state c.make.new.h in
+    let new = g.H.Host.state c.make_object.new.h in
     let still = c.in_ok-refusal.ensures.only_reads.stays t in
     let none =
     refusal_found size w memory active old active.log_number its.there ready c.args.t c.args.frames (sym its.frames ∙ ready.frames) c.as_slice.result.now (c.as_slice.ensures.puddles ∙ sym (active_known size w memory _ ready c.args.self.now.log_number c.args.self.now its.there c.args.pool.now (ap puddles_known its.known))) c.in_ok-refusal.field-0 None (c.in_ok-refusal.ensures.refusal t (reads old.now.words) refl) c.in_default.is in
     let then = subst (λ (s : State). IsReady size w memory s) (sym still) ready in
-    subst (λ (s : State). AppliesFinishing active.slot (FinishesUnless (refusal_of w (New active.client active.name c.args.t)) (FinishesTaken c.args.frames c.args.pool.now (reads s.now.words))) size w (world_by w (Some (New active.client active.name c.args.t))) (with_opened active.log_number active.slot c.make.new.self c.make.new.pool memory) (Some c.in_err-serial.field-0.0) s new) still
-    (new_unmade size w memory active start active.log_number its.there then c.args.t none (FinishesTaken c.args.frames c.args.pool.now (reads start.now.words)) (end_of_both (length c.args.pool.now)) c.make.new.self c.make.new.pool c.in_err-serial.field-0.0 new
+    subst (λ (s : State). AppliesFinishing active.slot (FinishesUnless (refusal_of w (New active.client active.name c.args.t)) (FinishesTaken c.args.frames c.args.pool.now (reads s.now.words))) size w (world_by w (Some (New active.client active.name c.args.t))) (with_opened active.log_number active.slot c.make_object.new.self c.make_object.new.pool memory) (Some c.in_err-serial.field-0.0) s new) still
+    (new_unmade size w memory active start active.log_number its.there then c.args.t none (FinishesTaken c.args.frames c.args.pool.now (reads start.now.words)) (end_of_both (length c.args.pool.now)) c.make_object.new.self c.make_object.new.pool c.in_err-serial.field-0.0 new
     (λ less. finishing_taken active.slot c.args.frames c.args.pool.now (reads start.now.words) size w _ _ _ _ _ (c.in_err-serial.ensures.makes t size w memory its then none less))
     (λ more. finishes_more c.args.frames c.args.pool.now (reads start.now.words) (all_live size w memory active start active.log_number its.there then c.args.frames c.args.pool.now (sym its.frames ∙ ready.frames)
     (its_puddles size w memory active start active.log_number its.there then c.args.frames (sym its.frames ∙ ready.frames) c.args.pool.now its.known) more))
@@ -81,14 +81,14 @@ returns-then-serial-gt0-clause-applies g c = λ t size e w memory its ready.
     let old = g.H.Host.state c.args.h.now in
     let active = c.args.self.now in
     let start = g.H.Host.state c.find_refusal_to_make.new.h in
-    let new = g.H.Host.state c.make.new.h in
+    let new = g.H.Host.state c.make_object.new.h in
     let still = c.in_ok-refusal.ensures.only_reads.stays t in
     let none =
     refusal_found size w memory active old active.log_number its.there ready c.args.t c.args.frames (sym its.frames ∙ ready.frames) c.as_slice.result.now (c.as_slice.ensures.puddles ∙ sym (active_known size w memory _ ready c.args.self.now.log_number c.args.self.now its.there c.args.pool.now (ap puddles_known its.known))) c.in_ok-refusal.field-0 None (c.in_ok-refusal.ensures.refusal t (reads old.now.words) refl) c.in_default.is in
     let then = subst (λ (s : State). IsReady size w memory s) (sym still) ready in
     let less = was_free size w memory active start active.log_number its.there then c.args.t none c.in_ok-serial.serial c.if-serial-gt0.true (λ more. (c.in_ok-serial.ensures.full t size w memory its then more).0) in
-    subst (λ (s : State). AppliesFinishing active.slot (FinishesUnless (refusal_of w (New active.client active.name c.args.t)) (FinishesTaken c.args.frames c.args.pool.now (reads s.now.words))) size w (world_by w (Some (New active.client active.name c.args.t))) (with_opened active.log_number active.slot c.make.new.self c.make.new.pool memory) None s new) still
-    (new_made size w memory active start active.log_number its.there then c.args.t none (FinishesTaken c.args.frames c.args.pool.now (reads start.now.words)) c.make.new.self c.make.new.pool None new less
+    subst (λ (s : State). AppliesFinishing active.slot (FinishesUnless (refusal_of w (New active.client active.name c.args.t)) (FinishesTaken c.args.frames c.args.pool.now (reads s.now.words))) size w (world_by w (Some (New active.client active.name c.args.t))) (with_opened active.log_number active.slot c.make_object.new.self c.make_object.new.pool memory) None s new) still
+    (new_made size w memory active start active.log_number its.there then c.args.t none (FinishesTaken c.args.frames c.args.pool.now (reads start.now.words)) c.make_object.new.self c.make_object.new.pool None new less
     (finishing_taken active.slot c.args.frames c.args.pool.now (reads start.now.words) size w _ _ _ _ _ (c.in_ok-serial.ensures.makes t size w memory its then none less)))
 
 pub returns-clause-reply : goal.returns-clause-reply
@@ -96,25 +96,25 @@ returns-clause-reply g c = λ t size e w memory its ready.
     let old = g.H.Host.state c.args.h.now in
     let active = c.args.self.now in
     let start = g.H.Host.state c.find_refusal_to_make.new.h in
-    let mid = g.H.Host.state c.make.new.h in
+    let mid = g.H.Host.state c.make_object.new.h in
     let none =
     refusal_found size w memory active old active.log_number its.there ready c.args.t c.args.frames (sym its.frames ∙ ready.frames) c.as_slice.result.now (c.as_slice.ensures.puddles ∙ sym (active_known size w memory _ ready c.args.self.now.log_number c.args.self.now its.there c.args.pool.now (ap puddles_known its.known))) c.in_ok-refusal.field-0 None (c.in_ok-refusal.ensures.refusal t (reads old.now.words) refl) c.in_default.is in
     let then = subst (λ (s : State). IsReady size w memory s) (sym (c.in_ok-refusal.ensures.only_reads.stays t)) ready in
     let more = was_full size w memory active start active.log_number its.there then c.args.t none c.in_ok-serial.serial c.if-serial-gt0.false (λ less. c.in_ok-serial.ensures.serial t size w memory its then less) in
     let full = c.in_ok-serial.ensures.full t size w memory its then more in
     let after = subst (λ (s : State). IsReady size w memory s) (sym full.1) then in
-    let same : size ≡ (g.H.Host.counts c.make.new.h).size =
+    let same : size ≡ (g.H.Host.counts c.make_object.new.h).size =
     still_size c.in_ok-refusal.ensures.only_reads e ∙ sym (ap (λ (n : Counts). n.size) c.in_ok-serial.ensures.cause) in
-    subst (λ (o : ActiveTransaction). IsActiveIn c.args.frames o c.make.new.pool memory → refusal_by_world w o c.args.t ≡ None → grows w o.name ≡ true → IfOk c.make_in_more.result (λ reply. of_reply reply ≡ answer_by w (Some (New o.client o.name c.args.t)))) full.2
-    (λ its none more. c.make_in_more.ensures.reply t size same w memory its after none more) (subst (λ at. IsActiveIn c.args.frames active at memory) (sym full.3) its) none more
+    subst (λ (o : ActiveTransaction). IsActiveIn c.args.frames o c.make_object.new.pool memory → refusal_by_world w o c.args.t ≡ None → grows w o.name ≡ true → IfOk c.make_in_new_puddle.result (λ reply. of_reply reply ≡ answer_by w (Some (New o.client o.name c.args.t)))) full.2
+    (λ its none more. c.make_in_new_puddle.ensures.reply t size same w memory its after none more) (subst (λ at. IsActiveIn c.args.frames active at memory) (sym full.3) its) none more
 
 pub returns-clause-applies : goal.returns-clause-applies
 returns-clause-applies g c = λ t size e w memory its ready.
     let old = g.H.Host.state c.args.h.now in
     let active = c.args.self.now in
     let start = g.H.Host.state c.find_refusal_to_make.new.h in
-    let mid = g.H.Host.state c.make.new.h in
-    let new = g.H.Host.state c.make_in_more.new.h in
+    let mid = g.H.Host.state c.make_object.new.h in
+    let new = g.H.Host.state c.make_in_new_puddle.new.h in
     let still = c.in_ok-refusal.ensures.only_reads.stays t in
     let none =
     refusal_found size w memory active old active.log_number its.there ready c.args.t c.args.frames (sym its.frames ∙ ready.frames) c.as_slice.result.now (c.as_slice.ensures.puddles ∙ sym (active_known size w memory _ ready c.args.self.now.log_number c.args.self.now its.there c.args.pool.now (ap puddles_known its.known))) c.in_ok-refusal.field-0 None (c.in_ok-refusal.ensures.refusal t (reads old.now.words) refl) c.in_default.is in
@@ -122,10 +122,10 @@ returns-clause-applies g c = λ t size e w memory its ready.
     let more = was_full size w memory active start active.log_number its.there then c.args.t none c.in_ok-serial.serial c.if-serial-gt0.false (λ less. c.in_ok-serial.ensures.serial t size w memory its then less) in
     let full = c.in_ok-serial.ensures.full t size w memory its then more in
     let after = subst (λ (s : State). IsReady size w memory s) (sym full.1) then in
-    let same : size ≡ (g.H.Host.counts c.make.new.h).size =
+    let same : size ≡ (g.H.Host.counts c.make_object.new.h).size =
     still_size c.in_ok-refusal.ensures.only_reads e ∙ sym (ap (λ (n : Counts). n.size) c.in_ok-serial.ensures.cause) in
-    subst (λ (s : State). AppliesFinishing active.slot (FinishesUnless (refusal_of w (New active.client active.name c.args.t)) (FinishesTaken c.args.frames c.args.pool.now (reads s.now.words))) size w (world_by w (Some (New active.client active.name c.args.t))) (with_opened active.log_number active.slot c.make_in_more.new.self c.make_in_more.new.pool memory) (fault_of c.make_in_more.result) s new) (full.1 ∙ still)
-    (subst (λ (o : ActiveTransaction). IsActiveIn c.args.frames o c.make.new.pool memory → refusal_by_world w o c.args.t ≡ None → grows w o.name ≡ true
-    → AppliesFinishing o.slot (FinishesUnless (refusal_of w (New o.client o.name c.args.t)) (FinishesTaken c.args.frames c.args.pool.now (reads mid.now.words))) size w (world_by w (Some (New o.client o.name c.args.t))) (with_opened o.log_number o.slot c.make_in_more.new.self c.make_in_more.new.pool memory) (fault_of c.make_in_more.result) mid new) full.2
-    (λ its none more. subst (λ (ds : List (ℕ × Puddle)). AppliesFinishing c.make.new.self.slot (FinishesUnless (refusal_of w (New c.make.new.self.client c.make.new.self.name c.args.t)) (FinishesTaken c.args.frames ds (reads mid.now.words))) size w (world_by w (Some (New c.make.new.self.client c.make.new.self.name c.args.t)))
-    (with_opened c.make.new.self.log_number c.make.new.self.slot c.make_in_more.new.self c.make_in_more.new.pool memory) (fault_of c.make_in_more.result) mid new) full.3 (c.make_in_more.ensures.applies t size same w memory its after none more)) (subst (λ at. IsActiveIn c.args.frames active at memory) (sym full.3) its) none more)
+    subst (λ (s : State). AppliesFinishing active.slot (FinishesUnless (refusal_of w (New active.client active.name c.args.t)) (FinishesTaken c.args.frames c.args.pool.now (reads s.now.words))) size w (world_by w (Some (New active.client active.name c.args.t))) (with_opened active.log_number active.slot c.make_in_new_puddle.new.self c.make_in_new_puddle.new.pool memory) (fault_of c.make_in_new_puddle.result) s new) (full.1 ∙ still)
+    (subst (λ (o : ActiveTransaction). IsActiveIn c.args.frames o c.make_object.new.pool memory → refusal_by_world w o c.args.t ≡ None → grows w o.name ≡ true
+    → AppliesFinishing o.slot (FinishesUnless (refusal_of w (New o.client o.name c.args.t)) (FinishesTaken c.args.frames c.args.pool.now (reads mid.now.words))) size w (world_by w (Some (New o.client o.name c.args.t))) (with_opened o.log_number o.slot c.make_in_new_puddle.new.self c.make_in_new_puddle.new.pool memory) (fault_of c.make_in_new_puddle.result) mid new) full.2
+    (λ its none more. subst (λ (ds : List (ℕ × Puddle)). AppliesFinishing c.make_object.new.self.slot (FinishesUnless (refusal_of w (New c.make_object.new.self.client c.make_object.new.self.name c.args.t)) (FinishesTaken c.args.frames ds (reads mid.now.words))) size w (world_by w (Some (New c.make_object.new.self.client c.make_object.new.self.name c.args.t)))
+    (with_opened c.make_object.new.self.log_number c.make_object.new.self.slot c.make_in_new_puddle.new.self c.make_in_new_puddle.new.pool memory) (fault_of c.make_in_new_puddle.result) mid new) full.3 (c.make_in_new_puddle.ensures.applies t size same w memory its after none more)) (subst (λ at. IsActiveIn c.args.frames active at memory) (sym full.3) its) none more)

@@ -30,21 +30,21 @@ pub returns-clause-reply : goal.returns-clause-reply
 returns-clause-reply g c = λ t size e w ready.
     sym (answer_is_ok w (Leave c.args.client) refl refl (is_there w c.args.client 0 0 (sym c.if-not-branch.false ∙ presence_of size w c.args.self.now _ c.args.client _ _ c.from.ensures c.requires.known ready (c.in_ok-is_registered.ensures.registered t))))
 
-pub returns-in_err-let_go-clause-applies : goal.returns-in_err-let_go-clause-applies
-returns-in_err-let_go-clause-applies g c =
-    let p = err_from_is_err_and c.from_residual-in_err-let_go.result c.from_residual-in_err-let_go.ensures.1 in
+pub returns-in_err-remove_client-clause-applies : goal.returns-in_err-remove_client-clause-applies
+returns-in_err-remove_client-clause-applies g c =
+    let p = err_from_is_err_and c.from_residual-in_err-remove_client.result c.from_residual-in_err-remove_client.ensures.1 in
     rw (p.1, p.2) (λ t size e w ready.
     let after = still_size c.in_ok-is_registered.ensures.only_reads e in
-    Applies-accepted_by size w c.args.self.now c.let_go.new.self (Leave c.args.client) (Some c.in_err-let_go.field-0.0) _ _ _
+    Applies-accepted_by size w c.args.self.now c.remove_client.new.self (Leave c.args.client) (Some c.in_err-remove_client.field-0.0) _ _ _
     (is_there w c.args.client 0 0 (sym c.if-not-branch.false ∙ presence_of size w c.args.self.now _ c.args.client _ _ c.from.ensures c.requires.known ready (c.in_ok-is_registered.ensures.registered t)))
-    (c.in_ok-is_registered.ensures.only_reads.stays t) (λ ready_b. c.in_err-let_go.ensures.applies t size after w ready_b) ready)
+    (c.in_ok-is_registered.ensures.only_reads.stays t) (λ ready_b. c.in_err-remove_client.ensures.applies t size after w ready_b) ready)
 
 pub returns-clause-applies : goal.returns-clause-applies
 returns-clause-applies g c = λ t size e w ready.
     let after = still_size c.in_ok-is_registered.ensures.only_reads e in
-    Applies-accepted_by size w c.args.self.now c.let_go.new.self (Leave c.args.client) _ _ _ _
+    Applies-accepted_by size w c.args.self.now c.remove_client.new.self (Leave c.args.client) _ _ _ _
     (is_there w c.args.client 0 0 (sym c.if-not-branch.false ∙ presence_of size w c.args.self.now _ c.args.client _ _ c.from.ensures c.requires.known ready (c.in_ok-is_registered.ensures.registered t)))
-    (c.in_ok-is_registered.ensures.only_reads.stays t) (λ ready_b. c.in_ok-let_go.ensures.applies t size after w ready_b) ready
+    (c.in_ok-is_registered.ensures.only_reads.stays t) (λ ready_b. c.in_ok-remove_client.ensures.applies t size after w ready_b) ready
 
 pub returns-in_err-is_registered-clause-closes_first : goal.returns-in_err-is_registered-clause-closes_first
 returns-in_err-is_registered-clause-closes_first g c = λ t size e w ready present.
@@ -54,12 +54,12 @@ pub returns-then-not-branch-clause-closes_first : goal.returns-then-not-branch-c
 returns-then-not-branch-clause-closes_first g c = λ t size e w ready present.
     absurd (let it : true ≡ false = present ∙ sym (sym c.if-not-branch.true ∙ presence_of size w c.args.self.now _ c.args.client _ _ c.from.ensures c.requires.known ready (c.in_ok-is_registered.ensures.registered t)) in cc)
 
-pub returns-in_err-let_go-clause-closes_first : goal.returns-in_err-let_go-clause-closes_first
-returns-in_err-let_go-clause-closes_first g c = λ t size e w ready present.
+pub returns-in_err-remove_client-clause-closes_first : goal.returns-in_err-remove_client-clause-closes_first
+returns-in_err-remove_client-clause-closes_first g c = λ t size e w ready present.
     let after = still_size c.in_ok-is_registered.ensures.only_reads e in
-    ClosesBefore-behind size w c.args.self.now c.args.client c.requires.known present _ _ _ ready (c.in_ok-is_registered.ensures.only_reads.stays t) (λ ready_b. c.in_err-let_go.ensures.closes_first t size after w ready_b present)
+    ClosesBefore-behind size w c.args.self.now c.args.client c.requires.known present _ _ _ ready (c.in_ok-is_registered.ensures.only_reads.stays t) (λ ready_b. c.in_err-remove_client.ensures.closes_first t size after w ready_b present)
 
 pub returns-clause-closes_first : goal.returns-clause-closes_first
 returns-clause-closes_first g c = λ t size e w ready present.
     let after = still_size c.in_ok-is_registered.ensures.only_reads e in
-    ClosesBefore-behind size w c.args.self.now c.args.client c.requires.known present _ _ _ ready (c.in_ok-is_registered.ensures.only_reads.stays t) (λ ready_b. c.in_ok-let_go.ensures.closes_first t size after w ready_b present)
+    ClosesBefore-behind size w c.args.self.now c.args.client c.requires.known present _ _ _ ready (c.in_ok-is_registered.ensures.only_reads.stays t) (λ ready_b. c.in_ok-remove_client.ensures.closes_first t size after w ready_b present)

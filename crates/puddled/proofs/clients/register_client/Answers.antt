@@ -7,7 +7,7 @@ use Rattle.pud_defs.proofs.Steps.{refused_answer, answer_is_ok}
 use Rattle.ready_daemon.proofs.Applying.{Applies-failed, Applies-refused, Applies-accepted}
 use Rattle.ready_daemon.proofs.Coming.{presence_read, taken, is_new}
 use Rattle.ready_daemon.proofs.Others.{others_absent}
-use Rattle.puddled.proofs.clients.come.Goals as goal
+use Rattle.puddled.proofs.clients.register_client.Goals as goal
 use Rattle.pm_model.proofs.Reading.{still_size}
 
 pub returns-in_err-is_registered-clause-applies : goal.returns-in_err-is_registered-clause-applies
@@ -30,15 +30,15 @@ pub returns-clause-reply : goal.returns-clause-reply
 returns-clause-reply g c = λ t size e w memory frames ready.
     sym (answer_is_ok w (Client c.args.client c.args.uid c.args.gid) refl refl (is_new w c.args.client c.args.uid c.args.gid (sym c.if-branch.false ∙ presence_read size w memory _ c.args.client _ c.requires.known ready (c.in_ok-is_registered.ensures.registered t))))
 
-pub returns-in_err-admit-clause-applies : goal.returns-in_err-admit-clause-applies
-returns-in_err-admit-clause-applies g c =
-    let p = err_from_is_err_and c.from_residual-in_err-admit.result c.from_residual-in_err-admit.ensures.1 in
+pub returns-in_err-close_and_register-clause-applies : goal.returns-in_err-close_and_register-clause-applies
+returns-in_err-close_and_register-clause-applies g c =
+    let p = err_from_is_err_and c.from_residual-in_err-close_and_register.result c.from_residual-in_err-close_and_register.ensures.1 in
     rw (p.1, p.2) (λ t size e w memory frames ready.
     let absent = sym c.if-branch.false ∙ presence_read size w memory _ c.args.client _ c.requires.known ready (c.in_ok-is_registered.ensures.registered t) in
     let after = still_size c.in_ok-is_registered.ensures.only_reads e in
-    Applies-accepted size w memory (Client c.args.client c.args.uid c.args.gid) (Some c.in_err-admit.field-0.0) _ _ _
+    Applies-accepted size w memory (Client c.args.client c.args.uid c.args.gid) (Some c.in_err-close_and_register.field-0.0) _ _ _
     (is_new w c.args.client c.args.uid c.args.gid absent)
-    (c.in_ok-is_registered.ensures.only_reads.stays t) (λ ready_b. c.in_err-admit.ensures.applies t size after w memory frames ready_b (others_absent w memory.active ready.mask _ c.args.client ready.active absent)) ready)
+    (c.in_ok-is_registered.ensures.only_reads.stays t) (λ ready_b. c.in_err-close_and_register.ensures.applies t size after w memory frames ready_b (others_absent w memory.active ready.mask _ c.args.client ready.active absent)) ready)
 
 pub returns-clause-applies : goal.returns-clause-applies
 returns-clause-applies g c = λ t size e w memory frames ready.
@@ -46,4 +46,4 @@ returns-clause-applies g c = λ t size e w memory frames ready.
     let after = still_size c.in_ok-is_registered.ensures.only_reads e in
     Applies-accepted size w memory (Client c.args.client c.args.uid c.args.gid) _ _ _ _
     (is_new w c.args.client c.args.uid c.args.gid absent)
-    (c.in_ok-is_registered.ensures.only_reads.stays t) (λ ready_b. c.in_ok-admit.ensures.applies t size after w memory frames ready_b (others_absent w memory.active ready.mask _ c.args.client ready.active absent)) ready
+    (c.in_ok-is_registered.ensures.only_reads.stays t) (λ ready_b. c.in_ok-close_and_register.ensures.applies t size after w memory frames ready_b (others_absent w memory.active ready.mask _ c.args.client ready.active absent)) ready

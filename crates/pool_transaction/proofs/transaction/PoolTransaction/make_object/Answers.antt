@@ -35,7 +35,7 @@ use Rattle.pool_transaction.proofs.FinishedPools.{HaveMoved-both, IsSlotOf-moved
 use Rattle.pool_transaction.proofs.ActiveFinishes.{its_puddles, its_placed, its_frontiers, low_of_placed, memory_finished, MayMakeAt, Applies-unfinished, ready_finished, known_finished, Applies-behind, may_make_at}
 use Rattle.pool_transaction.proofs.ActiveMakes.{all_live, not_live, serial_made, made_there, Applies-made}
 use Rattle.pool_transaction.proofs.ActiveRuns.{with_tx}
-use Rattle.pool_transaction.proofs.transaction.PoolTransaction.make.Goals as goal
+use Rattle.pool_transaction.proofs.transaction.PoolTransaction.make_object.Goals as goal
 
 -- ---- each slot is live
 

@@ -12,7 +12,7 @@ use Rattle.ready_daemon.specs.Owning.{refusal_found, IsSlotOf}
 use Rattle.ready_daemon.proofs.Applying.{Applies-failed, Applies-refused}
 use Rattle.ready_daemon.proofs.Pooling.{Applies-behind, Applies-mode}
 use Rattle.ready_daemon.proofs.Keeping.{KeepsRest-changes, KeepsRest-still, KeepsRest-then}
-use Rattle.puddled.proofs.daemon.Daemon.change_for.Goals as goal
+use Rattle.puddled.proofs.daemon.Daemon.set_mode_for.Goals as goal
 use Rattle.pm_model.proofs.Reading.{still_size}
 
 pub returns-in_err-refusal-clause-applies : goal.returns-in_err-refusal-clause-applies

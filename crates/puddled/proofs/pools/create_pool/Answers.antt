@@ -12,7 +12,7 @@ use Rattle.pud_defs.proofs.Steps.{refused_answer}
 use Rattle.ready_daemon.proofs.Applying.{Applies-failed, Applies-refused}
 use Rattle.ready_daemon.proofs.Pooling.{acting, absent, refused_pool_client, Applies-behind, reply_making, Applies-making}
 use Rattle.ready_daemon.proofs.Keeping.{KeepsRest-changes, KeepsRest-still, KeepsRest-then}
-use Rattle.puddled.proofs.pools.make.Goals as goal
+use Rattle.puddled.proofs.pools.create_pool.Goals as goal
 use Rattle.pm_model.proofs.Reading.{still_size}
 
 pub returns-in_err-who-clause-applies : goal.returns-in_err-who-clause-applies

@@ -9,8 +9,8 @@ use Rattle.puddle_header.specs.Places.{place_of_slot}
 use Rattle.graph_read.specs.declared.index.Index.{Index}
 use Rattle.graph_read.specs.Indexed.{IsIndexOf}
 use Rattle.known_pool.specs.Known.{entries_of}
-use Rattle.known_pool.proofs.LettingGo.{LetsFirst}
-use Rattle.known_pool.proofs.changes.let_go.Given as goal
+use Rattle.known_pool.proofs.Releasing.{LetsFirst}
+use Rattle.known_pool.proofs.changes.release_fields.Given as goal
 
 abbrev pub invariant-loop-f : goal.invariant-loop-f
 invariant-loop-f g l = record {

@@ -7,7 +7,7 @@ use Rattle.registry.specs.Places.{refusal_in}
 use Rattle.pool_transaction.specs.Changing.{refusal_by_tables, GrowsBy, with_more}
 use Rattle.pool_transaction.proofs.ActiveLines.{memory_with, new_failed, new_refused, reply_refused, refused_by_tables, new_ungrown, active_then, with_frames, new_in_more, reply_in_more}
 use Rattle.pool_transaction.proofs.ActiveMakes.{units_fit}
-use Rattle.pool_transaction.proofs.transaction.PoolTransaction.make_in_more.Goals as goal
+use Rattle.pool_transaction.proofs.transaction.PoolTransaction.make_in_new_puddle.Goals as goal
 use Rattle.pm_model.proofs.Reading.{still_size}
 use Rattle.pool_transaction.specs.Finishing.{end_of_both, FinishesLowest, FinishesTaken, IsLonger}
 use Rattle.pool_transaction.proofs.Leading.{finishes_more, finishes_grown}
@@ -77,7 +77,7 @@ returns-in_err-serial-clause-applies g c =
     (λ ready_then may. c.in_ok-grow.ensures.grows t size same w memory its ready_then may)
     (FinishesLowest c.args.frames c.grow.new.pool (reads (g.H.Host.state c.grow.new.h).now.words)) (FinishesTaken c.args.frames c.args.pool.now (reads old.now.words))
     (finishes_grown c.args.frames c.args.pool.now c.grow.new.pool (reads old.now.words) (reads (g.H.Host.state c.grow.new.h).now.words) longer live)
-    c.make.new.self c.make.new.pool (Some c.in_err-serial.field-0.0) _
+    c.make_object.new.self c.make_object.new.pool (Some c.in_err-serial.field-0.0) _
     (λ ready_grown refused less. c.in_err-serial.ensures.makes t size (with_more active.name w) (memory_with size w memory active old active.log_number its.there ready c.args.t active c.grow.new.pool) (with_frames its.frames then) ready_grown refused less))
 
 pub returns-clause-reply : goal.returns-clause-reply
@@ -115,5 +115,5 @@ returns-clause-applies g c = λ t size e w memory its ready none more.
     (λ ready_then may. c.in_ok-grow.ensures.grows t size same w memory its ready_then may)
     (FinishesLowest c.args.frames c.grow.new.pool (reads (g.H.Host.state c.grow.new.h).now.words)) (FinishesTaken c.args.frames c.args.pool.now (reads old.now.words))
     (finishes_grown c.args.frames c.args.pool.now c.grow.new.pool (reads old.now.words) (reads (g.H.Host.state c.grow.new.h).now.words) longer live)
-    c.make.new.self c.make.new.pool None _
+    c.make_object.new.self c.make_object.new.pool None _
     (λ ready_grown refused less. c.in_ok-serial.ensures.makes t size (with_more active.name w) (memory_with size w memory active old active.log_number its.there ready c.args.t active c.grow.new.pool) (with_frames its.frames then) ready_grown refused less)

@@ -19,7 +19,7 @@ use Rattle.graph_read.proofs.IndexKept.{index_begins_to_free, index_lets_go}
 use Rattle.graph_read.proofs.Numbers.{field_content}
 use Rattle.known_pool.specs.Known.{entries_of}
 use Rattle.known_pool.proofs.KnownKept.{IsIndexOf-entries}
-use Rattle.known_pool.specs.Indexes.{Follows, after_move, HasLetGo}
+use Rattle.known_pool.specs.Indexes.{Follows, after_move, HasReleased}
 
 module _ (F : ℕ) (at : List (ℕ × Puddle)) (image : Image) (p : ℕ) where
   abbrev serial : ℕ → ℕ
@@ -66,7 +66,7 @@ module _ (F : ℕ) (at : List (ℕ × Puddle)) (image : Image) (p : ℕ) where
 
     -- where the type is not defined there is none
     pub lets_none : map_of (place_word (stored_in F at image) p SLOT_TYPE_WORD) (types_of image) ≡ None → (g : Graph) (s : ℕ) → graph_of (types_of image) (stored_in F at image) ≡ Some g → place s ≡ Some p
-        → HasLetGo place g s (option_map entries_of index)
+        → HasReleased place g s (option_map entries_of index)
     lets_none none g s stored there = record { each = λ x kept. subst (λ (vals : List Val). IsIndexBy place (references_left g s vals) x) (fields_by None none) (begins g s stored there x kept) }
 
   -- one more
@@ -81,7 +81,7 @@ module _ (F : ℕ) (at : List (ℕ × Puddle)) (image : Image) (p : ℕ) where
   }
 
   -- and all
-  pub LetsFirst-end : (m f : ℕ) (index : Option (List (ℕ × Kept))) → field_count m ≤ f → LetsFirst m f index → (g : Graph) (s : ℕ) → graph_of (types_of image) (stored_in F at image) ≡ Some g → place s ≡ Some p → HasLetGo place g s index
+  pub LetsFirst-end : (m f : ℕ) (index : Option (List (ℕ × Kept))) → field_count m ≤ f → LetsFirst m f index → (g : Graph) (s : ℕ) → graph_of (types_of image) (stored_in F at image) ≡ Some g → place s ≡ Some p → HasReleased place g s index
   LetsFirst-end m f index past lets g s stored there =
       let none : field_count m - f ≡ 0 = omega (arith, past) in
       record { each = λ x kept. subst (λ (vals : List Val). IsIndexBy place (references_left g s vals) x) (ap (fields_from m f) none) (lets.each g s stored there x kept) }

@@ -7,8 +7,8 @@ use Rattle.puddle_header.specs.Places.{place_of_slot}
 use Rattle.puddle_header.proofs.Placed.{slot_at_place}
 use Rattle.graph_read.proofs.Passing.{field_count-least}
 use Rattle.known_pool.specs.Known.{entries_of}
-use Rattle.known_pool.proofs.LettingGo.{LetsFirst-start, LetsFirst-more, LetsFirst-end, lets_none}
-use Rattle.known_pool.proofs.changes.let_go.Goals as goal
+use Rattle.known_pool.proofs.Releasing.{LetsFirst-start, LetsFirst-more, LetsFirst-end, lets_none}
+use Rattle.known_pool.proofs.changes.release_fields.Goals as goal
 
 pub returns-in_default-clause-lets_go : goal.returns-in_default-clause-lets_go
 returns-in_default-clause-lets_go g c = λ t image same graph stored s there is.

@@ -4,7 +4,7 @@ use Rattle.pm_model.specs.Counts.{Counts}
 use Rattle.pud_defs.specs.World.{closed}
 use Rattle.ready_daemon.proofs.Coming.{gates_apart, record_apart, gate_closed, Applies-undismissed, Applies-dismissed, ClosesBefore-closing, ClosesBefore-freed}
 use Rattle.ready_daemon.proofs.Keeping.{KeepsRest-changes, KeepsRest-then}
-use Rattle.puddled.proofs.clients.dismiss.Goals as goal
+use Rattle.puddled.proofs.clients.close_and_unregister.Goals as goal
 
 pub returns-in_err-close_logs-clause-applies : goal.returns-in_err-close_logs-clause-applies
 returns-in_err-close_logs-clause-applies g c =

@@ -11,7 +11,7 @@ use Rattle.ready_daemon.specs.Leaving.{BehindTables, world_without}
 use Rattle.ready_daemon.specs.Memory.{Memory}
 use Rattle.ready_daemon.proofs.Coming.{ClosesBefore-changes}
 use Rattle.ready_daemon.proofs.Leaving.{others_left, gone_world, Applies-then, Applies-cut_short, ClosesBefore-then}
-use Rattle.puddled.proofs.daemon.Daemon.let_go.Goals as goal
+use Rattle.puddled.proofs.daemon.Daemon.remove_client.Goals as goal
 
 pub returns-in_err-undo_of-clause-applies : goal.returns-in_err-undo_of-clause-applies
 returns-in_err-undo_of-clause-applies g c =
@@ -29,8 +29,8 @@ pub returns-clause-applies : goal.returns-clause-applies
 returns-clause-applies g c = λ t size e w ready.
     let first = c.undo_of.new.self in
     let mid = g.H.Host.state c.undo_of.new.h in
-    let new = g.H.Host.state c.dismiss.new.h in
-    let fault = fault_of c.dismiss.result in
+    let new = g.H.Host.state c.close_and_unregister.new.h in
+    let fault = fault_of c.close_and_unregister.result in
     let then = e ∙ sym (ap (λ (n : Counts). n.size) c.in_ok-undo_of.ensures.cause) in
     let frames = sym (ap (λ (m : Memory). m.frames) c.self.view_is) in
     Applies-then size w (after w (Leave c.args.client)) (without_client c.args.client w.transactions) first first fault (g.H.Host.state c.args.h.now) mid new (c.in_ok-undo_of.ensures.applies t size e w ready)
@@ -38,14 +38,14 @@ returns-clause-applies g c = λ t size e w ready.
     let others = subst (λ (n : ℕ). AreOfOtherClients n first.active) (sym c.from.ensures) (others_left size w c.args.client first mid ready_mid) in
     subst (λ (v : World). Applies size (world_without c.args.client w) v first fault mid new) (gone_world w c.args.client)
     (subst (λ (n : ℕ). Applies size (world_without c.args.client w) (after (world_without c.args.client w) (Leave n)) first fault mid new) c.from.ensures
-    (c.dismiss.ensures.applies t size then (world_without c.args.client w) first frames ready_mid others)))
+    (c.close_and_unregister.ensures.applies t size then (world_without c.args.client w) first frames ready_mid others)))
 
 pub returns-clause-closes_first : goal.returns-clause-closes_first
 returns-clause-closes_first g c = λ t size e w ready present.
     let first = c.in_ok-undo_of.ensures.applies t size e w ready in
     let then = e ∙ sym (ap (λ (n : Counts). n.size) c.in_ok-undo_of.ensures.cause) in
     let frames = sym (ap (λ (m : Memory). m.frames) c.self.view_is) in
-    ClosesBefore-then size w c.args.self.now c.args.client (g.H.Host.state c.args.h.now) (g.H.Host.state c.undo_of.new.h) (g.H.Host.state c.dismiss.new.h) c.requires.known present ready
+    ClosesBefore-then size w c.args.self.now c.args.client (g.H.Host.state c.args.h.now) (g.H.Host.state c.undo_of.new.h) (g.H.Host.state c.close_and_unregister.new.h) c.requires.known present ready
     (c.in_ok-undo_of.ensures.behind t size e w ready) first.quiet
-    (subst (λ (n : ℕ). ClosesBefore w.stored.frames n (g.H.Host.state c.undo_of.new.h) (g.H.Host.state c.dismiss.new.h)) c.from.ensures
-    (c.dismiss.ensures.closes_first t size then (world_without c.args.client w) c.undo_of.new.self frames (first.ready refl) (subst (λ (n : ℕ). true ≡ is_some (w.clients n)) (sym c.from.ensures) present)))
+    (subst (λ (n : ℕ). ClosesBefore w.stored.frames n (g.H.Host.state c.undo_of.new.h) (g.H.Host.state c.close_and_unregister.new.h)) c.from.ensures
+    (c.close_and_unregister.ensures.closes_first t size then (world_without c.args.client w) c.undo_of.new.self frames (first.ready refl) (subst (λ (n : ℕ). true ≡ is_some (w.clients n)) (sym c.from.ensures) present)))

@@ -11,7 +11,7 @@ use Rattle.pool_transaction.specs.declared.changing.Change.{Change}
 use Rattle.pool_transaction.specs.Changing.{IsActiveIn, with_known, with_opened, line_of}
 use Rattle.pool_transaction.specs.Finishing.{Finishes, FinishesTaken, FinishesUnless, AppliesFinishing}
 use Rattle.pool_transaction.proofs.ActiveAlone.{memory_alone, active_alone, ready_alone, opened_alone}
-use Rattle.pool_transaction.proofs.transaction.PoolTransaction.change.Goals as goal
+use Rattle.pool_transaction.proofs.transaction.PoolTransaction.carry_out_change.Goals as goal
 
 pub returns-in-New-clause-reply : goal.returns-in-New-clause-reply
 returns-in-New-clause-reply g c = λ t size e w memory its ready.
