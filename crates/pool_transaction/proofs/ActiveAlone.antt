@@ -7,11 +7,11 @@ use Rattle.pud_defs.specs.declared.records.Puddle.{Puddle}
 use Rattle.pud_defs.specs.World.{World}
 use Rattle.known_pool.specs.Known.{Known, IsKnown, by_puddles}
 use Rattle.known_pool.proofs.KnownKept.{IsKnown-puddles}
-use Rattle.ready_daemon.specs.Judged.{known_in}
+use Rattle.ready_daemon.specs.PoolKnowledge.{known_puddles_in}
 use Rattle.ready_daemon.specs.Memory.{ActiveTransaction, Memory, with_active}
 use Rattle.ready_daemon.specs.Ready.{IsReady}
 use Rattle.ready_daemon.proofs.Applying.{IsReady-anew}
-use Rattle.ready_daemon.proofs.JudgedOpen.{known_within}
+use Rattle.ready_daemon.proofs.KnownOpen.{known_within}
 use Rattle.ready_daemon.proofs.ActiveUnder.{active_same}
 use Rattle.ready_daemon.proofs.Known.{pool_kept}
 use Rattle.pool_transaction.specs.Changing.{IsActiveIn, IsActiveWith, with_known, with_opened}
@@ -21,7 +21,7 @@ abbrev pub memory_alone : (slot : ℕ) → List (ℕ × Puddle) → Memory → M
 memory_alone slot at memory = record memory { judged = set memory.judged slot (Some (by_puddles at)) }
 
 module _ (F : ℕ) (active : ActiveTransaction) (known : Known) (memory : Memory) (its : IsActiveWith F active known memory) where
-  puddles_its : known_in memory.judged active.slot ≡ Some known.puddles
+  puddles_its : known_puddles_in memory.judged active.slot ≡ Some known.puddles
   puddles_its = ap (option_map (λ (k : Known). k.puddles)) its.known
 
   -- it is so of the device

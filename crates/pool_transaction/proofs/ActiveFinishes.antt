@@ -33,14 +33,14 @@ use Rattle.hybrid_tx.specs.PoolScopes.{IsPlaced, IsRewrittenAt}
 use Rattle.ready_daemon.specs.Memory.{ActiveTransaction, Memory, active_under}
 use Rattle.ready_daemon.specs.ActiveTransactions.{IsActive}
 use Rattle.known_pool.specs.Known.{by_puddles}
-use Rattle.ready_daemon.specs.Judged.{puddles_known, known_in, KnowsAlone}
+use Rattle.ready_daemon.specs.PoolKnowledge.{puddles_known, known_puddles_in, KnowsAlone}
 use Rattle.ready_daemon.specs.Moves.{Stays, MovesTo, led_in}
 use Rattle.ready_daemon.specs.Ready.{IsReady, AppliesBy, Applies}
 use Rattle.ready_daemon.proofs.Applying.{Applies-closed, AppliesBy-then}
 use Rattle.ready_daemon.proofs.Beneath.{ready_gate}
 use Rattle.ready_daemon.proofs.Goals.{Joins-led_stays}
 use Rattle.ready_daemon.proofs.InTurn.{active_known, known_in_turn}
-use Rattle.ready_daemon.proofs.JudgedOpen.{known_within}
+use Rattle.ready_daemon.proofs.KnownOpen.{known_within}
 use Rattle.ready_daemon.proofs.Known.{pool_kept}
 use Rattle.ready_daemon.proofs.TablesBeside.{sound_read}
 use Rattle.pool_transaction.specs.Changing.{both_finished}
@@ -144,7 +144,7 @@ module _ (size : ℕ) (w : World) (memory : Memory) (active : ActiveTransaction)
       }
 
       -- or then the line goes on, with the puddles that are known
-      pub Applies-behind : (mid : State) → OwesRewrites None mid → (next : World) (behind : Memory) (fault : Option HostFault) (new : State) → closed w ≡ closed next → known_in behind.judged active.slot ≡ Some final
+      pub Applies-behind : (mid : State) → OwesRewrites None mid → (next : World) (behind : Memory) (fault : Option HostFault) (new : State) → closed w ≡ closed next → known_puddles_in behind.judged active.slot ≡ Some final
           → Applies size w next behind fault mid new → AppliesTo (led_in active.slot target) size w next behind fault old new
       Applies-behind mid owes next behind fault new stored after later_does =
           AppliesTo-known size w memory old ready active.slot is.pool.slot at (ap puddles_known known) target final ends.reached next behind fault new (ap (λ (v : StoredWorld). v.frames) (sym stored)) (λ done. after)

@@ -63,7 +63,7 @@ use Rattle.ready_daemon.specs.ActiveTransactions.{open_transaction_of, IsActive,
 use Rattle.ready_daemon.specs.KnownPools.{KnowsPools}
 use Rattle.known_pool.specs.Known.{by_puddles}
 use Rattle.known_pool.proofs.KnownKept.{IsKnown-puddles}
-use Rattle.ready_daemon.specs.Judged.{puddles_known, KnowsAlone}
+use Rattle.ready_daemon.specs.PoolKnowledge.{puddles_known, KnowsAlone}
 use Rattle.pool_transaction.specs.Changing.{with_opened, GrowsBy, with_more}
 use Rattle.ready_daemon.specs.Moves.{Stays, LeavesPuddles}
 use Rattle.ready_daemon.specs.Ready.{IsReady, StandsBetween, AppliesMasked, Applies}
@@ -78,10 +78,10 @@ use Rattle.pool_transaction.proofs.ActivePools.{its_pool, its_graph, count_activ
 use Rattle.ready_daemon.proofs.AllMembers.{all_members}
 use Rattle.ready_daemon.proofs.GraphLonger.{graph_longer}
 use Rattle.ready_daemon.proofs.InTurn.{active_known, active_in_turn}
-use Rattle.ready_daemon.proofs.JudgedOpen.{IsShut, KnowsPools-grown}
-use Rattle.ready_daemon.proofs.JudgedPools.{KeepsPools-grow, words_grow}
+use Rattle.ready_daemon.proofs.KnownOpen.{IsShut, KnowsPools-grown}
+use Rattle.ready_daemon.proofs.KnownJudged.{KeepsPools-grow, words_grow}
 use Rattle.ready_daemon.proofs.PoolsGrown.{off_growing, grown_read}
-use Rattle.ready_daemon.proofs.JudgedKept.{HasGraphIn, KeepsPools}
+use Rattle.ready_daemon.proofs.KnownKept.{HasGraphIn, KeepsPools}
 use Rattle.pud_defs.specs.Puts.{member_by, with_puddle_at}
 use Rattle.pud_defs.specs.declared.records.TheConstants.{POOL_RECORDS}
 use Rattle.pool_transaction.proofs.Widened.{GrowsHeld, opened_more, wide, holds_more, sessions_more, settled_more, rest_more, logs_more}

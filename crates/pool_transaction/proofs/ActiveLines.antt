@@ -17,7 +17,7 @@ use Rattle.pud_defs.specs.Step.Answer.{of_reply}
 use Rattle.pud_defs.specs.World.{World, closed, open_on}
 use Rattle.pud_defs.proofs.Steps.{refused_answer}
 use Rattle.known_pool.specs.Known.{Known, by_puddles}
-use Rattle.ready_daemon.specs.Judged.{puddles_known, KnowsAlone}
+use Rattle.ready_daemon.specs.PoolKnowledge.{puddles_known, KnowsAlone}
 use Rattle.ready_daemon.proofs.Known.{pool_kept}
 use Rattle.ready_daemon.specs.Memory.{ActiveTransaction, Memory, active_under, with_active}
 use Rattle.registry.specs.declared.adding.Added.{Added}
@@ -26,7 +26,7 @@ use Rattle.ready_daemon.specs.Moves.{led_in}
 use Rattle.ready_daemon.specs.Ready.{IsReady, Applies}
 use Rattle.ready_daemon.proofs.Applying.{Applies-refused, Applies-stopped, Applies-closed}
 use Rattle.ready_daemon.proofs.InTurn.{active_known}
-use Rattle.ready_daemon.proofs.JudgedOpen.{known_within}
+use Rattle.ready_daemon.proofs.KnownOpen.{known_within}
 use Rattle.ready_daemon.proofs.ActiveUnder.{active_within, active_here, active_same}
 use Rattle.pool_transaction.specs.Finishing.{FinishesUnless, AppliesTo, AppliesFinishing}
 use Rattle.pool_transaction.proofs.ActiveGrows.{grown_frames}

@@ -32,7 +32,7 @@ use Rattle.pool_transaction.specs.Changing.{StaysOpen}
 use Rattle.ready_daemon.proofs.RestBeside.{active_graph}
 use Rattle.known_pool.specs.Known.{Known, by_puddles}
 use Rattle.known_pool.proofs.KnownKept.{IsKnown-puddles}
-use Rattle.ready_daemon.specs.Judged.{KnowsAlone}
+use Rattle.ready_daemon.specs.PoolKnowledge.{KnowsAlone}
 use Rattle.ready_daemon.specs.Memory.{ActiveTransaction, Memory, active_under, with_active}
 use Rattle.ready_daemon.specs.ActiveTransactions.{open_pool_of, open_transaction_of, IsActive, IsActiveUnder, AreActive, HasDurableFrames, HasIdleLogs}
 use Rattle.ready_daemon.specs.KnownPools.{KnowsPools}
@@ -44,8 +44,8 @@ use Rattle.ready_daemon.proofs.OpenNames.{changed_there, changed_elsewhere, Were
 use Rattle.pool_transaction.proofs.ActiveChanged.{Holds-later, HasSessions-later}
 use Rattle.ready_daemon.proofs.PoolsBeside.{one_slot}
 use Rattle.ready_daemon.proofs.InTurn.{active_in_turn}
-use Rattle.ready_daemon.proofs.JudgedKept.{HasGraphIn}
-use Rattle.ready_daemon.proofs.JudgedOpen.{KeepsPools-active, graph_active_in, KnowsPools-later, rest_active}
+use Rattle.ready_daemon.proofs.KnownKept.{HasGraphIn}
+use Rattle.ready_daemon.proofs.KnownOpen.{KeepsPools-active, graph_active_in, KnowsPools-later, rest_active}
 use Rattle.ready_daemon.proofs.TablesBeside.{sound_read, types_read}
 
 -- it, with this transaction on the pool's objects

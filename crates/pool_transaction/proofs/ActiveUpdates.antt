@@ -22,7 +22,7 @@ use Rattle.hybrid_tx.specs.Objects.Transactions.{OpenTx, IsOpenOn, KeepsOpenOn}
 use Rattle.pool_transaction.specs.declared.changing.Found.{Found}
 use Rattle.pool_transaction.specs.declared.changing.Update.{Update}
 use Rattle.pool_transaction.specs.Changing.{IsActiveIn, with_opened, update_line, changed_by, MayChange, IsFoundBy, ordinal_written}
-use Rattle.ready_daemon.specs.Judged.{puddles_known, KnowsAlone}
+use Rattle.ready_daemon.specs.PoolKnowledge.{puddles_known, KnowsAlone}
 use Rattle.ready_daemon.specs.Memory.{ActiveTransaction, Memory}
 use Rattle.ready_daemon.specs.ActiveTransactions.{IsActive}
 use Rattle.ready_daemon.specs.Moves.{led_in}

@@ -59,7 +59,7 @@ use Rattle.hybrid_tx.proofs.FinishedPuddles.{finished_placed, mine_of_finished, 
 use Rattle.ready_daemon.specs.Memory.{ActiveTransaction, Memory, active_under}
 use Rattle.ready_daemon.specs.ActiveTransactions.{IsActive, AreActive, HasDurableFrames, HasIdleLogs, HasSessions, IsActiveUnder, open_transaction_of, open_pool_of}
 use Rattle.ready_daemon.specs.Beginning.{MayBegin, begins_as}
-use Rattle.ready_daemon.specs.Judged.{known_in}
+use Rattle.ready_daemon.specs.PoolKnowledge.{known_puddles_in}
 use Rattle.ready_daemon.specs.KnownPools.{KnowsPools}
 use Rattle.ready_daemon.specs.Ready.{IsReady, RefusesNone, StandsBetween, Applies}
 use Rattle.ready_daemon.proofs.Beside.{Leaves-from, ready_idle, IsApart, still_under, left_all, left_apart, names_none_idle, opened_as, others_apart, records_all, unmasked_by_all}
@@ -68,8 +68,8 @@ use Rattle.ready_daemon.proofs.PuddlesLeft.{LeavesPuddles-behind}
 use Rattle.ready_daemon.proofs.Counting.{log_free}
 use Rattle.pool_transaction.proofs.Ending.{world_now, left_stands, idle_now, records_now}
 use Rattle.ready_daemon.proofs.InTurn.{pool_in_slot}
-use Rattle.ready_daemon.proofs.JudgedKept.{KeepsPools}
-use Rattle.ready_daemon.proofs.JudgedOpen.{KeepsPools-begun, KnowsPools-begun}
+use Rattle.ready_daemon.proofs.KnownKept.{KeepsPools}
+use Rattle.ready_daemon.proofs.KnownOpen.{KeepsPools-begun, KnowsPools-begun}
 use Rattle.ready_daemon.proofs.TablesBeside.{header_read, types_read, sound_read, owner_under}
 use Rattle.ready_daemon.proofs.ActiveMore.{HasSessions-more, Holds-more, keeps_others, other_number}
 use Rattle.ready_daemon.proofs.OpenBeside.{not_named, pool_unmasked, unmasked_frames}
@@ -105,7 +105,7 @@ pub record IsVacant (w : World) (memory : Memory) (client : ℕ) (name : List �
   pub free : active_under memory.active number ≡ None
   pub unheld : session_in memory.sessions slot ≡ None
   pub shut : open_on name w ≡ None
-  pub is_known : known_in memory.judged slot ≡ Some at
+  pub is_known : known_puddles_in memory.judged slot ≡ Some at
 
 module _ (size : ℕ) (w : World) (memory : Memory) (old : State) (ready : IsReady size w memory old) (client : ℕ) (name : List ℕ) (slot number : ℕ) (at : List (ℕ × Puddle))
     (vacant : IsVacant w memory client name slot number at) (may : MayBegin w.stored.frames client name (reads old.now.words) slot at) where

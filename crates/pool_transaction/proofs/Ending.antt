@@ -54,7 +54,7 @@ use Rattle.ready_daemon.specs.Memory.{ActiveTransaction, Memory, active_under}
 use Rattle.ready_daemon.specs.ActiveTransactions.{open_pool_of, open_transaction_of, IsActive, IsActiveUnder, HasIdleLogs}
 use Rattle.known_pool.specs.Known.{Known, by_puddles}
 use Rattle.known_pool.proofs.KnownKept.{IsKnown-puddles}
-use Rattle.ready_daemon.specs.Judged.{alone_in}
+use Rattle.ready_daemon.specs.PoolKnowledge.{alone_in}
 use Rattle.ready_daemon.specs.KnownPools.{KnowsPools}
 use Rattle.ready_daemon.proofs.Known.{alone_in-known}
 use Rattle.ready_daemon.specs.Ready.{IsReady, RefusesNone, StandsBetween, Applies}
@@ -64,8 +64,8 @@ use Rattle.ready_daemon.proofs.PuddlesLeft.{LeavesPuddles-behind}
 use Rattle.pool_transaction.specs.Lifetime.{with_ended}
 use Rattle.pool_transaction.proofs.ActiveRuns.{stands_within}
 use Rattle.ready_daemon.proofs.InTurn.{active_in_turn, active_there_known}
-use Rattle.ready_daemon.proofs.JudgedKept.{HasGraphIn}
-use Rattle.ready_daemon.proofs.JudgedOpen.{KnowsPools-ended, KeepsPools-active, graph_active_in, rest_active}
+use Rattle.ready_daemon.proofs.KnownKept.{HasGraphIn}
+use Rattle.ready_daemon.proofs.KnownOpen.{KnowsPools-ended, KeepsPools-active, graph_active_in, rest_active}
 use Rattle.ready_daemon.proofs.OthersActive.{one_of_all, others_are, others_mask, holds_others, sessions_others}
 use Rattle.ready_daemon.proofs.TablesBeside.{types_read}
 

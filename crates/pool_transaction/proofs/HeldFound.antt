@@ -12,12 +12,12 @@ use Rattle.pud_defs.specs.Step.{refusal_of, after, world_by}
 use Rattle.pud_defs.specs.World.{World}
 use Rattle.hybrid_tx.specs.PoolScopes.{IsPlaced}
 use Rattle.known_pool.specs.Known.{Known, IsKnown, by_puddles}
-use Rattle.ready_daemon.specs.Judged.{puddles_known}
+use Rattle.ready_daemon.specs.PoolKnowledge.{puddles_known}
 use Rattle.ready_daemon.specs.Memory.{ActiveTransaction, Memory}
 use Rattle.ready_daemon.specs.Moves.{led_in}
 use Rattle.ready_daemon.specs.Ready.{IsReady}
 use Rattle.ready_daemon.proofs.Applying.{IsReady-anew}
-use Rattle.ready_daemon.proofs.JudgedOpen.{known_within}
+use Rattle.ready_daemon.proofs.KnownOpen.{known_within}
 use Rattle.ready_daemon.proofs.Known.{known_kept_there}
 use Rattle.pool_transaction.specs.declared.changing.Found.{Found}
 use Rattle.pool_transaction.specs.declared.changing.Update.{Update}

@@ -31,7 +31,7 @@ use Rattle.hybrid_tx.specs.Open.ManyOpen.{with_transaction}
 use Rattle.hybrid_tx.specs.Objects.Transactions.{RestsAs}
 use Rattle.hybrid_tx.proofs.PoolScope.{pool_has_word-each}
 use Rattle.known_pool.specs.Known.{Known, with_puddles}
-use Rattle.ready_daemon.specs.Judged.{puddles_known, pool_in, known_in}
+use Rattle.ready_daemon.specs.PoolKnowledge.{puddles_known, known_pool_in, known_puddles_in}
 use Rattle.ready_daemon.specs.KnownPools.{KnowsPools}
 use Rattle.ready_daemon.specs.Memory.{ActiveTransaction, Memory, active_under}
 use Rattle.ready_daemon.specs.ActiveTransactions.{open_pool_of, open_transaction_of, IsActive, KeepsActive, ByOthers}
@@ -41,8 +41,8 @@ use Rattle.ready_daemon.proofs.Applying.{Applies-still, Applies-stopped, Applies
 use Rattle.ready_daemon.proofs.Goals.{led_stays, Joins-led}
 use Rattle.ready_daemon.proofs.Beside.{active_is, opens_apart_from, moments_beside, durable_frames_still, Applies-beside}
 use Rattle.ready_daemon.proofs.InTurn.{active_there_known, known_in_turn, active_known}
-use Rattle.ready_daemon.proofs.JudgedKept.{HasGraphIn, KeepsPools}
-use Rattle.ready_daemon.proofs.JudgedOpen.{IsShut, known_within, AreJudged-own, KnowsPools-grown}
+use Rattle.ready_daemon.proofs.KnownKept.{HasGraphIn, KeepsPools}
+use Rattle.ready_daemon.proofs.KnownOpen.{IsShut, known_within, AreKnownPools-own, KnowsPools-grown}
 use Rattle.ready_daemon.proofs.Known.{pool_kept, known_other}
 use Rattle.ready_daemon.proofs.PoolsBeside.{one_slot, used_still}
 use Rattle.ready_daemon.proofs.RestBeside.{active_graph, rest_beside}
@@ -56,7 +56,7 @@ use Rattle.pool_transaction.proofs.StepsMoved.{upto, LeavesPuddles-steps}
 use Rattle.pool_transaction.proofs.StepsKept.{listed_then, graph_then, known_then, tables_then, sound_then, KeepsPools-steps}
 
 -- what is known anyway is kept again
-set-known : (judged : List (Option Known)) (slot : ℕ) (known : Known) → pool_in judged slot ≡ Some known → set judged slot (Some known) ≡ judged
+set-known : (judged : List (Option Known)) (slot : ℕ) (known : Known) → known_pool_in judged slot ≡ Some known → set judged slot (Some known) ≡ judged
 set-known judged slot known is = ap (set judged slot) (sym is) ∙ set-get_or judged slot None
 
 -- what is held is so of the same world
@@ -65,7 +65,7 @@ keeps_world w active = record { frames = refl; transactions = refl; present = λ
 
 -- ---- one batch
 
-module _ (size : ℕ) (w : World) (memory : Memory) (slot : ℕ) (kept : Known) (old new : State) (ready : IsReady size w memory old) (is_kept : pool_in memory.judged slot ≡ Some kept)
+module _ (size : ℕ) (w : World) (memory : Memory) (slot : ℕ) (kept : Known) (old new : State) (ready : IsReady size w memory old) (is_kept : known_pool_in memory.judged slot ≡ Some kept)
     (goal : ℕ → ℕ) (o m : ℕ) (e : ℕ × Puddle) (next : AreNextSteps kept.puddles goal o m e) (rec : PoolRec) (low : slot < POOL_RECORDS)
     (used : (tables_of w.stored.frames (reads old.now.words)).pools slot ≡ Some rec) where
   abbrev F : ℕ
@@ -74,7 +74,7 @@ module _ (size : ℕ) (w : World) (memory : Memory) (slot : ℕ) (kept : Known) 
   abbrev at : List (ℕ × Puddle)
   at = kept.puddles
 
-  known : known_in memory.judged slot ≡ Some at
+  known : known_puddles_in memory.judged slot ≡ Some at
   known = ap puddles_known is_kept
 
   abbrev image : Image
@@ -117,7 +117,7 @@ module _ (size : ℕ) (w : World) (memory : Memory) (slot : ℕ) (kept : Known) 
         Applies-beside size w w memory None old new ready (keeps_world w memory.active) done (MovesTo (led_in slot (upto goal)))
         (LeavesPuddles-steps size w memory slot at old new ready known goal o m e next None c) behind refl refl refl
         (λ _. record {
-          judged = AreJudged-own F slot memory.judged (with_puddles with_them kept) image now keeps graph_then_is
+          judged = AreKnownPools-own F slot memory.judged (with_puddles with_them kept) image now keeps graph_then_is
               (known_then size w memory slot at old new ready known goal o m e next c kept refl (ready.knows.judged.known slot kept is_kept)) ready.knows.judged;
           open_pools = λ number x there.
               known_other memory.judged slot x.pool.slot (Some (with_puddles with_them kept)) (opens_apart_from w memory.active ready.mask old.now.words ready.active slot shut.each number x there)
@@ -128,11 +128,11 @@ module _ (size : ℕ) (w : World) (memory : Memory) (slot : ℕ) (kept : Known) 
 -- ---- one batch, with a transaction held on the pool
 
 module _ (size : ℕ) (w : World) (memory : Memory) (old new : State) (ready : IsReady size w memory old) (number : ℕ) (active : ActiveTransaction) (there : active_under memory.active number ≡ Some active) (kept : Known)
-    (is_kept : pool_in memory.judged active.slot ≡ Some kept) where
+    (is_kept : known_pool_in memory.judged active.slot ≡ Some kept) where
   abbrev its : IsActive w active ready.mask old.now.words
   its = active_is w memory.active ready.mask old.now.words ready.active number active there
 
-  abbrev known_its : known_in memory.judged active.slot ≡ Some its.puddles
+  abbrev known_its : known_puddles_in memory.judged active.slot ≡ Some its.puddles
   known_its = active_there_known size w memory old ready number active there
 
   same_puddles : kept.puddles ≡ its.puddles
@@ -250,14 +250,14 @@ module _ (size : ℕ) (w : World) (slot : ℕ) (low : slot < POOL_RECORDS) (goal
   Led = MovesTo (led_in slot (upto goal))
 
   -- the pool of a puddle is one of the table
-  used_of : (memory : Memory) (at : List (ℕ × Puddle)) (o m : ℕ) (e : ℕ × Puddle) (old : State) (ready : IsReady size w memory old) → known_in memory.judged slot ≡ Some at → AreNextSteps at goal o m e
+  used_of : (memory : Memory) (at : List (ℕ × Puddle)) (o m : ℕ) (e : ℕ × Puddle) (old : State) (ready : IsReady size w memory old) → known_puddles_in memory.judged slot ≡ Some at → AreNextSteps at goal o m e
       → (rec : PoolRec) × ((tables_of w.stored.frames (reads old.now.words)).pools slot ≡ Some rec)
   used_of memory at o m e old ready known next =
       let of = member_of_pool w.stored.frames slot at (reads old.now.words) (known_in_turn size w memory old ready slot at known) o e next.here in
       pool_used w.stored.next_number (tables_of w.stored.frames (reads old.now.words)) (sound_read size w memory old ready) slot low e.0 of.member of.below of.used of.pool
 
   -- whichever transaction is held on it, or none
-  Applies-batch : (memory : Memory) (kept : Known) (o m : ℕ) (e : ℕ × Puddle) (old new : State) (ready : IsReady size w memory old) → pool_in memory.judged slot ≡ Some kept → AreNextSteps kept.puddles goal o m e
+  Applies-batch : (memory : Memory) (kept : Known) (o m : ℕ) (e : ℕ × Puddle) (old new : State) (ready : IsReady size w memory old) → known_pool_in memory.judged slot ≡ Some kept → AreNextSteps kept.puddles goal o m e
       → CommitsSteps w.stored.frames kept.puddles o m e None old new → AppliesBy Led size w w (knowing memory (with_puddles (with_steps o m e kept.puddles) kept)) None old new
   Applies-batch memory kept o m e old new ready is_kept next c = elim (cases_active size w memory slot kept.puddles old ready (ap puddles_known is_kept)) [
     | inr shut ↦
@@ -266,7 +266,7 @@ module _ (size : ℕ) (w : World) (slot : ℕ) (low : slot < POOL_RECORDS) (goal
     | inl on ↦
         let active = on.1 in
         let is = active_is w memory.active ready.mask old.now.words ready.active on.0.number active.active active.is in
-        let here : pool_in memory.judged active.active.slot ≡ Some kept = ap (pool_in memory.judged) active.slot_is ∙ is_kept in
+        let here : known_pool_in memory.judged active.active.slot ≡ Some kept = ap (known_pool_in memory.judged) active.slot_is ∙ is_kept in
         let same : kept.puddles ≡ is.puddles = sym (active_known size w memory old ready on.0.number active.active active.is kept.puddles (ap puddles_known here)) in
         subst (λ (ps : List (ℕ × Puddle)). AppliesBy Led size w w (knowing memory (with_puddles (with_steps o m e ps) kept)) None old new) (sym same)
         (subst (λ (i : ℕ). AppliesBy (MovesTo (led_in i (upto goal))) size w w (record memory { judged = set memory.judged i (Some (with_puddles (with_steps o m e is.puddles) kept)) }) None old new) active.slot_is
@@ -274,7 +274,7 @@ module _ (size : ℕ) (w : World) (slot : ℕ) (low : slot < POOL_RECORDS) (goal
         (subst (λ (ps : List (ℕ × Puddle)). AreNextSteps ps goal o m e) same next) (subst (λ (ps : List (ℕ × Puddle)). CommitsSteps w.stored.frames ps o m e None old new) same c)))
   ]
 
-  Applies-once : (memory : Memory) (kept : Known) (later : List (ℕ × Puddle)) (fault : Option HostFault) (old new : State) → IsReady size w memory old → pool_in memory.judged slot ≡ Some kept
+  Applies-once : (memory : Memory) (kept : Known) (later : List (ℕ × Puddle)) (fault : Option HostFault) (old new : State) → IsReady size w memory old → known_pool_in memory.judged slot ≡ Some kept
       → RewritesOnce w.stored.frames goal kept.puddles later fault old new → AppliesBy Led size w w (knowing memory (with_puddles later kept)) fault old new
   Applies-once memory kept later None old new ready is_kept one = elim one.does [
     | inl still ↦ absurd (still.1.0 refl)
@@ -291,7 +291,7 @@ module _ (size : ℕ) (w : World) (slot : ℕ) (low : slot < POOL_RECORDS) (goal
         Applies-failed_steps size w memory slot kept old new ready is_kept goal one.ordinal one.to one.puddle one.next used.0 low used.1 fault (knowing memory (with_puddles later kept)) c
   ]
 
-  Applies-turns : (batches : ℕ) (memory : Memory) (kept : Known) (later : List (ℕ × Puddle)) (fault : Option HostFault) (old new : State) → IsReady size w memory old → pool_in memory.judged slot ≡ Some kept
+  Applies-turns : (batches : ℕ) (memory : Memory) (kept : Known) (later : List (ℕ × Puddle)) (fault : Option HostFault) (old new : State) → IsReady size w memory old → known_pool_in memory.judged slot ≡ Some kept
       → RewritesInTurn w.stored.frames goal batches kept.puddles later fault old new → AppliesBy Led size w w (knowing memory (with_puddles later kept)) fault old new
   Applies-turns zero memory kept later fault old new ready is_kept turns =
       let same : memory.judged ≡ set memory.judged slot (Some (with_puddles later kept)) =
@@ -304,7 +304,7 @@ module _ (size : ℕ) (w : World) (slot : ℕ) (low : slot < POOL_RECORDS) (goal
       let between = turns.1.0 in
       let first = Applies-turns batches memory kept between None old mid ready is_kept turns.1.1.0 in
       let then = knowing memory (with_puddles between kept) in
-      let now : pool_in then.judged slot ≡ Some (with_puddles between kept) = pool_kept memory.judged slot (Some (with_puddles between kept)) (known_within memory.judged slot kept.puddles (ap puddles_known is_kept)) in
+      let now : known_pool_in then.judged slot ≡ Some (with_puddles between kept) = pool_kept memory.judged slot (Some (with_puddles between kept)) (known_within memory.judged slot kept.puddles (ap puddles_known is_kept)) in
       AppliesBy-then Led Led Led (Joins-led slot (upto goal)) size w w w then (knowing memory (with_puddles later kept)) fault old mid new refl refl first
       (Applies-known size w w memory fault mid new (set (set memory.judged slot (Some (with_puddles between kept))) slot (Some (with_puddles later kept))) (set memory.judged slot (Some (with_puddles later kept)))
       (set-set memory.judged slot (Some (with_puddles between kept)) (Some (with_puddles later kept)))
@@ -312,6 +312,6 @@ module _ (size : ℕ) (w : World) (slot : ℕ) (low : slot < POOL_RECORDS) (goal
 
 -- the daemon is ready behind the batches, and what it knows of the pool is so, by what they made of its puddles
 pub Applies-rewrites : (size : ℕ) (w : World) (memory : Memory) (slot : ℕ) (kept : Known) (later : List (ℕ × Puddle)) (goal : ℕ → ℕ) (fault : Option HostFault) (old new : State)
-    → IsReady size w memory old → slot < POOL_RECORDS → pool_in memory.judged slot ≡ Some kept → Rewrites w.stored.frames goal kept.puddles later fault old new
+    → IsReady size w memory old → slot < POOL_RECORDS → known_pool_in memory.judged slot ≡ Some kept → Rewrites w.stored.frames goal kept.puddles later fault old new
     → AppliesBy (MovesTo (led_in slot (upto goal))) size w w (record memory { judged = set memory.judged slot (Some (with_puddles later kept)) }) fault old new
 Applies-rewrites size w memory slot kept later goal fault old new ready low is_kept r = Applies-turns size w slot low goal r.batches memory kept later fault old new ready is_kept r.in_turn

@@ -46,12 +46,12 @@ use Rattle.hybrid_tx.proofs.Open.OpenPools.{placed_by_tables}
 use Rattle.hybrid_tx.proofs.PoolScope.{pool_has_word-each}
 use Rattle.ready_daemon.specs.Memory.{ActiveTransaction, Memory, active_under}
 use Rattle.ready_daemon.specs.ActiveTransactions.{open_pool_of, IsActiveOn, LeavesMasked}
-use Rattle.ready_daemon.specs.Judged.{known_in}
+use Rattle.ready_daemon.specs.PoolKnowledge.{known_puddles_in}
 use Rattle.ready_daemon.specs.Ready.{IsReady, AppliesMasked}
 use Rattle.ready_daemon.proofs.Beneath.{IsOff-each, LeavesMasked-commits, logs_kept, ready_gate}
 use Rattle.ready_daemon.proofs.Beside.{active_is, unmasked_front}
 use Rattle.ready_daemon.proofs.InTurn.{known_in_turn, active_known}
-use Rattle.ready_daemon.proofs.JudgedKept.{HasGraphIn, graph_parts}
+use Rattle.ready_daemon.proofs.KnownKept.{HasGraphIn, graph_parts}
 use Rattle.ready_daemon.proofs.PoolsBeside.{unmasked_frame, unmasked_moving_record, unmasked_moving_frame}
 use Rattle.ready_daemon.proofs.RestBeside.{rest_unmasked}
 use Rattle.ready_daemon.proofs.TablesBeside.{tables_read, read_beside, under_durable, types_read, sound_read}
@@ -69,7 +69,7 @@ its_steps at goal o m e next =
     let here : its_goal o m o ≡ m = cond-true _ _ _ (eq-eqb o o refl) in
     record { here = next.here; some = next.some; few = next.few; within = omega (arith, here); last = next.last }
 
-module _ (size : ℕ) (w : World) (memory : Memory) (slot : ℕ) (at : List (ℕ × Puddle)) (old : State) (ready : IsReady size w memory old) (known : known_in memory.judged slot ≡ Some at) where
+module _ (size : ℕ) (w : World) (memory : Memory) (slot : ℕ) (at : List (ℕ × Puddle)) (old : State) (ready : IsReady size w memory old) (known : known_puddles_in memory.judged slot ≡ Some at) where
   abbrev F : ℕ
   F = w.stored.frames
 
@@ -152,7 +152,7 @@ module _ (size : ℕ) (w : World) (memory : Memory) (slot : ℕ) (at : List (ℕ
     | inl on ↦
         let active = on.1 in
         let is = active_is w memory.active mask old.now.words ready.active on.0.number active.active active.is in
-        let same : is.puddles ≡ at = active_known size w memory old ready on.0.number active.active active.is at (ap (known_in memory.judged) active.slot_is ∙ known) in (
+        let same : is.puddles ≡ at = active_known size w memory old ready on.0.number active.active active.is at (ap (known_puddles_in memory.judged) active.slot_is ∙ known) in (
           is.graph_before,
           ap (λ (ts : List (ℕ × ℕ)). graph_of ts (stored_in F at (reads under))) (types_masked ∙ (types_read size w memory old ready).types)
               ∙ ap (λ (ps : List (ℕ × Puddle)). graph_of w.stored.types (stored_in F ps (reads under))) (sym same)

@@ -37,11 +37,11 @@ use Rattle.known_pool.specs.Known.{Known, IsKnown, with_puddles}
 use Rattle.known_pool.proofs.KnownKept.{KeepsSerials, IsKnown-kept}
 use Rattle.lazy_rewrite.proofs.Gathered.{frame_below}
 use Rattle.lazy_rewrite.proofs.Spared.{batch_spares}
-use Rattle.ready_daemon.specs.Judged.{known_in}
+use Rattle.ready_daemon.specs.PoolKnowledge.{known_puddles_in}
 use Rattle.ready_daemon.specs.Ready.{IsReady}
 use Rattle.ready_daemon.proofs.Beneath.{ready_gate}
 use Rattle.ready_daemon.proofs.InTurn.{known_in_turn}
-use Rattle.ready_daemon.proofs.JudgedKept.{HasGraphIn, KeepsGraphs, KeepsPool, KeepsPools, KeepsPools-each, own_word, words_apart}
+use Rattle.ready_daemon.proofs.KnownKept.{HasGraphIn, KeepsGraphs, KeepsPool, KeepsPools, KeepsPools-each, own_word, words_apart}
 use Rattle.ready_daemon.proofs.PoolsBeside.{unmasked_moving_frame}
 use Rattle.ready_daemon.proofs.TablesBeside.{sound_read}
 use Rattle.pool_transaction.proofs.StepsBeside.{known_graph, known_placed}
@@ -58,7 +58,7 @@ members_moved t frame n slot other f m used of apart = elim (cases_eq f frame) [
       ∙ sym (ap (member_of other f) (ap t.puddles here ∙ used) ∙ none m of)
 ]
 
-module _ (size : ℕ) (w : World) (memory : Memory) (slot : ℕ) (at : List (ℕ × Puddle)) (old new : State) (ready : IsReady size w memory old) (known : known_in memory.judged slot ≡ Some at)
+module _ (size : ℕ) (w : World) (memory : Memory) (slot : ℕ) (at : List (ℕ × Puddle)) (old new : State) (ready : IsReady size w memory old) (known : known_puddles_in memory.judged slot ≡ Some at)
     (goal : ℕ → ℕ) (o m : ℕ) (e : ℕ × Puddle) (next : AreNextSteps at goal o m e) (c : CommitsSteps w.stored.frames at o m e None old new) where
   abbrev F : ℕ
   F = w.stored.frames

@@ -26,7 +26,7 @@ use Rattle.batch.specs.Batches.{batch_write, IsBatched}
 use Rattle.lazy_rewrite.specs.Batches.{AreNextSteps, CommitsSteps}
 use Rattle.lazy_rewrite.proofs.Kept.{settled_single}
 use Rattle.lazy_rewrite.proofs.Stepped.{write, member_of_pool, unwritten, frontier_written}
-use Rattle.ready_daemon.specs.Judged.{known_in}
+use Rattle.ready_daemon.specs.PoolKnowledge.{known_puddles_in}
 use Rattle.ready_daemon.specs.Memory.{Memory}
 use Rattle.ready_daemon.specs.Moves.{MovesTo, LeavesPuddles, led_in}
 use Rattle.ready_daemon.specs.Ready.{IsReady}
@@ -38,7 +38,7 @@ use Rattle.ready_daemon.proofs.InTurn.{known_in_turn}
 abbrev pub upto : (ℕ → ℕ) → ℕ → ℕ
 upto goal o = min (goal o) LAST_FRONTIER
 
-module _ (size : ℕ) (w : World) (memory : Memory) (slot : ℕ) (at : List (ℕ × Puddle)) (old new : State) (ready : IsReady size w memory old) (known : known_in memory.judged slot ≡ Some at)
+module _ (size : ℕ) (w : World) (memory : Memory) (slot : ℕ) (at : List (ℕ × Puddle)) (old new : State) (ready : IsReady size w memory old) (known : known_puddles_in memory.judged slot ≡ Some at)
     (goal : ℕ → ℕ) (o m : ℕ) (e : ℕ × Puddle) (next : AreNextSteps at goal o m e) (fault : Option HostFault) (c : CommitsSteps w.stored.frames at o m e fault old new) where
   abbrev F : ℕ
   F = w.stored.frames

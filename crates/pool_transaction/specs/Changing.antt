@@ -35,7 +35,7 @@ use Rattle.pool_transaction.specs.declared.changing.Update.TheVariants.{Set, Lat
 use Rattle.pool_transaction.specs.declared.changing.Found.{Found}
 use Rattle.pool_transaction.specs.declared.changing.Found.TheVariants as founds
 use Rattle.known_pool.specs.Known.{Known, by_puddles}
-use Rattle.ready_daemon.specs.Judged.{pool_in, KnowsAlone}
+use Rattle.ready_daemon.specs.PoolKnowledge.{known_pool_in, KnowsAlone}
 use Rattle.ready_daemon.specs.Memory.{ActiveTransaction, Memory, active_under}
 
 -- ---- where it is held
@@ -50,7 +50,7 @@ pub record IsActiveIn (F : ℕ) (active : ActiveTransaction) (at : List (ℕ × 
 pub record IsActiveWith (F : ℕ) (active : ActiveTransaction) (kept : Known) (memory : Memory) : Type 0 where
   pub frames : memory.frames ≡ F
   pub there : active_under memory.active active.log_number ≡ Some active
-  pub known : pool_in memory.judged active.slot ≡ Some kept
+  pub known : known_pool_in memory.judged active.slot ≡ Some kept
 
 -- the memory that holds this one under the number, and knows this of the pool in the slot
 abbrev pub with_known : (number slot : ℕ) → ActiveTransaction → Known → Memory → Memory

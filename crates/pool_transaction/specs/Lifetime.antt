@@ -5,7 +5,7 @@ use Rattle.pud_defs.specs.Image.{Image}
 use Rattle.log_space.specs.FreeLogs.{first_closed}
 use Rattle.nesting.specs.Sessions.{session_in, entered}
 use Rattle.ready_daemon.specs.Beginning.{MayBegin}
-use Rattle.ready_daemon.specs.Judged.{known_in, alone_in}
+use Rattle.ready_daemon.specs.PoolKnowledge.{known_puddles_in, alone_in}
 use Rattle.ready_daemon.specs.Memory.{ActiveTransaction, Memory}
 
 -- The client may begin a transaction on the pool of the name, whose record has this slot, and which is known and has no session: in the log of this
@@ -14,7 +14,7 @@ pub record MayBeginIn (memory : Memory) (image : Image) (client : ℕ) (name : L
   pub lowest : Some number ≡ first_closed image memory.frames client
   pub unheld : session_in memory.sessions slot ≡ None
   pub at : List (ℕ × Puddle)
-  pub known : known_in memory.judged slot ≡ Some at
+  pub known : known_puddles_in memory.judged slot ≡ Some at
   pub may : MayBegin memory.frames client name image slot at
   pub fits : slot < length memory.sessions
 

@@ -22,10 +22,10 @@ use Rattle.pool_transaction.specs.declared.changing.Change.{Change}
 use Rattle.pool_transaction.specs.declared.changing.Change.TheVariants as changes
 use Rattle.pool_transaction.specs.Changing.{IsActiveWith, with_known, line_of}
 use Rattle.known_pool.specs.Known.{Known, IsKnown}
-use Rattle.ready_daemon.specs.Judged.{puddles_known, pool_in, known_in, AreOnDevice, AreJudged}
-use Rattle.ready_daemon.proofs.JudgedKept.{graph_parts}
-use Rattle.ready_daemon.proofs.JudgedOpen.{known_again}
-use Rattle.ready_daemon.proofs.Known.{AreJudged-set}
+use Rattle.ready_daemon.specs.PoolKnowledge.{puddles_known, known_pool_in, known_puddles_in, AreOnDevice, AreKnownPools}
+use Rattle.ready_daemon.proofs.KnownKept.{graph_parts}
+use Rattle.ready_daemon.proofs.KnownOpen.{known_again}
+use Rattle.ready_daemon.proofs.Known.{AreKnownPools-set}
 use Rattle.ready_daemon.specs.Memory.{ActiveTransaction, Memory, active_under}
 use Rattle.ready_daemon.specs.OwnOnPool.{IsOwnTransactionOn}
 use Rattle.ready_daemon.specs.Owning.{IsSlotOf}
@@ -40,27 +40,27 @@ use Rattle.pool_transaction.proofs.TransactionRefusals.{refused_change, refused_
 use Rattle.ready_daemon.proofs.InTurn.{active_there_known}
 
 -- what was read in a slot of the list is what is known there
-pub known_there : (judged : List (Option Known)) (slot : ℕ) (read any : Option Known) → slot < length judged → read ≡ slice_index_or judged slot any → pool_in judged slot ≡ read
+pub known_there : (judged : List (Option Known)) (slot : ℕ) (read any : Option Known) → slot < length judged → read ≡ slice_index_or judged slot any → known_pool_in judged slot ≡ read
 known_there judged slot read any within is = get_or_default judged slot None any within ∙ sym is
 
 -- and what is known lies in frames of the device
-pub on_device_there : (F : ℕ) (judged : List (Option Known)) (slot : ℕ) (known : Known) → AreOnDevice F judged → pool_in judged slot ≡ Some known → IsOnDevice F known.puddles
+pub on_device_there : (F : ℕ) (judged : List (Option Known)) (slot : ℕ) (known : Known) → AreOnDevice F judged → known_pool_in judged slot ≡ Some known → IsOnDevice F known.puddles
 on_device_there F judged slot known all is = all.each slot known.puddles (ap puddles_known is)
 
 -- ---- an index of it is built
 
-module _ (judged : List (Option Known)) (slot : ℕ) (known more : Known) (is : pool_in judged slot ≡ Some known) (same : more.at ≡ known.puddles) where
+module _ (judged : List (Option Known)) (slot : ℕ) (known more : Known) (is : known_pool_in judged slot ≡ Some known) (same : more.at ≡ known.puddles) where
   -- all pools are known by the puddles by which they were
-  pub puddles_built : (i : ℕ) → known_in (set judged slot (Some more)) i ≡ known_in judged i
+  pub puddles_built : (i : ℕ) → known_puddles_in (set judged slot (Some more)) i ≡ known_puddles_in judged i
   puddles_built i = known_again judged slot more (ap puddles_known is ∙ ap (λ (at : List (ℕ × Puddle)). Some at) (sym same)) i
 
   -- and what is known is so
-  pub AreJudged-built : (F : ℕ) (image : Image) → ((g : Graph) → graph_of (types_of image) (stored_in F known.puddles image) ≡ Some g → IsKnown F image known → IsKnown F image more) → AreJudged F judged image
-      → AreJudged F (set judged slot (Some more)) image
+  pub AreJudged-built : (F : ℕ) (image : Image) → ((g : Graph) → graph_of (types_of image) (stored_in F known.puddles image) ≡ Some g → IsKnown F image known → IsKnown F image more) → AreKnownPools F judged image
+      → AreKnownPools F (set judged slot (Some more)) image
   AreJudged-built F image built are =
       let has = are.each slot known.puddles (ap puddles_known is) in
       let graph = graph_parts F slot image known.puddles has in
-      AreJudged-set F judged slot more image (has ∙ ap (λ (at : List (ℕ × Puddle)). Some at) (sym same)) (built graph.graph graph.stored (are.known slot known is)) are
+      AreKnownPools-set F judged slot more image (has ∙ ap (λ (at : List (ℕ × Puddle)). Some at) (sym same)) (built graph.graph graph.stored (are.known slot known is)) are
 
 -- ---- the client's own
 
@@ -70,10 +70,10 @@ module _ (size : ℕ) (w : World) (F : ℕ) (all : List (Option ActiveTransactio
   memory = record { frames = F; active = all; sessions = sessions; judged = judged }
 
   -- its pool is known
-  pub is_known : pool_in judged slot ≡ None → ⊥
-  is_known none = none-some _ (sym (ap (option_map (λ (k : Known). k.puddles)) none) ∙ ap (known_in judged) (sym own.slot_is) ∙ active_there_known size w memory s ready number own.own.active own.own.is)
+  pub is_known : known_pool_in judged slot ≡ None → ⊥
+  is_known none = none-some _ (sym (ap (option_map (λ (k : Known). k.puddles)) none) ∙ ap (known_puddles_in judged) (sym own.slot_is) ∙ active_there_known size w memory s ready number own.own.active own.own.is)
 
-  module _ (mine : ActiveTransaction) (there : active_under all number ≡ Some mine) (pool_is : Known) (known : pool_in judged slot ≡ Some pool_is) where
+  module _ (mine : ActiveTransaction) (there : active_under all number ≡ Some mine) (pool_is : Known) (known : known_pool_in judged slot ≡ Some pool_is) where
     abbrev at : List (ℕ × Puddle)
     at = pool_is.at
 
@@ -87,7 +87,7 @@ module _ (size : ℕ) (w : World) (F : ℕ) (all : List (Option ActiveTransactio
     number_is = (ready.active.each number mine there).number_is
 
     pub active_in : IsActiveWith F mine pool_is memory
-    active_in = record { frames = refl; there = ap (active_under all) number_is ∙ there; known = ap (pool_in judged) slot_is ∙ known }
+    active_in = record { frames = refl; there = ap (active_under all) number_is ∙ there; known = ap (known_pool_in judged) slot_is ∙ known }
 
     -- it is asked for by the client's line
     pub asked : (change : Change) → line_of change mine.client mine.name ≡ line_of change client name

@@ -23,7 +23,7 @@ use Rattle.pool_transaction.specs.Lifetime.{MayBeginIn}
 use Rattle.ready_daemon.specs.Beginning.{MayBegin}
 use Rattle.ready_daemon.specs.ActiveTransactions.{session_of}
 use Rattle.ready_daemon.specs.OwnOnPool.{IsOwnTransactionOn}
-use Rattle.ready_daemon.specs.Judged.{known_in}
+use Rattle.ready_daemon.specs.PoolKnowledge.{known_puddles_in}
 use Rattle.ready_daemon.specs.Memory.{Memory}
 use Rattle.ready_daemon.specs.Ready.{IsReady}
 use Rattle.puddled.specs.declared.finding.Need.TheVariants as needs
@@ -125,7 +125,7 @@ pub record Begins (size : ℕ) (w : World) (memory : Memory) (s : State) (client
 
 -- behind calls that read, where a log is left that is the lowest that is closed
 pub begins_in : (size : ℕ) (w : World) (memory view : Memory) (s mid : State) → IsReady size w memory s → (client : ℕ) (name : List ℕ) → refusal_to w needs.Write client name ≡ None → (slot : ℕ) (at : List (ℕ × Puddle))
-    → MayBegin memory.frames client name (reads s.now.words) slot at → session_in memory.sessions slot ≡ None → AreSessions memory.sessions → memory ≡ view → mid ≡ s → known_in memory.judged slot ≡ Some at
+    → MayBegin memory.frames client name (reads s.now.words) slot at → session_in memory.sessions slot ≡ None → AreSessions memory.sessions → memory ≡ view → mid ≡ s → known_puddles_in memory.judged slot ≡ Some at
     → ((session_in view.sessions slot ≡ None) × (CLIENT_LOGS ≤ count_of client view.sessions) → ⊥) → (number : ℕ) → Some number ≡ first_closed (reads s.now.words) view.frames client
     → slot < POOL_RECORDS → Begins size w view mid client name slot number
 begins_in size w memory view s mid ready client name free slot at may none are same stays known apart number lowest within =
@@ -136,7 +136,7 @@ begins_in size w memory view s mid ready client name free slot at may none are s
     subst (λ (x : State). Begins size w view x client name slot number) (sym stays) (record {
       free = begins_free size w view s then client name free slot at might shut_in there apart;
       ready = then;
-      may = record { lowest = lowest; unheld = shut_in; at = at; known = subst (λ (m : Memory). known_in m.judged slot ≡ Some at) same known; may = might; fits = omega (arith, there.slots, within) };
+      may = record { lowest = lowest; unheld = shut_in; at = at; known = subst (λ (m : Memory). known_puddles_in m.judged slot ≡ Some at) same known; may = might; fits = omega (arith, there.slots, within) };
     })
 
 -- what is there is known by what it is

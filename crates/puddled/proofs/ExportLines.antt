@@ -29,7 +29,7 @@ use Rattle.puddled.specs.Daemon.{CarriesOut}
 use Rattle.puddled.specs.Files.{file_answer, HoldsPool, IsStoredPool, HoldsOneOf}
 use Rattle.ready_daemon.specs.Memory.{Memory}
 use Rattle.ready_daemon.specs.ActiveTransactions.{IsOwnTransaction}
-use Rattle.ready_daemon.specs.Judged.{known_in}
+use Rattle.ready_daemon.specs.PoolKnowledge.{known_puddles_in}
 use Rattle.ready_daemon.specs.Ready.{IsReady, Applies}
 use Rattle.ready_daemon.proofs.OpenBeside.{open_here}
 use Rattle.puddled.proofs.FileLines.{memory_of-export, memory_step, some_step, export_is_plain, export_moves_none, CarriesOut-read, CarriesOut-file, Applies-shelved, Applies-unwritten, KeepsFiles-shelved, exported_step, contents_are}
@@ -45,9 +45,9 @@ own_is_open size w memory s ready client name number own =
 
 -- the pool as it is known, on a device of so many frames
 pub stored_found : (size : ℕ) (w : World) (client : ℕ) (name : List ℕ) (memory : Memory) (s : State) (found : Found) (here : Finds size w needs.Read client name memory s found) → found.own ≡ None
-    → IsStoredPool w memory.frames name (reads s.now.words) found.number (unwrap_or (known_in memory.judged found.slot) [])
+    → IsStoredPool w memory.frames name (reads s.now.words) found.number (unwrap_or (known_puddles_in memory.judged found.slot) [])
 stored_found size w client name memory s found here off =
-    let at = unwrap_or (known_in memory.judged found.slot) [] in
+    let at = unwrap_or (known_puddles_in memory.judged found.slot) [] in
     subst (λ (n : ℕ). IsStoredPool w n name (reads s.now.words) found.number at) (sym here.ready.frames)
     (subst (λ (n : ℕ). IsStoredPool w w.stored.frames name (reads s.now.words) n at) (sym here.is.number_is)
     (stored_pool size w memory s here.ready client name found.slot here.is.rec here.is.is (here.is.none off) at (here.is.known refl)))

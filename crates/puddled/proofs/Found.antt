@@ -41,7 +41,7 @@ use Rattle.ready_daemon.specs.Memory.{Memory}
 use Rattle.ready_daemon.specs.ActiveTransactions.{IsActive}
 use Rattle.ready_daemon.specs.OwnOnPool.{IsOwnTransactionOn}
 use Rattle.known_pool.specs.Known.{Known}
-use Rattle.ready_daemon.specs.Judged.{known_in, AreJudged, puddles_with_graph}
+use Rattle.ready_daemon.specs.PoolKnowledge.{known_puddles_in, AreKnownPools, puddles_with_graph}
 use Rattle.ready_daemon.specs.Owning.{refusal_found, IsSlotOf}
 use Rattle.ready_daemon.specs.Beginning.{MayBegin}
 use Rattle.ready_daemon.specs.Ready.{IsReady}
@@ -49,7 +49,7 @@ use Rattle.ready_daemon.proofs.Applying.{IsReady-beside}
 use Rattle.ready_daemon.proofs.Beside.{active_is}
 use Rattle.ready_daemon.proofs.Known.{judged_puddles}
 use Rattle.ready_daemon.proofs.InTurn.{active_there_known}
-use Rattle.ready_daemon.proofs.JudgedOpen.{KnowsPools-read}
+use Rattle.ready_daemon.proofs.KnownOpen.{KnowsPools-read}
 use Rattle.ready_daemon.proofs.OpenBeside.{not_named, pool_unmasked}
 use Rattle.ready_daemon.proofs.Sessions.{IsSessionOf, own_on, session_open, session_shut}
 use Rattle.ready_daemon.proofs.TablesBeside.{types_read, sound_read}
@@ -79,8 +79,8 @@ puddles_judged frames slot image puddles slice sound turned same judged =
     ∙ ap (λ b. cond b (Some puddles) None) (sym (judged ∙ ap (λ at. is_some (graph_of (types_of image) (stored_in frames at image))) same))
 
 -- what a ready daemon knows of pools is so
-pub judged_ready : (size : ℕ) (w : World) (memory : Memory) (s : State) → IsReady size w memory s → AreJudged memory.frames memory.judged (reads s.now.words)
-judged_ready size w memory s ready = subst (λ (n : ℕ). AreJudged n memory.judged (reads s.now.words)) (sym ready.frames) ready.knows.judged
+pub judged_ready : (size : ℕ) (w : World) (memory : Memory) (s : State) → IsReady size w memory s → AreKnownPools memory.frames memory.judged (reads s.now.words)
+judged_ready size w memory s ready = subst (λ (n : ℕ). AreKnownPools n memory.judged (reads s.now.words)) (sym ready.frames) ready.knows.judged
 
 -- ---- by whose a transaction is
 
@@ -376,8 +376,8 @@ module _ (size : ℕ) (w : World) (memory : Memory) (s : State) (ready : IsReady
     refusal_beside_it = others_by (session_in memory.sessions slot) refl
 
     -- what is known of it, where it was judged
-    module _ (need : Need) (known : needs_graph need ≡ true → true ≡ is_some (known_in memory.judged slot)) where
-      known_here : needs_graph need ≡ true → Some (unwrap_or (known_in memory.judged slot) []) ≡ puddles_with_graph F image slot
+    module _ (need : Need) (known : needs_graph need ≡ true → true ≡ is_some (known_puddles_in memory.judged slot)) where
+      known_here : needs_graph need ≡ true → Some (unwrap_or (known_puddles_in memory.judged slot) []) ≡ puddles_with_graph F image slot
       known_here needed = judged_puddles F slot image memory.judged (known needed) ready.knows.judged
 
       found_by : (o : Option Session) → session_in memory.sessions slot ≡ o → IfOk (beside o client slot rec.number) (IsFound w need client name image memory)
@@ -440,11 +440,11 @@ no_number (Some number) none = absurd (let no : true ≡ false = none in cc)
 -- ---- more is known of pools
 
 -- by a call that judges one, and forgets none
-pub judged_more : (size : ℕ) (w : World) (memory : Memory) (judged : List (Option Known)) (old : State) → IsReady size w memory old → AreJudged memory.frames judged (reads old.now.words)
-    → ((i : ℕ) (at : List (ℕ × Puddle)) → known_in memory.judged i ≡ Some at → known_in judged i ≡ Some at) → IsReady size w (record memory { judged = judged }) old
+pub judged_more : (size : ℕ) (w : World) (memory : Memory) (judged : List (Option Known)) (old : State) → IsReady size w memory old → AreKnownPools memory.frames judged (reads old.now.words)
+    → ((i : ℕ) (at : List (ℕ × Puddle)) → known_puddles_in memory.judged i ≡ Some at → known_puddles_in judged i ≡ Some at) → IsReady size w (record memory { judged = judged }) old
 judged_more size w memory judged old ready right kept =
     IsReady-beside size w memory (record memory { judged = judged }) old refl refl refl ready
-    (KnowsPools-read w.stored.frames memory.judged judged ready.active.opens (reads old.now.words) (subst (λ (n : ℕ). AreJudged n judged (reads old.now.words)) ready.frames right) kept ready.knows)
+    (KnowsPools-read w.stored.frames memory.judged judged ready.active.opens (reads old.now.words) (subst (λ (n : ℕ). AreKnownPools n judged (reads old.now.words)) ready.frames right) kept ready.knows)
 
 -- ---- behind the call that finds a pool
 

@@ -24,7 +24,7 @@ use Rattle.pool_transaction.specs.Changing.{line_of}
 use Rattle.pool_transaction.specs.Finishing.{Finishes, FinishesUnless, IsAt, Arrives, UnlessFailed, AppliesFinishing}
 use Rattle.pool_transaction.proofs.Arriving.{HaveReached, became, AppliesTo-known}
 use Rattle.pool_transaction.proofs.Leading.{led_none, failed_alone}
-use Rattle.ready_daemon.specs.Judged.{known_in}
+use Rattle.ready_daemon.specs.PoolKnowledge.{known_puddles_in}
 use Rattle.ready_daemon.specs.Memory.{Memory}
 use Rattle.ready_daemon.specs.Moves.{Stays, IsOnTheWay, MovesTo, still, freed_in, led_in}
 use Rattle.ready_daemon.specs.Owning.{IsSlotOf}
@@ -157,8 +157,8 @@ reached_steps n at = record {
 }
 
 pub AppliesAs-rewrite : (size : ℕ) (w : World) (memory behind : Memory) (name : List ℕ) (n slot : ℕ) (at : List (ℕ × Puddle)) (fault : Option HostFault) (old new : State) → IsReady size w memory old → slot < POOL_RECORDS
-    → known_in memory.judged slot ≡ Some at → refusal_of w (Rewrite name n) ≡ None → world_by w (Some (Rewrite name n)) ≡ w → IsSlotOf w.stored.frames name (reads old.now.words) slot
-    → (fault ≡ None → known_in behind.judged slot ≡ Some (steps_from n at))
+    → known_puddles_in memory.judged slot ≡ Some at → refusal_of w (Rewrite name n) ≡ None → world_by w (Some (Rewrite name n)) ≡ w → IsSlotOf w.stored.frames name (reads old.now.words) slot
+    → (fault ≡ None → known_puddles_in behind.judged slot ≡ Some (steps_from n at))
     → AppliesBy (MovesTo (led_in slot (frontiers_of (steps_from n at)))) size w (world_by w (Some (Rewrite name n))) behind fault old new
     → AppliesAs size w (world_by w (Some (Rewrite name n))) (Some (Rewrite name n)) behind fault old new
 AppliesAs-rewrite size w memory behind name n slot at fault old new ready low known free same is behind_known a =

@@ -38,7 +38,7 @@ use Rattle.ready_daemon.specs.Memory.{Memory}
 use Rattle.ready_daemon.specs.Ready.{KeepsRest, IsReady, Applies}
 use Rattle.ready_daemon.proofs.Applying.{Applies-still}
 use Rattle.ready_daemon.proofs.Beneath.{ready_gate, keeps_tables}
-use Rattle.ready_daemon.proofs.JudgedKept.{KeepsGraphs, KeepsPools}
+use Rattle.ready_daemon.proofs.KnownKept.{KeepsGraphs, KeepsPools}
 use Rattle.ready_daemon.proofs.PlacedPools.{KeepsActive-imported, KeepsGraphs-then, imported_frames, imported_types, type_beside, Applies-wider}
 use Rattle.ready_daemon.proofs.Pooling.{ChangesBeside, absent_apart}
 use Rattle.ready_daemon.proofs.TablesBeside.{HasDurableTables-masked, sound_read}

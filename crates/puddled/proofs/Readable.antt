@@ -26,7 +26,7 @@ use Rattle.graph_read.specs.Reading.{read_value, read_by}
 use Rattle.ready_daemon.specs.Memory.{Memory}
 use Rattle.ready_daemon.specs.OwnOnPool.{IsOwnTransactionOn}
 use Rattle.known_pool.specs.Known.{Known}
-use Rattle.ready_daemon.specs.Judged.{known_in, AreJudged}
+use Rattle.ready_daemon.specs.PoolKnowledge.{known_puddles_in, AreKnownPools}
 use Rattle.ready_daemon.specs.Ready.{IsReady, Applies}
 use Rattle.ready_daemon.proofs.Applying.{Applies-still}
 use Rattle.ready_daemon.proofs.InTurn.{active_there_known}
@@ -43,11 +43,11 @@ use Rattle.puddled.proofs.Needs.{refusal_of-get as refusal_by_need}
 
 module _ (size : ℕ) (w : World) (memory : Memory) (s : State) (ready : IsReady size w memory s) (client : ℕ) (name : List ℕ) where
   -- the client's own transaction has the graph that is read of the puddles that are known
-  holds_own : (slot number : ℕ) (at : List (ℕ × Puddle)) → at ≡ unwrap_or (known_in memory.judged slot) [] → IsOwnTransactionOn client name slot number memory.active → HoldsGraph w w.stored.frames name (reads s.now.words) at
+  holds_own : (slot number : ℕ) (at : List (ℕ × Puddle)) → at ≡ unwrap_or (known_puddles_in memory.judged slot) [] → IsOwnTransactionOn client name slot number memory.active → HoldsGraph w w.stored.frames name (reads s.now.words) at
   holds_own slot number at is own =
       let mine = own.own.active in
       let here = open_here w memory.active ready.mask s.now.words name client number ready.active own.own in
-      let known = sym (ap (known_in memory.judged) own.slot_is) ∙ active_there_known size w memory s ready number mine own.own.is in
+      let known = sym (ap (known_puddles_in memory.judged) own.slot_is) ∙ active_there_known size w memory s ready number mine own.own.is in
       let has = is ∙ ap (λ (o : Option (List (ℕ × Puddle))). unwrap_or o []) known in
       record {
         graph = here.transaction.now;
@@ -56,7 +56,7 @@ module _ (size : ℕ) (w : World) (memory : Memory) (s : State) (ready : IsReady
       }
 
   -- they hold the graph of the pool
-  pub holds_found : (found : Found) (at : List (ℕ × Puddle)) → IsFound w needs.Read client name (reads s.now.words) memory found → at ≡ unwrap_or (known_in memory.judged found.slot) []
+  pub holds_found : (found : Found) (at : List (ℕ × Puddle)) → IsFound w needs.Read client name (reads s.now.words) memory found → at ≡ unwrap_or (known_puddles_in memory.judged found.slot) []
       → HoldsGraph w w.stored.frames name (reads s.now.words) at
   holds_found found at is known = by_own found.own refl
     where
@@ -73,11 +73,11 @@ some_known (Some at) is = refl
 
 -- an index of one was built, behind calls that read
 pub ready_built : (size : ℕ) (w : World) (memory : Memory) (judged : List (Option Known)) (a b : State) → b ≡ a → IsReady size w memory a
-    → (AreJudged memory.frames memory.judged (reads b.now.words) → AreJudged memory.frames judged (reads b.now.words)) → ((i : ℕ) → known_in judged i ≡ known_in memory.judged i)
+    → (AreKnownPools memory.frames memory.judged (reads b.now.words) → AreKnownPools memory.frames judged (reads b.now.words)) → ((i : ℕ) → known_puddles_in judged i ≡ known_puddles_in memory.judged i)
     → IsReady size w (record memory { judged = judged }) a
 ready_built size w memory judged a b same ready built puddles =
     judged_more size w memory judged a ready
-    (subst (λ (s : State). AreJudged memory.frames judged (reads s.now.words)) same (built (judged_ready size w memory b (subst (λ (s : State). IsReady size w memory s) (sym same) ready)))) (λ i at is. puddles i ∙ is)
+    (subst (λ (s : State). AreKnownPools memory.frames judged (reads s.now.words)) same (built (judged_ready size w memory b (subst (λ (s : State). IsReady size w memory s) (sym same) ready)))) (λ i at is. puddles i ∙ is)
 
 -- ---- what is replied
 

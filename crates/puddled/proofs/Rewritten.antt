@@ -21,8 +21,8 @@ use Rattle.lazy_rewrite.specs.Batches.{Rewrites}
 use Rattle.lazy_rewrite.specs.Frontiers.{steps_from, left_among}
 use Rattle.nesting.specs.declared.Session.{Session}
 use Rattle.known_pool.specs.Known.{Known, with_puddles}
-use Rattle.ready_daemon.specs.Judged.{puddles_known, pool_in, known_in}
-use Rattle.ready_daemon.proofs.JudgedOpen.{known_within}
+use Rattle.ready_daemon.specs.PoolKnowledge.{puddles_known, known_pool_in, known_puddles_in}
+use Rattle.ready_daemon.proofs.KnownOpen.{known_within}
 use Rattle.ready_daemon.proofs.Known.{known_kept_there}
 use Rattle.ready_daemon.specs.Memory.{ActiveTransaction, Memory}
 use Rattle.ready_daemon.specs.Owning.{IsSlotOf}
@@ -68,42 +68,42 @@ is_there None there = absurd (let no : true ≡ false = there in cc)
 is_there (Some kept) there = (kept, refl)
 
 -- as many steps were done as the pool that is known has, at most
-pub steps_known : (result : Result ℕ HostFault) (judged now : List (Option Known)) (slot n : ℕ) (at : List (ℕ × Puddle)) → judged ≡ now → known_in judged slot ≡ Some at → IfOk result (λ done. done ≡ min n (left_among at))
-    → IfOk result (λ done. (here : List (ℕ × Puddle)) → known_in now slot ≡ Some here → done ≡ min n (left_among here))
+pub steps_known : (result : Result ℕ HostFault) (judged now : List (Option Known)) (slot n : ℕ) (at : List (ℕ × Puddle)) → judged ≡ now → known_puddles_in judged slot ≡ Some at → IfOk result (λ done. done ≡ min n (left_among at))
+    → IfOk result (λ done. (here : List (ℕ × Puddle)) → known_puddles_in now slot ≡ Some here → done ≡ min n (left_among here))
 steps_known (Err fault) judged now slot n at same known counted = tt
 steps_known (Ok done) judged now slot n at same known counted = λ here is.
-    counted ∙ ap (λ (ps : List (ℕ × Puddle)). min n (left_among ps)) (same_Some at here (sym known ∙ ap (λ (js : List (Option Known)). known_in js slot) same ∙ is))
+    counted ∙ ap (λ (ps : List (ℕ × Puddle)). min n (left_among ps)) (same_Some at here (sym known ∙ ap (λ (js : List (Option Known)). known_puddles_in js slot) same ∙ is))
 
 -- they are those of the pool that is known
-pub moves_known : (result : Result ℕ HostFault) (judged now : List (Option Known)) (slot n : ℕ) (pool later : Known) → judged ≡ now → pool_in judged slot ≡ Some pool → later ≡ with_puddles later.puddles pool
+pub moves_known : (result : Result ℕ HostFault) (judged now : List (Option Known)) (slot n : ℕ) (pool later : Known) → judged ≡ now → known_pool_in judged slot ≡ Some pool → later ≡ with_puddles later.puddles pool
     → IfOk result (λ done. later.puddles ≡ steps_from n pool.at)
-    → IfOk result (λ done. (here : Known) → pool_in now slot ≡ Some here → set judged slot (Some later) ≡ set now slot (Some (with_puddles (steps_from n here.at) here)))
+    → IfOk result (λ done. (here : Known) → known_pool_in now slot ≡ Some here → set judged slot (Some later) ≡ set now slot (Some (with_puddles (steps_from n here.at) here)))
 moves_known (Err fault) judged now slot n pool later same known rest moved = tt
 moves_known (Ok done) judged now slot n pool later same known rest moved = λ here is.
-    let one : pool ≡ here = same_Some pool here (sym known ∙ ap (λ (js : List (Option Known)). pool_in js slot) same ∙ is) in
+    let one : pool ≡ here = same_Some pool here (sym known ∙ ap (λ (js : List (Option Known)). known_pool_in js slot) same ∙ is) in
     ap₂ (λ (js : List (Option Known)) (k : Known). set js slot (Some k)) same (rest ∙ ap (λ (ps : List (ℕ × Puddle)). with_puddles ps pool) moved ∙ ap (λ (k : Known). with_puddles (steps_from n k.puddles) k) one)
 
 -- of a pool that is not known none are
-pub moves_none : (judged now next : List (Option Known)) (slot n : ℕ) → judged ≡ now → pool_in judged slot ≡ None
-    → (here : Known) → pool_in now slot ≡ Some here → next ≡ set now slot (Some (with_puddles (steps_from n here.at) here))
-moves_none judged now next slot n same none here is = absurd (none-some here (sym none ∙ ap (λ (js : List (Option Known)). pool_in js slot) same ∙ is))
+pub moves_none : (judged now next : List (Option Known)) (slot n : ℕ) → judged ≡ now → known_pool_in judged slot ≡ None
+    → (here : Known) → known_pool_in now slot ≡ Some here → next ≡ set now slot (Some (with_puddles (steps_from n here.at) here))
+moves_none judged now next slot n same none here is = absurd (none-some here (sym none ∙ ap (λ (js : List (Option Known)). known_pool_in js slot) same ∙ is))
 
-pub steps_none : (judged now : List (Option Known)) (slot n done : ℕ) → judged ≡ now → known_in judged slot ≡ None → (here : List (ℕ × Puddle)) → known_in now slot ≡ Some here → done ≡ min n (left_among here)
-steps_none judged now slot n done same none here is = absurd (none-some here (sym none ∙ ap (λ (js : List (Option Known)). known_in js slot) same ∙ is))
+pub steps_none : (judged now : List (Option Known)) (slot n done : ℕ) → judged ≡ now → known_puddles_in judged slot ≡ None → (here : List (ℕ × Puddle)) → known_puddles_in now slot ≡ Some here → done ≡ min n (left_among here)
+steps_none judged now slot n done same none here is = absurd (none-some here (sym none ∙ ap (λ (js : List (Option Known)). known_puddles_in js slot) same ∙ is))
 
 -- the pool is known by what they made of it
-pub stepped_known : (judged now : List (Option Known)) (slot : ℕ) (at : List (ℕ × Puddle)) (later : Known) → known_in judged slot ≡ Some at → now ≡ set judged slot (Some later) → known_in now slot ≡ Some later.puddles
-stepped_known judged now slot at later known moves = ap (λ (js : List (Option Known)). known_in js slot) moves ∙ known_kept_there judged slot later (known_within judged slot at known)
+pub stepped_known : (judged now : List (Option Known)) (slot : ℕ) (at : List (ℕ × Puddle)) (later : Known) → known_puddles_in judged slot ≡ Some at → now ≡ set judged slot (Some later) → known_puddles_in now slot ≡ Some later.puddles
+stepped_known judged now slot at later known moves = ap (λ (js : List (Option Known)). known_puddles_in js slot) moves ∙ known_kept_there judged slot later (known_within judged slot at known)
 
 module _ (size : ℕ) (w : World) (F : ℕ) (active : List (Option ActiveTransaction)) (sessions : List (Option Session)) (judged : List (Option Known)) (old : State)
-    (ready : IsReady size w (record { frames = F; active = active; sessions = sessions; judged = judged }) old) (slot : ℕ) (low : slot < POOL_RECORDS) (kept : Known) (is_kept : pool_in judged slot ≡ Some kept) where
+    (ready : IsReady size w (record { frames = F; active = active; sessions = sessions; judged = judged }) old) (slot : ℕ) (low : slot < POOL_RECORDS) (kept : Known) (is_kept : known_pool_in judged slot ≡ Some kept) where
   abbrev memory : Memory
   memory = record { frames = F; active = active; sessions = sessions; judged = judged }
 
   abbrev at : List (ℕ × Puddle)
   at = kept.puddles
 
-  known : known_in judged slot ≡ Some at
+  known : known_puddles_in judged slot ≡ Some at
   known = ap puddles_known is_kept
 
   -- the daemon is ready behind them

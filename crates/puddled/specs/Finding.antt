@@ -23,7 +23,7 @@ use Rattle.puddled.specs.declared.finding.Need.TheVariants as needs
 use Rattle.puddled.specs.declared.finding.Found.{Found}
 use Rattle.ready_daemon.specs.Memory.{Memory}
 use Rattle.ready_daemon.specs.OwnOnPool.{IsOwnTransactionOn}
-use Rattle.ready_daemon.specs.Judged.{known_in, puddles_with_graph}
+use Rattle.ready_daemon.specs.PoolKnowledge.{known_puddles_in, puddles_with_graph}
 
 -- ---- what is needed
 
@@ -93,7 +93,7 @@ pub record IsFound (w : World) (need : Need) (client : ℕ) (name : List ℕ) (i
   pub number_is : found.number ≡ rec.number
   pub own : (number : ℕ) → found.own ≡ Some number → IsOwnTransactionOn client name found.slot number memory.active
   pub none : found.own ≡ None → open_on name w ≡ None
-  pub known : needs_graph need ≡ true → Some (unwrap_or (known_in memory.judged found.slot) []) ≡ puddles_with_graph w.stored.frames image found.slot
+  pub known : needs_graph need ≡ true → Some (unwrap_or (known_puddles_in memory.judged found.slot) []) ≡ puddles_with_graph w.stored.frames image found.slot
 
 -- What was found of the client's own transaction lies within the tables, and is the client's by its session.
 pub record FindsOwn (client : ℕ) (memory : Memory) (own : Own) : Type 0 where

@@ -3,7 +3,7 @@ use Rattle.std.specs.Prelude.{◌≡◌, ℕ, List, Some}
 use Rattle.pud_defs.specs.declared.records.Puddle.{Puddle}
 use Rattle.pud_defs.specs.Image.{Image}
 use Rattle.lazy_rewrite.specs.Frontiers.{steps_from}
-use Rattle.ready_daemon.specs.Judged.{puddles_with_graph}
+use Rattle.ready_daemon.specs.PoolKnowledge.{puddles_with_graph}
 use Rattle.ready_daemon.specs.Owning.{IsSlotOf}
 
 -- The pool of the name has a graph before and behind, and its puddles are what they were, with the next n steps done, or all that were left.

@@ -16,14 +16,14 @@ ghost use Rattle.puddled.specs.Answered.{as_answered};
 ghost use Rattle.pool_transaction.specs.Changing.{line_of, IsLegalChange};
 ghost use Rattle.ready_daemon.specs.ActiveTransactions.{AreActiveWithin};
 ghost use Rattle.ready_daemon.specs.OwnOnPool.{IsOwnTransactionOn};
-ghost use Rattle.ready_daemon.specs.Judged.{AreOnDevice};
+ghost use Rattle.ready_daemon.specs.PoolKnowledge.{AreOnDevice};
 ghost use Rattle.ready_daemon.specs.Ready.{KeepsRest, IsReady};
 ghost use Rattle.puddled.specs.Frontiers.{AppliesAs};
 ghost use Rattle.puddled.specs.Daemon.{CarriesOut};
 
 use crate::daemon::Daemon;
 use crate::finding::{Need, Own};
-use crate::judged::Judged;
+use crate::known_pools::KnownPools;
 use pm_model::{Host, HostFault};
 use pool_transaction::{PoolTransactions, Change};
 use pud_defs::machine::{Refusal, Reply};
@@ -36,7 +36,7 @@ fn change_in<H: Host>(
     h: &mut H,
     frames: u32,
     all: &mut PoolTransactions,
-    judged: &mut Judged,
+    judged: &mut KnownPools,
     own: Own,
     change: Change,
 ) -> Result<Reply, HostFault>

@@ -22,7 +22,7 @@ ghost use Rattle.puddled.specs.Daemon.{KeepsAllBut, KeepsLine, CarriesOut, Carri
 use crate::answers::{Answered, say_answer, with_reply};
 use crate::clients::register_client;
 use crate::importing::import;
-use crate::judged::Judged;
+use crate::known_pools::KnownPools;
 use crate::pools::create_pool;
 use crate::starting::{say_ready, say_refused};
 use crate::types::define_type;
@@ -107,7 +107,7 @@ pub struct Daemon {
     /// Whose transactions they are, with which logs, and how often each was begun, by the slots of their pools' records.
     pub(crate) sessions: Sessions,
     /// Which pools were judged since the start, those on which a transaction is open among them, and their puddles.
-    pub(crate) judged: Judged,
+    pub(crate) judged: KnownPools,
 }
 
 impl Model for Daemon {
@@ -115,7 +115,7 @@ impl Model for Daemon {
     ghost use Rattle.pud_defs.specs.declared.layout.TheConstants.{MIN_FRAMES, MAX_FRAMES};
     ghost use Rattle.ready_daemon.specs.Memory.{Memory};
     ghost use Rattle.ready_daemon.specs.ActiveTransactions.{AreActiveWithin};
-    ghost use Rattle.ready_daemon.specs.Judged.{AreOnDevice};
+    ghost use Rattle.ready_daemon.specs.PoolKnowledge.{AreOnDevice};
 
     ghost Value = { Memory };
 
@@ -378,7 +378,7 @@ impl Daemon {
             frames,
             opened: no_transactions(),
             sessions: Sessions::new(),
-            judged: Judged::none(),
+            judged: KnownPools::none(),
         }
     }
 

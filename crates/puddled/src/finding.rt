@@ -16,7 +16,7 @@ ghost use Rattle.pud_defs.specs.Step.{refusal_of};
 ghost use Rattle.pud_defs.specs.World.{World};
 ghost use Rattle.nesting.specs.Sessions.{session_in, AreSessions};
 ghost use Rattle.ready_daemon.specs.OwnOnPool.{IsOwnTransactionOn};
-ghost use Rattle.ready_daemon.specs.Judged.{known_in, AreJudged};
+ghost use Rattle.ready_daemon.specs.PoolKnowledge.{known_puddles_in, AreKnownPools};
 ghost use Rattle.ready_daemon.specs.Owning.{refusal_found};
 ghost use Rattle.ready_daemon.specs.Ready.{IsReady};
 ghost use Rattle.puddled.specs.Finding.{needs_graph, lacks_graph, right_by, refusal_to, beside, session_found, IsRecordOf, IsFound, FindsOwn, refusal_to_enter};
@@ -133,9 +133,9 @@ impl Daemon {
         requires room { device_words (self.old).frames ≤ (H.counts h.old).size }
         ensures lacks { H.tells → (size : ℕ) → (w : World) → IsReady size w self.old (H.state h.old) → (name : List ℕ) (rec : PoolRec) → IsRecordOf w.stored.frames name (reads (H.state h.old).now.words) slot rec
             → IfOk result (λ lacks. lacks ≡ lacks_graph need (pool_named name w.stored)) }
-        ensures known { IfOk result (λ lacks. lacks ≡ false → needs_graph need ≡ true → true ≡ is_some (known_in (self.new).judged slot)) }
+        ensures known { IfOk result (λ lacks. lacks ≡ false → needs_graph need ≡ true → true ≡ is_some (known_puddles_in (self.new).judged slot)) }
         ensures ready { H.tells → (size : ℕ) → (w : World) → IsReady size w self.old (H.state h.old) → IsReady size w self.new (H.state h.old) }
-        ensures judged { H.tells → (image : Image) → reads (H.state h.old).now.words ≡ image → AreJudged (self.old).frames (self.old).judged image → AreJudged (self.old).frames (self.new).judged image }
+        ensures judged { H.tells → (image : Image) → reads (H.state h.old).now.words ≡ image → AreKnownPools (self.old).frames (self.old).judged image → AreKnownPools (self.old).frames (self.new).judged image }
         ensures unjudged { needs_graph need ≡ false → (self.new).judged ≡ (self.old).judged }
         ensures frames { (self.new).frames ≡ (self.old).frames }
         ensures held { (self.new).active ≡ (self.old).active }
@@ -172,10 +172,10 @@ impl Daemon {
         ensures whose { IfOk result (λ found. IfOk found (λ found. session_in (self.old).sessions found.slot ≡ session_found (self.old).sessions client found)) }
         ensures number { IfOk result (λ found. IfOk found (λ found. IfSome found.own (λ number. number < ALL_LOGS))) }
         ensures within { IfOk result (λ found. IfOk found (λ _. AreSessions (self.old).sessions)) }
-        ensures known { IfOk result (λ found. IfOk found (λ found. needs_graph need ≡ true → true ≡ is_some (known_in (self.new).judged found.slot))) }
+        ensures known { IfOk result (λ found. IfOk found (λ found. needs_graph need ≡ true → true ≡ is_some (known_puddles_in (self.new).judged found.slot))) }
         // One pool more may be known, where a graph is needed, and nothing else changes.
         ensures ready { H.tells → (size : ℕ) → (w : World) → IsReady size w self.old (H.state h.old) → IsReady size w self.new (H.state h.old) }
-        ensures judged { H.tells → (image : Image) → reads (H.state h.old).now.words ≡ image → AreJudged (self.old).frames (self.old).judged image → AreJudged (self.old).frames (self.new).judged image }
+        ensures judged { H.tells → (image : Image) → reads (H.state h.old).now.words ≡ image → AreKnownPools (self.old).frames (self.old).judged image → AreKnownPools (self.old).frames (self.new).judged image }
         ensures unjudged { needs_graph need ≡ false → (self.new).judged ≡ (self.old).judged }
         ensures frames { (self.new).frames ≡ (self.old).frames }
         ensures held { (self.new).active ≡ (self.old).active }

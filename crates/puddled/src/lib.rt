@@ -9,7 +9,7 @@ mod dumping;
 mod exporting;
 mod finding;
 mod importing;
-mod judged;
+mod known_pools;
 mod pools;
 mod reading;
 mod rewriting;

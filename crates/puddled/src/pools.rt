@@ -13,7 +13,7 @@ ghost use Rattle.pud_defs.specs.Step.{refusal_of, answer_by, world_by};
 ghost use Rattle.pud_defs.specs.Step.Answer.{of_reply};
 ghost use Rattle.ready_daemon.specs.Memory.{Memory};
 ghost use Rattle.ready_daemon.specs.Owning.{reply_of_making, refusal_found, IsSlotOf};
-ghost use Rattle.ready_daemon.specs.Judged.{ForgetsPool};
+ghost use Rattle.ready_daemon.specs.PoolKnowledge.{ForgetsPool};
 ghost use Rattle.ready_daemon.specs.Ready.{KeepsRest, IsReady, Applies};
 ghost use Rattle.puddled.specs.Frontiers.{AppliesAs};
 

@@ -11,7 +11,7 @@ ghost use Rattle.pud_defs.specs.World.{World};
 ghost use Rattle.pud_defs.specs.Step.{answer_by, world_by};
 ghost use Rattle.pud_defs.specs.Step.Answer.{of_reply};
 ghost use Rattle.puddled.specs.Reading.{reply_of_read};
-ghost use Rattle.ready_daemon.specs.Judged.{known_in};
+ghost use Rattle.ready_daemon.specs.PoolKnowledge.{known_puddles_in};
 ghost use Rattle.ready_daemon.specs.Ready.{IsReady, Applies};
 
 use crate::daemon::Daemon;
@@ -39,7 +39,7 @@ impl Daemon {
     /// The puddles of the pool in this slot, each with its frame, where it is known to have a graph, and else none.
     pub(crate) fn puddles_of(&self, slot: u32) -> &[(u32, Puddle)]
         requires { slot < POOL_RECORDS }
-        ensures known { result.now ≡ unwrap_or (known_in (self.now).judged slot) [] }
+        ensures known { result.now ≡ unwrap_or (known_puddles_in (self.now).judged slot) [] }
         ensures within { IsOnDevice (self.now).frames result.now }
     {
         self.judged.puddles(slot)

@@ -20,7 +20,7 @@ ghost use Rattle.lazy_rewrite.specs.Batches.{Rewrites};
 ghost use Rattle.lazy_rewrite.specs.Frontiers.{steps_from, left_among, frontiers_of};
 ghost use Rattle.nesting.specs.declared.Session.{Session};
 ghost use Rattle.ready_daemon.specs.Memory.{ActiveTransaction};
-ghost use Rattle.ready_daemon.specs.Judged.{AreOnDevice, pool_in, known_in};
+ghost use Rattle.ready_daemon.specs.PoolKnowledge.{AreOnDevice, known_pool_in, known_puddles_in};
 ghost use Rattle.ready_daemon.specs.Moves.{MovesTo, led_in};
 ghost use Rattle.ready_daemon.specs.Ready.{KeepsRest, IsReady, AppliesBy};
 ghost use Rattle.puddled.specs.Frontiers.{AppliesAs};
@@ -28,7 +28,7 @@ ghost use Rattle.puddled.specs.Rewriting.{DoesSteps};
 
 use crate::daemon::Daemon;
 use crate::finding::Need;
-use crate::judged::Judged;
+use crate::known_pools::KnownPools;
 use known_pool::KnownPool;
 use lazy_rewrite::step;
 use pm_model::{Host, HostFault};
@@ -67,7 +67,7 @@ fn step_pool<H: Host>(
 fn step_in<H: Host>(
     h: &mut H,
     frames: u32,
-    judged: &mut Judged,
+    judged: &mut KnownPools,
     slot: u32,
     n: u32,
 ) -> Result<u32, HostFault>
@@ -75,11 +75,11 @@ fn step_in<H: Host>(
     requires room { device_words frames ≤ (H.counts h.old).size }
     requires slot { slot < POOL_RECORDS }
     requires known { AreOnDevice frames judged.old }
-    ensures applies { H.tells → (size : ℕ) → size ≡ (H.counts h.old).size → (at : List (ℕ × Puddle)) → known_in judged.old slot ≡ Option.Some at → (w : World) → (active : List (Option ActiveTransaction)) → (sessions : List (Option Session))
+    ensures applies { H.tells → (size : ℕ) → size ≡ (H.counts h.old).size → (at : List (ℕ × Puddle)) → known_puddles_in judged.old slot ≡ Option.Some at → (w : World) → (active : List (Option ActiveTransaction)) → (sessions : List (Option Session))
         → IsReady size w (record { frames = frames; active = active; sessions = sessions; judged = judged.old }) (H.state h.old)
         → AppliesBy (MovesTo (led_in slot (frontiers_of (steps_from n at)))) size w w (record { frames = frames; active = active; sessions = sessions; judged = judged.new }) (fault_of result) (H.state h.old) (H.state h.new) }
-    ensures steps { IfOk result (λ done. (at : List (ℕ × Puddle)) → known_in judged.old slot ≡ Option.Some at → done ≡ min n (left_among at)) }
-    ensures moves { IfOk result (λ _. (kept : Known) → pool_in judged.old slot ≡ Option.Some kept → judged.new ≡ set judged.old slot (Option.Some (with_puddles (steps_from n kept.puddles) kept))) }
+    ensures steps { IfOk result (λ done. (at : List (ℕ × Puddle)) → known_puddles_in judged.old slot ≡ Option.Some at → done ≡ min n (left_among at)) }
+    ensures moves { IfOk result (λ _. (kept : Known) → known_pool_in judged.old slot ≡ Option.Some kept → judged.new ≡ set judged.old slot (Option.Some (with_puddles (steps_from n kept.puddles) kept))) }
     ensures known { AreOnDevice frames judged.new }
     ensures rest { H.tells → KeepsRest (H.state h.old) (H.state h.new) }
     ensures rests { H.tells → fault_of result ≡ Option.Some HostFault.Cut → IsRested (H.state h.new).now.words }

@@ -16,7 +16,7 @@ ghost use Rattle.pud_defs.specs.Step.Answer.{of_reply};
 ghost use Rattle.nesting.specs.Sessions.{session_in, depth_in, AreSessions};
 ghost use Rattle.ready_daemon.specs.Memory.{active_under};
 ghost use Rattle.ready_daemon.specs.OwnOnPool.{IsOwnTransactionOn};
-ghost use Rattle.ready_daemon.specs.Judged.{known_in};
+ghost use Rattle.ready_daemon.specs.PoolKnowledge.{known_puddles_in};
 ghost use Rattle.ready_daemon.specs.Beginning.{MayBegin};
 ghost use Rattle.ready_daemon.specs.ActiveTransactions.{IsActiveWithin};
 ghost use Rattle.ready_daemon.specs.Leaving.{BehindTables, sessions_behind, judged_behind, world_without, world_without_log};
@@ -81,10 +81,10 @@ impl Daemon {
         requires within { AreSessions (self.old).sessions }
         requires shut { session_in (self.old).sessions slot ≡ Option.None }
         ensures reply { H.tells → (size : ℕ) → size ≡ (H.counts h.old).size → (w : World) → (at : List (ℕ × Puddle)) → IsReady size w self.old (H.state h.old)
-            → refusal_to w needs.Write client name ≡ Option.None → known_in (self.old).judged slot ≡ Option.Some at → MayBegin (self.old).frames client name (reads (H.state h.old).now.words) slot at
+            → refusal_to w needs.Write client name ≡ Option.None → known_puddles_in (self.old).judged slot ≡ Option.Some at → MayBegin (self.old).frames client name (reads (H.state h.old).now.words) slot at
             → IfOk result (λ reply. of_reply reply ≡ answer_by w (Option.Some (commands.Begin client name))) }
         ensures applies { H.tells → (size : ℕ) → size ≡ (H.counts h.old).size → (w : World) → (at : List (ℕ × Puddle)) → IsReady size w self.old (H.state h.old)
-            → refusal_to w needs.Write client name ≡ Option.None → known_in (self.old).judged slot ≡ Option.Some at → MayBegin (self.old).frames client name (reads (H.state h.old).now.words) slot at
+            → refusal_to w needs.Write client name ≡ Option.None → known_puddles_in (self.old).judged slot ≡ Option.Some at → MayBegin (self.old).frames client name (reads (H.state h.old).now.words) slot at
             → Applies size w (world_by w (Option.Some (commands.Begin client name))) self.new (fault_of result) (H.state h.old) (H.state h.new) }
         ensures frames { (self.new).frames ≡ (self.old).frames }
         ensures rest { H.tells → KeepsRest (H.state h.old) (H.state h.new) }

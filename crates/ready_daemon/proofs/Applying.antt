@@ -19,12 +19,12 @@ use Rattle.pud_defs.specs.Step.{refusal_of, after, unless_refused, world_by}
 use Rattle.pud_defs.proofs.Steps.{done_world}
 use Rattle.known_pool.specs.Known.{Known, IsKnown}
 use Rattle.ready_daemon.specs.Memory.{Memory}
-use Rattle.ready_daemon.specs.Judged.{known_in}
+use Rattle.ready_daemon.specs.PoolKnowledge.{known_puddles_in}
 use Rattle.ready_daemon.specs.KnownPools.{KnowsPools}
 use Rattle.ready_daemon.specs.Moves.{Stays, LeavesPuddles}
 use Rattle.ready_daemon.specs.Ready.{IsReady, StandsBetween, AppliesBy, Applies}
 use Rattle.ready_daemon.proofs.Beside.{ready_stands}
-use Rattle.ready_daemon.proofs.JudgedOpen.{KnowsPools-anew}
+use Rattle.ready_daemon.proofs.KnownOpen.{KnowsPools-anew}
 use Rattle.ready_daemon.proofs.PuddlesLeft.{Joins, Joins-stays, LeavesPuddles-still, LeavesPuddles-then, LeavesPuddles-weaker, settled_ready}
 
 -- nothing happened
@@ -153,7 +153,7 @@ IsReady-beside size w memory next s frames active same ready knows = subst (λ (
 })
 
 -- more is known of a pool, or less, and its puddles are known still
-pub IsReady-anew : (size : ℕ) (w : World) (memory : Memory) (s : State) (slot : ℕ) (known : Known) → IsReady size w memory s → known_in memory.judged slot ≡ Some known.puddles → IsKnown w.stored.frames (reads s.now.words) known
+pub IsReady-anew : (size : ℕ) (w : World) (memory : Memory) (s : State) (slot : ℕ) (known : Known) → IsReady size w memory s → known_puddles_in memory.judged slot ≡ Some known.puddles → IsKnown w.stored.frames (reads s.now.words) known
     → IsReady size w (record memory { judged = set memory.judged slot (Some known) }) s
 IsReady-anew size w memory s slot known ready was is =
     IsReady-beside size w memory (record memory { judged = set memory.judged slot (Some known) }) s refl refl refl ready

@@ -47,9 +47,9 @@ use Rattle.ready_daemon.proofs.Beside.{ready_idle, Applies-beside, RestBehind}
 use Rattle.ready_daemon.proofs.Beneath.{ready_gate, gate_kept, idle_kept, logs_kept, LeavesMasked-changes, LeavesMasked-commits, LeavesMasked-then, read_masked-kept}
 use Rattle.ready_daemon.proofs.PuddlesLeft.{record_mask, used_below, IsOff-record, LeavesPuddles-beside}
 use Rattle.ready_daemon.proofs.Others.{off_gates, off_record, keeps_active, gone}
-use Rattle.ready_daemon.proofs.JudgedKept.{KeepsPools}
-use Rattle.ready_daemon.proofs.JudgedLines.{KeepsPools-client}
-use Rattle.ready_daemon.proofs.JudgedOpen.{KnowsPools-all}
+use Rattle.ready_daemon.proofs.KnownKept.{KeepsPools}
+use Rattle.ready_daemon.proofs.KnownLines.{KeepsPools-client}
+use Rattle.ready_daemon.proofs.KnownOpen.{KnowsPools-all}
 
 -- ---- what is read of the log-space table
 

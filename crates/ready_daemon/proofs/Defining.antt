@@ -60,8 +60,8 @@ use Rattle.ready_daemon.specs.Ready.{KeepsRest, IsReady, AppliesMasked, Applies}
 use Rattle.ready_daemon.proofs.Keeping.{KeepsRest-changes, KeepsRest-still}
 use Rattle.ready_daemon.specs.KnownPools.{KnowsPools}
 use Rattle.ready_daemon.proofs.Beside.{active_is, ready_idle, names_none_idle, Applies-beside, RestBehind}
-use Rattle.ready_daemon.proofs.JudgedLines.{KeepsPools-defined}
-use Rattle.ready_daemon.proofs.JudgedOpen.{KnowsPools-all}
+use Rattle.ready_daemon.proofs.KnownLines.{KeepsPools-defined}
+use Rattle.ready_daemon.proofs.KnownOpen.{KnowsPools-all}
 use Rattle.ready_daemon.proofs.TablesBeside.{ready_beside, read_beside, under_durable, standing}
 use Rattle.ready_daemon.proofs.Applying.{Applies-still}
 

@@ -17,10 +17,10 @@ use Rattle.pud_defs.proofs.PuddlesListed.{puddles_in_turn-listed}
 use Rattle.registry.proofs.Changed.{found_pool}
 use Rattle.ready_daemon.specs.Memory.{ActiveTransaction, Memory, active_under}
 use Rattle.ready_daemon.specs.ActiveTransactions.{open_transaction_of}
-use Rattle.ready_daemon.specs.Judged.{known_in}
+use Rattle.ready_daemon.specs.PoolKnowledge.{known_puddles_in}
 use Rattle.ready_daemon.specs.Ready.{IsReady}
 use Rattle.ready_daemon.proofs.Beside.{active_is}
-use Rattle.ready_daemon.proofs.JudgedKept.{graph_parts}
+use Rattle.ready_daemon.proofs.KnownKept.{graph_parts}
 use Rattle.ready_daemon.proofs.TablesBeside.{sound_read, pools_read}
 
 -- ---- a daemon that is ready
@@ -44,18 +44,18 @@ module _ (size : ℕ) (w : World) (memory : Memory) (s : State) (ready : IsReady
       record { named = named; in_turn = puddles_in_turn-listed w.stored.next_number t slot r sound within used }
 
   -- the puddles that are known of a pool are those that it has, in turn
-  pub known_in_turn : (slot : ℕ) (at : List (ℕ × Puddle)) → known_in memory.judged slot ≡ Some at → puddles_in_turn t slot ≡ at
+  pub known_in_turn : (slot : ℕ) (at : List (ℕ × Puddle)) → known_puddles_in memory.judged slot ≡ Some at → puddles_in_turn t slot ≡ at
   known_in_turn slot at known = (graph_parts w.stored.frames slot (reads s.now.words) at (ready.knows.judged.each slot at known)).turn
 
   -- a pool on which a transaction is held is known by the puddles on which it is open
   pub active_there_known : (number : ℕ) (active : ActiveTransaction) (there : active_under memory.active number ≡ Some active)
-      → known_in memory.judged active.slot ≡ Some (active_is w memory.active ready.mask s.now.words ready.active number active there).puddles
+      → known_puddles_in memory.judged active.slot ≡ Some (active_is w memory.active ready.mask s.now.words ready.active number active there).puddles
   active_there_known number active there =
       let under = ready.active.each number active there in
       ready.knows.open_pools number (open_transaction_of active under.is.puddles under.is.rec under.is.who under.is.before) under.opened
 
   -- so they are these
-  pub active_known : (number : ℕ) (active : ActiveTransaction) (there : active_under memory.active number ≡ Some active) (at : List (ℕ × Puddle)) → known_in memory.judged active.slot ≡ Some at
+  pub active_known : (number : ℕ) (active : ActiveTransaction) (there : active_under memory.active number ≡ Some active) (at : List (ℕ × Puddle)) → known_puddles_in memory.judged active.slot ≡ Some at
       → (active_is w memory.active ready.mask s.now.words ready.active number active there).puddles ≡ at
   active_known number active there at known =
       let is = active_is w memory.active ready.mask s.now.words ready.active number active there in

@@ -6,52 +6,52 @@ use Rattle.std.proofs.lemmas.Option.{none-some, same_Some}
 use Rattle.pud_defs.specs.declared.records.Puddle.{Puddle}
 use Rattle.pud_defs.specs.Image.{Image}
 use Rattle.pud_defs.specs.Stored.{IsOnDevice}
-use Rattle.ready_daemon.specs.Judged.{puddles_with_graph}
+use Rattle.ready_daemon.specs.PoolKnowledge.{puddles_with_graph}
 use Rattle.pud_defs.proofs.Keyed.{option_map_parts}
 use Rattle.known_pool.specs.Known.{Known, IsKnown, by_puddles}
-use Rattle.ready_daemon.specs.Judged.{pool_in, puddles_known, known_in, alone_in, AreOnDevice, AreJudged}
+use Rattle.ready_daemon.specs.PoolKnowledge.{known_pool_in, puddles_known, known_puddles_in, alone_in, AreOnDevice, AreKnownPools}
 
 -- of no pool anything is known
-pub none_pool_in : (n slot : ℕ) → pool_in (replicate n None) slot ≡ None
+pub none_pool_in : (n slot : ℕ) → known_pool_in (replicate n None) slot ≡ None
 none_pool_in n slot = elim (cases_lt slot n) [
   | inl within ↦ get_or-replicate n slot None None within
   | inr past ↦ get_or_past (replicate n None) slot None (omega (arith, past, length-replicate {A = Option Known} n None))
 ]
 
-pub none_known_in : (n slot : ℕ) → known_in (replicate n None) slot ≡ None
+pub none_known_in : (n slot : ℕ) → known_puddles_in (replicate n None) slot ≡ None
 none_known_in n slot = ap (option_map (λ (k : Known). k.puddles)) (none_pool_in n slot)
 
-pub none_known : (n slot : ℕ) (here : List (ℕ × Puddle)) → known_in (replicate n None) slot ≡ Some here → ⊥
+pub none_known : (n slot : ℕ) (here : List (ℕ × Puddle)) → known_puddles_in (replicate n None) slot ≡ Some here → ⊥
 none_known n slot here is = none-some here (sym (none_known_in n slot) ∙ is)
 
 pub AreOnDevice-none : (F n : ℕ) → AreOnDevice F (replicate n None)
 AreOnDevice-none F n = record { each = λ slot here is. absurd (none_known n slot here is) }
 
-pub AreJudged-none : (F n : ℕ) (image : Image) → AreJudged F (replicate n None) image
-AreJudged-none F n image = record { each = λ slot here is. absurd (none_known n slot here is); known = λ slot known is. absurd (none-some known (sym (none_pool_in n slot) ∙ is)) }
+pub AreKnownPools-none : (F n : ℕ) (image : Image) → AreKnownPools F (replicate n None) image
+AreKnownPools-none F n image = record { each = λ slot here is. absurd (none_known n slot here is); known = λ slot known is. absurd (none-some known (sym (none_pool_in n slot) ∙ is)) }
 
 -- what was kept of a pool is known of it, and of others what was known before
-pub pool_kept : (judged : List (Option Known)) (slot : ℕ) (put : Option Known) → slot < length judged → pool_in (set judged slot put) slot ≡ put
+pub pool_kept : (judged : List (Option Known)) (slot : ℕ) (put : Option Known) → slot < length judged → known_pool_in (set judged slot put) slot ≡ put
 pool_kept judged slot put within = get_or-set_same judged slot put None within
 
-pub pool_other : (judged : List (Option Known)) (slot i : ℕ) (put : Option Known) → i ≢ slot → pool_in (set judged slot put) i ≡ pool_in judged i
+pub pool_other : (judged : List (Option Known)) (slot i : ℕ) (put : Option Known) → i ≢ slot → known_pool_in (set judged slot put) i ≡ known_pool_in judged i
 pool_other judged slot i put other = get_or-set_other judged slot i put None other
 
 -- the same of the puddles
-pub known_kept_there : (judged : List (Option Known)) (slot : ℕ) (known : Known) → slot < length judged → known_in (set judged slot (Some known)) slot ≡ Some known.puddles
+pub known_kept_there : (judged : List (Option Known)) (slot : ℕ) (known : Known) → slot < length judged → known_puddles_in (set judged slot (Some known)) slot ≡ Some known.puddles
 known_kept_there judged slot known within = ap (option_map (λ (k : Known). k.puddles)) (pool_kept judged slot (Some known) within)
 
-pub known_other : (judged : List (Option Known)) (slot i : ℕ) (put : Option Known) → i ≢ slot → known_in (set judged slot put) i ≡ known_in judged i
+pub known_other : (judged : List (Option Known)) (slot i : ℕ) (put : Option Known) → i ≢ slot → known_puddles_in (set judged slot put) i ≡ known_puddles_in judged i
 known_other judged slot i put other = ap (option_map (λ (k : Known). k.puddles)) (pool_other judged slot i put other)
 
 -- what was put in the slot, or was known before, where it is known
-pool_from : (judged : List (Option Known)) (slot : ℕ) (put : Option Known) (P : ℕ → Known → Type 0) → ((known : Known) → put ≡ Some known → P slot known) → ((i : ℕ) (known : Known) → pool_in judged i ≡ Some known → P i known)
-    → (i : ℕ) (known : Known) → pool_in (set judged slot put) i ≡ Some known → P i known
+pool_from : (judged : List (Option Known)) (slot : ℕ) (put : Option Known) (P : ℕ → Known → Type 0) → ((known : Known) → put ≡ Some known → P slot known) → ((i : ℕ) (known : Known) → known_pool_in judged i ≡ Some known → P i known)
+    → (i : ℕ) (known : Known) → known_pool_in (set judged slot put) i ≡ Some known → P i known
 pool_from judged slot put P kept before i known is = elim (cases_eq i slot) [
   | inr other ↦ before i known (sym (pool_other judged slot i put other) ∙ is)
   | inl same ↦ elim (cases_lt slot (length judged)) [
-    | inl within ↦ subst (λ (j : ℕ). P j known) (sym same) (kept known (sym (pool_kept judged slot put within) ∙ ap (pool_in (set judged slot put)) (sym same) ∙ is))
-    | inr past ↦ absurd (none-some known (sym (ap (pool_in (set judged slot put)) same ∙ get_or_past (set judged slot put) slot None (omega (arith, past, length-set judged slot put))) ∙ is))
+    | inl within ↦ subst (λ (j : ℕ). P j known) (sym same) (kept known (sym (pool_kept judged slot put within) ∙ ap (known_pool_in (set judged slot put)) (sym same) ∙ is))
+    | inr past ↦ absurd (none-some known (sym (ap (known_pool_in (set judged slot put)) same ∙ get_or_past (set judged slot put) slot None (omega (arith, past, length-set judged slot put))) ∙ is))
   ]
 ]
 
@@ -60,16 +60,16 @@ alone_by : (o : Option Known) (at : List (ℕ × Puddle)) → option_map (λ (k 
 alone_by None at none = absurd (none-some at none)
 alone_by (Some known) at is = ap (λ (ps : List (ℕ × Puddle)). Some (by_puddles ps)) (same_Some known.puddles at is)
 
-pub alone_in-known : (judged : List (Option Known)) (slot : ℕ) (at : List (ℕ × Puddle)) → known_in judged slot ≡ Some at → alone_in slot judged ≡ set judged slot (Some (by_puddles at))
-alone_in-known judged slot at is = ap (set judged slot) (alone_by (pool_in judged slot) at is)
+pub alone_in-known : (judged : List (Option Known)) (slot : ℕ) (at : List (ℕ × Puddle)) → known_puddles_in judged slot ≡ Some at → alone_in slot judged ≡ set judged slot (Some (by_puddles at))
+alone_in-known judged slot at is = ap (set judged slot) (alone_by (known_pool_in judged slot) at is)
 
 -- what is known of a pool's puddles is known of the pool
-pool_of_known : (judged : List (Option Known)) (slot : ℕ) (at : List (ℕ × Puddle)) → known_in judged slot ≡ Some at → (known : Known) × ((pool_in judged slot ≡ Some known) × (known.puddles ≡ at))
-pool_of_known judged slot at is = let of = option_map_parts (λ (k : Known). k.puddles) (pool_in judged slot) at is in (of.value, (of.is, of.gives))
+pool_of_known : (judged : List (Option Known)) (slot : ℕ) (at : List (ℕ × Puddle)) → known_puddles_in judged slot ≡ Some at → (known : Known) × ((known_pool_in judged slot ≡ Some known) × (known.puddles ≡ at))
+pool_of_known judged slot at is = let of = option_map_parts (λ (k : Known). k.puddles) (known_pool_in judged slot) at is in (of.value, (of.is, of.gives))
 
 -- the same of its puddles alone
 known_from : (judged : List (Option Known)) (slot : ℕ) (put : Option Known) (P : ℕ → List (ℕ × Puddle) → Type 0) → ((known : Known) → put ≡ Some known → P slot known.puddles)
-    → ((i : ℕ) (here : List (ℕ × Puddle)) → known_in judged i ≡ Some here → P i here) → (i : ℕ) (here : List (ℕ × Puddle)) → known_in (set judged slot put) i ≡ Some here → P i here
+    → ((i : ℕ) (here : List (ℕ × Puddle)) → known_puddles_in judged i ≡ Some here → P i here) → (i : ℕ) (here : List (ℕ × Puddle)) → known_puddles_in (set judged slot put) i ≡ Some here → P i here
 known_from judged slot put P kept before i here is =
     let of = pool_of_known (set judged slot put) i here is in
     subst (P i) of.1.1 (pool_from judged slot put (λ j known. P j known.puddles) kept (λ j known was. before j known.puddles (ap (option_map (λ (k : Known). k.puddles)) was)) i of.0 of.1.0)
@@ -79,9 +79,9 @@ pub AreOnDevice-put : (F : ℕ) (judged : List (Option Known)) (slot : ℕ) (kno
 AreOnDevice-put F judged slot known kept before =
     record { each = known_from judged slot (Some known) (λ i here. IsOnDevice F here) (λ k is. subst (λ (x : Known). IsOnDevice F x.at) (same_Some known k is) kept) before.each }
 
-pub AreJudged-set : (F : ℕ) (judged : List (Option Known)) (slot : ℕ) (known : Known) (image : Image) → puddles_with_graph F image slot ≡ Some known.puddles → IsKnown F image known → AreJudged F judged image
-    → AreJudged F (set judged slot (Some known)) image
-AreJudged-set F judged slot known image has is before = record {
+pub AreKnownPools-set : (F : ℕ) (judged : List (Option Known)) (slot : ℕ) (known : Known) (image : Image) → puddles_with_graph F image slot ≡ Some known.puddles → IsKnown F image known → AreKnownPools F judged image
+    → AreKnownPools F (set judged slot (Some known)) image
+AreKnownPools-set F judged slot known image has is before = record {
   each = known_from judged slot (Some known) (λ i here. puddles_with_graph F image i ≡ Some here) (λ k same. subst (λ (x : Known). puddles_with_graph F image slot ≡ Some x.at) (same_Some known k same) has) before.each;
   known = pool_from judged slot (Some known) (λ i k. IsKnown F image k) (λ k same. subst (IsKnown F image) (same_Some known k same) is) before.known;
 }
@@ -93,14 +93,14 @@ AreOnDevice-forgotten F judged slot before = record { each = known_from judged s
 -- all but its puddles is forgotten
 pub AreOnDevice-alone : (F : ℕ) (judged : List (Option Known)) (slot : ℕ) → AreOnDevice F judged → AreOnDevice F (alone_in slot judged)
 AreOnDevice-alone F judged slot before = record {
-  each = known_from judged slot (option_map (λ (k : Known). by_puddles k.puddles) (pool_in judged slot)) (λ i here. IsOnDevice F here)
-      (λ k is. let of = option_map_parts (λ (x : Known). by_puddles x.at) (pool_in judged slot) k is in
+  each = known_from judged slot (option_map (λ (k : Known). by_puddles k.puddles) (known_pool_in judged slot)) (λ i here. IsOnDevice F here)
+      (λ k is. let of = option_map_parts (λ (x : Known). by_puddles x.at) (known_pool_in judged slot) k is in
       subst (λ (x : Known). IsOnDevice F x.at) of.gives (before.each slot of.value.at (ap puddles_known of.is)))
       before.each;
 }
 
-pub AreJudged-forgotten : (F : ℕ) (judged : List (Option Known)) (slot : ℕ) (image : Image) → AreJudged F judged image → AreJudged F (set judged slot None) image
-AreJudged-forgotten F judged slot image before = record {
+pub AreKnownPools-forgotten : (F : ℕ) (judged : List (Option Known)) (slot : ℕ) (image : Image) → AreKnownPools F judged image → AreKnownPools F (set judged slot None) image
+AreKnownPools-forgotten F judged slot image before = record {
   each = known_from judged slot None (λ i here. puddles_with_graph F image i ≡ Some here) (λ k no. absurd (none-some k no)) before.each;
   known = pool_from judged slot None (λ i k. IsKnown F image k) (λ k no. absurd (none-some k no)) before.known;
 }
@@ -113,9 +113,9 @@ known_puddles F slot image None is each = absurd (true≢false is)
 known_puddles F slot image (Some at) is each = sym (each at refl)
 
 -- of the puddles that are known
-pub judged_puddles : (F slot : ℕ) (image : Image) (judged : List (Option Known)) → true ≡ is_some (known_in judged slot) → AreJudged F judged image
-    → Some (unwrap_or (known_in judged slot) []) ≡ puddles_with_graph F image slot
-judged_puddles F slot image judged is right = known_puddles F slot image (known_in judged slot) is (right.each slot)
+pub judged_puddles : (F slot : ℕ) (image : Image) (judged : List (Option Known)) → true ≡ is_some (known_puddles_in judged slot) → AreKnownPools F judged image
+    → Some (unwrap_or (known_puddles_in judged slot) []) ≡ puddles_with_graph F image slot
+judged_puddles F slot image judged is right = known_puddles F slot image (known_puddles_in judged slot) is (right.each slot)
 
 pub none_found : (found : Option (List (ℕ × Puddle))) → false ≡ is_some found → None ≡ found
 none_found None is = refl

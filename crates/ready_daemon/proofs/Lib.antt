@@ -13,10 +13,10 @@ pub mod TablesBeside
 pub mod OpenBeside
 pub mod Sessions
 pub mod NoneActive
-pub mod JudgedKept
+pub mod KnownKept
 pub mod RestBeside
-pub mod JudgedLines
-pub mod JudgedPools
+pub mod KnownLines
+pub mod KnownJudged
 pub mod AllMembers
 pub mod InTurn
 pub mod GraphLonger
@@ -31,7 +31,7 @@ pub mod Defining
 pub mod Coming
 pub mod Pooling
 pub mod Known
-pub mod JudgedOpen
+pub mod KnownOpen
 pub mod Turns
 pub mod Counting
 pub mod Losing

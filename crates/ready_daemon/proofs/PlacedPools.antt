@@ -55,8 +55,8 @@ use Rattle.registry.specs.Placing.{new_type_put, placing, HasFreeRecords, IsPlac
 use Rattle.registry.proofs.NewPuddles.{AreWithin, with_added, adding_of, adding_tables}
 use Rattle.registry.proofs.PutBatches.{of_tables, overwritten-table_puts}
 use Rattle.pud_defs.specs.Imports.{numbers_drawn}
-use Rattle.ready_daemon.proofs.JudgedKept.{KeepsGraphs, KeepsPools, KeepsPools-each, puddles_same, own_word}
-use Rattle.ready_daemon.proofs.JudgedPools.{not_free}
+use Rattle.ready_daemon.proofs.KnownKept.{KeepsGraphs, KeepsPools, KeepsPools-each, puddles_same, own_word}
+use Rattle.ready_daemon.proofs.KnownJudged.{not_free}
 use Rattle.pm_model.proofs.Words.{Picks-reads}
 use Rattle.pud_defs.specs.declared.machine.Command.{Command}
 use Rattle.pud_defs.specs.Step.{refusal_of, after, world_by}
@@ -68,7 +68,7 @@ use Rattle.ready_daemon.specs.Moves.{Stays, LeavesPuddles}
 use Rattle.ready_daemon.specs.Ready.{IsReady, Applies}
 use Rattle.ready_daemon.proofs.Beside.{Applies-beside}
 use Rattle.ready_daemon.proofs.Beneath.{read_masked-kept}
-use Rattle.ready_daemon.proofs.JudgedOpen.{KnowsPools-all}
+use Rattle.ready_daemon.proofs.KnownOpen.{KnowsPools-all}
 use Rattle.ready_daemon.proofs.PoolsApart.{AppliesMasked-pools}
 use Rattle.ready_daemon.proofs.Pooling.{ChangesBeside}
 use Rattle.ready_daemon.proofs.RestBeside.{rest_beside}

@@ -68,9 +68,9 @@ use Rattle.ready_daemon.proofs.PoolsApart.{off_making, off_changing, off_droppin
 use Rattle.ready_daemon.proofs.RecordsApart.{LeavesPuddles-makes, LeavesPuddles-mode, LeavesPuddles-drops}
 use Rattle.ready_daemon.proofs.OpenBeside.{not_named}
 use Rattle.ready_daemon.proofs.Sessions.{slot_within, holder_is}
-use Rattle.ready_daemon.proofs.JudgedKept.{KeepsPools}
-use Rattle.ready_daemon.proofs.JudgedPools.{KeepsPools-or_still, KeepsPools-making, KeepsPools-mode, KeepsPools-drop}
-use Rattle.ready_daemon.proofs.JudgedOpen.{KnowsPools-all, KnowsPools-dropped}
+use Rattle.ready_daemon.proofs.KnownKept.{KeepsPools}
+use Rattle.ready_daemon.proofs.KnownJudged.{KeepsPools-or_still, KeepsPools-making, KeepsPools-mode, KeepsPools-drop}
+use Rattle.ready_daemon.proofs.KnownOpen.{KnowsPools-all, KnowsPools-dropped}
 use Rattle.ready_daemon.proofs.TablesBeside.{HasDurableTables-masked, header_read, pools_read, sound_read, spaces_read}
 
 -- ---- as whom a client acts

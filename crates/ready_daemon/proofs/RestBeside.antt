@@ -22,7 +22,7 @@ use Rattle.ready_daemon.specs.Memory.{ActiveTransaction, Memory, active_under}
 use Rattle.ready_daemon.specs.ActiveTransactions.{open_transaction_of, IsActive, StaysSingle, open_pool_of}
 use Rattle.ready_daemon.specs.Ready.{IsReady}
 use Rattle.ready_daemon.proofs.Beside.{active_is, RestBehind, unmasked_by_each}
-use Rattle.ready_daemon.proofs.JudgedKept.{HasGraphIn, KeepsPools, graph_parts, IsOwnWord, own_word, own_by, words_apart}
+use Rattle.ready_daemon.proofs.KnownKept.{HasGraphIn, KeepsPools, graph_parts, IsOwnWord, own_word, own_by, words_apart}
 
 module _ (size : ℕ) (w : World) (memory : Memory) (old : State) (ready : IsReady size w memory old) where
   abbrev is_active : (number : ℕ) (h : ActiveTransaction) → active_under memory.active number ≡ Some h → IsActive w h ready.mask old.now.words

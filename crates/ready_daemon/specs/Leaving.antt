@@ -6,7 +6,7 @@ use Rattle.pud_defs.specs.Transactions.{with_open, without_client}
 use Rattle.pud_defs.specs.World.{World}
 use Rattle.nesting.specs.declared.Session.{Session}
 use Rattle.known_pool.specs.Known.{Known}
-use Rattle.ready_daemon.specs.Judged.{alone_in}
+use Rattle.ready_daemon.specs.PoolKnowledge.{alone_in}
 use Rattle.ready_daemon.specs.Memory.{ActiveTransaction}
 
 -- the sessions, without that of this one

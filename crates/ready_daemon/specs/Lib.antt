@@ -1,7 +1,7 @@
 pub mod Memory
 pub mod ActiveTransactions
 pub mod OwnOnPool
-pub mod Judged
+pub mod PoolKnowledge
 pub mod KnownPools
 pub mod Beginning
 pub mod Leaving

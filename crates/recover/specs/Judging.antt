@@ -4,19 +4,19 @@ use Rattle.pud_defs.specs.Image.{Image}
 use Rattle.pud_defs.specs.Settled.{log_number_at}
 use Rattle.log_replay.specs.declared.Target.TheVariants.{Puddles}
 use Rattle.log_replay.specs.Replaying.{IsPlacedCopy}
-use Rattle.recover.specs.declared.judge.Judged.{Judged}
+use Rattle.recover.specs.declared.judge.JudgedLog.{JudgedLog}
 use Rattle.recover.specs.declared.judge.Mark.{Mark}
 use Rattle.recover.specs.declared.judge.Mark.TheVariants.{Replayed}
 use Rattle.recover.specs.Verdicts.{verdict_of}
 
-abbrev pub mark_judged : Judged → Mark
+abbrev pub mark_judged : JudgedLog → Mark
 mark_judged j = j.mark
 
 -- where the log of a number is replayed, it may be replayed from this copy
-pub record IsJudgedCopy (F : ℕ) (image : Image) (number : ℕ) (j : Judged) : Type 0 where
+pub record IsJudgedCopy (F : ℕ) (image : Image) (number : ℕ) (j : JudgedLog) : Type 0 where
   pub placed : j.mark ≡ Replayed → IsPlacedCopy (Puddles F) (log_number_at F number) image j.copy
 
 -- this was found of the log of a number
-pub record IsJudged (F : ℕ) (image : Image) (number : ℕ) (found : Option Judged) : Type 0 where
+pub record IsJudged (F : ℕ) (image : Image) (number : ℕ) (found : Option JudgedLog) : Type 0 where
   pub verdict : option_map mark_judged found ≡ verdict_of F image number
   pub copied : IfSome found (IsJudgedCopy F image number)

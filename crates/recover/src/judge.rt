@@ -213,7 +213,7 @@ fn mark_copy<H: Host>(
 
 /// A log that was judged.
 #[derive(Drop)]
-pub(crate) struct Judged {
+pub(crate) struct JudgedLog {
     /// A copy of the log. Where the log is replayed, entries that count have device words for addresses.
     pub copy: LogCopy,
     /// What was found of it.
@@ -229,7 +229,7 @@ pub(crate) fn judge_log<H: Host>(
     h: &mut H,
     frames: u32,
     number: LogNo,
-) -> Result<Option<Judged>, HostFault>
+) -> Result<Option<JudgedLog>, HostFault>
     requires few { frames ≤ MAX_FRAMES }
     requires known { number < ALL_LOGS }
     requires room { frames_at frames ≤ (H.counts h.old).size }
@@ -241,5 +241,5 @@ pub(crate) fn judge_log<H: Host>(
     };
     let mut copy = LogCopy::load(h, log_number_at(frames, number))?;
     let mark = mark_copy(h, frames, who, &mut copy)?;
-    Ok(Some(Judged { copy, mark }))
+    Ok(Some(JudgedLog { copy, mark }))
 }

@@ -12,7 +12,7 @@ ghost use Rattle.recover.specs.Verdicts.{verdict_of, mark_of};
 ghost use Rattle.recover.specs.Judging.{IsJudgedCopy};
 ghost use Rattle.recover.specs.Turns.{TakesTurn, LeavesTurn, TakesTurns, LeavesTurns};
 
-use crate::judge::{Judged, Mark, judge_log};
+use crate::judge::{JudgedLog, Mark, judge_log};
 use log_replay::settle_copy;
 use pm_model::{Host, HostFault};
 use pm_persist::persist_word;
@@ -44,7 +44,7 @@ fn settle_judged<H: Host>(
     h: &mut H,
     frames: u32,
     number: LogNo,
-    judged: &Judged,
+    judged: &JudgedLog,
 ) -> Result<(), HostFault>
     requires few { frames ≤ MAX_FRAMES }
     requires known { number < ALL_LOGS }

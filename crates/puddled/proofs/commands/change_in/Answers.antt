@@ -6,7 +6,7 @@ use Rattle.pud_defs.specs.declared.machine.Command.{Command}
 use Rattle.pud_defs.specs.Step.{answer_by}
 use Rattle.pud_defs.specs.Step.Answer.{of_reply}
 use Rattle.known_pool.specs.Known.{Known}
-use Rattle.ready_daemon.specs.Judged.{pool_in}
+use Rattle.ready_daemon.specs.PoolKnowledge.{known_pool_in}
 use Rattle.ready_daemon.specs.ActiveTransactions.{IsActiveWithin}
 use Rattle.ready_daemon.specs.Ready.{IsReady}
 use Rattle.ready_daemon.proofs.ActiveUnder.{AreActiveWithin-set, read_there, read_within}
@@ -20,13 +20,13 @@ change-requires-clause-within g c = read_within _ _ _ _ _ c.in-Some.opened c.req
 pub change-requires-clause-known : goal.carry_out_change-requires-clause-known
 change-requires-clause-known g c =
     on_device_there c.args.frames c.args.judged.now c.args.own.slot c.in-Some-pools.pool c.requires.known
-    (ap (λ (ps : List (Option Known)). pool_in ps c.args.own.slot) (sym c.judged.view_is) ∙ known_there c.judged.inside.pools c.args.own.slot _ c.index-judged-own.result (search rules) refl ∙ c.in-Some-pools.is)
+    (ap (λ (ps : List (Option Known)). known_pool_in ps c.args.own.slot) (sym c.judged.view_is) ∙ known_there c.judged.inside.pools c.args.own.slot _ c.index-judged-own.result (search rules) refl ∙ c.in-Some-pools.is)
 
 pub returns-after-judged-own-clause-reply : goal.returns-after-judged-own-clause-reply
 returns-after-judged-own-clause-reply g c = λ t size e w sessions client name ready own.
     let mine = c.in-Some.opened in
     let there = read_there c.args.all.now c.args.own.log_number _ c.index-all-own.result mine (search rules) refl c.in-Some.is in
-    let read = ap (λ (ps : List (Option Known)). pool_in ps c.args.own.slot) (sym c.judged.view_is) ∙ known_there c.judged.inside.pools c.args.own.slot _ c.index-judged-own.result (search rules) refl in
+    let read = ap (λ (ps : List (Option Known)). known_pool_in ps c.args.own.slot) (sym c.judged.view_is) ∙ known_there c.judged.inside.pools c.args.own.slot _ c.index-judged-own.result (search rules) refl in
     elim c.match-judged-own.branch [
       | in-Some-pools b ↦
           let known = read ∙ b.in-Some-pools.is in

@@ -6,7 +6,7 @@ use Rattle.pud_defs.specs.declared.records.Puddle.{Puddle}
 use Rattle.log_replay.specs.Replaying.{Anything}
 use Rattle.lazy_rewrite.specs.Frontiers.{steps_from, frontiers_of}
 use Rattle.known_pool.specs.Known.{Known}
-use Rattle.ready_daemon.specs.Judged.{pool_in, known_in}
+use Rattle.ready_daemon.specs.PoolKnowledge.{known_pool_in, known_puddles_in}
 use Rattle.ready_daemon.specs.Moves.{MovesTo, led_in}
 use Rattle.ready_daemon.specs.Ready.{IsReady, AppliesBy}
 use Rattle.ready_daemon.proofs.Keeping.{KeepsRest-changes, KeepsRest-still}
@@ -18,7 +18,7 @@ use Rattle.puddled.proofs.rewriting.step_in.Goals.{in-Some, in-None}
 pub step_pool-requires-clause-known : goal.step_pool-requires-clause-known
 step_pool-requires-clause-known g c =
     on_device_there c.args.frames c.args.judged.now c.args.slot c.in-Some.pool c.requires.known
-    (ap (λ (ps : List (Option Known)). pool_in ps c.args.slot) (sym c.judged.view_is) ∙ known_there c.judged.inside.pools c.args.slot _ c.index-judged-slot.result (search rules) refl ∙ c.in-Some.is)
+    (ap (λ (ps : List (Option Known)). known_pool_in ps c.args.slot) (sym c.judged.view_is) ∙ known_there c.judged.inside.pools c.args.slot _ c.index-judged-slot.result (search rules) refl ∙ c.in-Some.is)
 
 pub returns-clause-applies : goal.returns-clause-applies
 returns-clause-applies g c = λ t size e at known w active sessions ready.
@@ -29,8 +29,8 @@ returns-clause-applies g c = λ t size e at known w active sessions ready.
     elim c.match-judged-slot.branch [
       | in-Some b ↦
           let pool : Known = b.in-Some.pool in
-          let here : known_in pools c.args.slot ≡ Some pool.at = ap (option_map (λ (k : Known). k.puddles)) (read ∙ b.in-Some.is) in
-          let same : at ≡ pool.at = same_Some at pool.at (sym known ∙ ap (λ (ps : List (Option Known)). known_in ps c.args.slot) (sym c.judged.view_is) ∙ here) in
+          let here : known_puddles_in pools c.args.slot ≡ Some pool.at = ap (option_map (λ (k : Known). k.puddles)) (read ∙ b.in-Some.is) in
+          let same : at ≡ pool.at = same_Some at pool.at (sym known ∙ ap (λ (ps : List (Option Known)). known_puddles_in ps c.args.slot) (sym c.judged.view_is) ∙ here) in
           rw (b.result-is, b.judged-inside-is, b.h-is)
           (subst (λ (ps : List (ℕ × Puddle)). AppliesBy (MovesTo (led_in c.args.slot (frontiers_of (steps_from c.args.n ps)))) size w w
           (record { frames = c.args.frames; active = active; sessions = sessions; judged = set pools c.args.slot (Some b.step_pool.new.pool) }) (fault_of b.step_pool.result) s (g.H.Host.state b.step_pool.new.h)) (sym same)
@@ -38,7 +38,7 @@ returns-clause-applies g c = λ t size e at known w active sessions ready.
           (record { frames = c.args.frames; active = active; sessions = sessions; judged = set pools c.args.slot (Some k) }) (fault_of b.step_pool.result) s (g.H.Host.state b.step_pool.new.h)) (sym b.step_pool.ensures.rest)
           (Applies-stepped size w c.args.frames active sessions pools s then c.args.slot c.requires.slot pool (read ∙ b.in-Some.is) (frontiers_of (steps_from c.args.n pool.at)) b.step_pool.new.pool.at (fault_of b.step_pool.result)
           (g.H.Host.state b.step_pool.new.h) (λ idle low. b.step_pool.ensures.rewrites t size e idle low))))
-      | in-None b ↦ absurd (none-some at (sym (ap (option_map (λ (k : Known). k.puddles)) (read ∙ b.in-None.is)) ∙ ap (λ (ps : List (Option Known)). known_in ps c.args.slot) c.judged.view_is ∙ known))
+      | in-None b ↦ absurd (none-some at (sym (ap (option_map (λ (k : Known). k.puddles)) (read ∙ b.in-None.is)) ∙ ap (λ (ps : List (Option Known)). known_puddles_in ps c.args.slot) c.judged.view_is ∙ known))
     ]
 
 pub returns-clause-rest : goal.returns-clause-rest

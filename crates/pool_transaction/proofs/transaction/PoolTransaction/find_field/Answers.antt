@@ -7,7 +7,7 @@ use Rattle.hybrid_tx.specs.Objects.Stores.{IsPlaceAndWord}
 use Rattle.ready_daemon.specs.Memory.{ActiveTransaction}
 use Rattle.ready_daemon.proofs.InTurn.{active_known}
 use Rattle.pool_transaction.proofs.ActiveRefusals.{refused_unfound, refused_to_set}
-use Rattle.ready_daemon.specs.Judged.{puddles_known}
+use Rattle.ready_daemon.specs.PoolKnowledge.{puddles_known}
 use Rattle.pool_transaction.proofs.transaction.PoolTransaction.find_field.Goals as goal
 
 pub returns-in_default-clause-refusal : goal.returns-in_default-clause-refusal

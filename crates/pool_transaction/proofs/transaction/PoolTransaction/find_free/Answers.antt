@@ -12,7 +12,7 @@ use Rattle.ready_daemon.specs.Memory.{ActiveTransaction}
 use Rattle.ready_daemon.proofs.InTurn.{active_known}
 use Rattle.pool_transaction.proofs.ActiveAlone.{known_so}
 use Rattle.pool_transaction.proofs.ActiveRefusals.{refused_none_to_free, refused_to_free}
-use Rattle.ready_daemon.specs.Judged.{puddles_known}
+use Rattle.ready_daemon.specs.PoolKnowledge.{puddles_known}
 use Rattle.pool_transaction.proofs.transaction.PoolTransaction.find_free.Goals as goal
 
 pub returns-in_default-clause-refusal : goal.returns-in_default-clause-refusal

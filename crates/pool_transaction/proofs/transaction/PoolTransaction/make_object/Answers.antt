@@ -21,7 +21,7 @@ use Rattle.lazy_rewrite.specs.Frontiers.{frontiers_of}
 use Rattle.hybrid_tx.specs.Objects.Transactions.{MakesIn}
 use Rattle.hybrid_tx.proofs.Objects.LowestSlot.{one_lowest, lowest_is_free, one_slot, first_there}
 use Rattle.hybrid_tx.proofs.Objects.ObjectPut.{MakesIn-stopped}
-use Rattle.ready_daemon.specs.Judged.{puddles_known, KnowsAlone}
+use Rattle.ready_daemon.specs.PoolKnowledge.{puddles_known, KnowsAlone}
 use Rattle.ready_daemon.specs.Memory.{ActiveTransaction, active_under}
 use Rattle.ready_daemon.specs.Moves.{led_in}
 use Rattle.ready_daemon.specs.Ready.{IsReady}

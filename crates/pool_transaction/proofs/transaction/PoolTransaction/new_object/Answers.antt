@@ -20,7 +20,7 @@ use Rattle.pool_transaction.specs.Finishing.{end_of_both, FinishesTaken, Finishe
 use Rattle.pool_transaction.proofs.Leading.{finishes_more, finishing_taken}
 use Rattle.pool_transaction.proofs.ActiveMakes.{all_live}
 use Rattle.pool_transaction.proofs.ActiveFinishes.{its_puddles}
-use Rattle.ready_daemon.specs.Judged.{puddles_known}
+use Rattle.ready_daemon.specs.PoolKnowledge.{puddles_known}
 use Rattle.std.specs.Prelude.{ℕ, List, length}
 
 pub returns-in_err-refusal-clause-applies : goal.returns-in_err-refusal-clause-applies

@@ -10,7 +10,7 @@ use Rattle.pud_defs.specs.Step.{world_by}
 use Rattle.pud_defs.proofs.Steps.{refused_answer, answer_is_ok}
 use Rattle.known_pool.specs.Known.{Known}
 use Rattle.ready_daemon.specs.Memory.{Memory}
-use Rattle.ready_daemon.specs.Judged.{AreOnDevice}
+use Rattle.ready_daemon.specs.PoolKnowledge.{AreOnDevice}
 use Rattle.ready_daemon.specs.Owning.{refusal_found, IsSlotOf}
 use Rattle.ready_daemon.specs.Moves.{MovesTo, freed_in}
 use Rattle.ready_daemon.specs.Ready.{IsReady, AppliesBy}

@@ -16,7 +16,7 @@ use Rattle.puddled.specs.declared.answers.Answered.TheVariants as answers
 use Rattle.puddled.specs.declared.finding.Need.TheVariants as needs
 use Rattle.puddled.specs.Files.{IsStoredPool, HoldsPool}
 use Rattle.ready_daemon.specs.Memory.{Memory}
-use Rattle.ready_daemon.specs.Judged.{known_in}
+use Rattle.ready_daemon.specs.PoolKnowledge.{known_puddles_in}
 use Rattle.ready_daemon.specs.Owning.{refusal_found}
 use Rattle.puddled.proofs.FileLines.{memory_of-export, export_unread, export_open, export_free, refused_step, some_step, export_is_plain, export_moves_none, CarriesOut-read}
 use Rattle.puddled.proofs.Found.{finds, its_number, no_number}
@@ -63,7 +63,7 @@ returns-clause-carries g c = λ t size e w ready.
     let old = g.H.Host.state c.args.h.now in
     let stays = k.only_reads.stays t in
     let here = finds size w needs.Read c.args.client c.args.name c.args.self.now now _ old _ c.in-Ok.found c.in-Ok.is refl k.sessions (k.ready t size w ready) (k.refusal t size w ready) (k.found t size w ready) k.whose in
-    let known = c.puddles-puddles.ensures.puddles ∙ ap (λ (m : Memory). unwrap_or (known_in m.judged c.in-Ok.found.slot) []) c.self.view_is in
+    let known = c.puddles-puddles.ensures.puddles ∙ ap (λ (m : Memory). unwrap_or (known_puddles_in m.judged c.in-Ok.found.slot) []) c.self.view_is in
     let on = ap (λ (m : Memory). m.frames) c.self.view_is in
     let pool = subst (λ (n : ℕ). IsStoredPool w n c.args.name (reads old.now.words) c.in-Ok.found.number c.puddles-puddles.result.now) (sym on)
     (subst (λ (at : List (ℕ × Puddle)). IsStoredPool w now.frames c.args.name (reads old.now.words) c.in-Ok.found.number at) (sym known) (stored_found size w c.args.client c.args.name now old c.in-Ok.found here (no_number c.in-Ok.found.own (sym c.is_some.ensures ∙ c.if-is_some.false)))) in
@@ -83,7 +83,7 @@ returns-clause-words g c = λ t size w ready.
     let old = g.H.Host.state c.args.h.now in
     let stays = k.only_reads.stays t in
     let here = finds size w needs.Read c.args.client c.args.name c.args.self.now now _ old _ c.in-Ok.found c.in-Ok.is refl k.sessions (k.ready t size w ready) (k.refusal t size w ready) (k.found t size w ready) k.whose in
-    let known = c.puddles-puddles.ensures.puddles ∙ ap (λ (m : Memory). unwrap_or (known_in m.judged c.in-Ok.found.slot) []) c.self.view_is in
+    let known = c.puddles-puddles.ensures.puddles ∙ ap (λ (m : Memory). unwrap_or (known_puddles_in m.judged c.in-Ok.found.slot) []) c.self.view_is in
     let on = ap (λ (m : Memory). m.frames) c.self.view_is in
     let pool = subst (λ (n : ℕ). IsStoredPool w n c.args.name (reads old.now.words) c.in-Ok.found.number c.puddles-puddles.result.now) (sym on)
     (subst (λ (at : List (ℕ × Puddle)). IsStoredPool w now.frames c.args.name (reads old.now.words) c.in-Ok.found.number at) (sym known) (stored_found size w c.args.client c.args.name now old c.in-Ok.found here (no_number c.in-Ok.found.own (sym c.is_some.ensures ∙ c.if-is_some.false)))) in

@@ -7,7 +7,7 @@ use Rattle.pud_defs.specs.declared.machine.Refusal.{Refusal}
 use Rattle.pud_defs.specs.Spaces.{owner}
 use Rattle.nesting.specs.declared.Session.{Session}
 use Rattle.ready_daemon.specs.Memory.{Memory}
-use Rattle.ready_daemon.specs.Judged.{known_in}
+use Rattle.ready_daemon.specs.PoolKnowledge.{known_puddles_in}
 use Rattle.ready_daemon.specs.Owning.{refusal_found}
 use Rattle.ready_daemon.specs.Ready.{IsReady}
 use Rattle.ready_daemon.proofs.Pooling.{acting, absent}
@@ -71,4 +71,4 @@ returns-clause-found g c = λ t size w ready.
     (subst (λ (r : Result Found Refusal). IfOk r (IsFound w c.args.need c.args.client c.args.name (reads (g.H.Host.state c.args.h.now).now.words) view))
     (sym (c.beside.ensures ∙ ap (λ (o : Option Session). beside o c.args.client c.in-Some-2.slot c.in-Some-2.rec.number) c.session.ensures.session))
     (found_beside size w view _ now c.args.client c.args.name c.in-Some-2.slot c.in-Some-2.rec there c.args.need
-    (λ needed. subst (λ js. true ≡ is_some (known_in js c.in-Some-2.slot)) (sym judged) (c.in_ok-lacks_graph.ensures.known c.if-branch.false needed))))
+    (λ needed. subst (λ js. true ≡ is_some (known_puddles_in js c.in-Some-2.slot)) (sym judged) (c.in_ok-lacks_graph.ensures.known c.if-branch.false needed))))

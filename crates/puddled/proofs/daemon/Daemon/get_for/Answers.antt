@@ -11,7 +11,7 @@ use Rattle.pud_defs.specs.Graph.{graph_of}
 use Rattle.pud_defs.specs.Step.Answer.{of_reply}
 use Rattle.pud_defs.proofs.Steps.{refused_answer}
 use Rattle.ready_daemon.specs.Memory.{Memory}
-use Rattle.ready_daemon.specs.Judged.{known_in}
+use Rattle.ready_daemon.specs.PoolKnowledge.{known_puddles_in}
 use Rattle.ready_daemon.specs.Owning.{refusal_found}
 use Rattle.ready_daemon.specs.Ready.{IsReady}
 use Rattle.puddled.specs.declared.finding.Need.TheVariants as needs
@@ -34,8 +34,8 @@ returns-clause-reply g c = λ t size w ready.
     let image = reads s.now.words in
     let here = finds size w needs.Read c.args.client c.args.name c.args.self.now now _ _ _ c.in-Ok.found c.in-Ok.is (k.only_reads.stays t) k.sessions (k.ready t size w ready) (k.refusal t size w ready) (k.found t size w ready) k.whose in
     let there = subst (λ (m : Memory). IsReady size w m s) (sym c.self.view_is) here.ready in
-    let at = unwrap_or (known_in now.judged c.in-Ok.found.slot) [] in
-    let known = some_known (known_in now.judged c.in-Ok.found.slot) (rw c.in-Ok.is at k.known refl) in
+    let at = unwrap_or (known_puddles_in now.judged c.in-Ok.found.slot) [] in
+    let known = some_known (known_puddles_in now.judged c.in-Ok.found.slot) (rw c.in-Ok.is at k.known refl) in
     let holds = holds_found size w now _ here.ready c.args.client c.args.name c.in-Ok.found at here.is refl in
     let on = ap (λ (m : Memory). m.frames) c.self.view_is ∙ here.ready.frames in
     let built = c.in_ok-build.ensures in
@@ -43,7 +43,7 @@ returns-clause-reply g c = λ t size w ready.
     ∙ reply_when_read w c.args.client c.args.name c.args.s c.args.f w.stored.frames image at at c.in_ok-read.read holds refl
     (λ graph stored.
     c.in_ok-read.ensures.object t image (still_reads built.only_reads t refl) (built.judged t image refl (judged_ready size w view s there)) at
-    (built.puddles c.in-Ok.found.slot ∙ ap (λ (m : Memory). known_in m.judged c.in-Ok.found.slot) c.self.view_is ∙ known) graph (ap (λ F. graph_of (types_of image) (stored_in F at image)) on ∙ stored)) here.free
+    (built.puddles c.in-Ok.found.slot ∙ ap (λ (m : Memory). known_puddles_in m.judged c.in-Ok.found.slot) c.self.view_is ∙ known) graph (ap (λ F. graph_of (types_of image) (stored_in F at image)) on ∙ stored)) here.free
 
 -- ---- what is known of pools alone changed
 

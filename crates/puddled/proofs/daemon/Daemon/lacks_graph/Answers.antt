@@ -1,7 +1,7 @@
 use Rattle.std.proofs.Common.{◌≡◌, is_some, refl, sym, subst, ◌∙◌}
 use Rattle.pm_model.specs.Words.{reads}
 use Rattle.ready_daemon.specs.Memory.{Memory}
-use Rattle.ready_daemon.specs.Judged.{puddles_with_graph}
+use Rattle.ready_daemon.specs.PoolKnowledge.{puddles_with_graph}
 use Rattle.ready_daemon.specs.Ready.{IsReady}
 use Rattle.puddled.proofs.Found.{judged_ready, judged_more, lacks_judged}
 use Rattle.puddled.proofs.daemon.Daemon.lacks_graph.Goals as goal

@@ -1,6 +1,6 @@
 use Rattle.std.proofs.Common.{sym, ap, subst, ◌∙◌, arith, rules}
 use Rattle.std.proofs.lemmas.Option.{none-some}
-use Rattle.ready_daemon.specs.Judged.{AreOnDevice}
+use Rattle.ready_daemon.specs.PoolKnowledge.{AreOnDevice}
 use Rattle.ready_daemon.specs.Memory.{ActiveTransaction}
 use Rattle.ready_daemon.proofs.ActiveUnder.{AreActiveWithin-set, read_within}
 use Rattle.ready_daemon.proofs.Known.{AreOnDevice-alone}

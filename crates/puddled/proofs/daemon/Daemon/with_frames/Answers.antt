@@ -2,7 +2,7 @@ use Rattle.std.proofs.Common.{subst, sym}
 use Rattle.pud_defs.specs.declared.records.TheConstants.{POOL_RECORDS}
 use Rattle.pud_defs.specs.Settled.{ALL_LOGS}
 use Rattle.ready_daemon.specs.ActiveTransactions.{AreActiveWithin}
-use Rattle.ready_daemon.specs.Judged.{AreOnDevice}
+use Rattle.ready_daemon.specs.PoolKnowledge.{AreOnDevice}
 use Rattle.ready_daemon.proofs.Known.{AreOnDevice-none}
 use Rattle.ready_daemon.proofs.NoneActive.{AreActiveWithin-none}
 use Rattle.puddled.proofs.daemon.Daemon.with_frames.Goals as goal

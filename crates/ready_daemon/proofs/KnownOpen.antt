@@ -27,10 +27,10 @@ use Rattle.pm_model.proofs.Changes.{HasOnly-kept}
 use Rattle.known_pool.specs.Known.{Known, IsKnown}
 use Rattle.ready_daemon.specs.Memory.{ActiveTransaction}
 use Rattle.ready_daemon.specs.ActiveTransactions.{IsActive}
-use Rattle.ready_daemon.specs.Judged.{known_in, AreJudged}
+use Rattle.ready_daemon.specs.PoolKnowledge.{known_puddles_in, AreKnownPools}
 use Rattle.ready_daemon.specs.KnownPools.{KnowsPools}
-use Rattle.ready_daemon.proofs.JudgedKept.{HasGraphIn, graph_from, KeepsPools, KeepsPools-changes, KeepsPools-apart, SparesTables, AreJudged-all, AreJudged-but, in_turn_kept, types_same, puddles_same, own_by, words_apart, IsOwnWord, own_word}
-use Rattle.ready_daemon.proofs.Known.{AreJudged-none, AreJudged-set, AreJudged-forgotten, known_kept_there, known_other}
+use Rattle.ready_daemon.proofs.KnownKept.{HasGraphIn, graph_from, KeepsPools, KeepsPools-changes, KeepsPools-apart, SparesTables, AreKnownPools-all, AreKnownPools-but, in_turn_kept, types_same, puddles_same, own_by, words_apart, IsOwnWord, own_word}
+use Rattle.ready_daemon.proofs.Known.{AreKnownPools-none, AreKnownPools-set, AreKnownPools-forgotten, known_kept_there, known_other}
 use Rattle.ready_daemon.proofs.ActiveUnder.{nothing_there}
 use Rattle.ready_daemon.proofs.PoolsBeside.{puddles_still}
 
@@ -89,26 +89,26 @@ module _ (F slot log : ℕ) (at : List (ℕ × Puddle)) (old new : State) (besid
 -- ---- what is known beside it
 
 -- a slot in which a pool is known is one of the list
-pub known_within : (judged : List (Option Known)) (slot : ℕ) (at : List (ℕ × Puddle)) → known_in judged slot ≡ Some at → slot < length judged
+pub known_within : (judged : List (Option Known)) (slot : ℕ) (at : List (ℕ × Puddle)) → known_puddles_in judged slot ≡ Some at → slot < length judged
 known_within judged slot at known = elim (cases_lt slot (length judged)) [
   | inl within ↦ within
   | inr past ↦ absurd (none-some at (sym (ap (option_map (λ (k : Known). k.puddles)) (get_or_past judged slot None past)) ∙ known))
 ]
 
 -- where what is known of a pool has the puddles that were known of it, those of each pool are known that were
-pub known_again : (judged : List (Option Known)) (slot : ℕ) (known : Known) → known_in judged slot ≡ Some known.puddles → (i : ℕ) → known_in (set judged slot (Some known)) i ≡ known_in judged i
+pub known_again : (judged : List (Option Known)) (slot : ℕ) (known : Known) → known_puddles_in judged slot ≡ Some known.puddles → (i : ℕ) → known_puddles_in (set judged slot (Some known)) i ≡ known_puddles_in judged i
 known_again judged slot known was i = elim (cases_eq i slot) [
-  | inl same ↦ ap (known_in (set judged slot (Some known))) same ∙ known_kept_there judged slot known (known_within judged slot known.puddles was) ∙ sym was ∙ ap (known_in judged) (sym same)
+  | inl same ↦ ap (known_puddles_in (set judged slot (Some known))) same ∙ known_kept_there judged slot known (known_within judged slot known.puddles was) ∙ sym was ∙ ap (known_puddles_in judged) (sym same)
   | inr other ↦ known_other judged slot i (Some known) other
 ]
 
 -- a start knows nothing, and nothing is open
 pub KnowsPools-none : (F n : ℕ) (image : Image) → KnowsPools F (replicate n None) none_open image
-KnowsPools-none F n image = record { judged = AreJudged-none F n image; open_pools = λ number o there. absurd (none-some o there) }
+KnowsPools-none F n image = record { judged = AreKnownPools-none F n image; open_pools = λ number o there. absurd (none-some o there) }
 
 -- some more are judged
-pub KnowsPools-read : (F : ℕ) (judged next : List (Option Known)) (opens : Opens) (image : Image) → AreJudged F next image
-    → ((slot : ℕ) (at : List (ℕ × Puddle)) → known_in judged slot ≡ Some at → known_in next slot ≡ Some at) → KnowsPools F judged opens image → KnowsPools F next opens image
+pub KnowsPools-read : (F : ℕ) (judged next : List (Option Known)) (opens : Opens) (image : Image) → AreKnownPools F next image
+    → ((slot : ℕ) (at : List (ℕ × Puddle)) → known_puddles_in judged slot ≡ Some at → known_puddles_in next slot ≡ Some at) → KnowsPools F judged opens image → KnowsPools F next opens image
 KnowsPools-read F judged next opens image right kept knows = record { judged = right; open_pools = λ number o there. kept o.pool.slot o.pool.puddles (knows.open_pools number o there) }
 
 -- no transaction is open on the pool in the slot
@@ -119,7 +119,7 @@ IsShut opens slot = (number : ℕ) (o : OpenTransaction) → opens number ≡ So
 pub KnowsPools-forgotten : (F slot : ℕ) (judged : List (Option Known)) (opens : Opens) (image : Image) → IsShut opens slot → KnowsPools F judged opens image
     → KnowsPools F (set judged slot None) opens image
 KnowsPools-forgotten F slot judged opens image shut knows = record {
-  judged = AreJudged-forgotten F judged slot image knows.judged;
+  judged = AreKnownPools-forgotten F judged slot image knows.judged;
   open_pools = λ number o there. known_other judged slot o.pool.slot None (shut number o there) ∙ knows.open_pools number o there;
 }
 
@@ -128,24 +128,24 @@ KnowsPools-forgotten F slot judged opens image shut knows = record {
 -- each pool stays
 pub KnowsPools-all : (F : ℕ) (judged : List (Option Known)) (opens : Opens) (before after : Image) → KeepsPools F None before after → KnowsPools F judged opens before
     → KnowsPools F judged opens after
-KnowsPools-all F judged opens before after keeps knows = record { judged = AreJudged-all F judged before after keeps knows.judged; open_pools = knows.open_pools }
+KnowsPools-all F judged opens before after keeps knows = record { judged = AreKnownPools-all F judged before after keeps knows.judged; open_pools = knows.open_pools }
 
 -- one is dropped, and forgotten, on which none is open
 pub KnowsPools-dropped : (F slot : ℕ) (judged : List (Option Known)) (opens : Opens) (before after : Image) → IsShut opens slot → KeepsPools F (Some slot) before after
     → KnowsPools F judged opens before → KnowsPools F (set judged slot None) opens after
 KnowsPools-dropped F slot judged opens before after shut keeps knows =
     let less = KnowsPools-forgotten F slot judged opens before shut knows in
-    record { judged = AreJudged-but F slot (set judged slot None) before after keeps (ap (option_map (λ (k : Known). k.puddles)) (nothing_there judged slot)) less.judged; open_pools = less.open_pools }
+    record { judged = AreKnownPools-but F slot (set judged slot None) before after keeps (ap (option_map (λ (k : Known). k.puddles)) (nothing_there judged slot)) less.judged; open_pools = less.open_pools }
 
 -- ---- a transaction begins, goes on and ends
 
 -- its pool has a graph, and this is known of it then; each other stays
-pub AreJudged-own : (F slot : ℕ) (judged : List (Option Known)) (known : Known) (before after : Image) → KeepsPools F (Some slot) before after → HasGraphIn F slot after known.puddles → IsKnown F after known
-    → AreJudged F judged before → AreJudged F (set judged slot (Some known)) after
-AreJudged-own F slot judged known before after keeps has is are =
+pub AreKnownPools-own : (F slot : ℕ) (judged : List (Option Known)) (known : Known) (before after : Image) → KeepsPools F (Some slot) before after → HasGraphIn F slot after known.puddles → IsKnown F after known
+    → AreKnownPools F judged before → AreKnownPools F (set judged slot (Some known)) after
+AreKnownPools-own F slot judged known before after keeps has is are =
     let none = ap (option_map (λ (k : Known). k.puddles)) (nothing_there judged slot) in
-    let less = AreJudged-but F slot (set judged slot None) before after keeps none (AreJudged-forgotten F judged slot before are) in
-    subst (λ (js : List (Option Known)). AreJudged F js after) (set-set judged slot None (Some known)) (AreJudged-set F (set judged slot None) slot known after (graph_from F slot after known.puddles has) is less)
+    let less = AreKnownPools-but F slot (set judged slot None) before after keeps none (AreKnownPools-forgotten F judged slot before are) in
+    subst (λ (js : List (Option Known)). AreKnownPools F js after) (set-set judged slot None (Some known)) (AreKnownPools-set F (set judged slot None) slot known after (graph_from F slot after known.puddles has) is less)
 
 -- one of those that are open, and the others as they were
 each_opened : (number : ℕ) (one : OpenTransaction) (others opens : Opens) → IsOneMore number one others opens → (P : OpenTransaction → Type 0) → P one
@@ -157,10 +157,10 @@ each_opened number one others opens more P its each m o there = elim (cases_eq m
 
 -- one more is open, on a pool that is known
 pub KnowsPools-begun : (F : ℕ) (judged : List (Option Known)) (number : ℕ) (one : OpenTransaction) (others opens : Opens) (before after : Image) → IsOneMore number one others opens
-    → KeepsPools F None before after → known_in judged one.pool.slot ≡ Some one.pool.puddles → KnowsPools F judged others before → KnowsPools F judged opens after
+    → KeepsPools F None before after → known_puddles_in judged one.pool.slot ≡ Some one.pool.puddles → KnowsPools F judged others before → KnowsPools F judged opens after
 KnowsPools-begun F judged number one others opens before after more keeps known knows = record {
-  judged = AreJudged-all F judged before after keeps knows.judged;
-  open_pools = each_opened number one others opens more (λ o. known_in judged o.pool.slot ≡ Some o.pool.puddles) known knows.open_pools;
+  judged = AreKnownPools-all F judged before after keeps knows.judged;
+  open_pools = each_opened number one others opens more (λ o. known_puddles_in judged o.pool.slot ≡ Some o.pool.puddles) known knows.open_pools;
 }
 
 -- one goes on, on the same puddles or on more, on which no other is open: its pool has a graph, and this is known of it then
@@ -170,9 +170,9 @@ pub KnowsPools-grown : (F : ℕ) (judged : List (Option Known)) (number : ℕ) (
 KnowsPools-grown F judged number one more others opens then known before after was now same puddles shut keeps has is knows =
     let slot : ℕ = one.pool.slot in
     record {
-      judged = AreJudged-own F slot judged known before after keeps (subst (HasGraphIn F slot after) (sym puddles) has) is knows.judged;
-      open_pools = each_opened number more others then now (λ o. known_in (set judged slot (Some known)) o.pool.slot ≡ Some o.pool.puddles)
-          (ap (known_in (set judged slot (Some known))) same ∙ known_kept_there judged slot known (known_within judged slot one.pool.puddles (knows.open_pools number one was.here)) ∙ ap (λ (at : List (ℕ × Puddle)). Some at) puddles)
+      judged = AreKnownPools-own F slot judged known before after keeps (subst (HasGraphIn F slot after) (sym puddles) has) is knows.judged;
+      open_pools = each_opened number more others then now (λ o. known_puddles_in (set judged slot (Some known)) o.pool.slot ≡ Some o.pool.puddles)
+          (ap (known_puddles_in (set judged slot (Some known))) same ∙ known_kept_there judged slot known (known_within judged slot one.pool.puddles (knows.open_pools number one was.here)) ∙ ap (λ (at : List (ℕ × Puddle)). Some at) puddles)
           (λ m o there. known_other judged slot o.pool.slot (Some known) (shut m o there) ∙ knows.open_pools m o (was.same m (λ here. none-some o (sym was.none ∙ ap others (sym here) ∙ there)) ∙ there));
     }
 
@@ -182,7 +182,7 @@ pub KnowsPools-ended : (F : ℕ) (judged : List (Option Known)) (number : ℕ) (
 KnowsPools-ended F judged number one others opens known before after more puddles keeps has is knows =
     let was = knows.open_pools number one more.here ∙ ap (λ (at : List (ℕ × Puddle)). Some at) (sym puddles) in
     record {
-      judged = AreJudged-own F one.pool.slot judged known before after keeps (subst (HasGraphIn F one.pool.slot after) (sym puddles) has) is knows.judged;
+      judged = AreKnownPools-own F one.pool.slot judged known before after keeps (subst (HasGraphIn F one.pool.slot after) (sym puddles) has) is knows.judged;
       open_pools = λ m o there. elim (cases_eq m number) [
         | inl same ↦ absurd (none-some o (sym more.none ∙ ap others (sym same) ∙ there))
         | inr apart ↦ known_again judged one.pool.slot known was o.pool.slot ∙ knows.open_pools m o (more.same m apart ∙ there)
@@ -195,15 +195,15 @@ pub KnowsPools-later : (F : ℕ) (judged : List (Option Known)) (number : ℕ) (
 KnowsPools-later F judged number one opens known before after there puddles keeps has is knows =
     let was = knows.open_pools number one there ∙ ap (λ (at : List (ℕ × Puddle)). Some at) (sym puddles) in
     record {
-      judged = AreJudged-own F one.pool.slot judged known before after keeps (subst (HasGraphIn F one.pool.slot after) (sym puddles) has) is knows.judged;
+      judged = AreKnownPools-own F one.pool.slot judged known before after keeps (subst (HasGraphIn F one.pool.slot after) (sym puddles) has) is knows.judged;
       open_pools = λ m o here. known_again judged one.pool.slot known was o.pool.slot ∙ knows.open_pools m o here;
     }
 
 -- more is known of a pool, or less, and its puddles are known still
-pub KnowsPools-anew : (F slot : ℕ) (judged : List (Option Known)) (opens : Opens) (known : Known) (image : Image) → known_in judged slot ≡ Some known.puddles → IsKnown F image known → KnowsPools F judged opens image
+pub KnowsPools-anew : (F slot : ℕ) (judged : List (Option Known)) (opens : Opens) (known : Known) (image : Image) → known_puddles_in judged slot ≡ Some known.puddles → IsKnown F image known → KnowsPools F judged opens image
     → KnowsPools F (set judged slot (Some known)) opens image
 KnowsPools-anew F slot judged opens known image was is knows = record {
-  judged = AreJudged-set F judged slot known image (knows.judged.each slot known.puddles was) is knows.judged;
+  judged = AreKnownPools-set F judged slot known image (knows.judged.each slot known.puddles was) is knows.judged;
   open_pools = λ m o here. known_again judged slot known was o.pool.slot ∙ knows.open_pools m o here;
 }
 

@@ -1,10 +1,10 @@
 use Rattle.std.proofs.Common.{List, Option, rules, refl, sym, ap, subst, ◌∙◌}
 use Rattle.std.proofs.lemmas.List.{set-get_or}
 use Rattle.known_pool.specs.Known.{Known}
-use Rattle.ready_daemon.specs.Judged.{known_in, AreOnDevice, AreJudged}
+use Rattle.ready_daemon.specs.PoolKnowledge.{known_puddles_in, AreOnDevice, AreKnownPools}
 use Rattle.puddled.proofs.Changing.{known_there, on_device_there, puddles_built, AreJudged-built}
-use Rattle.puddled.proofs.judged.Judged.build.Goals as goal
-use Rattle.puddled.proofs.judged.Judged.build.Goals.{in-Some, in-None}
+use Rattle.puddled.proofs.known_pools.KnownPools.build.Goals as goal
+use Rattle.puddled.proofs.known_pools.KnownPools.build.Goals.{in-Some, in-None}
 
 pub build-requires-clause-known : goal.build-requires-clause-known
 build-requires-clause-known g c =
@@ -15,20 +15,20 @@ pub returns-clause-judged : goal.returns-clause-judged
 returns-clause-judged g c = λ t image same before.
     let pools = c.self.inside.pools in
     let read = known_there pools c.args.slot _ c.index-self-slot.result (search rules) refl in
-    let are = subst (λ (js : List (Option Known)). AreJudged c.args.frames js image) (sym c.self.view_is) before in
+    let are = subst (λ (js : List (Option Known)). AreKnownPools c.args.frames js image) (sym c.self.view_is) before in
     elim c.match-self-slot.branch [
       | in-Some b ↦ rw b.self-inside-is (AreJudged-built pools c.args.slot b.in-Some.pool b.build.new.self (read ∙ b.in-Some.is) b.build.ensures.puddles c.args.frames image (b.build.ensures.known t image same) are)
-      | in-None b ↦ rw b.self-inside-is (subst (λ (js : List (Option Known)). AreJudged c.args.frames js image) (sym (set-get_or pools c.args.slot c.index-self-slot.result)) are)
+      | in-None b ↦ rw b.self-inside-is (subst (λ (js : List (Option Known)). AreKnownPools c.args.frames js image) (sym (set-get_or pools c.args.slot c.index-self-slot.result)) are)
     ]
 
 pub returns-clause-puddles : goal.returns-clause-puddles
 returns-clause-puddles g c = λ i.
     let pools = c.self.inside.pools in
-    let viewed = ap (λ (js : List (Option Known)). known_in js i) c.self.view_is in
+    let viewed = ap (λ (js : List (Option Known)). known_puddles_in js i) c.self.view_is in
     let read = known_there pools c.args.slot _ c.index-self-slot.result (search rules) refl in
     elim c.match-self-slot.branch [
       | in-Some b ↦ rw b.self-inside-is (puddles_built pools c.args.slot b.in-Some.pool b.build.new.self (read ∙ b.in-Some.is) b.build.ensures.puddles i ∙ viewed)
-      | in-None b ↦ rw b.self-inside-is (ap (λ (js : List (Option Known)). known_in js i) (set-get_or pools c.args.slot c.index-self-slot.result) ∙ viewed)
+      | in-None b ↦ rw b.self-inside-is (ap (λ (js : List (Option Known)). known_puddles_in js i) (set-get_or pools c.args.slot c.index-self-slot.result) ∙ viewed)
     ]
 
 pub returns-clause-known : goal.returns-clause-known

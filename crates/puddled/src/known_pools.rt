@@ -13,9 +13,9 @@ ghost use Rattle.pud_defs.specs.Layout.{device_words};
 ghost use Rattle.pud_defs.specs.Stored.{IsOnDevice, stored_in};
 ghost use Rattle.pud_defs.specs.Types.{types_of};
 ghost use Rattle.graph_read.specs.Reading.{read_by};
-ghost use Rattle.ready_daemon.specs.Judged.{puddles_with_graph};
+ghost use Rattle.ready_daemon.specs.PoolKnowledge.{puddles_with_graph};
 ghost use Rattle.known_pool.specs.Known.{by_puddles};
-ghost use Rattle.ready_daemon.specs.Judged.{known_in, alone_in, AreOnDevice, AreJudged};
+ghost use Rattle.ready_daemon.specs.PoolKnowledge.{known_puddles_in, alone_in, AreOnDevice, AreKnownPools};
 
 use graph_read::{FieldRead, pool_is_sound};
 use known_pool::KnownPool;
@@ -28,11 +28,11 @@ use std::marker::Model;
 
 /// What is kept of the pools that were found to have a graph, by the slots of the pools' records.
 #[derive(Drop)]
-pub(crate) struct Judged {
+pub(crate) struct KnownPools {
     pub(crate) pools: [Option<KnownPool>; POOL_RECORDS as usize],
 }
 
-impl Model for Judged {
+impl Model for KnownPools {
     ghost use Rattle.std.specs.Prelude.{List, Option};
     ghost use Rattle.known_pool.specs.Known.{Known};
 
@@ -58,12 +58,12 @@ fn find_graph<H: Host>(h: &mut H, frames: u32, slot: u32) -> Result<Option<Puddl
     Ok(Some(puddles))
 }
 
-impl Judged {
+impl KnownPools {
     /// No pool was judged yet.
-    pub(crate) fn none() -> Judged
+    pub(crate) fn none() -> KnownPools
         ensures { result ≡ replicate POOL_RECORDS Option.None }
     {
-        Judged {
+        KnownPools {
             pools: array::from_fn(|_| None),
         }
     }
@@ -71,7 +71,7 @@ impl Judged {
     /// Whether the pool in this slot is known to have a graph.
     pub(crate) fn knows(&self, slot: u32) -> bool
         requires { slot < POOL_RECORDS }
-        ensures { result ≡ is_some (known_in self.now slot) }
+        ensures { result ≡ is_some (known_puddles_in self.now slot) }
     {
         self.pools[slot as usize].is_some()
     }
@@ -79,7 +79,7 @@ impl Judged {
     /// The puddles of the pool in this slot by their ordinals, each with its frame, where it is known to have a graph, and else none.
     pub(crate) fn puddles(&self, slot: u32) -> &[(u32, Puddle)]
         requires { slot < POOL_RECORDS }
-        ensures puddles { result.now ≡ unwrap_or (known_in self.now slot) [] }
+        ensures puddles { result.now ≡ unwrap_or (known_puddles_in self.now slot) [] }
         ensures within { (F : ℕ) → AreOnDevice F self.now → IsOnDevice F result.now }
     {
         match &self.pools[slot as usize] {
@@ -103,8 +103,8 @@ impl Judged {
         requires few { frames ≤ MAX_FRAMES }
         requires room { device_words frames ≤ (H.counts h.old).size }
         requires known { AreOnDevice frames self.old }
-        ensures judged { H.tells → (image : Image) → reads (H.state h.old).now.words ≡ image → AreJudged frames self.old image → AreJudged frames self.new image }
-        ensures puddles { (i : ℕ) → known_in self.new i ≡ known_in self.old i }
+        ensures judged { H.tells → (image : Image) → reads (H.state h.old).now.words ≡ image → AreKnownPools frames self.old image → AreKnownPools frames self.new image }
+        ensures puddles { (i : ℕ) → known_puddles_in self.new i ≡ known_puddles_in self.old i }
         ensures known { AreOnDevice frames self.new }
         ensures only_reads { OnlyReads H.tells H.state H.counts (fault_of result) h.old h.new }
     {
@@ -131,7 +131,7 @@ impl Judged {
         requires room { device_words frames ≤ (H.counts h.old).size }
         requires known { AreOnDevice frames self.now }
         requires field { f < MAX_FIELDS }
-        ensures object { H.tells → (image : Image) → reads (H.state h.old).now.words ≡ image → AreJudged frames self.now image → (at : List (ℕ × Puddle)) → known_in self.now slot ≡ Option.Some at
+        ensures object { H.tells → (image : Image) → reads (H.state h.old).now.words ≡ image → AreKnownPools frames self.now image → (at : List (ℕ × Puddle)) → known_puddles_in self.now slot ≡ Option.Some at
             → (g : Graph) → graph_of (types_of image) (stored_in frames at image) ≡ Option.Some g → IfOk result (λ read. read ≡ read_by (object_in s g) f) }
         ensures only_reads { OnlyReads H.tells H.state H.counts (fault_of result) h.old h.new }
     {
@@ -145,7 +145,7 @@ impl Judged {
     pub(crate) fn put(&mut self, slot: u32, puddles: Puddles)
         requires { slot < POOL_RECORDS }
         ensures put { self.new ≡ set self.old slot (Option.Some (by_puddles puddles)) }
-        ensures known { known_in self.new slot ≡ Option.Some puddles }
+        ensures known { known_puddles_in self.new slot ≡ Option.Some puddles }
     {
         self.pools[slot as usize] = Some(KnownPool::new(puddles));
     }
@@ -178,12 +178,12 @@ impl Judged {
         requires known { slot < POOL_RECORDS }
         requires few { frames ≤ MAX_FRAMES }
         requires room { device_words frames ≤ (H.counts h.old).size }
-        ensures sound { H.tells → (image : Image) → reads (H.state h.old).now.words ≡ image → AreJudged frames self.old image
+        ensures sound { H.tells → (image : Image) → reads (H.state h.old).now.words ≡ image → AreKnownPools frames self.old image
             → IfOk result (λ sound. sound ≡ is_some (puddles_with_graph frames image slot)) }
-        ensures puddles { IfOk result (λ sound. sound ≡ is_some (known_in self.new slot)) }
-        ensures judged { H.tells → (image : Image) → reads (H.state h.old).now.words ≡ image → AreJudged frames self.old image → AreJudged frames self.new image }
-        ensures kept { (i : ℕ) → (at : List (ℕ × Puddle)) → known_in self.old i ≡ Option.Some at → known_in self.new i ≡ Option.Some at }
-        ensures others { (i : ℕ) → i ≢ slot → known_in self.new i ≡ known_in self.old i }
+        ensures puddles { IfOk result (λ sound. sound ≡ is_some (known_puddles_in self.new slot)) }
+        ensures judged { H.tells → (image : Image) → reads (H.state h.old).now.words ≡ image → AreKnownPools frames self.old image → AreKnownPools frames self.new image }
+        ensures kept { (i : ℕ) → (at : List (ℕ × Puddle)) → known_puddles_in self.old i ≡ Option.Some at → known_puddles_in self.new i ≡ Option.Some at }
+        ensures others { (i : ℕ) → i ≢ slot → known_puddles_in self.new i ≡ known_puddles_in self.old i }
         ensures known { AreOnDevice frames self.old → AreOnDevice frames self.new }
         ensures only_reads { OnlyReads H.tells H.state H.counts (fault_of result) h.old h.new }
     {

@@ -1,7 +1,7 @@
 use Rattle.std.proofs.Common.{rules, ◌≡◌, ◌<◌, None, get_or, replicate, sym, ◌∙◌, arith}
 use Rattle.std.proofs.lemmas.List.{ext_get_or, get_or-replicate}
 use Rattle.pud_defs.specs.declared.records.TheConstants.{POOL_RECORDS}
-use Rattle.puddled.proofs.judged.Judged.none.Goals as goal
+use Rattle.puddled.proofs.known_pools.KnownPools.none.Goals as goal
 
 pub returns : goal.returns
 returns c =

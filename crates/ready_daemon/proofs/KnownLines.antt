@@ -25,7 +25,7 @@ use Rattle.log_space.specs.Closed.{ByClosing, ClosesGates}
 use Rattle.log_space.specs.Records.{record_batch}
 use Rattle.log_space.proofs.Writing.{writes_elsewhere}
 use Rattle.type_maps.specs.Define.{place_for, record_write, half_defined, defined, Defines}
-use Rattle.ready_daemon.proofs.JudgedKept.{KeepsGraphs, KeepsPools, SparesTables, KeepsPools-each, KeepsPools-then, KeepsPools-apart, types_same, puddles_same, own_word}
+use Rattle.ready_daemon.proofs.KnownKept.{KeepsGraphs, KeepsPools, SparesTables, KeepsPools-each, KeepsPools-then, KeepsPools-apart, types_same, puddles_same, own_word}
 
 -- ---- a client comes or goes
 

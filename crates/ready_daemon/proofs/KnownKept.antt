@@ -28,8 +28,8 @@ use Rattle.hybrid_tx.proofs.PoolScope.{pool_has_word-each}
 use Rattle.hybrid_tx.proofs.Open.PoolPlaces.{EachIsOf, each_in_turn}
 use Rattle.known_pool.specs.Known.{Known, IsKnown}
 use Rattle.known_pool.proofs.KnownKept.{KeepsSerials-stored, IsKnown-kept}
-use Rattle.ready_daemon.specs.Judged.{known_in, AreJudged}
-use Rattle.ready_daemon.specs.Judged.{puddles_with_graph}
+use Rattle.ready_daemon.specs.PoolKnowledge.{known_puddles_in, AreKnownPools}
+use Rattle.ready_daemon.specs.PoolKnowledge.{puddles_with_graph}
 
 -- ---- a pool that has a graph
 
@@ -117,17 +117,17 @@ pub KeepsPools-still : (F : ℕ) (but : Option ℕ) (old new : State) → new �
 KeepsPools-still F but old new same = subst (λ (s : State). KeepsPools F but (reads old.now.words) (reads s.now.words)) (sym same) (record { each = λ slot at apart has. has; words = λ slot at apart has k mine. refl; known = λ slot known apart has is. is })
 
 -- so what is known stays so, where nothing is known of that one
-pub AreJudged-but : (F slot : ℕ) (judged : List (Option Known)) (before after : Image) → KeepsPools F (Some slot) before after → known_in judged slot ≡ None → AreJudged F judged before → AreJudged F judged after
-AreJudged-but F slot judged before after keeps none are = record {
+pub AreKnownPools-but : (F slot : ℕ) (judged : List (Option Known)) (before after : Image) → KeepsPools F (Some slot) before after → known_puddles_in judged slot ≡ None → AreKnownPools F judged before → AreKnownPools F judged after
+AreKnownPools-but F slot judged before after keeps none are = record {
   each = λ s at known.
-      graph_from F s after at (keeps.each s at (λ same. none-some at (sym none ∙ ap (known_in judged) (same_Some slot s same) ∙ known)) (graph_parts F s before at (are.each s at known)));
+      graph_from F s after at (keeps.each s at (λ same. none-some at (sym none ∙ ap (known_puddles_in judged) (same_Some slot s same) ∙ known)) (graph_parts F s before at (are.each s at known)));
   known = λ s known is.
-      let puddles : known_in judged s ≡ Some known.puddles = ap (option_map (λ (k : Known). k.puddles)) is in
-      keeps.known s known (λ same. none-some known.puddles (sym none ∙ ap (known_in judged) (same_Some slot s same) ∙ puddles)) (graph_parts F s before known.puddles (are.each s known.puddles puddles)) (are.known s known is);
+      let puddles : known_puddles_in judged s ≡ Some known.puddles = ap (option_map (λ (k : Known). k.puddles)) is in
+      keeps.known s known (λ same. none-some known.puddles (sym none ∙ ap (known_puddles_in judged) (same_Some slot s same) ∙ puddles)) (graph_parts F s before known.puddles (are.each s known.puddles puddles)) (are.known s known is);
 }
 
-pub AreJudged-all : (F : ℕ) (judged : List (Option Known)) (before after : Image) → KeepsPools F None before after → AreJudged F judged before → AreJudged F judged after
-AreJudged-all F judged before after keeps are = record {
+pub AreKnownPools-all : (F : ℕ) (judged : List (Option Known)) (before after : Image) → KeepsPools F None before after → AreKnownPools F judged before → AreKnownPools F judged after
+AreKnownPools-all F judged before after keeps are = record {
   each = λ slot at known. graph_from F slot after at (keeps.each slot at (λ no. none-some slot no) (graph_parts F slot before at (are.each slot at known)));
   known = λ slot known is.
       keeps.known slot known (λ no. none-some slot no) (graph_parts F slot before known.puddles (are.each slot known.puddles (ap (option_map (λ (k : Known). k.puddles)) is))) (are.known slot known is);

@@ -1,7 +1,7 @@
 use Rattle.std.proofs.Common.{Bool, Some, None, cond, sym, ap, ◌∙◌}
 use Rattle.puddled.proofs.Found.{puddles_judged}
 use Rattle.pm_model.proofs.Reading.{still_reads}
-use Rattle.puddled.proofs.judged.find_graph.Goals as goal
+use Rattle.puddled.proofs.known_pools.find_graph.Goals as goal
 
 pub returns-then-not-branch-clause-found : goal.returns-then-not-branch-clause-found
 returns-then-not-branch-clause-found g c = λ t image read.

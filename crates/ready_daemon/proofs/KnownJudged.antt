@@ -45,7 +45,7 @@ use Rattle.registry.proofs.Changed.{changing_of, dropping_of}
 use Rattle.registry.proofs.NewPuddles.{adding_of}
 use Rattle.hybrid_tx.specs.PoolScopes.{pool_has_word}
 use Rattle.hybrid_tx.proofs.PoolScope.{pool_has_word-each}
-use Rattle.ready_daemon.proofs.JudgedKept.{HasGraphIn, KeepsPools, KeepsPools-each, KeepsPools-still, KeepsPools-changes, KeepsGraphs-same, types_same, puddles_same, own_word, KeepsPools-then}
+use Rattle.ready_daemon.proofs.KnownKept.{HasGraphIn, KeepsPools, KeepsPools-each, KeepsPools-still, KeepsPools-changes, KeepsGraphs-same, types_same, puddles_same, own_word, KeepsPools-then}
 use Rattle.registry.proofs.Filled.{length-fresh_frame}
 
 -- ---- a batch of changes

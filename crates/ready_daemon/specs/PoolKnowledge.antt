@@ -16,33 +16,33 @@ puddles_with_graph F image slot =
     option_map (λ graph. puddles) (graph_of (types_of image) (stored_in F puddles image))
 
 -- what is known of the pool in a slot
-abbrev pub pool_in : List (Option Known) → (slot : ℕ) → Option Known
-pool_in judged slot = slice_index_or judged slot None
+abbrev pub known_pool_in : List (Option Known) → (slot : ℕ) → Option Known
+known_pool_in judged slot = slice_index_or judged slot None
 
 -- the puddles of a pool, by what is known of it
 abbrev pub puddles_known : Option Known → Option (List (ℕ × Puddle))
 puddles_known known = option_map (λ known. known.puddles) known
 
 -- those of the pool in a slot
-abbrev pub known_in : List (Option Known) → (slot : ℕ) → Option (List (ℕ × Puddle))
-known_in judged slot = puddles_known (pool_in judged slot)
+abbrev pub known_puddles_in : List (Option Known) → (slot : ℕ) → Option (List (ℕ × Puddle))
+known_puddles_in judged slot = puddles_known (known_pool_in judged slot)
 
 -- these puddles are known of the pool in a slot, and nothing else
 abbrev pub KnowsAlone : List (Option Known) → (slot : ℕ) → List (ℕ × Puddle) → Type 0
-KnowsAlone judged slot at = pool_in judged slot ≡ Some (by_puddles at)
+KnowsAlone judged slot at = known_pool_in judged slot ≡ Some (by_puddles at)
 
 -- of the pool in a slot the puddles are known still, where they were, and nothing else
 abbrev pub alone_in : (slot : ℕ) → List (Option Known) → List (Option Known)
-alone_in slot judged = set judged slot (option_map (λ known. by_puddles known.puddles) (pool_in judged slot))
+alone_in slot judged = set judged slot (option_map (λ known. by_puddles known.puddles) (known_pool_in judged slot))
 
 -- all that is known lies in frames of the device
 pub record AreOnDevice (F : ℕ) (judged : List (Option Known)) : Type 0 where
-  pub each : (slot : ℕ) (at : List (ℕ × Puddle)) → known_in judged slot ≡ Some at → IsOnDevice F at
+  pub each : (slot : ℕ) (at : List (ℕ × Puddle)) → known_puddles_in judged slot ≡ Some at → IsOnDevice F at
 
 -- What is known of each pool is what a scan gives: its puddles, that they have a graph, its index, where one is kept, and which slots are live.
-pub record AreJudged (F : ℕ) (judged : List (Option Known)) (image : Image) : Type 0 where
-  pub each : (slot : ℕ) (at : List (ℕ × Puddle)) → known_in judged slot ≡ Some at → puddles_with_graph F image slot ≡ Some at
-  pub known : (slot : ℕ) (known : Known) → pool_in judged slot ≡ Some known → IsKnown F image known
+pub record AreKnownPools (F : ℕ) (judged : List (Option Known)) (image : Image) : Type 0 where
+  pub each : (slot : ℕ) (at : List (ℕ × Puddle)) → known_puddles_in judged slot ≡ Some at → puddles_with_graph F image slot ≡ Some at
+  pub known : (slot : ℕ) (known : Known) → known_pool_in judged slot ≡ Some known → IsKnown F image known
 
 -- what is known of the pool of this name is forgotten, and of others all is known that was
 pub record ForgetsPool (F : ℕ) (name : List ℕ) (image : Image) (old new : List (Option Known)) : Type 0 where
