@@ -38,7 +38,7 @@ use Rattle.ready_daemon.specs.Ready.{IsReady, RefusesNone}
 use Rattle.puddle_cli.specs.declared.source.Source.{Source}
 use Rattle.puddle_cli.specs.declared.source.Source.TheVariants.{Script, Generated}
 use Rattle.puddle_cli.specs.Source.{is_aloud, bytes_left, TakesNext}
-use Rattle.puddle_cli.specs.Serving.{said_of, refused_of, StandsAmong, StandsBy, KeepsScript, IsUnsoundBehindLoss, Takes, TakesAtMost, TakesAll, CountsPending, AllowsLogs, AnswersLine, Serves, Answered}
+use Rattle.puddle_cli.specs.Serving.{said_of, refused_of, StandsAmong, StandsBy, KeepsScript, IsUnsoundBehindLoss, Takes, TakesAtMost, TakesAll, CountsPending, AllowsLogs, AnswersLine, Serves, HasServed}
 
 -- ---- what is said of lines, aloud or not
 
@@ -255,7 +255,7 @@ module _ (size : ℕ) (w : World) (aloud : Bool) (all : List ℕ) (before : Coun
       → all ≡ taken ++ behind → (ended ≡ true → behind ≡ [])
       → Leaves (Stands s.turns) start read → AllowsLogs start read → read.now.said ≡ start.now.said ++ said_of aloud s.turns
       → (a : AnswersLine size (last_world w s.turns) aloud (open_rest s.taken) (Err fault) next read_counts after read new)
-      → Answered size w aloud all ended (Some fault) before after start new behind 0
+      → HasServed size w aloud all ended (Some fault) before after start new behind 0
   Answered-line next taken ended fault after new behind lines is to_end so_far logs said a =
       record {
         taken = taken;
@@ -292,7 +292,7 @@ module _ (size : ℕ) (w : World) (aloud : Bool) (all : List ℕ) (before : Coun
 
   -- all are answered to their end
   pub Answered-end : (next : Memory) (after : Counts) (new : State) (count : ℕ) (behind : List ℕ) → read ≡ now → left ≡ [] → behind ≡ left
-      → (a : AnswersLine size (last_world w s.turns) aloud (open_rest s.taken) (Ok count) next read_counts after read new) → Answered size w aloud all true None before after start new behind (refused + count)
+      → (a : AnswersLine size (last_world w s.turns) aloud (open_rest s.taken) (Ok count) next read_counts after read new) → HasServed size w aloud all true None before after start new behind (refused + count)
   Answered-end next after new count behind same none_left same_left a =
       let said = ap (λ (x : State). x.now.said) same ∙ s.said in
       let so_far = subst (λ (n : State). Leaves (Stands s.turns) start n) (sym same) s.moments in
@@ -359,7 +359,7 @@ module _ (size : ℕ) (w : World) (aloud : Bool) (all : List ℕ) (before : Coun
 
     -- it is, and the line was not answered whole
     pub Answered-newline : (next : Memory) (fault : RunFault) (after : Counts) (new : State) (later : List ℕ) → later ≡ behind → byte ≡ 10
-        → AnswersLine size (last_world w s.turns) aloud (open_rest s.taken) (Err fault) next read_counts after read new → Answered size w aloud all false (Some fault) before after start new later 0
+        → AnswersLine size (last_world w s.turns) aloud (open_rest s.taken) (Err fault) next read_counts after read new → HasServed size w aloud all false (Some fault) before after start new later 0
     Answered-newline next fault after new later same newline a =
         Answered-line next (s.taken ++ byte ∷ []) false fault after new later (lines_taken-newline s.taken byte newline) (taken_more later same)
         (λ e. absurd (let no : false ≡ true = e in cc)) moments_read allowed_read said_read a
@@ -384,7 +384,7 @@ module _ (size : ℕ) (w : World) (aloud : Bool) (all : List ℕ) (before : Coun
 
   -- the end was reached, and the last line was not answered whole
   pub Answered-last : (next : Memory) (fault : RunFault) (after : Counts) (new : State) (behind : List ℕ) → read ≡ now → left ≡ [] → behind ≡ left
-      → AnswersLine size (last_world w s.turns) aloud (open_rest s.taken) (Err fault) next read_counts after read new → Answered size w aloud all true (Some fault) before after start new behind 0
+      → AnswersLine size (last_world w s.turns) aloud (open_rest s.taken) (Err fault) next read_counts after read new → HasServed size w aloud all true (Some fault) before after start new behind 0
   Answered-last next fault after new behind same none_left same_left a =
       Answered-line next s.taken true fault after new behind (lines_taken-end s.taken)
       (s.is ∙ ap (λ (l : List ℕ). s.taken ++ l) (sym same_left))
@@ -396,9 +396,9 @@ module _ (size : ℕ) (w : World) (aloud : Bool) (all : List ℕ) (before : Coun
 
   -- nothing more was taken or said
   pub Answered-so_far : (fault : Option RunFault) (after : Counts) (behind : List ℕ) (count : ℕ) → read ≡ now → behind ≡ left → (fault ≡ None → count ≡ refused) → CountsPending [] fault read_counts after → (fault ≡ Some NotSound → ⊥)
-      → Answered size w aloud all false fault before after start read behind count
+      → HasServed size w aloud all false fault before after start read behind count
   Answered-so_far fault after behind count same same_left counts_refused last is_sound =
-      subst (λ (n : State). Answered size w aloud all false fault before after start n behind count) (sym same) (record {
+      subst (λ (n : State). HasServed size w aloud all false fault before after start n behind count) (sym same) (record {
         taken = s.taken;
         answered = s.turns;
         pending = [];

@@ -36,7 +36,7 @@ use Rattle.puddled.proofs.Counted.{host_is_sound}
 use Rattle.puddled.proofs.Lines.{SaysPart-says, words_said, script_said, shelf_said}
 use Rattle.puddle_cli.specs.Generated.{bytes_of}
 use Rattle.puddle_cli.specs.Status.{status_fault, run_fault_at, IsStatusOfMode}
-use Rattle.puddle_cli.specs.Serving.{StandsAmong, KeepsScript, CountsPending, file_under_way, TakesTo, TakesBy, Answered, AnsweredBy}
+use Rattle.puddle_cli.specs.Serving.{StandsAmong, KeepsScript, CountsPending, file_under_way, TakesTo, TakesBy, HasServed, HasServedBy}
 use Rattle.puddle_cli.specs.declared.run.Served.{Served}
 use Rattle.puddle_cli.specs.Generating.{LineRun, IsWhole, summary_of, SaysOf, SumsUp, RunsLines, SaysSummary}
 use Rattle.puddle_cli.proofs.Answering.{among_first, among_later}
@@ -60,7 +60,7 @@ taken_to_end all false start now left t few =
     absurd (omega (arith, counted, few, all_of, length-append t.taken left))
 
 module _ (size : ℕ) (w : World) (lines : List (List ℕ)) (plain : All IsPlainLine lines) (ended : Bool) (fault : Option RunFault) (before mid_counts : Counts) (start mid : State) (left : List ℕ) (refused : ℕ)
-    (a : Answered size w false (bytes_of lines) ended fault before mid_counts start mid left refused) where
+    (a : HasServed size w false (bytes_of lines) ended fault before mid_counts start mid left refused) where
   behind : (more : List (List ℕ)) × (lines ≡ lines_taken a.taken ended ++ more) × (ended ≡ true → more ≡ [])
   behind = lines_left lines plain a.taken left ended a.is a.to_end
 
@@ -121,7 +121,7 @@ counted_summary (Some hosts.Cut) mid before after same last never_cut = absurd (
 
 -- each line was answered, and the summary is said
 module _ (size : ℕ) (w : World) (lines : List (List ℕ)) (plain : All IsPlainLine lines) (before mid_counts : Counts) (start mid : State) (left : List ℕ) (refused : ℕ)
-    (a : Answered size w false (bytes_of lines) true None before mid_counts start mid left refused) where
+    (a : HasServed size w false (bytes_of lines) true None before mid_counts start mid left refused) where
   abbrev whole_run : LineRun w lines
   whole_run = run_of size w lines plain true None before mid_counts start mid left refused a
 
@@ -184,7 +184,7 @@ module _ (size : ℕ) (w : World) (lines : List (List ℕ)) (plain : All IsPlain
 -- ---- a generated script
 
 module _ (size : ℕ) (w : World) (seed count : ℕ) (few : count ≤ 992) (memory : Memory) (before mid_counts : Counts) (start mid : State) (ready : IsReady size w memory start) (all left : List ℕ) (is : all ≡ bytes_of (gen_lines seed count))
-    (served : Served) (by : AnsweredBy size w false all (Ok served) before mid_counts start mid left) (takes : TakesBy all (Ok served) start mid left) (counted : ℕ) (count_is : length (gen_lines seed count) ≡ counted) (most : counted ≤ 5 * count + 11) where
+    (served : Served) (by : HasServedBy size w false all (Ok served) before mid_counts start mid left) (takes : TakesBy all (Ok served) start mid left) (counted : ℕ) (count_is : length (gen_lines seed count) ≡ counted) (most : counted ≤ 5 * count + 11) where
   abbrev pub script_lines : List (List ℕ)
   script_lines = gen_lines seed count
 
@@ -194,10 +194,10 @@ module _ (size : ℕ) (w : World) (seed count : ℕ) (few : count ≤ 992) (memo
       let all_of : length all ≡ length (bytes_of script_lines) = ap length is in
       taken_to_end all served.ended start mid left takes (omega (arith, bytes, all_of, count_is, most, few))
 
-  pub answered_whole : Answered size w false (bytes_of script_lines) true None before mid_counts start mid left served.refused
+  pub answered_whole : HasServed size w false (bytes_of script_lines) true None before mid_counts start mid left served.refused
   answered_whole =
-      subst (λ (b : Bool). Answered size w false (bytes_of script_lines) b None before mid_counts start mid left served.refused) ended
-      (subst (λ (l : List ℕ). Answered size w false l served.ended None before mid_counts start mid left served.refused) is by)
+      subst (λ (b : Bool). HasServed size w false (bytes_of script_lines) b None before mid_counts start mid left served.refused) ended
+      (subst (λ (l : List ℕ). HasServed size w false l served.ended None before mid_counts start mid left served.refused) is by)
 
   abbrev pub last_of : World
   last_of = last_world w answered_whole.answered

@@ -149,7 +149,7 @@ pub record Serves (size : ℕ) (w : World) (aloud : Bool) (all : List ℕ) (befo
 -- All lines were answered so far, with these bytes left: some of them whole, and at most one more whose reply is not whole. Without a fault there is none
 -- such. Each file but the one that this line may write is as the lines answered left it. Up to
 -- some counts each line is counted by its command and its reply, and then the line under way ended so.
-pub record Answered (size : ℕ) (w : World) (aloud : Bool) (all : List ℕ) (ended : Bool) (fault : Option RunFault) (before after : Counts) (start now : State) (left : List ℕ) (refused : ℕ) : Type 0 where
+pub record HasServed (size : ℕ) (w : World) (aloud : Bool) (all : List ℕ) (ended : Bool) (fault : Option RunFault) (before after : Counts) (start now : State) (left : List ℕ) (refused : ℕ) : Type 0 where
   pub taken : List ℕ
   pub answered : List Turn
   pub pending : List Turn
@@ -175,6 +175,6 @@ pub record Answered (size : ℕ) (w : World) (aloud : Bool) (all : List ℕ) (en
   pub sound : fault ≢ Some NotSound
 
 -- the same by what the call answered: whether the end was reached and how many were refused, or why the run cannot go on
-abbrev pub AnsweredBy : (size : ℕ) → World → (aloud : Bool) → (all : List ℕ) → Result Served RunFault → Counts → Counts → State → State → (left : List ℕ) → Type 0
-AnsweredBy size w aloud all (Ok served) before after start now left = Answered size w aloud all served.ended None before after start now left served.refused
-AnsweredBy size w aloud all (Err fault) before after start now left = (ended : Bool) × Answered size w aloud all ended (Some fault) before after start now left 0
+abbrev pub HasServedBy : (size : ℕ) → World → (aloud : Bool) → (all : List ℕ) → Result Served RunFault → Counts → Counts → State → State → (left : List ℕ) → Type 0
+HasServedBy size w aloud all (Ok served) before after start now left = HasServed size w aloud all served.ended None before after start now left served.refused
+HasServedBy size w aloud all (Err fault) before after start now left = (ended : Bool) × HasServed size w aloud all ended (Some fault) before after start now left 0

@@ -11,7 +11,7 @@ ghost use Rattle.ready_daemon.specs.Ready.{IsReady};
 ghost use Rattle.puddle_cli.specs.declared.piece.TheConstants.{KEPT};
 ghost use Rattle.puddle_cli.specs.Status.{status_fault, status_to, IsStatusOfMode, Causes};
 ghost use Rattle.puddle_cli.specs.Source.{is_aloud, bytes_left};
-ghost use Rattle.puddle_cli.specs.Serving.{KeepsScript, IsQuiet, IsUnsoundBehindLoss, Takes, TakesOne, TakesBy, AnswersLine, Serves, Answered, AnsweredBy};
+ghost use Rattle.puddle_cli.specs.Serving.{KeepsScript, IsQuiet, IsUnsoundBehindLoss, Takes, TakesOne, TakesBy, AnswersLine, Serves, HasServed, HasServedBy};
 ghost use Rattle.puddle_cli.specs.Replying.{HearsLine, Hears, Heard, HeardBy, RunSays};
 ghost use Rattle.puddle_cli.specs.Headline.{TakesScript, Headline};
 
@@ -81,7 +81,7 @@ fn serve_byte<H: Host>(
     ensures ended { H.tells → IfOk result (λ more. more ≡ false → bytes_left source.new (H.state h.new) ≡ []) }
     ensures answered { H.tells → (size : ℕ) → size ≡ (H.counts h.old).size → (w : World) → (aloud : Bool) → is_aloud source.old ≡ aloud → (all : List ℕ) → (before : Counts) → (start : State)
         → Serves size w aloud all before start (H.counts h.old) daemon.old (H.state h.old) (bytes_left source.old (H.state h.old)) piece.old refused.old
-        → IfErr result (λ fault. Answered size w aloud all false (Option.Some fault) before (H.counts h.new) start (H.state h.new) (bytes_left source.new (H.state h.new)) 0) }
+        → IfErr result (λ fault. HasServed size w aloud all false (Option.Some fault) before (H.counts h.new) start (H.state h.new) (bytes_left source.new (H.state h.new)) 0) }
     ensures aloud { is_aloud source.new ≡ is_aloud source.old }
     ensures hears { H.tells → is_aloud source.old ≡ true → (start : State) → Hears start (H.state h.old) piece.old → IfOk result (λ more. Hears start (H.state h.new) piece.new) }
     ensures heard { H.tells → is_aloud source.old ≡ true → (start : State) → Hears start (H.state h.old) piece.old → IfErr result (λ fault. Heard false (Option.Some fault) start (H.state h.new)) }
@@ -115,7 +115,7 @@ fn serve_lines<H: Host>(
 ) -> Result<Served, RunFault>
     requires { device_words daemon.old.frames ≤ (H.counts h.old).size }
     ensures answered { H.tells → (size : ℕ) → size ≡ (H.counts h.old).size → (w : World) → IsReady size w daemon.old (H.state h.old)
-        → AnsweredBy size w (is_aloud source.old) (bytes_left source.old (H.state h.old)) result (H.counts h.old) (H.counts h.new) (H.state h.old) (H.state h.new) (bytes_left source.new (H.state h.new)) }
+        → HasServedBy size w (is_aloud source.old) (bytes_left source.old (H.state h.old)) result (H.counts h.old) (H.counts h.new) (H.state h.old) (H.state h.new) (bytes_left source.new (H.state h.new)) }
     ensures aloud { is_aloud source.new ≡ is_aloud source.old }
     ensures heard { H.tells → is_aloud source.old ≡ true → HeardBy result (H.state h.old) (H.state h.new) }
     ensures quiet { H.tells → is_aloud source.old ≡ false → IsQuiet (H.state h.old) (H.state h.new) }
@@ -149,7 +149,7 @@ pub fn serve<H: Host>(
 ) -> Result<Served, RunFault>
     requires { device_words daemon.frames ≤ (H.counts h.old).size }
     ensures answered { H.tells → (size : ℕ) → size ≡ (H.counts h.old).size → (w : World) → IsReady size w daemon (H.state h.old)
-        → AnsweredBy size w (is_aloud source.old) (bytes_left source.old (H.state h.old)) result (H.counts h.old) (H.counts h.new) (H.state h.old) (H.state h.new) (bytes_left source.new (H.state h.new)) }
+        → HasServedBy size w (is_aloud source.old) (bytes_left source.old (H.state h.old)) result (H.counts h.old) (H.counts h.new) (H.state h.old) (H.state h.new) (bytes_left source.new (H.state h.new)) }
     ensures aloud { is_aloud source.new ≡ is_aloud source.old }
     ensures heard { H.tells → is_aloud source.old ≡ true → HeardBy result (H.state h.old) (H.state h.new) }
     ensures quiet { H.tells → is_aloud source.old ≡ false → IsQuiet (H.state h.old) (H.state h.new) }

@@ -23,9 +23,9 @@ use Rattle.pud_defs.proofs.Steps.{answer_is_ok, done_world}
 use Rattle.puddled.specs.Faults.{Kind, kind_of, CountsCommand}
 use Rattle.puddled.specs.Faults.Kind.{ordinary, loses, arms}
 use Rattle.ready_daemon.specs.Memory.{Memory}
-use Rattle.puddled.specs.declared.answers.Answered.{Answered}
-use Rattle.puddled.specs.declared.answers.Answered.TheVariants as answers
-use Rattle.puddled.specs.Answered.{as_answered}
+use Rattle.puddled.specs.declared.answers.LineAnswer.{LineAnswer}
+use Rattle.puddled.specs.declared.answers.LineAnswer.TheVariants as answers
+use Rattle.puddled.specs.LineAnswers.{as_line_answer}
 use Rattle.ready_daemon.specs.Moves.{Stays, MovesTo, still}
 use Rattle.ready_daemon.specs.Ready.{KeepsRest, IsReady, AppliesBy, Applies, ClosesBefore, ClosesLogs}
 use Rattle.puddled.specs.Daemon.{KeepsAllBut, CarriesOut}
@@ -118,7 +118,7 @@ module _ (size : ℕ) (w : World) (memory : Memory) (before after : Counts) (old
   -- one that counts nothing of its own, and writes no file
   pub CarriesOut-led : (c : Command) (done : Result Reply HostFault) → kind_of (Some c) ≡ ordinary → file_of c ≡ None → IfOk done (λ reply. of_reply reply ≡ answer_by w (Some c))
       → AppliesAs size w (world_by w (Some c)) (Some c) memory (fault_of done) old new → ClosesLogs ClosesBefore w (Some c) old new → KeepsRest old new → after ≡ after_fault (fault_of done) before
-      → CarriesOut size w memory (Some c) (as_answered done) before after old new
+      → CarriesOut size w memory (Some c) (as_line_answer done) before after old new
   CarriesOut-led c (Ok reply) plain none replied applies closes rest cause = record {
     said = answer_by w (Some c);
     under = world_by w (Some c);
@@ -155,15 +155,15 @@ module _ (size : ℕ) (w : World) (memory : Memory) (before after : Counts) (old
   -- and moves no frontier
   pub CarriesOut-plain : (c : Command) (done : Result Reply HostFault) → kind_of (Some c) ≡ ordinary → file_of c ≡ None → MovesNone c → IfOk done (λ reply. of_reply reply ≡ answer_by w (Some c))
       → Applies size w (world_by w (Some c)) memory (fault_of done) old new → ClosesLogs ClosesBefore w (Some c) old new → KeepsRest old new → after ≡ after_fault (fault_of done) before
-      → CarriesOut size w memory (Some c) (as_answered done) before after old new
+      → CarriesOut size w memory (Some c) (as_line_answer done) before after old new
   CarriesOut-plain c done plain none moves replied applies closes rest cause =
       CarriesOut-led c done plain none replied (AppliesAs-none size w (world_by w (Some c)) memory (fault_of done) old new c moves applies) closes rest cause
 
   -- by the command that it is, and what was replied
-  pub CarriesOut-as : (x c : Command) (r : Result Answered HostFault) (done : Result Reply HostFault) → x ≡ c → r ≡ as_answered done → CarriesOut size w memory (Some c) (as_answered done) before after old new
+  pub CarriesOut-as : (x c : Command) (r : Result LineAnswer HostFault) (done : Result Reply HostFault) → x ≡ c → r ≡ as_line_answer done → CarriesOut size w memory (Some c) (as_line_answer done) before after old new
       → CarriesOut size w memory (Some x) r before after old new
   CarriesOut-as x c r done is same k =
-      subst (λ (y : Command). CarriesOut size w memory (Some y) r before after old new) (sym is) (subst (λ (s : Result Answered HostFault). CarriesOut size w memory (Some c) s before after old new) (sym same) k)
+      subst (λ (y : Command). CarriesOut size w memory (Some y) r before after old new) (sym is) (subst (λ (s : Result LineAnswer HostFault). CarriesOut size w memory (Some c) s before after old new) (sym same) k)
 
   -- the list of the pools is asked for
   pub CarriesOut-listed : IsReady size w memory old → new ≡ old → after ≡ before → CarriesOut size w memory (Some Pools) (Ok answers.Pools) before after old new
@@ -186,8 +186,8 @@ module _ (size : ℕ) (w : World) (memory : Memory) (before after : Counts) (old
 
   -- power was lost at once
   pub CarriesOut-lost : (pick : ℕ) (done : Result Reply HostFault) → done ≡ Err hosts.Cut → Applies size w (restart w) memory (Some hosts.Cut) old new → KeepsRest old new
-      → after ≡ after_loss_of pick before → CarriesOut size w memory (Some (Cut pick)) (as_answered done) before after old new
-  CarriesOut-lost pick done is applies rest cause = subst (λ (r : Result Reply HostFault). CarriesOut size w memory (Some (Cut pick)) (as_answered r) before after old new) (sym is) (record {
+      → after ≡ after_loss_of pick before → CarriesOut size w memory (Some (Cut pick)) (as_line_answer done) before after old new
+  CarriesOut-lost pick done is applies rest cause = subst (λ (r : Result Reply HostFault). CarriesOut size w memory (Some (Cut pick)) (as_line_answer r) before after old new) (sym is) (record {
     said = answer_by w (Some (Cut pick));
     under = world_by w (Some (Cut pick));
     step = plain_step w (Some (Cut pick)) refl;
@@ -206,8 +206,8 @@ module _ (size : ℕ) (w : World) (memory : Memory) (before after : Counts) (old
 
   -- a cut was armed
   pub CarriesOut-armed : (step pick : ℕ) (done : Result Reply HostFault) → done ≡ Ok replies.Ok → IsReady size w memory old → new ≡ old
-      → after ≡ after_arm step pick before → CarriesOut size w memory (Some (Arm step pick)) (as_answered done) before after old new
-  CarriesOut-armed step pick done is ready same cause = subst (λ (r : Result Reply HostFault). CarriesOut size w memory (Some (Arm step pick)) (as_answered r) before after old new) (sym is) (record {
+      → after ≡ after_arm step pick before → CarriesOut size w memory (Some (Arm step pick)) (as_line_answer done) before after old new
+  CarriesOut-armed step pick done is ready same cause = subst (λ (r : Result Reply HostFault). CarriesOut size w memory (Some (Arm step pick)) (as_line_answer r) before after old new) (sym is) (record {
     said = answer_by w (Some (Arm step pick));
     under = world_by w (Some (Arm step pick));
     step = plain_step w (Some (Arm step pick)) refl;

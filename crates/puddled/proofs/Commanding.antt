@@ -17,7 +17,7 @@ use Rattle.pud_defs.specs.Step.{refusal_of, after, answer_by, world_by}
 use Rattle.pud_defs.specs.Step.Answer.{of_reply}
 use Rattle.pud_defs.proofs.Steps.{refused_answer, done_world}
 use Rattle.puddled.proofs.Frontiers.{MovesNone, AppliesAs-refused, AppliesAs-failed}
-use Rattle.puddled.specs.Answered.{as_answered}
+use Rattle.puddled.specs.LineAnswers.{as_line_answer}
 use Rattle.pool_transaction.specs.declared.changing.Change.{Change}
 use Rattle.pool_transaction.specs.declared.changing.Change.TheVariants as changes
 use Rattle.pool_transaction.specs.declared.changing.Update.TheVariants as updates
@@ -52,13 +52,13 @@ module _ (size : ℕ) (w : World) (memory : Memory) (first last : Counts) (old n
   ready_before = subst (λ (s : State). IsReady size w memory s) same ready
 
   -- it was refused by what was read
-  pub CarriesOut-refused : (r : Refusal) → refusal_of w c ≡ Some r → last ≡ first → CarriesOut size w memory (Some c) (as_answered (Ok (replies.No r))) first last old new
+  pub CarriesOut-refused : (r : Refusal) → refusal_of w c ≡ Some r → last ≡ first → CarriesOut size w memory (Some c) (as_line_answer (Ok (replies.No r))) first last old new
   CarriesOut-refused r refused cause =
       CarriesOut-led size w memory first last old new c (Ok (replies.No r)) plain.kind plain.file (sym (refused_answer w c r refused))
       (AppliesAs-refused size w (world_by w (Some c)) memory None old new c r refused (Applies-refused size w memory c r old new ready_before refused same)) (ClosesLogs-other w (Some c) old new plain.stays) (KeepsRest-still old new same) cause
 
   -- one of them failed
-  pub CarriesOut-unread : (fault : HostFault) → (Some fault ≡ Some Cut → ⊥) → last ≡ after_fault (Some fault) first → CarriesOut size w memory (Some c) (as_answered (Err fault)) first last old new
+  pub CarriesOut-unread : (fault : HostFault) → (Some fault ≡ Some Cut → ⊥) → last ≡ after_fault (Some fault) first → CarriesOut size w memory (Some c) (as_line_answer (Err fault)) first last old new
   CarriesOut-unread fault never_cut cause =
       CarriesOut-led size w memory first last old new c (Err fault) plain.kind plain.file tt
       (AppliesAs-failed size w (world_by w (Some c)) memory fault old new (Some c) never_cut (Applies-failed size w (world_by w (Some c)) memory fault old new ready_before same never_cut)) (ClosesLogs-other w (Some c) old new plain.stays) (KeepsRest-still old new same) cause
@@ -67,31 +67,31 @@ module _ (size : ℕ) (w : World) (memory : Memory) (first last : Counts) (old n
 module _ (size : ℕ) (w : World) (memory : Memory) (first mid last : Counts) (a b d : State) (c : Command) (plain : IsPlain c) (moves : MovesNone c) (free : refusal_of w c ≡ None) (same : b ≡ a) (counted : mid ≡ first)
     (rest : KeepsRest b d) where
   -- a call that does so failed
-  pub CarriesOut-stopped : (fault : HostFault) → Applies size w (after w c) memory (Some fault) b d → last ≡ after_fault (Some fault) mid → CarriesOut size w memory (Some c) (as_answered (Err fault)) first last a d
+  pub CarriesOut-stopped : (fault : HostFault) → Applies size w (after w c) memory (Some fault) b d → last ≡ after_fault (Some fault) mid → CarriesOut size w memory (Some c) (as_line_answer (Err fault)) first last a d
   CarriesOut-stopped fault applies cause =
-      subst (λ (s : State). CarriesOut size w memory (Some c) (as_answered (Err fault)) first last s d) same
+      subst (λ (s : State). CarriesOut size w memory (Some c) (as_line_answer (Err fault)) first last s d) same
       (CarriesOut-plain size w memory first last b d c (Err fault) plain.kind plain.file moves tt
       (subst (λ (v : World). Applies size w v memory (Some fault) b d) (sym (done_world w c free)) applies) (ClosesLogs-other w (Some c) b d plain.stays) rest (cause ∙ ap (after_fault (Some fault)) counted))
 
   -- it was, and replied to so
-  pub CarriesOut-done : (reply : Reply) → of_reply reply ≡ answer_by w (Some c) → Applies size w (after w c) memory None b d → last ≡ mid → CarriesOut size w memory (Some c) (as_answered (Ok reply)) first last a d
+  pub CarriesOut-done : (reply : Reply) → of_reply reply ≡ answer_by w (Some c) → Applies size w (after w c) memory None b d → last ≡ mid → CarriesOut size w memory (Some c) (as_line_answer (Ok reply)) first last a d
   CarriesOut-done reply replied applies cause =
-      subst (λ (s : State). CarriesOut size w memory (Some c) (as_answered (Ok reply)) first last s d) same
+      subst (λ (s : State). CarriesOut size w memory (Some c) (as_line_answer (Ok reply)) first last s d) same
       (CarriesOut-plain size w memory first last b d c (Ok reply) plain.kind plain.file moves replied
       (subst (λ (v : World). Applies size w v memory None b d) (sym (done_world w c free)) applies) (ClosesLogs-other w (Some c) b d plain.stays) rest (cause ∙ counted))
 
   -- it was, and replied to with `ok`, or it failed
   pub CarriesOut-ok : (done : Result Reply HostFault) → IfOk done (λ reply. reply ≡ replies.Ok) → of_reply replies.Ok ≡ answer_by w (Some c) → Applies size w (after w c) memory (fault_of done) b d
-      → last ≡ after_fault (fault_of done) mid → CarriesOut size w memory (Some c) (as_answered done) first last a d
+      → last ≡ after_fault (fault_of done) mid → CarriesOut size w memory (Some c) (as_line_answer done) first last a d
   CarriesOut-ok (Ok reply) is replied applies cause = CarriesOut-done reply (ap of_reply is ∙ replied) applies cause
   CarriesOut-ok (Err fault) is replied applies cause = CarriesOut-stopped fault applies cause
 
 -- behind calls that read it is carried out, or refused, by a call that replies to it
 pub CarriesOut-replied : (size : ℕ) (w : World) (memory : Memory) (first mid last : Counts) (a b d : State) (c : Command) → IsPlain c → b ≡ a → mid ≡ first → KeepsRest b d → (done : Result Reply HostFault)
     → IfOk done (λ reply. of_reply reply ≡ answer_by w (Some c)) → AppliesAs size w (world_by w (Some c)) (Some c) memory (fault_of done) b d → last ≡ after_fault (fault_of done) mid
-    → CarriesOut size w memory (Some c) (as_answered done) first last a d
+    → CarriesOut size w memory (Some c) (as_line_answer done) first last a d
 CarriesOut-replied size w memory first mid last a b d c plain same counted rest done replied applies cause =
-    subst (λ (s : State). CarriesOut size w memory (Some c) (as_answered done) first last s d) same
+    subst (λ (s : State). CarriesOut size w memory (Some c) (as_line_answer done) first last s d) same
     (CarriesOut-led size w memory first last b d c done plain.kind plain.file replied applies (ClosesLogs-other w (Some c) b d plain.stays) rest (cause ∙ ap (after_fault (fault_of done)) counted))
 
 -- no device was touched

@@ -21,7 +21,7 @@ use Rattle.pud_defs.specs.Step.{refusal_of}
 use Rattle.pud_defs.specs.Step.Answer.{of_reply}
 use Rattle.pud_defs.specs.Gives.{with_file, contents_for}
 use Rattle.pud_defs.specs.Changing.{KeepsFiles}
-use Rattle.puddled.specs.declared.answers.Answered.TheVariants as answers
+use Rattle.puddled.specs.declared.answers.LineAnswer.TheVariants as answers
 use Rattle.puddled.specs.declared.finding.Found.{Found}
 use Rattle.puddled.specs.declared.finding.Need.TheVariants as needs
 use Rattle.puddled.proofs.Found.{Finds, stored_pool}

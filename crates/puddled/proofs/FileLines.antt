@@ -44,9 +44,9 @@ use Rattle.graph_dump.specs.declared.fault.DumpFault.{DumpFault}
 use Rattle.graph_dump.specs.declared.fault.DumpFault.TheVariants as dumps
 use Rattle.graph_dump.specs.Faults.{fault_in as dump_fault_in}
 use Rattle.puddled.proofs.Frontiers.{MovesNone, leads_none, arrives_still}
-use Rattle.puddled.specs.declared.answers.Answered.{Answered}
-use Rattle.puddled.specs.declared.answers.Answered.TheVariants as answers
-use Rattle.puddled.specs.Answered.{answer_of, IsOneLine}
+use Rattle.puddled.specs.declared.answers.LineAnswer.{LineAnswer}
+use Rattle.puddled.specs.declared.answers.LineAnswer.TheVariants as answers
+use Rattle.puddled.specs.LineAnswers.{answer_of, IsOneLine}
 use Rattle.puddled.specs.Faults.{Kind, kind_of, CountsCommand}
 use Rattle.puddled.specs.Faults.Kind.{ordinary}
 use Rattle.puddled.specs.declared.finding.Need.TheVariants as needs
@@ -123,7 +123,7 @@ module _ (size : ℕ) (w : World) (memory : Memory) (c : Command) (plain : kind_
   counted_plain fault cause = subst (λ (k : Kind). CountsCommand k fault first last) (sym plain) cause
 
   -- nothing changed
-  pub CarriesOut-still : (said : Answer) (done : Result Answered HostFault) → StepBy w (Some c) said w → IfOk done (λ answered. answer_of w answered ≡ said) → IfOk done IsOneLine
+  pub CarriesOut-still : (said : Answer) (done : Result LineAnswer HostFault) → StepBy w (Some c) said w → IfOk done (λ answered. answer_of w answered ≡ said) → IfOk done IsOneLine
       → (fault_of done ≡ Some hosts.Cut → ⊥) → Applies size w w memory (fault_of done) old new → new ≡ old → last ≡ after_fault (fault_of done) first
       → CarriesOut size w memory (Some c) done first last old new
   CarriesOut-still said done step replied one never applies same cause = record {
@@ -144,7 +144,7 @@ module _ (size : ℕ) (w : World) (memory : Memory) (c : Command) (plain : kind_
   }
 
   -- a file was replaced, or left in some state as the host failed
-  pub CarriesOut-file : (said : Answer) (under : World) (done : Result Answered HostFault) → StepBy w (Some c) said under → IfOk done (λ answered. answer_of under answered ≡ said) → IfOk done IsOneLine
+  pub CarriesOut-file : (said : Answer) (under : World) (done : Result LineAnswer HostFault) → StepBy w (Some c) said under → IfOk done (λ answered. answer_of under answered ≡ said) → IfOk done IsOneLine
       → (fault_of done ≡ Some hosts.Cut → ⊥) → Applies size w under memory (fault_of done) old new → KeepsFiles (file_of c) old.shelf new.shelf → last ≡ after_fault (fault_of done) first
       → CarriesOut size w memory (Some c) done first last old new
   CarriesOut-file said under done step replied one never applies files cause = record {
@@ -166,7 +166,7 @@ module _ (size : ℕ) (w : World) (memory : Memory) (c : Command) (plain : kind_
 
 -- calls that read came, and nothing else changed
 pub CarriesOut-read : (size : ℕ) (w : World) (memory : Memory) (c : Command) → kind_of (Some c) ≡ ordinary → ((client : ℕ) → Some c ≡ Some (Leave client) → ⊥) → MovesNone c → (first last : Counts) (old new : State)
-    → IsReady size w memory old → (said : Answer) (done : Result Answered HostFault) → StepBy w (Some c) said w → IfOk done (λ answered. answer_of w answered ≡ said) → IfOk done IsOneLine
+    → IsReady size w memory old → (said : Answer) (done : Result LineAnswer HostFault) → StepBy w (Some c) said w → IfOk done (λ answered. answer_of w answered ≡ said) → IfOk done IsOneLine
     → (fault_of done ≡ Some hosts.Cut → ⊥) → new ≡ old → last ≡ after_fault (fault_of done) first → CarriesOut size w memory (Some c) done first last old new
 CarriesOut-read size w memory c plain other moves first last old new ready said done step replied one never same cause =
     CarriesOut-still size w memory c plain other moves first last old new said done step replied one never

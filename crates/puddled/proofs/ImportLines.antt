@@ -42,7 +42,7 @@ use Rattle.ready_daemon.proofs.KnownKept.{KeepsGraphs, KeepsPools}
 use Rattle.ready_daemon.proofs.PlacedPools.{KeepsActive-imported, KeepsGraphs-then, imported_frames, imported_types, type_beside, Applies-wider}
 use Rattle.ready_daemon.proofs.Pooling.{ChangesBeside, absent_apart}
 use Rattle.ready_daemon.proofs.TablesBeside.{HasDurableTables-masked, sound_read}
-use Rattle.puddled.specs.Answered.{as_answered}
+use Rattle.puddled.specs.LineAnswers.{as_line_answer}
 use Rattle.puddled.specs.Daemon.{CarriesOut}
 use Rattle.puddled.specs.Importing.{MayName, IsFrontOf, reply_of_placing}
 use Rattle.puddled.proofs.Carrying.{ClosesLogs-other, CarriesOut-plain}
@@ -144,7 +144,7 @@ module _ (size : ℕ) (w : World) (memory : Memory) (old new : State) (ready : I
   -- what the line owes, where the device has so many frames
   abbrev Owes : ℕ → Type 0
   Owes n = Commits n → Places n → Stays n → (place_fault done ≡ None → pool_in (tables_of n image) name ≡ None → refusal_in done ≡ refusal_by n image contents)
-      → (first last : Counts) → last ≡ after_fault (place_fault done) first → CarriesOut size w memory (Some line) (as_answered (reply_of_placing done)) first last old new
+      → (first last : Counts) → last ≡ after_fault (place_fault done) first → CarriesOut size w memory (Some line) (as_line_answer (reply_of_placing done)) first last old new
 
   owes_there : (place_fault done ≡ Some hosts.Cut → IsRested new.now.words) → KeepsRest old new → Owes F
   owes_there rests rest commits places stays told first last cause =
@@ -161,17 +161,17 @@ module _ (size : ℕ) (w : World) (memory : Memory) (old new : State) (ready : I
 
 -- nothing changed in front of it
 pub CarriesOut-behind : (size : ℕ) (w : World) (memory : Memory) (c : Command) (r : Result Reply HostFault) (first mid last : Counts) (a b d : State) → b ≡ a → mid ≡ first → IsReady size w memory a
-    → (IsReady size w memory b → CarriesOut size w memory (Some c) (as_answered r) mid last b d) → CarriesOut size w memory (Some c) (as_answered r) first last a d
+    → (IsReady size w memory b → CarriesOut size w memory (Some c) (as_line_answer r) mid last b d) → CarriesOut size w memory (Some c) (as_line_answer r) first last a d
 CarriesOut-behind size w memory c r first mid last a b d same counted ready carries =
-    subst (λ (n : Counts). CarriesOut size w memory (Some c) (as_answered r) n last a d) counted
-    (subst (λ (s : State). CarriesOut size w memory (Some c) (as_answered r) mid last s d) same (carries (subst (λ (s : State). IsReady size w memory s) (sym same) ready)))
+    subst (λ (n : Counts). CarriesOut size w memory (Some c) (as_line_answer r) n last a d) counted
+    (subst (λ (s : State). CarriesOut size w memory (Some c) (as_line_answer r) mid last s d) same (carries (subst (λ (s : State). IsReady size w memory s) (sym same) ready)))
 
 -- memory was refused for the file
 pub CarriesOut-memory : (size : ℕ) (w : World) (memory : Memory) (s : State) → IsReady size w memory s → (client uid gid mode : ℕ) (name file bytes : List ℕ) → MayName w client name uid gid → w.shelf (name_text file) ≡ Some bytes
-    → (new : State) → new ≡ s → (first last : Counts) → last ≡ first → CarriesOut size w memory (Some (Import client name file mode)) (as_answered (Ok (replies.No refusals.Memory))) first last s new
+    → (new : State) → new ≡ s → (first last : Counts) → last ≡ first → CarriesOut size w memory (Some (Import client name file mode)) (as_line_answer (Ok (replies.No refusals.Memory))) first last s new
 CarriesOut-memory size w memory s ready client uid gid mode name file bytes may there new same first last cause =
     CarriesOut-read size w memory (Import client name file mode) refl (import_is_plain client name file mode).stays (import_moves_none client name file mode) first last s new ready (of_reply (replies.No refusals.Memory))
-    (as_answered (Ok (replies.No refusals.Memory))) (memory_step w (Import client name file mode) (import_memory w client mode name file uid gid may bytes there)) refl tt (λ cut. cc) same cause
+    (as_line_answer (Ok (replies.No refusals.Memory))) (memory_step w (Import client name file mode) (import_memory w client mode name file uid gid may bytes there)) refl tt (λ cut. cc) same cause
 
 -- ---- the bytes that were given of a file
 
@@ -190,7 +190,7 @@ module _ (size : ℕ) (w : World) (memory : Memory) (old new : State) (ready : I
 
   -- they are no export file
   pub CarriesOut-bad_file : is_some (file_graph bytes) ≡ false → new ≡ old → (first last : Counts) → last ≡ first
-      → CarriesOut size w memory (Some defers) (as_answered (Ok (replies.No refusals.BadFile))) first last old new
+      → CarriesOut size w memory (Some defers) (as_line_answer (Ok (replies.No refusals.BadFile))) first last old new
   CarriesOut-bad_file none same first last cause =
       CarriesOut-refused size w memory first last old new defers (import_is_plain client name file mode) same (subst (λ (s : State). IsReady size w memory s) (sym same) ready) refusals.BadFile
       (import_bad w client mode name file uid gid may given.whole given.there (same_file ∙ none_active (file_graph bytes) none)) cause
@@ -209,7 +209,7 @@ module _ (size : ℕ) (w : World) (memory : Memory) (old new : State) (ready : I
         → ChangesMasked ready.mask size w.stored (with_imported_pool name (owner uid gid) mode c w.stored) (λ _. ⊤) (place_fault done) old new)
         → ((c : FileContents) → Holds c → pool_in (tables_of n read) name ≡ None → (refusal_by n read c ≡ None → ⊥) → new ≡ old)
         → ((c : FileContents) → Holds c → place_fault done ≡ None → pool_in (tables_of n read) name ≡ None → refusal_in done ≡ refusal_by n read c)
-        → (first last : Counts) → last ≡ after_fault (place_fault done) first → CarriesOut size w memory (Some defers) (as_answered (reply_of_placing done)) first last old new
+        → (first last : Counts) → last ≡ after_fault (place_fault done) first → CarriesOut size w memory (Some defers) (as_line_answer (reply_of_placing done)) first last old new
     CarriesOut-view rests rest commits places stays told first last cause =
         let found = found_some (file_graph bytes) is in
         let c = found.0 in

@@ -26,11 +26,11 @@ use Rattle.pud_defs.proofs.Worlds.{frames_of_world, settled-below}
 use Rattle.ready_daemon.specs.Memory.{Memory}
 use Rattle.ready_daemon.specs.Moves.{MovesTo, still}
 use Rattle.ready_daemon.proofs.Goals.{stays_still, still_stays}
-use Rattle.puddled.specs.declared.answers.Answered.{Answered}
+use Rattle.puddled.specs.declared.answers.LineAnswer.{LineAnswer}
 use Rattle.puddled.specs.Daemon.{CarriesOut}
 use Rattle.puddled.specs.Frontiers.{LeadsUnless, Leads, LeadFrontiers, MoveOnTheWay}
 use Rattle.puddled.specs.Faults.{Kind, ordinary, loses, arms, kind_of, behind_loss, CountsCommand}
-use Rattle.puddled.specs.declared.answers.Answered.TheVariants as answers
+use Rattle.puddled.specs.declared.answers.LineAnswer.TheVariants as answers
 use Rattle.pud_defs.specs.declared.machine.Command.TheVariants.{Cut, Arm}
 use Rattle.pud_defs.specs.declared.machine.Refusal.{Refusal}
 use Rattle.pud_defs.specs.declared.machine.Reply.{Reply}
@@ -79,7 +79,7 @@ lost_is_still w command pick is before goal leads = absurd (let no : ordinary �
 
 module _ (size : ℕ) (w : World) (memory : Memory) (command : Option Command) (counted between : Counts) (old mid : State) where
   -- what has become of each record at the end of the command, with the daemon log replayed
-  at_end : (done : Result Answered HostFault) (k : CarriesOut size w memory command done counted between old mid) (now : Tables) → tables_of w.stored.frames (settled_by DAEMON_LOG (reads mid.now.words)) ≡ now
+  at_end : (done : Result LineAnswer HostFault) (k : CarriesOut size w memory command done counted between old mid) (now : Tables) → tables_of w.stored.frames (settled_by DAEMON_LOG (reads mid.now.words)) ≡ now
       → (frame : ℕ) (m : Member) → (tables_of w.stored.frames (reads old.now.words)).puddles frame ≡ Some m → MovesTo k.goal m (now.puddles frame)
   at_end done k now is frame m used =
       subst (λ (t : Tables). MovesTo k.goal m (t.puddles frame)) is
@@ -87,7 +87,7 @@ module _ (size : ℕ) (w : World) (memory : Memory) (command : Option Command) (
       (k.applies.puddles.each frame m used) (reads mid.now.words) (Picks-reads mid.now.words)).1
 
   -- it was carried out
-  pub LeadFrontiers-done : (so : Type 0) (answered : Answered) → CarriesOut size w memory command (Ok answered) counted between old mid → LeadFrontiers w command so (reads old.now.words) (reads mid.now.words)
+  pub LeadFrontiers-done : (so : Type 0) (answered : LineAnswer) → CarriesOut size w memory command (Ok answered) counted between old mid → LeadFrontiers w command so (reads old.now.words) (reads mid.now.words)
   LeadFrontiers-done so answered k = record {
     goal = k.goal;
     leads = known_alone k.leads (λ no. none-some hosts.Failed no);
@@ -98,7 +98,7 @@ module _ (size : ℕ) (w : World) (memory : Memory) (command : Option Command) (
 -- ---- at every moment
 
 -- of the command alone
-module _ (size : ℕ) (w : World) (memory : Memory) (command : Option Command) (done : Result Answered HostFault) (counted between : Counts) (old mid : State) (k : CarriesOut size w memory command done counted between old mid) where
+module _ (size : ℕ) (w : World) (memory : Memory) (command : Option Command) (done : Result LineAnswer HostFault) (counted between : Counts) (old mid : State) (k : CarriesOut size w memory command done counted between old mid) where
   each_moment : (frame : ℕ) (m : Member) → (tables_of w.stored.frames (reads old.now.words)).puddles frame ≡ Some m
       → Leaves (λ bytes image. MovesTo k.goal m ((tables_of w.stored.frames (settled_by DAEMON_LOG image)).puddles frame)) old mid
   each_moment frame m used =

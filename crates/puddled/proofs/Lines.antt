@@ -22,8 +22,8 @@ use Rattle.independence.proofs.Turns.{leaves_others}
 use Rattle.puddled.specs.declared.daemon.RunFault.{RunFault}
 use Rattle.puddled.specs.declared.daemon.RunFault.TheVariants.{NotSound}
 use Rattle.ready_daemon.specs.Memory.{Memory}
-use Rattle.puddled.specs.declared.answers.Answered.{Answered}
-use Rattle.puddled.specs.Answered.{answer_of, said_text}
+use Rattle.puddled.specs.declared.answers.LineAnswer.{LineAnswer}
+use Rattle.puddled.specs.LineAnswers.{answer_of, said_text}
 use Rattle.puddled.specs.Faults.{run_fault, CountsLine}
 use Rattle.ready_daemon.proofs.Beside.{ready_stands}
 use Rattle.ready_daemon.specs.Ready.{KeepsRest, KeepsInput, IsReady, IsClosedIfFree, ClosesFirst, ClosesLogs, RefusesNone}
@@ -59,8 +59,8 @@ said_all text old new says =
 said_last : (text : List ℕ) (old new : State) → Says text None old new → EndsIn text new.now.said
 said_last text old new says = record { front = old.now.said; is = said_all text old new says }
 
-pub answer_last : (frames : ℕ) (image : Image) (answered answer : Answered) (old new : State) → answered ≡ answer → Says (said_text frames image answered) None old new → EndsIn (said_text frames image answer) new.now.said
-answer_last frames image answered answer old new is says = said_last (said_text frames image answer) old new (subst (λ (a : Answered). Says (said_text frames image a) None old new) is says)
+pub answer_last : (frames : ℕ) (image : Image) (answered answer : LineAnswer) (old new : State) → answered ≡ answer → Says (said_text frames image answered) None old new → EndsIn (said_text frames image answer) new.now.said
+answer_last frames image answered answer old new is says = said_last (said_text frames image answer) old new (subst (λ (a : LineAnswer). Says (said_text frames image a) None old new) is says)
 
 pub nothing_last : (s : State) → EndsIn [] s.now.said
 nothing_last s = record { front = s.now.said; is = sym (append-nil s.now.said) }
@@ -116,7 +116,7 @@ Answers-fault size w memory line aloud fault before after old new s =
     }
 
 -- the reply is not said aloud
-pub Answers-unsaid : (size : ℕ) (w : World) (memory : Memory) (line : List ℕ) (answered : Answered) (ok : Bool) (before after : Counts) (old new : State)
+pub Answers-unsaid : (size : ℕ) (w : World) (memory : Memory) (line : List ℕ) (answered : LineAnswer) (ok : Bool) (before after : Counts) (old new : State)
     → CarriesOutLine size w line (Ok answered) memory before after old new → ((v : World) → ok ≡ begins_with_ok (answer_of v answered)) → Answers size w line false (Ok ok) memory before after old new
 Answers-unsaid size w memory line answered ok before after old new s is =
     record {
@@ -156,7 +156,7 @@ front_of_answer answer front prefix =
     omega arith
 
 -- the line was settled, and its reply is said
-module _ (size : ℕ) (w : World) (memory : Memory) (line : List ℕ) (answered : Answered) (before between after : Counts) (old mid new : State) (s : CarriesOutLine size w line (Ok answered) memory before between old mid) where
+module _ (size : ℕ) (w : World) (memory : Memory) (line : List ℕ) (answered : LineAnswer) (before between after : Counts) (old mid new : State) (s : CarriesOutLine size w line (Ok answered) memory before between old mid) where
   said_moments : (fault : Option HostFault) → Says (answer_text s.turn.answer) fault mid new → Leaves (StandsWith size w (s.turn ∷ [])) old new
   said_moments fault says =
       let t = s.turn in
@@ -244,7 +244,7 @@ SaysPart-behind text fault old mid new quiet says =
     let p = SaysPart-says text fault mid new says in
     record { bytes = p.bytes; rest = p.rest; part = p.part; said = p.said ∙ ap (λ (l : List ℕ). l ++ p.bytes) quiet; whole = p.whole }
 
-pub SaysAnswer-aloud : (frames now : ℕ) (result : Result Bool RunFault) (fault : Option HostFault) (answered : Answered) (old mid new : State) → IfOk result (λ ok. (w : World) → ok ≡ begins_with_ok (answer_of w answered))
+pub SaysAnswer-aloud : (frames now : ℕ) (result : Result Bool RunFault) (fault : Option HostFault) (answered : LineAnswer) (old mid new : State) → IfOk result (λ ok. (w : World) → ok ≡ begins_with_ok (answer_of w answered))
     → mid.now.said ≡ old.now.said → frames ≡ now → (run_fault result ≡ None → fault ≡ None) → Says (said_text frames (reads mid.now.words) answered) fault mid new → SaysAnswer now true result old new
 SaysAnswer-aloud frames now result fault answered old mid new is quiet same none says =
     let text : said_text frames (reads mid.now.words) answered ≡ said_text now (reads new.now.words) answered =
@@ -252,7 +252,7 @@ SaysAnswer-aloud frames now result fault answered old mid new is quiet same none
     let p = subst (λ (l : List ℕ). SaysPart l fault old new) text (SaysPart-behind _ fault old mid new quiet says) in
     record { answered = answered; ok = is; text = said_text now (reads new.now.words) answered; is = refl; says = record { bytes = p.bytes; rest = p.rest; part = p.part; said = p.said; whole = λ n. p.whole (none n) } }
 
-pub SaysAnswer-unsaid : (now : ℕ) (ok : Bool) (answered : Answered) (old new : State) → ((w : World) → ok ≡ begins_with_ok (answer_of w answered)) → new.now.said ≡ old.now.said → SaysAnswer now false (Ok ok) old new
+pub SaysAnswer-unsaid : (now : ℕ) (ok : Bool) (answered : LineAnswer) (old new : State) → ((w : World) → ok ≡ begins_with_ok (answer_of w answered)) → new.now.said ≡ old.now.said → SaysAnswer now false (Ok ok) old new
 SaysAnswer-unsaid now ok answered old new is quiet = record { answered = answered; ok = is; text = said_text now (reads new.now.words) answered; is = refl; says = record { bytes = []; rest = []; part = refl; said = quiet ∙ sym (append-nil old.now.said); whole = λ none. refl } }
 
 -- what is said of a line is the text of an answer
@@ -260,7 +260,7 @@ pub is_answer_text : (frames : ℕ) (aloud : Bool) (result : Result Bool RunFaul
 is_answer_text frames aloud result old new s = record { frames = frames; image = reads new.now.words; answered = s.answered; is = s.is }
 
 -- nothing was said before the fault
-pub SaysAnswer-failed : (now : ℕ) (aloud : Bool) (fault : RunFault) (answered : Answered) (old new : State) → new.now.said ≡ old.now.said → SaysAnswer now aloud (Err fault) old new
+pub SaysAnswer-failed : (now : ℕ) (aloud : Bool) (fault : RunFault) (answered : LineAnswer) (old new : State) → new.now.said ≡ old.now.said → SaysAnswer now aloud (Err fault) old new
 SaysAnswer-failed now aloud fault answered old new quiet = record {
   answered = answered;
   ok = tt;

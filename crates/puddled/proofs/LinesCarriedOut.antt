@@ -28,8 +28,8 @@ use Rattle.puddled.specs.declared.daemon.RunFault.TheVariants as faults
 use Rattle.puddled.specs.Faults.{start_fault, of_host, of_start, Kind, kind_of, CountsKind, CountsCommand, CountsLine, behind_loss}
 use Rattle.puddled.specs.Faults.Kind.{ordinary, loses, arms}
 use Rattle.ready_daemon.specs.Memory.{Memory}
-use Rattle.puddled.specs.declared.answers.Answered.{Answered}
-use Rattle.puddled.specs.declared.answers.Answered.TheVariants as answers
+use Rattle.puddled.specs.declared.answers.LineAnswer.{LineAnswer}
+use Rattle.puddled.specs.declared.answers.LineAnswer.TheVariants as answers
 use Rattle.ready_daemon.specs.Ready.{IsReady, AppliesBy, IsClosedIfFree, IsClosedIfNamed, ClosesFirst, ClosesBefore, ClosesLogs, RefusesNone, StandsBetween}
 use Rattle.puddled.specs.Starting.{Recovers}
 use Rattle.puddled.specs.Daemon.{CarriesOut, CarriesOutLine}
@@ -65,7 +65,7 @@ unsound_start (starts.Host fault) is = absurd (host_is_sound fault (ap Some is))
 
 module _ (size : ℕ) (w : World) (memory : Memory) (line : List ℕ) (before between : Counts) (old mid : State) where
   -- the line was done: the reply is the machine's
-  pub Settles-done : (answered : Answered) → CarriesOut size w memory (command_of line) (Ok answered) before between old mid → CarriesOutLine size w line (Ok answered) memory before between old mid
+  pub Settles-done : (answered : LineAnswer) → CarriesOut size w memory (command_of line) (Ok answered) before between old mid → CarriesOutLine size w line (Ok answered) memory before between old mid
   Settles-done answered k =
       record {
         turn = turn_of line k.said k.under;

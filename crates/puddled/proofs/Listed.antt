@@ -14,13 +14,13 @@ use Rattle.pud_defs.specs.Texts.{line_of, answer_text}
 use Rattle.pool_list.specs.Listed.{listed_text}
 use Rattle.pool_list.proofs.ListedPools.{line_of-listed_text}
 use Rattle.ready_daemon.specs.Memory.{Memory}
-use Rattle.puddled.specs.declared.answers.Answered.{Answered}
-use Rattle.puddled.specs.declared.answers.Answered.TheVariants as answers
-use Rattle.puddled.specs.Answered.{answer_of, IsOneLine, said_text}
+use Rattle.puddled.specs.declared.answers.LineAnswer.{LineAnswer}
+use Rattle.puddled.specs.declared.answers.LineAnswer.TheVariants as answers
+use Rattle.puddled.specs.LineAnswers.{answer_of, IsOneLine, said_text}
 use Rattle.ready_daemon.specs.Ready.{IsReady}
 use Rattle.ready_daemon.proofs.TablesBeside.{tables_read, world_under, header_read}
 
-pub said_when_ready : (size : ℕ) (w : World) (memory : Memory) (s : State) (answered : Answered) → IsOneLine answered → IsReady size w memory s → said_text memory.frames (reads s.now.words) answered ≡ answer_text (answer_of w answered)
+pub said_when_ready : (size : ℕ) (w : World) (memory : Memory) (s : State) (answered : LineAnswer) → IsOneLine answered → IsReady size w memory s → said_text memory.frames (reads s.now.words) answered ≡ answer_text (answer_of w answered)
 said_when_ready size w memory s (answers.Reply reply) one ready = refl
 said_when_ready size w memory s (answers.Text text) one ready = ap (λ (t : List ℕ). line_of (codes "ok " ++ t)) (sym one)
 said_when_ready size w memory s answers.Pools one ready =
@@ -33,5 +33,5 @@ said_when_ready size w memory s answers.Pools one ready =
     ∙ line_of-listed_text (holding_in w.stored.types w.stored.frames under) w.stored.next_number (tables_of w.stored.frames under) w.stored (image MACHINE_WORD) world.sound world.pools machine
 
 -- what is said on so many frames
-pub said_by : (frames now : ℕ) (image : Image) (answered : Answered) (fault : Option HostFault) (old new : State) → frames ≡ now → Says (said_text frames image answered) fault old new → Says (said_text now image answered) fault old new
+pub said_by : (frames now : ℕ) (image : Image) (answered : LineAnswer) (fault : Option HostFault) (old new : State) → frames ≡ now → Says (said_text frames image answered) fault old new → Says (said_text now image answered) fault old new
 said_by frames now image answered fault old new same says = subst (λ (n : ℕ). Says (said_text n image answered) fault old new) same says

@@ -32,8 +32,8 @@ use Rattle.ready_daemon.proofs.Applying.{AppliesBy-weaker}
 use Rattle.ready_daemon.proofs.Goals.{led_further}
 use Rattle.pud_defs.specs.declared.machine.Reply.{Reply}
 use Rattle.pud_defs.specs.Image.{Image}
-use Rattle.puddled.specs.declared.answers.Answered.{Answered}
-use Rattle.puddled.specs.Answered.{as_answered}
+use Rattle.puddled.specs.declared.answers.LineAnswer.{LineAnswer}
+use Rattle.puddled.specs.LineAnswers.{as_line_answer}
 use Rattle.puddled.specs.Rewriting.{DoesSteps}
 use Rattle.ready_daemon.proofs.Beneath.{ready_gate}
 use Rattle.pool_transaction.proofs.ActiveFinishes.{low_of_placed}
@@ -127,7 +127,7 @@ module _ (size : ℕ) (w : World) (F : ℕ) (active : List (Option ActiveTransac
   }
 
 -- the steps are those behind the answer
-pub steps_answered : (F : ℕ) (name : List ℕ) (n : ℕ) (old new : Image) (done : Result Reply HostFault) (result : Result Answered HostFault) → result ≡ as_answered done
+pub steps_answered : (F : ℕ) (name : List ℕ) (n : ℕ) (old new : Image) (done : Result Reply HostFault) (result : Result LineAnswer HostFault) → result ≡ as_line_answer done
     → IfOk done (λ _. DoesSteps F name n old new) → IfOk result (λ _. DoesSteps F name n old new)
-steps_answered F name n old new (Ok reply) result is does = subst (λ (r : Result Answered HostFault). IfOk r (λ _. DoesSteps F name n old new)) (sym is) does
-steps_answered F name n old new (Err fault) result is does = subst (λ (r : Result Answered HostFault). IfOk r (λ _. DoesSteps F name n old new)) (sym is) tt
+steps_answered F name n old new (Ok reply) result is does = subst (λ (r : Result LineAnswer HostFault). IfOk r (λ _. DoesSteps F name n old new)) (sym is) does
+steps_answered F name n old new (Err fault) result is does = subst (λ (r : Result LineAnswer HostFault). IfOk r (λ _. DoesSteps F name n old new)) (sym is) tt

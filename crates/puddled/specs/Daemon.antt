@@ -21,8 +21,8 @@ use Rattle.ready_daemon.specs.Memory.{Memory}
 use Rattle.pool_transaction.specs.Finishing.{Arrives, UnlessFailed}
 use Rattle.ready_daemon.specs.Moves.{MovesTo, still}
 use Rattle.ready_daemon.specs.Ready.{IsReady, RefusesNone, AppliesBy, ClosesFirst, ClosesBefore, ClosesLogs}
-use Rattle.puddled.specs.declared.answers.Answered.{Answered}
-use Rattle.puddled.specs.Answered.{answer_of, IsOneLine, said_text}
+use Rattle.puddled.specs.declared.answers.LineAnswer.{LineAnswer}
+use Rattle.puddled.specs.LineAnswers.{answer_of, IsOneLine, said_text}
 use Rattle.puddled.specs.declared.daemon.RunFault.{RunFault}
 use Rattle.puddled.specs.declared.daemon.RunFault.TheVariants as faults
 use Rattle.puddled.specs.Faults.{run_fault, kind_of, CountsLine, CountsCommand}
@@ -44,7 +44,7 @@ pub record KeepsAllBut (file : Option (List ℕ)) (old new : State) : Type 0 whe
 -- each frontier is on its way to where the line leads it, and without a fault there; only a file that it
 -- names was written, and it names none where power was lost, in which case the world is one that it gives where memory is not refused; a client that
 -- goes has its logs closed first; it was counted by its kind.
-pub record CarriesOut (size : ℕ) (w : World) (memory : Memory) (command : Option Command) (done : Result Answered HostFault) (before after : Counts) (old new : State) : Type 0 where
+pub record CarriesOut (size : ℕ) (w : World) (memory : Memory) (command : Option Command) (done : Result LineAnswer HostFault) (before after : Counts) (old new : State) : Type 0 where
   pub said : Answer
   pub under : World
   pub step : StepBy w command said under
@@ -63,7 +63,7 @@ pub record CarriesOut (size : ℕ) (w : World) (memory : Memory) (command : Opti
 -- A line was carried out, or refused, or cut off and the daemon started again, all without a word: at every moment the images stand for the
 -- world before it or the one that it gives, and without a fault the daemon is ready, with this memory, in the world from which the run goes on.
 -- A client that goes has its logs closed first. In no image a registered log is refused.
-pub record CarriesOutLine (size : ℕ) (w : World) (line : List ℕ) (result : Result Answered RunFault) (memory : Memory) (before after : Counts) (old new : State) : Type 0 where
+pub record CarriesOutLine (size : ℕ) (w : World) (line : List ℕ) (result : Result LineAnswer RunFault) (memory : Memory) (before after : Counts) (old new : State) : Type 0 where
   pub turn : Turn
   pub of_line : turn.line ≡ line
   pub is_turn : IsTurn w turn
@@ -86,13 +86,13 @@ spoken aloud answer = cond aloud (answer_text answer) []
 pub record IsAnswerText (text : List ℕ) : Type 0 where
   pub frames : ℕ
   pub image : Image
-  pub answered : Answered
+  pub answered : LineAnswer
   pub is : text ≡ said_text frames image answered
 
 -- Where it is to be said aloud one answer was said, and nothing else: its text, by what the device of so many frames then reads; with a fault the
 -- front of it. The result is whether it begins with `ok`.
 pub record SaysAnswer (frames : ℕ) (aloud : Bool) (result : Result Bool RunFault) (old new : State) : Type 0 where
-  pub answered : Answered
+  pub answered : LineAnswer
   pub ok : IfOk result (λ ok. (w : World) → ok ≡ begins_with_ok (answer_of w answered))
   pub text : List ℕ
   pub is : text ≡ said_text frames (reads new.now.words) answered

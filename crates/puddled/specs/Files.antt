@@ -20,11 +20,11 @@ use Rattle.pud_defs.specs.Tables.{Pool}
 use Rattle.pud_defs.specs.PoolChanges.{pool_named}
 use Rattle.pud_defs.specs.World.{World}
 use Rattle.pud_defs.specs.Gives.{contents_for}
-use Rattle.puddled.specs.declared.answers.Answered.{Answered}
-use Rattle.puddled.specs.declared.answers.Answered.TheVariants as answers
+use Rattle.puddled.specs.declared.answers.LineAnswer.{LineAnswer}
+use Rattle.puddled.specs.declared.answers.LineAnswer.TheVariants as answers
 
 -- what is answered where a file was to be written
-abbrev pub file_answer : {T : Type 0} → Result T FileFault → Result Answered HostFault
+abbrev pub file_answer : {T : Type 0} → Result T FileFault → Result LineAnswer HostFault
 file_answer (Ok done) = Ok (answers.Reply replies.Ok)
 file_answer (Err file_faults.Memory) = Ok (answers.Reply (replies.No refusals.Memory))
 file_answer (Err (file_faults.Host fault)) = Err fault

@@ -1,4 +1,4 @@
-pub mod Answered
+pub mod LineAnswers
 pub mod Faults
 pub mod Saying
 pub mod Starting

@@ -7,7 +7,7 @@ ghost use Rattle.pud_defs.specs.declared.layout.TheConstants.{MAX_FRAMES};
 ghost use Rattle.pud_defs.specs.Layout.{tables_end};
 ghost use Rattle.pud_defs.specs.World.{World};
 ghost use Rattle.pud_defs.specs.Texts.{line_of, reply_text, begins_with_ok};
-ghost use Rattle.puddled.specs.Answered.{as_answered, answer_of, said_text};
+ghost use Rattle.puddled.specs.LineAnswers.{as_line_answer, answer_of, said_text};
 
 use pm_model::{Host, HostFault};
 use pool_list::say_pools;
@@ -48,7 +48,7 @@ impl Text {
 
 /// What is answered to a line that was settled.
 #[derive(Drop)]
-pub(crate) enum Answered {
+pub(crate) enum LineAnswer {
     /// This reply.
     Reply(Reply),
     /// `ok`, and behind a space this text.
@@ -57,24 +57,24 @@ pub(crate) enum Answered {
     Pools,
 }
 
-impl Answered {
+impl LineAnswer {
     /// Whether the line was carried out: the text of the answer begins with `ok`.
     pub(crate) fn is_ok(&self) -> bool
         ensures { (w : World) → result ≡ begins_with_ok (answer_of w self.now) }
     {
         match self {
-            Answered::Reply(reply) => reply.is_ok(),
-            Answered::Text(_) | Answered::Pools => true,
+            LineAnswer::Reply(reply) => reply.is_ok(),
+            LineAnswer::Text(_) | LineAnswer::Pools => true,
         }
     }
 }
 
 /// What is answered to a command that has a reply.
-pub(crate) fn with_reply(done: Result<Reply, HostFault>) -> Result<Answered, HostFault>
-    ensures { result ≡ as_answered done }
+pub(crate) fn with_reply(done: Result<Reply, HostFault>) -> Result<LineAnswer, HostFault>
+    ensures { result ≡ as_line_answer done }
 {
     match done {
-        Ok(reply) => Ok(Answered::Reply(reply)),
+        Ok(reply) => Ok(LineAnswer::Reply(reply)),
         Err(fault) => Err(fault),
     }
 }
@@ -105,7 +105,7 @@ fn say_text<H: Host>(h: &mut H, text: &Text) -> Result<(), HostFault>
 pub(crate) fn say_answer<H: Host>(
     h: &mut H,
     frames: u32,
-    answered: &Answered,
+    answered: &LineAnswer,
 ) -> Result<(), HostFault>
     requires few { frames ≤ MAX_FRAMES }
     requires table { tables_end frames ≤ (H.counts h.old).size }
@@ -115,8 +115,8 @@ pub(crate) fn say_answer<H: Host>(
     ensures never_cut { fault_of result ≢ Option.Some HostFault.Cut }
 {
     match answered {
-        Answered::Reply(reply) => say_reply(h, *reply),
-        Answered::Text(text) => say_text(h, text),
-        Answered::Pools => say_pools(h, frames),
+        LineAnswer::Reply(reply) => say_reply(h, *reply),
+        LineAnswer::Text(text) => say_text(h, text),
+        LineAnswer::Pools => say_pools(h, frames),
     }
 }

@@ -12,7 +12,7 @@ ghost use Rattle.pud_defs.specs.Step.{answer_by, world_by};
 ghost use Rattle.pud_defs.specs.Step.Answer.{of_reply};
 ghost use Rattle.pud_defs.specs.World.{Transaction, World, open_on};
 ghost use Rattle.nesting.specs.declared.Session.{Session};
-ghost use Rattle.puddled.specs.Answered.{as_answered};
+ghost use Rattle.puddled.specs.LineAnswers.{as_line_answer};
 ghost use Rattle.pool_transaction.specs.Changing.{line_of, IsLegalChange};
 ghost use Rattle.ready_daemon.specs.ActiveTransactions.{AreActiveWithin};
 ghost use Rattle.ready_daemon.specs.OwnOnPool.{IsOwnTransactionOn};
@@ -87,7 +87,7 @@ impl Daemon {
         requires known { client < CLIENTS }
         requires room { device_words (self.old).frames ≤ (H.counts h.old).size }
         ensures carries { H.tells → (size : ℕ) → size ≡ (H.counts h.old).size → (w : World) → IsReady size w self.old (H.state h.old)
-            → CarriesOut size w self.new (Option.Some (commands.Begin client name)) (as_answered result) (H.counts h.old) (H.counts h.new) (H.state h.old) (H.state h.new) }
+            → CarriesOut size w self.new (Option.Some (commands.Begin client name)) (as_line_answer result) (H.counts h.old) (H.counts h.new) (H.state h.old) (H.state h.new) }
         // Where a transaction is open on the pool, nothing of the device changes: the client's own is begun once more, or the line is refused.
         ensures nested { H.tells → (size : ℕ) → (w : World) → IsReady size w self.old (H.state h.old) → (t : Transaction) → open_on name w ≡ Option.Some t → H.state h.new ≡ H.state h.old }
         ensures frames { (self.new).frames ≡ (self.old).frames }
@@ -121,7 +121,7 @@ impl Daemon {
         requires known { client < CLIENTS }
         requires room { device_words (self.old).frames ≤ (H.counts h.old).size }
         ensures carries { H.tells → (size : ℕ) → size ≡ (H.counts h.old).size → (w : World) → IsReady size w self.old (H.state h.old)
-            → CarriesOut size w self.new (Option.Some (commands.Commit client name)) (as_answered result) (H.counts h.old) (H.counts h.new) (H.state h.old) (H.state h.new) }
+            → CarriesOut size w self.new (Option.Some (commands.Commit client name)) (as_line_answer result) (H.counts h.old) (H.counts h.new) (H.state h.old) (H.state h.new) }
         // Where it was begun more often than once, nothing of the device changes.
         ensures nested { H.tells → (size : ℕ) → (w : World) → IsReady size w self.old (H.state h.old) → (t : Transaction) → open_on name w ≡ Option.Some t → 1 < t.depth
             → H.state h.new ≡ H.state h.old }
@@ -153,7 +153,7 @@ impl Daemon {
         requires known { client < CLIENTS }
         requires room { device_words (self.old).frames ≤ (H.counts h.old).size }
         ensures carries { H.tells → (size : ℕ) → size ≡ (H.counts h.old).size → (w : World) → IsReady size w self.old (H.state h.old)
-            → CarriesOut size w self.new (Option.Some (commands.Abort client name)) (as_answered result) (H.counts h.old) (H.counts h.new) (H.state h.old) (H.state h.new) }
+            → CarriesOut size w self.new (Option.Some (commands.Abort client name)) (as_line_answer result) (H.counts h.old) (H.counts h.new) (H.state h.old) (H.state h.new) }
         ensures frames { (self.new).frames ≡ (self.old).frames }
         ensures rest { H.tells → KeepsRest (H.state h.old) (H.state h.new) }
         ensures rests { H.tells → fault_of result ≡ Option.Some HostFault.Cut → IsRested (H.state h.new).now.words }
@@ -192,7 +192,7 @@ impl Daemon {
         requires legal { IsLegalChange change }
         requires room { device_words (self.old).frames ≤ (H.counts h.old).size }
         ensures carries { H.tells → (size : ℕ) → size ≡ (H.counts h.old).size → (w : World) → IsReady size w self.old (H.state h.old)
-            → CarriesOut size w self.new (Option.Some (line_of change client name)) (as_answered result) (H.counts h.old) (H.counts h.new) (H.state h.old) (H.state h.new) }
+            → CarriesOut size w self.new (Option.Some (line_of change client name)) (as_line_answer result) (H.counts h.old) (H.counts h.new) (H.state h.old) (H.state h.new) }
         ensures frames { (self.new).frames ≡ (self.old).frames }
         ensures rest { H.tells → KeepsRest (H.state h.old) (H.state h.new) }
         ensures rests { H.tells → fault_of result ≡ Option.Some HostFault.Cut → IsRested (H.state h.new).now.words }

@@ -19,7 +19,7 @@ ghost use Rattle.puddled.specs.Rewriting.{DoesSteps};
 ghost use Rattle.puddled.specs.Starting.{IsReplayed, Recovers};
 ghost use Rattle.puddled.specs.Daemon.{KeepsAllBut, KeepsLine, CarriesOut, CarriesOutLine};
 
-use crate::answers::{Answered, say_answer, with_reply};
+use crate::answers::{LineAnswer, say_answer, with_reply};
 use crate::clients::register_client;
 use crate::importing::import;
 use crate::known_pools::KnownPools;
@@ -187,7 +187,7 @@ fn apply<H: Host>(
     alloc: Global,
     h: &mut H,
     command: Command,
-) -> Result<Answered, HostFault>
+) -> Result<LineAnswer, HostFault>
     requires legal { IsLegalCommand command }
     requires room { device_words daemon.old.frames ≤ (H.counts h.old).size }
     ensures carries { H.tells → (size : ℕ) → size ≡ (H.counts h.old).size → (w : World) → IsReady size w daemon.old (H.state h.old)
@@ -262,7 +262,7 @@ fn apply<H: Host>(
             mode,
         } => with_reply(import(alloc, h, daemon.frames, u32::from(client), name, file, mode)),
         Command::Rewrite { name, n } => with_reply(daemon.rewrite_for(h, name, n)),
-        Command::Pools => Ok(Answered::Pools),
+        Command::Pools => Ok(LineAnswer::Pools),
         Command::Cut { pick } => with_reply(lose_power(h, pick)),
         Command::Arm { step, pick } => with_reply(arm(h, step, pick)),
     }
@@ -283,8 +283,8 @@ fn restart_if_cut<H: Host>(
     daemon: &mut Daemon,
     h: &mut H,
     command: Command,
-    done: Result<Answered, HostFault>,
-) -> Result<Answered, RunFault>
+    done: Result<LineAnswer, HostFault>,
+) -> Result<LineAnswer, RunFault>
     requires { device_words daemon.old.frames ≤ (H.counts h.old).size }
     // The command began in the state `before`, with these counts.
     ensures settles { H.tells → (size : ℕ) → size ≡ (H.counts h.old).size → (w : World) → (line : List ℕ) → (counted : Counts) → (before : State)
@@ -295,7 +295,7 @@ fn restart_if_cut<H: Host>(
     ensures frontiers { H.tells → (size : ℕ) → size ≡ (H.counts h.old).size → (w : World) → (line : List ℕ) → (counted : Counts) → (before : State)
         → command_of line ≡ Option.Some command → before.shelf ≡ w.shelf
         → CarriesOut size w daemon.old (command_of line) done counted (H.counts h.old) before (H.state h.old)
-        → IfOk result (λ answered. LeadFrontiers w (command_of line) (answered ≡ Answered.Reply Reply.Cut → ⊥) (reads before.now.words) (reads (H.state h.new).now.words)) }
+        → IfOk result (λ answered. LeadFrontiers w (command_of line) (answered ≡ LineAnswer.Reply Reply.Cut → ⊥) (reads before.now.words) (reads (H.state h.new).now.words)) }
     // At every moment it is, also where no answer comes.
     ensures moves { H.tells → (size : ℕ) → size ≡ (H.counts h.old).size → (w : World) → (line : List ℕ) → (counted : Counts) → (before : State)
         → command_of line ≡ Option.Some command → before.shelf ≡ w.shelf
@@ -303,7 +303,7 @@ fn restart_if_cut<H: Host>(
         → MoveOnTheWay w (command_of line) (result ≡ Result.Err RunFault.Failed) before (H.state h.new) }
     // A line that rewrites has done its steps, where it was not cut.
     ensures steps { H.tells → (F : ℕ) (name : List ℕ) (n : ℕ) (before : State) → IfOk done (λ _. DoesSteps F name n (reads before.now.words) (reads (H.state h.old).now.words))
-        → command ≡ commands.Rewrite name n → IfOk result (λ answered. (answered ≡ Answered.Reply Reply.Cut → ⊥) → DoesSteps F name n (reads before.now.words) (reads (H.state h.new).now.words)) }
+        → command ≡ commands.Rewrite name n → IfOk result (λ answered. (answered ≡ LineAnswer.Reply Reply.Cut → ⊥) → DoesSteps F name n (reads before.now.words) (reads (H.state h.new).now.words)) }
     // Whatever the device holds: where power was lost, it then reads as a sound one.
     ensures restarted { H.tells → (fault_of done ≡ Option.Some HostFault.Cut → IsRested (H.state h.old).now.words) → (counted : Counts)
         → CountsCommand (kind_of (Option.Some command)) (fault_of done) counted (H.counts h.old) → IsOk result → HasLostPower (Option.Some command) counted (H.counts h.new)
@@ -313,7 +313,7 @@ fn restart_if_cut<H: Host>(
     ensures rest { H.tells → KeepsRest (H.state h.old) (H.state h.new) }
     ensures room { device_words daemon.new.frames ≤ (H.counts h.old).size }
     ensures cause { (counted : Counts) → CountsCommand (kind_of (Option.Some command)) (fault_of done) counted (H.counts h.old)
-        → CountsReply (Option.Some command) result (Answered.Reply Reply.Cut) counted (H.counts h.new) }
+        → CountsReply (Option.Some command) result (LineAnswer.Reply Reply.Cut) counted (H.counts h.new) }
 {
     match done {
         Ok(answered) => Ok(answered),
@@ -322,7 +322,7 @@ fn restart_if_cut<H: Host>(
             let started = restart(h)?;
             let lost = mem::replace(daemon, started);
             lost.stop();
-            Ok(Answered::Reply(reply_behind_loss(command)))
+            Ok(LineAnswer::Reply(reply_behind_loss(command)))
         }
     }
 }
@@ -333,17 +333,17 @@ fn carry_out_line<H: Host>(
     alloc: Global,
     h: &mut H,
     line: &[u8],
-) -> Result<Answered, RunFault>
+) -> Result<LineAnswer, RunFault>
     requires { device_words daemon.old.frames ≤ (H.counts h.old).size }
     ensures settles { H.tells → (size : ℕ) → size ≡ (H.counts h.old).size → (w : World) → IsReady size w daemon.old (H.state h.old)
         → CarriesOutLine size w line.now result daemon.new (H.counts h.old) (H.counts h.new) (H.state h.old) (H.state h.new) }
     ensures frontiers { H.tells → (size : ℕ) → size ≡ (H.counts h.old).size → (w : World) → IsReady size w daemon.old (H.state h.old)
-        → IfOk result (λ answered. LeadFrontiers w (command_of line.now) (answered ≡ Answered.Reply Reply.Cut → ⊥) (reads (H.state h.old).now.words) (reads (H.state h.new).now.words)) }
+        → IfOk result (λ answered. LeadFrontiers w (command_of line.now) (answered ≡ LineAnswer.Reply Reply.Cut → ⊥) (reads (H.state h.old).now.words) (reads (H.state h.new).now.words)) }
     ensures moves { H.tells → (size : ℕ) → size ≡ (H.counts h.old).size → (w : World) → IsReady size w daemon.old (H.state h.old)
         → MoveOnTheWay w (command_of line.now) (result ≡ Result.Err RunFault.Failed) (H.state h.old) (H.state h.new) }
     ensures steps { H.tells → (size : ℕ) → size ≡ (H.counts h.old).size → (w : World) → IsReady size w daemon.old (H.state h.old) → (name : List ℕ) (n : ℕ)
         → command_of line.now ≡ Option.Some (commands.Rewrite name n) → refusal_of w (commands.Rewrite name n) ≡ Option.None
-        → IfOk result (λ answered. (answered ≡ Answered.Reply Reply.Cut → ⊥) → DoesSteps w.stored.frames name n (reads (H.state h.old).now.words) (reads (H.state h.new).now.words)) }
+        → IfOk result (λ answered. (answered ≡ LineAnswer.Reply Reply.Cut → ⊥) → DoesSteps w.stored.frames name n (reads (H.state h.old).now.words) (reads (H.state h.new).now.words)) }
     // Whatever the device holds: where power was lost, as counted or at once, it reads as a sound one behind the restart.
     ensures restarted { H.tells → IsOk result → HasLostPower (command_of line.now) (H.counts h.old) (H.counts h.new)
         → world_of (H.counts h.old).size (reads (H.state h.new).now.words) ≢ Option.None }
@@ -351,10 +351,10 @@ fn carry_out_line<H: Host>(
         → world_of (H.counts h.old).size (reads (H.state h.new).now.words) ≡ Option.None }
     ensures room { device_words daemon.new.frames ≤ (H.counts h.old).size }
     ensures rest { H.tells → KeepsAllBut (file_in (command_of line.now)) (H.state h.old) (H.state h.new) }
-    ensures cause { CountsReply (command_of line.now) result (Answered.Reply Reply.Cut) (H.counts h.old) (H.counts h.new) }
+    ensures cause { CountsReply (command_of line.now) result (LineAnswer.Reply Reply.Cut) (H.counts h.old) (H.counts h.new) }
 {
     let Ok(command) = parse_line(line) else {
-        return Ok(Answered::Reply(Reply::No(Refusal::Bad)));
+        return Ok(LineAnswer::Reply(Reply::No(Refusal::Bad)));
     };
     let done = apply(daemon, alloc, h, command);
     restart_if_cut(daemon, h, command, done)

@@ -9,7 +9,7 @@ ghost use Rattle.pud_defs.specs.World.{World};
 ghost use Rattle.ready_daemon.specs.Ready.{IsReady};
 ghost use Rattle.puddled.specs.Daemon.{CarriesOut};
 
-use crate::answers::{Answered, Text};
+use crate::answers::{LineAnswer, Text};
 use crate::daemon::Daemon;
 use crate::finding::Need;
 use graph_dump::{DumpFault, dump_json};
@@ -32,7 +32,7 @@ impl Daemon {
         h: &mut H,
         client: u8,
         name: Name,
-    ) -> Result<Answered, HostFault>
+    ) -> Result<LineAnswer, HostFault>
         requires known { client < CLIENTS }
         requires room { device_words (self.old).frames ≤ (H.counts h.old).size }
         ensures carries { H.tells → (size : ℕ) → size ≡ (H.counts h.old).size → (w : World) → IsReady size w self.old (H.state h.old)
@@ -41,12 +41,12 @@ impl Daemon {
         ensures only_reads { OnlyReads H.tells H.state H.counts (fault_of result) h.old h.new }
     {
         let found = match self.find_pool(h, client, name, Need::Read)? {
-            Err(refusal) => return Ok(Answered::Reply(Reply::No(refusal))),
+            Err(refusal) => return Ok(LineAnswer::Reply(Reply::No(refusal))),
             Ok(found) => found,
         };
         match dump_json(alloc, h, self.frames, self.puddles_of(found.slot)) {
-            Ok(bytes) => Ok(Answered::Text(Text::new(bytes))),
-            Err(DumpFault::Memory) => Ok(Answered::Reply(Reply::No(Refusal::Memory))),
+            Ok(bytes) => Ok(LineAnswer::Text(Text::new(bytes))),
+            Err(DumpFault::Memory) => Ok(LineAnswer::Reply(Reply::No(Refusal::Memory))),
             Err(DumpFault::Host(fault)) => Err(fault),
         }
     }

@@ -21,7 +21,7 @@ ghost use Rattle.ready_daemon.specs.Ready.{IsReady};
 ghost use Rattle.puddled.specs.Daemon.{KeepsAllBut, CarriesOut};
 ghost use Rattle.puddled.specs.Files.{file_answer, HoldsPool, HoldsOneOf};
 
-use crate::answers::Answered;
+use crate::answers::LineAnswer;
 use crate::daemon::Daemon;
 use crate::finding::Need;
 use pm_model::{FileFault, Host, HostFault};
@@ -80,12 +80,12 @@ fn write_file<H: Host>(
 }
 
 /// What is answered where a file was to be written.
-fn answer_written(done: Result<(), FileFault>) -> Result<Answered, HostFault>
+fn answer_written(done: Result<(), FileFault>) -> Result<LineAnswer, HostFault>
     ensures { result ≡ file_answer done }
 {
     match done {
-        Ok(()) => Ok(Answered::Reply(Reply::Ok)),
-        Err(FileFault::Memory) => Ok(Answered::Reply(Reply::No(Refusal::Memory))),
+        Ok(()) => Ok(LineAnswer::Reply(Reply::Ok)),
+        Err(FileFault::Memory) => Ok(LineAnswer::Reply(Reply::No(Refusal::Memory))),
         Err(FileFault::Host(fault)) => Err(fault),
     }
 }
@@ -105,7 +105,7 @@ impl Daemon {
         client: u8,
         name: Name,
         file: Name,
-    ) -> Result<Answered, HostFault>
+    ) -> Result<LineAnswer, HostFault>
         requires known { client < CLIENTS }
         requires room { device_words (self.old).frames ≤ (H.counts h.old).size }
         requires name { IsTrue (is_legal_name file) }
@@ -113,18 +113,18 @@ impl Daemon {
             → CarriesOut size w self.new (Option.Some (Export client name file)) result (H.counts h.old) (H.counts h.new) (H.state h.old) (H.state h.new) }
         // Word by word: the file is the one that is written of what the pool stores.
         ensures words { H.tells → (size : ℕ) → (w : World) → IsReady size w self.old (H.state h.old)
-            → IfOk result (λ answered. answered ≡ Answered.Reply Reply.Ok → HoldsOneOf w name (reads (H.state h.old).now.words) (name_text file) (H.state h.old) (H.state h.new)) }
+            → IfOk result (λ answered. answered ≡ LineAnswer.Reply Reply.Ok → HoldsOneOf w name (reads (H.state h.old).now.words) (name_text file) (H.state h.old) (H.state h.new)) }
         ensures frames { (self.new).frames ≡ (self.old).frames }
         ensures rest { H.tells → KeepsAllBut (file_of (Export client name file)) (H.state h.old) (H.state h.new) }
         ensures cause { H.counts h.new ≡ after_fault (fault_of result) (H.counts h.old) }
         ensures never_cut { fault_of result ≢ Option.Some HostFault.Cut }
     {
         let found = match self.find_pool(h, client, name, Need::Read)? {
-            Err(refusal) => return Ok(Answered::Reply(Reply::No(refusal))),
+            Err(refusal) => return Ok(LineAnswer::Reply(Reply::No(refusal))),
             Ok(found) => found,
         };
         if found.own.is_some() {
-            return Ok(Answered::Reply(Reply::No(Refusal::OpenHere)));
+            return Ok(LineAnswer::Reply(Reply::No(Refusal::OpenHere)));
         }
         let puddles = self.judged.puddles(found.slot);
         let done = write_file(alloc, h, self.frames, found.number, puddles, file);

@@ -15,7 +15,7 @@ ghost use Rattle.pud_defs.specs.Step.{refusal_of};
 ghost use Rattle.pud_defs.specs.World.{World};
 ghost use Rattle.ready_daemon.specs.Memory.{Memory};
 ghost use Rattle.ready_daemon.specs.Ready.{KeepsRest, IsReady};
-ghost use Rattle.puddled.specs.Answered.{as_answered};
+ghost use Rattle.puddled.specs.LineAnswers.{as_line_answer};
 ghost use Rattle.puddled.specs.Daemon.{CarriesOut};
 ghost use Rattle.puddled.specs.Importing.{MayName, IsFrontOf, reply_of_placing};
 
@@ -74,7 +74,7 @@ fn place_bytes<H: Host>(
     requires room { device_words frames ≤ (H.counts h.old).size }
     ensures carries { H.tells → (size : ℕ) → size ≡ (H.counts h.old).size → (w : World) → (memory : Memory) → memory.frames ≡ frames → IsReady size w memory (H.state h.old)
         → (client : ℕ) → (file : List ℕ) → IsLegalCommand (Import client name file mode) → MayName w client name uid gid → IsFrontOf w file bytes.now
-        → CarriesOut size w memory (Option.Some (Import client name file mode)) (as_answered result) (H.counts h.old) (H.counts h.new) (H.state h.old) (H.state h.new) }
+        → CarriesOut size w memory (Option.Some (Import client name file mode)) (as_line_answer result) (H.counts h.old) (H.counts h.new) (H.state h.old) (H.state h.new) }
     ensures unchanged { H.tells → (size : ℕ) → (w : World) → (memory : Memory) → memory.frames ≡ frames → IsReady size w memory (H.state h.old)
         → (client : ℕ) → MayName w client name uid gid → IfOk result (λ reply. reply ≢ Reply.Ok → H.state h.new ≡ H.state h.old) }
     ensures rest { H.tells → KeepsRest (H.state h.old) (H.state h.new) }
@@ -103,7 +103,7 @@ fn place_file<H: Host>(
     requires name { IsTrue (is_legal_name file) }
     ensures carries { H.tells → (size : ℕ) → size ≡ (H.counts h.old).size → (w : World) → (memory : Memory) → memory.frames ≡ frames → IsReady size w memory (H.state h.old)
         → (client : ℕ) → IsLegalCommand (Import client name file mode) → MayName w client name uid gid
-        → CarriesOut size w memory (Option.Some (Import client name file mode)) (as_answered result) (H.counts h.old) (H.counts h.new) (H.state h.old) (H.state h.new) }
+        → CarriesOut size w memory (Option.Some (Import client name file mode)) (as_line_answer result) (H.counts h.old) (H.counts h.new) (H.state h.old) (H.state h.new) }
     ensures unchanged { H.tells → (size : ℕ) → (w : World) → (memory : Memory) → memory.frames ≡ frames → IsReady size w memory (H.state h.old)
         → (client : ℕ) → MayName w client name uid gid → IfOk result (λ reply. reply ≢ Reply.Ok → H.state h.new ≡ H.state h.old) }
     ensures rest { H.tells → KeepsRest (H.state h.old) (H.state h.new) }
@@ -163,7 +163,7 @@ pub(crate) fn import<H: Host>(
     requires name { IsTrue (is_legal_name file) }
     ensures carries { H.tells → (size : ℕ) → size ≡ (H.counts h.old).size → (w : World) → (memory : Memory) → memory.frames ≡ frames → IsReady size w memory (H.state h.old)
         → IsLegalCommand (Import client name file mode)
-        → CarriesOut size w memory (Option.Some (Import client name file mode)) (as_answered result) (H.counts h.old) (H.counts h.new) (H.state h.old) (H.state h.new) }
+        → CarriesOut size w memory (Option.Some (Import client name file mode)) (as_line_answer result) (H.counts h.old) (H.counts h.new) (H.state h.old) (H.state h.new) }
     ensures unchanged { H.tells → (size : ℕ) → (w : World) → (memory : Memory) → memory.frames ≡ frames → IsReady size w memory (H.state h.old)
         → IfOk result (λ reply. reply ≢ Reply.Ok → H.state h.new ≡ H.state h.old) }
     ensures rest { H.tells → KeepsRest (H.state h.old) (H.state h.new) }

@@ -5,7 +5,7 @@ use Rattle.puddled.specs.declared.daemon.RunFault.{RunFault}
 use Rattle.puddled.proofs.Counted.{none_is_sound, size_of_ends, Grows-still, Grows-then, CountsToEnd-none, CountsToEnd-then}
 use Rattle.puddle_cli.specs.Source.{is_aloud, bytes_left}
 use Rattle.puddle_cli.specs.declared.run.Served.{Served}
-use Rattle.puddle_cli.specs.Serving.{AnsweredBy}
+use Rattle.puddle_cli.specs.Serving.{HasServedBy}
 use Rattle.puddle_cli.proofs.Answering.{Takes-start, Serves-start, AnswersLine-as, Answered-last, Answered-end, Answered-so_far, left_kept}
 use Rattle.puddle_cli.specs.Replying.{HeardBy}
 use Rattle.puddle_cli.proofs.Replying.{Hears-start, Heard-last, Heard-end, Heard-so_far}
@@ -28,7 +28,7 @@ returns-in_err-serve_byte-clause-answered g c = λ t size e w ready.
     let p = err_from_is_err_and c.from_residual.result c.from_residual.ensures.1 in
     let i = c.loop-taken.invariant in
     let same = e ∙ sym i.counts.size in
-    subst (λ (r : Result Served RunFault). AnsweredBy size w (is_aloud c.args.source.now) (bytes_left c.args.source.now (g.H.Host.state c.args.h.now)) r (g.H.Host.counts c.args.h.now) (g.H.Host.counts c.serve_byte.new.h) (g.H.Host.state c.args.h.now) (g.H.Host.state c.serve_byte.new.h) (bytes_left c.serve_byte.new.source (g.H.Host.state c.serve_byte.new.h))) (sym p.1)
+    subst (λ (r : Result Served RunFault). HasServedBy size w (is_aloud c.args.source.now) (bytes_left c.args.source.now (g.H.Host.state c.args.h.now)) r (g.H.Host.counts c.args.h.now) (g.H.Host.counts c.serve_byte.new.h) (g.H.Host.state c.args.h.now) (g.H.Host.state c.serve_byte.new.h) (bytes_left c.serve_byte.new.source (g.H.Host.state c.serve_byte.new.h))) (sym p.1)
     (rw p.2 (false, c.in_err-serve_byte.ensures.answered t size same w _ i.aloud _ _ _ (i.serves t size e w ready)))
 
 pub returns-in_err-refused-clause-answered : goal.returns-in_err-refused-clause-answered
@@ -38,7 +38,7 @@ returns-in_err-refused-clause-answered g c = λ t size e w ready.
     let same = e ∙ sym i.counts.size in
     let s = c.in_ok-serve_byte.ensures.serves t size same w _ i.aloud _ _ _ (i.serves t size e w ready) in
     let line = c.in_err-refused.ensures.answers t size (same ∙ sym (size_of_ends _ _ _ c.in_ok-serve_byte.ensures.cause)) (last_world w s.turns) s.ready (open_rest s.taken) s.under_way in
-    subst (λ (r : Result Served RunFault). AnsweredBy size w (is_aloud c.args.source.now) (bytes_left c.args.source.now (g.H.Host.state c.args.h.now)) r (g.H.Host.counts c.args.h.now) (g.H.Host.counts c.answer.new.h) (g.H.Host.state c.args.h.now) (g.H.Host.state c.answer.new.h) (bytes_left c.serve_byte.new.source (g.H.Host.state c.answer.new.h))) (sym p.1)
+    subst (λ (r : Result Served RunFault). HasServedBy size w (is_aloud c.args.source.now) (bytes_left c.args.source.now (g.H.Host.state c.args.h.now)) r (g.H.Host.counts c.args.h.now) (g.H.Host.counts c.answer.new.h) (g.H.Host.state c.args.h.now) (g.H.Host.state c.answer.new.h) (bytes_left c.serve_byte.new.source (g.H.Host.state c.answer.new.h))) (sym p.1)
     (rw p.2 (
       true,
       Answered-last size w _ _ _ _ _ _ _ _ _ _ _ _ refl s _ _ _ _ _ refl (c.in_ok-serve_byte.ensures.ended t c.if-not-branch.true) (left_kept c.serve_byte.new.source (g.H.Host.state c.serve_byte.new.h) (g.H.Host.state c.answer.new.h) (c.in_err-refused.ensures.rest t).script)

@@ -11,8 +11,8 @@ use Rattle.pud_defs.specs.World.{world_of}
 use Rattle.pud_defs.specs.Grammar.{command_of}
 use Rattle.pud_defs.specs.Changing.{file_in}
 use Rattle.puddled.specs.Faults.{kind_of, CountsLine, CountsReply, HasLostPower}
-use Rattle.puddled.specs.declared.answers.Answered.{Answered}
-use Rattle.puddled.specs.declared.answers.Answered.TheVariants as answers
+use Rattle.puddled.specs.declared.answers.LineAnswer.{LineAnswer}
+use Rattle.puddled.specs.declared.answers.LineAnswer.TheVariants as answers
 use Rattle.puddled.specs.declared.daemon.RunFault.{RunFault}
 use Rattle.puddled.specs.declared.daemon.RunFault.TheVariants as faults
 use Rattle.puddled.specs.Daemon.{KeepsAllBut, CarriesOut}
@@ -96,7 +96,7 @@ returns-clause-steps g c = λ t size e w ready name n is free.
 pub returns-in_default-clause-moves : goal.returns-in_default-clause-moves
 returns-in_default-clause-moves g c = λ t size e w ready.
     let s = g.H.Host.state c.args.h.now in
-    let failed : Type 0 = ◌≡◌ {A = Result Answered RunFault} (Ok (answers.Reply (replies.No refusals.Bad))) (Err faults.Failed) in
+    let failed : Type 0 = ◌≡◌ {A = Result LineAnswer RunFault} (Ok (answers.Reply (replies.No refusals.Bad))) (Err faults.Failed) in
     subst (λ (o : Option Command). MoveOnTheWay w o failed s s) (ap result_ok (sym c.in_default.is) ∙ c.parse_line.ensures.command)
     (MoveOnTheWay-done size w c.args.daemon.now None _ _ _ s s (CarriesOut-bad size w c.args.daemon.now (g.H.Host.counts c.args.h.now) (g.H.Host.counts c.args.h.now) s s ready refl refl) failed (λ no. absurd (none-some Failed no)))
 

@@ -5,8 +5,8 @@ use Rattle.pm_model.specs.declared.host.HostFault.{HostFault}
 use Rattle.pm_model.specs.declared.host.HostFault.TheVariants as hosts
 use Rattle.pm_model.specs.Words.{reads}
 use Rattle.pm_model.specs.Counts.{fault_of}
-use Rattle.puddled.specs.declared.answers.Answered.{Answered}
-use Rattle.puddled.specs.declared.answers.Answered.TheVariants as answers
+use Rattle.puddled.specs.declared.answers.LineAnswer.{LineAnswer}
+use Rattle.puddled.specs.declared.answers.LineAnswer.TheVariants as answers
 use Rattle.pud_defs.specs.declared.machine.Reply.{Reply}
 use Rattle.pud_defs.specs.World.{world_of}
 use Rattle.pud_defs.specs.Grammar.{command_of}
@@ -27,7 +27,7 @@ returns-in_err-started-in-Err-Cut-clause-settles g c = λ t size e w line counte
     let p = err_from_is_err_and c.from_residual.result c.from_residual.ensures.1 in
     let is : c.args.done ≡ Err hosts.Cut = c.in-Err-Cut.is ∙ ap Err (rw c.in-Err-Cut.is at c.in-Err-Cut.field-0-is) in
     let mid = g.H.Host.state c.args.h.now in
-    let k = subst (λ (r : Result Answered HostFault). CarriesOut size w c.args.daemon.now (command_of line) r counted (g.H.Host.counts c.args.h.now) before mid) is carries in
+    let k = subst (λ (r : Result LineAnswer HostFault). CarriesOut size w c.args.daemon.now (command_of line) r counted (g.H.Host.counts c.args.h.now) before mid) is carries in
     let fault = c.in_err-started-in-Err-Cut.field-0.0 in
     let next = found_world size w _ line _ _ before mid k shelf in
     rw (p.1, p.2) (Settles-unstarted size w _ line _ _ before mid k shelf _ _ _ fault
@@ -41,39 +41,39 @@ pub returns-in_err-started-in-Err-Cut-clause-cause : goal.returns-in_err-started
 returns-in_err-started-in-Err-Cut-clause-cause g c = λ counted counts.
     let p = err_from_is_err_and c.from_residual.result c.from_residual.ensures.1 in
     let is : c.args.done ≡ Err hosts.Cut = c.in-Err-Cut.is ∙ ap Err (rw c.in-Err-Cut.is at c.in-Err-Cut.field-0-is) in
-    let k = subst (λ (r : Result Answered HostFault). CountsCommand (kind_of (Some c.args.command)) (fault_of r) counted (g.H.Host.counts c.args.h.now)) is counts in
+    let k = subst (λ (r : Result LineAnswer HostFault). CountsCommand (kind_of (Some c.args.command)) (fault_of r) counted (g.H.Host.counts c.args.h.now)) is counts in
     rw (p.1, p.2) (inl (kind_unstarted (kind_of (Some c.args.command)) c.in_err-started-in-Err-Cut.field-0.0 _ _ _ k c.in_err-started-in-Err-Cut.ensures.cause))
 
 pub returns-in-Ok-clause-settles : goal.returns-in-Ok-clause-settles
 returns-in-Ok-clause-settles g c = λ t size e w line counted before of_line shelf carries.
     Settles-done size w _ line _ _ before _ c.in-Ok.answered
-    (subst (λ (r : Result Answered HostFault). CarriesOut size w c.args.daemon.now (command_of line) r counted (g.H.Host.counts c.args.h.now) before (g.H.Host.state c.args.h.now)) c.in-Ok.is carries)
+    (subst (λ (r : Result LineAnswer HostFault). CarriesOut size w c.args.daemon.now (command_of line) r counted (g.H.Host.counts c.args.h.now) before (g.H.Host.state c.args.h.now)) c.in-Ok.is carries)
 
 pub returns-in-Ok-clause-cause : goal.returns-in-Ok-clause-cause
 returns-in-Ok-clause-cause g c = λ counted counts.
-    inl (kind_done (kind_of (Some c.args.command)) _ _ (subst (λ (r : Result Answered HostFault). CountsCommand (kind_of (Some c.args.command)) (fault_of r) counted (g.H.Host.counts c.args.h.now)) c.in-Ok.is counts))
+    inl (kind_done (kind_of (Some c.args.command)) _ _ (subst (λ (r : Result LineAnswer HostFault). CountsCommand (kind_of (Some c.args.command)) (fault_of r) counted (g.H.Host.counts c.args.h.now)) c.in-Ok.is counts))
 
 pub returns-in-Ok-clause-restarted : goal.returns-in-Ok-clause-restarted
 returns-in-Ok-clause-restarted g c = λ t rested counted counts ok moved.
     absurd (no_power_lost (kind_of (Some c.args.command)) _ _
-    (subst (λ (r : Result Answered HostFault). CountsCommand (kind_of (Some c.args.command)) (fault_of r) counted (g.H.Host.counts c.args.h.now)) c.in-Ok.is counts) moved)
+    (subst (λ (r : Result LineAnswer HostFault). CountsCommand (kind_of (Some c.args.command)) (fault_of r) counted (g.H.Host.counts c.args.h.now)) c.in-Ok.is counts) moved)
 
 pub returns-in-Err-Failed-clause-settles : goal.returns-in-Err-Failed-clause-settles
 returns-in-Err-Failed-clause-settles g c = λ t size e w line counted before of_line shelf carries.
     let is : c.args.done ≡ Err hosts.Failed = c.in-Err-Failed.is ∙ ap Err (rw c.in-Err-Failed.is at c.in-Err-Failed.field-0-is) in
     Settles-failed size w _ line _ _ before _ _
-    (subst (λ (r : Result Answered HostFault). CarriesOut size w c.args.daemon.now (command_of line) r counted (g.H.Host.counts c.args.h.now) before (g.H.Host.state c.args.h.now)) is carries)
+    (subst (λ (r : Result LineAnswer HostFault). CarriesOut size w c.args.daemon.now (command_of line) r counted (g.H.Host.counts c.args.h.now) before (g.H.Host.state c.args.h.now)) is carries)
 
 pub returns-in-Err-Failed-clause-cause : goal.returns-in-Err-Failed-clause-cause
 returns-in-Err-Failed-clause-cause g c = λ counted counts.
     let is : c.args.done ≡ Err hosts.Failed = c.in-Err-Failed.is ∙ ap Err (rw c.in-Err-Failed.is at c.in-Err-Failed.field-0-is) in
-    inl (kind_faulty (kind_of (Some c.args.command)) _ _ (subst (λ (r : Result Answered HostFault). CountsCommand (kind_of (Some c.args.command)) (fault_of r) counted (g.H.Host.counts c.args.h.now)) is counts))
+    inl (kind_faulty (kind_of (Some c.args.command)) _ _ (subst (λ (r : Result LineAnswer HostFault). CountsCommand (kind_of (Some c.args.command)) (fault_of r) counted (g.H.Host.counts c.args.h.now)) is counts))
 
 pub returns-in_ok-started-in-Err-Cut-clause-settles : goal.returns-in_ok-started-in-Err-Cut-clause-settles
 returns-in_ok-started-in-Err-Cut-clause-settles g c = λ t size e w line counted before of_line shelf carries.
     let is : c.args.done ≡ Err hosts.Cut = c.in-Err-Cut.is ∙ ap Err (rw c.in-Err-Cut.is at c.in-Err-Cut.field-0-is) in
     let mid = g.H.Host.state c.args.h.now in
-    let k = subst (λ (r : Result Answered HostFault). CarriesOut size w c.args.daemon.now (command_of line) r counted (g.H.Host.counts c.args.h.now) before mid) is carries in
+    let k = subst (λ (r : Result LineAnswer HostFault). CarriesOut size w c.args.daemon.now (command_of line) r counted (g.H.Host.counts c.args.h.now) before mid) is carries in
     let next = found_world size w _ line _ _ before mid k shelf in
     rw (c.reply_behind_loss.ensures, c.replace-lost.ensures.after) (Settles-again size w _ line _ _ before mid k shelf _ _ _ (kind_of (Some c.args.command)) (ap kind_of of_line)
     (c.in_ok-started-in-Err-Cut.ensures.recovers t size e next (k.applies.rests refl) (found_stands size w _ line _ _ before mid k shelf) (found_shelf size w _ line _ _ before mid k shelf))
@@ -82,7 +82,7 @@ returns-in_ok-started-in-Err-Cut-clause-settles g c = λ t size e w line counted
 pub returns-in_ok-started-in-Err-Cut-clause-cause : goal.returns-in_ok-started-in-Err-Cut-clause-cause
 returns-in_ok-started-in-Err-Cut-clause-cause g c = λ counted counts.
     let is : c.args.done ≡ Err hosts.Cut = c.in-Err-Cut.is ∙ ap Err (rw c.in-Err-Cut.is at c.in-Err-Cut.field-0-is) in
-    let k = subst (λ (r : Result Answered HostFault). CountsCommand (kind_of (Some c.args.command)) (fault_of r) counted (g.H.Host.counts c.args.h.now)) is counts in
+    let k = subst (λ (r : Result LineAnswer HostFault). CountsCommand (kind_of (Some c.args.command)) (fault_of r) counted (g.H.Host.counts c.args.h.now)) is counts in
     rw c.reply_behind_loss.ensures (⊎_elim
     (λ plain. inl plain)
     (λ cut. inr (ap (λ (r : Reply). Ok (answers.Reply r)) cut.0, cut.1))
@@ -96,19 +96,19 @@ returns-in_ok-started-in-Err-Cut-clause-restarted g c = λ t rested counted coun
 pub returns-in-Ok-clause-frontiers : goal.returns-in-Ok-clause-frontiers
 returns-in-Ok-clause-frontiers g c = λ t size e w line counted before of_line shelf carries.
     LeadFrontiers-done size w _ (command_of line) _ _ before _ _ _
-    (subst (λ (r : Result Answered HostFault). CarriesOut size w c.args.daemon.now (command_of line) r counted (g.H.Host.counts c.args.h.now) before (g.H.Host.state c.args.h.now)) c.in-Ok.is carries)
+    (subst (λ (r : Result LineAnswer HostFault). CarriesOut size w c.args.daemon.now (command_of line) r counted (g.H.Host.counts c.args.h.now) before (g.H.Host.state c.args.h.now)) c.in-Ok.is carries)
 
 pub returns-in_ok-started-in-Err-Cut-clause-frontiers : goal.returns-in_ok-started-in-Err-Cut-clause-frontiers
 returns-in_ok-started-in-Err-Cut-clause-frontiers g c = λ t size e w line counted before of_line shelf carries.
     let is : c.args.done ≡ Err hosts.Cut = c.in-Err-Cut.is ∙ ap Err (rw c.in-Err-Cut.is at c.in-Err-Cut.field-0-is) in
     let mid = g.H.Host.state c.args.h.now in
-    let k = subst (λ (r : Result Answered HostFault). CarriesOut size w c.args.daemon.now (command_of line) r counted (g.H.Host.counts c.args.h.now) before mid) is carries in
+    let k = subst (λ (r : Result LineAnswer HostFault). CarriesOut size w c.args.daemon.now (command_of line) r counted (g.H.Host.counts c.args.h.now) before mid) is carries in
     LeadFrontiers-lost size w _ line _ _ before mid k shelf _ (c.in_ok-started-in-Err-Cut.ensures.replays t (k.applies.rests refl)) c.reply_behind_loss.result
     (c.reply_behind_loss.ensures ∙ ap (λ (x : Option Command). behind_loss (kind_of x)) (sym of_line))
 
 pub returns-in-Ok-clause-steps : goal.returns-in-Ok-clause-steps
 returns-in-Ok-clause-steps g c = λ t F name n before does is cut.
-    subst (λ (r : Result Answered HostFault). IfOk r (λ _. DoesSteps F name n (reads before.now.words) (reads (g.H.Host.state c.args.h.now).now.words))) c.in-Ok.is does
+    subst (λ (r : Result LineAnswer HostFault). IfOk r (λ _. DoesSteps F name n (reads before.now.words) (reads (g.H.Host.state c.args.h.now).now.words))) c.in-Ok.is does
 
 pub returns-in_ok-started-in-Err-Cut-clause-steps : goal.returns-in_ok-started-in-Err-Cut-clause-steps
 returns-in_ok-started-in-Err-Cut-clause-steps g c = λ t F name n before does is cut.
@@ -117,21 +117,21 @@ returns-in_ok-started-in-Err-Cut-clause-steps g c = λ t F name n before does is
 pub returns-in-Ok-clause-moves : goal.returns-in-Ok-clause-moves
 returns-in-Ok-clause-moves g c = λ t size e w line counted before of_line shelf carries.
     MoveOnTheWay-done size w _ (command_of line) _ _ _ before _
-    (subst (λ (r : Result Answered HostFault). CarriesOut size w c.args.daemon.now (command_of line) r counted (g.H.Host.counts c.args.h.now) before (g.H.Host.state c.args.h.now)) c.in-Ok.is carries)
+    (subst (λ (r : Result LineAnswer HostFault). CarriesOut size w c.args.daemon.now (command_of line) r counted (g.H.Host.counts c.args.h.now) before (g.H.Host.state c.args.h.now)) c.in-Ok.is carries)
     _ (λ no. absurd (none-some hosts.Failed no))
 
 pub returns-in-Err-Failed-clause-moves : goal.returns-in-Err-Failed-clause-moves
 returns-in-Err-Failed-clause-moves g c = λ t size e w line counted before of_line shelf carries.
     let is : c.args.done ≡ Err hosts.Failed = c.in-Err-Failed.is ∙ ap Err (rw c.in-Err-Failed.is at c.in-Err-Failed.field-0-is) in
     MoveOnTheWay-done size w _ (command_of line) _ _ _ before _
-    (subst (λ (r : Result Answered HostFault). CarriesOut size w c.args.daemon.now (command_of line) r counted (g.H.Host.counts c.args.h.now) before (g.H.Host.state c.args.h.now)) is carries)
+    (subst (λ (r : Result LineAnswer HostFault). CarriesOut size w c.args.daemon.now (command_of line) r counted (g.H.Host.counts c.args.h.now) before (g.H.Host.state c.args.h.now)) is carries)
     _ (λ failed. refl)
 
 pub returns-in_err-started-in-Err-Cut-clause-moves : goal.returns-in_err-started-in-Err-Cut-clause-moves
 returns-in_err-started-in-Err-Cut-clause-moves g c = λ t size e w line counted before of_line shelf carries.
     let is : c.args.done ≡ Err hosts.Cut = c.in-Err-Cut.is ∙ ap Err (rw c.in-Err-Cut.is at c.in-Err-Cut.field-0-is) in
     let mid = g.H.Host.state c.args.h.now in
-    let k = subst (λ (r : Result Answered HostFault). CarriesOut size w c.args.daemon.now (command_of line) r counted (g.H.Host.counts c.args.h.now) before mid) is carries in
+    let k = subst (λ (r : Result LineAnswer HostFault). CarriesOut size w c.args.daemon.now (command_of line) r counted (g.H.Host.counts c.args.h.now) before mid) is carries in
     MoveOnTheWay-lost size w _ line _ _ before mid k shelf _ _
     (c.in_err-started-in-Err-Cut.ensures.recovers t size e (found_world size w _ line _ _ before mid k shelf) (k.applies.rests refl) (found_stands size w _ line _ _ before mid k shelf) (found_shelf size w _ line _ _ before mid k shelf)) _
 
@@ -139,6 +139,6 @@ pub returns-in_ok-started-in-Err-Cut-clause-moves : goal.returns-in_ok-started-i
 returns-in_ok-started-in-Err-Cut-clause-moves g c = λ t size e w line counted before of_line shelf carries.
     let is : c.args.done ≡ Err hosts.Cut = c.in-Err-Cut.is ∙ ap Err (rw c.in-Err-Cut.is at c.in-Err-Cut.field-0-is) in
     let mid = g.H.Host.state c.args.h.now in
-    let k = subst (λ (r : Result Answered HostFault). CarriesOut size w c.args.daemon.now (command_of line) r counted (g.H.Host.counts c.args.h.now) before mid) is carries in
+    let k = subst (λ (r : Result LineAnswer HostFault). CarriesOut size w c.args.daemon.now (command_of line) r counted (g.H.Host.counts c.args.h.now) before mid) is carries in
     MoveOnTheWay-lost size w _ line _ _ before mid k shelf _ _
     (c.in_ok-started-in-Err-Cut.ensures.recovers t size e (found_world size w _ line _ _ before mid k shelf) (k.applies.rests refl) (found_stands size w _ line _ _ before mid k shelf) (found_shelf size w _ line _ _ before mid k shelf)) _

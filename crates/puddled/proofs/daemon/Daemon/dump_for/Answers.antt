@@ -9,7 +9,7 @@ use Rattle.pud_defs.specs.Graph.{graph_of}
 use Rattle.pud_defs.specs.Stored.{stored_in}
 use Rattle.pud_defs.specs.Types.{types_of}
 use Rattle.pud_defs.specs.Step.Answer.{of_reply, of_text}
-use Rattle.puddled.specs.declared.answers.Answered.TheVariants as answers
+use Rattle.puddled.specs.declared.answers.LineAnswer.TheVariants as answers
 use Rattle.puddled.specs.declared.finding.Need.TheVariants as needs
 use Rattle.ready_daemon.specs.Memory.{Memory}
 use Rattle.ready_daemon.specs.Owning.{refusal_found}

@@ -12,9 +12,9 @@ use Rattle.pud_defs.specs.Grammar.{command_of}
 use Rattle.pud_defs.specs.Step.Answer.{of_reply}
 use Rattle.pud_defs.specs.Texts.{reply_text, begins_with_ok}
 use Rattle.pud_defs.specs.World.{World, no_clients, nothing_open}
-use Rattle.puddled.specs.declared.answers.Answered.{Answered}
-use Rattle.puddled.specs.declared.answers.Answered.TheVariants as answers
-use Rattle.puddled.specs.Answered.{answer_of}
+use Rattle.puddled.specs.declared.answers.LineAnswer.{LineAnswer}
+use Rattle.puddled.specs.declared.answers.LineAnswer.TheVariants as answers
+use Rattle.puddled.specs.LineAnswers.{answer_of}
 use Rattle.puddled.proofs.Listed.{said_by}
 use Rattle.puddled.proofs.Lines.{answer_last, nothing_last, Answers-fault, Answers-unsaid, Answers-said, KeepsLine-says, KeepsLine-unsaid, SaysAnswer-aloud, SaysAnswer-unsaid, SaysAnswer-failed, sound_said, words_said}
 use Rattle.puddled.proofs.Led.{LeadFrontiers-when, MoveOnTheWay-said, MoveOnTheWay-as}
@@ -37,12 +37,12 @@ answered_none : {A : Type 0} {answered : A} → ◌≡◌ {A = Result A RunFault
 answered_none same = cc
 
 -- one fault is the same whatever would have been answered
-same_fault : {fault other : RunFault} → ◌≡◌ {A = Result Answered RunFault} (Err fault) (Err other) → ◌≡◌ {A = Result Bool RunFault} (Err fault) (Err other)
+same_fault : {fault other : RunFault} → ◌≡◌ {A = Result LineAnswer RunFault} (Err fault) (Err other) → ◌≡◌ {A = Result Bool RunFault} (Err fault) (Err other)
 same_fault {fault} {other} same = let it : fault ≡ other = cc in ap (λ (f : RunFault). Err f) it
 
 pub returns-clause-cause : goal.returns-clause-cause
 returns-clause-cause g c =
-    let not_ok : c.in_ok-answered.answered ≡ answers.Reply replies.Cut → c.is_ok.result ≡ false = λ cut. c.is_ok.ensures no_world ∙ ap (λ (a : Answered). begins_with_ok (answer_of no_world a)) cut ∙ cut_is_not_ok in
+    let not_ok : c.in_ok-answered.answered ≡ answers.Reply replies.Cut → c.is_ok.result ≡ false = λ cut. c.is_ok.ensures no_world ∙ ap (λ (a : LineAnswer). begins_with_ok (answer_of no_world a)) cut ∙ cut_is_not_ok in
     elim c.if-aloud.branch [
       | then-aloud+in_ok-say_answer b ↦ rw b.h-is (reply_said _ c.in_ok-answered.answered _ c.is_ok.result _ _ _ not_ok c.in_ok-answered.ensures.cause b.in_ok-say_answer.ensures.cause)
       | else-aloud b ↦ rw b.h-is (reply_said _ c.in_ok-answered.answered _ c.is_ok.result _ _ _ not_ok c.in_ok-answered.ensures.cause refl)
@@ -137,7 +137,7 @@ returns-clause-frontiers g c = λ t size e w ready.
     let settled = reads (g.H.Host.state c.carry_out_line.new.h).now.words in
     let line = command_of c.args.line.now in
     let uncut : c.is_ok.result ≡ true → c.in_ok-answered.answered ≡ answers.Reply replies.Cut → ⊥ = λ ok cut.
-    let no : true ≡ false = sym ok ∙ c.is_ok.ensures no_world ∙ ap (λ (a : Answered). begins_with_ok (answer_of no_world a)) cut ∙ cut_is_not_ok in cc in
+    let no : true ≡ false = sym ok ∙ c.is_ok.ensures no_world ∙ ap (λ (a : LineAnswer). begins_with_ok (answer_of no_world a)) cut ∙ cut_is_not_ok in cc in
     let led = LeadFrontiers-when w line (c.in_ok-answered.answered ≡ answers.Reply replies.Cut → ⊥) (c.is_ok.result ≡ true) old settled uncut (c.in_ok-answered.ensures.frontiers t size e w ready) in
     elim c.if-aloud.branch [
       | then-aloud+in_ok-say_answer b ↦
@@ -149,7 +149,7 @@ pub returns-clause-steps : goal.returns-clause-steps
 returns-clause-steps g c = λ t size e w ready name n is free.
     let old = reads (g.H.Host.state c.args.h.now).now.words in
     let uncut : c.is_ok.result ≡ true → c.in_ok-answered.answered ≡ answers.Reply replies.Cut → ⊥ = λ ok cut.
-    let no : true ≡ false = sym ok ∙ c.is_ok.ensures no_world ∙ ap (λ (a : Answered). begins_with_ok (answer_of no_world a)) cut ∙ cut_is_not_ok in cc in
+    let no : true ≡ false = sym ok ∙ c.is_ok.ensures no_world ∙ ap (λ (a : LineAnswer). begins_with_ok (answer_of no_world a)) cut ∙ cut_is_not_ok in cc in
     elim c.if-aloud.branch [
       | then-aloud+in_ok-say_answer b ↦
           rw b.h-is

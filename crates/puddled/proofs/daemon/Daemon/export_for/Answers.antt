@@ -12,7 +12,7 @@ use Rattle.pud_defs.specs.declared.machine.Refusal.TheVariants as refusals
 use Rattle.pud_defs.specs.declared.records.Puddle.{Puddle}
 use Rattle.pud_defs.specs.Listing.{name_text}
 use Rattle.pud_defs.specs.Step.Answer.{of_reply}
-use Rattle.puddled.specs.declared.answers.Answered.TheVariants as answers
+use Rattle.puddled.specs.declared.answers.LineAnswer.TheVariants as answers
 use Rattle.puddled.specs.declared.finding.Need.TheVariants as needs
 use Rattle.puddled.specs.Files.{IsStoredPool, HoldsPool}
 use Rattle.ready_daemon.specs.Memory.{Memory}
