@@ -28,7 +28,7 @@ pub mod Replay
 pub mod Masked
 pub mod Spaces
 pub mod Settled
-pub mod LogsTaken
+pub mod LogsReplayed
 pub mod LogsBeside
 pub mod Accepted
 pub mod Logged

@@ -32,7 +32,7 @@ pub mod Types
 pub mod Allowed
 pub mod Settled
 pub mod StartText
-pub mod LogsTaken
+pub mod LogsReplayed
 pub mod Registry
 pub mod World
 pub mod PoolChanges

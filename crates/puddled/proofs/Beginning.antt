@@ -25,7 +25,7 @@ use Rattle.recover.specs.Verdicts.{is_refused_mark}
 use Rattle.recover.specs.declared.recovery.Report.{Report}
 use Rattle.recover.specs.declared.recovery.RecoverFault.{RecoverFault}
 use Rattle.recover.specs.declared.recovery.RecoverFault.TheVariants as recoveries
-use Rattle.recover.specs.Recovery.{recover_fault, DiffersByRecovery, StandsStill, ReplaysLogs, RecoversDevice}
+use Rattle.recover.specs.Recovery.{recover_fault, DiffersByRecovery, StandsAsStart, ReplaysLogs, RecoversDevice}
 use Rattle.ready_daemon.specs.Memory.{Memory}
 use Rattle.ready_daemon.specs.Ready.{KeepsRest, RefusesNone}
 use Rattle.puddled.specs.declared.daemon.StartFault.{StartFault}
@@ -122,7 +122,7 @@ module _ (size : ℕ) (w : World) (a : State) (world : world_of size (reads a.no
   In = StandsInStart size w i
 
   -- while lines on refused logs are said
-  early : (bytes rest : List ℕ) → refused_text i ≡ bytes ++ rest → (image : Image) → StandsStill size (closed w) i image → DiffersByRecovery F i image → In bytes image
+  early : (bytes rest : List ℕ) → refused_text i ≡ bytes ++ rest → (image : Image) → StandsAsStart size (closed w) i image → DiffersByRecovery F i image → In bytes image
   early bytes rest is image still differs =
       let part = newlines_part bytes rest in
       let all = ap newlines is in
@@ -151,9 +151,9 @@ module _ (size : ℕ) (w : World) (a : State) (world : world_of size (reads a.no
   module _ (b : State) where
     -- the device is recovered, and nothing said
     pub In-recovered : (fault : Option HostFault) → RecoversDevice size (closed w) fault a b → Leaves In a b
-    In-recovered fault r = Leaves-weaker (Silently (λ image. StandsStill size (closed w) i image × DiffersByRecovery F i image)) In a b
+    In-recovered fault r = Leaves-weaker (Silently (λ image. StandsAsStart size (closed w) i image × DiffersByRecovery F i image)) In a b
         (λ bytes image m. subst (λ (l : List ℕ). In l image) (sym m.0) (early [] (refused_text i) refl image m.1.0 m.1.1))
-        (Leaves-both (StandsStill size (closed w) i) (DiffersByRecovery F i) a b r.moments r.rights)
+        (Leaves-both (StandsAsStart size (closed w) i) (DiffersByRecovery F i) a b r.moments r.rights)
 
     -- it is not, and nothing said
     pub Starts-refused : (fault : RecoverFault) → (fault ≡ recoveries.NotSound → ⊥) → KeepsRest a b → RecoversDevice size (closed w) (recover_fault {T = Report} (Err fault)) a b → Starts size w (Err (of_recover fault)) a b
@@ -174,7 +174,7 @@ module _ (size : ℕ) (w : World) (a : State) (world : world_of size (reads a.no
       pub In-lines : (fault : Option HostFault) → Says (refused_text i) fault b c → Leaves In a c
       In-lines fault says = Leaves-then In In In [] a b c nothing_said (λ front image m. m) (λ more image m. m) (In-recovered None r)
           (Leaves-says (refused_text i) fault In b c (λ front image prefix picked. early front prefix.rest prefix.is image
-          (Leaves-now (Silently (StandsStill size (closed w) i)) [] a b nothing_said r.moments image picked).1
+          (Leaves-now (Silently (StandsAsStart size (closed w) i)) [] a b nothing_said r.moments image picked).1
           (Leaves-now (Silently (DiffersByRecovery F i)) [] a b nothing_said r.rights image picked).1) says)
 
       module _ (lines : Says (refused_text i) None b c) where

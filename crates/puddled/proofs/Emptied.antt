@@ -37,7 +37,7 @@ use Rattle.batch.specs.Batches.{HasIdleGate, batch_write, ByBatch, committed, Is
 use Rattle.batch.specs.Worlds.{IsQuiescent}
 use Rattle.log_space.specs.Clearing.{clearing, Empties}
 use Rattle.log_space.proofs.Cleared.{clearing-there, clearing-outside, clearing-allowed}
-use Rattle.recover.specs.Recovery.{ByRecovery, StandsStill, ReplaysLogs, RecoversDevice}
+use Rattle.recover.specs.Recovery.{ByRecovery, StandsAsStart, ReplaysLogs, RecoversDevice}
 use Rattle.puddled.specs.Starting.{ByStart}
 
 abbrev emptied : List Entry
@@ -90,7 +90,7 @@ settled_tables F i j same = tables_of-same F (settled_by DAEMON_LOG j) (settled_
 -- words that a recovery left of a rested device that read as this image and stood for this world
 pub record IsBehindRecovery (size : ℕ) (s : StoredWorld) (i : Image) (words : Words) : Type 0 where
   pub rested : IsRested words
-  pub still : StandsStill size s i (reads words)
+  pub still : StandsAsStart size s i (reads words)
   pub gate : HasOnly (words DAEMON_LOG) CLOSED_GATE
   pub reads_so : (k : ℕ) → is_in_log DAEMON_LOG k ≡ false → is_in_logs s.frames k ≡ false → reads words k ≡ settled s.frames i k
   pub closed : (number : ℕ) → number < ALL_LOGS → is_accepted_log s.frames (settled_by DAEMON_LOG i) number ≡ true → reads words (log_number_at s.frames number) ≡ CLOSED_GATE
@@ -100,7 +100,7 @@ behind_recovery size s a b p r =
     let said = Changes-said (ByRecovery s.frames (reads a.now.words)) None a b p.changes ∙ sym (append-nil a.now.said) in
     record {
       rested = r.rested refl;
-      still = (Leaves-now (Silently (StandsStill size s (reads a.now.words))) [] a b said r.moments (reads b.now.words) (Picks-reads b.now.words)).1;
+      still = (Leaves-now (Silently (StandsAsStart size s (reads a.now.words))) [] a b said r.moments (reads b.now.words) (Picks-reads b.now.words)).1;
       gate = p.daemon_log refl;
       reads_so = p.reads_so refl;
       closed = p.closed refl;

@@ -31,7 +31,7 @@ use Rattle.log_space.specs.Clearing.{clearing, Empties}
 use Rattle.recover.specs.declared.recovery.Report.{Report}
 use Rattle.recover.specs.declared.recovery.RecoverFault.{RecoverFault}
 use Rattle.recover.specs.declared.recovery.RecoverFault.TheVariants as recoveries
-use Rattle.recover.specs.Recovery.{recover_fault, DiffersByRecovery, StandsStill, ReplaysLogs, RecoversDevice}
+use Rattle.recover.specs.Recovery.{recover_fault, DiffersByRecovery, StandsAsStart, ReplaysLogs, RecoversDevice}
 use Rattle.puddled.specs.declared.daemon.StartFault.{StartFault}
 use Rattle.puddled.specs.Faults.{start_fault, of_recover}
 use Rattle.ready_daemon.specs.Memory.{Memory}
@@ -79,13 +79,13 @@ module _ (size : ℕ) (w : World) (a : State) (world : world_of size (reads a.no
   F = w.stored.frames
 
   abbrev Still : List ℕ → Image → Type 0
-  Still = Silently (StandsStill size (closed w) i)
+  Still = Silently (StandsAsStart size (closed w) i)
 
   -- the pools and puddles that were read, once the daemon log is replayed
   abbrev pub HasTables : Image → Type 0
   HasTables image = tables_of F (settled_by DAEMON_LOG image) ≡ tables_of F (settled_by DAEMON_LOG i)
 
-  tables_still : (image : Image) → StandsStill size (closed w) i image → HasTables image
+  tables_still : (image : Image) → StandsAsStart size (closed w) i image → HasTables image
   tables_still image still = settled_tables F i image (λ k read. still.settles k)
 
   none_refused : RefusesNone i → (number : ℕ) → number < ALL_LOGS → is_refused_log F (settled_by DAEMON_LOG i) number ≡ false
@@ -98,7 +98,7 @@ module _ (size : ℕ) (w : World) (a : State) (world : world_of size (reads a.no
   }
 
   -- a client's logs are closed, unless its record is used still
-  closed_still : (image : Image) → StandsStill size (closed w) i image → (client : ℕ) → client < CLIENTS → IsClosedIfNamed F client i → IsClosedIfFree F client image
+  closed_still : (image : Image) → StandsAsStart size (closed w) i image → (client : ℕ) → client < CLIENTS → IsClosedIfNamed F client i → IsClosedIfFree F client image
   closed_still image still client few (inr was) = inr (still.closed client few was)
   closed_still image still client few (inl used) =
       let kept = still.records client few in
@@ -141,12 +141,12 @@ module _ (size : ℕ) (w : World) (a : State) (world : world_of size (reads a.no
       emptying : (image : Image) → IsBatched b.now.words DAEMON_LOG (clearing CLIENTS) image → IsEmptying size (closed w) i (reads b.now.words) image
       emptying = batched_still size (closed w) i world b behind
 
-      both : {P : List ℕ → Image → Type 0} → ((image : Image) → StandsStill size (closed w) i image → P [] image)
+      both : {P : List ℕ → Image → Type 0} → ((image : Image) → StandsAsStart size (closed w) i image → P [] image)
           → ((image : Image) → IsEmptying size (closed w) i (reads b.now.words) image → P [] image) → Leaves P a c
       both {P} early late = Leaves-then Still Batched P [] a b c (said ∙ sym (append-nil a.now.said)) (λ front image m. subst (λ (l : List ℕ). P l image) (sym m.0) (early image m.1))
           (λ more image m. subst (λ (l : List ℕ). P l image) (sym m.0) (late image (emptying image m.1))) r.moments empties.commits.moments
 
-      still_b : StandsStill size (closed w) i (reads b.now.words)
+      still_b : StandsAsStart size (closed w) i (reads b.now.words)
       still_b = behind.still
 
       rights_c : Leaves (λ bytes image. DiffersByStart F i image) a c

@@ -3,6 +3,6 @@ pub mod Marked
 pub mod Judged
 pub mod Marks
 pub mod Accepting
-pub mod TurnTaken
-pub mod TurnsTaken
+pub mod LogRecovered
+pub mod LogsRecovered
 pub mod Recovered

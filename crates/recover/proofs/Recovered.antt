@@ -25,7 +25,7 @@ use Rattle.pud_defs.proofs.Replay.{overwritten-stays, settled_by-inside, settled
 use Rattle.pud_defs.proofs.Spaces.{has_closed_logs-same, are_legal_spaces-same}
 use Rattle.pud_defs.proofs.Settled.{settled_over-none}
 use Rattle.pud_defs.proofs.Accepted.{accepted_not_refused}
-use Rattle.pud_defs.proofs.LogsTaken.{given_by_log-below}
+use Rattle.pud_defs.proofs.LogsReplayed.{given_by_log-below}
 use Rattle.pud_defs.proofs.LogsBeside.{agree_tables, agree_owner, agree_log, idle_given, idle_refused, idle_accepted, idle_settled, world_again}
 use Rattle.pud_defs.proofs.Logged.{settled_by-client_logs}
 use Rattle.pud_defs.proofs.Parts.{HoldsWorld}
@@ -39,9 +39,9 @@ use Rattle.registry.specs.declared.LoadFault.TheVariants as loads
 use Rattle.registry.specs.Registry.{load_fault, StillStands, AppliesLog}
 use Rattle.recover.specs.declared.recovery.Report.{Report}
 use Rattle.recover.specs.Verdicts.{verdict_by, verdict_of}
-use Rattle.recover.specs.Turns.{ByLogs, IsAlike, TakesTurns, LeavesTurns}
-use Rattle.recover.specs.Recovery.{recover_fault, of_load, ByRecovery, DiffersByRecovery, StandsStill, ReplaysLogs, RecoversDevice}
-use Rattle.recover.proofs.TurnsTaken.{none_of_fault}
+use Rattle.recover.specs.RecoveredLogs.{ByClientLogs, IsRecoveredAlike, RecoversLogs, RecoversLogsAtEachMoment}
+use Rattle.recover.specs.Recovery.{recover_fault, of_load, ByRecovery, DiffersByRecovery, StandsAsStart, ReplaysLogs, RecoversDevice}
+use Rattle.recover.proofs.LogsRecovered.{none_of_fault}
 
 -- a word beside the gate of the daemon log is as in another image, where the log of that one gives it no value
 record StaysUnnamed (start image : Image) : Type 0 where
@@ -55,7 +55,7 @@ module _ (size : ℕ) (s : StoredWorld) (a : State) (world : world_of size (read
   i = reads a.now.words
 
   abbrev Still : List ℕ → Image → Type 0
-  Still = Silently (StandsStill size s i)
+  Still = Silently (StandsAsStart size s i)
 
   -- ---- the daemon log
 
@@ -69,7 +69,7 @@ module _ (size : ℕ) (s : StoredWorld) (a : State) (world : world_of size (read
       sym (settled_by-client_logs image k (legal_log_of_world size image s p.stands) (rw frames low) (rw frames high)) ∙ ap (λ (x : Image). x k) p.settled
       ∙ settled_by-client_logs i k (legal_log_of_world size i s world) (rw frames_i low) (rw frames_i high)
 
-  first_still : (image : Image) → StillStands size s i image → StaysUnnamed i image → StandsStill size s i image
+  first_still : (image : Image) → StillStands size s i image → StaysUnnamed i image → StandsAsStart size s i image
   unfolding settled
   first_still image p stays = record {
     stands = p.stands;
@@ -149,7 +149,7 @@ module _ (size : ℕ) (s : StoredWorld) (a : State) (world : world_of size (read
     held_i : HoldsWorld size (settled F i) s
     held_i = subst (λ (n : ℕ). HoldsWorld size (settled n i) s) (frames_of_world size i s world) (holding_of_world size i s world)
 
-    module _ (image : Image) (alike : IsAlike F m image) where
+    module _ (image : Image) (alike : IsRecoveredAlike F m image) where
       idle_j : is_idle_gate (image DAEMON_LOG) ≡ true
       idle_j = ap is_idle_gate (alike.below DAEMON_LOG (omega arith)) ∙ idle_b
 
@@ -168,7 +168,7 @@ module _ (size : ℕ) (s : StoredWorld) (a : State) (world : world_of size (read
       alike_spaces : are_legal_spaces (settled F image) ≡ true
       alike_spaces = are_legal_spaces-same (settled F image) (settled F i) (λ k low high. alike_settles k) ∙ held_i.spaces
 
-      alike_still : StandsStill size s i image
+      alike_still : StandsAsStart size s i image
       alike_still = record {
         stands = world_again size s i image world (legal_log_idle image idle_j) (λ k read. alike_settles k) alike_spaces;
         settles = alike_settles;
@@ -184,7 +184,7 @@ module _ (size : ℕ) (s : StoredWorld) (a : State) (world : world_of size (read
             };
       }
 
-    second_may : (k v : ℕ) → ByLogs F ALL_LOGS m k v → ByRecovery F i k v
+    second_may : (k v : ℕ) → ByClientLogs F ALL_LOGS m k v → ByRecovery F i k v
     second_may k v by = inr (inr (record {
       number = by.number;
       below = by.below;
@@ -197,13 +197,13 @@ module _ (size : ℕ) (s : StoredWorld) (a : State) (world : world_of size (read
       };
     }))
 
-    second_changes : (fault : Option HostFault) (c : State) → TakesTurns F ALL_LOGS m fault b c → Changes (ByRecovery F i) fault a c
-    second_changes fault c turns = Changes-then (ByRecovery F i) fault a b c (first_changes None b settles) (Changes-wider (ByLogs F ALL_LOGS m) (ByRecovery F i) fault b c second_may turns.changes)
+    second_changes : (fault : Option HostFault) (c : State) → RecoversLogs F ALL_LOGS m fault b c → Changes (ByRecovery F i) fault a c
+    second_changes fault c turns = Changes-then (ByRecovery F i) fault a b c (first_changes None b settles) (Changes-wider (ByClientLogs F ALL_LOGS m) (ByRecovery F i) fault b c second_may turns.changes)
 
-    pub ReplaysLogs-failed : (fault : HostFault) (c : State) → TakesTurns F ALL_LOGS m (Some fault) b c → ReplaysLogs F (Some fault) a c
+    pub ReplaysLogs-failed : (fault : HostFault) (c : State) → RecoversLogs F ALL_LOGS m (Some fault) b c → ReplaysLogs F (Some fault) a c
     ReplaysLogs-failed fault c turns = broken_off fault c (second_changes (Some fault) c turns)
 
-    module _ (c : State) (turns : TakesTurns F ALL_LOGS m None b c) where
+    module _ (c : State) (turns : RecoversLogs F ALL_LOGS m None b c) where
       abbrev n : Image
       n = reads c.now.words
 
@@ -246,7 +246,7 @@ module _ (size : ℕ) (s : StoredWorld) (a : State) (world : world_of size (read
         reads_so = λ none k outside beside.
             sym (settled_by-idle DAEMON_LOG n k idle_c outside) ∙ sym (cond-false (is_in_logs F k) 0 (settled_by DAEMON_LOG n k) beside) ∙ sym (ap (λ (x : Image). x k) plain_c)
             ∙ alike_settles n (turns.alike refl) k;
-        daemon_log = λ none. HasOnly-kept (ByLogs F ALL_LOGS m) None b c DAEMON_LOG CLOSED_GATE turns.changes (λ x by.
+        daemon_log = λ none. HasOnly-kept (ByClientLogs F ALL_LOGS m) None b c DAEMON_LOG CLOSED_GATE turns.changes (λ x by.
             let known = by.below in
             elim by.of_log.place [
               | inl here ↦ absurd (omega arith)
@@ -290,13 +290,13 @@ module _ (size : ℕ) (s : StoredWorld) (a : State) (world : world_of size (read
     }
 
     pub RecoversDevice-taken : (b : State) → AppliesLog size s None a b → (settles : SettlesLog targets.Words DAEMON_LOG None a b) → (stands : world_of size (reads b.now.words) ≡ Some s)
-        → (fault : Option HostFault) (c : State) → TakesTurns F ALL_LOGS (reads b.now.words) fault b c → LeavesTurns F (reads b.now.words) fault b c → RecoversDevice size s fault a c
+        → (fault : Option HostFault) (c : State) → RecoversLogs F ALL_LOGS (reads b.now.words) fault b c → RecoversLogsAtEachMoment F (reads b.now.words) fault b c → RecoversDevice size s fault a c
     RecoversDevice-taken b applies settles stands fault c turns leaves =
         let said : b.now.said ≡ a.now.said = Changes-said (ByOneLog DAEMON_LOG (new_value device_word (log_of i DAEMON_LOG))) None a b settles.changes in
         record {
           rights = rights_by fault c (second_changes b settles stands fault c turns);
           moments = Leaves-then Still Still Still [] a b c (said ∙ sym (append-nil a.now.said)) (λ front image p. p) (λ more image p. p) (first_moments None b applies settles)
-              (Leaves-weaker (Silently (IsAlike F (reads b.now.words))) Still b c (λ bytes image p. (p.0, alike_still b settles stands image p.1)) leaves.moments);
+              (Leaves-weaker (Silently (IsRecoveredAlike F (reads b.now.words))) Still b c (λ bytes image p. (p.0, alike_still b settles stands image p.1)) leaves.moments);
           rested = leaves.rested;
         }
 

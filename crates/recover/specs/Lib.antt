@@ -1,4 +1,4 @@
 pub mod Verdicts
 pub mod Judging
-pub mod Turns
+pub mod RecoveredLogs
 pub mod Recovery

@@ -17,7 +17,7 @@ use Rattle.registry.specs.declared.LoadFault.{LoadFault}
 use Rattle.registry.specs.declared.LoadFault.TheVariants as loads
 use Rattle.recover.specs.declared.recovery.RecoverFault.{RecoverFault}
 use Rattle.recover.specs.declared.recovery.RecoverFault.TheVariants as faults
-use Rattle.recover.specs.Turns.{IsOfLogs}
+use Rattle.recover.specs.RecoveredLogs.{IsOfLogs}
 
 -- the host's fault that a recovery answered
 abbrev pub recover_fault : {T : Type 0} → Result T RecoverFault → Option HostFault
@@ -54,7 +54,7 @@ pub record KeepsRecord (client : ℕ) (start image : Image) : Type 0 where
 
 -- An image from which a start makes what it makes of another: it stands for the same world and settles to the same, the same logs are refused, a
 -- client's logs that are closed in the other are closed in it, and the same clients' logs are registered.
-pub record StandsStill (size : ℕ) (s : StoredWorld) (start image : Image) : Type 0 where
+pub record StandsAsStart (size : ℕ) (s : StoredWorld) (start image : Image) : Type 0 where
   pub stands : world_of size image ≡ Some s
   pub settles : (k : ℕ) → settled s.frames image k ≡ settled s.frames start k
   pub refused : RefusesSame s.frames start image
@@ -77,5 +77,5 @@ pub record ReplaysLogs (F : ℕ) (fault : Option HostFault) (old new : State) : 
 -- differs from that only where a recovery may write. Without a fault the device is rested again.
 pub record RecoversDevice (size : ℕ) (s : StoredWorld) (fault : Option HostFault) (old new : State) : Type 0 where
   pub rights : Leaves (Silently (DiffersByRecovery s.frames (reads old.now.words))) old new
-  pub moments : Leaves (Silently (StandsStill size s (reads old.now.words))) old new
+  pub moments : Leaves (Silently (StandsAsStart size s (reads old.now.words))) old new
   pub rested : fault ≡ None → IsRested new.now.words

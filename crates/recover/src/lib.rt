@@ -6,7 +6,7 @@
 
 mod judge;
 mod recovery;
-mod turn;
+mod client_logs;
 
 pub use judge::Mark;
 pub use recovery::{RecoverFault, Report, recover};

@@ -14,11 +14,11 @@ ghost use Rattle.pud_defs.specs.World.{StoredWorld, world_of};
 ghost use Rattle.soundness.specs.Judging.{IsRoomFor};
 ghost use Rattle.log_replay.specs.Replaying.{Anything};
 ghost use Rattle.recover.specs.Verdicts.{verdict_of, mark_of, is_refused_mark};
-ghost use Rattle.recover.specs.Turns.{TakesTurns, LeavesTurns};
+ghost use Rattle.recover.specs.RecoveredLogs.{RecoversLogs, RecoversLogsAtEachMoment};
 ghost use Rattle.recover.specs.Recovery.{recover_fault, ReplaysLogs, RecoversDevice};
 
 use crate::judge::Mark;
-use crate::turn::take_logs;
+use crate::client_logs::recover_logs;
 use pm_model::{Host, HostFault};
 use pud_defs::layout::LOGS;
 use registry::{LoadFault, load_sound};
@@ -95,7 +95,7 @@ pub fn recover<H: Host>(h: &mut H) -> Result<Report, RecoverFault>
     ensures cause { H.counts h.new ≡ after_fault (recover_fault result) (H.counts h.old) }
 {
     let geo = load_sound(h)?;
-    let marks = take_logs(h, geo.frames)?;
+    let marks = recover_logs(h, geo.frames)?;
     Ok(Report {
         frames: geo.frames,
         marks,

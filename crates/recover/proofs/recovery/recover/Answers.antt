@@ -15,7 +15,7 @@ use Rattle.registry.specs.declared.LoadFault.{LoadFault}
 use Rattle.registry.specs.declared.LoadFault.TheVariants.{NotSound}
 use Rattle.registry.specs.Registry.{load_fault}
 use Rattle.recover.specs.Verdicts.{verdict_of, mark_of, is_refused_mark}
-use Rattle.recover.specs.Turns.{TakesTurns, LeavesTurns}
+use Rattle.recover.specs.RecoveredLogs.{RecoversLogs, RecoversLogsAtEachMoment}
 use Rattle.recover.proofs.Marks.{refused_as_marked}
 use Rattle.recover.proofs.Recovered.{ReplaysLogs-loaded, ReplaysLogs-failed, ReplaysLogs-done, RecoversDevice-loaded, RecoversDevice-taken, verdict_behind, frames_loaded}
 use Rattle.recover.proofs.recovery.recover.Goals as goal
@@ -42,11 +42,11 @@ returns-in_err-marks-clause-replays g c =
     let p = err_from_is_err_and c.from_residual-in_err-marks.result c.from_residual-in_err-marks.ensures.1 in
     let a = g.H.Host.state c.args.h.now in
     let b = g.H.Host.state c.load_sound.new.h in
-    let d = g.H.Host.state c.take_logs.new.h in
+    let d = g.H.Host.state c.recover_logs.new.h in
     let fault = c.in_err-marks.field-0.0 in
     rw (p.1, p.2) (λ t size same s world.
     ReplaysLogs-failed size s a world b (c.in_ok-geo.ensures.settles t (λ is. cc)) (c.in_ok-geo.ensures.stands t size same ∙ world) fault d
-    (subst (λ (F : ℕ). TakesTurns F ALL_LOGS (reads b.now.words) (Some fault) b d) (c.in_ok-geo.ensures.geo t size same s world).0
+    (subst (λ (F : ℕ). RecoversLogs F ALL_LOGS (reads b.now.words) (Some fault) b d) (c.in_ok-geo.ensures.geo t size same s world).0
     (c.in_err-marks.ensures.takes t (reads b.now.words) refl)))
 
 pub returns-in_err-marks-clause-recovers : goal.returns-in_err-marks-clause-recovers
@@ -54,39 +54,39 @@ returns-in_err-marks-clause-recovers g c =
     let p = err_from_is_err_and c.from_residual-in_err-marks.result c.from_residual-in_err-marks.ensures.1 in
     let a = g.H.Host.state c.args.h.now in
     let b = g.H.Host.state c.load_sound.new.h in
-    let d = g.H.Host.state c.take_logs.new.h in
+    let d = g.H.Host.state c.recover_logs.new.h in
     let fault = c.in_err-marks.field-0.0 in
     rw (p.1, p.2) (λ t size same s rested world.
     let applies = c.in_ok-geo.ensures.applies t size same s rested world in
     let frames = (c.in_ok-geo.ensures.geo t size same s world).0 in
     RecoversDevice-taken size s a world rested b applies (c.in_ok-geo.ensures.settles t (λ is. cc)) (c.in_ok-geo.ensures.stands t size same ∙ world) (Some fault) d
-    (subst (λ (F : ℕ). TakesTurns F ALL_LOGS (reads b.now.words) (Some fault) b d) frames (c.in_err-marks.ensures.takes t (reads b.now.words) refl))
-    (subst (λ (F : ℕ). LeavesTurns F (reads b.now.words) (Some fault) b d) frames (c.in_err-marks.ensures.leaves t (reads b.now.words) (applies.rested refl) refl)))
+    (subst (λ (F : ℕ). RecoversLogs F ALL_LOGS (reads b.now.words) (Some fault) b d) frames (c.in_err-marks.ensures.takes t (reads b.now.words) refl))
+    (subst (λ (F : ℕ). RecoversLogsAtEachMoment F (reads b.now.words) (Some fault) b d) frames (c.in_err-marks.ensures.leaves t (reads b.now.words) (applies.rested refl) refl)))
 
 pub returns-in_err-marks-clause-any : goal.returns-in_err-marks-clause-any
 returns-in_err-marks-clause-any g c =
     let p = err_from_is_err_and c.from_residual-in_err-marks.result c.from_residual-in_err-marks.ensures.1 in
-    rw (p.1, p.2) (λ t. Changes-then Anything (Some c.in_err-marks.field-0.0) (g.H.Host.state c.args.h.now) (g.H.Host.state c.load_sound.new.h) (g.H.Host.state c.take_logs.new.h)
+    rw (p.1, p.2) (λ t. Changes-then Anything (Some c.in_err-marks.field-0.0) (g.H.Host.state c.args.h.now) (g.H.Host.state c.load_sound.new.h) (g.H.Host.state c.recover_logs.new.h)
     (c.in_ok-geo.ensures.any t) (c.in_err-marks.ensures.any t))
 
 pub returns-clause-replays : goal.returns-clause-replays
 returns-clause-replays g c = λ t size same s world.
     let a = g.H.Host.state c.args.h.now in
     let b = g.H.Host.state c.load_sound.new.h in
-    let d = g.H.Host.state c.take_logs.new.h in
+    let d = g.H.Host.state c.recover_logs.new.h in
     ReplaysLogs-done size s a world b (c.in_ok-geo.ensures.settles t (λ is. cc)) (c.in_ok-geo.ensures.stands t size same ∙ world) d
-    (subst (λ (F : ℕ). TakesTurns F ALL_LOGS (reads b.now.words) None b d) (c.in_ok-geo.ensures.geo t size same s world).0 (c.in_ok-marks.ensures.takes t (reads b.now.words) refl))
+    (subst (λ (F : ℕ). RecoversLogs F ALL_LOGS (reads b.now.words) None b d) (c.in_ok-geo.ensures.geo t size same s world).0 (c.in_ok-marks.ensures.takes t (reads b.now.words) refl))
 
 pub returns-clause-recovers : goal.returns-clause-recovers
 returns-clause-recovers g c = λ t size same s rested world.
     let a = g.H.Host.state c.args.h.now in
     let b = g.H.Host.state c.load_sound.new.h in
-    let d = g.H.Host.state c.take_logs.new.h in
+    let d = g.H.Host.state c.recover_logs.new.h in
     let applies = c.in_ok-geo.ensures.applies t size same s rested world in
     let frames = (c.in_ok-geo.ensures.geo t size same s world).0 in
     RecoversDevice-taken size s a world rested b applies (c.in_ok-geo.ensures.settles t (λ is. cc)) (c.in_ok-geo.ensures.stands t size same ∙ world) None d
-    (subst (λ (F : ℕ). TakesTurns F ALL_LOGS (reads b.now.words) None b d) frames (c.in_ok-marks.ensures.takes t (reads b.now.words) refl))
-    (subst (λ (F : ℕ). LeavesTurns F (reads b.now.words) None b d) frames (c.in_ok-marks.ensures.leaves t (reads b.now.words) (applies.rested refl) refl))
+    (subst (λ (F : ℕ). RecoversLogs F ALL_LOGS (reads b.now.words) None b d) frames (c.in_ok-marks.ensures.takes t (reads b.now.words) refl))
+    (subst (λ (F : ℕ). RecoversLogsAtEachMoment F (reads b.now.words) None b d) frames (c.in_ok-marks.ensures.leaves t (reads b.now.words) (applies.rested refl) refl))
 
 pub returns-clause-frames : goal.returns-clause-frames
 returns-clause-frames g c = λ t.
@@ -109,4 +109,4 @@ returns-clause-refused g c = λ t image is number few.
 
 pub returns-clause-any : goal.returns-clause-any
 returns-clause-any g c = λ t.
-    Changes-then Anything None (g.H.Host.state c.args.h.now) (g.H.Host.state c.load_sound.new.h) (g.H.Host.state c.take_logs.new.h) (c.in_ok-geo.ensures.any t) (c.in_ok-marks.ensures.any t)
+    Changes-then Anything None (g.H.Host.state c.args.h.now) (g.H.Host.state c.load_sound.new.h) (g.H.Host.state c.recover_logs.new.h) (c.in_ok-geo.ensures.any t) (c.in_ok-marks.ensures.any t)

@@ -17,16 +17,16 @@ use Rattle.pud_defs.specs.Tables.{tables_of}
 use Rattle.pud_defs.specs.Spaces.{owner_of, has_closed_logs}
 use Rattle.pud_defs.specs.Allowed.{is_accepted}
 use Rattle.pud_defs.specs.Settled.{gives_to, ALL_LOGS, client_of_log, log_number_at, given_by_log, is_refused_log, is_accepted_log, settled_over}
-use Rattle.pud_defs.specs.LogsTaken.{TakesLog}
+use Rattle.pud_defs.specs.LogsReplayed.{ReplaysClientLog}
 use Rattle.pud_defs.proofs.Spaces.{owner_of-same}
 use Rattle.pud_defs.proofs.TablesOf.{tables_of-same}
-use Rattle.pud_defs.proofs.LogsTaken.{beside_gate, below_logs, other_log, settled_same, refused_same, nothing_below_next, logs_still_closed}
+use Rattle.pud_defs.proofs.LogsReplayed.{beside_gate, below_logs, other_log, settled_same, refused_same, nothing_below_next, logs_still_closed}
 use Rattle.recover.specs.Verdicts.{verdict_by, verdict_of}
-use Rattle.recover.specs.Turns.{ByLog, ByLogs, TakesTurn, LeavesTurn, IsAlike, TakesTurns, LeavesTurns}
+use Rattle.recover.specs.RecoveredLogs.{ByClientLog, ByClientLogs, RecoversLog, RecoversLogAtEachMoment, IsRecoveredAlike, RecoversLogs, RecoversLogsAtEachMoment}
 
 -- ---- images that are alike
 
-module _ (F : ℕ) (image now : Image) (alike : IsAlike F image now) where
+module _ (F : ℕ) (image now : Image) (alike : IsRecoveredAlike F image now) where
   alike_tables : tables_of F now ≡ tables_of F image
   alike_tables = tables_of-same F now image (λ k low high. alike.below k (omega arith)) (λ k low high. alike.below k high)
 
@@ -44,8 +44,8 @@ module _ (F : ℕ) (image now : Image) (alike : IsAlike F image now) where
     unfolding verdict_of
     alike_verdict = λ p. verdict_by (alike_tables p) (alike_owner (client_of_log number) (omega arith) p) (log p)
 
-pub IsAlike-itself : (F : ℕ) (image now : Image) → now ≡ image → IsAlike F image now
-IsAlike-itself F image now same = record {
+pub IsRecoveredAlike-itself : (F : ℕ) (image now : Image) → now ≡ image → IsRecoveredAlike F image now
+IsRecoveredAlike-itself F image now same = record {
   below = λ k high. ap (λ (i : Image). i k) same;
   settled = ap (settled_over F) same;
   refused = λ number few. ap (λ (i : Image). is_refused_log F i number) same;
@@ -54,29 +54,29 @@ IsAlike-itself F image now same = record {
 
 -- ---- no log yet, and one more
 
-pub TakesTurns-start : (F : ℕ) (image : Image) (old : State) → reads old.now.words ≡ image → TakesTurns F 0 image None old old
-TakesTurns-start F image old is = record {
-  changes = Changes-still (ByLogs F 0 image) None old old (λ cut. absurd (let it : None ≡ Some _ = cut in cc)) refl;
-  alike = λ none. IsAlike-itself F image (reads old.now.words) is;
+pub RecoversLogs-start : (F : ℕ) (image : Image) (old : State) → reads old.now.words ≡ image → RecoversLogs F 0 image None old old
+RecoversLogs-start F image old is = record {
+  changes = Changes-still (ByClientLogs F 0 image) None old old (λ cut. absurd (let it : None ≡ Some _ = cut in cc)) refl;
+  alike = λ none. IsRecoveredAlike-itself F image (reads old.now.words) is;
   gone = λ none. record { each = λ other w below. absurd (omega arith) };
   closed = λ none number below. absurd (omega arith);
   left = λ none number low few. ap (λ (i : Image). log_of i (log_number_at F number)) is;
 }
 
-pub LeavesTurns-still : (F : ℕ) (image : Image) (fault : Option HostFault) (old new : State) → IsRested old.now.words → reads old.now.words ≡ image → new ≡ old → LeavesTurns F image fault old new
-LeavesTurns-still F image fault old new rested is same = record {
-  moments = Leaves-still (Silently (IsAlike F image)) old new (λ other picked. (refl, IsAlike-itself F image other (reads_only old.now.words other rested picked ∙ is))) same;
+pub RecoversLogsAtEachMoment-still : (F : ℕ) (image : Image) (fault : Option HostFault) (old new : State) → IsRested old.now.words → reads old.now.words ≡ image → new ≡ old → RecoversLogsAtEachMoment F image fault old new
+RecoversLogsAtEachMoment-still F image fault old new rested is same = record {
+  moments = Leaves-still (Silently (IsRecoveredAlike F image)) old new (λ other picked. (refl, IsRecoveredAlike-itself F image other (reads_only old.now.words other rested picked ∙ is))) same;
   rested = λ none. subst (λ (s : State). IsRested s.now.words) (sym same) rested;
 }
 
-module _ (F number : ℕ) (image : Image) (old mid : State) (known : number < ALL_LOGS) (first : TakesTurns F number image None old mid) where
+module _ (F number : ℕ) (image : Image) (old mid : State) (known : number < ALL_LOGS) (first : RecoversLogs F number image None old mid) where
   abbrev m : Image
   m = reads mid.now.words
 
   said_mid : mid.now.said ≡ old.now.said
-  said_mid = Changes-said (ByLogs F number image) None old mid first.changes
+  said_mid = Changes-said (ByClientLogs F number image) None old mid first.changes
 
-  alike_mid : IsAlike F image m
+  alike_mid : IsRecoveredAlike F image m
   alike_mid = first.alike refl
 
   log_mid : log_of m (log_number_at F number) ≡ log_of image (log_number_at F number)
@@ -86,7 +86,7 @@ module _ (F number : ℕ) (image : Image) (old mid : State) (known : number < AL
   pub verdict_mid : verdict_of F m number ≡ verdict_of F image number
   verdict_mid = alike_verdict F image m alike_mid number known log_mid
 
-  alike_then : (other : Image) → TakesLog F number m other → IsAlike F image other
+  alike_then : (other : Image) → ReplaysClientLog F number m other → IsRecoveredAlike F image other
   alike_then other takes = record {
     below = λ k high. below_logs F number m other known takes k high ∙ alike_mid.below k high;
     settled = settled_same F number m other known takes (first.gone refl) ∙ alike_mid.settled;
@@ -94,10 +94,10 @@ module _ (F number : ℕ) (image : Image) (old mid : State) (known : number < AL
     closed = λ client few was. logs_still_closed F number m other known takes client few (alike_mid.closed client few was);
   }
 
-  widened : (k v : ℕ) → ByLogs F number image k v → ByLogs F (number + 1) image k v
+  widened : (k v : ℕ) → ByClientLogs F number image k v → ByClientLogs F (number + 1) image k v
   widened k v by = record { number = by.number; below = let low = by.below in omega arith; of_log = by.of_log }
 
-  of_this : (k v : ℕ) → ByLog F number m k v → ByLogs F (number + 1) image k v
+  of_this : (k v : ℕ) → ByClientLog F number m k v → ByClientLogs F (number + 1) image k v
   of_this k v by = record {
     number = number;
     below = omega arith;
@@ -110,15 +110,15 @@ module _ (F number : ℕ) (image : Image) (old mid : State) (known : number < AL
     };
   }
 
-  module _ (fault : Option HostFault) (new : State) (turn : TakesTurn F number m fault mid new) where
+  module _ (fault : Option HostFault) (new : State) (turn : RecoversLog F number m fault mid new) where
     still_closed : fault ≡ None → (n : ℕ) → n < number → m (log_number_at F n) ≡ CLOSED_GATE → reads new.now.words (log_number_at F n) ≡ CLOSED_GATE
     still_closed none n below was = beside_gate F number m (reads new.now.words) known (turn.takes none) (log_number_at F n) (omega arith) (λ same. absurd (omega arith)) ∙ was
 
-    pub TakesTurns-turn : TakesTurns F (number + 1) image fault old new
+    pub TakesTurns-turn : RecoversLogs F (number + 1) image fault old new
     TakesTurns-turn = record {
-      changes = Changes-then (ByLogs F (number + 1) image) fault old mid new
-          (Changes-wider (ByLogs F number image) (ByLogs F (number + 1) image) None old mid widened first.changes)
-          (Changes-wider (ByLog F number m) (ByLogs F (number + 1) image) fault mid new of_this turn.changes);
+      changes = Changes-then (ByClientLogs F (number + 1) image) fault old mid new
+          (Changes-wider (ByClientLogs F number image) (ByClientLogs F (number + 1) image) None old mid widened first.changes)
+          (Changes-wider (ByClientLog F number m) (ByClientLogs F (number + 1) image) fault mid new of_this turn.changes);
       alike = λ none. alike_then (reads new.now.words) (turn.takes none);
       gone = λ none. nothing_below_next F number m (reads new.now.words) known (turn.takes none) (first.gone refl) (turn.gone none);
       closed = λ none n below accepted. elim (cases_eq n number) [
@@ -129,11 +129,11 @@ module _ (F number : ℕ) (image : Image) (old mid : State) (known : number < AL
       left = λ none n low few. other_log F number m (reads new.now.words) known (turn.takes none) n few (λ same. absurd (omega arith)) ∙ first.left refl n (omega arith) few;
     }
 
-    pub LeavesTurns-turn : LeavesTurns F image None old mid → LeavesTurn F number m fault mid new → LeavesTurns F image fault old new
+    pub LeavesTurns-turn : RecoversLogsAtEachMoment F image None old mid → RecoversLogAtEachMoment F number m fault mid new → RecoversLogsAtEachMoment F image fault old new
     LeavesTurns-turn so_far last = record {
-      moments = Leaves-then (Silently (IsAlike F image)) (Silently (IsAlike F image)) (Silently (IsAlike F image)) [] old mid new (said_mid ∙ sym (append-nil old.now.said))
+      moments = Leaves-then (Silently (IsRecoveredAlike F image)) (Silently (IsRecoveredAlike F image)) (Silently (IsRecoveredAlike F image)) [] old mid new (said_mid ∙ sym (append-nil old.now.said))
           (λ front other q. q) (λ more other q. q) so_far.moments
-          (Leaves-weaker (Silently (TakesLog F number m)) (Silently (IsAlike F image)) mid new (λ bytes other q. (q.0, alike_then other q.1)) last.moments);
+          (Leaves-weaker (Silently (ReplaysClientLog F number m)) (Silently (IsRecoveredAlike F image)) mid new (λ bytes other q. (q.0, alike_then other q.1)) last.moments);
       rested = last.rested;
     }
 
@@ -141,10 +141,10 @@ pub none_of_fault : {A : Type 0} (fault : HostFault) → Some fault ≡ None →
 none_of_fault fault none = absurd (let it : None ≡ Some fault = sym none in cc)
 
 -- where a fault came nothing is said of the end
-pub TakesTurns-failed : (F count all : ℕ) (image : Image) (fault : HostFault) (old new : State) → count ≤ all → TakesTurns F count image (Some fault) old new → TakesTurns F all image (Some fault) old new
-TakesTurns-failed F count all image fault old new few t =
+pub RecoversLogs-failed : (F count all : ℕ) (image : Image) (fault : HostFault) (old new : State) → count ≤ all → RecoversLogs F count image (Some fault) old new → RecoversLogs F all image (Some fault) old new
+RecoversLogs-failed F count all image fault old new few t =
     record {
-      changes = Changes-wider (ByLogs F count image) (ByLogs F all image) (Some fault) old new (λ k v by. record { number = by.number; below = let low = by.below in omega arith; of_log = by.of_log }) t.changes;
+      changes = Changes-wider (ByClientLogs F count image) (ByClientLogs F all image) (Some fault) old new (λ k v by. record { number = by.number; below = let low = by.below in omega arith; of_log = by.of_log }) t.changes;
       alike = λ none. none_of_fault fault none;
       gone = λ none. none_of_fault fault none;
       closed = λ none. none_of_fault fault none;
@@ -152,8 +152,8 @@ TakesTurns-failed F count all image fault old new few t =
     }
 
 -- nor of one log, where it was only read
-pub TakesTurn-unread : (F number : ℕ) (image : Image) (fault : HostFault) (old new : State) → Changes (ByLog F number image) (Some fault) old new → TakesTurn F number image (Some fault) old new
-TakesTurn-unread F number image fault old new changes = record {
+pub RecoversLog-unread : (F number : ℕ) (image : Image) (fault : HostFault) (old new : State) → Changes (ByClientLog F number image) (Some fault) old new → RecoversLog F number image (Some fault) old new
+RecoversLog-unread F number image fault old new changes = record {
   changes = changes;
   takes = λ none. none_of_fault fault none;
   gone = λ none. none_of_fault fault none;

@@ -11,7 +11,7 @@ use Rattle.pud_defs.specs.Layout.{tables_end}
 use Rattle.pud_defs.specs.Entries.{log_of}
 use Rattle.pud_defs.specs.Spaces.{has_closed_logs}
 use Rattle.pud_defs.specs.Settled.{ALL_LOGS, log_number_at, given_by_log, is_refused_log, is_accepted_log, settled_over}
-use Rattle.pud_defs.specs.LogsTaken.{TakesLog, GivesNothingBelow}
+use Rattle.pud_defs.specs.LogsReplayed.{ReplaysClientLog, GivesNothingBelow}
 use Rattle.log_replay.specs.Replaying.{IsNamed}
 
 -- The log of a number is registered and allowed by the image, and the word is its gate, or one that it gives a value.
@@ -20,8 +20,8 @@ pub record IsOfLog (F number : ℕ) (image : Image) (k : ℕ) : Type 0 where
   pub place : (k ≡ log_number_at F number) ⊎ IsNamed (given_by_log F image number) k
 
 -- any value may come to such a word
-abbrev pub ByLog : (F number : ℕ) → Image → Footprint
-ByLog F number image k v = IsOfLog F number image k
+abbrev pub ByClientLog : (F number : ℕ) → Image → Footprint
+ByClientLog F number image k v = IsOfLog F number image k
 
 -- the word is one of the first logs
 pub record IsOfLogs (F count : ℕ) (image : Image) (k : ℕ) : Type 0 where
@@ -29,25 +29,25 @@ pub record IsOfLogs (F count : ℕ) (image : Image) (k : ℕ) : Type 0 where
   pub below : number < count
   pub of_log : IsOfLog F number image k
 
-abbrev pub ByLogs : (F count : ℕ) → Image → Footprint
-ByLogs F count image k v = IsOfLogs F count image k
+abbrev pub ByClientLogs : (F count : ℕ) → Image → Footprint
+ByClientLogs F count image k v = IsOfLogs F count image k
 
 -- One log of a device that reads as this image was replayed and closed, where it is registered and allowed; else nothing changed. Without a
 -- fault what is read is the image with that log taken, the log gives nothing any more, and one that is allowed has the gate of a closed log.
-pub record TakesTurn (F number : ℕ) (image : Image) (fault : Option HostFault) (old new : State) : Type 0 where
-  pub changes : Changes (ByLog F number image) fault old new
-  pub takes : fault ≡ None → TakesLog F number image (reads new.now.words)
+pub record RecoversLog (F number : ℕ) (image : Image) (fault : Option HostFault) (old new : State) : Type 0 where
+  pub changes : Changes (ByClientLog F number image) fault old new
+  pub takes : fault ≡ None → ReplaysClientLog F number image (reads new.now.words)
   pub gone : fault ≡ None → (w : ℕ) → given_by_log F (reads new.now.words) number w ≡ None
   pub closed : fault ≡ None → is_accepted_log F image number ≡ true → reads new.now.words (log_number_at F number) ≡ CLOSED_GATE
 
 -- Of a rested device each image left at any moment has the log taken, wholly or in part; without a fault it is rested again.
-pub record LeavesTurn (F number : ℕ) (image : Image) (fault : Option HostFault) (old new : State) : Type 0 where
-  pub moments : Leaves (Silently (TakesLog F number image)) old new
+pub record RecoversLogAtEachMoment (F number : ℕ) (image : Image) (fault : Option HostFault) (old new : State) : Type 0 where
+  pub moments : Leaves (Silently (ReplaysClientLog F number image)) old new
   pub rested : fault ≡ None → IsRested new.now.words
 
 -- An image from which a start makes the same: below the clients' logs it is the same, it settles to the same, the same logs are refused, and where
 -- a client's logs were closed they are.
-pub record IsAlike (F : ℕ) (before image : Image) : Type 0 where
+pub record IsRecoveredAlike (F : ℕ) (before image : Image) : Type 0 where
   pub below : (k : ℕ) → k < tables_end F → image k ≡ before k
   pub settled : settled_over F image ≡ settled_over F before
   pub refused : (number : ℕ) → number < ALL_LOGS → is_refused_log F image number ≡ is_refused_log F before number
@@ -56,14 +56,14 @@ pub record IsAlike (F : ℕ) (before image : Image) : Type 0 where
 -- The first logs of a device that reads as this image were replayed and closed in turn, those that are registered and allowed; nothing else
 -- changed. Without a fault a start makes the same of what is read, none of them gives anything any more, those that are allowed have the gate
 -- of a closed log, and those behind them are as they were.
-pub record TakesTurns (F count : ℕ) (image : Image) (fault : Option HostFault) (old new : State) : Type 0 where
-  pub changes : Changes (ByLogs F count image) fault old new
-  pub alike : fault ≡ None → IsAlike F image (reads new.now.words)
+pub record RecoversLogs (F count : ℕ) (image : Image) (fault : Option HostFault) (old new : State) : Type 0 where
+  pub changes : Changes (ByClientLogs F count image) fault old new
+  pub alike : fault ≡ None → IsRecoveredAlike F image (reads new.now.words)
   pub gone : fault ≡ None → GivesNothingBelow F count (reads new.now.words)
   pub closed : fault ≡ None → (number : ℕ) → number < count → is_accepted_log F image number ≡ true → reads new.now.words (log_number_at F number) ≡ CLOSED_GATE
   pub left : fault ≡ None → (number : ℕ) → count ≤ number → number < ALL_LOGS → log_of (reads new.now.words) (log_number_at F number) ≡ log_of image (log_number_at F number)
 
 -- Of a rested device a start makes the same of each image left at any moment; without a fault it is rested again.
-pub record LeavesTurns (F : ℕ) (image : Image) (fault : Option HostFault) (old new : State) : Type 0 where
-  pub moments : Leaves (Silently (IsAlike F image)) old new
+pub record RecoversLogsAtEachMoment (F : ℕ) (image : Image) (fault : Option HostFault) (old new : State) : Type 0 where
+  pub moments : Leaves (Silently (IsRecoveredAlike F image)) old new
   pub rested : fault ≡ None → IsRested new.now.words

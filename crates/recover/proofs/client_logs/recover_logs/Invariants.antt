@@ -7,8 +7,8 @@ use Rattle.pud_defs.specs.Settled.{ALL_LOGS}
 use Rattle.log_replay.specs.Replaying.{Anything}
 use Rattle.recover.specs.declared.judge.Mark.TheVariants.{Closed}
 use Rattle.recover.specs.Verdicts.{verdict_of, mark_of}
-use Rattle.recover.specs.Turns.{TakesTurns, LeavesTurns}
-use Rattle.recover.proofs.turn.take_logs.Given as goal
+use Rattle.recover.specs.RecoveredLogs.{RecoversLogs, RecoversLogsAtEachMoment}
+use Rattle.recover.proofs.client_logs.recover_logs.Given as goal
 
 abbrev pub invariant-loop-number : goal.invariant-loop-number
 invariant-loop-number g l = record {
@@ -17,8 +17,8 @@ invariant-loop-number g l = record {
   marks : g.H.Host.tells → (image : Image) → reads (g.H.Host.state l.initial.h).now.words ≡ image
       → (k : ℕ) → k < l.number → slice_index_or l.marks k Closed ≡ mark_of (verdict_of l.frames image k);
   takes : g.H.Host.tells → (image : Image) → reads (g.H.Host.state l.initial.h).now.words ≡ image
-      → TakesTurns l.frames l.number image None (g.H.Host.state l.initial.h) (g.H.Host.state l.h);
+      → RecoversLogs l.frames l.number image None (g.H.Host.state l.initial.h) (g.H.Host.state l.h);
   leaves : g.H.Host.tells → (image : Image) → IsRested (g.H.Host.state l.initial.h).now.words → reads (g.H.Host.state l.initial.h).now.words ≡ image
-      → LeavesTurns l.frames image None (g.H.Host.state l.initial.h) (g.H.Host.state l.h);
+      → RecoversLogsAtEachMoment l.frames image None (g.H.Host.state l.initial.h) (g.H.Host.state l.h);
   any : g.H.Host.tells → Changes Anything None (g.H.Host.state l.initial.h) (g.H.Host.state l.h);
 }

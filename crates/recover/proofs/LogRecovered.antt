@@ -17,14 +17,14 @@ use Rattle.pud_defs.specs.Entries.{log_of, is_idle_gate}
 use Rattle.pud_defs.specs.Tables.{tables_of}
 use Rattle.pud_defs.specs.Spaces.{owner_of}
 use Rattle.pud_defs.specs.Settled.{client_of_log, log_number_at, given_by_log, is_refused_log, is_accepted_log}
-use Rattle.pud_defs.specs.LogsTaken.{TakesLog}
+use Rattle.pud_defs.specs.LogsReplayed.{ReplaysClientLog}
 use Rattle.pud_defs.proofs.Replay.{overwritten-stays, empty_range_of}
 use Rattle.pud_defs.proofs.Settled.{gives_to-closed}
 use Rattle.pud_defs.proofs.Accepted.{gives_to-accepted, accepted_not_refused}
 use Rattle.log_replay.specs.declared.Target.{Target}
 use Rattle.log_replay.specs.declared.Target.TheVariants.{Puddles}
 use Rattle.log_replay.specs.Replaying.{HasDurableLog, new_values, ByLog as ByOneLog, IsSettling, SettlesLog}
-use Rattle.recover.specs.Turns.{ByLog, TakesTurn, LeavesTurn}
+use Rattle.recover.specs.RecoveredLogs.{ByClientLog, RecoversLog, RecoversLogAtEachMoment}
 
 -- a log with an idle gate gives nothing
 pub idle_gives_nothing : (F number : ℕ) (image : Image) (w : ℕ) → is_idle_gate (image (log_number_at F number)) ≡ true → given_by_log F image number w ≡ None
@@ -36,8 +36,8 @@ pub durable_log : (to : Target) (at : ℕ) (words : Words) → IsRested words �
 durable_log to at words rested = record { gate = rested.each at; counted = λ k low high. rested.each k; table = λ k placing. rested.each k }
 
 -- an image is one of which the log was taken in no part
-TakesLog-itself : (F number : ℕ) (image other : Image) → other ≡ image → TakesLog F number image other
-TakesLog-itself F number image other same = record {
+ReplaysClientLog-itself : (F number : ℕ) (image other : Image) → other ≡ image → ReplaysClientLog F number image other
+ReplaysClientLog-itself F number image other same = record {
   stays = λ k apart none. ap (λ (i : Image). i k) same;
   gate = inl (ap (λ (i : Image). i (log_number_at F number)) same);
 }
@@ -56,19 +56,19 @@ module _ (F number : ℕ) (image : Image) (old : State) (is : reads old.now.word
   -- ---- nothing happens to the log
 
   pub TakesTurn-still : (fault : Option HostFault) (new : State) → (fault ≡ Some Cut → ⊥) → new ≡ old → ((w : ℕ) → given_by_log F image number w ≡ None)
-      → (fault ≡ None → is_accepted_log F image number ≡ true → image at ≡ CLOSED_GATE) → TakesTurn F number image fault old new
+      → (fault ≡ None → is_accepted_log F image number ≡ true → image at ≡ CLOSED_GATE) → RecoversLog F number image fault old new
   TakesTurn-still fault new uncut same nothing closed =
       let now : reads new.now.words ≡ image = ap (λ (s : State). reads s.now.words) same ∙ is in
       record {
-        changes = Changes-still (ByLog F number image) fault old new uncut same;
-        takes = λ none. TakesLog-itself F number image (reads new.now.words) now;
+        changes = Changes-still (ByClientLog F number image) fault old new uncut same;
+        takes = λ none. ReplaysClientLog-itself F number image (reads new.now.words) now;
         gone = λ none w. ap (λ (i : Image). given_by_log F i number w) now ∙ nothing w;
         closed = λ none accepted. ap (λ (i : Image). i at) now ∙ closed none accepted;
       }
 
-  pub LeavesTurn-still : IsRested old.now.words → (fault : Option HostFault) (new : State) → new ≡ old → LeavesTurn F number image fault old new
+  pub LeavesTurn-still : IsRested old.now.words → (fault : Option HostFault) (new : State) → new ≡ old → RecoversLogAtEachMoment F number image fault old new
   LeavesTurn-still rested fault new same = record {
-    moments = Leaves-still (Silently (TakesLog F number image)) old new (λ other picked. (refl, TakesLog-itself F number image other (the_image rested other picked))) same;
+    moments = Leaves-still (Silently (ReplaysClientLog F number image)) old new (λ other picked. (refl, ReplaysClientLog-itself F number image other (the_image rested other picked))) same;
     rested = λ none. subst (λ (s : State). IsRested s.now.words) (sym same) rested;
   }
 
@@ -82,9 +82,9 @@ module _ (F number : ℕ) (image : Image) (old : State) (is : reads old.now.word
     uncut : fault ≡ None → fault ≡ Some Cut → ⊥
     uncut none cut = absurd (let it : None ≡ Some Cut = sym none ∙ cut in cc)
 
-    pub TakesTurn-closed : TakesTurn F number image fault old new
+    pub TakesTurn-closed : RecoversLog F number image fault old new
     TakesTurn-closed = record {
-      changes = Changes-wider (written (only at CLOSED_GATE)) (ByLog F number image) fault old new (λ k v new. record { accepted = accepted; place = inl (only_at at CLOSED_GATE k v new) }) p.changes;
+      changes = Changes-wider (written (only at CLOSED_GATE)) (ByClientLog F number image) fault old new (λ k v new. record { accepted = accepted; place = inl (only_at at CLOSED_GATE k v new) }) p.changes;
       takes = λ none. record {
         stays = λ k apart gives. (p.changes.keeps (uncut none) k (λ v new. apart (only_at at CLOSED_GATE k v new))).newest ∙ ap (λ (i : Image). i k) is;
         gate = inr (record { gate = shut_gate none; there = λ k v some. absurd (none-some v (sym (nothing k) ∙ some)); allowed = not_refused accepted });
@@ -93,11 +93,11 @@ module _ (F number : ℕ) (image : Image) (old : State) (is : reads old.now.word
       closed = λ none a. shut_gate none;
     }
 
-    pub LeavesTurn-closed : IsRested old.now.words → LeavesTurn F number image fault old new
+    pub LeavesTurn-closed : IsRested old.now.words → RecoversLogAtEachMoment F number image fault old new
     LeavesTurn-closed rested = record {
-      moments = Leaves-changes (TakesLog F number image) (written (only at CLOSED_GATE)) fault old new (λ before other picked from.
+      moments = Leaves-changes (ReplaysClientLog F number image) (written (only at CLOSED_GATE)) fault old new (λ before other picked from.
           elim (one_word at CLOSED_GATE before other from) [
-            | inl same ↦ TakesLog-itself F number image other (same ∙ the_image rested before picked)
+            | inl same ↦ ReplaysClientLog-itself F number image other (same ∙ the_image rested before picked)
             | inr shut ↦ record {
               stays = λ k apart none. shut.others k apart ∙ ap (λ (i : Image). i k) (the_image rested before picked);
               gate = inr (record { gate = shut.there; there = λ k v some. absurd (none-some v (sym (nothing k) ∙ some)); allowed = not_refused accepted });
@@ -126,9 +126,9 @@ module _ (F number : ℕ) (image : Image) (old : State) (is : reads old.now.word
     settled_gate : fault ≡ None → reads new.now.words at ≡ CLOSED_GATE
     settled_gate none = HasOnly-newest (new.now.words at) CLOSED_GATE (s.closed none)
 
-    pub TakesTurn-settled : TakesTurn F number image fault old new
+    pub TakesTurn-settled : RecoversLog F number image fault old new
     TakesTurn-settled = record {
-      changes = Changes-wider (ByOneLog at write) (ByLog F number image) fault old new (λ k v by. record {
+      changes = Changes-wider (ByOneLog at write) (ByClientLog F number image) fault old new (λ k v by. record {
         accepted = accepted;
         place = elim by [ inl here ↦ inl here | inr named ↦ inr (record { value = named.value; is = given_values accepted k ∙ named.is }) ];
       }) s.changes;
@@ -144,9 +144,9 @@ module _ (F number : ℕ) (image : Image) (old : State) (is : reads old.now.word
       closed = λ none a. settled_gate none;
     }
 
-    pub LeavesTurn-settled : IsRested old.now.words → Leaves (Silently (IsSettling (Puddles F) at old.now.words)) old new → LeavesTurn F number image fault old new
+    pub LeavesTurn-settled : IsRested old.now.words → Leaves (Silently (IsSettling (Puddles F) at old.now.words)) old new → RecoversLogAtEachMoment F number image fault old new
     LeavesTurn-settled rested moments = record {
-      moments = Leaves-weaker (Silently (IsSettling (Puddles F) at old.now.words)) (Silently (TakesLog F number image)) old new (λ bytes other q.
+      moments = Leaves-weaker (Silently (IsSettling (Puddles F) at old.now.words)) (Silently (ReplaysClientLog F number image)) old new (λ bytes other q.
           let p = q.1 in
           let from : p.before ≡ image = the_image rested p.before p.picked in
           let values : (k : ℕ) → new_values (Puddles F) at p.before k ≡ given_by_log F image number k = λ k.

@@ -7,8 +7,8 @@ use Rattle.pud_defs.specs.Settled.{log_number_at}
 use Rattle.log_replay.specs.declared.Target.TheVariants.{Puddles}
 use Rattle.log_replay.specs.Replaying.{place_of, IsPlacedCopy, IsReplayable, IsSettling, SettlesLog}
 use Rattle.recover.proofs.Accepting.{of_replayed, of_refused, not_accepted_gives_nothing, may_be_replayed}
-use Rattle.recover.proofs.TurnTaken.{TakesTurn-still, LeavesTurn-still, TakesTurn-settled, LeavesTurn-settled, durable_log}
-use Rattle.recover.proofs.turn.settle_judged.Goals as goal
+use Rattle.recover.proofs.LogRecovered.{TakesTurn-still, LeavesTurn-still, TakesTurn-settled, LeavesTurn-settled, durable_log}
+use Rattle.recover.proofs.client_logs.settle_judged.Goals as goal
 
 pub returns-in-Refused-clause-takes : goal.returns-in-Refused-clause-takes
 returns-in-Refused-clause-takes g c = λ t image is found judged.

@@ -6,16 +6,16 @@ use Rattle.pm_model.proofs.Reading.{Changes-read, still_reads}
 use Rattle.pm_model.proofs.Changes.{Changes-then}
 use Rattle.log_replay.specs.Replaying.{Anything}
 use Rattle.recover.specs.Judging.{mark_judged}
-use Rattle.recover.specs.Turns.{TakesTurn, LeavesTurn}
+use Rattle.recover.specs.RecoveredLogs.{RecoversLog, RecoversLogAtEachMoment}
 use Rattle.recover.proofs.Accepting.{of_none, not_accepted_gives_nothing}
-use Rattle.recover.proofs.TurnTaken.{TakesTurn-still, LeavesTurn-still}
-use Rattle.recover.proofs.TurnsTaken.{TakesTurn-unread}
-use Rattle.recover.proofs.turn.take_log.Goals as goal
+use Rattle.recover.proofs.LogRecovered.{TakesTurn-still, LeavesTurn-still}
+use Rattle.recover.proofs.LogsRecovered.{RecoversLog-unread}
+use Rattle.recover.proofs.client_logs.recover_log.Goals as goal
 
 pub returns-in_err-judged-clause-takes : goal.returns-in_err-judged-clause-takes
 returns-in_err-judged-clause-takes g c =
     let p = err_from_is_err_and c.from_residual.result c.from_residual.ensures.1 in
-    rw (p.1, p.2) (λ t image is. TakesTurn-unread c.args.frames c.args.number image _ _ _ (Changes-read c.in_err-judged.ensures.only_reads t))
+    rw (p.1, p.2) (λ t image is. RecoversLog-unread c.args.frames c.args.number image _ _ _ (Changes-read c.in_err-judged.ensures.only_reads t))
 
 pub returns-in_err-judged-clause-leaves : goal.returns-in_err-judged-clause-leaves
 returns-in_err-judged-clause-leaves g c =
@@ -40,7 +40,7 @@ returns-in_err-settle_judged-clause-takes g c =
     let read = c.judge_log.ensures.only_reads in
     rw (p.1, p.2) (λ t image is.
     let it = c.in_ok-judged.ensures.judged t image is in
-    subst (λ (s : State). TakesTurn c.args.frames c.args.number image (Some c.in_err-settle_judged.field-0.0) s (g.H.Host.state c.settle_judged.new.h)) (read.stays t)
+    subst (λ (s : State). RecoversLog c.args.frames c.args.number image (Some c.in_err-settle_judged.field-0.0) s (g.H.Host.state c.settle_judged.new.h)) (read.stays t)
     (c.in_err-settle_judged.ensures.takes t image (still_reads read t is) (sym (ap (option_map mark_judged) c.in-Some.is) ∙ it.verdict) (rw c.in-Some.is at it.copied)))
 
 pub returns-in_err-settle_judged-clause-leaves : goal.returns-in_err-settle_judged-clause-leaves
@@ -49,7 +49,7 @@ returns-in_err-settle_judged-clause-leaves g c =
     let read = c.judge_log.ensures.only_reads in
     rw (p.1, p.2) (λ t image rested is.
     let it = c.in_ok-judged.ensures.judged t image is in
-    subst (λ (s : State). LeavesTurn c.args.frames c.args.number image (Some c.in_err-settle_judged.field-0.0) s (g.H.Host.state c.settle_judged.new.h)) (read.stays t)
+    subst (λ (s : State). RecoversLogAtEachMoment c.args.frames c.args.number image (Some c.in_err-settle_judged.field-0.0) s (g.H.Host.state c.settle_judged.new.h)) (read.stays t)
     (c.in_err-settle_judged.ensures.leaves t image (subst (λ (s : State). IsRested s.now.words) (sym (read.stays t)) rested) (still_reads read t is)
     (sym (ap (option_map mark_judged) c.in-Some.is) ∙ it.verdict) (rw c.in-Some.is at it.copied)))
 
@@ -60,14 +60,14 @@ pub returns-clause-takes : goal.returns-clause-takes
 returns-clause-takes g c = λ t image is.
     let read = c.judge_log.ensures.only_reads in
     let it = c.in_ok-judged.ensures.judged t image is in
-    subst (λ (s : State). TakesTurn c.args.frames c.args.number image None s (g.H.Host.state c.settle_judged.new.h)) (read.stays t)
+    subst (λ (s : State). RecoversLog c.args.frames c.args.number image None s (g.H.Host.state c.settle_judged.new.h)) (read.stays t)
     (c.in_ok-settle_judged.ensures.takes t image (still_reads read t is) (sym (ap (option_map mark_judged) c.in-Some.is) ∙ it.verdict) (rw c.in-Some.is at it.copied))
 
 pub returns-clause-leaves : goal.returns-clause-leaves
 returns-clause-leaves g c = λ t image rested is.
     let read = c.judge_log.ensures.only_reads in
     let it = c.in_ok-judged.ensures.judged t image is in
-    subst (λ (s : State). LeavesTurn c.args.frames c.args.number image None s (g.H.Host.state c.settle_judged.new.h)) (read.stays t)
+    subst (λ (s : State). RecoversLogAtEachMoment c.args.frames c.args.number image None s (g.H.Host.state c.settle_judged.new.h)) (read.stays t)
     (c.in_ok-settle_judged.ensures.leaves t image (subst (λ (s : State). IsRested s.now.words) (sym (read.stays t)) rested) (still_reads read t is)
     (sym (ap (option_map mark_judged) c.in-Some.is) ∙ it.verdict) (rw c.in-Some.is at it.copied))
 

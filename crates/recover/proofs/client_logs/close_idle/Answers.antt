@@ -10,8 +10,8 @@ use Rattle.pud_defs.specs.Image.{Image}
 use Rattle.pud_defs.specs.Settled.{log_number_at}
 use Rattle.log_replay.specs.Replaying.{Anything}
 use Rattle.recover.proofs.Accepting.{of_closed, closed_gives_nothing}
-use Rattle.recover.proofs.TurnTaken.{TakesTurn-still, LeavesTurn-still, TakesTurn-closed, LeavesTurn-closed}
-use Rattle.recover.proofs.turn.close_idle.Goals as goal
+use Rattle.recover.proofs.LogRecovered.{TakesTurn-still, LeavesTurn-still, TakesTurn-closed, LeavesTurn-closed}
+use Rattle.recover.proofs.client_logs.close_idle.Goals as goal
 
 pub returns-in_err-gate-clause-takes : goal.returns-in_err-gate-clause-takes
 returns-in_err-gate-clause-takes g c =

@@ -12,7 +12,7 @@ use Rattle.pud_defs.specs.Spaces.{Owner, owner_of, is_closed_log, has_closed_log
 use Rattle.pud_defs.specs.Tables.{Tables, tables_of}
 use Rattle.pud_defs.specs.Allowed.{are_allowed_entries, is_allowed_log, is_refused}
 use Rattle.pud_defs.specs.Settled.{gives_to, ALL_LOGS, client_of_log, log_number_at, given_by_log, is_refused_log, given_in_turn, is_in_logs, settled_over}
-use Rattle.pud_defs.specs.LogsTaken.{TakesLog, GivesNothingBelow}
+use Rattle.pud_defs.specs.LogsReplayed.{ReplaysClientLog, GivesNothingBelow}
 use Rattle.pud_defs.proofs.Replay.{entries_of-idle, empty_range_of}
 use Rattle.pud_defs.proofs.Spaces.{all_below-from, all_below-each, log_of-within, is_closed_log-same, owner_of-same}
 use Rattle.pud_defs.proofs.TablesOf.{tables_of-same, frames_of_tables}
@@ -78,7 +78,7 @@ not_a_gate F number w known outside here =
 
 -- ---- one log is taken
 
-module _ (F number : ℕ) (i j : Image) (known : number < ALL_LOGS) (takes : TakesLog F number i j) where
+module _ (F number : ℕ) (i j : Image) (known : number < ALL_LOGS) (takes : ReplaysClientLog F number i j) where
   -- below the frames nothing differs but the gate
   pub beside_gate : (k : ℕ) → k < frames_at F → (k ≡ log_number_at F number → ⊥) → j k ≡ i k
   beside_gate k below other = takes.stays k other (given_by_log-below F i number k below)

@@ -10,7 +10,7 @@ ghost use Rattle.pud_defs.specs.Settled.{ALL_LOGS};
 ghost use Rattle.log_replay.specs.Replaying.{Anything};
 ghost use Rattle.recover.specs.Verdicts.{verdict_of, mark_of};
 ghost use Rattle.recover.specs.Judging.{IsJudgedCopy};
-ghost use Rattle.recover.specs.Turns.{TakesTurn, LeavesTurn, TakesTurns, LeavesTurns};
+ghost use Rattle.recover.specs.RecoveredLogs.{RecoversLog, RecoversLogAtEachMoment, RecoversLogs, RecoversLogsAtEachMoment};
 
 use crate::judge::{JudgedLog, Mark, judge_log};
 use log_replay::settle_copy;
@@ -25,9 +25,9 @@ fn close_idle<H: Host>(h: &mut H, frames: u32, number: LogNo) -> Result<(), Host
     requires known { number < ALL_LOGS }
     requires room { device_words frames ≤ (H.counts h.old).size }
     ensures takes { H.tells → (image : Image) → reads (H.state h.old).now.words ≡ image
-        → verdict_of frames image number ≡ Option.Some Mark.Closed → TakesTurn frames number image (fault_of result) (H.state h.old) (H.state h.new) }
+        → verdict_of frames image number ≡ Option.Some Mark.Closed → RecoversLog frames number image (fault_of result) (H.state h.old) (H.state h.new) }
     ensures leaves { H.tells → (image : Image) → IsRested (H.state h.old).now.words → reads (H.state h.old).now.words ≡ image
-        → verdict_of frames image number ≡ Option.Some Mark.Closed → LeavesTurn frames number image (fault_of result) (H.state h.old) (H.state h.new) }
+        → verdict_of frames image number ≡ Option.Some Mark.Closed → RecoversLogAtEachMoment frames number image (fault_of result) (H.state h.old) (H.state h.new) }
     ensures any { H.tells → Changes Anything (fault_of result) (H.state h.old) (H.state h.new) }
     ensures cause { H.counts h.new ≡ after_fault (fault_of result) (H.counts h.old) }
 {
@@ -50,9 +50,9 @@ fn settle_judged<H: Host>(
     requires known { number < ALL_LOGS }
     requires room { device_words frames ≤ (H.counts h.old).size }
     ensures takes { H.tells → (image : Image) → reads (H.state h.old).now.words ≡ image → Option.Some judged.now.mark ≡ verdict_of frames image number
-        → IsJudgedCopy frames image number judged.now → TakesTurn frames number image (fault_of result) (H.state h.old) (H.state h.new) }
+        → IsJudgedCopy frames image number judged.now → RecoversLog frames number image (fault_of result) (H.state h.old) (H.state h.new) }
     ensures leaves { H.tells → (image : Image) → IsRested (H.state h.old).now.words → reads (H.state h.old).now.words ≡ image → Option.Some judged.now.mark ≡ verdict_of frames image number
-        → IsJudgedCopy frames image number judged.now → LeavesTurn frames number image (fault_of result) (H.state h.old) (H.state h.new) }
+        → IsJudgedCopy frames image number judged.now → RecoversLogAtEachMoment frames number image (fault_of result) (H.state h.old) (H.state h.new) }
     ensures any { H.tells → Changes Anything (fault_of result) (H.state h.old) (H.state h.new) }
     ensures cause { H.counts h.new ≡ after_fault (fault_of result) (H.counts h.old) }
 {
@@ -65,14 +65,14 @@ fn settle_judged<H: Host>(
 
 /// Judges a log, and then replays and closes it if it is allowed. The answer is what was found of it, None where it is not registered:
 /// then nothing changes, nor where it is refused.
-fn take_log<H: Host>(h: &mut H, frames: u32, number: LogNo) -> Result<Option<Mark>, HostFault>
+fn recover_log<H: Host>(h: &mut H, frames: u32, number: LogNo) -> Result<Option<Mark>, HostFault>
     requires few { frames ≤ MAX_FRAMES }
     requires known { number < ALL_LOGS }
     requires room { device_words frames ≤ (H.counts h.old).size }
     ensures mark { H.tells → (image : Image) → reads (H.state h.old).now.words ≡ image → IfOk result (λ mark. mark ≡ verdict_of frames image number) }
-    ensures takes { H.tells → (image : Image) → reads (H.state h.old).now.words ≡ image → TakesTurn frames number image (fault_of result) (H.state h.old) (H.state h.new) }
+    ensures takes { H.tells → (image : Image) → reads (H.state h.old).now.words ≡ image → RecoversLog frames number image (fault_of result) (H.state h.old) (H.state h.new) }
     ensures leaves { H.tells → (image : Image) → IsRested (H.state h.old).now.words → reads (H.state h.old).now.words ≡ image
-        → LeavesTurn frames number image (fault_of result) (H.state h.old) (H.state h.new) }
+        → RecoversLogAtEachMoment frames number image (fault_of result) (H.state h.old) (H.state h.new) }
     ensures any { H.tells → Changes Anything (fault_of result) (H.state h.old) (H.state h.new) }
     ensures cause { H.counts h.new ≡ after_fault (fault_of result) (H.counts h.old) }
 {
@@ -88,21 +88,21 @@ fn take_log<H: Host>(h: &mut H, frames: u32, number: LogNo) -> Result<Option<Mar
 ///
 /// A log that is not registered takes one load, and one that counts no word and is closed five. Of any other each entry word is loaded once, and one
 /// that is replayed takes two fences.
-pub(crate) fn take_logs<H: Host>(h: &mut H, frames: u32) -> Result<[Mark; LOGS], HostFault>
+pub(crate) fn recover_logs<H: Host>(h: &mut H, frames: u32) -> Result<[Mark; LOGS], HostFault>
     requires few { frames ≤ MAX_FRAMES }
     requires room { device_words frames ≤ (H.counts h.old).size }
     ensures marks { H.tells → (image : Image) → reads (H.state h.old).now.words ≡ image
         → IfOk result (λ marks. (number : ℕ) → number < ALL_LOGS → slice_index_or marks number Mark.Closed ≡ mark_of (verdict_of frames image number)) }
     ensures takes { H.tells → (image : Image) → reads (H.state h.old).now.words ≡ image
-        → TakesTurns frames ALL_LOGS image (fault_of result) (H.state h.old) (H.state h.new) }
+        → RecoversLogs frames ALL_LOGS image (fault_of result) (H.state h.old) (H.state h.new) }
     ensures leaves { H.tells → (image : Image) → IsRested (H.state h.old).now.words → reads (H.state h.old).now.words ≡ image
-        → LeavesTurns frames image (fault_of result) (H.state h.old) (H.state h.new) }
+        → RecoversLogsAtEachMoment frames image (fault_of result) (H.state h.old) (H.state h.new) }
     ensures any { H.tells → Changes Anything (fault_of result) (H.state h.old) (H.state h.new) }
     ensures cause { H.counts h.new ≡ after_fault (fault_of result) (H.counts h.old) }
 {
     let mut marks = [Mark::Closed; LOGS];
     for number in 0..LOGS as u32 {
-        marks[number as usize] = mark_of(take_log(h, frames, number)?);
+        marks[number as usize] = mark_of(recover_log(h, frames, number)?);
     }
     Ok(marks)
 }
