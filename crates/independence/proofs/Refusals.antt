@@ -18,7 +18,7 @@ use Rattle.pud_defs.specs.ExportFile.{FileContents, file_graph}
 use Rattle.pud_defs.specs.Tables.{Pool}
 use Rattle.pud_defs.specs.World.{World, Transaction}
 use Rattle.pud_defs.specs.Transactions.{is_own, units_of, depth_of, deferred_of}
-use Rattle.pud_defs.specs.Step.{owns, reads, writes, causes, client_of, name_in, is_allowed, charge, is_present, acting, graph_in, graph_seen, object_of, field_of, object_named, field_named, pool_for, open_for, graph_for, holds_own, holds_others, is_deep, type_named, lacks_object, are_of_two_kinds, mixes_kinds, is_referenced_in, frees_referenced, is_full_graph, file_for, contents_in, contents_named, of_contents, is_clash, is_full, clashes_with, clashes, overfills, holds, refusal_of, text_for, next_in, value_for, value_or_ok, text_or, answer}
+use Rattle.pud_defs.specs.Step.{has_owner_right, has_read_right, has_write_right, causes, client_of, name_in, is_allowed, charge, is_present, acting, graph_in, graph_seen, object_of, field_of, object_named, field_named, pool_for, open_for, graph_for, has_own_open, has_other_open, is_deep, type_named, lacks_object, differ_in_kind, mixes_kinds, is_referenced_in, frees_referenced, is_full_graph, file_for, contents_in, contents_named, of_contents, is_clash, is_full, clashes_with, clashes, overfills, cause_holds, refusal_of, text_for, next_in, value_for, value_or_ok, text_or, answer}
 use Rattle.independence.specs.Own.{Names, is_within}
 use Rattle.independence.specs.Shares.{seen}
 use Rattle.independence.specs.Limits.{is_full_by_itself}
@@ -78,27 +78,27 @@ is_some-seen : (o : Option Pool) → is_some (seen o) ≡ is_some o
 is_some-seen None = refl
 is_some-seen (Some p) = refl
 
-owns-seen : (who : Option Owner) (o : Option Pool) → owns who (seen o) ≡ owns who o
-owns-seen None o = refl
-owns-seen (Some who) None = refl
-owns-seen (Some who) (Some p) = refl
+has_owner_right-seen : (who : Option Owner) (o : Option Pool) → has_owner_right who (seen o) ≡ has_owner_right who o
+has_owner_right-seen None o = refl
+has_owner_right-seen (Some who) None = refl
+has_owner_right-seen (Some who) (Some p) = refl
 
-reads-seen : (who : Option Owner) (o : Option Pool) → reads who (seen o) ≡ reads who o
-reads-seen None o = refl
-reads-seen (Some who) None = refl
-reads-seen (Some who) (Some p) = refl
+has_read_right-seen : (who : Option Owner) (o : Option Pool) → has_read_right who (seen o) ≡ has_read_right who o
+has_read_right-seen None o = refl
+has_read_right-seen (Some who) None = refl
+has_read_right-seen (Some who) (Some p) = refl
 
-writes-seen : (who : Option Owner) (o : Option Pool) → writes who (seen o) ≡ writes who o
-writes-seen None o = refl
-writes-seen (Some who) None = refl
-writes-seen (Some who) (Some p) = refl
+has_write_right-seen : (who : Option Owner) (o : Option Pool) → has_write_right who (seen o) ≡ has_write_right who o
+has_write_right-seen None o = refl
+has_write_right-seen (Some who) None = refl
+has_write_right-seen (Some who) (Some p) = refl
 
 is_allowed-seen : (c : Command) (who : Option Owner) (o : Option Pool) → is_allowed c who (seen o) ≡ is_allowed c who o
-is_allowed-seen (Get client n s f) who o = reads-seen who o
-is_allowed-seen (Dump client n) who o = reads-seen who o
-is_allowed-seen (Export client n file) who o = reads-seen who o
-is_allowed-seen (Begin client n) who o = writes-seen who o
-is_allowed-seen c who o = owns-seen who o
+is_allowed-seen (Get client n s f) who o = has_read_right-seen who o
+is_allowed-seen (Dump client n) who o = has_read_right-seen who o
+is_allowed-seen (Export client n file) who o = has_read_right-seen who o
+is_allowed-seen (Begin client n) who o = has_write_right-seen who o
+is_allowed-seen c who o = has_owner_right-seen who o
 
 is_none-mapped : {A B : Type 0} (f : A → B) (o : Option A) → is_none (option_map f o) ≡ is_none o
 is_none-mapped f None = refl
@@ -132,8 +132,8 @@ module _ (w v : World) (c : Command) (same : LooksSame w v c) where
       ∙ alike (is_allowed c (acting v.clients (client_of c))) (is_allowed-seen c (acting v.clients (client_of c)))
 
 kind-same : (w v : World) (c : Command) → graph_for w c ≡ graph_for v c → mixes_kinds w c ≡ mixes_kinds v c
-kind-same w v (Set client n s f x) graph = ap (λ (g : Option Graph). are_of_two_kinds (field_of f (object_of s g)) x) graph
-kind-same w v (Later client n s f x) graph = ap (λ (g : Option Graph). are_of_two_kinds (field_of f (object_of s g)) x) graph
+kind-same w v (Set client n s f x) graph = ap (λ (g : Option Graph). differ_in_kind (field_of f (object_of s g)) x) graph
+kind-same w v (Later client n s f x) graph = ap (λ (g : Option Graph). differ_in_kind (field_of f (object_of s g)) x) graph
 kind-same w v c graph = refl
 
 held-same : (w v : World) (c : Command) → graph_for w c ≡ graph_for v c → open_for w c ≡ open_for v c → frees_referenced w c ≡ frees_referenced v c
@@ -173,8 +173,8 @@ module _ (w v : World) (c : Command) (same : LooksSame w v c) (p : IsUnlimited w
   abbrev seen_same : graph_for w c ≡ graph_for v c
   seen_same = graph_for-same w v c same
 
-  each_same : (r : Refusal) → SameOrNever (holds w c) (holds v c) (causes c) r
-  unfolding holds refusal_of
+  each_same : (r : Refusal) → SameOrNever (cause_holds w c) (cause_holds v c) (causes c) r
+  unfolding cause_holds refusal_of
   each_same refusals.Bad = inl refl
   each_same refusals.Client = inl (ap (λ (clients : ℕ → Option Owner). not (is_present clients (client_of c))) same.clients)
   each_same refusals.Taken = inl (ap (λ (clients : ℕ → Option Owner). is_present clients (client_of c)) same.clients)
@@ -182,9 +182,9 @@ module _ (w v : World) (c : Command) (same : LooksSame w v c) (p : IsUnlimited w
   each_same refusals.Exists = inl (alike w v c same is_some is_some-seen)
   each_same refusals.Wild = inl (alike w v c same (λ o. is_none (graph_in o)) (λ o. ap is_none (graph_in-seen o)))
   each_same refusals.Denied = inl (ap not (allowed-same w v c same))
-  each_same refusals.Busy = inl (ap (holds_others (client_of c)) same.opened)
-  each_same refusals.OpenHere = inl (ap (holds_own (client_of c)) same.opened)
-  each_same refusals.Tx = inl (ap (λ (t : Option Transaction). not (holds_own (client_of c) t)) same.opened)
+  each_same refusals.Busy = inl (ap (has_other_open (client_of c)) same.opened)
+  each_same refusals.OpenHere = inl (ap (has_own_open (client_of c)) same.opened)
+  each_same refusals.Tx = inl (ap (λ (t : Option Transaction). not (has_own_open (client_of c) t)) same.opened)
   each_same refusals.NoType = inl (ap (λ (types : List (ℕ × ℕ)). is_none (map_of (type_named c) types)) same.types)
   each_same refusals.Object = inl (ap (lacks_object c) seen_same)
   each_same refusals.Field = inl (ap (λ (g : Option Graph). is_none (field_named c (object_named c g))) seen_same)
@@ -203,7 +203,7 @@ module _ (w v : World) (c : Command) (same : LooksSame w v c) (p : IsUnlimited w
   -- the command is refused for the same, or in neither
   pub refusal_of-same : refusal_of w c ≡ refusal_of v c
   unfolding refusal_of
-  refusal_of-same = find-same (holds w c) (holds v c) (causes c) each_same
+  refusal_of-same = find-same (cause_holds w c) (cause_holds v c) (causes c) each_same
 
 -- ---- what is answered
 

@@ -20,7 +20,7 @@ use Rattle.pud_defs.specs.DeferredValues.{deferred_set_names}
 use Rattle.pud_defs.specs.PoolChanges.{pool_named}
 use Rattle.pud_defs.specs.World.{Transaction, World, open_on}
 use Rattle.pud_defs.specs.Transactions.{units_of, deferred_of}
-use Rattle.pud_defs.specs.Step.{graph_seen, field_of, misses, are_of_two_kinds, refusal_of}
+use Rattle.pud_defs.specs.Step.{graph_seen, field_of, is_dangling, differ_in_kind, refusal_of}
 use Rattle.puddle_header.specs.Places.{place_of_slot}
 use Rattle.graph_read.specs.declared.fields.FieldRead.{FieldRead}
 use Rattle.graph_read.specs.Reading.{table_in, place_in_pool, read_value, read_by}
@@ -44,7 +44,7 @@ use Rattle.pool_transaction.proofs.TransactionRefusals.{change_refusal, refusal_
 -- ---- what was read of a field, as the machine's causes
 
 by_field : (o : Option Val) (x : Val) (units : ℕ)
-    → field_refusal (read_value o) x units ≡ cond (is_none o) (Some refusals.Field) (cond (are_of_two_kinds o x) (Some refusals.Kind) (cond (ltb LOG_ENTRY_WORDS (units + SET_UNITS)) (Some refusals.TooBig) None))
+    → field_refusal (read_value o) x units ≡ cond (is_none o) (Some refusals.Field) (cond (differ_in_kind o x) (Some refusals.Kind) (cond (ltb LOG_ENTRY_WORDS (units + SET_UNITS)) (Some refusals.TooBig) None))
 by_field None x units = refl
 by_field (Some v) x units = refl
 
@@ -53,7 +53,7 @@ abbrev by_places : (missed : Bool) (o : Option Object) (f : ℕ) (x : Val) (unit
 by_places missed o f x units =
     cond (missed || is_none o) (Some refusals.Object)
     (cond (is_none (field_of f o)) (Some refusals.Field)
-    (cond (are_of_two_kinds (field_of f o) x) (Some refusals.Kind)
+    (cond (differ_in_kind (field_of f o) x) (Some refusals.Kind)
     (cond (ltb LOG_ENTRY_WORDS (units + SET_UNITS)) (Some refusals.TooBig) None)))
 
 missing : (missed : Bool) (f : ℕ) (x : Val) (units : ℕ) → Some refusals.Object ≡ by_places missed None f x units
@@ -104,7 +104,7 @@ module _ (size : ℕ) (w : World) (memory : Memory) (s : State) (ready : IsReady
     object_is = object_by_place (types_of image) frames at image now graph_at
 
     -- an object is missed where no word stands for the value
-    missed_is : (x : Val) → misses (Some now) x ≡ is_none (word_for frames at image x)
+    missed_is : (x : Val) → is_dangling (Some now) x ≡ is_none (word_for frames at image x)
     missed_is (Num v) = refl
     missed_is (Ref r) =
         ap (λ (o : Option Object). not (eqb r 0) && is_none o) (object_is r) ∙ missed_when (eqb r 0) (place_in_pool frames at image r) (object_at (table_in frames at image)) (address_at at)

@@ -21,7 +21,7 @@ use Rattle.pud_defs.specs.Keyed.{keyed, under}
 use Rattle.pud_defs.specs.Stored.{Stored, places_of, place_word}
 use Rattle.pud_defs.specs.Graph.{Content, Number, Null, at_place, place_in, target, puddles_by, content, field_count, Table, table_of, contents_by, contents_or_none, value_of, object_at, live, all_stand, Graph, Object, object_in, is_referenced, graph_of}
 use Rattle.pud_defs.specs.DeferredValues.{deferred_set_names}
-use Rattle.pud_defs.specs.Step.{misses, are_of_two_kinds, refusal_of}
+use Rattle.pud_defs.specs.Step.{is_dangling, differ_in_kind, refusal_of}
 use Rattle.pud_defs.specs.World.{Transaction, World, open_on}
 use Rattle.pud_defs.proofs.Keyed.{find-keyed, first_from_some}
 use Rattle.pud_defs.proofs.Graphs.{graph_of-each, under_serial-free, under_serial-used}
@@ -131,7 +131,7 @@ live_or_null s None named = elim (cases_eq s 0) [
 ]
 live_or_null s (Some x) named = inr refl
 
-may_hold : (g : Graph) (m f : ℕ) (was x : Val) → is_reference was ≡ is_pointer m f → are_of_two_kinds (Some was) x ≡ false → misses (Some g) x ≡ false → MayHold m f g x
+may_hold : (g : Graph) (m f : ℕ) (was x : Val) → is_reference was ≡ is_pointer m f → differ_in_kind (Some was) x ≡ false → is_dangling (Some g) x ≡ false → MayHold m f g x
 may_hold g m f (Num v) (Num n) kind same named = sym kind
 may_hold g m f (Ref r) (Num n) kind same named = absurd (let no : true ≡ false = same in cc)
 may_hold g m f (Num v) (Ref s) kind same named = absurd (let no : true ≡ false = same in cc)
@@ -161,7 +161,7 @@ may_free t s none =
 may_change : (types : List (ℕ × ℕ)) (st : Stored) (t : Transaction) (change : Update) → graph_of types st ≡ Some t.now → change_refusal change (Some t.now) t.deferred t.units ≡ None → MayChange types t change
 may_change types st t (Set s f x) is none = may_set types st t.now t.units s f x is (settable_by t.now t.units s f x none)
 may_change types st t (Later s f x) is none = may_set types st t.now t.units s f x is (settable_by t.now t.units s f x none)
-may_change types st t (Root s) is none = live_or_null s (object_in s t.now) (unless (misses (Some t.now) (Ref s)) refusals.Object _ none).0
+may_change types st t (Root s) is none = live_or_null s (object_in s t.now) (unless (is_dangling (Some t.now) (Ref s)) refusals.Object _ none).0
 may_change types st t (Free s) is none = may_free t s none
 
 -- a line that is not refused changes what may be changed

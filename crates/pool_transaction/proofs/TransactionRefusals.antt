@@ -21,7 +21,7 @@ use Rattle.pud_defs.specs.Tables.{Pool}
 use Rattle.pud_defs.specs.PoolChanges.{pool_named, lacks_frames}
 use Rattle.pud_defs.specs.World.{Transaction, World, open_on}
 use Rattle.pud_defs.specs.Transactions.{is_own, is_others, units_of, deferred_of}
-use Rattle.pud_defs.specs.Step.{graph_in, graph_seen, object_of, field_of, misses, are_of_two_kinds, is_referenced_in, grows, lacks_room, holds, refusal_of}
+use Rattle.pud_defs.specs.Step.{graph_in, graph_seen, object_of, field_of, is_dangling, differ_in_kind, is_referenced_in, grows, lacks_room, cause_holds, refusal_of}
 use Rattle.pool_transaction.specs.declared.changing.Update.{Update}
 use Rattle.pool_transaction.specs.declared.changing.Update.TheVariants as changes
 use Rattle.pool_transaction.specs.Changing.{update_line}
@@ -44,14 +44,14 @@ own_refusal who found client opened =
 -- of `set`, where the client's own transaction is open, by the graph as it is seen and the units that are used
 abbrev pub setting_refusal : Option Graph → (units s f : ℕ) → Val → Option Refusal
 setting_refusal g units s f x =
-    cond (misses g x || is_none (object_of s g)) (Some refusals.Object)
+    cond (is_dangling g x || is_none (object_of s g)) (Some refusals.Object)
     (cond (is_none (field_of f (object_of s g))) (Some refusals.Field)
-    (cond (are_of_two_kinds (field_of f (object_of s g)) x) (Some refusals.Kind)
+    (cond (differ_in_kind (field_of f (object_of s g)) x) (Some refusals.Kind)
     (cond (ltb LOG_ENTRY_WORDS (units + SET_UNITS)) (Some refusals.TooBig) None)))
 
 -- of `root`
 abbrev pub rooting_refusal : Option Graph → (units s : ℕ) → Option Refusal
-rooting_refusal g units s = cond (misses g (Ref s)) (Some refusals.Object) (cond (ltb LOG_ENTRY_WORDS (units + SET_UNITS)) (Some refusals.TooBig) None)
+rooting_refusal g units s = cond (is_dangling g (Ref s)) (Some refusals.Object) (cond (ltb LOG_ENTRY_WORDS (units + SET_UNITS)) (Some refusals.TooBig) None)
 
 -- of `free`, also by what is asked for later
 abbrev pub freeing_refusal : Option Graph → List DeferredValue → (units s : ℕ) → Option Refusal
@@ -96,16 +96,16 @@ module _ (w : World) (client : ℕ) (name : List ℕ) where
   opened = open_on name w
 
   pub refusal_of-commit : refusal_of w (Commit client name) ≡ own_refusal acts found client opened
-  unfolding refusal_of holds
+  unfolding refusal_of cause_holds
   refusal_of-commit = refl
 
   pub refusal_of-abort : refusal_of w (Abort client name) ≡ refusal_of w (Commit client name)
-  unfolding refusal_of holds
+  unfolding refusal_of cause_holds
   refusal_of-abort = refl
 
   -- what is asked for later is refused as what is set
   pub refusal_of-later : (s f : ℕ) (x : Val) → refusal_of w (commands.Later client name s f x) ≡ refusal_of w (Set client name s f x)
-  unfolding refusal_of holds
+  unfolding refusal_of cause_holds
   refusal_of-later s f x = refl
 
   abbrev its_own : Update → Option Refusal
@@ -119,7 +119,7 @@ module _ (w : World) (client : ℕ) (name : List ℕ) where
   behind_own rest = behind refusals.Client refusals.Pool refusals.Wild refusals.Busy refusals.Tx (not (is_some acts)) (is_none found) (is_none (graph_in found)) (is_others client opened) (not (is_own client opened)) rest
 
   change_by : (change : Update) → refusal_of w (update_line change client name) ≡ option_or (own_refusal acts found client opened) (its_own change)
-  unfolding refusal_of holds
+  unfolding refusal_of cause_holds
   change_by (changes.Set s f x) = behind_own (its_own (changes.Set s f x))
   change_by (changes.Later s f x) = behind_own (its_own (changes.Later s f x))
   change_by (changes.Root s) = behind_own (its_own (changes.Root s))
@@ -130,7 +130,7 @@ module _ (w : World) (client : ℕ) (name : List ℕ) where
 
   new_by : (t : ℕ) → refusal_of w (New client name t)
       ≡ option_or (own_refusal acts found client opened) (making_refusal (map_of t w.stored.types) (units_of opened) (lacks_room w name) (grows w name && lacks_frames w.stored 1))
-  unfolding refusal_of holds
+  unfolding refusal_of cause_holds
   new_by t = behind_own (making_refusal (map_of t w.stored.types) (units_of opened) (lacks_room w name) (grows w name && lacks_frames w.stored 1))
 
   pub refusal_of-new : (t : ℕ) → refusal_of w (New client name t)
@@ -170,8 +170,8 @@ own_by w active mask words is =
 
 pub own_is_open : (w : World) (active : List (Option ActiveTransaction)) (mask : Write) (words : Words) (client : ℕ) (name : List ℕ) (number : ℕ) → AreActive w active mask words → IsOwnTransaction client name number active
     → refusal_of w (Commit client name) ≡ None
-own_is_open w active mask words client name number holds own =
-    ap₂ (λ (c : ℕ) (n : List ℕ). refusal_of w (Commit c n)) (sym own.whose) (sym own.pool) ∙ own_by w own.active mask words (active_is w active mask words holds number own.active own.is)
+own_is_open w active mask words client name number cause_holds own =
+    ap₂ (λ (c : ℕ) (n : List ℕ). refusal_of w (Commit c n)) (sym own.whose) (sym own.pool) ∙ own_by w own.active mask words (active_is w active mask words cause_holds number own.active own.is)
 
 -- ---- what a line that is not refused has
 
@@ -193,16 +193,16 @@ pub record IsSettable (g : Graph) (units s f : ℕ) (x : Val) : Type 0 where
   pub live : object_in s g ≡ Some object
   pub was : Val
   pub there : slice_get object.fields f ≡ Some was
-  pub named : misses (Some g) x ≡ false
-  pub kind : are_of_two_kinds (Some was) x ≡ false
+  pub named : is_dangling (Some g) x ≡ false
+  pub kind : differ_in_kind (Some was) x ≡ false
   pub fits : units + SET_UNITS ≤ LOG_ENTRY_WORDS
 
 pub settable_by : (g : Graph) (units s f : ℕ) (x : Val) → setting_refusal (Some g) units s f x ≡ None → IsSettable g units s f x
 settable_by g units s f x none =
-    let object = unless (misses (Some g) x || is_none (object_in s g)) refusals.Object _ none in
-    let names = or_parts (misses (Some g) x) (is_none (object_in s g)) object.0 in
+    let object = unless (is_dangling (Some g) x || is_none (object_in s g)) refusals.Object _ none in
+    let names = or_parts (is_dangling (Some g) x) (is_none (object_in s g)) object.0 in
     let field = unless (is_none (field_of f (object_in s g))) refusals.Field _ object.1 in
-    let kind = unless (are_of_two_kinds (field_of f (object_in s g)) x) refusals.Kind _ field.1 in
+    let kind = unless (differ_in_kind (field_of f (object_in s g)) x) refusals.Kind _ field.1 in
     let big = unless (ltb LOG_ENTRY_WORDS (units + SET_UNITS)) refusals.TooBig None kind.1 in
     let o = some_there (object_in s g) names.1 in
     let v = some_there (field_of f (object_in s g)) field.0 in
@@ -213,7 +213,7 @@ settable_by g units s f x none =
       was = v.0;
       there = there;
       named = names.0;
-      kind = ap (λ (d : Option Val). are_of_two_kinds d x) (sym v.1) ∙ kind.0;
+      kind = ap (λ (d : Option Val). differ_in_kind d x) (sym v.1) ∙ kind.0;
       fits = ltb-false LOG_ENTRY_WORDS (units + SET_UNITS) big.0;
     }
 

@@ -4,7 +4,7 @@ use Rattle.pud_defs.specs.declared.layout.TheConstants.{LOG_ENTRY_WORDS, SET_UNI
 use Rattle.pud_defs.specs.declared.objects.Val.{Val}
 use Rattle.pud_defs.specs.declared.machine.Refusal.{Refusal}
 use Rattle.pud_defs.specs.declared.machine.Refusal.TheVariants as refusals
-use Rattle.pud_defs.specs.Step.{are_of_two_kinds}
+use Rattle.pud_defs.specs.Step.{differ_in_kind}
 use Rattle.graph_read.specs.declared.fields.FieldRead.{FieldRead}
 use Rattle.graph_read.specs.declared.fields.FieldRead.TheVariants.{NoObject, NoField, Value}
 
@@ -20,7 +20,7 @@ room_refusal units = cond (nat_lt LOG_ENTRY_WORDS (units + SET_UNITS)) (Some ref
 abbrev pub field_refusal : FieldRead → Val → (units : ℕ) → Option Refusal
 field_refusal NoObject x units = Some refusals.Object
 field_refusal NoField x units = Some refusals.Field
-field_refusal (Value was) x units = cond (are_of_two_kinds (Some was) x) (Some refusals.Kind) (room_refusal units)
+field_refusal (Value was) x units = cond (differ_in_kind (Some was) x) (Some refusals.Kind) (room_refusal units)
 
 -- why an object that is there is not freed, by whether the root or a field names it, and whether what is asked for later does
 abbrev pub refusal_to_free : (referenced asked : Bool) → (units : ℕ) → Option Refusal

@@ -9,7 +9,7 @@ ghost use Rattle.pud_defs.specs.Image.{Image};
 ghost use Rattle.pud_defs.specs.Layout.{device_words};
 ghost use Rattle.pud_defs.specs.Stored.{IsOnDevice};
 ghost use Rattle.pud_defs.specs.World.{World};
-ghost use Rattle.pud_defs.specs.Step.{are_of_two_kinds, refusal_of};
+ghost use Rattle.pud_defs.specs.Step.{differ_in_kind, refusal_of};
 ghost use Rattle.ready_daemon.specs.Memory.{Memory};
 ghost use Rattle.ready_daemon.specs.ActiveTransactions.{IsActiveWithin};
 ghost use Rattle.hybrid_tx.specs.PoolScopes.{IsPlaced};
@@ -30,8 +30,8 @@ use pud_defs::machine::Refusal;
 use pud_defs::objects::Val;
 
 /// Whether one is a number and the other a reference.
-fn are_of_two_kinds(was: Val, x: Val) -> bool
-    ensures { result ≡ are_of_two_kinds (Option.Some was) x }
+fn differ_in_kind(was: Val, x: Val) -> bool
+    ensures { result ≡ differ_in_kind (Option.Some was) x }
 {
     match (was, x) {
         (Val::Num(_), Val::Num(_)) | (Val::Ref(_), Val::Ref(_)) => false,
@@ -62,7 +62,7 @@ fn field_refusal(read: FieldRead, x: Val, units: u32) -> Option<Refusal>
         FieldRead::NoObject => Some(Refusal::Object),
         FieldRead::NoField => Some(Refusal::Field),
         FieldRead::Value(was) => {
-            if are_of_two_kinds(was, x) {
+            if differ_in_kind(was, x) {
                 return Some(Refusal::Kind);
             }
             room_refusal(units)

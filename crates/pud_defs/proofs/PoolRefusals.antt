@@ -23,7 +23,7 @@ use Rattle.pud_defs.specs.ExportFile.{FileContents}
 use Rattle.pud_defs.specs.Imports.{is_full_for_file, lacks_frames_for_file}
 use Rattle.pud_defs.specs.Listing.{name_text}
 use Rattle.pud_defs.specs.Transactions.{is_own, is_others}
-use Rattle.pud_defs.specs.Step.{owns, contents_in, of_contents, clashes_with, holds, refusal_of}
+use Rattle.pud_defs.specs.Step.{has_owner_right, contents_in, of_contents, clashes_with, cause_holds, refusal_of}
 use Rattle.pud_defs.proofs.PoolsChanged.{same_name}
 use Rattle.pud_defs.proofs.Keyed.{find-keyed, first_from_some, first_free_some, count_used_full, count_used_room}
 use Rattle.pud_defs.proofs.KeyedMaps.{of_entry, keyed-mapped, find-mapped}
@@ -41,7 +41,7 @@ making_refusal who found full lacks =
 
 pub refusal_of-pool : (w : World) (client mode : ℕ) (name : List ℕ)
     → refusal_of w (commands.Pool client name mode) ≡ making_refusal (w.clients client) (pool_named name w.stored) (is_full_of_pools w.stored) (lacks_frames w.stored 1)
-unfolding refusal_of holds
+unfolding refusal_of cause_holds
 refusal_of-pool w client mode name = refl
 
 -- of a line on a pool that is there
@@ -49,16 +49,16 @@ abbrev pub owning_refusal : Option Owner → Option Pool → (busy own : Bool) �
 owning_refusal who found busy own =
     cond (not (is_some who)) (Some refusals.Client)
     (cond (is_none found) (Some refusals.Pool)
-    (cond (not (owns who found)) (Some refusals.Denied)
+    (cond (not (has_owner_right who found)) (Some refusals.Denied)
     (cond busy (Some refusals.Busy)
     (cond own (Some refusals.OpenHere) None))))
 
 pub refusal_of-chmod : (w : World) (client mode : ℕ) (name : List ℕ) → refusal_of w (Chmod client name mode) ≡ owning_refusal (w.clients client) (pool_named name w.stored) (is_others client (open_on name w)) (is_own client (open_on name w))
-unfolding refusal_of holds
+unfolding refusal_of cause_holds
 refusal_of-chmod w client mode name = refl
 
 pub refusal_of-drop : (w : World) (client : ℕ) (name : List ℕ) → refusal_of w (commands.Drop client name) ≡ owning_refusal (w.clients client) (pool_named name w.stored) (is_others client (open_on name w)) (is_own client (open_on name w))
-unfolding refusal_of holds
+unfolding refusal_of cause_holds
 refusal_of-drop w client name = refl
 
 -- of `import`; that memory is refused has no cause in the world
@@ -77,7 +77,7 @@ pub refusal_of-import : (w : World) (client mode : ℕ) (name file : List ℕ) (
     → w.shelf (name_text file) ≡ bytes → contents_in bytes ≡ contents
     → refusal_of w (Import client name file mode)
     ≡ importing_refusal (w.clients client) (pool_named name w.stored) bytes contents (of_contents (λ (c : FileContents). clashes_with w.stored.types c.types) contents) (of_contents (is_full_for_file w.stored) contents) (of_contents (lacks_frames_for_file w.stored) contents)
-unfolding refusal_of holds
+unfolding refusal_of cause_holds
 refusal_of-import w client mode name file bytes contents there is =
     let by : Option (List ℕ) → Option FileContents → Option Refusal = λ b c. importing_refusal (w.clients client) (pool_named name w.stored) b c (of_contents (λ (c : FileContents). clashes_with w.stored.types c.types) c) (of_contents (is_full_for_file w.stored) c) (of_contents (lacks_frames_for_file w.stored) c) in
     ap (λ (b : Option (List ℕ)). by b (contents_in b)) there ∙ ap (by bytes) is

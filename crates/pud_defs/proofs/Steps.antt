@@ -14,7 +14,7 @@ use Rattle.pud_defs.specs.World.{World}
 use Rattle.pud_defs.specs.PoolChanges.{pools_read, with_type_defined}
 use Rattle.pud_defs.specs.declared.objects.Val.{Val}
 use Rattle.pud_defs.specs.declared.objects.Val.TheVariants.{Num, Ref}
-use Rattle.pud_defs.specs.Step.{Answer, is_other, is_clash, is_full, holds, refusal_of, after, text_for, value_for, value_or_ok, text_or, answer, answer_unless, answer_by, world_by, unless_refused}
+use Rattle.pud_defs.specs.Step.{Answer, is_other, is_clash, is_full, cause_holds, refusal_of, after, text_for, value_for, value_or_ok, text_or, answer, answer_unless, answer_by, world_by, unless_refused}
 use Rattle.pud_defs.specs.Step.Answer.{of_reply}
 use Rattle.pud_defs.specs.Gives.{StepBy}
 use Rattle.pud_defs.specs.Run.{is_cut}
@@ -25,7 +25,7 @@ abbrev chosen : Bool → Bool → Option Refusal
 chosen clash full = cond clash (Some refusals.Clash) (cond full (Some refusals.Full) None)
 
 pub refusal_of-define : (w : World) (id map : ℕ) → refusal_of w (Define id map) ≡ chosen (is_clash w.stored.types id map) (is_full w.stored.types id)
-unfolding refusal_of holds
+unfolding refusal_of cause_holds
 refusal_of-define w id map = refl
 
 refused_by : (w : World) (id map : ℕ) (found : Option ℕ) (full : Bool) → map_of id w.stored.types ≡ found → leb TYPE_RECORDS (length w.stored.types) ≡ full → refusal_of w (Define id map) ≡ chosen (is_other map found) (is_none found && full)
@@ -57,11 +57,11 @@ after-same w id map sorted read e =
 -- ---- clients
 
 refusal_of-client : (w : World) (client uid gid : ℕ) (found : Option Owner) → w.clients client ≡ found → refusal_of w (Client client uid gid) ≡ cond (is_some found) (Some refusals.Taken) None
-unfolding refusal_of holds
+unfolding refusal_of cause_holds
 refusal_of-client w client uid gid found e = ap (λ o. cond (is_some o) (Some refusals.Taken) None) e
 
 refusal_of-leave : (w : World) (client : ℕ) (found : Option Owner) → w.clients client ≡ found → refusal_of w (Leave client) ≡ cond (not (is_some found)) (Some refusals.Client) None
-unfolding refusal_of holds
+unfolding refusal_of cause_holds
 refusal_of-leave w client found e = ap (λ o. cond (not (is_some o)) (Some refusals.Client) None) e
 
 -- the client is present

@@ -13,7 +13,7 @@ use Rattle.pud_defs.specs.PoolChanges.{pool_named}
 use Rattle.pud_defs.specs.World.{World}
 use Rattle.pud_defs.specs.Listing.{name_text}
 use Rattle.pud_defs.specs.Grammar.{command_of}
-use Rattle.pud_defs.specs.Step.{Answer, causes, holds, refusal_of, answer_by, world_by}
+use Rattle.pud_defs.specs.Step.{Answer, causes, cause_holds, refusal_of, answer_by, world_by}
 use Rattle.pud_defs.specs.Step.Answer.{of_reply}
 
 -- ---- the shelf
@@ -78,7 +78,7 @@ before_memory (cause ∷ later) = option_map (λ causes. cause ∷ causes) (befo
 
 abbrev pub none_holds : World → Command → Option (List Refusal) → Bool
 none_holds w c None = false
-none_holds w c (Some earlier) = is_none (find (holds w c) earlier)
+none_holds w c (Some earlier) = is_none (find (cause_holds w c) earlier)
 
 -- the command takes memory, and no cause that is tested before holds
 unfoldable pub may_lack_memory : World → Command → Bool

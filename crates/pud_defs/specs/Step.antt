@@ -38,22 +38,22 @@ pub data Answer : Type 0 where
 -- ---- what is asked of a command, one row a command
 
 -- the user is the owner of the pool
-abbrev pub owns : Option Owner → Option Pool → Bool
-owns None pool = false
-owns (Some who) None = false
-owns (Some who) (Some pool) = who.uid == pool.owner.uid
+abbrev pub has_owner_right : Option Owner → Option Pool → Bool
+has_owner_right None pool = false
+has_owner_right (Some who) None = false
+has_owner_right (Some who) (Some pool) = who.uid == pool.owner.uid
 
 -- the pool's mode lets the client read it
-abbrev pub reads : Option Owner → Option Pool → Bool
-reads None pool = false
-reads (Some who) None = false
-reads (Some who) (Some pool) = may_read pool.mode pool.owner who
+abbrev pub has_read_right : Option Owner → Option Pool → Bool
+has_read_right None pool = false
+has_read_right (Some who) None = false
+has_read_right (Some who) (Some pool) = may_read pool.mode pool.owner who
 
 -- the pool's mode lets the client write it
-abbrev pub writes : Option Owner → Option Pool → Bool
-writes None pool = false
-writes (Some who) None = false
-writes (Some who) (Some pool) = may_write pool.mode pool.owner who
+abbrev pub has_write_right : Option Owner → Option Pool → Bool
+has_write_right None pool = false
+has_write_right (Some who) None = false
+has_write_right (Some who) (Some pool) = may_write pool.mode pool.owner who
 
 -- The client that it names and the name of a pool; the refusals that it may meet, in the order in which they are tested; the right that it needs of the
 -- pool, where it may be denied; and how many units it uses.
@@ -66,11 +66,11 @@ pub record Rule : Type 0 where
 
 -- a command that names no client and no pool
 abbrev pub rule_of_none : List Refusal → Rule
-rule_of_none causes = record { client = None; pool = None; causes = causes; right = owns; charge = 0 }
+rule_of_none causes = record { client = None; pool = None; causes = causes; right = has_owner_right; charge = 0 }
 
 -- one of a client, who has to be present but to come
 abbrev pub rule_of_client : (client : ℕ) → List Refusal → Rule
-rule_of_client client causes = record { client = Some client; pool = None; causes = causes; right = owns; charge = 0 }
+rule_of_client client causes = record { client = Some client; pool = None; causes = causes; right = has_owner_right; charge = 0 }
 
 -- one of the owner of a pool on which no transaction is open
 abbrev pub rule_of_owner : (client : ℕ) → List ℕ → Rule
@@ -78,7 +78,7 @@ rule_of_owner client name = record {
   client = Some client;
   pool = Some name;
   causes = refusals.Client ∷ refusals.Pool ∷ refusals.Denied ∷ refusals.Busy ∷ refusals.OpenHere ∷ [];
-  right = owns;
+  right = has_owner_right;
   charge = 0;
 }
 
@@ -98,7 +98,7 @@ rule_of_own client name charge later = record {
   client = Some client;
   pool = Some name;
   causes = refusals.Client ∷ refusals.Pool ∷ refusals.Wild ∷ refusals.Busy ∷ refusals.Tx ∷ later;
-  right = owns;
+  right = has_owner_right;
   charge = charge;
 }
 
@@ -109,8 +109,8 @@ rule_of (Define id map) = rule_of_none (refusals.Clash ∷ refusals.Full ∷ [])
 rule_of (commands.Pool client name mode) = record (rule_of_client client (refusals.Client ∷ refusals.Exists ∷ refusals.Full ∷ refusals.Space ∷ [])) { pool = Some name }
 rule_of (Chmod client name mode) = rule_of_owner client name
 rule_of (commands.Drop client name) = rule_of_owner client name
-rule_of (Get client name s f) = rule_by_mode client name reads (refusals.Object ∷ refusals.Field ∷ [])
-rule_of (Begin client name) = rule_by_mode client name writes (refusals.Deep ∷ refusals.Logs ∷ [])
+rule_of (Get client name s f) = rule_by_mode client name has_read_right (refusals.Object ∷ refusals.Field ∷ [])
+rule_of (Begin client name) = rule_by_mode client name has_write_right (refusals.Deep ∷ refusals.Logs ∷ [])
 rule_of (Commit client name) = rule_of_own client name 0 []
 rule_of (Abort client name) = rule_of_own client name 0 []
 rule_of (New client name t) = rule_of_own client name NEW_UNITS (refusals.NoType ∷ refusals.TooBig ∷ refusals.Full ∷ refusals.Space ∷ [])
@@ -118,8 +118,8 @@ rule_of (Set client name s f x) = rule_of_own client name SET_UNITS (refusals.Ob
 rule_of (Later client name s f x) = rule_of_own client name SET_UNITS (refusals.Object ∷ refusals.Field ∷ refusals.Kind ∷ refusals.TooBig ∷ [])
 rule_of (Root client name s) = rule_of_own client name SET_UNITS (refusals.Object ∷ refusals.TooBig ∷ [])
 rule_of (Free client name s) = rule_of_own client name SET_UNITS (refusals.Object ∷ refusals.Held ∷ refusals.TooBig ∷ [])
-rule_of (Dump client name) = rule_by_mode client name reads (refusals.Memory ∷ [])
-rule_of (Export client name file) = rule_by_mode client name reads (refusals.OpenHere ∷ refusals.Memory ∷ [])
+rule_of (Dump client name) = rule_by_mode client name has_read_right (refusals.Memory ∷ [])
+rule_of (Export client name file) = rule_by_mode client name has_read_right (refusals.OpenHere ∷ refusals.Memory ∷ [])
 rule_of (Import client name file mode) =
     record (rule_of_client client (refusals.Client ∷ refusals.Exists ∷ refusals.File ∷ refusals.Memory ∷ refusals.BadFile ∷ refusals.Clash ∷ refusals.Full ∷ refusals.Space ∷ [])) { pool = Some name }
 rule_of (Rewrite name n) = record (rule_of_none (refusals.Pool ∷ refusals.Wild ∷ [])) { pool = Some name }
@@ -222,13 +222,13 @@ abbrev pub field_for : World → Command → Option Val
 field_for w c = field_named c (object_for w c)
 
 -- whether the transaction is that of the client that the command names, or another's
-abbrev pub holds_own : Option ℕ → Option Transaction → Bool
-holds_own None t = false
-holds_own (Some client) t = is_own client t
+abbrev pub has_own_open : Option ℕ → Option Transaction → Bool
+has_own_open None t = false
+has_own_open (Some client) t = is_own client t
 
-abbrev pub holds_others : Option ℕ → Option Transaction → Bool
-holds_others None t = false
-holds_others (Some client) t = is_others client t
+abbrev pub has_other_open : Option ℕ → Option Transaction → Bool
+has_other_open None t = false
+has_other_open (Some client) t = is_others client t
 
 -- how many transactions the client has open on pools of other names
 abbrev pub open_elsewhere : World → (client : ℕ) → List ℕ → ℕ
@@ -250,31 +250,31 @@ type_named (New client name t) = t
 type_named c = 0
 
 -- no object has the serial that is to be the value
-abbrev pub misses : Option Graph → Val → Bool
-misses g (Num v) = false
-misses g (Ref s) = not (s == 0) && is_none (object_of s g)
+abbrev pub is_dangling : Option Graph → Val → Bool
+is_dangling g (Num v) = false
+is_dangling g (Ref s) = not (s == 0) && is_none (object_of s g)
 
-abbrev pub misses_target : Command → Option Graph → Bool
-misses_target (Set client name s f x) g = misses g x
-misses_target (Later client name s f x) g = misses g x
-misses_target c g = false
+abbrev pub has_dangling_value : Command → Option Graph → Bool
+has_dangling_value (Set client name s f x) g = is_dangling g x
+has_dangling_value (Later client name s f x) g = is_dangling g x
+has_dangling_value c g = false
 
 -- the graph has no object of a serial that a command names: that of its object or its value, or that of the root, which may be null
 abbrev pub lacks_object : Command → Option Graph → Bool
-lacks_object (Root client name s) g = misses g (Ref s)
-lacks_object c g = misses_target c g || is_none (object_named c g)
+lacks_object (Root client name s) g = is_dangling g (Ref s)
+lacks_object c g = has_dangling_value c g || is_none (object_named c g)
 
 -- one is a number and the other a pointer
-abbrev pub are_of_two_kinds : Option Val → Val → Bool
-are_of_two_kinds None x = false
-are_of_two_kinds (Some (Num v)) (Num n) = false
-are_of_two_kinds (Some (Num v)) (Ref s) = true
-are_of_two_kinds (Some (Ref r)) (Num n) = true
-are_of_two_kinds (Some (Ref r)) (Ref s) = false
+abbrev pub differ_in_kind : Option Val → Val → Bool
+differ_in_kind None x = false
+differ_in_kind (Some (Num v)) (Num n) = false
+differ_in_kind (Some (Num v)) (Ref s) = true
+differ_in_kind (Some (Ref r)) (Num n) = true
+differ_in_kind (Some (Ref r)) (Ref s) = false
 
 abbrev pub mixes_kinds : World → Command → Bool
-mixes_kinds w (Set client name s f x) = are_of_two_kinds (field_of f (object_of s (graph_for w (Set client name s f x)))) x
-mixes_kinds w (Later client name s f x) = are_of_two_kinds (field_of f (object_of s (graph_for w (Later client name s f x)))) x
+mixes_kinds w (Set client name s f x) = differ_in_kind (field_of f (object_of s (graph_for w (Set client name s f x)))) x
+mixes_kinds w (Later client name s f x) = differ_in_kind (field_of f (object_of s (graph_for w (Later client name s f x)))) x
 mixes_kinds w c = false
 
 -- the root or a field names the serial, where there is a graph
@@ -370,35 +370,35 @@ overflows w _ = false
 
 -- whether the cause holds for the command. `bad` never does: it is said of lines that are no command. Nor does `memory`: that memory is refused
 -- has no cause in the world
-unfoldable pub holds : World → Command → Refusal → Bool
-holds w c refusals.Bad = false
-holds w c refusals.Client = not (is_present w.clients (client_of c))
-holds w c refusals.Taken = is_present w.clients (client_of c)
-holds w c refusals.Pool = is_none (pool_for w c)
-holds w c refusals.Exists = is_some (pool_for w c)
-holds w c refusals.Wild = is_none (graph_in (pool_for w c))
-holds w c refusals.Denied = not (is_allowed c (acting w.clients (client_of c)) (pool_for w c))
-holds w c refusals.Busy = holds_others (client_of c) (open_for w c)
-holds w c refusals.OpenHere = holds_own (client_of c) (open_for w c)
-holds w c refusals.Tx = not (holds_own (client_of c) (open_for w c))
-holds w c refusals.NoType = is_none (map_of (type_named c) w.stored.types)
-holds w c refusals.Object = lacks_object c (graph_for w c)
-holds w c refusals.Field = is_none (field_for w c)
-holds w c refusals.Kind = mixes_kinds w c
-holds w c refusals.Held = frees_referenced w c
-holds w c refusals.Deep = is_deep w c
-holds w c refusals.Logs = lacks_logs w c
-holds w c refusals.TooBig = nat_lt LOG_ENTRY_WORDS (units_of (open_for w c) + charge c)
-holds w c refusals.File = is_none (file_for w c)
-holds w c refusals.Memory = false
-holds w c refusals.BadFile = is_none (contents_named w c)
-holds w c refusals.Clash = clashes w c
-holds w c refusals.Full = overfills w c
-holds w c refusals.Space = overflows w c
+unfoldable pub cause_holds : World → Command → Refusal → Bool
+cause_holds w c refusals.Bad = false
+cause_holds w c refusals.Client = not (is_present w.clients (client_of c))
+cause_holds w c refusals.Taken = is_present w.clients (client_of c)
+cause_holds w c refusals.Pool = is_none (pool_for w c)
+cause_holds w c refusals.Exists = is_some (pool_for w c)
+cause_holds w c refusals.Wild = is_none (graph_in (pool_for w c))
+cause_holds w c refusals.Denied = not (is_allowed c (acting w.clients (client_of c)) (pool_for w c))
+cause_holds w c refusals.Busy = has_other_open (client_of c) (open_for w c)
+cause_holds w c refusals.OpenHere = has_own_open (client_of c) (open_for w c)
+cause_holds w c refusals.Tx = not (has_own_open (client_of c) (open_for w c))
+cause_holds w c refusals.NoType = is_none (map_of (type_named c) w.stored.types)
+cause_holds w c refusals.Object = lacks_object c (graph_for w c)
+cause_holds w c refusals.Field = is_none (field_for w c)
+cause_holds w c refusals.Kind = mixes_kinds w c
+cause_holds w c refusals.Held = frees_referenced w c
+cause_holds w c refusals.Deep = is_deep w c
+cause_holds w c refusals.Logs = lacks_logs w c
+cause_holds w c refusals.TooBig = nat_lt LOG_ENTRY_WORDS (units_of (open_for w c) + charge c)
+cause_holds w c refusals.File = is_none (file_for w c)
+cause_holds w c refusals.Memory = false
+cause_holds w c refusals.BadFile = is_none (contents_named w c)
+cause_holds w c refusals.Clash = clashes w c
+cause_holds w c refusals.Full = overfills w c
+cause_holds w c refusals.Space = overflows w c
 
 -- the first cause of the command that holds
 unfoldable pub refusal_of : World → Command → Option Refusal
-refusal_of w c = find (holds w c) (causes c)
+refusal_of w c = find (cause_holds w c) (causes c)
 
 -- as whom a client acts that is present
 abbrev pub owner_acting : (ℕ → Option Owner) → ℕ → Owner

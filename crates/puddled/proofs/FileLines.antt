@@ -32,7 +32,7 @@ use Rattle.pud_defs.specs.PoolChanges.{pool_named}
 use Rattle.pud_defs.specs.World.{Transaction, World, closed, open_on}
 use Rattle.pud_defs.specs.Transactions.{is_own}
 use Rattle.pud_defs.specs.Listing.{name_text}
-use Rattle.pud_defs.specs.Step.{Answer, refusal_of, holds, after, answer, world_by}
+use Rattle.pud_defs.specs.Step.{Answer, refusal_of, cause_holds, after, answer, world_by}
 use Rattle.pud_defs.specs.Step.Answer.{of_reply, of_text}
 use Rattle.pud_defs.specs.Gives.{with_file, contents_for, contents_held, Exports, GivesUnless, Gives, StepBy, may_lack_memory}
 use Rattle.pud_defs.specs.Changing.{file_of, KeepsFiles}
@@ -69,12 +69,12 @@ use Rattle.ready_daemon.proofs.PuddlesLeft.{LeavesPuddles-still}
 
 module _ (w : World) (client : ℕ) (name : List ℕ) where
   pub memory_of-dump : may_lack_memory w (Dump client name) ≡ is_none (refusal_of w (Dump client name))
-  unfolding may_lack_memory refusal_of holds
+  unfolding may_lack_memory refusal_of cause_holds
   memory_of-dump = refl
 
 module _ (w : World) (client : ℕ) (name file : List ℕ) where
   pub memory_of-export : may_lack_memory w (Export client name file) ≡ is_none (refusal_of w (Export client name file))
-  unfolding may_lack_memory refusal_of holds
+  unfolding may_lack_memory refusal_of cause_holds
   memory_of-export = refl
 
   abbrev opened_own : Option Refusal
@@ -186,7 +186,7 @@ dump_moves_none client name = record { none = λ F before. refl }
 pub export_moves_none : (client : ℕ) (name file : List ℕ) → MovesNone (Export client name file)
 export_moves_none client name file = record { none = λ F before. refl }
 
-module _ (w : World) (client : ℕ) (name : List ℕ) (F : ℕ) (image : Image) (puddles : List (ℕ × Puddle)) (holds : HoldsGraph w F name image puddles) (free : refusal_to w needs.Read client name ≡ None) where
+module _ (w : World) (client : ℕ) (name : List ℕ) (F : ℕ) (image : Image) (puddles : List (ℕ × Puddle)) (cause_holds : HoldsGraph w F name image puddles) (free : refusal_to w needs.Read client name ≡ None) where
   abbrev line : Command
   line = Dump client name
 
@@ -197,10 +197,10 @@ module _ (w : World) (client : ℕ) (name : List ℕ) (F : ℕ) (image : Image) 
   unfolding after
   dump_leaves = done_world w line dump_free
 
-  pub dumped_step : StepBy w (Some line) (of_text (codes " " ++ dump_text holds.graph)) w
+  pub dumped_step : StepBy w (Some line) (of_text (codes " " ++ dump_text cause_holds.graph)) w
   unfolding answer
   dumped_step = inl (record {
-    answered = sym (done_answer w line dump_free ∙ ap (λ (g : Option Graph). text_answer (option_map (λ h. codes " " ++ dump_text h) g)) holds.is);
+    answered = sym (done_answer w line dump_free ∙ ap (λ (g : Option Graph). text_answer (option_map (λ h. codes " " ++ dump_text h) g)) cause_holds.is);
     gives = subst (λ (v : World). Gives w (Some line) v) dump_leaves (Gives-plain w (Some line) refl);
   })
     where
@@ -287,9 +287,9 @@ module _ (w : World) (client : ℕ) (name file : List ℕ) where
 
   pub exported_step : (contents : FileContents) (bytes : List ℕ) → refusal_of w exports ≡ None → contents_held w.stored.types (pool_named name w.stored) ≡ Some contents → file_graph bytes ≡ Some contents
       → StepBy w (Some exports) (of_reply replies.Ok) (record w { shelf = with_file (name_text file) bytes w.shelf })
-  exported_step contents bytes free active holds =
+  exported_step contents bytes free active cause_holds =
       let shelf = with_file (name_text file) bytes w.shelf in
-      let given : Exports w name (name_text file) shelf = record { contents = contents; active = active; bytes = bytes; holds = holds; given = refl } in
+      let given : Exports w name (name_text file) shelf = record { contents = contents; active = active; bytes = bytes; holds = cause_holds; given = refl } in
       inl (record {
         answered = sym (answer_is_ok w exports refl refl free);
         gives = record {
@@ -327,6 +327,6 @@ pub HoldsPool-put : (result : Result (Unit {0}) FileFault) (F number : ℕ) (pud
     → words_in bytes ≡ exported_words (image MACHINE_WORD) number (types_of image) (types_used (types_of image) g) (stored_in F puddles image) → length bytes ≡ 8 * length (words_in bytes)
     → file_graph bytes ≡ Some (contents_for (types_of image) (length puddles) g)
     → IfOk result (λ done. new ≡ with_shelf (shelved file (Some slice) mid.shelf) mid) → IfOk result (λ done. HoldsPool F number puddles g image file old new)
-HoldsPool-put (Ok done) F number puddles g image file bytes slice old mid new same stays words whole holds put =
-    record { bytes = bytes; given = put ∙ (λ p. with_shelf (shelved file (Some (same p)) (stays p).shelf) (stays p)); words = words; whole = whole; holds = holds }
-HoldsPool-put (Err fault) F number puddles g image file bytes slice old mid new same stays words whole holds put = tt
+HoldsPool-put (Ok done) F number puddles g image file bytes slice old mid new same stays words whole cause_holds put =
+    record { bytes = bytes; given = put ∙ (λ p. with_shelf (shelved file (Some (same p)) (stays p).shelf) (stays p)); words = words; whole = whole; holds = cause_holds }
+HoldsPool-put (Err fault) F number puddles g image file bytes slice old mid new same stays words whole cause_holds put = tt

@@ -29,7 +29,7 @@ use Rattle.pud_defs.specs.Tables.{Tables, Pool, Reader, tables_of, records_of, p
 use Rattle.pud_defs.specs.PoolChanges.{pool_named}
 use Rattle.pud_defs.specs.World.{Transaction, World, open_on}
 use Rattle.pud_defs.specs.Transactions.{is_others}
-use Rattle.pud_defs.specs.Step.{writes, graph_in, graph_seen}
+use Rattle.pud_defs.specs.Step.{has_write_right, graph_in, graph_seen}
 use Rattle.pud_defs.proofs.PuddlesListed.{puddles_in_turn-listed}
 use Rattle.pud_defs.proofs.Exportable.{exportable as pool_exportable}
 use Rattle.pud_defs.proofs.PoolRefusals.{pool_by_record, found_record}
@@ -158,15 +158,15 @@ are_with_graph F slot image at is =
 record MayWrite (who : Option Owner) (found : Option Pool) : Type 0 where
   owner_is : Owner
   there : who ≡ Some owner_is
-  right : writes who found ≡ true
+  right : has_write_right who found ≡ true
 
 may_write_by : (who : Option Owner) (found : Option Pool) (client : ℕ) (opened : Option Transaction) → need_refusal needs.Write who found client opened ≡ None → MayWrite who found
 may_write_by None found client opened none = absurd (none-some refusals.Client (sym none))
 may_write_by (Some who) None client opened none = absurd (none-some refusals.Pool (sym none))
 may_write_by (Some who) (Some pool) client opened none =
     let graph = unless (is_none (graph_in (Some pool))) refusals.Wild _ none in
-    let right = unless (not (writes (Some who) (Some pool))) refusals.Denied _ graph.1 in
-    record { owner_is = who; there = refl; right = not-false (writes (Some who) (Some pool)) right.0 }
+    let right = unless (not (has_write_right (Some who) (Some pool))) refusals.Denied _ graph.1 in
+    record { owner_is = who; there = refl; right = not-false (has_write_right (Some who) (Some pool)) right.0 }
 
 -- ---- what a pool that was found holds
 
@@ -424,7 +424,7 @@ module _ (size : ℕ) (w : World) (memory : Memory) (s : State) (ready : IsReady
           puddles = puddles.turned;
           stored = puddles.stored;
           owned = ready.clients client known ∙ may.there;
-          right = (λ p. writes (sym may.there p) (sym named p)) ∙ may.right;
+          right = (λ p. has_write_right (sym may.there p) (sym named p)) ∙ may.right;
         }
 
 -- ---- whether the client's own transaction is open on what was found

@@ -22,7 +22,7 @@ use Rattle.pud_defs.specs.Listing.{name_text}
 use Rattle.pud_defs.specs.Names.{name_cmp}
 use Rattle.pud_defs.specs.PoolChanges.{pool_named}
 use Rattle.pud_defs.specs.Spaces.{Owner, owner}
-use Rattle.pud_defs.specs.Step.{holds, contents_in, of_contents, clashes_with, refusal_of, after, answer_by}
+use Rattle.pud_defs.specs.Step.{cause_holds, contents_in, of_contents, clashes_with, refusal_of, after, answer_by}
 use Rattle.pud_defs.specs.Step.Answer.{of_reply}
 use Rattle.pud_defs.specs.Gives.{may_lack_memory}
 use Rattle.pud_defs.specs.Tables.{Tables, Pool, Reader, tables_of, pool_in}
@@ -78,7 +78,7 @@ module _ (w : World) (client mode : ℕ) (name file : List ℕ) where
 
     -- memory may be refused where there is such a file
     pub import_memory : (bytes : List ℕ) → w.shelf (name_text file) ≡ Some bytes → may_lack_memory w line ≡ true
-    unfolding may_lack_memory holds
+    unfolding may_lack_memory cause_holds
     import_memory bytes there =
         λ p. is_none (cond (not (is_some (may.acts p))) (Some refusals.Client) (cond (is_some (may.absent p)) (Some refusals.Exists) (cond (is_none (there p)) (Some refusals.File) None)))
 

@@ -8,7 +8,7 @@ use Rattle.pud_defs.specs.declared.machine.Refusal.{Refusal}
 use Rattle.pud_defs.specs.declared.machine.Refusal.TheVariants as refusals
 use Rattle.pud_defs.specs.PoolChanges.{pool_named}
 use Rattle.pud_defs.specs.Spaces.{Owner}
-use Rattle.pud_defs.specs.Step.{owns, reads, writes, graph_in, graph_seen, object_of, field_of, open_elsewhere, refusal_of, holds}
+use Rattle.pud_defs.specs.Step.{has_owner_right, has_read_right, has_write_right, graph_in, graph_seen, object_of, field_of, open_elsewhere, refusal_of, cause_holds}
 use Rattle.pud_defs.specs.Tables.{Pool}
 use Rattle.pud_defs.specs.Transactions.{is_own, is_others, depth_of}
 use Rattle.pud_defs.specs.World.{Transaction, World, open_on}
@@ -34,41 +34,41 @@ module _ (w : World) (client : ℕ) (name : List ℕ) where
 
   -- a line on the client's own transaction
   pub refusal_of-own : refusal_of w (Commit client name) ≡ option_or (refusal_to w needs.Graph client name) (cond (not (is_own client opened)) (Some refusals.Tx) None)
-  unfolding refusal_of holds
+  unfolding refusal_of cause_holds
   refusal_of-own =
       behind refusals.Client refusals.Pool refusals.Wild refusals.Denied refusals.Busy (not (is_some acts)) (is_none found) (is_none (graph_in found)) false (is_others client opened)
       (cond (not (is_own client opened)) (Some refusals.Tx) None)
 
   -- a line of the owner
   pub refusal_of-owner : refusal_of w (commands.Drop client name) ≡ option_or (refusal_to w needs.Owner client name) (cond (is_own client opened) (Some refusals.OpenHere) None)
-  unfolding refusal_of holds
+  unfolding refusal_of cause_holds
   refusal_of-owner =
-      behind refusals.Client refusals.Pool refusals.Wild refusals.Denied refusals.Busy (not (is_some acts)) (is_none found) false (not (owns acts found)) (is_others client opened)
+      behind refusals.Client refusals.Pool refusals.Wild refusals.Denied refusals.Busy (not (is_some acts)) (is_none found) false (not (has_owner_right acts found)) (is_others client opened)
       (cond (is_own client opened) (Some refusals.OpenHere) None)
 
   -- lines that read a pool
   pub refusal_of-get : (s f : ℕ) → refusal_of w (Get client name s f) ≡ option_or (refusal_to w needs.Read client name)
       (cond (is_none (object_of s (graph_seen opened found))) (Some refusals.Object) (cond (is_none (field_of f (object_of s (graph_seen opened found)))) (Some refusals.Field) None))
-  unfolding refusal_of holds
+  unfolding refusal_of cause_holds
   refusal_of-get s f =
-      behind refusals.Client refusals.Pool refusals.Wild refusals.Denied refusals.Busy (not (is_some acts)) (is_none found) (is_none (graph_in found)) (not (reads acts found)) (is_others client opened)
+      behind refusals.Client refusals.Pool refusals.Wild refusals.Denied refusals.Busy (not (is_some acts)) (is_none found) (is_none (graph_in found)) (not (has_read_right acts found)) (is_others client opened)
       (cond (is_none (object_of s (graph_seen opened found))) (Some refusals.Object) (cond (is_none (field_of f (object_of s (graph_seen opened found)))) (Some refusals.Field) None))
 
   pub refusal_of-dump : refusal_of w (Dump client name) ≡ refusal_to w needs.Read client name
-  unfolding refusal_of holds
+  unfolding refusal_of cause_holds
   refusal_of-dump = refl
 
   pub refusal_of-export : (file : List ℕ) → refusal_of w (Export client name file) ≡ option_or (refusal_to w needs.Read client name) (cond (is_own client opened) (Some refusals.OpenHere) None)
-  unfolding refusal_of holds
+  unfolding refusal_of cause_holds
   refusal_of-export file =
-      behind refusals.Client refusals.Pool refusals.Wild refusals.Denied refusals.Busy (not (is_some acts)) (is_none found) (is_none (graph_in found)) (not (reads acts found)) (is_others client opened)
+      behind refusals.Client refusals.Pool refusals.Wild refusals.Denied refusals.Busy (not (is_some acts)) (is_none found) (is_none (graph_in found)) (not (has_read_right acts found)) (is_others client opened)
       (cond (is_own client opened) (Some refusals.OpenHere) None)
 
   -- a `begin`
   pub refusal_of-begin : refusal_of w (Begin client name) ≡ option_or (refusal_to w needs.Write client name) (entering_refusal client opened (open_elsewhere w client name))
-  unfolding refusal_of holds
+  unfolding refusal_of cause_holds
   refusal_of-begin =
-      behind refusals.Client refusals.Pool refusals.Wild refusals.Denied refusals.Busy (not (is_some acts)) (is_none found) (is_none (graph_in found)) (not (writes acts found)) (is_others client opened)
+      behind refusals.Client refusals.Pool refusals.Wild refusals.Denied refusals.Busy (not (is_some acts)) (is_none found) (is_none (graph_in found)) (not (has_write_right acts found)) (is_others client opened)
       (entering_refusal client opened (open_elsewhere w client name))
 
   pub refused_begin : (r : Refusal) → refusal_to w needs.Write client name ≡ Some r → refusal_of w (Begin client name) ≡ Some r

@@ -12,7 +12,7 @@ use Rattle.pud_defs.specs.declared.records.Puddle.{Puddle}
 use Rattle.pud_defs.specs.declared.records.TheConstants.{POOL_RECORDS}
 use Rattle.pud_defs.specs.Tables.{Pool}
 use Rattle.pud_defs.specs.PoolChanges.{pool_named}
-use Rattle.pud_defs.specs.Step.{graph_in, refusal_of, holds, after, world_by}
+use Rattle.pud_defs.specs.Step.{graph_in, refusal_of, cause_holds, after, world_by}
 use Rattle.pud_defs.specs.World.{World}
 use Rattle.pud_defs.proofs.Steps.{done_world}
 use Rattle.batch.specs.Batches.{HasIdleGate}
@@ -46,13 +46,13 @@ use Rattle.pool_transaction.proofs.StepsMoved.{upto}
 module _ (w : World) (name : List ℕ) (n : ℕ) where
   -- no pool has the name
   pub refused_unnamed : pool_named name w.stored ≡ None → refusal_of w (Rewrite name n) ≡ Some refusals.Pool
-  unfolding refusal_of holds
+  unfolding refusal_of cause_holds
   refused_unnamed none = ap (λ (found : Option Pool). cond (is_none found) (Some refusals.Pool) (cond (is_none (graph_in found)) (Some refusals.Wild) None)) none
 
   -- the pool has a graph, or is refused
   pub refused_by_graph : (pool : Pool) (lacks : Bool) → pool_named name w.stored ≡ Some pool → lacks ≡ is_none (graph_in (pool_named name w.stored))
       → refusal_of w (Rewrite name n) ≡ cond lacks (Some refusals.Wild) None
-  unfolding refusal_of holds
+  unfolding refusal_of cause_holds
   refused_by_graph pool lacks there is = ap₂ (λ (none lacks : Bool). cond none (Some refusals.Pool) (cond lacks (Some refusals.Wild) None)) (ap is_none there) (sym is)
 
   -- it leaves the world

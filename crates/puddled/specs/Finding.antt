@@ -8,7 +8,7 @@ use Rattle.pud_defs.specs.Image.{Image}
 use Rattle.pud_defs.specs.Rights.{may_read, may_write}
 use Rattle.pud_defs.specs.Settled.{ALL_LOGS}
 use Rattle.pud_defs.specs.Spaces.{Owner, owner}
-use Rattle.pud_defs.specs.Step.{owns, reads, writes, graph_in}
+use Rattle.pud_defs.specs.Step.{has_owner_right, has_read_right, has_write_right, graph_in}
 use Rattle.pud_defs.specs.Tables.{Pool, tables_of, pool_in}
 use Rattle.pud_defs.specs.PoolChanges.{pool_named}
 use Rattle.pud_defs.specs.Transactions.{is_others}
@@ -43,9 +43,9 @@ lacks_graph needs.Graph found = is_none (graph_in found)
 
 -- who acts so has the right that is needed
 abbrev pub has_right : Need → Option Owner → Option Pool → Bool
-has_right needs.Owner who found = owns who found
-has_right needs.Read who found = reads who found
-has_right needs.Write who found = writes who found
+has_right needs.Owner who found = has_owner_right who found
+has_right needs.Read who found = has_read_right who found
+has_right needs.Write who found = has_write_right who found
 has_right needs.Graph who found = true
 
 -- the same by the pool's record

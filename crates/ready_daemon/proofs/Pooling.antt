@@ -33,7 +33,7 @@ use Rattle.pud_defs.specs.Spaces.{owner, owner_by, owner_of, is_space, is_legal_
 use Rattle.pud_defs.specs.Tables.{Tables, Pool, Reader, tables_of, members, records_of, pool_in, pool_of}
 use Rattle.pud_defs.specs.PoolChanges.{pool_named, lacks_numbers, is_full_of_pools, lacks_frames, new_pool, with_new_pool, with_pool_mode, without_pool}
 use Rattle.pud_defs.specs.World.{StoredWorld, Transaction, World, open_on}
-use Rattle.pud_defs.specs.Step.{graph_in, owns, refusal_of, after, answer_by, world_by}
+use Rattle.pud_defs.specs.Step.{graph_in, has_owner_right, refusal_of, after, answer_by, world_by}
 use Rattle.pud_defs.specs.Step.Answer.{of_reply}
 use Rattle.pud_defs.proofs.PoolsCounted.{IsMasked}
 use Rattle.pud_defs.specs.Transactions.{is_own, is_others}
@@ -460,7 +460,7 @@ module _ (size : ℕ) (w : World) (memory : Memory) (s : State) (ready : IsReady
   beside_open = open_refusal client (open_on name w)
 
   abbrev owned : Option spaces.Owner → Option Pool → Option Refusal
-  owned who found = cond (not (is_some who)) (Some refusals.Client) (cond (is_none found) (Some refusals.Pool) (cond (not (owns who found)) (Some refusals.Denied) beside_open))
+  owned who found = cond (not (is_some who)) (Some refusals.Client) (cond (is_none found) (Some refusals.Pool) (cond (not (has_owner_right who found)) (Some refusals.Denied) beside_open))
 
   owned_refusal : refusal_of w asked ≡ owned (w.clients client) (pool_named name w.stored)
   owned_refusal = refusal_of-drop w client name
@@ -470,7 +470,7 @@ module _ (size : ℕ) (w : World) (memory : Memory) (s : State) (ready : IsReady
   active_apart free =
       not_named w memory.active ready.mask s.now.words name ready.active
       (none_open client (open_on name w)
-      (all_free (not (is_some (w.clients client))) (is_none (pool_named name w.stored)) (not (owns (w.clients client) (pool_named name w.stored))) beside_open (sym owned_refusal ∙ free)))
+      (all_free (not (is_some (w.clients client))) (is_none (pool_named name w.stored)) (not (has_owner_right (w.clients client) (pool_named name w.stored))) beside_open (sym owned_refusal ∙ free)))
 
   pub refused_client : w.clients client ≡ None → refusal_of w asked ≡ Some refusals.Client
   refused_client none = owned_refusal ∙ ap (λ who. owned who (pool_named name w.stored)) none
