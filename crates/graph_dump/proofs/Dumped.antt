@@ -7,7 +7,7 @@ use Rattle.pud_defs.specs.Image.{Image}
 use Rattle.pud_defs.specs.Types.{types_of}
 use Rattle.pud_defs.specs.Stored.{stored_in, places_of}
 use Rattle.pud_defs.specs.Keyed.{keyed}
-use Rattle.pud_defs.specs.Graph.{Graph, Table, graph_of, live, placed, object_at, named_by, next_serial_of, root_of}
+use Rattle.pud_defs.specs.Graph.{Graph, Table, graph_of, live, serial_and_place, object_at, named_by, next_serial_of, root_of}
 use Rattle.pud_defs.specs.DumpText.{dump_text, joined, object_text, pointer_text}
 use Rattle.pud_defs.proofs.KeyedMaps.{of_entry}
 use Rattle.graph_laws.proofs.Places.{objects-placed}
@@ -35,15 +35,15 @@ text_of-pieces next texts root front objects whole is_front are_objects is_whole
     behind = codes "],\"root\":" ++ (pointer_text root ++ codes "}")
 
 objects_dumped : (F : ℕ) (at : List (ℕ × Puddle)) (image : Image) (n : ℕ)
-    → map object_text (keyed nat_cmp (live (table_in F at image)) 0 n) ≡ map (entry_text F at image) (keyed nat_cmp (placed (table_in F at image)) 0 n)
+    → map object_text (keyed nat_cmp (live (table_in F at image)) 0 n) ≡ map (entry_text F at image) (keyed nat_cmp (serial_and_place (table_in F at image)) 0 n)
 objects_dumped F at image n =
     let t : Table = table_in F at image in
-    ap (map object_text) (objects-placed t n) ∙ map-map object_text (of_entry nat_cmp (object_at t)) (keyed nat_cmp (placed t) 0 n)
+    ap (map object_text) (objects-placed t n) ∙ map-map object_text (of_entry nat_cmp (object_at t)) (keyed nat_cmp (serial_and_place t) 0 n)
 
 -- the graph's text by what was read and written
 pub dumped : (F : ℕ) (at : List (ℕ × Puddle)) (image : Image) (g : Graph) (next root : ℕ) (places : List (ℕ × ℕ)) (front objects whole : List ℕ) → graph_of (types_of image) (stored_in F at image) ≡ Some g
     → next ≡ next_serial_of (stored_in F at image) → root ≡ named_by (table_in F at image).serial (root_of (stored_in F at image))
-    → places ≡ keyed nat_cmp (placed (table_in F at image)) 0 (places_in at) → front ≡ codes "{\"next\":" ++ (decimal next ++ codes ",\"objects\":[")
+    → places ≡ keyed nat_cmp (serial_and_place (table_in F at image)) 0 (places_in at) → front ≡ codes "{\"next\":" ++ (decimal next ++ codes ",\"objects\":[")
     → objects ≡ front ++ joined (map (entry_text F at image) places) → whole ≡ objects ++ (codes "],\"root\":" ++ (pointer_text root ++ codes "}")) → whole ≡ dump_text g
 dumped F at image g next root places front objects whole stored is_next is_root are_places is_front are_objects is_whole =
     let st = stored_in F at image in
@@ -53,4 +53,4 @@ dumped F at image g next root places front objects whole stored is_next is_root 
     ∙ ap (λ (x : Graph). text_of x.next_serial (map object_text x.objects) x.root) (graph_is (types_of image) st g stored)
     ∙ ap₂ (λ (n r : ℕ). text_of n (map object_text (keyed nat_cmp (live t) 0 (places_of st))) r) (sym is_next) (sym is_root)
     ∙ ap (λ (texts : List (List ℕ)). text_of next texts root) (objects_dumped F at image (places_of st)
-    ∙ ap (λ n. map (entry_text F at image) (keyed nat_cmp (placed t) 0 n)) (sym (same_places F at image)) ∙ ap (map (entry_text F at image)) (sym are_places)))
+    ∙ ap (λ n. map (entry_text F at image) (keyed nat_cmp (serial_and_place t) 0 n)) (sym (same_places F at image)) ∙ ap (map (entry_text F at image)) (sym are_places)))

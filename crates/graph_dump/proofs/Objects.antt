@@ -10,7 +10,7 @@ use Rattle.pud_defs.specs.declared.objects.Val.{Val}
 use Rattle.pud_defs.specs.Image.{Image}
 use Rattle.pud_defs.specs.Types.{types_of, map_of}
 use Rattle.pud_defs.specs.Stored.{stored_in, place_word}
-use Rattle.pud_defs.specs.Graph.{Object, object_at, value_of, contents_or_none, contents_by, content, field_count}
+use Rattle.pud_defs.specs.Graph.{Object, object_at, value_of, contents_or_none, slot_contents, content, field_count}
 use Rattle.graph_read.specs.Reading.{table_in}
 use Rattle.graph_dump.specs.Read.{field_values}
 
@@ -27,7 +27,7 @@ object_at-read F at image place id m values is_id defined are =
     let contents = λ (f : ℕ). content st.puddles m place f (place_word st place (SLOT_FIELDS_WORD + f)) in
     ap₂ object is_id are
     ∙ ap (object (place_word st place SLOT_TYPE_WORD))
-    (sym (ap (λ o. map (value_of serial) (contents_or_none (contents_by st place o))) defined ∙ map-map (value_of serial) contents (range_with_len 0 (field_count m))))
+    (sym (ap (λ o. map (value_of serial) (contents_or_none (slot_contents st place o))) defined ∙ map-map (value_of serial) contents (range_with_len 0 (field_count m))))
 
 -- one field more is read
 pub fields_more : (what : ℕ → Val) (values : List Val) (f : ℕ) (v : Val) → f < length values → take f values ≡ map what (range_with_len 0 f) → v ≡ what f

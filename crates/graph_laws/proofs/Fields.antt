@@ -13,13 +13,13 @@ use Rattle.pud_defs.specs.TypeMap.{is_pointer}
 use Rattle.pud_defs.specs.Geometry.{ordinal_of, slot_of}
 use Rattle.pud_defs.specs.Types.{map_of}
 use Rattle.pud_defs.specs.Stored.{Stored, places_of, place_word, place_begins, place_words}
-use Rattle.pud_defs.specs.Graph.{Content, Number, Table, table_of, contents_by, contents_or_none, content, field_count, pointee_at, place_of, object_at, named_by, value_of, stands, all_stand, Object, Graph, next_serial_of, root_of, graph_stored, graph_of}
+use Rattle.pud_defs.specs.Graph.{Content, Number, Table, table_of, slot_contents, contents_or_none, content, field_count, pointee_at, place_of_serial, object_at, named_by, value_of, stands, all_stand, Object, Graph, next_serial_of, root_of, graph_stored, graph_of}
 use Rattle.pud_defs.proofs.Graphs.{HasGraph, graph_of-each}
 use Rattle.pud_defs.specs.GraphChanges.{object_with, with_some_object, with_field}
 use Rattle.graph_laws.specs.Changes.{IsAddress, IsField, with_field_word, with_word, with_words}
 use Rattle.graph_laws.proofs.ContentLists.{list_all-set}
 use Rattle.graph_laws.proofs.TableChanges.{IsSameBut, find-live, serials_still, IsGraph-in_place, objects-in_place}
-use Rattle.graph_laws.proofs.Words.{slot_word-header, slot_word-there, slot_word-other, slot_word-others, few_fields, same_but, IsLive, place_of-some, graph_of-words}
+use Rattle.graph_laws.proofs.Words.{slot_word-header, slot_word-there, slot_word-other, slot_word-others, few_fields, same_but, IsLive, place_of_serial-some, graph_of-words}
 use Rattle.graph_laws.proofs.Pointers.{pointee_at-null, pointee_at-address}
 
 -- one of the values of a range is another
@@ -69,15 +69,15 @@ module _ (types : List (ℕ × ℕ)) (st : Stored) (p m f v : ℕ) (below : f < 
 
   module _ (defined : map_of (place_word st p SLOT_TYPE_WORD) types ≡ Some m) where
     contents_before : before.contents p ≡ Some contents
-    contents_before = ap (contents_by st p) defined
+    contents_before = ap (slot_contents st p) defined
 
     contents_after : after.contents p ≡ Some (set contents f (content st.puddles m p f v))
     contents_after =
         let now = λ (k : ℕ). content st.puddles m p k (place_word (with_words later st) p (SLOT_FIELDS_WORD + k)) in
         let was = λ (k : ℕ). content st.puddles m p k (place_word st p (SLOT_FIELDS_WORD + k)) in
         let most = few_fields m in
-        ap (λ t. contents_by (with_words later st) p (map_of t types)) type_kept
-        ∙ ap (contents_by (with_words later st) p) defined
+        ap (λ t. slot_contents (with_words later st) p (map_of t types)) type_kept
+        ∙ ap (slot_contents (with_words later st) p) defined
         ∙ ap (λ (cs : List Content). Some cs)
         (map-range_set now was (field_count m) f (λ k low other. ap (content st.puddles m p k) (word_kept (SLOT_FIELDS_WORD + k) (omega arith) (λ at. other (omega arith))))
         ∙ ap (set contents f) (ap (content st.puddles m p f) (slot_word-there p (SLOT_FIELDS_WORD + f) v st few)))
@@ -130,7 +130,7 @@ graph_of-field : (types : List (ℕ × ℕ)) (st : Stored) (g : Graph) (s p m f 
     → graph_of types (with_field_word p f v st) ≡ Some (with_field s f x g)
 graph_of-field types st g s p m f v x is field stand value =
     let t = table_of types st in
-    let there = place_of-some t (places_of st) s p field.place in
+    let there = place_of_serial-some t (places_of st) s p field.place in
     let word : place_begins st p + SLOT_FIELDS_WORD + f ≡ place_begins st p + (SLOT_FIELDS_WORD + f) = omega arith in
     ap (λ k. graph_of types (with_words (with_word (ordinal_of p) k v st.word) st)) word
     ∙ field_after types st p m f v field.below field.defined (record { within = there.within; is = refl; used = there.used }) g x (graph_of-each types st g is) stand value
@@ -159,11 +159,11 @@ graph_of-null types st g s p m f is field pointer =
     graph_of-field types st g s p m f 0 (Ref 0) is field (ap (stands serial) content) (ap (value_of serial) content)
 
 pub graph_of-reference : (types : List (ℕ × ℕ)) (st : Stored) (g : Graph) (s p m f v r q : ℕ) → graph_of types st ≡ Some g → IsField types st s p m f → is_pointer m f ≡ true
-    → place_of r (table_of types st) (places_of st) ≡ Some q → IsAddress st.puddles (ordinal_of p) (slot_of p + 1) q v
+    → place_of_serial r (table_of types st) (places_of st) ≡ Some q → IsAddress st.puddles (ordinal_of p) (slot_of p + 1) q v
     → graph_of types (with_field_word p f v st) ≡ Some (with_field s f (Ref r) g)
 graph_of-reference types st g s p m f v r q is field pointer named address =
     let t = table_of types st in
-    let target = place_of-some t (places_of st) r q named in
+    let target = place_of_serial-some t (places_of st) r q named in
     let content = content_pointer st.puddles m p f v pointer ∙ pointee_at-address st.puddles (ordinal_of p) (slot_of p + 1) q v address in
     graph_of-field types st g s p m f v (Ref r) is field
     (ap (stands t.serial) content ∙ ap not (ne_eqb (t.serial q) 0 target.used))

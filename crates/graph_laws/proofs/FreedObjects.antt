@@ -8,13 +8,13 @@ use Rattle.std.proofs.lemmas.Option.{none-some, same_Some}
 use Rattle.pud_defs.specs.declared.space.TheConstants.{FRAME_HEADER_WORDS, SLOT_SERIAL_WORD}
 use Rattle.pud_defs.specs.Geometry.{ordinal_of}
 use Rattle.pud_defs.specs.Stored.{Stored, places_of, place_begins}
-use Rattle.pud_defs.specs.Graph.{Table, table_of, contents_or_none, pointee_at, place_of, object_at, names_serial, Object, Graph, next_serial_of, root_of, graph_stored, graph_of, is_referenced}
+use Rattle.pud_defs.specs.Graph.{Table, table_of, contents_or_none, pointee_at, place_of_serial, object_at, names_serial, Object, Graph, next_serial_of, root_of, graph_stored, graph_of, is_referenced}
 use Rattle.pud_defs.proofs.Graphs.{IsGraph, HasGraph, graph_of-each}
 use Rattle.pud_defs.specs.GraphChanges.{without_object}
 use Rattle.graph_laws.specs.Changes.{with_word, with_words, with_serial_word}
 use Rattle.graph_laws.proofs.ContentLists.{name_no_serial, names_no_root}
 use Rattle.graph_laws.proofs.TableChanges.{IsUnnamed, find-live, root-unnamed, IsGraph-unnamed, distinct-freed, objects-freed}
-use Rattle.graph_laws.proofs.Words.{slot_word-header, slot_word-there, slot_word-others, same_but, IsLive, place_of-some, graph_of-words}
+use Rattle.graph_laws.proofs.Words.{slot_word-header, slot_word-there, slot_word-others, same_but, IsLive, place_of_serial-some, graph_of-words}
 
 -- a test that fails of each entry fails of the one that is found
 none_of_found : {X : Type 0} (test : X → Bool) (es : List (ℕ × X)) (k : ℕ) (x : X) → list_any (λ (e : ℕ × X). test e.1) es ≡ false → find nat_cmp k es ≡ Some x → test x ≡ false
@@ -73,11 +73,11 @@ module _ (types : List (ℕ × ℕ)) (st : Stored) (p : ℕ) where
       (λ i. record { next_serial = next; root = root i; objects = objects i })
       ∙ ap (λ (k : Graph). Some (without_object (before.serial p) k)) h.is
 
-pub graph_of-freed : (types : List (ℕ × ℕ)) (st : Stored) (g : Graph) (s p : ℕ) → graph_of types st ≡ Some g → place_of s (table_of types st) (places_of st) ≡ Some p → is_referenced s g ≡ false
+pub graph_of-freed : (types : List (ℕ × ℕ)) (st : Stored) (g : Graph) (s p : ℕ) → graph_of types st ≡ Some g → place_of_serial s (table_of types st) (places_of st) ≡ Some p → is_referenced s g ≡ false
     → graph_of types (with_serial_word p 0 st) ≡ Some (without_object s g)
 graph_of-freed types st g s p is found apart =
     let t = table_of types st in
-    let there = place_of-some t (places_of st) s p found in
+    let there = place_of_serial-some t (places_of st) s p found in
     let h = graph_of-each types st g is in
     let alone : is_referenced (t.serial p) (graph_stored types st) ≡ false = ap₂ is_referenced there.is h.is ∙ apart in
     graph_after types st p g h (record { within = there.within; is = refl; used = there.used }) alone ∙ ap (λ k. Some (without_object k g)) there.is

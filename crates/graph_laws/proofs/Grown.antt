@@ -12,7 +12,7 @@ use Rattle.pud_defs.specs.Geometry.{ordinal_of, slot_of, places_among}
 use Rattle.pud_defs.specs.Types.{map_of}
 use Rattle.pud_defs.specs.Keyed.{put_entry, keyed, under}
 use Rattle.pud_defs.specs.Stored.{Stored, places_of, place_word}
-use Rattle.pud_defs.specs.Graph.{Content, Number, Null, Table, table_of, contents_by, slot_in, place_in, at_place, target, over_old, puddles_by, pointee_at, content, live, object_at, named_by, stands, has_header, headers_fit, Graph, next_serial_of, root_of, graph_by, graph_of}
+use Rattle.pud_defs.specs.Graph.{Content, Number, Null, Table, table_of, slot_contents, slot_in, place_in, at_place, target, over_old, puddles_by, pointee_at, content, live, object_at, named_by, stands, has_header, headers_fit, Graph, next_serial_of, root_of, graph_by, graph_of}
 use Rattle.pud_defs.proofs.Spaces.{all_below-each, all_below-from}
 use Rattle.pud_defs.proofs.Keyed.{keyed-none}
 use Rattle.pud_defs.proofs.Contents.{pointee_at_within, contents_by_within}
@@ -20,7 +20,7 @@ use Rattle.pud_defs.proofs.Graphs.{under_serial-free, IsGraph, IsSameTable, IsGr
 use Rattle.graph_laws.specs.Reads.{with_puddle, IsGrown}
 use Rattle.graph_laws.specs.Changes.{with_words}
 use Rattle.graph_laws.proofs.Words.{has_header-same}
-use Rattle.graph_laws.proofs.Same.{contents_by-stands}
+use Rattle.graph_laws.proofs.Same.{slot_contents-stands}
 
 -- ---- a list with one more at its end
 
@@ -148,8 +148,8 @@ module _ (types : List (ℕ × ℕ)) (st : Stored) (d : Puddle) (word : ℕ → 
     serial = λ p below. kept p 0 below;
     type_id = λ p below used. kept p 1 below;
     contents = λ p below used.
-        ap (λ k. contents_by later p (map_of k types)) (kept p 1 below)
-        ∙ contents_by-stands st later p before.serial (map_of (place_word st p SLOT_TYPE_WORD) types) (h.sound p below used).stand
+        ap (λ k. slot_contents later p (map_of k types)) (kept p 1 below)
+        ∙ slot_contents-stands st later p before.serial (map_of (place_word st p SLOT_TYPE_WORD) types) (h.sound p below used).stand
         (λ m f is low stand. ap (content later.puddles m p f) (kept p (SLOT_FIELDS_WORD + f) below) ∙ content-longer before.serial st.puddles d m p f (place_word st p (SLOT_FIELDS_WORD + f)) (omega arith) stand);
     within = λ p below used. contents_by_within st p (map_of (place_word st p SLOT_TYPE_WORD) types);
   }

@@ -12,7 +12,7 @@ use Rattle.pud_defs.specs.Geometry.{ordinal_of, slot_of, places_among}
 use Rattle.pud_defs.specs.Types.{map_of}
 use Rattle.pud_defs.specs.Spaces.{all_below}
 use Rattle.pud_defs.specs.Stored.{Stored, places_of, place_words, place_word, IsLivePlace}
-use Rattle.pud_defs.specs.Graph.{Number, Null, Table, table_of, contents_by, slot_in, place_in, at_place, target, puddles_by, pointee_at, content, field_count, stands, has_header, headers_fit, Graph, next_serial_of, root_of, graph_of}
+use Rattle.pud_defs.specs.Graph.{Number, Null, Table, table_of, slot_contents, slot_in, place_in, at_place, target, puddles_by, pointee_at, content, field_count, stands, has_header, headers_fit, Graph, next_serial_of, root_of, graph_of}
 use Rattle.pud_defs.specs.Exported.{address_of, exported_field, exported_object, number_in, exported_header}
 use Rattle.pud_defs.proofs.Spaces.{all_below-from}
 use Rattle.pud_defs.proofs.Contents.{few_puddles}
@@ -21,7 +21,7 @@ use Rattle.pud_defs.proofs.Graphs.{IsGraph, HasGraph, graph_of-each}
 use Rattle.graph_laws.specs.Changes.{AreBases}
 use Rattle.graph_laws.proofs.Words.{few_fields}
 use Rattle.graph_laws.proofs.Pointers.{there_is_puddle, target-address}
-use Rattle.graph_laws.proofs.Same.{StandsSame, graph_of-kept, contents_by-stands}
+use Rattle.graph_laws.proofs.Same.{StandsSame, graph_of-kept, slot_contents-stands}
 use Rattle.graph_laws.proofs.Pieces.{at_rest, IsExported, slot-free, slot-live, object_field}
 
 -- ---- puddles at rest
@@ -144,8 +144,8 @@ module _ (types : List (ℕ × ℕ)) (st later : Stored) (bases : AreBases (map 
     serials = serial-moved;
     type_ids = type-moved;
     contents = λ p within used.
-        ap (λ k. contents_by later p (map_of k types)) (type-moved p within used)
-        ∙ contents_by-stands st later p t.serial (map_of (t.type_id p) types) (h.sound p within used).stand (λ m f is below stand. field-moved p m f within used is below stand);
+        ap (λ k. slot_contents later p (map_of k types)) (type-moved p within used)
+        ∙ slot_contents-stands st later p t.serial (map_of (t.type_id p) types) (h.sound p within used).stand (λ m f is below stand. field-moved p m f within used is below stand);
   }
 
 pub graph_of-exported : (types : List (ℕ × ℕ)) (st later : Stored) (g : Graph) → AreBases (map (λ d. d.base) st.puddles) → 1 ≤ length st.puddles → IsExported types st later → graph_of types st ≡ Some g → graph_of types later ≡ Some g

@@ -9,7 +9,7 @@ use Rattle.pud_defs.specs.TypeMap.{is_pointer}
 use Rattle.pud_defs.specs.Geometry.{ordinal_of, slot_of}
 use Rattle.pud_defs.specs.Types.{map_of}
 use Rattle.pud_defs.specs.Stored.{Stored, places_of, place_begins}
-use Rattle.pud_defs.specs.Graph.{Content, Table, table_of, contents_by, contents_or_none, content, field_count, pointee_at, object_at, value_of, stands, all_stand, is_next_serial, Object, Graph, next_serial_of, root_of, graph_stored, graph_of}
+use Rattle.pud_defs.specs.Graph.{Content, Table, table_of, slot_contents, contents_or_none, content, field_count, pointee_at, object_at, value_of, stands, all_stand, is_next_serial, Object, Graph, next_serial_of, root_of, graph_stored, graph_of}
 use Rattle.pud_defs.proofs.Contents.{list_all-range}
 use Rattle.pud_defs.proofs.Graphs.{HasGraph, graph_of-each}
 use Rattle.pud_defs.specs.GraphChanges.{blank_value, blank_object, with_new}
@@ -62,8 +62,8 @@ module _ (types : List (ℕ × ℕ)) (st : Stored) (word : ℕ → ℕ → ℕ) 
 
   contents_after : after.contents p ≡ Some blanks
   contents_after =
-      ap (λ t. contents_by (with_words word st) p (map_of t types)) made.type_word
-      ∙ ap (contents_by (with_words word st) p) made.defined
+      ap (λ t. slot_contents (with_words word st) p (map_of t types)) made.type_word
+      ∙ ap (slot_contents (with_words word st) p) made.defined
       ∙ ap (λ (cs : List Content). Some cs) (map-range_same _ _ (field_count m) (λ f below. ap (content st.puddles m p f) (made.fields f below)))
 
   stand_after : all_stand after.serial (after.contents p) ≡ true

@@ -9,7 +9,7 @@ use Rattle.pud_defs.specs.TypeMap.{is_pointer}
 use Rattle.pud_defs.specs.Geometry.{ordinal_of, slot_of, places_among}
 use Rattle.pud_defs.specs.Types.{map_of}
 use Rattle.pud_defs.specs.Stored.{Stored, places_of, place_begins, place_word}
-use Rattle.pud_defs.specs.Graph.{Content, Number, Null, contents_by, slot_in, place_in, at_place, target, over_old, puddles_by, pointee_at, content, field_count, Graph, graph_of}
+use Rattle.pud_defs.specs.Graph.{Content, Number, Null, slot_contents, slot_in, place_in, at_place, target, over_old, puddles_by, pointee_at, content, field_count, Graph, graph_of}
 use Rattle.pud_defs.proofs.Graphs.{graph_of-each}
 use Rattle.graph_laws.specs.Placed.{IsPlaced, AreFrontiers, KeepsBases, MovesBases}
 use Rattle.graph_laws.proofs.Words.{few_fields, map-range_same}
@@ -80,7 +80,7 @@ module _ (types : List (ℕ × ℕ)) (file later : Stored) (placed : IsPlaced fi
       ap (content later.puddles m p f) (slot_word p (SLOT_FIELDS_WORD + f) below (omega arith))
       ∙ ap (λ (c : Content). cond (is_pointer m f) c (Number v)) (placed.pointers (ordinal_of p) (slot_of p + 1) v (omega arith) (omega arith))
 
-  contents-placed : (p : ℕ) (type : Option ℕ) → p < places_of file → contents_by later p type ≡ contents_by file p type
+  contents-placed : (p : ℕ) (type : Option ℕ) → p < places_of file → slot_contents later p type ≡ slot_contents file p type
   contents-placed p None below = refl
   contents-placed p (Some m) below =
       ap (λ (cs : List Content). Some cs)
@@ -96,6 +96,6 @@ graph_of-placed types file later g placed some is =
       serials = λ p below. slot_word types file later placed some p SLOT_SERIAL_WORD below (omega arith);
       type_ids = λ p below used. slot_word types file later placed some p SLOT_TYPE_WORD below (omega arith);
       contents = λ p below used.
-          ap (λ id. contents_by later p (map_of id types)) (slot_word types file later placed some p SLOT_TYPE_WORD below (omega arith))
+          ap (λ id. slot_contents later p (map_of id types)) (slot_word types file later placed some p SLOT_TYPE_WORD below (omega arith))
           ∙ contents-placed types file later placed some p (map_of (place_word file p SLOT_TYPE_WORD) types) below;
     }) is

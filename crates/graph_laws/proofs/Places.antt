@@ -5,13 +5,13 @@ use Rattle.std.proofs.lemmas.Bool.{cases_eq}
 use Rattle.std.proofs.lemmas.Cmp.{nat_cmp_total}
 use Rattle.pud_defs.specs.Keyed.{keyed}
 use Rattle.pud_defs.specs.Stored.{Stored, places_of}
-use Rattle.pud_defs.specs.Graph.{Table, table_of, placed, place_of, live, object_at, object_in, Graph, graph_of}
+use Rattle.pud_defs.specs.Graph.{Table, table_of, serial_and_place, place_of_serial, live, object_at, object_in, Graph, graph_of}
 use Rattle.pud_defs.proofs.Keyed.{keyed-same, find-keyed}
 use Rattle.pud_defs.proofs.KeyedMaps.{of_entry, keyed-mapped, find-mapped}
 use Rattle.pud_defs.proofs.Graphs.{under_serial-free, under_serial-used, graph_of-each}
 
 module _ (t : Table) where
-  live-placed : (p : ℕ) → live t p ≡ option_map (of_entry nat_cmp (object_at t)) (placed t p)
+  live-placed : (p : ℕ) → live t p ≡ option_map (of_entry nat_cmp (object_at t)) (serial_and_place t p)
   live-placed p =
       let own = λ (q : ℕ). q in
       ⊎_elim
@@ -20,16 +20,16 @@ module _ (t : Table) where
       (cases_eq (t.serial p) 0)
 
   -- the objects by their serials are those at the places by their serials
-  pub objects-placed : (n : ℕ) → keyed nat_cmp (live t) 0 n ≡ map (of_entry nat_cmp (object_at t)) (keyed nat_cmp (placed t) 0 n)
+  pub objects-placed : (n : ℕ) → keyed nat_cmp (live t) 0 n ≡ map (of_entry nat_cmp (object_at t)) (keyed nat_cmp (serial_and_place t) 0 n)
   objects-placed n =
-      keyed-same nat_cmp (live t) (λ p. option_map (of_entry nat_cmp (object_at t)) (placed t p)) 0 n (λ p low high. live-placed p) ∙ keyed-mapped nat_cmp (object_at t) (placed t) 0 n
+      keyed-same nat_cmp (live t) (λ p. option_map (of_entry nat_cmp (object_at t)) (serial_and_place t p)) 0 n (λ p low high. live-placed p) ∙ keyed-mapped nat_cmp (object_at t) (serial_and_place t) 0 n
 
   -- what is found under a serial is the object at its place
-  find-place : (n s : ℕ) → find nat_cmp s (keyed nat_cmp (live t) 0 n) ≡ option_map (object_at t) (place_of s t n)
+  find-place : (n s : ℕ) → find nat_cmp s (keyed nat_cmp (live t) 0 n) ≡ option_map (object_at t) (place_of_serial s t n)
   find-place n s =
       ap (find nat_cmp s) (objects-placed n)
-      ∙ find-mapped nat_cmp (object_at t) s (keyed nat_cmp (placed t) 0 n)
-      ∙ ap (option_map (object_at t)) (find-keyed nat_cmp nat_cmp_total s (placed t) 0 n)
+      ∙ find-mapped nat_cmp (object_at t) s (keyed nat_cmp (serial_and_place t) 0 n)
+      ∙ ap (option_map (object_at t)) (find-keyed nat_cmp nat_cmp_total s (serial_and_place t) 0 n)
 
-pub object_in-place : (types : List (ℕ × ℕ)) (st : Stored) (g : Graph) (s : ℕ) → graph_of types st ≡ Some g → object_in s g ≡ option_map (object_at (table_of types st)) (place_of s (table_of types st) (places_of st))
+pub object_in-place : (types : List (ℕ × ℕ)) (st : Stored) (g : Graph) (s : ℕ) → graph_of types st ≡ Some g → object_in s g ≡ option_map (object_at (table_of types st)) (place_of_serial s (table_of types st) (places_of st))
 object_in-place types st g s is = ap (object_in s) (sym (graph_of-each types st g is).is) ∙ find-place (table_of types st) (places_of st) s

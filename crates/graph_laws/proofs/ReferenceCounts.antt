@@ -11,14 +11,14 @@ use Rattle.pud_defs.specs.declared.objects.Val.{Val}
 use Rattle.pud_defs.specs.declared.objects.Val.TheVariants.{Num, Ref}
 use Rattle.pud_defs.specs.TypeMap.{is_pointer}
 use Rattle.pud_defs.specs.Stored.{Stored, places_of}
-use Rattle.pud_defs.specs.Graph.{Object, Graph, table_of, place_of, object_at, live, field_count, names_serial, object_in, is_referenced, next_serial_of, graph_of}
+use Rattle.pud_defs.specs.Graph.{Object, Graph, table_of, place_of_serial, object_at, live, field_count, names_serial, object_in, is_referenced, next_serial_of, graph_of}
 use Rattle.pud_defs.specs.GraphChanges.{blank_value, blank_object, object_with, with_object, with_some_object, with_field, with_new, without_object, with_root}
 use Rattle.pud_defs.proofs.Keyed.{is_sorted-keyed}
 use Rattle.pud_defs.proofs.Graphs.{graph_of-each}
 use Rattle.graph_laws.specs.ReferenceCounts.{times_named_by, pointers_to, reference_count}
 use Rattle.graph_laws.proofs.KeyedSums.{sum-put_new, sum-without, sum-put_there}
 use Rattle.graph_laws.proofs.Places.{object_in-place}
-use Rattle.graph_laws.proofs.Words.{place_of-some}
+use Rattle.graph_laws.proofs.Words.{place_of_serial-some}
 
 -- ---- graphs that are read
 
@@ -27,11 +27,11 @@ module _ (types : List (ℕ × ℕ)) (st : Stored) (g : Graph) (is : graph_of ty
   pub objects_sorted : T (is_sorted nat_cmp g.objects)
   objects_sorted = subst (λ (k : Graph). T (is_sorted nat_cmp k.objects)) (graph_of-each types st g is).is (is_sorted-keyed nat_cmp nat_cmp_total (live (table_of types st)) 0 (places_of st))
 
-  by_place : (s : ℕ) (p : Option ℕ) (o : Option Object) → place_of s (table_of types st) (places_of st) ≡ p → option_map (object_at (table_of types st)) p ≡ o → g.next_serial ≡ s → o ≡ None
+  by_place : (s : ℕ) (p : Option ℕ) (o : Option Object) → place_of_serial s (table_of types st) (places_of st) ≡ p → option_map (object_at (table_of types st)) p ≡ o → g.next_serial ≡ s → o ≡ None
   by_place s None o place there next = sym there
   by_place s (Some p) o place there next =
       let h = graph_of-each types st g is in
-      let live = place_of-some (table_of types st) (places_of st) s p place in
+      let live = place_of_serial-some (table_of types st) (places_of st) s p place in
       let sound = (h.graph.sound p live.within live.used).below in
       let same : next_serial_of st ≡ g.next_serial = ap (λ (k : Graph). k.next_serial) h.is in
       let serial = live.is in
@@ -39,7 +39,7 @@ module _ (types : List (ℕ × ℕ)) (st : Stored) (g : Graph) (is : graph_of ty
 
   -- no object has the next serial
   pub next_unused : object_in g.next_serial g ≡ None
-  next_unused = by_place g.next_serial (place_of g.next_serial (table_of types st) (places_of st)) (object_in g.next_serial g) refl (sym (object_in-place types st g g.next_serial is)) refl
+  next_unused = by_place g.next_serial (place_of_serial g.next_serial (table_of types st) (places_of st)) (object_in g.next_serial g) refl (sym (object_in-place types st g g.next_serial is)) refl
 
 -- ---- one change
 

@@ -11,14 +11,14 @@ use Rattle.pud_defs.specs.TypeMap.{is_pointer}
 use Rattle.pud_defs.specs.Geometry.{ordinal_of, slot_of, places_among}
 use Rattle.pud_defs.specs.Types.{map_of}
 use Rattle.pud_defs.specs.Stored.{Stored, places_of, place_word}
-use Rattle.pud_defs.specs.Graph.{Content, Number, Null, At, Nowhere, table_of, contents_by, slot_in, place_in, at_place, target, over_old, puddles_by, pointee_at, content, field_count, stands, all_stand, has_header, headers_fit, Graph, root_of, graph_of}
+use Rattle.pud_defs.specs.Graph.{Content, Number, Null, At, Nowhere, table_of, slot_contents, slot_in, place_in, at_place, target, over_old, puddles_by, pointee_at, content, field_count, stands, all_stand, has_header, headers_fit, Graph, root_of, graph_of}
 use Rattle.pud_defs.specs.Spaces.{all_below}
 use Rattle.pud_defs.proofs.Spaces.{all_below-same}
 use Rattle.pud_defs.proofs.Graphs.{graph_of-each}
 use Rattle.graph_laws.specs.Changes.{AreBases}
 use Rattle.pud_defs.specs.Puddles.{moved_to}
 use Rattle.graph_laws.specs.Rewriting.{rewritten, rewritten_field, with_some_puddle, with_frontier, advanced, passes_slot, is_passed, passes_root, RewritesSteps, anywhere, LeadSomewhere}
-use Rattle.graph_laws.proofs.Words.{contents_by-each, has_header-same}
+use Rattle.graph_laws.proofs.Words.{slot_contents-each, has_header-same}
 use Rattle.graph_laws.proofs.Pointers.{target-address}
 use Rattle.graph_laws.proofs.Same.{StandsSame, graph_of-same, list_all-range_each}
 
@@ -172,11 +172,11 @@ stands-somewhere serial Null stand = refl
 stands-somewhere serial (At p) stand = refl
 stands-somewhere serial Nowhere stand = stand
 
-field-stands : (st : Stored) (serial : ℕ → ℕ) (p m f : ℕ) (type : Option ℕ) → type ≡ Some m → f < field_count m → all_stand serial (contents_by st p type) ≡ true
+field-stands : (st : Stored) (serial : ℕ → ℕ) (p m f : ℕ) (type : Option ℕ) → type ≡ Some m → f < field_count m → all_stand serial (slot_contents st p type) ≡ true
     → stands serial (content st.puddles m p f (place_word st p (SLOT_FIELDS_WORD + f))) ≡ true
 field-stands st serial p m f type is low stand =
     list_all-range_each (stands serial) (λ (i : ℕ). content st.puddles m p i (place_word st p (SLOT_FIELDS_WORD + i))) 0 (field_count m)
-    (ap (λ t. all_stand serial (contents_by st p t)) (sym is) ∙ stand) f (omega arith) (omega arith)
+    (ap (λ t. all_stand serial (slot_contents st p t)) (sym is) ∙ stand) f (omega arith) (omega arith)
 
 pub LeadSomewhere-graph : (types : List (ℕ × ℕ)) (st : Stored) (g : Graph) (o n m : ℕ) → graph_of types st ≡ Some g → LeadSomewhere types st o n m
 LeadSomewhere-graph types st g o n m is =
@@ -252,8 +252,8 @@ module _ (types : List (ℕ × ℕ)) (st : Stored) (word : ℕ → ℕ → ℕ) 
     serials = rewrites.serials;
     type_ids = rewrites.type_ids;
     contents = λ p below used.
-        ap (λ k. contents_by after p (map_of k types)) (rewrites.type_ids p below used)
-        ∙ contents_by-each st after p (map_of (place_word st p SLOT_TYPE_WORD) types) (λ k f is low. field-advanced p k f below used is low);
+        ap (λ k. slot_contents after p (map_of k types)) (rewrites.type_ids p below used)
+        ∙ slot_contents-each st after p (map_of (place_word st p SLOT_TYPE_WORD) types) (λ k f is low. field-advanced p k f below used is low);
   }
 
 -- what leads somewhere has after the steps the same graph, or has none either

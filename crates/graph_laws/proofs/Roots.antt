@@ -4,12 +4,12 @@ use Rattle.pud_defs.specs.declared.space.TheConstants.{ROOT_WORD}
 use Rattle.pud_defs.specs.Geometry.{ordinal_of}
 use Rattle.pud_defs.specs.Types.{map_of}
 use Rattle.pud_defs.specs.Stored.{Stored, places_of, place_word, place_begins}
-use Rattle.pud_defs.specs.Graph.{Content, table_of, contents_by, pointee_at, place_of, named_by, stands, Graph, next_serial_of, graph_stored, graph_of}
+use Rattle.pud_defs.specs.Graph.{Content, table_of, slot_contents, pointee_at, place_of_serial, named_by, stands, Graph, next_serial_of, graph_stored, graph_of}
 use Rattle.pud_defs.proofs.Contents.{names_only, pointee_at_within, contents_by_within}
 use Rattle.pud_defs.proofs.Graphs.{IsGraph, HasGraph, IsSameTable, IsGraph-same, graph_by-same, graph_of-each}
 use Rattle.pud_defs.specs.GraphChanges.{with_root}
 use Rattle.graph_laws.specs.Changes.{IsAddress, with_word, with_words, with_root_word}
-use Rattle.graph_laws.proofs.Words.{with_word-there, with_word-other, contents_by-same, place_of-some, graph_of-words}
+use Rattle.graph_laws.proofs.Words.{with_word-there, with_word-other, slot_contents-same, place_of_serial-some, graph_of-words}
 use Rattle.graph_laws.proofs.Pointers.{pointee_at-null, pointee_at-address}
 
 module _ (types : List (ℕ × ℕ)) (st : Stored) (v : ℕ) where
@@ -24,8 +24,8 @@ module _ (types : List (ℕ × ℕ)) (st : Stored) (v : ℕ) where
     serial = λ p below. kept (ordinal_of p) (place_begins st p + 0) (λ at. absurd (omega arith));
     type_id = λ p below used. kept (ordinal_of p) (place_begins st p + 1) (λ at. absurd (omega arith));
     contents = λ p below used.
-        ap (λ k. contents_by (with_words later st) p (map_of k types)) (kept (ordinal_of p) (place_begins st p + 1) (λ at. absurd (omega arith)))
-        ∙ contents_by-same st later p (map_of (place_word st p 1) types) (λ m f is low. kept (ordinal_of p) (place_begins st p + (2 + f)) (λ at. absurd (omega arith)));
+        ap (λ k. slot_contents (with_words later st) p (map_of k types)) (kept (ordinal_of p) (place_begins st p + 1) (λ at. absurd (omega arith)))
+        ∙ slot_contents-same st later p (map_of (place_word st p 1) types) (λ m f is low. kept (ordinal_of p) (place_begins st p + (2 + f)) (λ at. absurd (omega arith)));
     within = λ p below used. contents_by_within st p (map_of (place_word st p 1) types);
   }
 
@@ -50,9 +50,9 @@ graph_of-no_root types st g is =
     let null = pointee_at-null st.puddles 0 0 0 refl in
     graph_after types st 0 g 0 _ (graph_of-each types st g is) null refl refl
 
-pub graph_of-root : (types : List (ℕ × ℕ)) (st : Stored) (g : Graph) (s q v : ℕ) → graph_of types st ≡ Some g → place_of s (table_of types st) (places_of st) ≡ Some q → IsAddress st.puddles 0 0 q v
+pub graph_of-root : (types : List (ℕ × ℕ)) (st : Stored) (g : Graph) (s q v : ℕ) → graph_of types st ≡ Some g → place_of_serial s (table_of types st) (places_of st) ≡ Some q → IsAddress st.puddles 0 0 q v
     → graph_of types (with_root_word v st) ≡ Some (with_root s g)
 graph_of-root types st g s q v is found address =
     let t = table_of types st in
-    let target = place_of-some t (places_of st) s q found in
+    let target = place_of_serial-some t (places_of st) s q found in
     graph_after types st v g s _ (graph_of-each types st g is) (pointee_at-address st.puddles 0 0 q v address) (ap not (ne_eqb (t.serial q) 0 target.used)) target.is

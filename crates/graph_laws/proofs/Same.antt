@@ -6,7 +6,7 @@ use Rattle.pud_defs.specs.declared.space.TheConstants.{SLOT_TYPE_WORD, SLOT_FIEL
 use Rattle.pud_defs.specs.Geometry.{places_among}
 use Rattle.pud_defs.specs.Types.{map_of}
 use Rattle.pud_defs.specs.Stored.{Stored, places_of, place_word}
-use Rattle.pud_defs.specs.Graph.{Content, table_of, contents_by, content, field_count, stands, all_stand, headers_fit, Graph, next_serial_of, root_of, graph_by, graph_of}
+use Rattle.pud_defs.specs.Graph.{Content, table_of, slot_contents, content, field_count, stands, all_stand, headers_fit, Graph, next_serial_of, root_of, graph_by, graph_of}
 use Rattle.pud_defs.proofs.Contents.{pointee_at_within, contents_by_within}
 use Rattle.pud_defs.proofs.Graphs.{IsGraph, IsSameTable, IsGraph-same, graph_by-same, graph_of-each, graph_of-from}
 use Rattle.graph_laws.proofs.Words.{map-range_same}
@@ -23,12 +23,12 @@ list_all-range_each test f from (suc count) all k low high =
     (cases_eq k from)
 
 -- fields of which each stands for the same as one that stands
-pub contents_by-stands : (st later : Stored) (p : ℕ) (serial : ℕ → ℕ) (type : Option ℕ) → all_stand serial (contents_by st p type) ≡ true
+pub slot_contents-stands : (st later : Stored) (p : ℕ) (serial : ℕ → ℕ) (type : Option ℕ) → all_stand serial (slot_contents st p type) ≡ true
     → ((m f : ℕ) → type ≡ Some m → f < field_count m → stands serial (content st.puddles m p f (place_word st p (SLOT_FIELDS_WORD + f))) ≡ true
     → content later.puddles m p f (place_word later p (SLOT_FIELDS_WORD + f)) ≡ content st.puddles m p f (place_word st p (SLOT_FIELDS_WORD + f)))
-    → contents_by later p type ≡ contents_by st p type
-contents_by-stands st later p serial None stand same = refl
-contents_by-stands st later p serial (Some m) stand same =
+    → slot_contents later p type ≡ slot_contents st p type
+slot_contents-stands st later p serial None stand same = refl
+slot_contents-stands st later p serial (Some m) stand same =
     let was = λ (f : ℕ). content st.puddles m p f (place_word st p (SLOT_FIELDS_WORD + f)) in
     ap (λ (cs : List Content). Some cs)
     (map-range_same (λ f. content later.puddles m p f (place_word later p (SLOT_FIELDS_WORD + f))) was (field_count m)

@@ -11,13 +11,13 @@ use Rattle.pud_defs.specs.TypeMap.{is_pointer}
 use Rattle.pud_defs.specs.Geometry.{ordinal_of, slot_of, places_among}
 use Rattle.pud_defs.specs.Types.{map_of}
 use Rattle.pud_defs.specs.Stored.{Stored, places_of, place_word}
-use Rattle.pud_defs.specs.Graph.{Content, Number, Null, Table, table_of, contents_by, slot_in, place_in, at_place, target, over_old, puddles_by, pointee_at, content, stands, has_header, headers_fit, Graph, next_serial_of, root_of, graph_stored, graph_of}
+use Rattle.pud_defs.specs.Graph.{Content, Number, Null, Table, table_of, slot_contents, slot_in, place_in, at_place, target, over_old, puddles_by, pointee_at, content, stands, has_header, headers_fit, Graph, next_serial_of, root_of, graph_stored, graph_of}
 use Rattle.pud_defs.proofs.Spaces.{all_below-each, all_below-from}
 use Rattle.pud_defs.proofs.Contents.{name_only, names_only, place_in_within, pointee_at_within, contents_by_within}
 use Rattle.pud_defs.proofs.Graphs.{IsGraph, IsSameTable, IsGraph-same, graph_of-each, graph_of-from}
 use Rattle.graph_laws.specs.Reads.{with_puddle, IsGrown}
 use Rattle.graph_laws.proofs.Words.{has_header-same}
-use Rattle.graph_laws.proofs.Same.{contents_by-stands}
+use Rattle.graph_laws.proofs.Same.{slot_contents-stands}
 use Rattle.graph_laws.proofs.Grown.{slice_get-front}
 
 -- ---- pointers over fewer bases
@@ -149,8 +149,8 @@ module _ (types : List (ℕ × ℕ)) (st : Stored) (d : Puddle) (word : ℕ → 
   module _ (next : ℕ) (top : Content) (h : IsGraph next top after (n + places_among 1)) where
     same_contents : (p : ℕ) → p < n → (after.serial p ≡ 0 → ⊥) → before.contents p ≡ after.contents p
     same_contents p below used =
-        ap (λ k. contents_by st p (map_of k types)) (kept p SLOT_TYPE_WORD below)
-        ∙ contents_by-stands later st p after.serial (map_of (place_word later p SLOT_TYPE_WORD) types) (h.sound p (omega arith) used).stand
+        ap (λ k. slot_contents st p (map_of k types)) (kept p SLOT_TYPE_WORD below)
+        ∙ slot_contents-stands later st p after.serial (map_of (place_word later p SLOT_TYPE_WORD) types) (h.sound p (omega arith) used).stand
         (λ m f is low stand. ap (content st.puddles m p f) (kept p (SLOT_FIELDS_WORD + f) below) ∙ content-shorter after.serial st.puddles d grown.free m p f (place_word later p (SLOT_FIELDS_WORD + f)) (omega arith) stand)
 
     same_table : IsSameTable after before n

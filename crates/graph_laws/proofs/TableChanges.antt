@@ -4,7 +4,7 @@ use Rattle.std.specs.FinMap.Entries.{put, find}
 use Rattle.std.proofs.lemmas.Bool.{cases_eq, cond-true, cond-false, not-true, eqb-false}
 use Rattle.std.proofs.lemmas.Cmp.{nat_cmp_total}
 use Rattle.pud_defs.specs.Keyed.{keyed, under, without}
-use Rattle.pud_defs.specs.Graph.{Content, Table, under_serial, placed, object_at, live, named_by, value_of, stands, all_stand, contents_or_none, is_next_serial}
+use Rattle.pud_defs.specs.Graph.{Content, Table, under_serial, serial_and_place, object_at, live, named_by, value_of, stands, all_stand, contents_or_none, is_next_serial}
 use Rattle.pud_defs.proofs.TypeLists.{same_test, same_number}
 use Rattle.pud_defs.proofs.Keyed.{HasDistinctKeys, IsSetAt, is_free_for, under_apart, under_none, alone_there, keyed-same, keyed-put, keyed-without, HasDistinctKeys-set, find-keyed_place}
 use Rattle.pud_defs.proofs.Graphs.{IsSoundPlace, IsGraph, under_serial-free, under_serial-used, distinct_live, live-alike}
@@ -69,7 +69,7 @@ serials_apart serial n p h within used q below other same =
     eqb-false (serial p) (serial q) (sym (same_test (serial p) (serial q)) ∙ apart) (sym same)
 
 -- the object of a live place is found under its serial
-pub find-live : (t : Table) (n p : ℕ) → HasDistinctKeys nat_cmp (placed t) 0 n → p < n → (t.serial p ≡ 0 → ⊥) → find nat_cmp (t.serial p) (keyed nat_cmp (live t) 0 n) ≡ Some (object_at t p)
+pub find-live : (t : Table) (n p : ℕ) → HasDistinctKeys nat_cmp (serial_and_place t) 0 n → p < n → (t.serial p ≡ 0 → ⊥) → find nat_cmp (t.serial p) (keyed nat_cmp (live t) 0 n) ≡ Some (object_at t p)
 find-live t n p h within used =
     find-keyed_place nat_cmp nat_cmp_total (live t) 0 n p (t.serial p, object_at t p) (distinct_live t n h) zero-le (omega arith) (under_serial-used t.serial (object_at t) p used)
 
@@ -122,7 +122,7 @@ module _ (t u : Table) (n p : ℕ) (same : IsSameBut t u n p) where
     }
 
     -- what stands there now is put in place of what stood there
-    pub objects-in_place : HasDistinctKeys nat_cmp (placed t) 0 n → (t.serial p ≡ 0 → ⊥) → keyed nat_cmp (live u) 0 n ≡ put nat_cmp (t.serial p) (object_at u p) (keyed nat_cmp (live t) 0 n)
+    pub objects-in_place : HasDistinctKeys nat_cmp (serial_and_place t) 0 n → (t.serial p ≡ 0 → ⊥) → keyed nat_cmp (live u) 0 n ≡ put nat_cmp (t.serial p) (object_at u p) (keyed nat_cmp (live t) 0 n)
     objects-in_place distinct used = keyed-put_below (live t) (live u) n p (t.serial p) (object_at u p) (record {
       within = same.within;
       others = λ q below other. live-other q below other (λ h. ap (λ (s : ℕ → ℕ). map (value_of s) (contents_or_none (t.contents q))) serials_still);
@@ -140,7 +140,7 @@ module _ (t u : Table) (n p : ℕ) (same : IsSameBut t u n p) where
     pub root-unnamed : named_by u.serial top ≡ named_by t.serial top
     root-unnamed = named_by-same t.serial u.serial (is_other p) agree top unnamed.root
 
-    pub IsGraph-unnamed : (later : ℕ) → next ≤ later → is_next_serial later ≡ true → HasDistinctKeys nat_cmp (placed u) 0 n → ((u.serial p ≡ 0 → ⊥) → IsSoundPlace later u p) → IsGraph later top u n
+    pub IsGraph-unnamed : (later : ℕ) → next ≤ later → is_next_serial later ≡ true → HasDistinctKeys nat_cmp (serial_and_place u) 0 n → ((u.serial p ≡ 0 → ⊥) → IsSoundPlace later u p) → IsGraph later top u n
     IsGraph-unnamed later more legal distinct here = record {
       legal = legal;
       top_stands = stands-same t.serial u.serial (is_other p) agree top unnamed.root ∙ h.top_stands;
@@ -164,8 +164,8 @@ module _ (t u : Table) (n p : ℕ) (same : IsSameBut t u n p) where
       apart_now : (q : ℕ) → q < n → (q ≡ p → ⊥) → t.serial q ≡ u.serial p → ⊥
       apart_now q below other e = fresh q below (λ zero. used (sym e ∙ zero)) e
 
-      pub distinct-new : HasDistinctKeys nat_cmp (placed u) 0 n
-      distinct-new = HasDistinctKeys-set nat_cmp nat_cmp_total (placed t) (placed u) 0 n p (u.serial p) (Some p) (let within = same.within in record {
+      pub distinct-new : HasDistinctKeys nat_cmp (serial_and_place u) 0 n
+      distinct-new = HasDistinctKeys-set nat_cmp nat_cmp_total (serial_and_place t) (serial_and_place u) 0 n p (u.serial p) (Some p) (let within = same.within in record {
         low = zero-le;
         high = omega arith;
         others = λ q other. ap (λ k. cond (slot_state k).is_live (Some (k, q)) None) (same.serial q other);
@@ -185,8 +185,8 @@ module _ (t u : Table) (n p : ℕ) (same : IsSameBut t u n p) where
 
     -- a live place freed
     module _ (used : t.serial p ≡ 0 → ⊥) (free : u.serial p ≡ 0) where
-      pub distinct-freed : HasDistinctKeys nat_cmp (placed u) 0 n
-      distinct-freed = HasDistinctKeys-set nat_cmp nat_cmp_total (placed t) (placed u) 0 n p (t.serial p) None (let within = same.within in record {
+      pub distinct-freed : HasDistinctKeys nat_cmp (serial_and_place u) 0 n
+      distinct-freed = HasDistinctKeys-set nat_cmp nat_cmp_total (serial_and_place t) (serial_and_place u) 0 n p (t.serial p) None (let within = same.within in record {
         low = zero-le;
         high = omega arith;
         others = λ q other. ap (λ k. cond (slot_state k).is_live (Some (k, q)) None) (same.serial q other);

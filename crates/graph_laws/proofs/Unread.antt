@@ -5,10 +5,10 @@ use Rattle.pud_defs.specs.declared.space.TheConstants.{FRAME_HEADER_WORDS, FRAME
 use Rattle.pud_defs.specs.Geometry.{ordinal_of}
 use Rattle.pud_defs.specs.Types.{map_of}
 use Rattle.pud_defs.specs.Stored.{Stored, places_of, place_word, place_begins, place_words, IsFreePlace, IsLivePlace}
-use Rattle.pud_defs.specs.Graph.{contents_by, field_count, pointee_at, graph_of}
+use Rattle.pud_defs.specs.Graph.{slot_contents, field_count, pointee_at, graph_of}
 use Rattle.graph_laws.specs.Changes.{with_word, with_words, with_slot_word}
 use Rattle.graph_laws.specs.Reads.{ReadsSame}
-use Rattle.graph_laws.proofs.Words.{with_word-other, slot_word-header, slot_word-other, headers_fit-same, contents_by-same, few_fields}
+use Rattle.graph_laws.proofs.Words.{with_word-other, slot_word-header, slot_word-other, headers_fit-same, slot_contents-same, few_fields}
 use Rattle.graph_laws.proofs.Same.{StandsSame, graph_of-same}
 
 pub stands_same : (types : List (ℕ × ℕ)) (st : Stored) (word : ℕ → ℕ → ℕ) → ReadsSame types st word → StandsSame types st (with_words word st)
@@ -20,8 +20,8 @@ stands_same types st word h = record {
   serials = h.slots.serials;
   type_ids = h.slots.type_ids;
   contents = λ p below used.
-      ap (λ k. contents_by (with_words word st) p (map_of k types)) (h.slots.type_ids p below used)
-      ∙ contents_by-same st word p (map_of (place_word st p SLOT_TYPE_WORD) types) (λ m f is low. h.slots.fields p m f below used is low);
+      ap (λ k. slot_contents (with_words word st) p (map_of k types)) (h.slots.type_ids p below used)
+      ∙ slot_contents-same st word p (map_of (place_word st p SLOT_TYPE_WORD) types) (λ m f is low. h.slots.fields p m f below used is low);
 }
 
 pub graph_of-read : (types : List (ℕ × ℕ)) (st : Stored) (word : ℕ → ℕ → ℕ) → ReadsSame types st word → graph_of types (with_words word st) ≡ graph_of types st

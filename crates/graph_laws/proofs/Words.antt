@@ -15,7 +15,7 @@ use Rattle.pud_defs.specs.Types.{map_of}
 use Rattle.pud_defs.specs.Keyed.{under}
 use Rattle.pud_defs.specs.Headers.{is_header}
 use Rattle.pud_defs.specs.Stored.{Stored, places_of, place_word, place_begins, place_words}
-use Rattle.pud_defs.specs.Graph.{Content, Table, table_of, contents_by, content, field_count, pointee_at, placed, place_of, has_header, headers_fit, Graph, graph_by, graph_of}
+use Rattle.pud_defs.specs.Graph.{Content, Table, table_of, slot_contents, content, field_count, pointee_at, serial_and_place, place_of_serial, has_header, headers_fit, Graph, graph_by, graph_of}
 use Rattle.pud_defs.proofs.Spaces.{all_below-same}
 use Rattle.pud_defs.proofs.TypeLists.{same_test}
 use Rattle.pud_defs.proofs.Keyed.{first_from_some}
@@ -77,21 +77,21 @@ map-range_same f g n same = same_lists _ _
     get_or-map-range_with_len f 0 n k k d within (omega arith) ∙ same k within ∙ sym (get_or-map-range_with_len g 0 n k k d within (omega arith)))
 
 -- fields of which each stands for the same
-pub contents_by-each : (st later : Stored) (p : ℕ) (type : Option ℕ)
+pub slot_contents-each : (st later : Stored) (p : ℕ) (type : Option ℕ)
     → ((m f : ℕ) → type ≡ Some m → f < field_count m
     → content later.puddles m p f (place_word later p (SLOT_FIELDS_WORD + f)) ≡ content st.puddles m p f (place_word st p (SLOT_FIELDS_WORD + f)))
-    → contents_by later p type ≡ contents_by st p type
-contents_by-each st later p None same = refl
-contents_by-each st later p (Some m) same =
+    → slot_contents later p type ≡ slot_contents st p type
+slot_contents-each st later p None same = refl
+slot_contents-each st later p (Some m) same =
     ap (λ (cs : List Content). Some cs)
     (map-range_same (λ f. content later.puddles m p f (place_word later p (SLOT_FIELDS_WORD + f))) (λ f. content st.puddles m p f (place_word st p (SLOT_FIELDS_WORD + f))) (field_count m)
     (λ f below. same m f refl below))
 
 -- as they do over the same words
-pub contents_by-same : (st : Stored) (later : ℕ → ℕ → ℕ) (p : ℕ) (type : Option ℕ)
+pub slot_contents-same : (st : Stored) (later : ℕ → ℕ → ℕ) (p : ℕ) (type : Option ℕ)
     → ((m f : ℕ) → type ≡ Some m → f < field_count m → place_word (with_words later st) p (SLOT_FIELDS_WORD + f) ≡ place_word st p (SLOT_FIELDS_WORD + f))
-    → contents_by (with_words later st) p type ≡ contents_by st p type
-contents_by-same st later p type same = contents_by-each st (with_words later st) p type (λ m f is below. ap (content st.puddles m p f) (same m f is below))
+    → slot_contents (with_words later st) p type ≡ slot_contents st p type
+slot_contents-same st later p type same = slot_contents-each st (with_words later st) p type (λ m f is below. ap (content st.puddles m p f) (same m f is below))
 
 -- ---- the table
 
@@ -108,8 +108,8 @@ same_but types st later p within h = record {
   serial = λ q other. h.each q 0 other (omega arith);
   type_id = λ q below other used. h.each q 1 other (omega arith);
   contents = λ q below other used.
-      ap (λ k. contents_by (with_words later st) q (map_of k types)) (h.each q 1 other (omega arith))
-      ∙ contents_by-same st later q (map_of (place_word st q 1) types) (λ m f is few. let most = few_fields m in h.each q (SLOT_FIELDS_WORD + f) other (omega arith));
+      ap (λ k. slot_contents (with_words later st) q (map_of k types)) (h.each q 1 other (omega arith))
+      ∙ slot_contents-same st later q (map_of (place_word st q 1) types) (λ m f is few. let most = few_fields m in h.each q (SLOT_FIELDS_WORD + f) other (omega arith));
 }
 
 -- ---- a live place
@@ -120,7 +120,7 @@ pub record IsLive (t : Table) (n s p : ℕ) : Type 0 where
   pub is : t.serial p ≡ s
   pub used : t.serial p ≡ 0 → ⊥
 
-there_is : (t : Table) (n s p i : ℕ) → i < n → under nat_cmp s (placed t i) ≡ Some p → IsLive t n s p
+there_is : (t : Table) (n s p i : ℕ) → i < n → under nat_cmp s (serial_and_place t i) ≡ Some p → IsLive t n s p
 there_is t n s p i within here = ⊎_elim
     (λ free. absurd (none-some p (sym (ap (under nat_cmp s) (under_serial-free t.serial (λ (q : ℕ). q) i free)) ∙ here)))
     (λ used.
@@ -128,8 +128,8 @@ there_is t n s p i within here = ⊎_elim
     subst (λ q. IsLive t n s q) found.1 (record { within = within; is = sym (eqb-true s (t.serial i) (sym (same_test s (t.serial i)) ∙ found.0)); used = used }))
     (cases_eq (t.serial i) 0)
 
-pub place_of-some : (t : Table) (n s p : ℕ) → place_of s t n ≡ Some p → IsLive t n s p
-place_of-some t n s p found = let first = first_from_some nat_cmp s (placed t) 0 n p found in let high = first.1.high in there_is t n s p first.0 (omega arith) first.1.here
+pub place_of_serial-some : (t : Table) (n s p : ℕ) → place_of_serial s t n ≡ Some p → IsLive t n s p
+place_of_serial-some t n s p found = let first = first_from_some nat_cmp s (serial_and_place t) 0 n p found in let high = first.1.high in there_is t n s p first.0 (omega arith) first.1.here
 
 -- ---- the graph
 

@@ -5,7 +5,7 @@ use Rattle.pud_defs.specs.declared.records.Puddle.{Puddle}
 use Rattle.pud_defs.specs.Geometry.{ordinal_of, slot_of}
 use Rattle.pud_defs.specs.Types.{map_of}
 use Rattle.pud_defs.specs.Stored.{Stored, places_of, place_word, place_begins, place_words, IsFreePlace}
-use Rattle.pud_defs.specs.Graph.{slot_address, field_count, table_of, place_of, next_serial_of}
+use Rattle.pud_defs.specs.Graph.{slot_address, field_count, table_of, place_of_serial, next_serial_of}
 
 -- ---- words
 
@@ -52,7 +52,7 @@ pub record IsAddress (puddles : List Puddle) (ordinal step q v : ℕ) : Type 0 w
 
 -- The place is that of the object of serial s, whose type has map m, and that has a field f.
 pub record IsField (types : List (ℕ × ℕ)) (st : Stored) (s p m f : ℕ) : Type 0 where
-  pub place : place_of s (table_of types st) (places_of st) ≡ Some p
+  pub place : place_of_serial s (table_of types st) (places_of st) ≡ Some p
   pub defined : map_of (place_word st p SLOT_TYPE_WORD) types ≡ Some m
   pub below : f < field_count m
 

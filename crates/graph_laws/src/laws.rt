@@ -17,7 +17,7 @@ ghost use Rattle.pud_defs.specs.Image.{Image, written};
 ghost use Rattle.pud_defs.specs.Frames.{frame_at, frame_word, fresh_frame};
 ghost use Rattle.pud_defs.specs.Replay.{overwritten};
 ghost use Rattle.pud_defs.specs.Stored.{Stored, stored_in, places_of, place_word, place_words, IsFreePlace};
-ghost use Rattle.pud_defs.specs.Graph.{Object, Graph, table_of, place_of, object_at, field_count, object_in, next_serial_of, is_referenced, pointee_at, graph_of, empty_graph};
+ghost use Rattle.pud_defs.specs.Graph.{Object, Graph, table_of, place_of_serial, object_at, field_count, object_in, next_serial_of, is_referenced, pointee_at, graph_of, empty_graph};
 ghost use Rattle.pud_defs.specs.GraphChanges.{blank_object, with_field, with_new, without_object, with_root};
 ghost use Rattle.std.specs.List.{list_any, range_with_len};
 ghost use Rattle.pud_defs.specs.ExportFile.{words_in, is_type_used, types_used, contents_of, file_graph};
@@ -33,7 +33,7 @@ ghost use Rattle.graph_laws.specs.Placed.{IsPlaced, AreFrontiers, KeepsBases, Mo
 /// The object of a serial is what stands at the place of the serial.
 pub fn object_stands_at_the_place_of_its_serial()
     ensures { (types : List (ℕ × ℕ)) (st : Stored) (g : Graph) (s : ℕ) → graph_of types st ≡ Option.Some g
-        → object_in s g ≡ option_map (object_at (table_of types st)) (place_of s (table_of types st) (places_of st)) }
+        → object_in s g ≡ option_map (object_at (table_of types st)) (place_of_serial s (table_of types st) (places_of st)) }
 {}
 
 /// Each slot is live exactly where there are as many objects as slots.
@@ -62,7 +62,7 @@ pub fn stored_zero_is_null()
 /// frontier is past the field's slot.
 pub fn stored_address_names_the_object()
     ensures { (types : List (ℕ × ℕ)) (st : Stored) (g : Graph) (s : ℕ) (p : ℕ) (m : ℕ) (f : ℕ) (v : ℕ) (r : ℕ) (q : ℕ) → graph_of types st ≡ Option.Some g → IsField types st s p m f → is_pointer m f ≡ true
-        → place_of r (table_of types st) (places_of st) ≡ Option.Some q → IsAddress st.puddles (ordinal_of p) (slot_of p + 1) q v
+        → place_of_serial r (table_of types st) (places_of st) ≡ Option.Some q → IsAddress st.puddles (ordinal_of p) (slot_of p + 1) q v
         → graph_of types (with_field_word p f v st) ≡ Option.Some (with_field s f (Ref r) g) }
 {}
 
@@ -74,7 +74,7 @@ pub fn filled_slot_is_a_new_object()
 
 /// A slot whose serial is cleared is no object any more, where nothing named it.
 pub fn cleared_serial_frees_the_object()
-    ensures { (types : List (ℕ × ℕ)) (st : Stored) (g : Graph) (s : ℕ) (p : ℕ) → graph_of types st ≡ Option.Some g → place_of s (table_of types st) (places_of st) ≡ Option.Some p → is_referenced s g ≡ false
+    ensures { (types : List (ℕ × ℕ)) (st : Stored) (g : Graph) (s : ℕ) (p : ℕ) → graph_of types st ≡ Option.Some g → place_of_serial s (table_of types st) (places_of st) ≡ Option.Some p → is_referenced s g ≡ false
         → graph_of types (with_serial_word p 0 st) ≡ Option.Some (without_object s g) }
 {}
 
@@ -86,7 +86,7 @@ pub fn stored_zero_is_no_root()
 /// A pool in whose root the address of an object is stored, over the pool's bases, has this root, where the frontier is
 /// past the header.
 pub fn stored_address_is_the_root()
-    ensures { (types : List (ℕ × ℕ)) (st : Stored) (g : Graph) (s : ℕ) (q : ℕ) (v : ℕ) → graph_of types st ≡ Option.Some g → place_of s (table_of types st) (places_of st) ≡ Option.Some q → IsAddress st.puddles 0 0 q v
+    ensures { (types : List (ℕ × ℕ)) (st : Stored) (g : Graph) (s : ℕ) (q : ℕ) (v : ℕ) → graph_of types st ≡ Option.Some g → place_of_serial s (table_of types st) (places_of st) ≡ Option.Some q → IsAddress st.puddles 0 0 q v
         → graph_of types (with_root_word v st) ≡ Option.Some (with_root s g) }
 {}
 

@@ -17,7 +17,7 @@ use Rattle.pud_defs.specs.Image.{Image}
 use Rattle.pud_defs.specs.TypeMap.{map_fields, is_pointer}
 use Rattle.pud_defs.specs.Types.{types_of, map_of}
 use Rattle.pud_defs.specs.Stored.{Stored, stored_in, place_word}
-use Rattle.pud_defs.specs.Graph.{Content, target, at_place, pointee_at, content, field_count, contents_by, contents_or_none, named_by, value_of, object_at}
+use Rattle.pud_defs.specs.Graph.{Content, target, at_place, pointee_at, content, field_count, slot_contents, contents_or_none, named_by, value_of, object_at}
 use Rattle.pud_defs.specs.Graph.Content.{Number, Null, At, Nowhere}
 use Rattle.graph_read.specs.declared.fields.FieldRead.{FieldRead}
 use Rattle.graph_read.specs.declared.fields.FieldRead.TheVariants.{NoField, Value}
@@ -88,7 +88,7 @@ module _ (F : ℕ) (at : List (ℕ × Puddle)) (image : Image) (p f : ℕ) where
   read_at = read_by (Some (object_at (table_in F at image) p)) f
 
   abbrev read_with : Option ℕ → FieldRead
-  read_with m = read_value (slice_get (map (value_of (table_in F at image).serial) (contents_or_none (contents_by stored p m))) f)
+  read_with m = read_value (slice_get (map (value_of (table_in F at image).serial) (contents_or_none (slot_contents stored p m))) f)
 
   -- the type is not defined
   pub field-no_type : type_map ≡ None → read_at ≡ NoField

@@ -12,7 +12,7 @@ use Rattle.pud_defs.specs.Image.{Image}
 use Rattle.pud_defs.specs.Keyed.{first_from, under}
 use Rattle.pud_defs.specs.Types.{types_of}
 use Rattle.pud_defs.specs.Stored.{Stored, stored_in, places_of}
-use Rattle.pud_defs.specs.Graph.{Table, under_serial, placed, place_of, object_at, live, Graph, has_graph, graph_stored, graph_of, object_in}
+use Rattle.pud_defs.specs.Graph.{Table, under_serial, serial_and_place, place_of_serial, object_at, live, Graph, has_graph, graph_stored, graph_of, object_in}
 use Rattle.pud_defs.proofs.Keyed.{find-keyed, first_from_here, first_from_other, first_from_end, first_from_none}
 use Rattle.pud_defs.proofs.TypeLists.{same_test}
 use Rattle.pud_defs.proofs.Graphs.{under_serial-free, under_serial-used}
@@ -22,11 +22,11 @@ use Rattle.graph_read.specs.Reading.{table_in, place_in_pool}
 
 -- the lowest place from place i on, of n, that has the serial
 unfoldable pub place_from : Table → (n s i : ℕ) → Option ℕ
-place_from t n s i = first_from nat_cmp s (placed t) i (n - i)
+place_from t n s i = first_from nat_cmp s (serial_and_place t) i (n - i)
 
-pub place_from-start : (t : Table) (n s : ℕ) → place_of s t n ≡ place_from t n s 0
+pub place_from-start : (t : Table) (n s : ℕ) → place_of_serial s t n ≡ place_from t n s 0
 unfolding place_from
-place_from-start t n s = ap (first_from nat_cmp s (placed t) 0) (let e : n ≡ n - 0 = omega arith in e)
+place_from-start t n s = ap (first_from nat_cmp s (serial_and_place t) 0) (let e : n ≡ n - 0 = omega arith in e)
 
 under_other : {A : Type 0} (serial : ℕ → ℕ) (value : ℕ → A) (s p : ℕ) → (serial p ≡ s → ⊥) → under nat_cmp s (under_serial serial value p) ≡ None
 under_other {A} serial value s p other =
@@ -42,15 +42,15 @@ under_here {A} serial value s p above here =
 
 pub place_from-here : (t : Table) (n s i : ℕ) → 0 < s → i < n → t.serial i ≡ s → place_from t n s i ≡ Some i
 unfolding place_from
-place_from-here t n s i above below here = first_from_here nat_cmp s (placed t) i n i below (under_here t.serial (λ p. p) s i above here)
+place_from-here t n s i above below here = first_from_here nat_cmp s (serial_and_place t) i n i below (under_here t.serial (λ p. p) s i above here)
 
 pub place_from-other : (t : Table) (n s i : ℕ) → i < n → (t.serial i ≡ s → ⊥) → place_from t n s i ≡ place_from t n s (i + 1)
 unfolding place_from
-place_from-other t n s i below other = first_from_other nat_cmp s (placed t) i n below (under_other t.serial (λ p. p) s i other)
+place_from-other t n s i below other = first_from_other nat_cmp s (serial_and_place t) i n below (under_other t.serial (λ p. p) s i other)
 
 pub place_from-end : (t : Table) (n s i : ℕ) → n ≤ i → place_from t n s i ≡ None
 unfolding place_from
-place_from-end t n s i past = first_from_end nat_cmp s (placed t) i n past
+place_from-end t n s i past = first_from_end nat_cmp s (serial_and_place t) i n past
 
 free_under : {A : Type 0} (serial : ℕ → ℕ) (value : ℕ → A) (p : ℕ) → under nat_cmp 0 (under_serial serial value p) ≡ None
 free_under {A} serial value p =
@@ -60,8 +60,8 @@ free_under {A} serial value p =
     (cases_eq (serial p) 0)
 
 -- no place has serial 0
-pub place_of-zero : (t : Table) (n : ℕ) → place_of 0 t n ≡ None
-place_of-zero t n = first_from_none nat_cmp 0 (placed t) 0 n (λ j low high. free_under t.serial (λ p. p) j)
+pub place_of_serial-zero : (t : Table) (n : ℕ) → place_of_serial 0 t n ≡ None
+place_of_serial-zero t n = first_from_none nat_cmp 0 (serial_and_place t) 0 n (λ j low high. free_under t.serial (λ p. p) j)
 
 -- ---- what a graph has under a serial
 
@@ -96,7 +96,7 @@ object_in-place F at image g s is =
     ap (object_in s) (graph_is (types_of image) (stored_in F at image) g is)
     ∙ find-keyed nat_cmp nat_cmp_total s (live t) 0 n
     ∙ first_from-valued t.serial (object_at t) s 0 n
-    ∙ ap (λ n. option_map (object_at t) (place_of s t (places_among n))) (length-map at (λ (e : ℕ × Puddle). e.1))
+    ∙ ap (λ n. option_map (object_at t) (place_of_serial s t (places_among n))) (length-map at (λ (e : ℕ × Puddle). e.1))
 
 is_none-map : {A B : Type 0} (f : A → B) (o : Option A) → is_none o ≡ is_none (option_map f o)
 is_none-map f None = refl

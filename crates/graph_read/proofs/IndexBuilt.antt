@@ -21,7 +21,7 @@ use Rattle.pud_defs.proofs.TypeLists.{same_test}
 use Rattle.pud_defs.proofs.Graphs.{under_serial-free, under_serial-used, graph_of-each, distinct_live}
 use Rattle.pud_defs.proofs.PoolsCounted.{sum_places-same, worth, sum-keyed}
 use Rattle.graph_laws.specs.ReferenceCounts.{times_named_by, pointers_to, reference_count}
-use Rattle.graph_laws.proofs.Words.{place_of-some}
+use Rattle.graph_laws.proofs.Words.{place_of_serial-some}
 use Rattle.puddle_header.specs.Places.{places_in}
 use Rattle.graph_read.specs.declared.index.Kept.{Kept}
 use Rattle.graph_read.specs.declared.index.Index.{Index}
@@ -211,7 +211,7 @@ counted_kept m r total (Some p) sums =
 
 -- an object stands at no place under serial 0
 pub placed_used : (F : ℕ) (at : List (ℕ × Puddle)) (image : Image) (q p : ℕ) → place_in_pool F at image q ≡ Some p → q ≡ 0 → ⊥
-placed_used F at image q p there none = let live = place_of-some (table_in F at image) (places_in at) q p there in live.used (live.is ∙ none)
+placed_used F at image q p there none = let live = place_of_serial-some (table_in F at image) (places_in at) q p there in live.used (live.is ∙ none)
 
 -- what was listed and counted of a pool is its index
 pub index_built : (F : ℕ) (at : List (ℕ × Puddle)) (types : List (ℕ × ℕ)) (image : Image) (g : Graph) (serial : ℕ → ℕ) (n root : ℕ) (listed counted x : Index) → graph_of types (stored_in F at image) ≡ Some g

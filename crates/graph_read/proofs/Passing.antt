@@ -3,7 +3,7 @@ use Rattle.std.proofs.Common.{◌≡◌, ◌≢◌, ℕ, ◌+◌, Bool, true, fa
 use Rattle.pud_defs.specs.declared.space.TheConstants.{SLOT_FIELDS_WORD}
 use Rattle.pud_defs.specs.declared.records.Puddle.{Puddle}
 use Rattle.pud_defs.specs.Geometry.{ordinal_of, slot_of, place_at}
-use Rattle.pud_defs.specs.Graph.{Null, At, Nowhere, Table, content, contents_by, field_count, target, place_in, at_place, puddles_by, pointee_at}
+use Rattle.pud_defs.specs.Graph.{Null, At, Nowhere, Table, content, slot_contents, field_count, target, place_in, at_place, puddles_by, pointee_at}
 use Rattle.pud_defs.specs.TypeMap.{map_fields}
 use Rattle.std.proofs.lemmas.Bool.Decides.{nat_tests}
 use Rattle.pud_defs.specs.declared.layout.TheConstants.{MAX_FIELDS}
@@ -28,7 +28,7 @@ field_count-least m = grind (arith, nat_tests)
 
 -- the fields of a slot whose type has this map
 pub fields_pass-each : (asked : Asked) (serial : ℕ → ℕ) (st : Stored) (place type_map : ℕ)
-    → contents_pass asked serial (contents_by st place (Some type_map)) ≡ all_below (field_count type_map) (field_passes asked serial st place type_map)
+    → contents_pass asked serial (slot_contents st place (Some type_map)) ≡ all_below (field_count type_map) (field_passes asked serial st place type_map)
 fields_pass-each asked serial st place type_map =
     list_all-below (passes asked serial) (λ f. content st.puddles type_map place f (place_word st place (SLOT_FIELDS_WORD + f))) (field_count type_map)
 

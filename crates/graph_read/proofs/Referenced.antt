@@ -4,7 +4,7 @@ use Rattle.std.specs.List.{list_any, list_all}
 use Rattle.std.proofs.lemmas.Bool.{and_parts}
 use Rattle.std.proofs.lemmas.Cmp.{nat_cmp_total}
 use Rattle.std.proofs.lemmas.Option.{cond_some, none-some}
-use Rattle.pud_defs.specs.Graph.{Content, Table, Object, Graph, stands, names_serial, named_by, value_of, contents_or_none, object_at, live, placed, headers_fit, is_graph, is_next_serial, is_sound_place, graph_of, graph_stored, has_graph, is_referenced, table_of, next_serial_of, root_of}
+use Rattle.pud_defs.specs.Graph.{Content, Table, Object, Graph, stands, names_serial, named_by, value_of, contents_or_none, object_at, live, serial_and_place, headers_fit, is_graph, is_next_serial, is_sound_place, graph_of, graph_stored, has_graph, is_referenced, table_of, next_serial_of, root_of}
 use Rattle.pud_defs.specs.Keyed.{keyed, are_distinct}
 use Rattle.pud_defs.specs.Spaces.{all_below}
 use Rattle.pud_defs.specs.Stored.{Stored, stored_in, places_of}
@@ -40,18 +40,18 @@ spared_place s t p =
     as (λ b. not (passes_there (names s) (cond (not b) (Some (t.serial p, object_at t p)) None)) ≡ (b || contents_pass (Spares s) t.serial (t.contents p))) [ true ↦ refl | false ↦ spared_contents s t.serial (t.contents p) ]
 
 -- an object names the serial where a slot does
-any_names : (s : ℕ) (t : Table) (n : ℕ) → are_distinct nat_cmp (placed t) 0 n ≡ true → not (all_below n (place_passes (Spares s) t)) ≡ list_any (names s) (keyed nat_cmp (live t) 0 n)
+any_names : (s : ℕ) (t : Table) (n : ℕ) → are_distinct nat_cmp (serial_and_place t) 0 n ≡ true → not (all_below n (place_passes (Spares s) t)) ≡ list_any (names s) (keyed nat_cmp (live t) 0 n)
 any_names s t n distinct =
-    sym (any-keyed nat_cmp (names s) nat_cmp_total (live t) 0 n (distinct_live t n (distinct_keys nat_cmp (placed t) 0 n distinct))
+    sym (any-keyed nat_cmp (names s) nat_cmp_total (live t) 0 n (distinct_live t n (distinct_keys nat_cmp (serial_and_place t) 0 n distinct))
     ∙ any-range (λ j. passes_there (names s) (live t j)) n
     ∙ ap not (all_below-same n (λ j. not (passes_there (names s) (live t j))) (place_passes (Spares s) t) (λ k below. spared_place s t k)))
 
-has_distinct : (types : List (ℕ × ℕ)) (st : Stored) → has_graph types st ≡ true → are_distinct nat_cmp (placed (table_of types st)) 0 (places_of st) ≡ true
+has_distinct : (types : List (ℕ × ℕ)) (st : Stored) → has_graph types st ≡ true → are_distinct nat_cmp (serial_and_place (table_of types st)) 0 (places_of st) ≡ true
 unfolding is_graph
 has_distinct types st has =
     let t = table_of types st in
     let graph = (and_parts (headers_fit st) (is_graph (next_serial_of st) (root_of st) t (places_of st)) has).1 in
-    let serials = are_distinct nat_cmp (placed t) 0 (places_of st) in
+    let serials = are_distinct nat_cmp (serial_and_place t) 0 (places_of st) in
     let front = (and_parts (is_next_serial (next_serial_of st) && stands t.serial (root_of st) && serials) (all_below (places_of st) (is_sound_place (next_serial_of st) t)) graph).0 in
     (and_parts (is_next_serial (next_serial_of st) && stands t.serial (root_of st)) serials front).1
 

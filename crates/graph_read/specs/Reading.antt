@@ -8,7 +8,7 @@ use Rattle.pud_defs.specs.Geometry.{puddle_slots, ordinal_of, slot_of}
 use Rattle.pud_defs.specs.Image.{Image}
 use Rattle.pud_defs.specs.Types.{types_of}
 use Rattle.pud_defs.specs.Stored.{stored_in}
-use Rattle.pud_defs.specs.Graph.{Table, table_of, place_of, Content, Object, object_at}
+use Rattle.pud_defs.specs.Graph.{Table, table_of, place_of_serial, Content, Object, object_at}
 use Rattle.pud_defs.specs.Graph.Content.{Number, Null, At, Nowhere}
 use Rattle.puddle_header.specs.Places.{places_in}
 use Rattle.graph_read.specs.declared.fields.FieldRead.{FieldRead}
@@ -20,7 +20,7 @@ table_in F at image = table_of (types_of image) (stored_in F at image)
 
 -- the lowest place whose slot has this serial
 abbrev pub place_in_pool : (F : ℕ) → List (ℕ × Puddle) → Image → ℕ → Option ℕ
-place_in_pool F at image s = place_of s (table_in F at image) (places_in at)
+place_in_pool F at image s = place_of_serial s (table_in F at image) (places_in at)
 
 -- ---- pointers
 

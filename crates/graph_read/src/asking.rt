@@ -4,7 +4,7 @@ ghost use Rattle.std.specs.Prelude.{◌≡◌, ◌+◌, ◌<◌, ◌≤◌, leng
 ghost use Rattle.pm_model.specs.Words.{reads};
 ghost use Rattle.pm_model.specs.Counts.{fault_of};
 ghost use Rattle.pm_model.specs.Reads.{OnlyReads};
-ghost use Rattle.pud_defs.specs.Graph.{content, contents_by};
+ghost use Rattle.pud_defs.specs.Graph.{content, slot_contents};
 ghost use Rattle.pud_defs.specs.Image.{Image};
 ghost use Rattle.pud_defs.specs.Layout.{device_words};
 ghost use Rattle.pud_defs.specs.Stored.{IsOnDevice, stored_in, place_word};
@@ -140,7 +140,7 @@ fn fields_sum<H: Loads>(
     requires known { IsOnDevice frames pool.now }
     requires within { place < places_in pool.now }
     ensures sum { H.tells → (image : Image) → reads (H.state h.old).now.words ≡ image
-        → IfOk result (λ sum. sum ≡ fields_sum asked (slice_index serials.now) (contents_by (stored_in frames pool.now image) place (Option.Some type_map))) }
+        → IfOk result (λ sum. sum ≡ fields_sum asked (slice_index serials.now) (slot_contents (stored_in frames pool.now image) place (Option.Some type_map))) }
     ensures only_reads { OnlyReads H.tells H.state H.counts (fault_of result) h.old h.new }
 {
     let mut sum: u64 = 0;

@@ -5,7 +5,7 @@ ghost use Rattle.std.specs.Ordering.{nat_cmp};
 ghost use Rattle.pm_model.specs.Words.{reads};
 ghost use Rattle.pm_model.specs.Counts.{fault_of};
 ghost use Rattle.pm_model.specs.Reads.{OnlyReads};
-ghost use Rattle.pud_defs.specs.Graph.{Graph, content, contents_by, graph_of, named_by, under_serial};
+ghost use Rattle.pud_defs.specs.Graph.{Graph, content, slot_contents, graph_of, named_by, under_serial};
 ghost use Rattle.pud_defs.specs.Image.{Image};
 ghost use Rattle.pud_defs.specs.Keyed.{first_from};
 ghost use Rattle.pud_defs.specs.Layout.{device_words};
@@ -92,7 +92,7 @@ impl Index {
         requires most { HasAtMost (MAX_FIELDS * place) self.old }
         ensures most { OnOk result (HasAtMost (MAX_FIELDS * (place + 1)) self.new) }
         ensures holds { H.tells → (image : Image) → reads (H.state h.old).now.words ≡ image
-            → OnOk result (Gains (contents_name (slice_index serials.now) (contents_by (stored_in frames pool.now image) place (Option.Some type_map))) self.old self.new) }
+            → OnOk result (Gains (contents_name (slice_index serials.now) (slot_contents (stored_in frames pool.now image) place (Option.Some type_map))) self.old self.new) }
         ensures only_reads { OnlyReads H.tells H.state H.counts (fault_of result) h.old h.new }
     {
         for f in 0..map_fields(type_map).min(MAX_FIELDS) {

@@ -9,7 +9,7 @@ use Rattle.pud_defs.specs.Bases.{is_legal_base}
 use Rattle.pud_defs.specs.Geometry.{steps_of}
 use Rattle.pud_defs.specs.Frames.{frame_at}
 use Rattle.pud_defs.specs.Places.{word_in}
-use Rattle.pud_defs.specs.Replay.{Place}
+use Rattle.pud_defs.specs.Replay.{AddressMap}
 use Rattle.pud_defs.specs.Stored.{IsOnDevice}
 use Rattle.graph_laws.specs.Changes.{AreBases}
 use Rattle.graph_laws.specs.Reads.{HasDistinctFrames}
@@ -22,7 +22,7 @@ abbrev pub word_by : (F address : ℕ) → ℕ × Puddle → Option ℕ
 word_by F address e = option_map (λ k. frame_at F e.0 + k) (word_in e.1.base address)
 
 -- the same of the first of these puddles whose range has it
-unfoldable pub pool_place : ℕ → List (ℕ × Puddle) → Place
+unfoldable pub pool_place : ℕ → List (ℕ × Puddle) → AddressMap
 pool_place F [] address = None
 pool_place F (e ∷ at) address = let later = pool_place F at address in option_or (word_by F address e) later
 

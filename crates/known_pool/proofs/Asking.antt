@@ -7,7 +7,7 @@ use Rattle.pud_defs.specs.Stored.{stored_in}
 use Rattle.pud_defs.specs.Types.{types_of}
 use Rattle.pud_defs.specs.Graph.{Graph, graph_of, is_referenced}
 use Rattle.graph_laws.specs.ReferenceCounts.{reference_count}
-use Rattle.graph_laws.proofs.Words.{place_of-some}
+use Rattle.graph_laws.proofs.Words.{place_of_serial-some}
 use Rattle.puddle_header.specs.Places.{places_in}
 use Rattle.graph_read.specs.declared.index.Index.{Index}
 use Rattle.graph_read.specs.Index.{kept_under, place_kept, references_kept, HasReference, MayBeReferenced}
@@ -45,7 +45,7 @@ module _ (F : ℕ) (image : Image) (known : Known) (k : IsKnown F image known) (
 
   within_by : (o : Option ℕ) → place ≡ o → IfSome o (λ p. p < places_in known.puddles)
   within_by None none = tt
-  within_by (Some p) there = (place_of-some (table_in F known.puddles image) (places_in known.puddles) s p there).within
+  within_by (Some p) there = (place_of_serial-some (table_in F known.puddles image) (places_in known.puddles) s p there).within
 
   pub place_within : IfSome place (λ p. p < places_in known.puddles)
   place_within = within_by place refl

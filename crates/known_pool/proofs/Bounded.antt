@@ -13,7 +13,7 @@ use Rattle.pud_defs.specs.Geometry.{puddle_slots}
 use Rattle.pud_defs.specs.Keyed.{keyed}
 use Rattle.pud_defs.specs.Stored.{Stored, places_of, place_word, slot_state}
 use Rattle.pud_defs.specs.Types.{map_of}
-use Rattle.pud_defs.specs.Graph.{Content, content, Number, Null, At, Nowhere, table_of, contents_by, contents_or_none, Object, object_at, live, placed, stands, all_stand, value_of, named_by, names_serial, Graph, graph_of, next_serial_of, root_of, field_count}
+use Rattle.pud_defs.specs.Graph.{Content, content, Number, Null, At, Nowhere, table_of, slot_contents, contents_or_none, Object, object_at, live, serial_and_place, stands, all_stand, value_of, named_by, names_serial, Graph, graph_of, next_serial_of, root_of, field_count}
 use Rattle.pud_defs.proofs.Contents.{names_only, name_only, contents_by_within, pointee_at_within}
 use Rattle.pud_defs.proofs.Graphs.{graph_of-each, length-live}
 use Rattle.pud_defs.proofs.Keyed.{count_used_most}
@@ -43,7 +43,7 @@ live_at P serial value e false is there = absurd (none-some e is)
 -- ---- at most one for the root, and one for each field
 
 module _ (types : List (ℕ × ℕ)) (st : Stored) (q : ℕ) where
-  few_contents : (p : ℕ) (type : Option ℕ) → length (contents_or_none (contents_by st p type)) ≤ MAX_FIELDS
+  few_contents : (p : ℕ) (type : Option ℕ) → length (contents_or_none (slot_contents st p type)) ≤ MAX_FIELDS
   few_contents p None = omega arith
   few_contents p (Some m) =
       let few = few_fields m in
@@ -66,7 +66,7 @@ reference_count-most types st g q is =
     let each = each-keyed nat_cmp same_number (λ (e : ℕ × Object). pointers_to q e.1 ≤ MAX_FIELDS) (live t) 0 n
     (λ j low high e here. live_at (λ (e : ℕ × Object). pointers_to q e.1 ≤ MAX_FIELDS) (t.serial j) (object_at t j) e (slot_state (t.serial j)).is_live here (λ used. few_pointers types st q j)) in
     let sum = sum_by-most (λ (e : ℕ × Object). pointers_to q e.1) MAX_FIELDS objects each in
-    let used = count_used_most (placed t) 0 n in
+    let used = count_used_most (serial_and_place t) 0 n in
     let root = cond_both (eqb g.root q) 1 0 (λ (k : ℕ). k ≤ 1) (λ yes. omega arith) (λ no. omega arith) in
     let same = ap (λ (k : Graph). sum_by (λ (e : ℕ × Object). pointers_to q e.1) k.objects) h.is in
     omega (arith, sum, used, length-live t n h.graph.distinct, root, same)

@@ -9,7 +9,7 @@ use Rattle.pud_defs.specs.declared.space.TheConstants.{SLOT_TYPE_WORD}
 use Rattle.pud_defs.specs.Image.{Image}
 use Rattle.pud_defs.specs.Stored.{stored_in, place_word}
 use Rattle.pud_defs.specs.Types.{types_of, map_of}
-use Rattle.pud_defs.specs.Graph.{Graph, graph_of, value_of, contents_by, contents_or_none, field_count, object_at}
+use Rattle.pud_defs.specs.Graph.{Graph, graph_of, value_of, slot_contents, contents_or_none, field_count, object_at}
 use Rattle.graph_read.specs.declared.index.Index.{Index}
 use Rattle.graph_read.specs.declared.index.Kept.{Kept}
 use Rattle.graph_read.specs.Indexed.{IsIndexBy, IsIndexOf, references_left}
@@ -54,8 +54,8 @@ module _ (F : ℕ) (at : List (ℕ × Puddle)) (image : Image) (p : ℕ) where
         (object_in-place F at image g s stored ∙ ap (option_map (object_at (table_in F at image))) there)
 
     fields_by : (type : Option ℕ) → map_of (place_word (stored_in F at image) p SLOT_TYPE_WORD) (types_of image) ≡ type
-        → (object_at (table_in F at image) p).fields ≡ map (value_of serial) (contents_or_none (contents_by (stored_in F at image) p type))
-    fields_by type is_type = ap (λ (t : Option ℕ). map (value_of serial) (contents_or_none (contents_by (stored_in F at image) p t))) is_type
+        → (object_at (table_in F at image) p).fields ≡ map (value_of serial) (contents_or_none (slot_contents (stored_in F at image) p type))
+    fields_by type is_type = ap (λ (t : Option ℕ). map (value_of serial) (contents_or_none (slot_contents (stored_in F at image) p t))) is_type
 
     pub LetsFirst-start : (m : ℕ) → map_of (place_word (stored_in F at image) p SLOT_TYPE_WORD) (types_of image) ≡ Some m → LetsFirst m 0 (option_map entries_of index)
     LetsFirst-start m is_type = record {

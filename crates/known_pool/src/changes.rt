@@ -41,7 +41,7 @@ fn serial_named(x: Val) -> u64
 }
 
 /// The place of a slot of the pool.
-fn place_of(pool: &[(u32, Puddle)], at: &Slot) -> u32
+fn place_of_slot(pool: &[(u32, Puddle)], at: &Slot) -> u32
     requires few { length pool.now ≤ MAX_PUDDLES }
     requires within { IsSlotOf pool.now at.now }
     ensures { result ≡ place_of_slot at.now }
@@ -138,7 +138,7 @@ impl KnownPool {
         ensures puddles { self.new.puddles ≡ self.old.puddles }
         ensures full { self.new.full_below ≡ place_of_slot at.now + 1 }
     {
-        self.full_below = place_of(self.puddles.as_slice(), at) + 1;
+        self.full_below = place_of_slot(self.puddles.as_slice(), at) + 1;
         let kept = match &mut self.index {
             Some(index) => index.insert(s, (at.ordinal, at.slot)),
             None => true,
@@ -172,7 +172,7 @@ impl KnownPool {
         ensures only_reads { OnlyReads H.tells H.state H.counts (fault_of result) h.old h.new }
     {
         release_fields(&mut self.index, h, frames, self.puddles.as_slice(), at)?;
-        let place = place_of(self.puddles.as_slice(), at);
+        let place = place_of_slot(self.puddles.as_slice(), at);
         self.full_below = self.full_below.min(place);
         if let Some(index) = &mut self.index {
             index.remove(s);

@@ -9,7 +9,7 @@ use Rattle.pm_model.specs.Counts.{Counts}
 use Rattle.pm_model.specs.Changes.{Footprint, Write, Writes, Changes, placed, written}
 use Rattle.pm_model.proofs.Changes.{Changes-still, Changes-wider, Changes-then}
 use Rattle.pud_defs.specs.Entries.{Entry, Log}
-use Rattle.pud_defs.specs.Replay.{Place, is_in_range, given_by, value_from, over}
+use Rattle.pud_defs.specs.Replay.{AddressMap, is_in_range, given_by, value_from, over}
 use Rattle.log_replay.specs.Replaying.{Anything, IsNamed, Named, Applies}
 
 -- nothing is written
@@ -31,7 +31,7 @@ Applies-writes write placing fault s t same writes =
     }
 
 -- what an entry gives that counts: its values, from the first word that it names on
-pub given_by-counts : (place : Place) (log : Log) (order : ℕ) (e : Entry) (first w : ℕ) → is_in_range log e ≡ true → e.order ≡ order → place e.address ≡ Some first
+pub given_by-counts : (place : AddressMap) (log : Log) (order : ℕ) (e : Entry) (first w : ℕ) → is_in_range log e ≡ true → e.order ≡ order → place e.address ≡ Some first
     → given_by place log order e w ≡ placed first e.vals w
 given_by-counts place log order e first w counts same there =
     cond-true _ _ _ (and_from (is_in_range log e) (eqb e.order order) counts (eq-eqb e.order order same))

@@ -21,7 +21,7 @@ use Rattle.pud_defs.proofs.Entries.{log_of-same, used_within}
 use Rattle.pud_defs.proofs.Replay.{overwritten-stays, overwritten-there, settled_by-outside, settled_by-same, settled_by-idle, not_inside}
 use Rattle.log_replay.specs.declared.Target.{Target}
 use Rattle.log_replay.specs.declared.Target.TheVariants as targets
-use Rattle.log_replay.specs.Replaying.{place_of, IsReplayable, HasDurableLog, new_values, Named, ReplaysSame, Replays, ReplaysAgain, ByLog, IsSettling, SettlesSame, SettlesLog}
+use Rattle.log_replay.specs.Replaying.{address_map_of, IsReplayable, HasDurableLog, new_values, Named, ReplaysSame, Replays, ReplaysAgain, ByLog, IsSettling, SettlesSame, SettlesLog}
 use Rattle.log_replay.proofs.Whole.{log_of_picked, new_values_picked, new_values-apart}
 
 pub gate_apart : (at k : ℕ) → is_in_log at k ≡ false → k ≡ at → ⊥
@@ -42,7 +42,7 @@ module _ (to : Target) (at : ℕ) (b : State) where
         reads_so = λ e. absurd (let it : None ≡ Some fault = sym e in cc);
       }
 
-pub SettlesLog-close : (to : Target) (size at : ℕ) (es : List Entry) (b : State) → IsReplayable (place_of to (reads b.now.words)) size at es (reads b.now.words) → (fault : Option HostFault) (c d : State)
+pub SettlesLog-close : (to : Target) (size at : ℕ) (es : List Entry) (b : State) → IsReplayable (address_map_of to (reads b.now.words)) size at es (reads b.now.words) → (fault : Option HostFault) (c d : State)
     → Replays to at None b c → Persists (only at CLOSED_GATE) fault c d → SettlesLog to at fault b d
 SettlesLog-close to size at es b replayable fault c d r close =
     let write = new_values to at (reads b.now.words) in
@@ -62,7 +62,7 @@ SettlesLog-close to size at es b replayable fault c d r close =
 
 -- ---- what is left at each moment
 
-module _ (to : Target) (size at : ℕ) (es : List Entry) (b : State) (replayable : IsReplayable (place_of to (reads b.now.words)) size at es (reads b.now.words)) (durable : HasDurableLog to at b.now.words) where
+module _ (to : Target) (size at : ℕ) (es : List Entry) (b : State) (replayable : IsReplayable (address_map_of to (reads b.now.words)) size at es (reads b.now.words)) (durable : HasDurableLog to at b.now.words) where
   -- the log gives nothing to its gate
   nothing_at_gate : (before : Image) → Picks b.now.words before → new_values to at before at ≡ None
   nothing_at_gate before picked =
@@ -168,7 +168,7 @@ module _ (size at : ℕ) (es : List Entry) (b : State) (replayable : IsReplayabl
       }
 
 pub moments-same : (to : Target) (size at : ℕ) (es : List Entry) (b c : State) → to ≡ targets.Words → IsReplayable device_word size at es (reads b.now.words) → HasDurableLog targets.Words at b.now.words
-    → (IsReplayable (place_of to (reads b.now.words)) size at es (reads b.now.words) → HasDurableLog to at b.now.words → Leaves (Silently (IsSettling to at b.now.words)) b c)
+    → (IsReplayable (address_map_of to (reads b.now.words)) size at es (reads b.now.words) → HasDurableLog to at b.now.words → Leaves (Silently (IsSettling to at b.now.words)) b c)
     → Leaves (Silently (SettlesSame b.now.words at (log_of (reads b.now.words) at))) b c
 moments-same (targets.Puddles F) size at es b c words replayable durable left = absurd (cc)
 moments-same targets.Words size at es b c words replayable durable left =

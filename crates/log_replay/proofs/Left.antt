@@ -7,33 +7,33 @@ use Rattle.std.proofs.lemmas.List.Elements.{All-head, All-tail}
 use Rattle.pud_defs.specs.declared.log_words.TheConstants.{UNDO_ORDER, REDO_ORDER}
 use Rattle.pud_defs.specs.Image.{Image}
 use Rattle.pud_defs.specs.Entries.{Entry, Log}
-use Rattle.pud_defs.specs.Replay.{Place, device_word, is_in_range, value_from, value_in, given_by, undo_value, redo_value, over, IsInLog}
+use Rattle.pud_defs.specs.Replay.{AddressMap, device_word, is_in_range, value_from, value_in, given_by, undo_value, redo_value, over, IsInLog}
 use Rattle.pud_defs.proofs.Replay.{value_at-apart, undo_value-first, undo_value-none, redo_value-first, redo_value-none}
 use Rattle.log_entry.specs.declared.Entry.{Entry as Found}
 use Rattle.log_entry.specs.Reading.{Reading, entries_left, entry_from, left_before}
 use Rattle.log_entry.proofs.Left.{taken, none_left}
 use Rattle.log_replay.specs.Placing.{IsWithinDevice, AreWithinDevice}
 use Rattle.log_replay.specs.declared.Target.{Target}
-use Rattle.log_replay.specs.Replaying.{place_of, IsPlacing, NamesApart, AreApart}
+use Rattle.log_replay.specs.Replaying.{address_map_of, IsPlacing, NamesApart, AreApart}
 use Rattle.log_replay.proofs.Places.{place_above}
 
 -- ---- entries give nothing to a word that none of those in range names
 
-given_by-nothing : (place : Place) (log : Log) (order : ℕ) (e : Entry) (k : ℕ) → (IsTrue (is_in_range log e) → value_in place e k ≡ None) → given_by place log order e k ≡ None
+given_by-nothing : (place : AddressMap) (log : Log) (order : ℕ) (e : Entry) (k : ℕ) → (IsTrue (is_in_range log e) → value_in place e k ≡ None) → given_by place log order e k ≡ None
 given_by-nothing place log order e k none =
     elim (cases_Bool (is_in_range log e && eqb e.order order)) [
       | inr other ↦ cond-false _ _ _ other
       | inl counts ↦ cond-true _ _ _ counts ∙ none ((and_parts (is_in_range log e) (eqb e.order order) counts).0)
     ]
 
-undo_value-nothing : (place : Place) (log : Log) (es : List Entry) (k : ℕ) → All (λ e. IsTrue (is_in_range log e) → value_in place e k ≡ None) es → undo_value place log es k ≡ None
+undo_value-nothing : (place : AddressMap) (log : Log) (es : List Entry) (k : ℕ) → All (λ e. IsTrue (is_in_range log e) → value_in place e k ≡ None) es → undo_value place log es k ≡ None
 undo_value-nothing place log [] k none = undo_value-none place log k
 undo_value-nothing place log (e ∷ es) k none =
     undo_value-first place log e es k
     ∙ ap₂ option_or (given_by-nothing place log UNDO_ORDER e k (All-head (λ x. IsTrue (is_in_range log x) → value_in place x k ≡ None) e es none))
     (undo_value-nothing place log es k (All-tail (λ x. IsTrue (is_in_range log x) → value_in place x k ≡ None) e es none))
 
-redo_value-nothing : (place : Place) (log : Log) (es : List Entry) (k : ℕ) → All (λ e. IsTrue (is_in_range log e) → value_in place e k ≡ None) es → redo_value place log es k ≡ None
+redo_value-nothing : (place : AddressMap) (log : Log) (es : List Entry) (k : ℕ) → All (λ e. IsTrue (is_in_range log e) → value_in place e k ≡ None) es → redo_value place log es k ≡ None
 redo_value-nothing place log [] k none = redo_value-none place log k
 redo_value-nothing place log (e ∷ es) k none =
     redo_value-first place log e es k
@@ -42,20 +42,20 @@ redo_value-nothing place log (e ∷ es) k none =
 
 -- ---- they give nothing to the words of their log
 
-pub value_from-apart : (size at k : ℕ) (place : Place) (e : Entry) → NamesApart place size at e → IsInLog at k → value_from (place e.address) e.vals k ≡ None
+pub value_from-apart : (size at k : ℕ) (place : AddressMap) (e : Entry) → NamesApart place size at e → IsInLog at k → value_from (place e.address) e.vals k ≡ None
 value_from-apart size at k place e names inside =
     ap (λ (o : Option ℕ). value_from o e.vals k) names.placed
     ∙ value_at-apart names.first k e.vals (⊎_elim (λ before. inr (omega arith)) (λ behind. inl (omega arith)) names.apart)
 
-pub undo_value-apart : (place : Place) (size at : ℕ) (log : Log) (es : List Entry) → AreApart place size at log es → (k : ℕ) → IsInLog at k → undo_value place log es k ≡ None
+pub undo_value-apart : (place : AddressMap) (size at : ℕ) (log : Log) (es : List Entry) → AreApart place size at log es → (k : ℕ) → IsInLog at k → undo_value place log es k ≡ None
 undo_value-apart place size at log es apart k inside = undo_value-nothing place log es k (λ n d below within. value_from-apart size at k place (get_or es n d) (apart n d below within) inside)
 
-pub redo_value-apart : (place : Place) (size at : ℕ) (log : Log) (es : List Entry) → AreApart place size at log es → (k : ℕ) → IsInLog at k → redo_value place log es k ≡ None
+pub redo_value-apart : (place : AddressMap) (size at : ℕ) (log : Log) (es : List Entry) → AreApart place size at log es → (k : ℕ) → IsInLog at k → redo_value place log es k ≡ None
 redo_value-apart place size at log es apart k inside = redo_value-nothing place log es k (λ n d below within. value_from-apart size at k place (get_or es n d) (apart n d below within) inside)
 
 -- ---- nor to those of which their places are read
 
-module _ (to : Target) (image : Image) (place : Place) (same : place_of to image ≡ place) (log : Log) (k : ℕ) (placing : IsPlacing to k) where
+module _ (to : Target) (image : Image) (place : AddressMap) (same : address_map_of to image ≡ place) (log : Log) (k : ℕ) (placing : IsPlacing to k) where
   value_in-unplaced : (e : Entry) (o : Option ℕ) → place e.address ≡ o → value_from o e.vals k ≡ None
   value_in-unplaced e None there = refl
   value_in-unplaced e (Some w) there = value_at-apart w k e.vals (inl (place_above to image place same k placing e.address w there))

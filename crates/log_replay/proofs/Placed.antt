@@ -5,21 +5,21 @@ use Rattle.std.proofs.lemmas.Bool.{cases_Bool, cond-true, cond-false}
 use Rattle.std.proofs.lemmas.List.Elements.{All-head, All-tail, All-nil, All-cons}
 use Rattle.pud_defs.specs.Image.{Image}
 use Rattle.pud_defs.specs.Entries.{Entry, Log, log_of}
-use Rattle.pud_defs.specs.Replay.{Place, device_word, is_in_range, value_from, given_by, given, undo_value, redo_value, new_value}
+use Rattle.pud_defs.specs.Replay.{AddressMap, device_word, is_in_range, value_from, given_by, given, undo_value, redo_value, new_value}
 use Rattle.pud_defs.proofs.Replay.{given_by-out, undo_value-first, undo_value-none, redo_value-first, redo_value-none, new_value-of}
 use Rattle.log_entry.specs.Copying.{Copied, log_copied, with_address}
 use Rattle.log_replay.specs.declared.Target.{Target}
 use Rattle.log_replay.specs.declared.Target.TheVariants as targets
 use Rattle.log_replay.specs.Placing.{word_or_none, placed_entry, placed_log, IsWithinDevice, AreWithinDevice}
-use Rattle.log_replay.specs.Replaying.{place_of, log_to, NamesApart, AreApart, IsReplayable, IsPlacedCopy, new_values}
+use Rattle.log_replay.specs.Replaying.{address_map_of, log_to, NamesApart, AreApart, IsReplayable, IsPlacedCopy, new_values}
 
 -- ---- one entry
 
-pub placed-counts : (place : Place) (log : Log) (e : Entry) → is_in_range log e ≡ true → placed_entry place log e ≡ with_address (word_or_none (place e.address)) e
+pub placed-counts : (place : AddressMap) (log : Log) (e : Entry) → is_in_range log e ≡ true → placed_entry place log e ≡ with_address (word_or_none (place e.address)) e
 unfolding placed_entry
 placed-counts place log e counts = cond-true _ _ _ counts
 
-pub placed-out : (place : Place) (log : Log) (e : Entry) → is_in_range log e ≡ false → placed_entry place log e ≡ e
+pub placed-out : (place : AddressMap) (log : Log) (e : Entry) → is_in_range log e ≡ false → placed_entry place log e ≡ e
 unfolding placed_entry
 placed-out place log e out = cond-false _ _ _ out
 
@@ -41,11 +41,11 @@ entries_placed-words log (Some es) = ap Some (sym (all_placed-words log es))
 placed_log-words : (log : Log) → log ≡ placed_log device_word log
 placed_log-words log = λ p. record { lo = log.lo; hi = log.hi; entries = entries_placed-words log log.entries p }
 
-log_to-placed : (to : Target) (image : Image) (log : Log) → log_to to image log ≡ placed_log (place_of to image) log
+log_to-placed : (to : Target) (image : Image) (log : Log) → log_to to image log ≡ placed_log (address_map_of to image) log
 log_to-placed targets.Words image log = placed_log-words log
 log_to-placed (targets.Puddles F) image log = refl
 
-module _ (place : Place) (size at : ℕ) (log : Log) where
+module _ (place : AddressMap) (size at : ℕ) (log : Log) where
   abbrev f : Entry → Entry
   f = placed_entry place log
 
@@ -104,10 +104,10 @@ pub record IsReplayableCopy (to : Target) (size at : ℕ) (image : Image) (copy 
   pub within : AreWithinDevice size (log_copied copy) es
   pub gives : (w : ℕ) → new_values to at image w ≡ new_value device_word (log_copied copy) w
 
-pub replayable_copy : (to : Target) (size at : ℕ) (es : List Entry) (image : Image) (copy : Copied) → IsReplayable (place_of to image) size at es image → IsPlacedCopy to at image copy
+pub replayable_copy : (to : Target) (size at : ℕ) (es : List Entry) (image : Image) (copy : Copied) → IsReplayable (address_map_of to image) size at es image → IsPlacedCopy to at image copy
     → IsReplayableCopy to size at image copy
 replayable_copy to size at es image copy r placed =
-    let place = place_of to image in
+    let place = address_map_of to image in
     let log = log_of image at in
     let placed_es = map (placed_entry place log) es in
     let are : (placed_log place log).entries ≡ Some placed_es = ap (option_map (map (placed_entry place log))) r.spells in

@@ -5,18 +5,18 @@ use Rattle.pud_defs.specs.declared.layout.TheConstants.{PUDDLE_TABLE}
 use Rattle.pud_defs.specs.Image.{Image}
 use Rattle.pud_defs.specs.Layout.{tables_end, frames_at, IsWithin}
 use Rattle.pud_defs.specs.Tables.{tables_of}
-use Rattle.pud_defs.specs.Places.{first_some, place_by, located}
-use Rattle.pud_defs.specs.Replay.{Place}
+use Rattle.pud_defs.specs.Places.{first_some, place_in_puddle, located}
+use Rattle.pud_defs.specs.Replay.{AddressMap}
 use Rattle.pud_defs.specs.Allowed.{puddle_word}
 use Rattle.pud_defs.proofs.TablesOf.{puddles_below, puddles_beyond, puddle_at-same}
 use Rattle.log_replay.specs.declared.Target.{Target}
 use Rattle.log_replay.specs.declared.Target.TheVariants as targets
 use Rattle.log_replay.specs.Placing.{word_at}
-use Rattle.log_replay.specs.Replaying.{place_of, IsPlacing}
+use Rattle.log_replay.specs.Replaying.{address_map_of, IsPlacing}
 
-pub place_of-located : (F : ℕ) (image : Image) (address : ℕ) → puddle_word (tables_of F image) address ≡ option_map (word_at F) (located (tables_of F image) address)
+pub address_map_of-located : (F : ℕ) (image : Image) (address : ℕ) → puddle_word (tables_of F image) address ≡ option_map (word_at F) (located (tables_of F image) address)
 unfolding puddle_word tables_of
-place_of-located F image address = refl
+address_map_of-located F image address = refl
 
 -- ---- images that agree on the words of which places are read
 
@@ -31,10 +31,10 @@ puddles_same F i j same frame = elim (cases_lt frame F) [
 
 puddle_word-same : (F : ℕ) (i j : Image) → ((frame : ℕ) → (tables_of F j).puddles frame ≡ (tables_of F i).puddles frame) → puddle_word (tables_of F j) ≡ puddle_word (tables_of F i)
 unfolding puddle_word tables_of
-puddle_word-same F i j same = λ p address. option_map (word_at F) (first_some (λ frame. place_by address frame (same frame p)) 0 F)
+puddle_word-same F i j same = λ p address. option_map (word_at F) (first_some (λ frame. place_in_puddle address frame (same frame p)) 0 F)
 
 -- have the same places
-pub places_same : (to : Target) (i j : Image) → ((k : ℕ) → IsPlacing to k → j k ≡ i k) → place_of to j ≡ place_of to i
+pub places_same : (to : Target) (i j : Image) → ((k : ℕ) → IsPlacing to k → j k ≡ i k) → address_map_of to j ≡ address_map_of to i
 places_same targets.Words i j same = refl
 places_same (targets.Puddles F) i j same = puddle_word-same F i j (puddles_same F i j same)
 
@@ -44,9 +44,9 @@ mapped_above : (F w : ℕ) (o : Option (ℕ × ℕ)) → option_map (word_at F) 
 mapped_above F w None is = absurd (cc)
 mapped_above F w (Some at) is = let here : word_at F at ≡ w = cc in omega arith
 
-pub place_above : (to : Target) (image : Image) (place : Place) → place_of to image ≡ place → (k : ℕ) → IsPlacing to k → (address w : ℕ) → place address ≡ Some w → k < w
+pub place_above : (to : Target) (image : Image) (place : AddressMap) → address_map_of to image ≡ place → (k : ℕ) → IsPlacing to k → (address w : ℕ) → place address ≡ Some w → k < w
 place_above targets.Words image place same k placing address w there = absurd placing
 place_above (targets.Puddles F) image place same k placing address w there =
-    let low = mapped_above F w (located (tables_of F image) address) (sym (place_of-located F image address) ∙ ap (λ (f : Place). f address) same ∙ there) in
+    let low = mapped_above F w (located (tables_of F image) address) (sym (address_map_of-located F image address) ∙ ap (λ (f : AddressMap). f address) same ∙ there) in
     let high = placing.high in
     omega arith

@@ -13,20 +13,20 @@ use Rattle.pm_model.proofs.Leaves.{Leaves-changes}
 use Rattle.pud_defs.specs.declared.layout.TheConstants.{LOG_HEADER_WORDS, LOG_ENTRY_WORDS}
 use Rattle.pud_defs.specs.Image.{Image}
 use Rattle.pud_defs.specs.Entries.{Entry, Log, log_of, gate_used, entries_of}
-use Rattle.pud_defs.specs.Replay.{Place, new_value, overwritten, IsInLog}
+use Rattle.pud_defs.specs.Replay.{AddressMap, new_value, overwritten, IsInLog}
 use Rattle.pud_defs.proofs.Entries.{log_of-same, used_within}
 use Rattle.pud_defs.proofs.Replay.{overwritten-again, new_value-of}
 use Rattle.log_replay.specs.declared.Target.{Target}
-use Rattle.log_replay.specs.Replaying.{place_of, IsPlacing, IsReplayable, HasDurableLog, AreApart, new_values, Named, Applies, ReplaysSame, Replays, ReplaysAgain}
+use Rattle.log_replay.specs.Replaying.{address_map_of, IsPlacing, IsReplayable, HasDurableLog, AreApart, new_values, Named, Applies, ReplaysSame, Replays, ReplaysAgain}
 use Rattle.log_replay.proofs.Places.{places_same}
 use Rattle.log_replay.proofs.Left.{undo_value-apart, redo_value-apart, undone-unplaced, redone-unplaced}
 
 -- ---- words that are read of the log, and of places
 
 -- the log gives nothing to its own words
-pub new_values-apart : (to : Target) (size at : ℕ) (es : List Entry) (image : Image) → IsReplayable (place_of to image) size at es image → (k : ℕ) → IsInLog at k → new_values to at image k ≡ None
+pub new_values-apart : (to : Target) (size at : ℕ) (es : List Entry) (image : Image) → IsReplayable (address_map_of to image) size at es image → (k : ℕ) → IsInLog at k → new_values to at image k ≡ None
 new_values-apart to size at es image r k inside =
-    let place = place_of to image in
+    let place = address_map_of to image in
     let log = log_of image at in
     new_value-of place log es k r.spells
     ∙ ap₂ option_or (redo_value-apart place size at log es r.apart k inside) (undo_value-apart place size at log es r.apart k inside)
@@ -34,7 +34,7 @@ new_values-apart to size at es image r k inside =
 -- nor to those of which places are read
 pub new_values-unplaced : (to : Target) (at : ℕ) (es : List Entry) (image : Image) → entries_of image at ≡ Some es → (k : ℕ) → IsPlacing to k → new_values to at image k ≡ None
 new_values-unplaced to at es image spells k placing =
-    let place = place_of to image in
+    let place = address_map_of to image in
     let log = log_of image at in
     new_value-of place log es k spells
     ∙ ap₂ option_or (redone-unplaced to image place refl log k placing es) (undone-unplaced to image place refl log k placing es)
@@ -53,7 +53,7 @@ new_values_picked to at words image d picked =
 -- ---- while words that the log names change
 
 module _ (to : Target) (size at : ℕ) (es : List Entry) (fault : Option HostFault) (s t : State)
-    (r : IsReplayable (place_of to (reads s.now.words)) size at es (reads s.now.words)) (d : HasDurableLog to at s.now.words)
+    (r : IsReplayable (address_map_of to (reads s.now.words)) size at es (reads s.now.words)) (d : HasDurableLog to at s.now.words)
     (changes : Changes (Named (new_values to at (reads s.now.words))) fault s t) where
   abbrev write : Write
   write = new_values to at (reads s.now.words)
@@ -82,7 +82,7 @@ module _ (to : Target) (size at : ℕ) (es : List Entry) (fault : Option HostFau
       subst (λ (v : ℕ). gate_used v ≤ LOG_ENTRY_WORDS) (sym (gate ∙ d.gate.each (before at) (picked.each at))) (used_within (reads s.now.words) at es r.spells) in
       let log : log_of image at ≡ log_of before at =
       log_of-same image before at gate (λ k low high. stays k (in_log k (record { low = omega arith; high = omega arith }))) in
-      let places : place_of to image ≡ place_of to before = places_same to before image (λ k placing. stays k (in_table k placing)) in
+      let places : address_map_of to image ≡ address_map_of to before = places_same to before image (λ k placing. stays k (in_table k placing)) in
       record {
         before = before;
         picked = picked;
@@ -120,7 +120,7 @@ module _ (to : Target) (size at : ℕ) (es : List Entry) (fault : Option HostFau
   log_still : log_of (reads s.now.words) at ≡ log_of (reads t.now.words) at
   log_still = log_of-same (reads s.now.words) (reads t.now.words) at (sym gate_still) (λ k low high. sym (counted_still k low high))
 
-  places_still : place_of to (reads s.now.words) ≡ place_of to (reads t.now.words)
+  places_still : address_map_of to (reads s.now.words) ≡ address_map_of to (reads t.now.words)
   places_still = sym (places_same to (reads s.now.words) (reads t.now.words) (λ k placing. reads_still k (in_table k placing) (d.table k placing)))
 
   -- the log can be replayed again
@@ -130,7 +130,7 @@ module _ (to : Target) (size at : ℕ) (es : List Entry) (fault : Option HostFau
         moments = replays_same;
         replayable = record {
           spells = sym (ap (λ (l : Log). l.entries) log_still) ∙ r.spells;
-          apart = subst (λ (T : Type 0). T) (ap₂ (λ (place : Place) (log : Log). AreApart place size at log es) places_still log_still) r.apart;
+          apart = subst (λ (T : Type 0). T) (ap₂ (λ (place : AddressMap) (log : Log). AreApart place size at log es) places_still log_still) r.apart;
         };
         durable_log = record {
           gate = one_still at (in_log at at_gate) d.gate;

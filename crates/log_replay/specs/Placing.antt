@@ -2,7 +2,7 @@
 use Rattle.std.specs.Prelude.{ℕ, ◌+◌, ◌≤◌, cond, List, All, map, IsTrue, length, Option, option_map, unwrap_or}
 use Rattle.pud_defs.specs.Entries.{Entry, Log}
 use Rattle.pud_defs.specs.Frames.{frame_at}
-use Rattle.pud_defs.specs.Replay.{Place, is_in_range}
+use Rattle.pud_defs.specs.Replay.{AddressMap, is_in_range}
 use Rattle.log_entry.specs.Copying.{with_address}
 use Rattle.log_replay.specs.declared.TheConstants.{NO_WORD}
 
@@ -15,11 +15,11 @@ abbrev pub word_or_none : Option ℕ → ℕ
 word_or_none o = unwrap_or o NO_WORD
 
 -- the entry with the device word that it names first for an address, where it counts
-unfoldable pub placed_entry : Place → Log → Entry → Entry
+unfoldable pub placed_entry : AddressMap → Log → Entry → Entry
 placed_entry place log e = cond (is_in_range log e) (with_address (word_or_none (place e.address)) e) e
 
 -- the log with each of its entries so
-abbrev pub placed_log : Place → Log → Log
+abbrev pub placed_log : AddressMap → Log → Log
 placed_log place log = record log { entries = option_map (map (placed_entry place log)) log.entries }
 
 -- the words from the address of an entry on, as many as it has values, are words of a device of this size

@@ -9,7 +9,7 @@ use Rattle.pud_defs.specs.declared.log_words.TheConstants.{CLOSED_GATE}
 use Rattle.pud_defs.specs.Image.{Image}
 use Rattle.pud_defs.specs.Layout.{tables_end, IsWithin}
 use Rattle.pud_defs.specs.Entries.{Entry, Log, log_of, gate_used, is_idle_gate, entries_of}
-use Rattle.pud_defs.specs.Replay.{Place, device_word, is_in_range, new_value, overwritten, is_in_log, settled_by}
+use Rattle.pud_defs.specs.Replay.{AddressMap, device_word, is_in_range, new_value, overwritten, is_in_log, settled_by}
 use Rattle.pud_defs.specs.Tables.{tables_of}
 use Rattle.pud_defs.specs.Allowed.{puddle_word}
 use Rattle.log_entry.specs.Copying.{Copied, log_copied}
@@ -20,9 +20,9 @@ use Rattle.log_replay.specs.declared.Target.TheVariants as targets
 -- ---- the places of addresses
 
 -- which device word an address of the target is, as this image has it
-abbrev pub place_of : Target → Image → Place
-place_of targets.Words image = device_word
-place_of (targets.Puddles F) image = puddle_word (tables_of F image)
+abbrev pub address_map_of : Target → Image → AddressMap
+address_map_of targets.Words image = device_word
+address_map_of (targets.Puddles F) image = puddle_word (tables_of F image)
 
 -- the log with device words for the addresses of entries in range, where addresses of the target are others
 abbrev pub log_to : Target → Image → Log → Log
@@ -47,18 +47,18 @@ HasTables (targets.Puddles F) size = HasPuddleTable F size
 -- ---- what a replay needs
 
 -- the entry names words of the device, and none of the log whose gate is this word
-pub record NamesApart (place : Place) (size at : ℕ) (e : Entry) : Type 0 where
+pub record NamesApart (place : AddressMap) (size at : ℕ) (e : Entry) : Type 0 where
   pub first : ℕ
   pub placed : place e.address ≡ Some first
   pub within : first + length e.vals ≤ size
   pub apart : (first + length e.vals ≤ at) ⊎ (at + LOG_WORDS ≤ first)
 
 -- each of the entries that is in range does
-abbrev pub AreApart : Place → ℕ → ℕ → Log → List Entry → Type 0
+abbrev pub AreApart : AddressMap → ℕ → ℕ → Log → List Entry → Type 0
 AreApart place size at log es = All (λ e. IsTrue (is_in_range log e) → NamesApart place size at e) es
 
 -- As the image spells it, the log whose gate is this word is well formed, with these entries, and those in range name words apart.
-pub record IsReplayable (place : Place) (size at : ℕ) (es : List Entry) (image : Image) : Type 0 where
+pub record IsReplayable (place : AddressMap) (size at : ℕ) (es : List Entry) (image : Image) : Type 0 where
   pub spells : entries_of image at ≡ Some es
   pub apart : AreApart place size at (log_of image at) es
 
@@ -76,7 +76,7 @@ pub record IsPlacedCopy (to : Target) (at : ℕ) (image : Image) (copy : Copied)
 
 -- the values that the log whose gate is this word gives to words
 abbrev pub new_values : Target → ℕ → Image → Write
-new_values to at image = new_value (place_of to image) (log_of image at)
+new_values to at image = new_value (address_map_of to image) (log_of image at)
 
 -- the image with that log replayed
 abbrev pub replayed_to : Target → ℕ → Image → Image
@@ -106,7 +106,7 @@ pub record ReplaysSame (to : Target) (at : ℕ) (words : Words) (image : Image) 
   pub before : Image
   pub picked : Picks words before
   pub stays : (k : ℕ) → new_values to at before k ≡ None → image k ≡ before k
-  pub places : place_of to image ≡ place_of to before
+  pub places : address_map_of to image ≡ address_map_of to before
   pub log : log_of image at ≡ log_of before at
   pub same : replayed_to to at image ≡ replayed_to to at before
 
@@ -120,7 +120,7 @@ pub record Replays (to : Target) (at : ℕ) (fault : Option HostFault) (old new 
 -- At each moment each image replays to the same, and at the end, also behind a fault, the log can be replayed again.
 pub record ReplaysAgain (to : Target) (size at : ℕ) (es : List Entry) (old new : State) : Type 0 where
   pub moments : Leaves (Silently (ReplaysSame to at old.now.words)) old new
-  pub replayable : IsReplayable (place_of to (reads new.now.words)) size at es (reads new.now.words)
+  pub replayable : IsReplayable (address_map_of to (reads new.now.words)) size at es (reads new.now.words)
   pub durable_log : HasDurableLog to at new.now.words
 
 -- ---- what a replay and the closing of its log do

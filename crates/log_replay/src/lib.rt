@@ -21,7 +21,7 @@ ghost use Rattle.pud_defs.specs.Replay.{device_word};
 ghost use Rattle.puddle_space.specs.Within.{IsPlaceIn};
 ghost use Rattle.log_entry.specs.Copying.{log_copied};
 ghost use Rattle.log_replay.specs.Placing.{word_at, word_or_none, placed_log};
-ghost use Rattle.log_replay.specs.Replaying.{place_of, log_to, HasTables, IsPlacedCopy, IsReplayable, HasDurableLog, Anything, Replays, ReplaysAgain, IsSettling, SettlesSame, SettlesLog};
+ghost use Rattle.log_replay.specs.Replaying.{address_map_of, log_to, HasTables, IsPlacedCopy, IsReplayable, HasDurableLog, Anything, Replays, ReplaysAgain, IsSettling, SettlesSame, SettlesLog};
 
 mod copies;
 
@@ -78,7 +78,7 @@ fn place_addresses<H: Host>(h: &mut H, frames: u32, copy: &mut LogCopy) -> Resul
     requires few { frames ≤ MAX_FRAMES }
     requires table { tables_end frames ≤ (H.counts h.old).size }
     ensures placed { H.tells → (image : Image) → reads (H.state h.old).now.words ≡ image → (es : List LoggedEntry) → (log_copied copy.old).entries ≡ Option.Some es
-        → IfOk result (λ _. log_copied copy.new ≡ placed_log (place_of (Target.Puddles frames) image) (log_copied copy.old)) }
+        → IfOk result (λ _. log_copied copy.new ≡ placed_log (address_map_of (Target.Puddles frames) image) (log_copied copy.old)) }
     ensures only_reads { OnlyReads H.tells H.state H.counts (fault_of result) h.old h.new }
 {
     let range = copy.range();
@@ -110,10 +110,10 @@ fn copy_placed<H: Host>(h: &mut H, log_at: u32, to: Target) -> Result<LogCopy, H
 /// Replays a log from its copy, in which the entries in range have device words for addresses.
 fn replay_copy<H: Host>(h: &mut H, copy: &LogCopy) -> Result<(), HostFault>
     ensures replays { H.tells → (size : ℕ) → size ≡ (H.counts h.old).size → (to : Target) (log_at : ℕ) (es : List LoggedEntry)
-        → IsReplayable (place_of to (reads (H.state h.old).now.words)) size log_at es (reads (H.state h.old).now.words)
+        → IsReplayable (address_map_of to (reads (H.state h.old).now.words)) size log_at es (reads (H.state h.old).now.words)
         → IsPlacedCopy to log_at (reads (H.state h.old).now.words) copy.now → Replays to log_at (fault_of result) (H.state h.old) (H.state h.new) }
     ensures again { H.tells → (size : ℕ) → size ≡ (H.counts h.old).size → (to : Target) (log_at : ℕ) (es : List LoggedEntry)
-        → IsReplayable (place_of to (reads (H.state h.old).now.words)) size log_at es (reads (H.state h.old).now.words)
+        → IsReplayable (address_map_of to (reads (H.state h.old).now.words)) size log_at es (reads (H.state h.old).now.words)
         → IsPlacedCopy to log_at (reads (H.state h.old).now.words) copy.now → HasDurableLog to log_at (H.state h.old).now.words
         → ReplaysAgain to size log_at es (H.state h.old) (H.state h.new) }
     ensures any { H.tells → Changes Anything (fault_of result) (H.state h.old) (H.state h.new) }
@@ -138,10 +138,10 @@ pub fn replay_range<H: Host>(h: &mut H, log_at: u32, to: Target) -> Result<(), H
     requires log { log_at + LOG_WORDS ≤ (H.counts h.old).size }
     requires tables { HasTables to (H.counts h.old).size }
     ensures replays { H.tells → (size : ℕ) → size ≡ (H.counts h.old).size → (es : List LoggedEntry)
-        → IsReplayable (place_of to (reads (H.state h.old).now.words)) size log_at es (reads (H.state h.old).now.words)
+        → IsReplayable (address_map_of to (reads (H.state h.old).now.words)) size log_at es (reads (H.state h.old).now.words)
         → Replays to log_at (fault_of result) (H.state h.old) (H.state h.new) }
     ensures again { H.tells → (size : ℕ) → size ≡ (H.counts h.old).size → (es : List LoggedEntry)
-        → IsReplayable (place_of to (reads (H.state h.old).now.words)) size log_at es (reads (H.state h.old).now.words)
+        → IsReplayable (address_map_of to (reads (H.state h.old).now.words)) size log_at es (reads (H.state h.old).now.words)
         → HasDurableLog to log_at (H.state h.old).now.words → ReplaysAgain to size log_at es (H.state h.old) (H.state h.new) }
     ensures any { H.tells → Changes Anything (fault_of result) (H.state h.old) (H.state h.new) }
     ensures cause { H.counts h.new ≡ after_fault (fault_of result) (H.counts h.old) }
@@ -157,10 +157,10 @@ pub fn replay_range<H: Host>(h: &mut H, log_at: u32, to: Target) -> Result<(), H
 pub fn settle_copy<H: Host>(h: &mut H, copy: &LogCopy, log_at: u32) -> Result<(), HostFault>
     requires { log_at < (H.counts h.old).size }
     ensures settles { H.tells → (size : ℕ) → size ≡ (H.counts h.old).size → (to : Target) (es : List LoggedEntry)
-        → IsReplayable (place_of to (reads (H.state h.old).now.words)) size log_at es (reads (H.state h.old).now.words)
+        → IsReplayable (address_map_of to (reads (H.state h.old).now.words)) size log_at es (reads (H.state h.old).now.words)
         → IsPlacedCopy to log_at (reads (H.state h.old).now.words) copy.now → SettlesLog to log_at (fault_of result) (H.state h.old) (H.state h.new) }
     ensures moments { H.tells → (size : ℕ) → size ≡ (H.counts h.old).size → (to : Target) (es : List LoggedEntry)
-        → IsReplayable (place_of to (reads (H.state h.old).now.words)) size log_at es (reads (H.state h.old).now.words)
+        → IsReplayable (address_map_of to (reads (H.state h.old).now.words)) size log_at es (reads (H.state h.old).now.words)
         → IsPlacedCopy to log_at (reads (H.state h.old).now.words) copy.now → HasDurableLog to log_at (H.state h.old).now.words
         → Leaves (Silently (IsSettling to log_at (H.state h.old).now.words)) (H.state h.old) (H.state h.new) }
     ensures same { H.tells → (size : ℕ) → size ≡ (H.counts h.old).size → (es : List LoggedEntry) → IsReplayable device_word size log_at es (reads (H.state h.old).now.words)
@@ -186,10 +186,10 @@ pub fn settle_log<H: Host>(h: &mut H, log_at: u32, to: Target) -> Result<(), Hos
     requires log { log_at + LOG_WORDS ≤ (H.counts h.old).size }
     requires tables { HasTables to (H.counts h.old).size }
     ensures settles { H.tells → (size : ℕ) → size ≡ (H.counts h.old).size → (es : List LoggedEntry)
-        → IsReplayable (place_of to (reads (H.state h.old).now.words)) size log_at es (reads (H.state h.old).now.words)
+        → IsReplayable (address_map_of to (reads (H.state h.old).now.words)) size log_at es (reads (H.state h.old).now.words)
         → SettlesLog to log_at (fault_of result) (H.state h.old) (H.state h.new) }
     ensures moments { H.tells → (size : ℕ) → size ≡ (H.counts h.old).size → (es : List LoggedEntry)
-        → IsReplayable (place_of to (reads (H.state h.old).now.words)) size log_at es (reads (H.state h.old).now.words)
+        → IsReplayable (address_map_of to (reads (H.state h.old).now.words)) size log_at es (reads (H.state h.old).now.words)
         → HasDurableLog to log_at (H.state h.old).now.words → Leaves (Silently (IsSettling to log_at (H.state h.old).now.words)) (H.state h.old) (H.state h.new) }
     ensures same { H.tells → to ≡ Target.Words → (size : ℕ) → size ≡ (H.counts h.old).size → (es : List LoggedEntry) → IsReplayable device_word size log_at es (reads (H.state h.old).now.words)
         → HasDurableLog Target.Words log_at (H.state h.old).now.words

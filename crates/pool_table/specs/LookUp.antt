@@ -9,8 +9,8 @@ use Rattle.pud_defs.specs.Tables.{Tables, pool_in}
 use Rattle.pud_defs.specs.Puts.{pool_put, with_pool_at}
 use Rattle.pool_table.specs.declared.PoolFault.{PoolFault}
 use Rattle.pool_table.specs.declared.PoolFault.TheVariants as faults
-use Rattle.pool_table.specs.declared.Place.{Place}
-use Rattle.pool_table.specs.declared.Place.TheVariants as places
+use Rattle.pool_table.specs.declared.Lookup.{Lookup}
+use Rattle.pool_table.specs.declared.Lookup.TheVariants as places
 
 -- the host's fault that a call answered
 abbrev pub fault_in : {A : Type 0} → Result A PoolFault → Option HostFault
@@ -20,17 +20,17 @@ fault_in (Err faults.Exists) = None
 fault_in (Err faults.Full) = None
 
 -- where a pool stands that was found, or would stand where it was not
-abbrev pub place_by : Option (ℕ × PoolRec) → Option ℕ → Place
-place_by (Some found) free = places.Used found.0 found.1
-place_by None (Some slot) = places.Free slot
-place_by None None = places.Full
+abbrev pub lookup_by : Option (ℕ × PoolRec) → Option ℕ → Lookup
+lookup_by (Some found) free = places.Used found.0 found.1
+lookup_by None (Some slot) = places.Free slot
+lookup_by None None = places.Full
 
 -- where the pool of a name stands, or would stand
-abbrev pub place_of : Tables → List ℕ → Place
-place_of t name = place_by (pool_in t name) (first_free t.pools 0 POOL_RECORDS)
+abbrev pub lookup_of : Tables → List ℕ → Lookup
+lookup_of t name = lookup_by (pool_in t name) (first_free t.pools 0 POOL_RECORDS)
 
 -- a slot is one of the table
-abbrev pub IsInTable : Place → Type 0
+abbrev pub IsInTable : Lookup → Type 0
 IsInTable (places.Used slot rec) = slot < POOL_RECORDS
 IsInTable (places.Free slot) = slot < POOL_RECORDS
 IsInTable places.Full = Unit {0}
@@ -41,24 +41,24 @@ IsKnown None = Unit {0}
 IsKnown (Some found) = found.0 < POOL_RECORDS
 
 -- which slot a new pool takes, by the place of its name
-abbrev pub slot_at : Place → Result ℕ PoolFault
-slot_at (places.Used slot rec) = Err faults.Exists
-slot_at (places.Free slot) = Ok slot
-slot_at places.Full = Err faults.Full
+abbrev pub slot_by_lookup : Lookup → Result ℕ PoolFault
+slot_by_lookup (places.Used slot rec) = Err faults.Exists
+slot_by_lookup (places.Free slot) = Ok slot
+slot_by_lookup places.Full = Err faults.Full
 
 -- Which slot a new pool of this name takes: the lowest free one, where no pool has the name.
 abbrev pub slot_for : Tables → List ℕ → Result ℕ PoolFault
-slot_for t name = slot_at (place_of t name)
+slot_for t name = slot_by_lookup (lookup_of t name)
 
 -- what adding a record answers at its place
-abbrev pub added_at : Place → PoolRec → Result Put PoolFault
+abbrev pub added_at : Lookup → PoolRec → Result Put PoolFault
 added_at (places.Used slot rec) r = Err faults.Exists
 added_at (places.Free slot) r = Ok (pool_put slot r)
 added_at places.Full r = Err faults.Full
 
 -- What adding a record answers: the name is there, or the words of the lowest free slot, or none is free.
 abbrev pub added : Tables → PoolRec → Result Put PoolFault
-added t r = added_at (place_of t r.name) r
+added t r = added_at (lookup_of t r.name) r
 
 -- A record is added in the lowest free slot to tables that have none of its name.
 pub record Adds (r : PoolRec) (t u : Tables) : Type 0 where

@@ -19,7 +19,7 @@ use Rattle.pud_defs.specs.Geometry.{ordinal_of, slot_of}
 use Rattle.pud_defs.specs.Types.{map_of}
 use Rattle.pud_defs.specs.Keyed.{keyed, under}
 use Rattle.pud_defs.specs.Stored.{Stored, places_of, place_word}
-use Rattle.pud_defs.specs.Graph.{Content, Number, Null, at_place, place_in, target, puddles_by, content, field_count, Table, table_of, contents_by, contents_or_none, value_of, object_at, live, all_stand, Graph, Object, object_in, is_referenced, graph_of}
+use Rattle.pud_defs.specs.Graph.{Content, Number, Null, at_place, place_in, target, puddles_by, content, field_count, Table, table_of, slot_contents, contents_or_none, value_of, object_at, live, all_stand, Graph, Object, object_in, is_referenced, graph_of}
 use Rattle.pud_defs.specs.DeferredValues.{deferred_set_names}
 use Rattle.pud_defs.specs.Step.{is_dangling, differ_in_kind, refusal_of}
 use Rattle.pud_defs.specs.World.{Transaction, World, open_on}
@@ -79,8 +79,8 @@ module _ (types : List (ℕ × ℕ)) (st : Stored) where
   t = table_of types st
 
   -- by the map of the type at its place
-  typed_by : (p f : ℕ) (v : Val) (found : Option ℕ) → map_of (t.type_id p) types ≡ found → all_stand t.serial (contents_by st p found) ≡ true
-      → slice_get (map (value_of t.serial) (contents_or_none (contents_by st p found))) f ≡ Some v → IsTypedField types (object_at t p) f v
+  typed_by : (p f : ℕ) (v : Val) (found : Option ℕ) → map_of (t.type_id p) types ≡ found → all_stand t.serial (slot_contents st p found) ≡ true
+      → slice_get (map (value_of t.serial) (contents_or_none (slot_contents st p found))) f ≡ Some v → IsTypedField types (object_at t p) f v
   typed_by p f v None is stand there = absurd (let no : false ≡ true = stand in cc)
   typed_by p f v (Some m) is stand there =
       let at : ℕ → Content = λ k. content st.puddles m p k (place_word st p (SLOT_FIELDS_WORD + k)) in

@@ -8,11 +8,11 @@ use Rattle.std.proofs.lemmas.Option.{none-some}
 use Rattle.std.proofs.lemmas.List.Elements.{All-nil, All-cons}
 use Rattle.pud_defs.specs.declared.layout.TheConstants.{FRAME_WORDS}
 use Rattle.pud_defs.specs.Entries.{Entry, Log}
-use Rattle.pud_defs.specs.Replay.{Place, is_in_range, entries_or_none, undo_value, redo_value, new_value}
+use Rattle.pud_defs.specs.Replay.{AddressMap, is_in_range, entries_or_none, undo_value, redo_value, new_value}
 use Rattle.pud_defs.specs.Spaces.{Owner}
 use Rattle.pud_defs.specs.Frames.{frame_at}
 use Rattle.pud_defs.specs.Puddles.{Member}
-use Rattle.pud_defs.specs.Places.{word_in, first_some, place_by, located}
+use Rattle.pud_defs.specs.Places.{word_in, first_some, place_in_puddle, located}
 use Rattle.pud_defs.specs.Tables.{Tables}
 use Rattle.pud_defs.specs.Allowed.{puddle_word, may_write_puddle, are_writable, is_allowed_entry, are_allowed_entries, is_allowed_log, is_refused, is_accepted, counts_any}
 use Rattle.pud_defs.specs.Settled.{gives_to}
@@ -37,20 +37,20 @@ accepted_not_refused t (Some who) log accepted = ap not accepted
 
 -- ---- a log none of whose entries counts
 
-undo_value-none_counts : (place : Place) (log : Log) (es : List Entry) (w : ℕ) → list_any (is_in_range log) es ≡ false → undo_value place log es w ≡ None
+undo_value-none_counts : (place : AddressMap) (log : Log) (es : List Entry) (w : ℕ) → list_any (is_in_range log) es ≡ false → undo_value place log es w ≡ None
 undo_value-none_counts place log [] w none = undo_value-none place log w
 undo_value-none_counts place log (e ∷ es) w none =
     let parts = or_parts (is_in_range log e) (list_any (is_in_range log) es) none in
     undo_value-first place log e es w ∙ ap₂ option_or (given_by-out place log _ e w parts.0) (undo_value-none_counts place log es w parts.1)
 
-redo_value-none_counts : (place : Place) (log : Log) (es : List Entry) (w : ℕ) → list_any (is_in_range log) es ≡ false → redo_value place log es w ≡ None
+redo_value-none_counts : (place : AddressMap) (log : Log) (es : List Entry) (w : ℕ) → list_any (is_in_range log) es ≡ false → redo_value place log es w ≡ None
 redo_value-none_counts place log [] w none = redo_value-none place log w
 redo_value-none_counts place log (e ∷ es) w none =
     let parts = or_parts (is_in_range log e) (list_any (is_in_range log) es) none in
     redo_value-first place log e es w ∙ ap₂ option_or (redo_value-none_counts place log es w parts.1) (given_by-out place log _ e w parts.0)
 
 -- it gives no word a value
-pub new_value-none_counts : (place : Place) (log : Log) (w : ℕ) → counts_any log ≡ false → new_value place log w ≡ None
+pub new_value-none_counts : (place : AddressMap) (log : Log) (w : ℕ) → counts_any log ≡ false → new_value place log w ≡ None
 unfolding new_value
 new_value-none_counts place log w none = ap₂ option_or (redo_value-none_counts place log (entries_or_none log.entries) w none) (undo_value-none_counts place log (entries_or_none log.entries) w none)
 
@@ -65,16 +65,16 @@ of_word : (frame : ℕ) (o : Option ℕ) (at : ℕ × ℕ) → option_map (λ (w
 of_word frame None at is = absurd (none-some at is)
 of_word frame (Some word) at is = let it : (frame, word) ≡ at = cc in sym (ap (λ (p : ℕ × ℕ). p.0) it)
 
-frame_of_place : (address frame : ℕ) (m : Option Member) (at : ℕ × ℕ) → place_by address frame m ≡ Some at → at.0 ≡ frame
+frame_of_place : (address frame : ℕ) (m : Option Member) (at : ℕ × ℕ) → place_in_puddle address frame m ≡ Some at → at.0 ≡ frame
 frame_of_place address frame None at is = absurd (none-some at is)
 frame_of_place address frame (Some m) at is = of_word frame (word_in m.puddle.base address) at is
 
-found_below : (t : Tables) (address from count : ℕ) (at : ℕ × ℕ) → first_some (λ frame. place_by address frame (t.puddles frame)) from count ≡ Some at → at.0 < from + count
+found_below : (t : Tables) (address from count : ℕ) (at : ℕ × ℕ) → first_some (λ frame. place_in_puddle address frame (t.puddles frame)) from count ≡ Some at → at.0 < from + count
 unfolding first_some
 found_below t address from zero at is = absurd (none-some at is)
 found_below t address from (suc count) at is =
-    elim (place_by address from (t.puddles from)) as (λ here. place_by address from (t.puddles from) ≡ here
-    → option_or here (first_some (λ frame. place_by address frame (t.puddles frame)) (from + 1) count) ≡ Some at → at.0 < from + suc count) [
+    elim (place_in_puddle address from (t.puddles from)) as (λ here. place_in_puddle address from (t.puddles from) ≡ here
+    → option_or here (first_some (λ frame. place_in_puddle address frame (t.puddles frame)) (from + 1) count) ≡ Some at → at.0 < from + suc count) [
       | None ↦ λ none later. let below = found_below t address (from + 1) count at later in omega arith
       | Some x ↦ λ here same.
           let it : x ≡ at = cc in

@@ -12,7 +12,7 @@ use Rattle.pud_defs.specs.declared.objects.Val.{Val}
 use Rattle.pud_defs.specs.TypeMap.{is_pointer}
 use Rattle.pud_defs.specs.Geometry.{slots_of, slot_words_of, ordinal_of, slot_of, places_among}
 use Rattle.pud_defs.specs.Stored.{Stored, places_of, place_word}
-use Rattle.pud_defs.specs.Graph.{Content, Number, Null, At, Nowhere, slot_address, slot_in, place_in, at_place, target, over_old, puddles_by, pointee_at, content, field_count, contents_by, contents_or_none, named_by, value_of, stands, all_stand}
+use Rattle.pud_defs.specs.Graph.{Content, Number, Null, At, Nowhere, slot_address, slot_in, place_in, at_place, target, over_old, puddles_by, pointee_at, content, field_count, slot_contents, contents_or_none, named_by, value_of, stands, all_stand}
 
 -- ---- which places are named
 
@@ -125,7 +125,7 @@ content_within puddles m p f v =
     (λ number. refl)
 
 -- and so do the fields of an object
-pub contents_by_within : (st : Stored) (p : ℕ) (type : Option ℕ) → name_only (λ q. ltb q (places_of st)) (contents_by st p type) ≡ true
+pub contents_by_within : (st : Stored) (p : ℕ) (type : Option ℕ) → name_only (λ q. ltb q (places_of st)) (slot_contents st p type) ≡ true
 contents_by_within st p None = refl
 contents_by_within st p (Some m) =
     list_all-range (names_only (λ q. ltb q (places_of st))) (λ f. content st.puddles m p f (place_word st p (SLOT_FIELDS_WORD + f)))

@@ -4,7 +4,7 @@ use Rattle.std.proofs.lemmas.Cmp.{nat_cmp_total}
 use Rattle.std.proofs.lemmas.Bool.{cases_eq, cond-true, cond-false, and_parts, and_from, or_left, or_right, or_cases, eqb-true, ltb-true, lt-ltb}
 use Rattle.std.proofs.lemmas.Option.{cond_some}
 use Rattle.pud_defs.specs.Stored.{Stored, places_of, slot_state}
-use Rattle.pud_defs.specs.Graph.{Content, Table, table_of, Graph, under_serial, placed, object_at, live, graph_by, stands, all_stand, is_sound_place, is_next_serial, is_graph, headers_fit, value_of, contents_or_none, next_serial_of, root_of, graph_stored, graph_of}
+use Rattle.pud_defs.specs.Graph.{Content, Table, table_of, Graph, under_serial, serial_and_place, object_at, live, graph_by, stands, all_stand, is_sound_place, is_next_serial, is_graph, headers_fit, value_of, contents_or_none, next_serial_of, root_of, graph_stored, graph_of}
 use Rattle.pud_defs.proofs.Contents.{names_only, name_only, stands-same, named_by-same, all_stand-same, values-same}
 use Rattle.pud_defs.specs.Keyed.{keyed, count_used}
 use Rattle.pud_defs.proofs.Keyed.{HasDistinctKeys, HasDistinctKeys-fewer, HasDistinctKeys-keys, distinct_keys, are_distinct_keys, keyed-same, length-keyed}
@@ -21,7 +21,7 @@ pub record IsSoundPlace (next : ℕ) (t : Table) (p : ℕ) : Type 0 where
 pub record IsGraph (next : ℕ) (top : Content) (t : Table) (n : ℕ) : Type 0 where
   pub legal : is_next_serial next ≡ true
   pub top_stands : stands t.serial top ≡ true
-  pub distinct : HasDistinctKeys nat_cmp (placed t) 0 n
+  pub distinct : HasDistinctKeys nat_cmp (serial_and_place t) 0 n
   pub sound : (p : ℕ) → p < n → (t.serial p ≡ 0 → ⊥) → IsSoundPlace next t p
 
 pub record HasGraph (types : List (ℕ × ℕ)) (st : Stored) (g : Graph) : Type 0 where
@@ -52,7 +52,7 @@ is_graph-each next top t n h =
     record {
       legal = front.0;
       top_stands = front.1;
-      distinct = distinct_keys nat_cmp (placed t) 0 n distinct.1;
+      distinct = distinct_keys nat_cmp (serial_and_place t) 0 n distinct.1;
       sound = λ p below live. sound_if_live next t p (all_below-each n (is_sound_place next t) all.1 p below) live;
     }
 
@@ -60,7 +60,7 @@ pub is_graph-from : (next : ℕ) (top : Content) (t : Table) (n : ℕ) → IsGra
 unfolding is_graph
 is_graph-from next top t n h =
     and_from _ _
-    (and_from _ _ (and_from _ _ h.legal h.top_stands) (are_distinct_keys nat_cmp (placed t) 0 n h.distinct))
+    (and_from _ _ (and_from _ _ h.legal h.top_stands) (are_distinct_keys nat_cmp (serial_and_place t) 0 n h.distinct))
     (all_below-from n (is_sound_place next t) (λ p below. is_sound_if next t p (h.sound p below)))
 
 pub graph_of-each : (types : List (ℕ × ℕ)) (st : Stored) (g : Graph) → graph_of types st ≡ Some g → HasGraph types st g
@@ -94,14 +94,14 @@ module _ {A : Type 0} (serial : ℕ → ℕ) (value : ℕ → A) where
       (cases_eq (serial p) 0)
 
 -- what has distinct serials has them whatever stands there
-pub distinct_live : (t : Table) (n : ℕ) → HasDistinctKeys nat_cmp (placed t) 0 n → HasDistinctKeys nat_cmp (live t) 0 n
-distinct_live t n h = HasDistinctKeys-keys nat_cmp (placed t) (live t) 0 n (λ j. key_of_serial t.serial (λ p. p) j ∙ sym (key_of_serial t.serial (object_at t) j)) h
+pub distinct_live : (t : Table) (n : ℕ) → HasDistinctKeys nat_cmp (serial_and_place t) 0 n → HasDistinctKeys nat_cmp (live t) 0 n
+distinct_live t n h = HasDistinctKeys-keys nat_cmp (serial_and_place t) (live t) 0 n (λ j. key_of_serial t.serial (λ p. p) j ∙ sym (key_of_serial t.serial (object_at t) j)) h
 
 -- there are as many objects as live places
-pub length-live : (t : Table) (n : ℕ) → HasDistinctKeys nat_cmp (placed t) 0 n → length (keyed nat_cmp (live t) 0 n) ≡ count_used (placed t) 0 n
+pub length-live : (t : Table) (n : ℕ) → HasDistinctKeys nat_cmp (serial_and_place t) 0 n → length (keyed nat_cmp (live t) 0 n) ≡ count_used (serial_and_place t) 0 n
 length-live t n h =
     length-keyed nat_cmp nat_cmp_total (live t) 0 n (distinct_live t n h)
-    ∙ count_used-same (live t) (placed t) 0 n (λ j low high. none_alike (slot_state (t.serial j)).is_live (t.serial j, object_at t j) (t.serial j, j))
+    ∙ count_used-same (live t) (serial_and_place t) 0 n (λ j low high. none_alike (slot_state (t.serial j)).is_live (t.serial j, object_at t j) (t.serial j, j))
 
 -- it is the same where the serial is, and where the values are if there is one
 pub under_serial-same : {A : Type 0} (s r : ℕ → ℕ) (f g : ℕ → A) (p : ℕ) → r p ≡ s p → ((s p ≡ 0 → ⊥) → g p ≡ f p) → under_serial r g p ≡ under_serial s f p
@@ -132,7 +132,7 @@ module _ (t u : Table) (n : ℕ) (same : IsSameTable t u n) where
   agree : (p : ℕ) → ltb p n ≡ true → u.serial p ≡ t.serial p
   agree p below = same.serial p (ltb-true p n below)
 
-  placed-same : (p : ℕ) → 0 ≤ p → p < 0 + n → placed u p ≡ placed t p
+  placed-same : (p : ℕ) → 0 ≤ p → p < 0 + n → serial_and_place u p ≡ serial_and_place t p
   placed-same p low high = under_serial-same t.serial u.serial (λ q. q) (λ q. q) p (same.serial p (omega arith)) (λ used. refl)
 
   pub live-same : (p : ℕ) → p < n → live u p ≡ live t p
@@ -145,7 +145,7 @@ module _ (t u : Table) (n : ℕ) (same : IsSameTable t u n) where
     IsGraph-same h = record {
       legal = h.legal;
       top_stands = stands-same t.serial u.serial (λ q. ltb q n) agree top top_within ∙ h.top_stands;
-      distinct = HasDistinctKeys-fewer nat_cmp (placed t) (placed u) 0 n (λ p low high. inl (placed-same p low high)) h.distinct;
+      distinct = HasDistinctKeys-fewer nat_cmp (serial_and_place t) (serial_and_place u) 0 n (λ p low high. inl (placed-same p low high)) h.distinct;
       sound = λ p below used.
           let here = same.serial p below in
           let live : t.serial p ≡ 0 → ⊥ = λ free. used (here ∙ free) in

@@ -14,7 +14,7 @@ use Rattle.pud_defs.specs.Allowed.{puddle_word}
 use Rattle.pud_defs.specs.Bases.{is_legal_base}
 use Rattle.pud_defs.specs.Frames.{frame_at}
 use Rattle.pud_defs.specs.Keyed.{under}
-use Rattle.pud_defs.specs.Places.{word_in, place_by, first_some, located}
+use Rattle.pud_defs.specs.Places.{word_in, place_in_puddle, first_some, located}
 use Rattle.pud_defs.specs.Puddles.{Member, is_legal_puddle}
 use Rattle.pud_defs.specs.SoundTables.{is_sound_puddle, is_legal_member, bases, HasSoundTables}
 use Rattle.pud_defs.specs.Tables.{Tables, member_of, members, puddles_of, found_then, in_turn, puddles_in_turn}
@@ -162,13 +162,13 @@ module _ (next : ℕ) (t : Tables) (sound : HasSoundTables next t) where
       base_here : is.member.puddle.base ≡ e.1.base
       base_here = ap (λ (d : Puddle). d.base) is.puddle
 
-      placed_here : place_by address e.0 (t.puddles e.0) ≡ Some (e.0, (address - e.1.base) / WORD_BYTES)
+      placed_here : place_in_puddle address e.0 (t.puddles e.0) ≡ Some (e.0, (address - e.1.base) / WORD_BYTES)
       placed_here =
-          ap (place_by address e.0) is.used
+          ap (place_in_puddle address e.0) is.used
           ∙ ap (λ (b : ℕ). option_map (λ (word : ℕ). (e.0, word)) (word_in b address)) base_here
           ∙ ap (option_map (λ (word : ℕ). (e.0, word))) (cond-true _ _ _ (and_from _ _ (le-leb e.1.base address low) (lt-ltb address (e.1.base + RANGE_BYTES) high)))
 
-      placed_elsewhere : (frame : ℕ) (m : Option Member) → frame < t.frames → t.puddles frame ≡ m → (frame ≡ e.0 → ⊥) → place_by address frame m ≡ None
+      placed_elsewhere : (frame : ℕ) (m : Option Member) → frame < t.frames → t.puddles frame ≡ m → (frame ≡ e.0 → ⊥) → place_in_puddle address frame m ≡ None
       placed_elsewhere frame None below used apart = refl
       placed_elsewhere frame (Some m) below used apart =
           let mine : e.1.base % RANGE_BYTES ≡ 0 = multiple_of_legal e.1.base (legal_of_member o e is) in
@@ -180,7 +180,7 @@ module _ (next : ℕ) (t : Tables) (sound : HasSoundTables next t) where
       pub located_of_member : located t address ≡ Some (e.0, (address - e.1.base) / WORD_BYTES)
       located_of_member =
           let below = is.below in
-          first_some-one (λ frame. place_by address frame (t.puddles frame)) 0 t.frames e.0 (e.0, (address - e.1.base) / WORD_BYTES) (omega arith) (omega arith) placed_here
+          first_some-one (λ frame. place_in_puddle address frame (t.puddles frame)) 0 t.frames e.0 (e.0, (address - e.1.base) / WORD_BYTES) (omega arith) (omega arith) placed_here
           (λ frame from end apart. placed_elsewhere frame (t.puddles frame) (omega arith) refl apart)
 
       pub puddle_word_of_member : puddle_word t address ≡ Some (frame_at t.frames e.0 + (address - e.1.base) / WORD_BYTES)

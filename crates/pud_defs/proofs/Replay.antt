@@ -9,7 +9,7 @@ use Rattle.pud_defs.specs.declared.log_words.TheConstants.{UNDO_ORDER, REDO_ORDE
 use Rattle.pud_defs.specs.Image.{Image}
 use Rattle.pud_defs.specs.declared.layout.TheConstants.{LOG_WORDS, LOG_HEADER_WORDS}
 use Rattle.pud_defs.specs.Entries.{Entry, Log, log_of, gate_lo, gate_hi, gate_used, is_legal_gate, is_idle_gate, entries_of, words_from}
-use Rattle.pud_defs.specs.Replay.{Place, device_word, is_in_range, value_at, value_in, given_by, undo_value, redo_value, given, entries_or_none, new_value, over, overwritten, replayed, IsInLog, is_in_log, settled_by, beside_log}
+use Rattle.pud_defs.specs.Replay.{AddressMap, device_word, is_in_range, value_at, value_in, given_by, undo_value, redo_value, given, entries_or_none, new_value, over, overwritten, replayed, IsInLog, is_in_log, settled_by, beside_log}
 use Rattle.pud_defs.proofs.Entries.{words_from-none, entries_of-is, entries_in-nothing}
 
 -- ---- words written over an image
@@ -65,19 +65,19 @@ value_at-apart at k vals (inr behind) = cond-true _ _ _ (le-leb at k (omega arit
 
 -- ---- what entries give
 
-pub undo_value-first : (place : Place) (log : Log) (e : Entry) (es : List Entry) (w : ℕ) → undo_value place log (e ∷ es) w ≡ option_or (given_by place log UNDO_ORDER e w) (undo_value place log es w)
+pub undo_value-first : (place : AddressMap) (log : Log) (e : Entry) (es : List Entry) (w : ℕ) → undo_value place log (e ∷ es) w ≡ option_or (given_by place log UNDO_ORDER e w) (undo_value place log es w)
 unfolding undo_value
 undo_value-first place log e es w = refl
 
-pub redo_value-first : (place : Place) (log : Log) (e : Entry) (es : List Entry) (w : ℕ) → redo_value place log (e ∷ es) w ≡ option_or (redo_value place log es w) (given_by place log REDO_ORDER e w)
+pub redo_value-first : (place : AddressMap) (log : Log) (e : Entry) (es : List Entry) (w : ℕ) → redo_value place log (e ∷ es) w ≡ option_or (redo_value place log es w) (given_by place log REDO_ORDER e w)
 unfolding redo_value
 redo_value-first place log e es w = refl
 
-pub undo_value-none : (place : Place) (log : Log) (w : ℕ) → undo_value place log [] w ≡ None
+pub undo_value-none : (place : AddressMap) (log : Log) (w : ℕ) → undo_value place log [] w ≡ None
 unfolding undo_value
 undo_value-none place log w = refl
 
-pub redo_value-none : (place : Place) (log : Log) (w : ℕ) → redo_value place log [] w ≡ None
+pub redo_value-none : (place : AddressMap) (log : Log) (w : ℕ) → redo_value place log [] w ≡ None
 unfolding redo_value
 redo_value-none place log w = refl
 
@@ -93,12 +93,12 @@ or_none (Some x) = refl
 
 -- ---- what entries give behind others
 
-pub undo_value-append : (place : Place) (log : Log) (xs ys : List Entry) (w : ℕ) → undo_value place log (xs ++ ys) w ≡ option_or (undo_value place log xs w) (undo_value place log ys w)
+pub undo_value-append : (place : AddressMap) (log : Log) (xs ys : List Entry) (w : ℕ) → undo_value place log (xs ++ ys) w ≡ option_or (undo_value place log xs w) (undo_value place log ys w)
 unfolding undo_value
 undo_value-append place log [] ys w = refl
 undo_value-append place log (e ∷ xs) ys w = ap (option_or (given_by place log UNDO_ORDER e w)) (undo_value-append place log xs ys w) ∙ or_assoc (given_by place log UNDO_ORDER e w) (undo_value place log xs w) (undo_value place log ys w)
 
-pub redo_value-append : (place : Place) (log : Log) (xs ys : List Entry) (w : ℕ) → redo_value place log (xs ++ ys) w ≡ option_or (redo_value place log ys w) (redo_value place log xs w)
+pub redo_value-append : (place : AddressMap) (log : Log) (xs ys : List Entry) (w : ℕ) → redo_value place log (xs ++ ys) w ≡ option_or (redo_value place log ys w) (redo_value place log xs w)
 unfolding redo_value
 redo_value-append place log [] ys w = or_none (redo_value place log ys w)
 redo_value-append place log (e ∷ xs) ys w =
@@ -116,22 +116,22 @@ pub closed_range : (log : Log) (e : Entry) → log.hi ≤ log.lo + 1 → is_in_r
 closed_range log e closed = nothing_between log.lo log.hi e.seq closed
 
 -- an entry that does not count gives nothing
-pub given_by-out : (place : Place) (log : Log) (order : ℕ) (e : Entry) (w : ℕ) → is_in_range log e ≡ false → given_by place log order e w ≡ None
+pub given_by-out : (place : AddressMap) (log : Log) (order : ℕ) (e : Entry) (w : ℕ) → is_in_range log e ≡ false → given_by place log order e w ≡ None
 given_by-out place log order e w out = cond-false _ _ _ (and_left (is_in_range log e) (eqb e.order order) out)
 
 -- nor does one of another order
-pub given_by-other : (place : Place) (log : Log) (order : ℕ) (e : Entry) (w : ℕ) → (e.order ≡ order → ⊥) → given_by place log order e w ≡ None
+pub given_by-other : (place : AddressMap) (log : Log) (order : ℕ) (e : Entry) (w : ℕ) → (e.order ≡ order → ⊥) → given_by place log order e w ≡ None
 given_by-other place log order e w other = cond-false _ _ _ (and_right (is_in_range log e) (eqb e.order order) (ne_eqb e.order order other))
 
-pub given_by-closed : (place : Place) (log : Log) (order : ℕ) (e : Entry) (w : ℕ) → log.hi ≤ log.lo + 1 → given_by place log order e w ≡ None
+pub given_by-closed : (place : AddressMap) (log : Log) (order : ℕ) (e : Entry) (w : ℕ) → log.hi ≤ log.lo + 1 → given_by place log order e w ≡ None
 given_by-closed place log order e w closed = given_by-out place log order e w (closed_range log e closed)
 
-undo_value-closed : (place : Place) (log : Log) (es : List Entry) (w : ℕ) → log.hi ≤ log.lo + 1 → undo_value place log es w ≡ None
+undo_value-closed : (place : AddressMap) (log : Log) (es : List Entry) (w : ℕ) → log.hi ≤ log.lo + 1 → undo_value place log es w ≡ None
 unfolding undo_value
 undo_value-closed place log [] w closed = refl
 undo_value-closed place log (e ∷ es) w closed = ap₂ option_or (given_by-closed place log UNDO_ORDER e w closed) (undo_value-closed place log es w closed)
 
-redo_value-closed : (place : Place) (log : Log) (es : List Entry) (w : ℕ) → log.hi ≤ log.lo + 1 → redo_value place log es w ≡ None
+redo_value-closed : (place : AddressMap) (log : Log) (es : List Entry) (w : ℕ) → log.hi ≤ log.lo + 1 → redo_value place log es w ≡ None
 unfolding redo_value
 redo_value-closed place log [] w closed = refl
 redo_value-closed place log (e ∷ es) w closed = ap₂ option_or (redo_value-closed place log es w closed) (given_by-closed place log REDO_ORDER e w closed)
@@ -139,36 +139,36 @@ redo_value-closed place log (e ∷ es) w closed = ap₂ option_or (redo_value-cl
 -- ---- logs
 
 -- a closed log gives nothing
-pub new_value-closed : (place : Place) (log : Log) (w : ℕ) → log.hi ≤ log.lo + 1 → new_value place log w ≡ None
+pub new_value-closed : (place : AddressMap) (log : Log) (w : ℕ) → log.hi ≤ log.lo + 1 → new_value place log w ≡ None
 unfolding new_value
 new_value-closed place log w closed =
     ap₂ option_or (redo_value-closed place log (entries_or_none log.entries) w closed) (undo_value-closed place log (entries_or_none log.entries) w closed)
 
 -- nor does one whose entries do not name the word
-given_by-nowhere : (place : Place) (log : Log) (order : ℕ) (e : Entry) (w : ℕ) → value_in place e w ≡ None → given_by place log order e w ≡ None
+given_by-nowhere : (place : AddressMap) (log : Log) (order : ℕ) (e : Entry) (w : ℕ) → value_in place e w ≡ None → given_by place log order e w ≡ None
 given_by-nowhere place log order e w none = elim (is_in_range log e && eqb e.order order) as (λ b. cond b (value_in place e w) None ≡ None) [ true ↦ none | false ↦ refl ]
 
-undo_value-nowhere : (place : Place) (log : Log) (es : List Entry) (w : ℕ) → ((e : Entry) → value_in place e w ≡ None) → undo_value place log es w ≡ None
+undo_value-nowhere : (place : AddressMap) (log : Log) (es : List Entry) (w : ℕ) → ((e : Entry) → value_in place e w ≡ None) → undo_value place log es w ≡ None
 unfolding undo_value
 undo_value-nowhere place log [] w none = refl
 undo_value-nowhere place log (e ∷ es) w none = ap₂ option_or (given_by-nowhere place log UNDO_ORDER e w (none e)) (undo_value-nowhere place log es w none)
 
-redo_value-nowhere : (place : Place) (log : Log) (es : List Entry) (w : ℕ) → ((e : Entry) → value_in place e w ≡ None) → redo_value place log es w ≡ None
+redo_value-nowhere : (place : AddressMap) (log : Log) (es : List Entry) (w : ℕ) → ((e : Entry) → value_in place e w ≡ None) → redo_value place log es w ≡ None
 unfolding redo_value
 redo_value-nowhere place log [] w none = refl
 redo_value-nowhere place log (e ∷ es) w none = ap₂ option_or (redo_value-nowhere place log es w none) (given_by-nowhere place log REDO_ORDER e w (none e))
 
-pub new_value-nowhere : (place : Place) (log : Log) (w : ℕ) → ((e : Entry) → value_in place e w ≡ None) → new_value place log w ≡ None
+pub new_value-nowhere : (place : AddressMap) (log : Log) (w : ℕ) → ((e : Entry) → value_in place e w ≡ None) → new_value place log w ≡ None
 unfolding new_value
 new_value-nowhere place log w none =
     ap₂ option_or (redo_value-nowhere place log (entries_or_none log.entries) w none) (undo_value-nowhere place log (entries_or_none log.entries) w none)
 
 -- the replay of a closed one changes nothing
-pub replayed-none : (place : Place) (log : Log) (image : Image) → log.hi ≤ log.lo + 1 → replayed place log image ≡ image
+pub replayed-none : (place : AddressMap) (log : Log) (image : Image) → log.hi ≤ log.lo + 1 → replayed place log image ≡ image
 replayed-none place log image closed = overwritten-nothing (new_value place log) image (λ w. new_value-closed place log w closed)
 
 -- what the entries of a log give
-pub new_value-of : (place : Place) (log : Log) (es : List Entry) (w : ℕ) → log.entries ≡ Some es → new_value place log w ≡ given place log es w
+pub new_value-of : (place : AddressMap) (log : Log) (es : List Entry) (w : ℕ) → log.entries ≡ Some es → new_value place log w ≡ given place log es w
 unfolding new_value
 new_value-of place log es w some = ap (λ o. given place log (entries_or_none o) w) some
 

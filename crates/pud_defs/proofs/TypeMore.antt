@@ -8,7 +8,7 @@ use Rattle.pud_defs.specs.Types.{map_of, with_type}
 use Rattle.pud_defs.specs.Stored.{Stored, places_of, place_word, IsLivePlace}
 use Rattle.pud_defs.specs.declared.space.TheConstants.{SLOT_TYPE_WORD, ROOT_WORD}
 use Rattle.pud_defs.proofs.Contents.{pointee_at_within, contents_by_within}
-use Rattle.pud_defs.specs.Graph.{Graph, table_of, contents_by, all_stand, graph_of, next_serial_of, root_of}
+use Rattle.pud_defs.specs.Graph.{Graph, table_of, slot_contents, all_stand, graph_of, next_serial_of, root_of}
 use Rattle.pud_defs.specs.Holdings.{held_as, held_by, read_anew}
 use Rattle.pud_defs.proofs.TypeLists.{same_test}
 use Rattle.pud_defs.proofs.Graphs.{IsGraph, IsSameTable, IsGraph-same, graph_by-same, graph_of-each, graph_of-from}
@@ -19,7 +19,7 @@ map_of-more id map other m types none there =
     find-put nat_cmp nat_cmp_total other id map types ∙ cond-false _ _ _ (same_test other id ∙ ne_eqb other id (λ e. none-some m (sym none ∙ ap (λ k. map_of k types) (sym e) ∙ there)))
 
 -- where all fields stand for something the type is defined
-pub defined_there : (serial : ℕ → ℕ) (st : Stored) (p : ℕ) (o : Option ℕ) → all_stand serial (contents_by st p o) ≡ true → (m : ℕ) × (o ≡ Some m)
+pub defined_there : (serial : ℕ → ℕ) (st : Stored) (p : ℕ) (o : Option ℕ) → all_stand serial (slot_contents st p o) ≡ true → (m : ℕ) × (o ≡ Some m)
 defined_there serial st p None stand = cc
 defined_there serial st p (Some m) stand = (m, refl)
 
@@ -34,7 +34,7 @@ table_of-wider types wider st next wide h = record {
   contents = λ p below live.
       let t = table_of types st in
       let found = defined_there t.serial st p (map_of (t.type_id p) types) (h.sound p below live).stand in
-      ap (contents_by st p) (wide.each p found.0 below live found.1 ∙ sym found.1);
+      ap (slot_contents st p) (wide.each p found.0 below live found.1 ∙ sym found.1);
   within = λ p below live. contents_by_within st p (map_of (place_word st p SLOT_TYPE_WORD) types);
 }
 

@@ -5,7 +5,7 @@ use Rattle.pud_defs.specs.declared.layout.TheConstants.{FRAME_WORDS}
 use Rattle.pud_defs.specs.declared.space.TheConstants.{WORD_BYTES}
 use Rattle.pud_defs.specs.declared.records.PoolRec.{PoolRec}
 use Rattle.pud_defs.specs.Entries.{Entry, Log}
-use Rattle.pud_defs.specs.Replay.{Place, is_in_range, entries_or_none}
+use Rattle.pud_defs.specs.Replay.{AddressMap, is_in_range, entries_or_none}
 use Rattle.pud_defs.specs.Spaces.{Owner, owner}
 use Rattle.pud_defs.specs.Rights.{may_write}
 use Rattle.pud_defs.specs.Frames.{frame_at}
@@ -14,7 +14,7 @@ use Rattle.pud_defs.specs.Tables.{Tables}
 use Rattle.pud_defs.specs.Places.{located}
 
 -- in the log of a client an address is a global one: it names the word of the frame whose puddle's range has it
-unfoldable pub puddle_word : Tables → Place
+unfoldable pub puddle_word : Tables → AddressMap
 puddle_word t address = option_map (λ at. frame_at t.frames at.0 + at.1) (located t address)
 
 -- the pool of this record is there, and its mode lets the owner write it

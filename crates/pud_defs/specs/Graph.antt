@@ -84,15 +84,15 @@ pub record Table : Type 0 where
   pub contents : ℕ → Option (List Content)
 
 -- what the fields at a place stand for, by the map of the type
-abbrev pub contents_by : Stored → ℕ → Option ℕ → Option (List Content)
-contents_by st p None = None
-contents_by st p (Some m) = Some (map (λ f. content st.puddles m p f (place_word st p (SLOT_FIELDS_WORD + f))) (range_with_len 0 (field_count m)))
+abbrev pub slot_contents : Stored → ℕ → Option ℕ → Option (List Content)
+slot_contents st p None = None
+slot_contents st p (Some m) = Some (map (λ f. content st.puddles m p f (place_word st p (SLOT_FIELDS_WORD + f))) (range_with_len 0 (field_count m)))
 
 abbrev pub table_of : List (ℕ × ℕ) → Stored → Table
 table_of types st = record {
   serial = λ p. place_word st p SLOT_SERIAL_WORD;
   type_id = λ p. place_word st p SLOT_TYPE_WORD;
-  contents = λ p. contents_by st p (map_of (place_word st p SLOT_TYPE_WORD) types);
+  contents = λ p. slot_contents st p (map_of (place_word st p SLOT_TYPE_WORD) types);
 }
 
 -- what stands at a place, under its serial, where the place is live
@@ -100,12 +100,12 @@ abbrev pub under_serial : {A : Type 0} → (ℕ → ℕ) → (ℕ → A) → ℕ
 under_serial serial value p = cond (slot_state (serial p)).is_live (Some (serial p, value p)) None
 
 -- the live places, each under its serial
-abbrev pub placed : Table → ℕ → Option (ℕ × ℕ)
-placed t = under_serial t.serial (λ p. p)
+abbrev pub serial_and_place : Table → ℕ → Option (ℕ × ℕ)
+serial_and_place t = under_serial t.serial (λ p. p)
 
 -- the lowest of so many places that has this serial
-abbrev pub place_of : ℕ → Table → ℕ → Option ℕ
-place_of s t n = first_from nat_cmp s (placed t) 0 n
+abbrev pub place_of_serial : ℕ → Table → ℕ → Option ℕ
+place_of_serial s t n = first_from nat_cmp s (serial_and_place t) 0 n
 
 -- ---- objects and graphs
 
@@ -171,7 +171,7 @@ is_next_serial v = is_number v
 
 -- the slots at so many places are a graph, with this next serial and this root
 unfoldable pub is_graph : (next : ℕ) → Content → Table → ℕ → Bool
-is_graph next top t n = is_next_serial next && stands t.serial top && are_distinct nat_cmp (placed t) 0 n && all_below n (is_sound_place next t)
+is_graph next top t n = is_next_serial next && stands t.serial top && are_distinct nat_cmp (serial_and_place t) 0 n && all_below n (is_sound_place next t)
 
 -- the header of the frame of an ordinal, of which these are the words, is that of its puddle
 abbrev pub has_header : (ordinal : ℕ) → (ℕ → ℕ) → Option Puddle → Bool

@@ -15,9 +15,9 @@ abbrev pub word_in : (base address : ℕ) → Option ℕ
 word_in base address = cond (nat_le base address && nat_lt address (base + RANGE_BYTES)) (Some ((address - base) / WORD_BYTES)) None
 
 -- the frame of a record and the word of it that an address lies in, where the range of the record's puddle has the address
-abbrev pub place_by : (address frame : ℕ) → Option Member → Option (ℕ × ℕ)
-place_by address frame None = None
-place_by address frame (Some m) = option_map (λ word. (frame, word)) (word_in m.puddle.base address)
+abbrev pub place_in_puddle : (address frame : ℕ) → Option Member → Option (ℕ × ℕ)
+place_in_puddle address frame None = None
+place_in_puddle address frame (Some m) = option_map (λ word. (frame, word)) (word_in m.puddle.base address)
 
 -- what the first of so many places gives that gives something, from a place on
 unfoldable pub first_some : {A : Type 0} → (ℕ → Option A) → ℕ → ℕ → Option A
@@ -26,7 +26,7 @@ first_some at from (suc count) = let later = first_some at (from + 1) count in o
 
 -- The frame and the word in it at which an address lies. In sound tables no two ranges have an address; else the lowest frame counts.
 abbrev pub located : Tables → ℕ → Option (ℕ × ℕ)
-located t address = first_some (λ frame. place_by address frame (t.puddles frame)) 0 t.frames
+located t address = first_some (λ frame. place_in_puddle address frame (t.puddles frame)) 0 t.frames
 
 -- ---- free bases
 

@@ -7,11 +7,11 @@ use Rattle.pud_defs.specs.Image.{Image}
 use Rattle.pud_defs.specs.Entries.{Entry, Log, log_of}
 
 -- which device word an address names, where it names one
-abbrev pub Place : Type 0
-Place = ℕ → Option ℕ
+abbrev pub AddressMap : Type 0
+AddressMap = ℕ → Option ℕ
 
 -- in the daemon log an address is the number of a device word
-abbrev pub device_word : Place
+abbrev pub device_word : AddressMap
 device_word address = Some address
 
 -- the entry counts: its sequence number lies within the log's range
@@ -28,25 +28,25 @@ value_from None vals w = None
 value_from (Some at) vals w = value_at at vals w
 
 -- the value that an entry gives to a word, where it names it
-abbrev pub value_in : Place → Entry → ℕ → Option ℕ
+abbrev pub value_in : AddressMap → Entry → ℕ → Option ℕ
 value_in place e w = value_from (place e.address) e.vals w
 
 -- the same where the entry counts and has this order
-abbrev pub given_by : Place → Log → ℕ → Entry → ℕ → Option ℕ
+abbrev pub given_by : AddressMap → Log → ℕ → Entry → ℕ → Option ℕ
 given_by place log order e w = cond (is_in_range log e && e.order == order) (value_in place e w) None
 
 -- what the undo entries give: the first that names the word decides
-unfoldable pub undo_value : Place → Log → List Entry → ℕ → Option ℕ
+unfoldable pub undo_value : AddressMap → Log → List Entry → ℕ → Option ℕ
 undo_value place log [] w = None
 undo_value place log (e ∷ es) w = option_or (given_by place log UNDO_ORDER e w) (undo_value place log es w)
 
 -- what the redo entries give: the last that names the word decides
-unfoldable pub redo_value : Place → Log → List Entry → ℕ → Option ℕ
+unfoldable pub redo_value : AddressMap → Log → List Entry → ℕ → Option ℕ
 redo_value place log [] w = None
 redo_value place log (e ∷ es) w = option_or (redo_value place log es w) (given_by place log REDO_ORDER e w)
 
 -- what entries give to a word: a redo entry's value, else an undo entry's
-abbrev pub given : Place → Log → List Entry → ℕ → Option ℕ
+abbrev pub given : AddressMap → Log → List Entry → ℕ → Option ℕ
 given place log es w = option_or (redo_value place log es w) (undo_value place log es w)
 
 -- a log that is not well formed has no entry to apply
@@ -55,7 +55,7 @@ entries_or_none None = []
 entries_or_none (Some es) = es
 
 -- the value that a log gives to a word, where it names it
-unfoldable pub new_value : Place → Log → ℕ → Option ℕ
+unfoldable pub new_value : AddressMap → Log → ℕ → Option ℕ
 new_value place log w = given place log (entries_or_none log.entries) w
 
 -- words written, and then others: where both are, the later counts
@@ -67,7 +67,7 @@ abbrev pub overwritten : (ℕ → Option ℕ) → Image → Image
 overwritten write image w = unwrap_or (write w) (image w)
 
 -- the image with a log replayed
-abbrev pub replayed : Place → Log → Image → Image
+abbrev pub replayed : AddressMap → Log → Image → Image
 replayed place log image = overwritten (new_value place log) image
 
 -- the word is one of the log's whose gate is word `at`

@@ -4,31 +4,31 @@
 ghost use Rattle.std.specs.Prelude.{◌≡◌, ◌⊎◌, ◌+◌, ◌≤◌, ℕ, List, ◌++◌, Option, option_map};
 ghost use Rattle.pud_defs.specs.Image.{Image};
 ghost use Rattle.pud_defs.specs.Entries.{Entry, Log, entries_in};
-ghost use Rattle.pud_defs.specs.Replay.{Place, new_value, replayed};
+ghost use Rattle.pud_defs.specs.Replay.{AddressMap, new_value, replayed};
 ghost use Rattle.pud_defs.specs.Graph.{Graph};
 ghost use Rattle.pud_defs.specs.Texts.{in_one_line};
 ghost use Rattle.pud_defs.specs.DumpText.{dump_text};
 
 /// A word that no entry in range names keeps its value.
 pub fn word_not_named_stays()
-    ensures { (place : Place) (log : Log) (image : Image) (w : ℕ) → new_value place log w ≡ Option.None → replayed place log image w ≡ image w }
+    ensures { (place : AddressMap) (log : Log) (image : Image) (w : ℕ) → new_value place log w ≡ Option.None → replayed place log image w ≡ image w }
 {}
 
 /// A log in whose range no entry can be changes nothing.
 pub fn log_that_counts_none_replays_nothing()
-    ensures { (place : Place) (log : Log) (image : Image) → log.hi ≤ log.lo + 1 → replayed place log image ≡ image }
+    ensures { (place : AddressMap) (log : Log) (image : Image) → log.hi ≤ log.lo + 1 → replayed place log image ≡ image }
 {}
 
 /// A replay that was cut off and is done again gives the same: images that differ only in words that the log names replay
 /// to the same.
 pub fn replay_done_again_is_the_same()
-    ensures { (place : Place) (log : Log) (i : Image) (j : Image) → ((w : ℕ) → new_value place log w ≡ Option.None → j w ≡ i w)
+    ensures { (place : AddressMap) (log : Log) (i : Image) (j : Image) → ((w : ℕ) → new_value place log w ≡ Option.None → j w ≡ i w)
         → replayed place log j ≡ replayed place log i }
 {}
 
 /// Two logs that name no word in common replay in either order.
 pub fn logs_apart_replay_in_either_order()
-    ensures { (place : Place) (one : Log) (other : Log) (image : Image) → ((w : ℕ) → (new_value place one w ≡ Option.None) ⊎ (new_value place other w ≡ Option.None))
+    ensures { (place : AddressMap) (one : Log) (other : Log) (image : Image) → ((w : ℕ) → (new_value place one w ≡ Option.None) ⊎ (new_value place other w ≡ Option.None))
         → replayed place other (replayed place one image) ≡ replayed place one (replayed place other image) }
 {}
 

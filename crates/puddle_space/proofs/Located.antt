@@ -4,7 +4,7 @@ use Rattle.std.specs.Option.{option_or}
 use Rattle.pud_defs.specs.Image.{Image}
 use Rattle.pud_defs.specs.Puddles.{Member, puddle_at}
 use Rattle.pud_defs.specs.Tables.{tables_of}
-use Rattle.pud_defs.specs.Places.{first_some, word_in, place_by, located}
+use Rattle.pud_defs.specs.Places.{first_some, word_in, place_in_puddle, located}
 use Rattle.puddle_space.specs.Nearby.{base_of_member}
 use Rattle.pud_defs.proofs.TablesOf.{puddles_below, frames_of_tables}
 
@@ -33,28 +33,28 @@ first_some-same f g i (suc count) same =
     ap₂ option_or (same i (omega arith) (omega arith)) (first_some-same f g (i + 1) count (λ k low high. same k (omega arith) (omega arith)))
 
 -- where an address lies, by the records of the image
-pub located_by_records : (F : ℕ) (image : Image) (address : ℕ) → located (tables_of F image) address ≡ first_some (λ frame. place_by address frame (puddle_at image frame)) 0 F
+pub located_by_records : (F : ℕ) (image : Image) (address : ℕ) → located (tables_of F image) address ≡ first_some (λ frame. place_in_puddle address frame (puddle_at image frame)) 0 F
 located_by_records F image address =
-    ap (first_some (λ frame. place_by address frame ((tables_of F image).puddles frame)) 0) (frames_of_tables F image)
-    ∙ first_some-same (λ frame. place_by address frame ((tables_of F image).puddles frame)) (λ frame. place_by address frame (puddle_at image frame)) 0 F
-    (λ k low high. ap (place_by address k) (puddles_below F image k (omega arith)))
+    ap (first_some (λ frame. place_in_puddle address frame ((tables_of F image).puddles frame)) 0) (frames_of_tables F image)
+    ∙ first_some-same (λ frame. place_in_puddle address frame ((tables_of F image).puddles frame)) (λ frame. place_in_puddle address frame (puddle_at image frame)) 0 F
+    (λ k low high. ap (place_in_puddle address k) (puddles_below F image k (omega arith)))
 
 -- ---- the place of an address in one frame, by the base of its puddle
 
 -- where the frame has no puddle
-pub unplaced_by_base : (address frame : ℕ) (m : Option Member) → None ≡ option_map base_of_member m → place_by address frame m ≡ None
+pub unplaced_by_base : (address frame : ℕ) (m : Option Member) → None ≡ option_map base_of_member m → place_in_puddle address frame m ≡ None
 unplaced_by_base address frame None none = refl
 unplaced_by_base address frame (Some m) none = absurd (cc)
 
 -- where its range does not have the address
-pub nowhere_by_base : (address frame base : ℕ) (m : Option Member) → Some base ≡ option_map base_of_member m → word_in base address ≡ None → place_by address frame m ≡ None
+pub nowhere_by_base : (address frame base : ℕ) (m : Option Member) → Some base ≡ option_map base_of_member m → word_in base address ≡ None → place_in_puddle address frame m ≡ None
 nowhere_by_base address frame base None is none = absurd (cc)
 nowhere_by_base address frame base (Some m) is none =
     let same : base ≡ m.puddle.base = cc in
     ap (λ (b : ℕ). option_map (λ word. (frame, word)) (word_in b address)) (sym same) ∙ ap (option_map (λ word. (frame, word))) none
 
 -- where it has it
-pub placed_by_base : (address frame base word : ℕ) (m : Option Member) → Some base ≡ option_map base_of_member m → word_in base address ≡ Some word → place_by address frame m ≡ Some (frame, word)
+pub placed_by_base : (address frame base word : ℕ) (m : Option Member) → Some base ≡ option_map base_of_member m → word_in base address ≡ Some word → place_in_puddle address frame m ≡ Some (frame, word)
 placed_by_base address frame base word None is there = absurd (cc)
 placed_by_base address frame base word (Some m) is there =
     let same : base ≡ m.puddle.base = cc in

@@ -6,7 +6,7 @@ use Rattle.pud_defs.specs.declared.records.Puddle.{Puddle}
 use Rattle.pud_defs.specs.declared.space.TheConstants.{SLOT_SERIAL_WORD}
 use Rattle.pud_defs.specs.Geometry.{ordinal_of}
 use Rattle.pud_defs.specs.Frames.{IsFreshFrame}
-use Rattle.pud_defs.specs.Graph.{under_serial, table_of, place_of, object_at, Object, Graph, graph_of}
+use Rattle.pud_defs.specs.Graph.{under_serial, table_of, place_of_serial, object_at, Object, Graph, graph_of}
 use Rattle.pud_defs.specs.Holdings.{held_as, graph_held}
 use Rattle.pud_defs.specs.Image.{Image}
 use Rattle.pud_defs.specs.Keyed.{under}
@@ -47,7 +47,7 @@ module _ (types : List (ℕ × ℕ)) (F : ℕ) (i : Image) (at : List (ℕ × Pu
   under_front : (s q : ℕ) → q < places_in at → under nat_cmp s (under_serial far (λ (p : ℕ). p) q) ≡ under nat_cmp s (under_serial near (λ (p : ℕ). p) q)
   under_front s q below = ap (λ (k : ℕ). under nat_cmp s (cond (slot_state k).is_live (Some (k, q)) None)) (serial_front q below)
 
-  place_found : (s p : ℕ) → place_of s (table_of types (stored_in F at i)) (places_of (stored_in F at i)) ≡ Some p → place_in_pool F wide i s ≡ place_in_pool F at i s
+  place_found : (s p : ℕ) → place_of_serial s (table_of types (stored_in F at i)) (places_of (stored_in F at i)) ≡ Some p → place_in_pool F wide i s ≡ place_in_pool F at i s
   place_found s p found =
       let first = first_from_some nat_cmp s (under_serial near (λ (p : ℕ). p)) 0 (places_of (stored_in F at i)) p found in
       let high = first.1.high in
@@ -58,12 +58,12 @@ module _ (types : List (ℕ × ℕ)) (F : ℕ) (i : Image) (at : List (ℕ × Pu
       (λ q low high. under_front s q (omega (arith, high, below)) ∙ first.1.before q low high)
       ∙ sym (first_from_at nat_cmp s (under_serial near (λ (p : ℕ). p)) 0 (places_in at) first.0 p (omega arith) (omega (arith, below)) first.1.here first.1.before)
 
-  place_by : (s : ℕ) (o : Object) (place : Option ℕ) → place_of s (table_of types (stored_in F at i)) (places_of (stored_in F at i)) ≡ place
+  place_by : (s : ℕ) (o : Object) (place : Option ℕ) → place_of_serial s (table_of types (stored_in F at i)) (places_of (stored_in F at i)) ≡ place
       → option_map (object_at (table_of types (stored_in F at i))) place ≡ Some o → place_in_pool F wide i s ≡ place_in_pool F at i s
   place_by s o None none there = absurd (none-some o there)
   place_by s o (Some p) found there = place_found s p found
 
   pub places_longer : KeepsPlaces F at wide i i g
   places_longer = record {
-    each = λ s o live. place_by s o (place_of s (table_of types (stored_in F at i)) (places_of (stored_in F at i))) refl (sym (object_in-place types (stored_in F at i) g s is) ∙ live);
+    each = λ s o live. place_by s o (place_of_serial s (table_of types (stored_in F at i)) (places_of (stored_in F at i))) refl (sym (object_in-place types (stored_in F at i) g s is) ∙ live);
   }

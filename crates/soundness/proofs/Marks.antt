@@ -19,7 +19,7 @@ use Rattle.pud_defs.proofs.DistinctKeys.{some_or, some_under, none_by_some, IsTo
 use Rattle.soundness.specs.declared.distinct.Key.{Key}
 use Rattle.soundness.specs.declared.distinct.Key.TheVariants.{Base, OldBase}
 use Rattle.soundness.specs.declared.distinct.TheConstants.{OLD_BASES, PLACES}
-use Rattle.soundness.specs.Distinct.{joined, word_of, number_by, number_of, place_of, by_number, has_distinct_numbers, is_apart_from, with_mark, MarksMore, IsMarked, AreMarked, mark_of, counts_up, is_counted_by}
+use Rattle.soundness.specs.Distinct.{joined, word_of, number_by, number_of, mark_index, by_number, has_distinct_numbers, is_apart_from, with_mark, MarksMore, IsMarked, AreMarked, mark_of, counts_up, is_counted_by}
 use Rattle.soundness.proofs.Numbers.{told_by_places, told_by_bases, place_below, numbers_from, all_numbers, decided_by_list}
 
 -- ---- one record
@@ -44,9 +44,9 @@ number_used OldBase F image frame member base below is used there =
     ap₂ (λ (w v : ℕ). Some (joined OLD_BASES (member_pool w) v)) is there ∙ sym (ap (option_map (number_of OldBase)) (used_record F image frame below (λ e. used (is ∙ e))))
 
 pub place_used : (F : ℕ) (image : Image) (frame member : ℕ) → frame < F → member ≡ image (puddle_record_at frame) → (member ≡ 0 → ⊥)
-    → Some (joined MAX_PUDDLES (member_pool member) (member_ordinal member)) ≡ option_map place_of ((tables_of F image).puddles frame)
+    → Some (joined MAX_PUDDLES (member_pool member) (member_ordinal member)) ≡ option_map mark_index ((tables_of F image).puddles frame)
 place_used F image frame member below is used =
-    ap (λ (w : ℕ). Some (joined MAX_PUDDLES (member_pool w) (member_ordinal w))) is ∙ sym (ap (option_map place_of) (used_record F image frame below (λ e. used (is ∙ e))))
+    ap (λ (w : ℕ). Some (joined MAX_PUDDLES (member_pool w) (member_ordinal w))) is ∙ sym (ap (option_map mark_index) (used_record F image frame below (λ e. used (is ∙ e))))
 
 pub free_pool : (F : ℕ) (image : Image) (slot : ℕ) → slot < POOL_RECORDS → image (pool_record_at slot) ≡ 0 → is_none ((tables_of F image).pools slot) ≡ true
 free_pool F image slot below free = ap is_none (pools_below F image slot below ∙ pool_at-free image slot free)
@@ -67,55 +67,55 @@ pub unmarked : (t : Tables) (from n : ℕ) → IsMarked t from 0 (replicate n fa
 unfolding first_from
 unmarked t from n = record { each = λ k below. blank k n }
 
-pub none_apart : (t : Tables) (from : ℕ) → are_distinct nat_cmp (by_number place_of t) from 0 ≡ true
+pub none_apart : (t : Tables) (from : ℕ) → are_distinct nat_cmp (by_number mark_index t) from 0 ≡ true
 unfolding are_distinct
 none_apart t from = refl
 
 -- a place is marked where one of the records has it
 apart_by_marks : (t : Tables) (i from count : ℕ) (marks : List Bool) (o : Option Member) → IsMarked t from count marks
-    → is_apart nat_cmp (option_map (λ m. (place_of m, i)) o) (by_number place_of t) from count ≡ is_apart_from marks (option_map place_of o)
+    → is_apart nat_cmp (option_map (λ m. (mark_index m, i)) o) (by_number mark_index t) from count ≡ is_apart_from marks (option_map mark_index o)
 apart_by_marks t i from count marks None marked = refl
 apart_by_marks t i from count marks (Some m) marked =
-    none_by_some (first_from nat_cmp (place_of m) (by_number place_of t) from count) ∙ ap not (sym (marked.each (place_of m) (place_below m)))
+    none_by_some (first_from nat_cmp (mark_index m) (by_number mark_index t) from count) ∙ ap not (sym (marked.each (mark_index m) (place_below m)))
 
 mark_here : (t : Tables) (i from count : ℕ) (marks : List Bool) (o : Option Member) → length marks ≡ PLACES → IsMarked t from count marks
-    → (n : ℕ) → n < PLACES → get_or (with_mark marks (option_map place_of o)) n false ≡ (is_some (under nat_cmp n (option_map (λ m. (place_of m, i)) o)) || is_some (first_from nat_cmp n (by_number place_of t) from count))
+    → (n : ℕ) → n < PLACES → get_or (with_mark marks (option_map mark_index o)) n false ≡ (is_some (under nat_cmp n (option_map (λ m. (mark_index m, i)) o)) || is_some (first_from nat_cmp n (by_number mark_index t) from count))
 mark_here t i from count marks None size marked n below = marked.each n below
-mark_here t i from count marks (Some m) size marked n below = elim (cases_eq n (place_of m)) [
+mark_here t i from count marks (Some m) size marked n below = elim (cases_eq n (mark_index m)) [
   | inl here ↦
-      ap (λ (k : ℕ). get_or (slice_set marks (place_of m) true) k false) here
-      ∙ get_or-set_same marks (place_of m) true false (omega (arith, place_below m))
-      ∙ sym (or_left (is_some (under nat_cmp n (Some (place_of m, i)))) (is_some (first_from nat_cmp n (by_number place_of t) from count)) (some_under n (place_of m) i ∙ eq-eqb n (place_of m) here))
+      ap (λ (k : ℕ). get_or (slice_set marks (mark_index m) true) k false) here
+      ∙ get_or-set_same marks (mark_index m) true false (omega (arith, place_below m))
+      ∙ sym (or_left (is_some (under nat_cmp n (Some (mark_index m, i)))) (is_some (first_from nat_cmp n (by_number mark_index t) from count)) (some_under n (mark_index m) i ∙ eq-eqb n (mark_index m) here))
   | inr other ↦
-      get_or-set_other marks (place_of m) n true false other
+      get_or-set_other marks (mark_index m) n true false other
       ∙ marked.each n below
-      ∙ ap (λ (b : Bool). b || is_some (first_from nat_cmp n (by_number place_of t) from count)) (sym (some_under n (place_of m) i ∙ ne_eqb n (place_of m) other))
+      ∙ ap (λ (b : Bool). b || is_some (first_from nat_cmp n (by_number mark_index t) from count)) (sym (some_under n (mark_index m) i ∙ ne_eqb n (mark_index m) other))
 ]
 
 -- one record further in front, whose place was not marked
 pub marked_more : (t : Tables) (i j count : ℕ) (before after : List Bool) (answer : Bool) → j ≡ i + 1 → length before ≡ PLACES → IsMarked t j count before
-    → MarksMore before (option_map place_of (t.puddles i)) answer after → answer ≡ true → IsMarked t i (count + 1) after
+    → MarksMore before (option_map mark_index (t.puddles i)) answer after → answer ≡ true → IsMarked t i (count + 1) after
 unfolding first_from
 marked_more t i j count before after answer next size marked more apart = record {
   each = λ n below.
       ap (λ (marks : List Bool). get_or marks n false) (more.marks apart)
       ∙ mark_here t i j count before (t.puddles i) size marked n below
-      ∙ ap (λ (k : ℕ). is_some (under nat_cmp n (by_number place_of t i)) || is_some (first_from nat_cmp n (by_number place_of t) k count)) next
-      ∙ sym (some_or (under nat_cmp n (by_number place_of t i)) (first_from nat_cmp n (by_number place_of t) (i + 1) count))
-      ∙ ap (λ (k : ℕ). is_some (first_from nat_cmp n (by_number place_of t) i k)) (sym (add-one count));
+      ∙ ap (λ (k : ℕ). is_some (under nat_cmp n (by_number mark_index t i)) || is_some (first_from nat_cmp n (by_number mark_index t) k count)) next
+      ∙ sym (some_or (under nat_cmp n (by_number mark_index t i)) (first_from nat_cmp n (by_number mark_index t) (i + 1) count))
+      ∙ ap (λ (k : ℕ). is_some (first_from nat_cmp n (by_number mark_index t) i k)) (sym (add-one count));
 }
 
-apart_more : (t : Tables) (i j count : ℕ) (before after : List Bool) (answer : Bool) → j ≡ i + 1 → IsMarked t j count before → MarksMore before (option_map place_of (t.puddles i)) answer after
-    → are_distinct nat_cmp (by_number place_of t) i (count + 1) ≡ (answer && are_distinct nat_cmp (by_number place_of t) j count)
+apart_more : (t : Tables) (i j count : ℕ) (before after : List Bool) (answer : Bool) → j ≡ i + 1 → IsMarked t j count before → MarksMore before (option_map mark_index (t.puddles i)) answer after
+    → are_distinct nat_cmp (by_number mark_index t) i (count + 1) ≡ (answer && are_distinct nat_cmp (by_number mark_index t) j count)
 unfolding are_distinct
 apart_more t i j count before after answer next marked more =
-    ap (are_distinct nat_cmp (by_number place_of t) i) (add-one count)
-    ∙ ap (λ (k : ℕ). is_apart nat_cmp (by_number place_of t i) (by_number place_of t) k count && are_distinct nat_cmp (by_number place_of t) k count) (sym next)
-    ∙ ap (λ (b : Bool). b && are_distinct nat_cmp (by_number place_of t) j count) (apart_by_marks t i j count before (t.puddles i) marked ∙ sym more.apart)
+    ap (are_distinct nat_cmp (by_number mark_index t) i) (add-one count)
+    ∙ ap (λ (k : ℕ). is_apart nat_cmp (by_number mark_index t i) (by_number mark_index t) k count && are_distinct nat_cmp (by_number mark_index t) k count) (sym next)
+    ∙ ap (λ (b : Bool). b && are_distinct nat_cmp (by_number mark_index t) j count) (apart_by_marks t i j count before (t.puddles i) marked ∙ sym more.apart)
 
-pub distinct_more : (t : Tables) (i j count : ℕ) (before after : List Bool) (answer : Bool) → j ≡ i + 1 → IsMarked t j count before → MarksMore before (option_map place_of (t.puddles i)) answer after
-    → answer ≡ true → are_distinct nat_cmp (by_number place_of t) j count ≡ true → are_distinct nat_cmp (by_number place_of t) i (count + 1) ≡ true
-distinct_more t i j count before after answer next marked more apart rest = apart_more t i j count before after answer next marked more ∙ and_from answer (are_distinct nat_cmp (by_number place_of t) j count) apart rest
+pub distinct_more : (t : Tables) (i j count : ℕ) (before after : List Bool) (answer : Bool) → j ≡ i + 1 → IsMarked t j count before → MarksMore before (option_map mark_index (t.puddles i)) answer after
+    → answer ≡ true → are_distinct nat_cmp (by_number mark_index t) j count ≡ true → are_distinct nat_cmp (by_number mark_index t) i (count + 1) ≡ true
+distinct_more t i j count before after answer next marked more apart rest = apart_more t i j count before after answer next marked more ∙ and_from answer (are_distinct nat_cmp (by_number mark_index t) j count) apart rest
 
 -- records that are not distinct are not with more in front
 not_with_more : (at : ℕ → Option (ℕ × ℕ)) (more from count : ℕ) → are_distinct nat_cmp at (from + more) count ≡ false → are_distinct nat_cmp at from (more + count) ≡ false
@@ -128,20 +128,20 @@ not_with_more at (suc more) from count h =
     ∙ and_right (is_apart nat_cmp (at from) at (from + 1) (more + count)) (are_distinct nat_cmp at (from + 1) (more + count)) (not_with_more at more (from + 1) count (ap (λ (k : ℕ). are_distinct nat_cmp at k count) a ∙ h))
 
 pub not_distinct : (t : Tables) (end done : ℕ) (before after : List Bool) (answer : Bool) → done < end → IsMarked t (end - done) done before
-    → MarksMore before (option_map place_of (t.puddles (end - 1 - done))) answer after → answer ≡ false → are_distinct nat_cmp (by_number place_of t) 0 end ≡ false
+    → MarksMore before (option_map mark_index (t.puddles (end - 1 - done))) answer after → answer ≡ false → are_distinct nat_cmp (by_number mark_index t) 0 end ≡ false
 not_distinct t end done before after answer below marked more again =
     let i = end - 1 - done in
     let next : end - done ≡ i + 1 = omega arith in
     let all : i + (done + 1) ≡ end = omega arith in
     let from : 0 + i ≡ i = omega arith in
-    let later = apart_more t i (end - done) done before after answer next marked more ∙ and_left answer (are_distinct nat_cmp (by_number place_of t) (end - done) done) again in
-    ap (are_distinct nat_cmp (by_number place_of t) 0) (sym all)
-    ∙ not_with_more (by_number place_of t) i 0 (done + 1) (ap (λ (k : ℕ). are_distinct nat_cmp (by_number place_of t) k (done + 1)) from ∙ later)
+    let later = apart_more t i (end - done) done before after answer next marked more ∙ and_left answer (are_distinct nat_cmp (by_number mark_index t) (end - done) done) again in
+    ap (are_distinct nat_cmp (by_number mark_index t) 0) (sym all)
+    ∙ not_with_more (by_number mark_index t) i 0 (done + 1) (ap (λ (k : ℕ). are_distinct nat_cmp (by_number mark_index t) k (done + 1)) from ∙ later)
 
 -- ---- the same at a loop's numbers
 
 pub marked_step : (t : Tables) (end done : ℕ) (before after : List Bool) (answer : Bool) → done < end → length before ≡ PLACES → IsMarked t (end - done) done before
-    → MarksMore before (option_map place_of (t.puddles (end - 1 - done))) answer after → answer ≡ true → IsMarked t (end - (done + 1)) (done + 1) after
+    → MarksMore before (option_map mark_index (t.puddles (end - 1 - done))) answer after → answer ≡ true → IsMarked t (end - (done + 1)) (done + 1) after
 marked_step t end done before after answer below size marked more apart =
     let i = end - 1 - done in
     let next : end - done ≡ i + 1 = omega arith in
@@ -149,25 +149,25 @@ marked_step t end done before after answer below size marked more apart =
     subst (λ (k : ℕ). IsMarked t k (done + 1) after) same (marked_more t i (end - done) done before after answer next size marked more apart)
 
 pub distinct_step : (t : Tables) (end done : ℕ) (before after : List Bool) (answer : Bool) → done < end → IsMarked t (end - done) done before
-    → MarksMore before (option_map place_of (t.puddles (end - 1 - done))) answer after → answer ≡ true → are_distinct nat_cmp (by_number place_of t) (end - done) done ≡ true
-    → are_distinct nat_cmp (by_number place_of t) (end - (done + 1)) (done + 1) ≡ true
+    → MarksMore before (option_map mark_index (t.puddles (end - 1 - done))) answer after → answer ≡ true → are_distinct nat_cmp (by_number mark_index t) (end - done) done ≡ true
+    → are_distinct nat_cmp (by_number mark_index t) (end - (done + 1)) (done + 1) ≡ true
 distinct_step t end done before after answer below marked more apart rest =
     let i = end - 1 - done in
     let next : end - done ≡ i + 1 = omega arith in
     let same : end - (done + 1) ≡ i = omega arith in
-    ap (λ (k : ℕ). are_distinct nat_cmp (by_number place_of t) k (done + 1)) same ∙ distinct_more t i (end - done) done before after answer next marked more apart rest
+    ap (λ (k : ℕ). are_distinct nat_cmp (by_number mark_index t) k (done + 1)) same ∙ distinct_more t i (end - done) done before after answer next marked more apart rest
 
-pub are_marked : (F : ℕ) (image : Image) (done : ℕ) (marks : List Bool) → F ≤ done → done ≤ F → are_distinct nat_cmp (by_number place_of (tables_of F image)) (F - done) done ≡ true
+pub are_marked : (F : ℕ) (image : Image) (done : ℕ) (marks : List Bool) → F ≤ done → done ≤ F → are_distinct nat_cmp (by_number mark_index (tables_of F image)) (F - done) done ≡ true
     → IsMarked (tables_of F image) (F - done) done marks → AreMarked (tables_of F image) (Some marks)
 unfolding tables_of
 are_marked F image done marks low high apart marked =
     let from : F - done ≡ 0 = omega arith in
     let count : done ≡ F = omega arith in (
-      sym (ap₂ (are_distinct nat_cmp (by_number place_of (tables_of F image))) from count) ∙ apart,
+      sym (ap₂ (are_distinct nat_cmp (by_number mark_index (tables_of F image))) from count) ∙ apart,
       subst (λ (n : ℕ). IsMarked (tables_of F image) 0 n marks) count (subst (λ (k : ℕ). IsMarked (tables_of F image) k done marks) from marked),
     )
 
-pub not_marked : (F : ℕ) (image : Image) → are_distinct nat_cmp (by_number place_of (tables_of F image)) 0 F ≡ false → AreMarked (tables_of F image) None
+pub not_marked : (F : ℕ) (image : Image) → are_distinct nat_cmp (by_number mark_index (tables_of F image)) 0 F ≡ false → AreMarked (tables_of F image) None
 unfolding tables_of
 not_marked F image same = same
 
@@ -217,7 +217,7 @@ module _ (F : ℕ) (image : Image) (next : ℕ) (legal : has_legal_puddles next 
             told_by_bases m.pool other.pool m.puddle.old_base other.puddle.old_base (omega arith) (omega arith) own its;
       }
 
-  ordinal_told : (j : ℕ) (m : Member) → (tables_of F image).puddles j ≡ Some m → IsTold {X = ℕ × Puddle} (tables_of F image).puddles (λ m. m.ordinal) place_of (λ j m. (j, m.puddle)) m
+  ordinal_told : (j : ℕ) (m : Member) → (tables_of F image).puddles j ≡ Some m → IsTold {X = ℕ × Puddle} (tables_of F image).puddles (λ m. m.ordinal) mark_index (λ j m. (j, m.puddle)) m
   ordinal_told j m is =
       let s = small j m is in
       let low = s.low in
@@ -236,8 +236,8 @@ module _ (F : ℕ) (image : Image) (next : ℕ) (legal : has_legal_puddles next 
   pub old_bases_by_numbers : has_distinct_numbers (number_of OldBase) (tables_of F image) ≡ has_distinct_old_bases (tables_of F image)
   old_bases_by_numbers = sym (distinct_old_bases (tables_of F image) (number_of OldBase) old_base_told)
 
-  pub ordinals_by_places : has_distinct_numbers place_of (tables_of F image) ≡ has_distinct_ordinals (tables_of F image)
-  ordinals_by_places = sym (distinct_ordinals (tables_of F image) place_of ordinal_told)
+  pub ordinals_by_places : has_distinct_numbers mark_index (tables_of F image) ≡ has_distinct_ordinals (tables_of F image)
+  ordinals_by_places = sym (distinct_ordinals (tables_of F image) mark_index ordinal_told)
 
   -- the marks of a pool are those of its ordinals
   marks_of_pool : (marks : List Bool) (slot : ℕ) → slot < POOL_RECORDS → IsMarked (tables_of F image) 0 (tables_of F image).frames marks
@@ -247,8 +247,8 @@ module _ (F : ℕ) (image : Image) (next : ℕ) (legal : has_legal_puddles next 
         let p = (slot + 1) * MAX_PUDDLES + k in
         let place : joined 16 (slot + 1) k ≡ p = omega arith in
         let inside : p < PLACES = omega arith in
-        found_ordinal (tables_of F image) place_of slot k p
-        (record { same = λ j m is. let s = small j m is in let most = s.high in let its = s.ordinal in told_by_places (slot + 1) m.pool k m.ordinal (omega arith) (omega arith) low its ∙ ap (λ (n : ℕ). eqb n (place_of m)) place })
+        found_ordinal (tables_of F image) mark_index slot k p
+        (record { same = λ j m is. let s = small j m is in let most = s.high in let its = s.ordinal in told_by_places (slot + 1) m.pool k m.ordinal (omega arith) (omega arith) low its ∙ ap (λ (n : ℕ). eqb n (mark_index m)) place })
         ∙ sym (marked.each p inside);
     none = λ k high. first_from-nowhere k (members (tables_of F image) slot) 0 (tables_of F image).frames (λ j. not_member k high j ((tables_of F image).puddles j) refl);
   } where

@@ -14,7 +14,7 @@ use Rattle.pud_defs.specs.Keyed.{under, first_from, is_apart, are_distinct}
 use Rattle.pud_defs.specs.Puddles.{Member}
 use Rattle.pud_defs.proofs.DistinctKeys.{same_tests, none_by_some, some_or, some_under, eqb_turned}
 use Rattle.soundness.specs.declared.distinct.TheConstants.{POOL_NUMBERS, OLD_BASES, PLACES}
-use Rattle.soundness.specs.Distinct.{joined, place_of, with_number}
+use Rattle.soundness.specs.Distinct.{joined, mark_index, with_number}
 
 -- ---- two numbers in one
 
@@ -39,7 +39,7 @@ told_by_bases a b x y pool_a pool_b low_a low_b = same_tests (eqb b a && eqb x y
     let e : a * OLD_BASES + x ≡ b * OLD_BASES + y = joined_same OLD_BASES a b x y pool_a pool_b low_a low_b (eqb-true (joined OLD_BASES a x) (joined OLD_BASES b y) h) in
     and_from (eqb b a) (eqb x y) (eq-eqb b a (omega arith)) (eq-eqb x y (omega arith)))
 
-pub place_below : (m : Member) → place_of m < PLACES
+pub place_below : (m : Member) → mark_index m < PLACES
 place_below m = omega arith
 
 -- ---- the list of the numbers

@@ -31,8 +31,8 @@ number_of Base m = number_by Base m.pool m.puddle.base
 number_of OldBase m = number_by OldBase m.pool m.puddle.old_base
 
 -- the number of a record's pool and ordinal
-abbrev pub place_of : Member → ℕ
-place_of m = joined MAX_PUDDLES m.pool m.ordinal
+abbrev pub mark_index : Member → ℕ
+mark_index m = joined MAX_PUDDLES m.pool m.ordinal
 
 -- the frame of a used record, under a number of the record
 abbrev pub by_number : (Member → ℕ) → Tables → ℕ → Option (ℕ × ℕ)
@@ -65,12 +65,12 @@ pub record MarksMore (before : List Bool) (place : Option ℕ) (answer : Bool) (
 
 -- the marks of the places that the used records have, among so many from a frame on
 pub record IsMarked (t : Tables) (from count : ℕ) (marks : List Bool) : Type 0 where
-  pub each : (n : ℕ) → n < PLACES → slice_index_or marks n false ≡ is_some (first_from nat_cmp n (by_number place_of t) from count)
+  pub each : (n : ℕ) → n < PLACES → slice_index_or marks n false ≡ is_some (first_from nat_cmp n (by_number mark_index t) from count)
 
 -- the marks are there where no two records have one place
 abbrev pub AreMarked : Tables → Option (List Bool) → Type 0
-AreMarked t None = has_distinct_numbers place_of t ≡ false
-AreMarked t (Some marks) = (has_distinct_numbers place_of t ≡ true) × IsMarked t 0 t.frames marks
+AreMarked t None = has_distinct_numbers mark_index t ≡ false
+AreMarked t (Some marks) = (has_distinct_numbers mark_index t ≡ true) × IsMarked t 0 t.frames marks
 
 -- the mark of an ordinal of a slot's pool
 abbrev pub mark_of : List Bool → (slot ordinal : ℕ) → Bool

@@ -12,7 +12,7 @@ ghost use Rattle.pud_defs.specs.Spaces.{all_below};
 ghost use Rattle.pud_defs.specs.Tables.{tables_of};
 ghost use Rattle.pud_defs.specs.SoundTables.{has_legal_puddles};
 ghost use Rattle.soundness.specs.Overlaying.{IsOverlay};
-ghost use Rattle.soundness.specs.Distinct.{joined, word_of, number_by, number_of, place_of, with_number, has_distinct_numbers, MarksMore, AreMarked, counts_up, mark_of, is_counted_by, has_counted_ordinals, are_distinct_puddles};
+ghost use Rattle.soundness.specs.Distinct.{joined, word_of, number_by, number_of, mark_index, with_number, has_distinct_numbers, MarksMore, AreMarked, counts_up, mark_of, is_counted_by, has_counted_ordinals, are_distinct_puddles};
 
 use crate::overlay::Overlay;
 use pm_model::{Host, HostFault};
@@ -154,7 +154,7 @@ fn place_at<H: Host>(h: &mut H, overlay: &Overlay, frame: u32) -> Result<Option<
     requires few { frame < MAX_FRAMES }
     requires room { device_words (frame + 1) ≤ (H.counts h.old).size }
     ensures place { H.tells → (image : Image) → reads (H.state h.old).now.words ≡ image → IsOverlay overlay.now image → (frames : ℕ) → frame < frames
-        → IfOk result (λ place. place ≡ option_map place_of ((tables_of frames (settled_by DAEMON_LOG image)).puddles frame)) }
+        → IfOk result (λ place. place ≡ option_map mark_index ((tables_of frames (settled_by DAEMON_LOG image)).puddles frame)) }
     ensures within { IfOk result (λ place. IfSome place (λ n. n < PLACES)) }
     ensures only_reads { OnlyReads H.tells H.state H.counts (fault_of result) h.old h.new }
 {

@@ -12,8 +12,8 @@ use Rattle.pud_defs.specs.Types.{type_record_at, types_of, free_type, used_types
 use Rattle.pud_defs.specs.Step.{is_clash}
 use Rattle.type_maps.specs.declared.TypeFault.{TypeFault}
 use Rattle.type_maps.specs.declared.TypeFault.TheVariants as faults
-use Rattle.type_maps.specs.declared.Place.{Place}
-use Rattle.type_maps.specs.declared.Place.TheVariants as places
+use Rattle.type_maps.specs.declared.Lookup.{Lookup}
+use Rattle.type_maps.specs.declared.Lookup.TheVariants as places
 
 -- the host's fault that a definition answered
 abbrev pub fault_in : Result (Unit {0}) TypeFault → Option HostFault
@@ -41,17 +41,17 @@ table_refusal image id map = cond (is_clash (types_of image) id map) (Some refus
 abbrev pub place_for : Image → ℕ → Option ℕ
 place_for image id = cond (is_some (map_of id (types_of image))) None (free_type image)
 
-abbrev pub place_by : Option ℕ → Option ℕ → Place
-place_by (Some map) free = places.Defined map
-place_by None (Some record_number) = places.Free record_number
-place_by None None = places.Full
+abbrev pub lookup_by : Option ℕ → Option ℕ → Lookup
+lookup_by (Some map) free = places.Defined map
+lookup_by None (Some record_number) = places.Free record_number
+lookup_by None None = places.Full
 
 -- where a type stands in the table, or would stand
-abbrev pub place_of : Image → ℕ → Place
-place_of image id = place_by (map_of id (types_of image)) (free_type image)
+abbrev pub lookup_of : Image → ℕ → Lookup
+lookup_of image id = lookup_by (map_of id (types_of image)) (free_type image)
 
 -- a free record is one of the table
-abbrev pub IsInTable : Place → Type 0
+abbrev pub IsInTable : Lookup → Type 0
 IsInTable (places.Defined map) = Unit {0}
 IsInTable (places.Free r) = r < TYPE_RECORDS
 IsInTable places.Full = Unit {0}

@@ -8,7 +8,7 @@ ghost use Rattle.pm_model.specs.Reads.{OnlyReads};
 ghost use Rattle.pud_defs.specs.Image.{Image};
 ghost use Rattle.pud_defs.specs.Imports.{type_put};
 ghost use Rattle.pud_defs.specs.Types.{map_of, types_of};
-ghost use Rattle.type_maps.specs.Define.{fault_in, refusal_in, table_refusal, place_for, place_of, IsInTable, Defines};
+ghost use Rattle.type_maps.specs.Define.{fault_in, refusal_in, table_refusal, place_for, lookup_of, IsInTable, Defines};
 
 mod free;
 
@@ -44,7 +44,7 @@ impl From<HostFault> for TypeFault {
 
 /// Where a type stands in the table, or would stand.
 #[derive(Clone, Copy)]
-enum Place {
+enum Lookup {
     /// It is defined, with this map.
     Defined(u64),
     /// It is not; this is the lowest free record.
@@ -54,9 +54,9 @@ enum Place {
 }
 
 /// Looks the type up, record by record.
-fn look_up<H: Loads>(h: &mut H, id: u64) -> Result<Place, HostFault>
+fn look_up<H: Loads>(h: &mut H, id: u64) -> Result<Lookup, HostFault>
     requires { POOL_TABLE ≤ (H.counts h.old).size }
-    ensures place { H.tells → IfOk result (λ place. place ≡ place_of (reads (H.state h.old).now.words) id) }
+    ensures place { H.tells → IfOk result (λ place. place ≡ lookup_of (reads (H.state h.old).now.words) id) }
     ensures within { IfOk result IsInTable }
     ensures only_reads { OnlyReads H.tells H.state H.counts (fault_of result) h.old h.new }
 {
@@ -67,12 +67,12 @@ fn look_up<H: Loads>(h: &mut H, id: u64) -> Result<Place, HostFault>
         if used_by == 0 {
             free = free.or(Some(record));
         } else if used_by == id {
-            return Ok(Place::Defined(h.load_word(at + 1)?));
+            return Ok(Lookup::Defined(h.load_word(at + 1)?));
         }
     }
     match free {
-        Some(record) => Ok(Place::Free(record)),
-        None => Ok(Place::Full),
+        Some(record) => Ok(Lookup::Free(record)),
+        None => Ok(Lookup::Full),
     }
 }
 
@@ -85,8 +85,8 @@ pub fn find<H: Loads>(h: &mut H, id: u64) -> Result<Option<u64>, HostFault>
     ensures only_reads { OnlyReads H.tells H.state H.counts (fault_of result) h.old h.new }
 {
     match look_up(h, id)? {
-        Place::Defined(map) => Ok(Some(map)),
-        Place::Free(_) | Place::Full => Ok(None),
+        Lookup::Defined(map) => Ok(Some(map)),
+        Lookup::Free(_) | Lookup::Full => Ok(None),
     }
 }
 
@@ -130,14 +130,14 @@ pub fn define<H: Host>(h: &mut H, id: u32, map: u64) -> Result<(), TypeFault>
     ensures cause { H.counts h.new ≡ after_fault (fault_in result) (H.counts h.old) }
 {
     match look_up(h, u64::from(id))? {
-        Place::Defined(defined) => {
+        Lookup::Defined(defined) => {
             if defined == map {
                 Ok(())
             } else {
                 Err(TypeFault::Clash)
             }
         }
-        Place::Full => Err(TypeFault::Full),
-        Place::Free(record) => Ok(write_record(h, record, id, map)?),
+        Lookup::Full => Err(TypeFault::Full),
+        Lookup::Free(record) => Ok(write_record(h, record, id, map)?),
     }
 }

@@ -13,7 +13,7 @@ use Rattle.pm_model.proofs.Leaves.{Leaves-changes}
 use Rattle.pud_defs.specs.declared.log_words.TheConstants.{UNDO_ORDER, REDO_ORDER}
 use Rattle.pud_defs.specs.Image.{Image}
 use Rattle.pud_defs.specs.Entries.{Entry, Log}
-use Rattle.pud_defs.specs.Replay.{Place, is_in_range, value_from, undo_value, redo_value}
+use Rattle.pud_defs.specs.Replay.{AddressMap, is_in_range, value_from, undo_value, redo_value}
 use Rattle.pud_defs.proofs.Replay.{undo_value-first, undo_value-none, redo_value-first, redo_value-none}
 use Rattle.log_store.specs.Store.{OpenLog, InLog}
 use Rattle.word_transaction.specs.Scope.{Scope, IsScope, IsInScope, running_range, committing_range, saved, pending}
@@ -60,7 +60,7 @@ pub record IsWider (g wide : Scope) : Type 0 where
   pub has_word : (k : ℕ) → g.has_word k ≡ true → wide.has_word k ≡ true
 
 -- entries give the same by places that agree on their addresses
-pub undo_value-places : (place other : Place) (log : Log) (es : List Entry) (k : ℕ) → All (λ e. other e.address ≡ place e.address) es → undo_value other log es k ≡ undo_value place log es k
+pub undo_value-places : (place other : AddressMap) (log : Log) (es : List Entry) (k : ℕ) → All (λ e. other e.address ≡ place e.address) es → undo_value other log es k ≡ undo_value place log es k
 undo_value-places place other log [] k same = undo_value-none other log k ∙ sym (undo_value-none place log k)
 undo_value-places place other log (e ∷ es) k same =
     undo_value-first other log e es k
@@ -69,7 +69,7 @@ undo_value-places place other log (e ∷ es) k same =
     (undo_value-places place other log es k (All-tail (λ x. other x.address ≡ place x.address) e es same))
     ∙ sym (undo_value-first place log e es k)
 
-pub redo_value-places : (place other : Place) (log : Log) (es : List Entry) (k : ℕ) → All (λ e. other e.address ≡ place e.address) es → redo_value other log es k ≡ redo_value place log es k
+pub redo_value-places : (place other : AddressMap) (log : Log) (es : List Entry) (k : ℕ) → All (λ e. other e.address ≡ place e.address) es → redo_value other log es k ≡ redo_value place log es k
 redo_value-places place other log [] k same = redo_value-none other log k ∙ sym (redo_value-none place log k)
 redo_value-places place other log (e ∷ es) k same =
     redo_value-first other log e es k

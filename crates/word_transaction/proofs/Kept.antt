@@ -10,7 +10,7 @@ use Rattle.pm_model.specs.Changes.{Write, placed}
 use Rattle.pm_persist.proofs.Ranges.{placed_within}
 use Rattle.pud_defs.specs.Image.{Image}
 use Rattle.pud_defs.specs.Entries.{Entry}
-use Rattle.pud_defs.specs.Replay.{Place, over}
+use Rattle.pud_defs.specs.Replay.{AddressMap, over}
 use Rattle.log_store.specs.Store.{OpenLog, undo_entry, with_entries}
 use Rattle.word_transaction.specs.Scope.{Scope, IsScope, saved, deferred_entries}
 use Rattle.word_transaction.specs.Running.{IsRunning, IsCovered, IsOneOf, MayAppend, no_write, KeepsRunning, SavesWords, SavesAndWrites}
@@ -22,7 +22,7 @@ use Rattle.word_transaction.proofs.Saving.{IsRead, MayAppend-read}
 -- ---- what entries save
 
 -- each word of two undo entries, of which the second has one value
-pub saved_by_two : (place : Place) (address first address2 second k word : ℕ) (vals : List ℕ) → place address ≡ Some first → place address2 ≡ Some second
+pub saved_by_two : (place : AddressMap) (address first address2 second k word : ℕ) (vals : List ℕ) → place address ≡ Some first → place address2 ≡ Some second
     → IsOneOf first (length vals) k ⊎ (k ≡ second) → saved place (undo_entry address vals ∷ undo_entry address2 (word ∷ []) ∷ []) k ≡ None → ⊥
 saved_by_two place address first address2 second k word vals is also one none =
     let e = undo_entry address vals in

@@ -8,14 +8,14 @@ use Rattle.std.proofs.lemmas.List.Elements.{All-head, All-tail, filter-append}
 use Rattle.pud_defs.specs.declared.log_words.TheConstants.{UNDO_ORDER, REDO_ORDER, COMMITTING_LO, COMMITTING_HI}
 use Rattle.pud_defs.specs.Image.{Image}
 use Rattle.pud_defs.specs.Entries.{Entry, Log, log_of}
-use Rattle.pud_defs.specs.Replay.{Place, is_in_range, value_in, given_by, undo_value, redo_value, new_value, over, overwritten, replayed}
+use Rattle.pud_defs.specs.Replay.{AddressMap, is_in_range, value_in, given_by, undo_value, redo_value, new_value, over, overwritten, replayed}
 use Rattle.pud_defs.proofs.Replay.{undo_value-first, redo_value-first, undo_value-none, redo_value-none, given_by-out, given_by-other, or_none, new_value-of, overwritten-nothing, overwritten-then}
 use Rattle.log_store.specs.Store.{OpenLog, is_redo, defers, saying, committing}
 use Rattle.word_transaction.specs.Scope.{Scope, redo_entry, IsUndo, IsRedo, IsInScope, deferred_entries, written_in_turn, committing_range, pending}
 use Rattle.word_transaction.specs.Running.{RecoversTo}
 use Rattle.word_transaction.proofs.Saved.{given_by-range, undo_value-range}
 
-pub redo_value-range : (place : Place) (l m : Log) (es : List Entry) (k : ℕ) → l.lo ≡ m.lo → l.hi ≡ m.hi → redo_value place l es k ≡ redo_value place m es k
+pub redo_value-range : (place : AddressMap) (l m : Log) (es : List Entry) (k : ℕ) → l.lo ≡ m.lo → l.hi ≡ m.hi → redo_value place l es k ≡ redo_value place m es k
 redo_value-range place l m [] k lo hi = redo_value-none place l k ∙ sym (redo_value-none place m k)
 redo_value-range place l m (e ∷ es) k lo hi =
     redo_value-first place l e es k
@@ -25,14 +25,14 @@ redo_value-range place l m (e ∷ es) k lo hi =
 -- ---- entries that give nothing in a committing log
 
 -- an undo entry does not count there
-undo_gives_nothing : (place : Place) (e : Entry) (k : ℕ) → IsUndo e → given_by place committing_range UNDO_ORDER e k ≡ None
+undo_gives_nothing : (place : AddressMap) (e : Entry) (k : ℕ) → IsUndo e → given_by place committing_range UNDO_ORDER e k ≡ None
 undo_gives_nothing place e k undo = given_by-out place committing_range UNDO_ORDER e k (ap (λ (n : ℕ). ltb COMMITTING_LO n && ltb n COMMITTING_HI) undo.seq)
 
 -- and a redo entry is none
-redo_gives_nothing : (place : Place) (e : Entry) (k : ℕ) → IsRedo e → given_by place committing_range UNDO_ORDER e k ≡ None
+redo_gives_nothing : (place : AddressMap) (e : Entry) (k : ℕ) → IsRedo e → given_by place committing_range UNDO_ORDER e k ≡ None
 redo_gives_nothing place e k redo = given_by-other place committing_range UNDO_ORDER e k (λ undo. let h = redo.order in absurd (omega arith))
 
-undo_value-committing : (g : Scope) (place : Place) (es : List Entry) (k : ℕ) → All (IsInScope g) es → undo_value place committing_range es k ≡ None
+undo_value-committing : (g : Scope) (place : AddressMap) (es : List Entry) (k : ℕ) → All (IsInScope g) es → undo_value place committing_range es k ≡ None
 undo_value-committing g place [] k own = undo_value-none place committing_range k
 undo_value-committing g place (e ∷ es) k own =
     undo_value-first place committing_range e es k
@@ -46,7 +46,7 @@ undo_value-committing g place (e ∷ es) k own =
 -- ---- what is asked for
 
 -- undo entries ask for nothing
-pub pending-undo : (place : Place) (es : List Entry) (k : ℕ) → All IsUndo es → pending place es k ≡ None
+pub pending-undo : (place : AddressMap) (es : List Entry) (k : ℕ) → All IsUndo es → pending place es k ≡ None
 pending-undo place [] k undo = redo_value-none place committing_range k
 pending-undo place (e ∷ es) k undo =
     redo_value-first place committing_range e es k
@@ -54,7 +54,7 @@ pending-undo place (e ∷ es) k undo =
     (given_by-other place committing_range REDO_ORDER e k (λ redo. let h = (All-head IsUndo e es undo).order in absurd (omega arith)))
 
 -- nor do entries none of which is a redo entry
-pub pending-none : (place : Place) (es : List Entry) (k : ℕ) → defers es ≡ false → pending place es k ≡ None
+pub pending-none : (place : AddressMap) (es : List Entry) (k : ℕ) → defers es ≡ false → pending place es k ≡ None
 pending-none place [] k none = redo_value-none place committing_range k
 pending-none place (e ∷ es) k none =
     let parts = or_parts (is_redo e) (defers es) none in
@@ -80,7 +80,7 @@ deferred_entries-redo es address vals = filter-append is_redo es (redo_entry add
 -- ---- in turn
 
 -- what an entry gives to a committing log over an image, and then the others
-one_in_turn : (place : Place) (e : Entry) (es : List Entry) (image : Image) → IsUndo e ⊎ IsRedo e
+one_in_turn : (place : AddressMap) (e : Entry) (es : List Entry) (image : Image) → IsUndo e ⊎ IsRedo e
     → written_in_turn place (deferred_entries es) (overwritten (given_by place committing_range REDO_ORDER e) image) ≡ written_in_turn place (deferred_entries (e ∷ es)) image
 one_in_turn place e es image (inl undo) =
     let nothing : (k : ℕ) → given_by place committing_range REDO_ORDER e k ≡ None = λ k. given_by-other place committing_range REDO_ORDER e k (λ redo. let h = undo.order in absurd (omega arith)) in
@@ -96,7 +96,7 @@ one_in_turn place e es image (inr redo) =
     ∙ ap (λ (xs : List Entry). written_in_turn place xs image) (sym (cond-true (is_redo e) (e ∷ deferred_entries es) (deferred_entries es) one))
 
 -- what is asked for, over an image, is the values of the redo entries in turn
-pub pending-in_turn : (g : Scope) (place : Place) (es : List Entry) (image : Image) → All (IsInScope g) es → overwritten (pending place es) image ≡ written_in_turn place (deferred_entries es) image
+pub pending-in_turn : (g : Scope) (place : AddressMap) (es : List Entry) (image : Image) → All (IsInScope g) es → overwritten (pending place es) image ≡ written_in_turn place (deferred_entries es) image
 pending-in_turn g place [] image own = overwritten-nothing (pending place []) image (λ k. redo_value-none place committing_range k)
 pending-in_turn g place (e ∷ es) image own =
     let each : (k : ℕ) → pending place (e ∷ es) k ≡ over (given_by place committing_range REDO_ORDER e) (pending place es) k = λ k. redo_value-first place committing_range e es k in
@@ -109,7 +109,7 @@ pending-in_turn g place (e ∷ es) image own =
 -- ---- a committing log
 
 -- it gives what its entries ask for
-pub new_value-committing : (g : Scope) (place : Place) (log : Log) (es : List Entry) (k : ℕ) → log.lo ≡ COMMITTING_LO → log.hi ≡ COMMITTING_HI → log.entries ≡ Some es → All (IsInScope g) es
+pub new_value-committing : (g : Scope) (place : AddressMap) (log : Log) (es : List Entry) (k : ℕ) → log.lo ≡ COMMITTING_LO → log.hi ≡ COMMITTING_HI → log.entries ≡ Some es → All (IsInScope g) es
     → new_value place log k ≡ pending place es k
 new_value-committing g place log es k lo hi entries own =
     new_value-of place log es k entries

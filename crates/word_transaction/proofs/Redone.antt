@@ -10,11 +10,11 @@ use Rattle.pud_defs.specs.declared.layout.TheConstants.{PUDDLE_TABLE}
 use Rattle.pud_defs.specs.Image.{Image}
 use Rattle.pud_defs.specs.Layout.{tables_end, IsWithin}
 use Rattle.pud_defs.specs.Entries.{Entry}
-use Rattle.pud_defs.specs.Replay.{Place, overwritten}
+use Rattle.pud_defs.specs.Replay.{AddressMap, overwritten}
 use Rattle.pud_defs.proofs.Replay.{overwritten-there, overwritten-stays}
 use Rattle.log_store.specs.Store.{OpenLog, saying, committing}
 use Rattle.log_replay.specs.declared.Target.TheVariants.{Puddles}
-use Rattle.log_replay.specs.Replaying.{place_of, IsReplayable, HasDurableLog, IsSettling, SettlesLog}
+use Rattle.log_replay.specs.Replaying.{address_map_of, IsReplayable, HasDurableLog, IsSettling, SettlesLog}
 use Rattle.log_replay.proofs.Places.{places_same}
 use Rattle.word_transaction.specs.Scope.{Scope, IsScope, committing_range, pending}
 use Rattle.word_transaction.specs.Running.{IsRunning, ByCommit, CommitsTransaction, HasPlaces, HasOneTable, CanRedo}
@@ -35,9 +35,9 @@ module _ (F : ℕ) (g : Scope) (log : OpenLog) (a c : State) (changes : Changes 
   one_table : HasOneTable F c.now.words
   one_table = record { each = λ k within. HasOnly-own (c.now.words k) (reads a.now.words k) (table_still k within) }
 
-  places_there : HasPlaces g (place_of (Puddles F) (reads c.now.words))
+  places_there : HasPlaces g (address_map_of (Puddles F) (reads c.now.words))
   places_there =
-      subst (λ (place : Place). HasPlaces g place)
+      subst (λ (place : AddressMap). HasPlaces g place)
       (sym (places_same (Puddles F) (reads a.now.words) (reads c.now.words) (λ k within. HasOnly-newest (c.now.words k) (reads a.now.words k) (table_still k within)))) can.places
 
 -- ---- the replay
@@ -63,8 +63,8 @@ module _ (size : ℕ) (log : OpenLog) (es : List Entry) (g : Scope) (before : Im
       }
 
   pub Ends-redone : (F at : ℕ) (fault : Option HostFault) (b c d : State) → at ≡ log.gate_at → CanRedo g F log.gate_at a.now.words → Moves log None a b c
-      → (IsReplayable (place_of (Puddles F) (reads c.now.words)) size at es (reads c.now.words) → SettlesLog (Puddles F) at fault c d)
-      → (IsReplayable (place_of (Puddles F) (reads c.now.words)) size at es (reads c.now.words) → HasDurableLog (Puddles F) at c.now.words
+      → (IsReplayable (address_map_of (Puddles F) (reads c.now.words)) size at es (reads c.now.words) → SettlesLog (Puddles F) at fault c d)
+      → (IsReplayable (address_map_of (Puddles F) (reads c.now.words)) size at es (reads c.now.words) → HasDurableLog (Puddles F) at c.now.words
       → Leaves (Silently (IsSettling (Puddles F) at c.now.words)) c d)
       → CommitsTransaction g log.gate_at before after fault a d
   Ends-redone F at fault b c d here can m recovers moments =
@@ -74,8 +74,8 @@ module _ (size : ℕ) (log : OpenLog) (es : List Entry) (g : Scope) (before : Im
       let given = gives b c m in
       let may = replayable size F g (committing log) es write after c ground given places table in
       let durable = durable_log size F g (committing log) es write after c ground given places table in
-      let settled = subst (λ (k : ℕ). IsReplayable (place_of (Puddles F) (reads c.now.words)) size k es (reads c.now.words) → SettlesLog (Puddles F) k fault c d) here recovers in
-      let left = subst (λ (k : ℕ). IsReplayable (place_of (Puddles F) (reads c.now.words)) size k es (reads c.now.words) → HasDurableLog (Puddles F) k c.now.words
+      let settled = subst (λ (k : ℕ). IsReplayable (address_map_of (Puddles F) (reads c.now.words)) size k es (reads c.now.words) → SettlesLog (Puddles F) k fault c d) here recovers in
+      let left = subst (λ (k : ℕ). IsReplayable (address_map_of (Puddles F) (reads c.now.words)) size k es (reads c.now.words) → HasDurableLog (Puddles F) k c.now.words
       → Leaves (Silently (IsSettling (Puddles F) k c.now.words)) c d) here moments in
       Ends-closes size log es g before a ground r fault b c d m
       (Shuts-settled size F g (committing log) es write after c ground given places table fault d (settled may) (left may durable))

@@ -10,7 +10,7 @@ use Rattle.pm_persist.proofs.Ranges.{placed_at, placed_within}
 use Rattle.pud_defs.specs.declared.log_words.TheConstants.{UNDO_ORDER, REDO_ORDER, RUNNING_LO, RUNNING_HI}
 use Rattle.pud_defs.specs.Image.{Image}
 use Rattle.pud_defs.specs.Entries.{Entry, Log, words_from}
-use Rattle.pud_defs.specs.Replay.{Place, is_in_range, value_from, value_in, given_by, undo_value, redo_value, new_value}
+use Rattle.pud_defs.specs.Replay.{AddressMap, is_in_range, value_from, value_in, given_by, undo_value, redo_value, new_value}
 use Rattle.pud_defs.proofs.Replay.{undo_value-first, undo_value-none, undo_value-append, redo_value-first, redo_value-none, given_by-out, given_by-other, new_value-of, or_none}
 use Rattle.log_store.specs.Store.{undo_entry}
 use Rattle.word_transaction.specs.Scope.{Scope, IsScope, IsInScope, redo_entry, running_range, committing_range, saved, pending}
@@ -22,10 +22,10 @@ some_not_none o v is none = absurd (let it : Some v ≡ None = sym is ∙ none i
 -- ---- which entries count
 
 -- it is the range that tells it
-pub given_by-range : (place : Place) (l m : Log) (order : ℕ) (e : Entry) (k : ℕ) → l.lo ≡ m.lo → l.hi ≡ m.hi → given_by place l order e k ≡ given_by place m order e k
+pub given_by-range : (place : AddressMap) (l m : Log) (order : ℕ) (e : Entry) (k : ℕ) → l.lo ≡ m.lo → l.hi ≡ m.hi → given_by place l order e k ≡ given_by place m order e k
 given_by-range place l m order e k lo hi = ap₂ (λ (a b : ℕ). cond ((ltb a e.seq && ltb e.seq b) && eqb e.order order) (value_in place e k) None) lo hi
 
-pub undo_value-range : (place : Place) (l m : Log) (es : List Entry) (k : ℕ) → l.lo ≡ m.lo → l.hi ≡ m.hi → undo_value place l es k ≡ undo_value place m es k
+pub undo_value-range : (place : AddressMap) (l m : Log) (es : List Entry) (k : ℕ) → l.lo ≡ m.lo → l.hi ≡ m.hi → undo_value place l es k ≡ undo_value place m es k
 undo_value-range place l m [] k lo hi = undo_value-none place l k ∙ sym (undo_value-none place m k)
 undo_value-range place l m (e ∷ es) k lo hi =
     undo_value-first place l e es k ∙ ap₂ option_or (given_by-range place l m UNDO_ORDER e k lo hi) (undo_value-range place l m es k lo hi) ∙ sym (undo_value-first place m e es k)
@@ -34,20 +34,20 @@ behind_range : (lo hi seq : ℕ) → hi ≤ seq → (ltb lo seq && ltb seq hi) �
 behind_range lo hi seq behind = grind (arith, nat_tests)
 
 -- a running log gives nothing by the redo entries of a transaction
-given_by-redo : (g : Scope) (place : Place) (log : Log) (e : Entry) (k : ℕ) → log.hi ≡ RUNNING_HI → IsInScope g e → given_by place log REDO_ORDER e k ≡ None
+given_by-redo : (g : Scope) (place : AddressMap) (log : Log) (e : Entry) (k : ℕ) → log.hi ≡ RUNNING_HI → IsInScope g e → given_by place log REDO_ORDER e k ≡ None
 given_by-redo g place log e k hi own = elim own.kind [
   | inl undo ↦ given_by-other place log REDO_ORDER e k (λ order. let is = undo.order in absurd (omega arith))
   | inr redo ↦ given_by-out place log REDO_ORDER e k (let is = redo.seq in behind_range log.lo log.hi e.seq (omega arith))
 ]
 
-redo_value-running : (g : Scope) (place : Place) (log : Log) (es : List Entry) (k : ℕ) → log.hi ≡ RUNNING_HI → All (IsInScope g) es → redo_value place log es k ≡ None
+redo_value-running : (g : Scope) (place : AddressMap) (log : Log) (es : List Entry) (k : ℕ) → log.hi ≡ RUNNING_HI → All (IsInScope g) es → redo_value place log es k ≡ None
 redo_value-running g place log [] k hi own = redo_value-none place log k
 redo_value-running g place log (e ∷ es) k hi own =
     redo_value-first place log e es k
     ∙ ap₂ option_or (redo_value-running g place log es k hi (All-tail (IsInScope g) e es own)) (given_by-redo g place log e k hi (All-head (IsInScope g) e es own))
 
 -- it gives what is saved
-pub new_value-running : (g : Scope) (place : Place) (log : Log) (es : List Entry) (k : ℕ) → log.lo ≡ RUNNING_LO → log.hi ≡ RUNNING_HI → log.entries ≡ Some es → All (IsInScope g) es
+pub new_value-running : (g : Scope) (place : AddressMap) (log : Log) (es : List Entry) (k : ℕ) → log.lo ≡ RUNNING_LO → log.hi ≡ RUNNING_HI → log.entries ≡ Some es → All (IsInScope g) es
     → new_value place log k ≡ saved place es k
 new_value-running g place log es k lo hi entries own =
     new_value-of place log es k entries ∙ ap₂ option_or (redo_value-running g place log es k hi own) (undo_value-range place log running_range es k lo hi)
@@ -55,7 +55,7 @@ new_value-running g place log es k lo hi entries own =
 -- ---- which words are saved
 
 -- what an entry gives it gives to words that it names
-pub value_of_given : (place : Place) (log : Log) (order : ℕ) (e : Entry) (k v : ℕ) → given_by place log order e k ≡ Some v → value_in place e k ≡ Some v
+pub value_of_given : (place : AddressMap) (log : Log) (order : ℕ) (e : Entry) (k v : ℕ) → given_by place log order e k ≡ Some v → value_in place e k ≡ Some v
 value_of_given place log order e k v is = elim (cases_Bool (is_in_range log e && eqb e.order order)) [
   | inl counts ↦ sym (cond-true _ _ _ counts) ∙ is
   | inr other ↦ absurd (some_not_none _ v is (cond-false _ _ _ other))
@@ -99,7 +99,7 @@ pending_is_mine size at g es k v ground own is = redone_is_mine size at g commit
 
 -- ---- behind others
 
-pub saved-append : (place : Place) (es more : List Entry) (k : ℕ) → saved place (es ++ more) k ≡ option_or (saved place es k) (saved place more k)
+pub saved-append : (place : AddressMap) (es more : List Entry) (k : ℕ) → saved place (es ++ more) k ≡ option_or (saved place es k) (saved place more k)
 saved-append place es more k = undo_value-append place running_range es more k
 
 -- what is not saved by all of them is saved by none
@@ -111,16 +111,16 @@ pub or_second_none : (a b : Option ℕ) → option_or a b ≡ None → b ≡ Non
 or_second_none None b none = none
 or_second_none (Some x) b none = absurd (cc)
 
-pub saved-none_first : (place : Place) (es more : List Entry) (k : ℕ) → saved place (es ++ more) k ≡ None → saved place es k ≡ None
+pub saved-none_first : (place : AddressMap) (es more : List Entry) (k : ℕ) → saved place (es ++ more) k ≡ None → saved place es k ≡ None
 saved-none_first place es more k none = or_first_none (saved place es k) (saved place more k) (sym (saved-append place es more k) ∙ none)
 
-pub saved-none_more : (place : Place) (es more : List Entry) (k : ℕ) → saved place (es ++ more) k ≡ None → saved place more k ≡ None
+pub saved-none_more : (place : AddressMap) (es more : List Entry) (k : ℕ) → saved place (es ++ more) k ≡ None → saved place more k ≡ None
 saved-none_more place es more k none = or_second_none (saved place es k) (saved place more k) (sym (saved-append place es more k) ∙ none)
 
 -- ---- by one entry
 
 -- it saves its values, placed from its word on
-pub saved-one : (place : Place) (address first k : ℕ) (vals : List ℕ) → place address ≡ Some first → saved place (undo_entry address vals ∷ []) k ≡ placed first vals k
+pub saved-one : (place : AddressMap) (address first k : ℕ) (vals : List ℕ) → place address ≡ Some first → saved place (undo_entry address vals ∷ []) k ≡ placed first vals k
 saved-one place address first k vals is =
     undo_value-first place running_range (undo_entry address vals) [] k
     ∙ ap (option_or (value_from (place address) vals k)) (undo_value-none place running_range k)
@@ -128,11 +128,11 @@ saved-one place address first k vals is =
     ∙ ap (λ (o : Option ℕ). value_from o vals k) is
 
 -- a redo entry saves nothing
-pub saved-redo : (place : Place) (address k : ℕ) (vals : List ℕ) → saved place (redo_entry address vals ∷ []) k ≡ None
+pub saved-redo : (place : AddressMap) (address k : ℕ) (vals : List ℕ) → saved place (redo_entry address vals ∷ []) k ≡ None
 saved-redo place address k vals = undo_value-first place running_range (redo_entry address vals) [] k ∙ undo_value-none place running_range k
 
 -- so each of its words is saved
-pub saved_by_one : (place : Place) (address first k : ℕ) (vals : List ℕ) → place address ≡ Some first → IsOneOf first (length vals) k → saved place (undo_entry address vals ∷ []) k ≡ None → ⊥
+pub saved_by_one : (place : AddressMap) (address first k : ℕ) (vals : List ℕ) → place address ≡ Some first → IsOneOf first (length vals) k → saved place (undo_entry address vals ∷ []) k ≡ None → ⊥
 saved_by_one place address first k vals is one none =
     let low = one.0 in
     let high = one.1 in

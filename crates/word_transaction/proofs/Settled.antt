@@ -12,14 +12,14 @@ use Rattle.pm_model.proofs.Leaves.{Leaves-weaker}
 use Rattle.pud_defs.specs.declared.layout.TheConstants.{LOG_WORDS, LOG_HEADER_WORDS}
 use Rattle.pud_defs.specs.Image.{Image}
 use Rattle.pud_defs.specs.Entries.{Entry, Log, log_of, gate_used, gate_word, is_idle_gate}
-use Rattle.pud_defs.specs.Replay.{Place, new_value, is_in_log, IsInLog}
+use Rattle.pud_defs.specs.Replay.{AddressMap, new_value, is_in_log, IsInLog}
 use Rattle.pud_defs.specs.Tables.{tables_of}
 use Rattle.pud_defs.specs.Allowed.{puddle_word}
 use Rattle.pud_defs.proofs.Replay.{not_inside}
 use Rattle.log_store.specs.Store.{OpenLog, IsOpen, saying}
 use Rattle.log_store.proofs.Open.{IsOpen-fits, IsOpen-log_by, used_is}
 use Rattle.log_replay.specs.declared.Target.TheVariants.{Puddles}
-use Rattle.log_replay.specs.Replaying.{place_of, NamesApart, IsReplayable, HasDurableLog, new_values, ByLog, IsSettling, SettlesLog}
+use Rattle.log_replay.specs.Replaying.{address_map_of, NamesApart, IsReplayable, HasDurableLog, new_values, ByLog, IsSettling, SettlesLog}
 use Rattle.log_replay.proofs.Whole.{new_values-apart, new_values_picked}
 use Rattle.word_transaction.specs.Scope.{Scope, IsScope, IsInScope}
 use Rattle.word_transaction.specs.Running.{RecoversTo, ByTransaction, AbortsTransaction, HasPlaces, HasOneTable}
@@ -31,7 +31,7 @@ use Rattle.word_transaction.proofs.Committed.{mine_apart, IsShut, Shuts}
 pub record Gives (g : Scope) (log : OpenLog) (es : List Entry) (write : Write) (values : Image) (words : Words) : Type 0 where
   pub opened : IsOpen log es words
   pub own : All (IsInScope g) es
-  pub given : (place : Place) → All (λ e. place e.address ≡ g.place e.address) es → (k : ℕ) → new_value place (saying log es) k ≡ write k
+  pub given : (place : AddressMap) → All (λ e. place e.address ≡ g.place e.address) es → (k : ℕ) → new_value place (saying log es) k ≡ write k
   pub has_word : (k v : ℕ) → write k ≡ Some v → g.has_word k ≡ true
   pub saves : (k v : ℕ) → write k ≡ Some v → v ≡ values k
   pub single : (k : ℕ) → g.has_word k ≡ true → write k ≡ None → HasOnly (words k) (values k)
@@ -65,7 +65,7 @@ durable_by (Some v) c b saves some none = subst (λ (x : ℕ). HasOnly c x) (sav
 
 module _ (size F : ℕ) (g : Scope) (log : OpenLog) (es : List Entry) (write : Write) (values : Image) (a : State) (ground : IsScope size log.gate_at g) (r : Gives g log es write values a.now.words)
     (places : HasPlaces g (puddle_word (tables_of F (reads a.now.words)))) (table : HasOneTable F a.now.words) where
-  abbrev place : Place
+  abbrev place : AddressMap
   place = puddle_word (tables_of F (reads a.now.words))
 
   abbrev given_now : Write
@@ -81,7 +81,7 @@ module _ (size F : ℕ) (g : Scope) (log : OpenLog) (es : List Entry) (write : W
         apart = stands_beside s.first (length e.vals) log.gate_at s.some (λ k low high. ground.apart k (s.own k low high));
       }
 
-  pub replayable : IsReplayable (place_of (Puddles F) (reads a.now.words)) size log.gate_at es (reads a.now.words)
+  pub replayable : IsReplayable (address_map_of (Puddles F) (reads a.now.words)) size log.gate_at es (reads a.now.words)
   replayable =
       record {
         spells = ap (λ (l : Log). l.entries) r.opened.says;

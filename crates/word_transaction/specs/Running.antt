@@ -9,7 +9,7 @@ use Rattle.pud_defs.specs.declared.log_words.TheConstants.{RUNNING_LO, RUNNING_H
 use Rattle.pud_defs.specs.Image.{Image}
 use Rattle.pud_defs.specs.Layout.{tables_end, IsWithin}
 use Rattle.pud_defs.specs.Entries.{Entry, entries_of, log_of, gate_lo, gate_hi, gate_word}
-use Rattle.pud_defs.specs.Replay.{Place, is_in_range, overwritten, replayed, IsInLog, is_in_log}
+use Rattle.pud_defs.specs.Replay.{AddressMap, is_in_range, overwritten, replayed, IsInLog, is_in_log}
 use Rattle.pud_defs.specs.Spaces.{is_closed_log}
 use Rattle.pud_defs.specs.Tables.{tables_of}
 use Rattle.pud_defs.specs.Allowed.{puddle_word}
@@ -150,7 +150,7 @@ pub record CommitsTransaction (g : Scope) (at : ℕ) (before after : Image) (fau
   pub stays : fault ≡ None → (k : ℕ) → is_in_log at k ≡ false → g.has_word k ≡ false → reads new.now.words k ≡ reads old.now.words k
 
 -- What places read of an image agree with those of the transaction on all that it may name.
-pub record HasPlaces (g : Scope) (place : Place) : Type 0 where
+pub record HasPlaces (g : Scope) (place : AddressMap) : Type 0 where
   pub each : (address count : ℕ) → g.may_name address count ≡ true → place address ≡ g.place address
 
 -- each word of the puddle table of a device of so many frames has one value

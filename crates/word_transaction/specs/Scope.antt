@@ -5,13 +5,13 @@ use Rattle.pud_defs.specs.declared.log_words.TheConstants.{UNDO_SEQ, UNDO_ORDER,
 use Rattle.pud_defs.specs.declared.space.TheConstants.{WORD_BYTES}
 use Rattle.pud_defs.specs.Image.{Image}
 use Rattle.pud_defs.specs.Entries.{Entry, Log}
-use Rattle.pud_defs.specs.Replay.{Place, value_in, undo_value, redo_value, overwritten, is_in_log}
+use Rattle.pud_defs.specs.Replay.{AddressMap, value_in, undo_value, redo_value, overwritten, is_in_log}
 use Rattle.log_store.specs.Store.{is_redo}
 
 -- Which word an address names; which entries the transaction may write, by their address and their number of values; and which words are its
 -- own.
 pub record Scope : Type 0 where
-  pub place : Place
+  pub place : AddressMap
   pub may_name : (address count : ℕ) → Bool
   pub has_word : ℕ → Bool
 
@@ -57,7 +57,7 @@ abbrev pub deferred_entries : List Entry → List Entry
 deferred_entries es = filter is_redo es
 
 -- an image over which the values of entries are written in turn, the oldest first
-abbrev pub written_in_turn : Place → List Entry → Image → Image
+abbrev pub written_in_turn : AddressMap → List Entry → Image → Image
 written_in_turn place [] image = image
 written_in_turn place (e ∷ es) image = written_in_turn place es (overwritten (value_in place e) image)
 
@@ -71,9 +71,9 @@ abbrev pub committing_range : Log
 committing_range = record { lo = COMMITTING_LO; hi = COMMITTING_HI; entries = None }
 
 -- what the undo entries among some keep of a word
-abbrev pub saved : Place → List Entry → ℕ → Option ℕ
+abbrev pub saved : AddressMap → List Entry → ℕ → Option ℕ
 saved place es k = undo_value place running_range es k
 
 -- what the redo entries among some ask for in a word
-abbrev pub pending : Place → List Entry → ℕ → Option ℕ
+abbrev pub pending : AddressMap → List Entry → ℕ → Option ℕ
 pending place es k = redo_value place committing_range es k

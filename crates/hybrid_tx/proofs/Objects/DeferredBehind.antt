@@ -18,7 +18,7 @@ use Rattle.pud_defs.specs.Types.{map_of}
 use Rattle.pud_defs.specs.Frames.{frame_at}
 use Rattle.pud_defs.specs.Replay.{overwritten}
 use Rattle.pud_defs.specs.Stored.{Stored, stored_in, places_of, place_word, place_begins, slot_state, IsFreePlace}
-use Rattle.pud_defs.specs.Graph.{under_serial, table_of, place_of, object_at, Object, Graph, object_in, next_serial_of, graph_of}
+use Rattle.pud_defs.specs.Graph.{under_serial, table_of, place_of_serial, object_at, Object, Graph, object_in, next_serial_of, graph_of}
 use Rattle.pud_defs.specs.GraphChanges.{object_with, with_some_object, with_field, with_new, with_root}
 use Rattle.pud_defs.proofs.TypeLists.{same_test}
 use Rattle.pud_defs.proofs.Keyed.{first_from_same}
@@ -27,7 +27,7 @@ use Rattle.graph_laws.specs.Changes.{with_word, with_words}
 use Rattle.graph_laws.specs.Reads.{HasDistinctFrames}
 use Rattle.graph_laws.proofs.Places.{object_in-place}
 use Rattle.graph_laws.proofs.TableChanges.{under_other}
-use Rattle.graph_laws.proofs.Words.{with_word-other, place_of-some}
+use Rattle.graph_laws.proofs.Words.{with_word-other, place_of_serial-some}
 use Rattle.puddle_header.specs.Places.{places_in, place_of_slot, IsSlotOf}
 use Rattle.graph_read.specs.Reading.{place_in_pool}
 use Rattle.hybrid_tx.specs.PoolScopes.{IsPlaced}
@@ -81,11 +81,11 @@ pub record IsSerial (g : Graph) (s : ℕ) : Type 0 where
   pub below : s < g.next_serial
 
 module _ (types : List (ℕ × ℕ)) (st : Stored) (g : Graph) (is : graph_of types st ≡ Some g) where
-  serial_at : (s : ℕ) (o : Object) (p : Option ℕ) → place_of s (table_of types st) (places_of st) ≡ p → option_map (object_at (table_of types st)) p ≡ Some o → IsSerial g s
+  serial_at : (s : ℕ) (o : Object) (p : Option ℕ) → place_of_serial s (table_of types st) (places_of st) ≡ p → option_map (object_at (table_of types st)) p ≡ Some o → IsSerial g s
   serial_at s o None none there = absurd (none-some o there)
   serial_at s o (Some p) place there =
       let h = graph_of-each types st g is in
-      let live = place_of-some (table_of types st) (places_of st) s p place in
+      let live = place_of_serial-some (table_of types st) (places_of st) s p place in
       let sound = h.graph.sound p live.within live.used in
       let next : next_serial_of st ≡ g.next_serial = ap (λ (k : Graph). k.next_serial) h.is in
       record {
@@ -94,7 +94,7 @@ module _ (types : List (ℕ × ℕ)) (st : Stored) (g : Graph) (is : graph_of ty
       }
 
   pub serial_of_live : (s : ℕ) (o : Object) → object_in s g ≡ Some o → IsSerial g s
-  serial_of_live s o live = serial_at s o (place_of s (table_of types st) (places_of st)) refl (sym (object_in-place types st g s is) ∙ live)
+  serial_of_live s o live = serial_at s o (place_of_serial s (table_of types st) (places_of st)) refl (sym (object_in-place types st g s is) ∙ live)
 
 -- ---- places, when a word is written that holds no serial
 

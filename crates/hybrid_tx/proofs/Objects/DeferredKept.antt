@@ -16,7 +16,7 @@ use Rattle.pud_defs.specs.Stored.{Stored, stored_in, place_word}
 use Rattle.pud_defs.specs.Graph.{slot_address, under_serial, Object, Graph, object_in}
 use Rattle.pud_defs.specs.DeferredValues.{DeferredValue}
 use Rattle.pud_defs.specs.Exported.{address_in}
-use Rattle.graph_laws.proofs.Words.{place_of-some}
+use Rattle.graph_laws.proofs.Words.{place_of_serial-some}
 use Rattle.puddle_header.specs.Places.{places_in}
 use Rattle.graph_read.specs.Reading.{place_in_pool, table_in}
 use Rattle.hybrid_tx.specs.Objects.Stores.{address_at, word_for}
@@ -124,7 +124,7 @@ module _ (F : ℕ) (at wide : List (ℕ × Puddle)) (types more : List (ℕ × �
       → cond (eqb r 0) (Some 0) (option_map (address_at at) place) ≡ Some v → word_for F wide j (Ref r) ≡ Some v
   reference_kept r v None other there same word = absurd (none-some v (sym (cond-false _ _ _ (ne_eqb r 0 other)) ∙ word))
   reference_kept r v (Some q) other there same word =
-      let within = (place_of-some (table_in F at i) (places_in at) r q there).within in
+      let within = (place_of_serial-some (table_in F at i) (places_in at) r q there).within in
       ap (λ (o : Option ℕ). cond (eqb r 0) (Some 0) (option_map (address_at wide) o)) (same ∙ there)
       ∙ ap (λ (a : ℕ). cond (eqb r 0) (Some 0) (Some a)) (address_kept q within)
       ∙ word

@@ -24,7 +24,7 @@ use Rattle.log_entry.specs.Reading.{Reading, entries_left, entry_from, left_befo
 use Rattle.log_entry.proofs.Left.{entries_left-start, taken, none_left}
 use Rattle.graph_laws.specs.Changes.{AreBases}
 use Rattle.graph_laws.proofs.Pointers.{target-there}
-use Rattle.graph_laws.proofs.Words.{few_fields, IsLive, place_of-some}
+use Rattle.graph_laws.proofs.Words.{few_fields, IsLive, place_of_serial-some}
 use Rattle.puddle_header.specs.Places.{places_in, place_of_slot, IsSlotOf}
 use Rattle.graph_read.specs.Reading.{place_in_pool, table_in}
 use Rattle.puddle_header.proofs.Placed.{slot_at_place}
@@ -125,7 +125,7 @@ module _ (F : ℕ) (at : List (ℕ × Puddle)) (types : List (ℕ × ℕ)) (imag
         word
             ∙ slot_at_place F at image SLOT_SERIAL_WORD guess of (omega arith)
             ∙ ap (λ (k : Slot). place_word (stored_in F at image) (place_of_slot k) SLOT_SERIAL_WORD) slot
-            ∙ (place_of-some (table_in F at image) (places_in at) l.s (place_of_slot later.slot) later.place).is,
+            ∙ (place_of_serial-some (table_in F at image) (places_in at) l.s (place_of_slot later.slot) later.place).is,
       )
 
   -- the type that stands there is that of its object
@@ -141,7 +141,7 @@ module _ (F : ℕ) (at : List (ℕ × Puddle)) (types : List (ℕ × ℕ)) (imag
   -- the object of a serial stands at this place
   module _ (is_placed : IsPlaced F at) (s p : ℕ) (used : s ≡ 0 → ⊥) (place : place_in_pool F at image s ≡ Some p) where
     named : IsLive (table_in F at image) (places_in at) s p
-    named = place_of-some (table_in F at image) (places_in at) s p place
+    named = place_of_serial-some (table_in F at image) (places_in at) s p place
 
     null_apart : 0 ≡ address_at at p → ⊥
     null_apart same =
@@ -154,7 +154,7 @@ module _ (F : ℕ) (at : List (ℕ × Puddle)) (types : List (ℕ × ℕ)) (imag
     -- a reference names the object where its word is the object's address
     same_address : (r q v : ℕ) → place_in_pool F at image r ≡ Some q → address_at at q ≡ v → v ≡ address_at at p → r ≡ s
     same_address r q v there is same =
-        let live = place_of-some (table_in F at image) (places_in at) r q there in
+        let live = place_of_serial-some (table_in F at image) (places_in at) r q there in
         let one = place_unique at is_placed.bases q p live.within named.within (is ∙ same) in
         sym live.is ∙ ap (λ (k : ℕ). place_word (stored_in F at image) k SLOT_SERIAL_WORD) one ∙ named.is
 

@@ -20,7 +20,7 @@ use Rattle.pud_defs.specs.GraphChanges.{without_object}
 use Rattle.pud_defs.specs.DeferredValues.{DeferredValue, deferred_value_names, deferred_set_names}
 use Rattle.pud_defs.proofs.TypeLists.{same_test, same_number}
 use Rattle.graph_laws.specs.Changes.{with_serial_word}
-use Rattle.graph_laws.proofs.Words.{place_of-some, slot_word-there, slot_word-other}
+use Rattle.graph_laws.proofs.Words.{place_of_serial-some, slot_word-there, slot_word-other}
 use Rattle.puddle_header.specs.Places.{places_in, place_of_slot, IsSlotOf}
 use Rattle.graph_read.specs.Reading.{place_in_pool, table_in}
 use Rattle.object_alloc.specs.Alloc.{serial_word_at}
@@ -106,7 +106,7 @@ module _ (types : List (ℕ × ℕ)) (F : ℕ) (at : List (ℕ × Puddle)) (imag
 
   KeepsPlaces-freed : KeepsPlaces F at at image freed (without_object s now)
   KeepsPlaces-freed =
-      let there = place_of-some (table_in F at image) (places_in at) s (place_of_slot slot) found in
+      let there = place_of_serial-some (table_in F at image) (places_in at) s (place_of_slot slot) found in
       record {
         each = λ r o live.
             let apart : r ≡ s → ⊥ = λ same. none-some o (sym (not_found s now) ∙ ap (λ (k : ℕ). object_in k (without_object s now)) (sym same) ∙ live) in

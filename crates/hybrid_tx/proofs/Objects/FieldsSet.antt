@@ -17,7 +17,7 @@ use Rattle.pud_defs.specs.Image.{Image, written}
 use Rattle.pud_defs.specs.Frames.{frame_at}
 use Rattle.pud_defs.specs.Replay.{overwritten}
 use Rattle.pud_defs.specs.Stored.{Stored, stored_in, places_of}
-use Rattle.pud_defs.specs.Graph.{table_of, place_of, object_at, Object, field_count, Graph, object_in, graph_of}
+use Rattle.pud_defs.specs.Graph.{table_of, place_of_serial, object_at, Object, field_count, Graph, object_in, graph_of}
 use Rattle.pud_defs.proofs.Replay.{overwritten-there, overwritten-stays, value_at-there, value_at-apart}
 use Rattle.pud_defs.specs.GraphChanges.{with_field}
 use Rattle.graph_laws.specs.Changes.{with_word, with_words, with_field_word, IsAddress, IsField}
@@ -26,7 +26,7 @@ use Rattle.pud_defs.specs.Exported.{address_in}
 use Rattle.graph_laws.proofs.Fields.{graph_of-number, graph_of-null, graph_of-reference}
 use Rattle.graph_laws.proofs.Places.{object_in-place}
 use Rattle.graph_laws.proofs.StoredImages.{stored_in-written}
-use Rattle.graph_laws.proofs.Words.{place_of-some, few_fields}
+use Rattle.graph_laws.proofs.Words.{place_of_serial-some, few_fields}
 use Rattle.puddle_header.specs.Places.{place_of_slot, IsSlotOf}
 use Rattle.graph_read.specs.Reading.{place_in_pool}
 use Rattle.puddle_header.proofs.Placed.{place_ordinal, place_slot}
@@ -79,8 +79,8 @@ module _ (types : List (ℕ × ℕ)) (F : ℕ) (at : List (ℕ × Puddle)) (imag
   st = stored_in F at image
 
   -- where a serial stands in the table of what is stored
-  pub place_is : (s : ℕ) → place_of s (table_of types st) (places_of st) ≡ place_in_pool F at image s
-  place_is s = ap (λ n. place_of s (table_of types st) (places_among n)) (length-map at (λ (e : ℕ × Puddle). e.1))
+  pub place_is : (s : ℕ) → place_of_serial s (table_of types st) (places_of st) ≡ place_in_pool F at image s
+  place_is s = ap (λ n. place_of_serial s (table_of types st) (places_among n)) (length-map at (λ (e : ℕ × Puddle). e.1))
 
   -- the object of a serial is the one at its place
   pub object_by_place : (s : ℕ) → object_in s g ≡ option_map (object_at (table_of types st)) (place_in_pool F at image s)
@@ -143,7 +143,7 @@ module _ (types : List (ℕ × ℕ)) (F : ℕ) (at : List (ℕ × Puddle)) (imag
 
       address : (r v : ℕ) (named : IsAddressOf F at image r v) → IsAddress st.puddles (ordinal_of p) (slot_of p + 1) named.place v
       address r v named =
-          let within = (place_of-some (table_of types st) (places_of st) r named.place (place_is r ∙ named.found)).within in
+          let within = (place_of_serial-some (table_of types st) (places_of st) r named.place (place_is r ∙ named.found)).within in
           let slots = of.below in
           address_of_place placed (ordinal_of p) (slot_of p + 1) (slot.frame, of.puddle)
           (subst (λ (o : ℕ). IsRewrittenAt at o) (sym (place_ordinal slot.ordinal slot.slot of.below)) rewritten) (ap (slice_get at) (place_ordinal slot.ordinal slot.slot of.below) ∙ of.there) (omega arith) named.place v within named.is

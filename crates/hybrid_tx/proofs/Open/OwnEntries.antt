@@ -7,7 +7,7 @@ use Rattle.std.proofs.lemmas.Bool.{cases_Bool, cond-true, cond-false}
 use Rattle.std.proofs.lemmas.List.Elements.{All-nil, All-cons, All-head, All-tail}
 use Rattle.pud_defs.specs.declared.log_words.TheConstants.{UNDO_ORDER, REDO_ORDER}
 use Rattle.pud_defs.specs.Entries.{Entry, Log}
-use Rattle.pud_defs.specs.Replay.{Place, is_in_range, given_by, undo_value, redo_value, given, new_value}
+use Rattle.pud_defs.specs.Replay.{AddressMap, is_in_range, given_by, undo_value, redo_value, given, new_value}
 use Rattle.pud_defs.proofs.Replay.{undo_value-first, redo_value-first, given_by-out, or_none, new_value-of}
 use Rattle.word_transaction.specs.Scope.{Scope, IsScope, IsInScope}
 use Rattle.word_transaction.specs.Running.{HasPlaces}
@@ -33,7 +33,7 @@ counted_own g log (e ∷ es) own =
       | inr out ↦ subst (λ (xs : List Entry). All (IsInScope g) xs) (sym (cond-false _ _ _ out)) rest
     ]
 
-undo_value-counted : (place : Place) (log : Log) (es : List Entry) (w : ℕ) → undo_value place log es w ≡ undo_value place log (counted log es) w
+undo_value-counted : (place : AddressMap) (log : Log) (es : List Entry) (w : ℕ) → undo_value place log es w ≡ undo_value place log (counted log es) w
 undo_value-counted place log [] w = refl
 undo_value-counted place log (e ∷ es) w = elim (cases_Bool (is_in_range log e)) [
   | inl inside ↦
@@ -47,7 +47,7 @@ undo_value-counted place log (e ∷ es) w = elim (cases_Bool (is_in_range log e)
       ∙ ap (λ (xs : List Entry). undo_value place log xs w) (sym (cond-false _ _ _ out))
 ]
 
-redo_value-counted : (place : Place) (log : Log) (es : List Entry) (w : ℕ) → redo_value place log es w ≡ redo_value place log (counted log es) w
+redo_value-counted : (place : AddressMap) (log : Log) (es : List Entry) (w : ℕ) → redo_value place log es w ≡ redo_value place log (counted log es) w
 redo_value-counted place log [] w = refl
 redo_value-counted place log (e ∷ es) w = elim (cases_Bool (is_in_range log e)) [
   | inl inside ↦
@@ -62,13 +62,13 @@ redo_value-counted place log (e ∷ es) w = elim (cases_Bool (is_in_range log e)
       ∙ ap (λ (xs : List Entry). redo_value place log xs w) (sym (cond-false _ _ _ out))
 ]
 
-new_value-counted : (place : Place) (log : Log) (es : List Entry) (w : ℕ) → log.entries ≡ Some es → new_value place log w ≡ given place log (counted log es) w
+new_value-counted : (place : AddressMap) (log : Log) (es : List Entry) (w : ℕ) → log.entries ≡ Some es → new_value place log w ≡ given place log (counted log es) w
 new_value-counted place log es w are = new_value-of place log es w are ∙ ap₂ option_or (redo_value-counted place log es w) (undo_value-counted place log es w)
 
 -- ---- what they give
 
 -- over places that agree the log gives the same
-pub new_value_placed : (g : Scope) (place : Place) (log : Log) → HasPlaces g place → (es : List Entry) (w : ℕ) → log.entries ≡ Some es → All (IsOwnInRange g log) es
+pub new_value_placed : (g : Scope) (place : AddressMap) (log : Log) → HasPlaces g place → (es : List Entry) (w : ℕ) → log.entries ≡ Some es → All (IsOwnInRange g log) es
     → new_value place log w ≡ new_value g.place log w
 new_value_placed g place log places es w are own =
     let counts = counted log es in

@@ -9,7 +9,7 @@ use Rattle.log_entry.proofs.Left.{IsReading-start, IsReading-more}
 use Rattle.log_entry.proofs.Copies.{gate_set}
 use Rattle.log_entry.proofs.Readdressed.{Readdresses-start, Readdresses-set, Readdresses-kept, Readdresses-end}
 use Rattle.log_replay.specs.Placing.{word_at, word_or_none, placed_entry}
-use Rattle.log_replay.proofs.Places.{place_of-located}
+use Rattle.log_replay.proofs.Places.{address_map_of-located}
 use Rattle.log_replay.proofs.Placed.{placed-counts, placed-out}
 use Rattle.log_replay.proofs.place_addresses.Goals as goal
 
@@ -39,7 +39,7 @@ loop-entry-preserved-then-counts g c =
           let counts = sym (c.counts.ensures i log c.range-range.ensures) ∙ c.if-counts.true in
           let located = c.in_ok-place.ensures.located t image (still_reads l.invariant.only_reads t same) (l.invariant.nearby t image same) in
           let word : word_or_none (place entry.addr) ≡ c.device_word_at.result =
-          ap word_or_none (place_of-located c.args.frames image entry.addr ∙ ap (option_map (word_at c.args.frames)) (sym located)) ∙ sym c.device_word_at.ensures in
+          ap word_or_none (address_map_of-located c.args.frames image entry.addr ∙ ap (option_map (word_at c.args.frames)) (sym located)) ∙ sym c.device_word_at.ensures in
           Readdresses-set (placed_entry place log) i (image_of c.set_address.new.self) _ entry _ c.next.new.self es c.device_word_at.result c.in-Some.is c.next.ensures.next c.next.ensures.left c.next.ensures.passes
           (l.invariant.so_far t image same es are) c.set_address.ensures
           (placed-counts place log (entry_from i entry) counts ∙ ap (λ (a : ℕ). with_address a (entry_from i entry)) word);

@@ -4,7 +4,7 @@ use Rattle.pm_model.specs.Words.{reads}
 use Rattle.pm_model.specs.Moments.{State}
 use Rattle.pm_model.specs.Counts.{fault_of}
 use Rattle.pm_model.proofs.Reading.{Changes-read}
-use Rattle.log_replay.specs.Replaying.{place_of, new_values, IsPlacedCopy, IsReplayable, HasDurableLog, Replays, ReplaysAgain}
+use Rattle.log_replay.specs.Replaying.{address_map_of, new_values, IsPlacedCopy, IsReplayable, HasDurableLog, Replays, ReplaysAgain}
 use Rattle.log_replay.proofs.Applying.{Applies-failed_still, size_then}
 use Rattle.log_replay.proofs.Whole.{Replays-failed, replays_again}
 use Rattle.log_replay.proofs.replay_range.Goals as goal
@@ -24,7 +24,7 @@ returns-clause-replays g c = λ t size same es r.
     let to = c.args.to in
     let at = c.args.log_at in
     let copied = c.in_ok-copy.ensures.placed t _ refl es r.spells in
-    subst (λ (x : State). IsReplayable (place_of to (reads x.now.words)) size at es (reads x.now.words) → IsPlacedCopy to at (reads x.now.words) c.in_ok-copy.copy
+    subst (λ (x : State). IsReplayable (address_map_of to (reads x.now.words)) size at es (reads x.now.words) → IsPlacedCopy to at (reads x.now.words) c.in_ok-copy.copy
     → Replays to at (fault_of c.replay_copy.result) x (g.H.Host.state c.replay_copy.new.h))
     (c.in_ok-copy.ensures.only_reads.stays t) (c.replay_copy.ensures.replays t size (size_then size _ _ same c.in_ok-copy.ensures.only_reads.cause) to at es) r copied
 
@@ -33,6 +33,6 @@ returns-clause-again g c = λ t size same es r d.
     let to = c.args.to in
     let at = c.args.log_at in
     let copied = c.in_ok-copy.ensures.placed t _ refl es r.spells in
-    subst (λ (x : State). IsReplayable (place_of to (reads x.now.words)) size at es (reads x.now.words) → IsPlacedCopy to at (reads x.now.words) c.in_ok-copy.copy → HasDurableLog to at x.now.words
+    subst (λ (x : State). IsReplayable (address_map_of to (reads x.now.words)) size at es (reads x.now.words) → IsPlacedCopy to at (reads x.now.words) c.in_ok-copy.copy → HasDurableLog to at x.now.words
     → ReplaysAgain to size at es x (g.H.Host.state c.replay_copy.new.h))
     (c.in_ok-copy.ensures.only_reads.stays t) (c.replay_copy.ensures.again t size (size_then size _ _ same c.in_ok-copy.ensures.only_reads.cause) to at es) r copied d

@@ -5,7 +5,7 @@ use Rattle.pm_model.specs.Moments.{State}
 use Rattle.pm_model.specs.Changes.{Leaves, Silently}
 use Rattle.pm_model.specs.Counts.{fault_of}
 use Rattle.pm_model.proofs.Reading.{Changes-read}
-use Rattle.log_replay.specs.Replaying.{place_of, new_values, IsPlacedCopy, IsReplayable, HasDurableLog, IsSettling, SettlesLog}
+use Rattle.log_replay.specs.Replaying.{address_map_of, new_values, IsPlacedCopy, IsReplayable, HasDurableLog, IsSettling, SettlesLog}
 use Rattle.log_replay.proofs.Applying.{Applies-failed_still, size_then}
 use Rattle.log_replay.proofs.Whole.{Replays-failed, replays_again}
 use Rattle.log_replay.proofs.Closing.{SettlesLog-replay, moments-replay, moments-same}
@@ -33,7 +33,7 @@ returns-clause-settles g c = λ t size same es r.
     let to = c.args.to in
     let at = c.args.log_at in
     let copied = c.in_ok-copy.ensures.placed t _ refl es r.spells in
-    subst (λ (x : State). IsReplayable (place_of to (reads x.now.words)) size at es (reads x.now.words) → IsPlacedCopy to at (reads x.now.words) c.in_ok-copy.copy
+    subst (λ (x : State). IsReplayable (address_map_of to (reads x.now.words)) size at es (reads x.now.words) → IsPlacedCopy to at (reads x.now.words) c.in_ok-copy.copy
     → SettlesLog to at (fault_of c.settle_copy.result) x (g.H.Host.state c.settle_copy.new.h))
     (c.in_ok-copy.ensures.only_reads.stays t) (c.settle_copy.ensures.settles t size (size_then size _ _ same c.in_ok-copy.ensures.only_reads.cause) to es) r copied
 
@@ -42,7 +42,7 @@ returns-clause-moments g c = λ t size same es r d.
     let to = c.args.to in
     let at = c.args.log_at in
     let copied = c.in_ok-copy.ensures.placed t _ refl es r.spells in
-    subst (λ (x : State). IsReplayable (place_of to (reads x.now.words)) size at es (reads x.now.words) → IsPlacedCopy to at (reads x.now.words) c.in_ok-copy.copy → HasDurableLog to at x.now.words
+    subst (λ (x : State). IsReplayable (address_map_of to (reads x.now.words)) size at es (reads x.now.words) → IsPlacedCopy to at (reads x.now.words) c.in_ok-copy.copy → HasDurableLog to at x.now.words
     → Leaves (Silently (IsSettling to at x.now.words)) x (g.H.Host.state c.settle_copy.new.h))
     (c.in_ok-copy.ensures.only_reads.stays t) (c.settle_copy.ensures.moments t size (size_then size _ _ same c.in_ok-copy.ensures.only_reads.cause) to es) r copied d
 

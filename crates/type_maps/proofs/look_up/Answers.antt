@@ -1,10 +1,10 @@
 use Rattle.std.proofs.Common.{◌≡◌, ℕ, ◌+◌, ◌<◌, ◌∙◌, IfSome, None, Option, sym, ap, subst, arith}
 use Rattle.pm_model.specs.Words.{reads}
-use Rattle.type_maps.specs.declared.Place.TheVariants.{Defined}
+use Rattle.type_maps.specs.declared.Lookup.TheVariants.{Defined}
 use Rattle.pm_model.specs.Moments.{State}
 use Rattle.pud_defs.specs.declared.layout.TheConstants.{TYPE_RECORDS}
 use Rattle.pud_defs.specs.Types.{type_record_at}
-use Rattle.type_maps.specs.Define.{place_by}
+use Rattle.type_maps.specs.Define.{lookup_by}
 use Rattle.type_maps.proofs.LookUp.{place_from, place_from-start, place_from-free, place_from-other, place_from-here, place_from-end, either_within}
 use Rattle.pm_model.proofs.Reading.{OnlyReads-none, OnlyReads-then}
 use Rattle.type_maps.proofs.look_up.Goals as goal
@@ -52,9 +52,9 @@ loop-record-preserved g c = record {
 pub returns-in-Some-clause-place : goal.returns-in-Some-clause-place
 returns-in-Some-clause-place g c = λ t.
     let image = reads (g.H.Loads.state c.args.h.now).now.words in
-    sym (c.loop-record.invariant.place t ∙ place_from-end image c.args.id c.loop-record.free c.loop-record.record (omega arith) ∙ ap (λ (f : Option ℕ). place_by None f) c.in-Some.is)
+    sym (c.loop-record.invariant.place t ∙ place_from-end image c.args.id c.loop-record.free c.loop-record.record (omega arith) ∙ ap (λ (f : Option ℕ). lookup_by None f) c.in-Some.is)
 
 pub returns-in-None-clause-place : goal.returns-in-None-clause-place
 returns-in-None-clause-place g c = λ t.
     let image = reads (g.H.Loads.state c.args.h.now).now.words in
-    sym (c.loop-record.invariant.place t ∙ place_from-end image c.args.id c.loop-record.free c.loop-record.record (omega arith) ∙ ap (λ (f : Option ℕ). place_by None f) c.in-None.is)
+    sym (c.loop-record.invariant.place t ∙ place_from-end image c.args.id c.loop-record.free c.loop-record.record (omega arith) ∙ ap (λ (f : Option ℕ). lookup_by None f) c.in-None.is)

@@ -1,13 +1,13 @@
 use Rattle.std.proofs.Common.{◌≡◌, sym, ap, ◌∙◌, arith}
 use Rattle.puddle_header.specs.Places.{places_in}
 use Rattle.graph_read.specs.Reading.{table_in, place_in_pool}
-use Rattle.graph_read.proofs.Found.{place_from-start, place_from-here, place_from-other, place_from-end, place_of-zero}
+use Rattle.graph_read.proofs.Found.{place_from-start, place_from-here, place_from-other, place_from-end, place_of_serial-zero}
 use Rattle.pm_model.proofs.Reading.{OnlyReads-none, OnlyReads-then, still_reads}
 use Rattle.graph_read.proofs.places.find_place.Goals as goal
 
 pub returns-then-s-eq0-clause-found : goal.returns-then-s-eq0-clause-found
 returns-then-s-eq0-clause-found g c = λ t image same.
-    sym (ap (λ s. place_in_pool c.args.frames c.args.pool.now image s) c.if-s-eq0.true ∙ place_of-zero (table_in c.args.frames c.args.pool.now image) (places_in c.args.pool.now))
+    sym (ap (λ s. place_in_pool c.args.frames c.args.pool.now image s) c.if-s-eq0.true ∙ place_of_serial-zero (table_in c.args.frames c.args.pool.now image) (places_in c.args.pool.now))
 
 pub returns-then-branch-s-clause-found : goal.returns-then-branch-s-clause-found
 returns-then-branch-s-clause-found g c = λ t image same.

@@ -3,14 +3,14 @@ use Rattle.pud_defs.specs.declared.space.TheConstants.{WORD_BYTES}
 use Rattle.pud_defs.specs.Tables.{tables_of}
 use Rattle.pud_defs.specs.Image.{Image}
 use Rattle.pud_defs.specs.Puddles.{puddle_at}
-use Rattle.pud_defs.specs.Places.{first_some, place_by}
+use Rattle.pud_defs.specs.Places.{first_some, place_in_puddle}
 use Rattle.puddle_space.specs.Nearby.{AreNeighbours}
 use Rattle.puddle_space.proofs.Located.{located_by_records, first_some-passed, first_some-found, first_some-none, placed_by_base, nowhere_by_base, unplaced_by_base}
 use Rattle.pm_model.proofs.Reading.{OnlyReads-none, OnlyReads-then, still_reads}
 use Rattle.puddle_space.proofs.addresses.search.Goals as goal
 
 abbrev places : Image → ℕ → ℕ → Option (ℕ × ℕ)
-places image address k = place_by address k (puddle_at image k)
+places image address k = place_in_puddle address k (puddle_at image k)
 
 pub loop-frame-init : goal.loop-frame-init
 loop-frame-init g c =

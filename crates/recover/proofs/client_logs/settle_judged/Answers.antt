@@ -5,7 +5,7 @@ use Rattle.pm_model.specs.Changes.{Leaves, Silently}
 use Rattle.pud_defs.specs.Image.{Image}
 use Rattle.pud_defs.specs.Settled.{log_number_at}
 use Rattle.log_replay.specs.declared.Target.TheVariants.{Puddles}
-use Rattle.log_replay.specs.Replaying.{place_of, IsPlacedCopy, IsReplayable, IsSettling, SettlesLog}
+use Rattle.log_replay.specs.Replaying.{address_map_of, IsPlacedCopy, IsReplayable, IsSettling, SettlesLog}
 use Rattle.recover.proofs.Accepting.{of_replayed, of_refused, not_accepted_gives_nothing, may_be_replayed}
 use Rattle.recover.proofs.LogRecovered.{TakesTurn-still, LeavesTurn-still, TakesTurn-settled, LeavesTurn-settled, durable_log}
 use Rattle.recover.proofs.client_logs.settle_judged.Goals as goal
@@ -36,10 +36,10 @@ returns-in-Replayed-clause-takes g c = λ t image is found judged.
     let fault = fault_of c.settle_copy.result in
     let accepted = of_replayed F number image (sym found ∙ ap Some c.in-Replayed.is) in
     let may = may_be_replayed F number size image c.requires.known c.requires.room accepted in
-    let settles = subst (λ (k : ℕ). (i : Image) → reads old.now.words ≡ i → IsReplayable (place_of (Puddles F) i) size k may.es i → IsPlacedCopy (Puddles F) k i c.args.judged.now.copy → SettlesLog (Puddles F) k fault old new)
+    let settles = subst (λ (k : ℕ). (i : Image) → reads old.now.words ≡ i → IsReplayable (address_map_of (Puddles F) i) size k may.es i → IsPlacedCopy (Puddles F) k i c.args.judged.now.copy → SettlesLog (Puddles F) k fault old new)
     c.log_number_at.ensures (λ i same r placed.
     c.settle_copy.ensures.settles t size refl (Puddles F) may.es
-    (subst (λ (x : Image). IsReplayable (place_of (Puddles F) x) size c.log_number_at.result may.es x) (sym same) r)
+    (subst (λ (x : Image). IsReplayable (address_map_of (Puddles F) x) size c.log_number_at.result may.es x) (sym same) r)
     (subst (λ (x : Image). IsPlacedCopy (Puddles F) c.log_number_at.result x c.args.judged.now.copy) (sym same) placed)) in
     TakesTurn-settled F number image old is fault new accepted (settles image is may.replayable (judged.placed c.in-Replayed.is))
 
@@ -54,15 +54,15 @@ returns-in-Replayed-clause-leaves g c = λ t image rested is found judged.
     let fault = fault_of c.settle_copy.result in
     let accepted = of_replayed F number image (sym found ∙ ap Some c.in-Replayed.is) in
     let may = may_be_replayed F number size image c.requires.known c.requires.room accepted in
-    let settles = subst (λ (k : ℕ). (i : Image) → reads old.now.words ≡ i → IsReplayable (place_of (Puddles F) i) size k may.es i → IsPlacedCopy (Puddles F) k i c.args.judged.now.copy → SettlesLog (Puddles F) k fault old new)
+    let settles = subst (λ (k : ℕ). (i : Image) → reads old.now.words ≡ i → IsReplayable (address_map_of (Puddles F) i) size k may.es i → IsPlacedCopy (Puddles F) k i c.args.judged.now.copy → SettlesLog (Puddles F) k fault old new)
     c.log_number_at.ensures (λ i same r placed.
     c.settle_copy.ensures.settles t size refl (Puddles F) may.es
-    (subst (λ (x : Image). IsReplayable (place_of (Puddles F) x) size c.log_number_at.result may.es x) (sym same) r)
+    (subst (λ (x : Image). IsReplayable (address_map_of (Puddles F) x) size c.log_number_at.result may.es x) (sym same) r)
     (subst (λ (x : Image). IsPlacedCopy (Puddles F) c.log_number_at.result x c.args.judged.now.copy) (sym same) placed)) in
-    let moments = subst (λ (k : ℕ). (i : Image) → reads old.now.words ≡ i → IsReplayable (place_of (Puddles F) i) size k may.es i → IsPlacedCopy (Puddles F) k i c.args.judged.now.copy
+    let moments = subst (λ (k : ℕ). (i : Image) → reads old.now.words ≡ i → IsReplayable (address_map_of (Puddles F) i) size k may.es i → IsPlacedCopy (Puddles F) k i c.args.judged.now.copy
     → Leaves (Silently (IsSettling (Puddles F) k old.now.words)) old new)
     c.log_number_at.ensures (λ i same r placed.
     c.settle_copy.ensures.moments t size refl (Puddles F) may.es
-    (subst (λ (x : Image). IsReplayable (place_of (Puddles F) x) size c.log_number_at.result may.es x) (sym same) r)
+    (subst (λ (x : Image). IsReplayable (address_map_of (Puddles F) x) size c.log_number_at.result may.es x) (sym same) r)
     (subst (λ (x : Image). IsPlacedCopy (Puddles F) c.log_number_at.result x c.args.judged.now.copy) (sym same) placed) (durable_log (Puddles F) c.log_number_at.result old.now.words rested)) in
     LeavesTurn-settled F number image old is fault new accepted (settles image is may.replayable (judged.placed c.in-Replayed.is)) rested (moments image is may.replayable (judged.placed c.in-Replayed.is))

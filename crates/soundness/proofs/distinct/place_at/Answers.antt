@@ -5,14 +5,14 @@ use Rattle.pud_defs.specs.declared.records.TheConstants.{MAX_PUDDLES}
 use Rattle.pud_defs.specs.Replay.{settled_by}
 use Rattle.pud_defs.specs.Puddles.{puddle_record_at}
 use Rattle.pud_defs.proofs.Replay.{outside_log}
-use Rattle.soundness.specs.Distinct.{joined, place_of}
+use Rattle.soundness.specs.Distinct.{joined, mark_index}
 use Rattle.soundness.proofs.Marks.{free_record, place_used}
 use Rattle.soundness.proofs.distinct.place_at.Goals as goal
 
 pub returns-then-member-eq0-clause-place : goal.returns-then-member-eq0-clause-place
 returns-then-member-eq0-clause-place g c = λ t image same over frames below.
     let read = c.in_ok-member.ensures.value t image same over (outside_log DAEMON_LOG (puddle_record_at c.args.frame) (inr (omega arith))) in
-    sym (ap (option_map place_of) (free_record frames (settled_by DAEMON_LOG image) c.args.frame below (sym read ∙ c.if-member-eq0.true)))
+    sym (ap (option_map mark_index) (free_record frames (settled_by DAEMON_LOG image) c.args.frame below (sym read ∙ c.if-member-eq0.true)))
 
 pub returns-clause-place : goal.returns-clause-place
 returns-clause-place g c = λ t image same over frames below.

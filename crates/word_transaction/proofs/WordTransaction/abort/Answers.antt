@@ -3,7 +3,7 @@ use Rattle.pm_model.specs.Words.{reads}
 use Rattle.pm_model.specs.Counts.{fault_of}
 use Rattle.pm_model.specs.Changes.{Leaves, Silently}
 use Rattle.log_replay.specs.declared.Target.TheVariants.{Puddles}
-use Rattle.log_replay.specs.Replaying.{place_of, IsReplayable, HasDurableLog, IsSettling, SettlesLog}
+use Rattle.log_replay.specs.Replaying.{address_map_of, IsReplayable, HasDurableLog, IsSettling, SettlesLog}
 use Rattle.log_replay.proofs.Applying.{any_wider}
 use Rattle.word_transaction.specs.Scope.{saved}
 use Rattle.word_transaction.proofs.Undone.{AbortsTransaction-empty, Gives-running}
@@ -29,7 +29,7 @@ returns-clause-closes g c =
     rw (← c.self.view_is) (λ t size same ground es before is r places table.
     let gives = Gives-running size ground log es before old.now.words is r in
     let write = saved ground.place es in
-    let may = subst (λ (k : ℕ). IsReplayable (place_of (Puddles F) (reads old.now.words)) size k es (reads old.now.words)) (sym here) (replayable size F ground log es write before old is gives places table) in
+    let may = subst (λ (k : ℕ). IsReplayable (address_map_of (Puddles F) (reads old.now.words)) size k es (reads old.now.words)) (sym here) (replayable size F ground log es write before old is gives places table) in
     let durable = subst (λ (k : ℕ). HasDurableLog (Puddles F) k old.now.words) (sym here) (durable_log size F ground log es write before old is gives places table) in
     let recovers = subst (λ (k : ℕ). SettlesLog (Puddles F) k fault old new) here (c.settle_log.ensures.settles t size same es may) in
     let moments = subst (λ (k : ℕ). Leaves (Silently (IsSettling (Puddles F) k old.now.words)) old new) here (c.settle_log.ensures.moments t size same es may durable) in

@@ -2,7 +2,7 @@ use Rattle.std.proofs.Common.{◌≡◌, ◌≢◌, ℕ, OnOk, Some, None, slice
 use Rattle.std.proofs.lemmas.Bool.{eqb-false}
 use Rattle.pm_model.proofs.Reading.{still_reads}
 use Rattle.pud_defs.specs.declared.space.TheConstants.{SLOT_TYPE_WORD}
-use Rattle.pud_defs.specs.Graph.{table_of, contents_by}
+use Rattle.pud_defs.specs.Graph.{table_of, slot_contents}
 use Rattle.pud_defs.specs.Stored.{stored_in, place_word}
 use Rattle.pud_defs.specs.Types.{types_of, map_of}
 use Rattle.graph_read.specs.Asking.{with_serials}
@@ -21,8 +21,8 @@ returns-in-Some-clause-holds g c = λ t image same.
     let map : map_of (place_word st c.args.place SLOT_TYPE_WORD) (types_of image) ≡ Some c.in-Some.type_map =
     ap (λ id. map_of id (types_of image)) (sym first) ∙ sym (c.in_ok-type_map.ensures.map t image second) ∙ c.in-Some.is in
     let live : table.serial c.args.place ≢ 0 = eqb-false _ 0 (sym c.is_free.ensures ∙ c.if-is_free.false) in
-    let whole : (q : ℕ) → contents_name serial (contents_by st c.args.place (Some c.in-Some.type_map)) q ≡ place_names table c.args.place q =
-    λ q. sym (place_names-live table c.args.place q live ∙ ap (λ m. contents_name serial (contents_by st c.args.place m) q) map) in
+    let whole : (q : ℕ) → contents_name serial (slot_contents st c.args.place (Some c.in-Some.type_map)) q ≡ place_names table c.args.place q =
+    λ q. sym (place_names-live table c.args.place q live ∙ ap (λ m. contents_name serial (slot_contents st c.args.place m) q) map) in
     subst (λ (f : ℕ → ℕ). OnOk c.hold_fields.result (Gains f c.args.self.now c.hold_fields.new.self)) (λ i q. whole q i) (c.hold_fields.ensures.holds t image third)
 
 pub returns-in-None-clause-holds : goal.returns-in-None-clause-holds
@@ -35,4 +35,4 @@ returns-in-None-clause-holds g c = λ t image same.
     let map : map_of (place_word st c.args.place SLOT_TYPE_WORD) (types_of image) ≡ None =
     ap (λ id. map_of id (types_of image)) (sym first) ∙ sym (c.in_ok-type_map.ensures.map t image second) ∙ c.in-None.is in
     let live : table.serial c.args.place ≢ 0 = eqb-false _ 0 (sym c.is_free.ensures ∙ c.if-is_free.false) in
-    Gains-none (place_names table c.args.place) c.args.self.now (λ q. place_names-live table c.args.place q live ∙ ap (λ m. contents_name serial (contents_by st c.args.place m) q) map)
+    Gains-none (place_names table c.args.place) c.args.self.now (λ q. place_names-live table c.args.place q live ∙ ap (λ m. contents_name serial (slot_contents st c.args.place m) q) map)
