@@ -30,7 +30,7 @@ use std::alloc::Global;
 use std::str;
 
 /// What is replied where a file was to be placed, by what became of it.
-fn reply_of(done: Result<(), PlaceFault>) -> Result<Reply, HostFault>
+fn reply_of_placing(done: Result<(), PlaceFault>) -> Result<Reply, HostFault>
     ensures { result ≡ reply_of_placing done }
 {
     match done {
@@ -84,7 +84,7 @@ fn place_bytes<H: Host>(
     let Ok(view) = read_file(bytes) else {
         return Ok(Reply::No(Refusal::BadFile));
     };
-    reply_of(place(h, frames, &view, name, uid, gid, mode))
+    reply_of_placing(place(h, frames, &view, name, uid, gid, mode))
 }
 
 /// The same of what the file of this name on the shelf holds. The whole file is read before any step of the device.

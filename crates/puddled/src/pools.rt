@@ -26,7 +26,7 @@ use pud_defs::records::Name;
 use registry::{MakeFault, change_mode, drop_pool, make_pool};
 
 /// What is replied to the making of a pool, by what became of it.
-fn reply_of(done: Result<(), MakeFault>) -> Result<Reply, HostFault>
+fn reply_of_making(done: Result<(), MakeFault>) -> Result<Reply, HostFault>
     ensures { result ≡ reply_of_making done }
 {
     match done {
@@ -62,7 +62,7 @@ pub(crate) fn create_pool<H: Host>(
     let Some(who) = owner(h, client)? else {
         return Ok(Reply::No(Refusal::Client));
     };
-    reply_of(make_pool(h, frames, name, who.uid, who.gid, mode))
+    reply_of_making(make_pool(h, frames, name, who.uid, who.gid, mode))
 }
 
 impl Daemon {

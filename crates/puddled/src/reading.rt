@@ -24,7 +24,7 @@ use pud_defs::records::{Name, Puddle};
 use std::alloc::Global;
 
 /// What is replied, by what was read of the field.
-fn reply_of(read: FieldRead) -> Reply
+fn reply_of_read(read: FieldRead) -> Reply
     ensures { result ≡ reply_of_read read }
 {
     match read {
@@ -75,6 +75,6 @@ impl Daemon {
         };
         self.judged.build(alloc, h, self.frames, found.slot)?;
         let read = self.judged.read_field(h, self.frames, found.slot, s, f)?;
-        Ok(reply_of(read))
+        Ok(reply_of_read(read))
     }
 }

@@ -9,7 +9,7 @@ ghost use Rattle.pud_defs.specs.Step.{answer_by, world_by};
 ghost use Rattle.pud_defs.specs.Step.Answer.{of_reply};
 ghost use Rattle.pud_defs.specs.declared.machine.Command.TheVariants.{Define};
 ghost use Rattle.ready_daemon.specs.Memory.{Memory};
-ghost use Rattle.ready_daemon.specs.Defined.{reply_of};
+ghost use Rattle.ready_daemon.specs.Defined.{reply_of_definition};
 ghost use Rattle.ready_daemon.specs.Ready.{KeepsRest, IsReady, Applies};
 
 use pm_model::{Host, HostFault};
@@ -17,8 +17,8 @@ use pud_defs::machine::{Refusal, Reply};
 use type_maps::{TypeFault, define};
 
 /// What is replied to a definition, by what became of it.
-fn reply_of(done: Result<(), TypeFault>) -> Result<Reply, HostFault>
-    ensures { result ≡ reply_of done }
+fn reply_of_definition(done: Result<(), TypeFault>) -> Result<Reply, HostFault>
+    ensures { result ≡ reply_of_definition done }
 {
     match done {
         Ok(()) => Ok(Reply::Ok),
@@ -40,5 +40,5 @@ pub(crate) fn define_type<H: Host>(h: &mut H, id: u32, map: u64) -> Result<Reply
     ensures rests { H.tells → fault_of result ≡ Option.Some HostFault.Cut → IsRested (H.state h.new).now.words }
     ensures cause { H.counts h.new ≡ after_fault (fault_of result) (H.counts h.old) }
 {
-    reply_of(define(h, id, map))
+    reply_of_definition(define(h, id, map))
 }

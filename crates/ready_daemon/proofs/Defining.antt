@@ -54,7 +54,7 @@ use Rattle.ready_daemon.specs.Memory.{ActiveTransaction, Memory}
 use Rattle.ready_daemon.specs.ActiveTransactions.{HasIdleLogs, AreActive, ByOthers, NamesNone, KeepsActive}
 use Rattle.ready_daemon.proofs.Beneath.{ready_gate, single_changes, persisted_single, logs_kept}
 use Rattle.ready_daemon.proofs.PuddlesLeft.{LeavesPuddles-changes}
-use Rattle.ready_daemon.specs.Defined.{reply_of}
+use Rattle.ready_daemon.specs.Defined.{reply_of_definition}
 use Rattle.ready_daemon.specs.Moves.{Stays, LeavesPuddles}
 use Rattle.ready_daemon.specs.Ready.{KeepsRest, IsReady, AppliesMasked, Applies}
 use Rattle.ready_daemon.proofs.Keeping.{KeepsRest-changes, KeepsRest-still}
@@ -432,14 +432,14 @@ pub refusal_when_ready : (size : ℕ) (w : World) (memory : Memory) (id map : �
 refusal_when_ready size w memory id map old ready =
     sym (refusal_same size w memory old ready id map) ∙ refusal_of_table size w (reads (masked ready.mask old.now.words)) id map (standing size w memory old ready)
 
-pub fault_of_reply : (done : Result (Unit {0}) TypeFault) → fault_of (reply_of done) ≡ fault_in done
+pub fault_of_reply : (done : Result (Unit {0}) TypeFault) → fault_of (reply_of_definition done) ≡ fault_in done
 fault_of_reply (Ok x) = refl
 fault_of_reply (Err faults.Clash) = refl
 fault_of_reply (Err faults.Full) = refl
 fault_of_reply (Err (faults.Host fault)) = refl
 
 pub reply_when_ready : (size : ℕ) (w : World) (memory : Memory) (id map : ℕ) (done : Result (Unit {0}) TypeFault) (old : State) → IsReady size w memory old
-    → (fault_in done ≡ None → refusal_in done ≡ table_refusal (reads old.now.words) id map) → IfOk (reply_of done) (λ reply. of_reply reply ≡ answer_by w (Some (Define id map)))
+    → (fault_in done ≡ None → refusal_in done ≡ table_refusal (reads old.now.words) id map) → IfOk (reply_of_definition done) (λ reply. of_reply reply ≡ answer_by w (Some (Define id map)))
 reply_when_ready size w memory id map (Ok x) old ready told = sym (answer_is_ok w (Define id map) refl refl (sym (told refl ∙ refusal_when_ready size w memory id map old ready)))
 reply_when_ready size w memory id map (Err faults.Clash) old ready told = sym (refused_answer w (Define id map) Clash (sym (told refl ∙ refusal_when_ready size w memory id map old ready)))
 reply_when_ready size w memory id map (Err faults.Full) old ready told = sym (refused_answer w (Define id map) Full (sym (told refl ∙ refusal_when_ready size w memory id map old ready)))

@@ -7,8 +7,8 @@ use Rattle.pud_defs.specs.declared.machine.Reply.TheVariants as replies
 use Rattle.type_maps.specs.declared.TypeFault.{TypeFault}
 use Rattle.type_maps.specs.declared.TypeFault.TheVariants as faults
 
-abbrev pub reply_of : Result (Unit {0}) TypeFault → Result Reply HostFault
-reply_of (Ok x) = Ok replies.Ok
-reply_of (Err faults.Clash) = Ok (replies.No refusals.Clash)
-reply_of (Err faults.Full) = Ok (replies.No refusals.Full)
-reply_of (Err (faults.Host fault)) = Err fault
+abbrev pub reply_of_definition : Result (Unit {0}) TypeFault → Result Reply HostFault
+reply_of_definition (Ok x) = Ok replies.Ok
+reply_of_definition (Err faults.Clash) = Ok (replies.No refusals.Clash)
+reply_of_definition (Err faults.Full) = Ok (replies.No refusals.Full)
+reply_of_definition (Err (faults.Host fault)) = Err fault

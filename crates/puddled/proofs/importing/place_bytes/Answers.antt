@@ -14,7 +14,7 @@ returns-in_default-clause-carries g c = λ t size e w memory frames ready client
     CarriesOut-bad_file size w memory _ _ ready client c.args.uid c.args.gid c.args.mode c.args.name file may c.args.bytes.now given none refl _ _ refl
 
 pub returns-clause-carries : goal.returns-clause-carries
-returns-clause-carries g c = rw c.reply_of.ensures (λ t size e w memory frames ready client file legal may given.
+returns-clause-carries g c = rw c.reply_of_placing.ensures (λ t size e w memory frames ready client file legal may given.
     let n = c.place.ensures in
     let there : is_some (file_graph c.args.bytes.now) ≡ true = sym c.read_file.ensures.file ∙ ap is_ok c.in-Ok.is in
     CarriesOut-view size w memory _ _ ready client c.args.uid c.args.gid c.args.mode c.args.name file may c.args.bytes.now given legal there c.in-Ok.view c.in-Ok.ensures.view (stored_held c.in-Ok.view) c.place.result c.args.frames (sym frames ∙ ready.frames)
@@ -26,7 +26,7 @@ returns-clause-carries g c = rw c.reply_of.ensures (λ t size e w memory frames 
     _ _ n.cause)
 
 pub returns-clause-unchanged : goal.returns-clause-unchanged
-returns-clause-unchanged g c = rw c.reply_of.ensures (λ t size w memory frames ready client may.
+returns-clause-unchanged g c = rw c.reply_of_placing.ensures (λ t size w memory frames ready client may.
     let n = c.place.ensures in
     let there : is_some (file_graph c.in-Ok.view) ≡ true = ap (λ (bytes : List ℕ). is_some (file_graph bytes)) c.in-Ok.ensures.view ∙ sym c.read_file.ensures.file ∙ ap is_ok c.in-Ok.is in
     stays_unplaced size w memory _ _ ready client c.args.uid c.args.gid c.args.name may c.in-Ok.view there c.place.result c.args.frames (sym frames ∙ ready.frames)
@@ -37,7 +37,7 @@ pub returns-clause-rest : goal.returns-clause-rest
 returns-clause-rest g c = λ t. KeepsRest-changes _ _ _ _ (c.place.ensures.any t)
 
 pub returns-clause-rests : goal.returns-clause-rests
-returns-clause-rests g c = rw (c.reply_of.ensures, fault_of_placing c.place.result) (λ t. (c.place.ensures.any t).rests)
+returns-clause-rests g c = rw (c.reply_of_placing.ensures, fault_of_placing c.place.result) (λ t. (c.place.ensures.any t).rests)
 
 pub returns-clause-cause : goal.returns-clause-cause
-returns-clause-cause g c = rw (c.reply_of.ensures, fault_of_placing c.place.result) c.place.ensures.cause
+returns-clause-cause g c = rw (c.reply_of_placing.ensures, fault_of_placing c.place.result) c.place.ensures.cause

@@ -35,7 +35,7 @@ pub returns-clause-reply : goal.returns-clause-reply
 returns-clause-reply g c = λ t size e w memory frames ready.
     let who = acting size w memory _ ready c.args.client c.in-Some.who c.requires.known (sym c.in-Some.is ∙ c.in_ok-who.ensures.owner t _ refl) in
     let read = ap (λ (s : State). reads s.now.words) (c.owner.ensures.only_reads.stays t) in
-    reply_making size w memory c.args.client c.in-Some.who.uid c.in-Some.who.gid c.args.mode c.args.frames c.args.name c.make_pool.result c.reply_of.result _ (g.H.Host.state c.make_pool.new.h) ready who (sym frames ∙ ready.frames) c.reply_of.ensures
+    reply_making size w memory c.args.client c.in-Some.who.uid c.in-Some.who.gid c.args.mode c.args.frames c.args.name c.make_pool.result c.reply_of_making.result _ (g.H.Host.state c.make_pool.new.h) ready who (sym frames ∙ ready.frames) c.reply_of_making.ensures
     (c.make_pool.ensures.refusal t _ read)
 
 pub returns-clause-applies : goal.returns-clause-applies
@@ -45,9 +45,9 @@ returns-clause-applies g c = λ t size e w memory frames ready legal.
     let same = sym frames ∙ ready.frames in
     let b = g.H.Host.state c.owner.new.h in
     let d = g.H.Host.state c.make_pool.new.h in
-    Applies-behind size w (world_by w (Some (commands.Pool c.args.client c.args.name c.args.mode))) memory memory (fault_of c.reply_of.result) (g.H.Host.state c.args.h.now) b d (c.owner.ensures.only_reads.stays t)
+    Applies-behind size w (world_by w (Some (commands.Pool c.args.client c.args.name c.args.mode))) memory memory (fault_of c.reply_of_making.result) (g.H.Host.state c.args.h.now) b d (c.owner.ensures.only_reads.stays t)
     (λ ready_then.
-    Applies-making size w memory c.args.client c.in-Some.who.uid c.in-Some.who.gid c.args.mode c.args.frames c.args.name c.make_pool.result c.reply_of.result b d ready_then who same c.reply_of.ensures
+    Applies-making size w memory c.args.client c.in-Some.who.uid c.in-Some.who.gid c.args.mode c.args.frames c.args.name c.make_pool.result c.reply_of_making.result b d ready_then who same c.reply_of_making.ensures
     (λ n. HasFreshFrame (tables_of n (reads b.now.words)) (w.stored.next_number + 1))
     (λ keeps off settled tables none. c.make_pool.ensures.makes t size then w.stored ready_then.mask (record {
       frames = same;

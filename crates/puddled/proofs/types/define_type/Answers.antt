@@ -4,10 +4,10 @@ use Rattle.ready_daemon.proofs.Defining.{Applies-define, KeepsRest-define, fault
 use Rattle.puddled.proofs.types.define_type.Goals as goal
 
 pub returns-clause-reply : goal.returns-clause-reply
-returns-clause-reply g c = rw c.reply_of.ensures (λ t size e w memory ready. reply_when_ready size w memory c.args.id c.args.map c.define.result _ ready (c.define.ensures.refusal t))
+returns-clause-reply g c = rw c.reply_of_definition.ensures (λ t size e w memory ready. reply_when_ready size w memory c.args.id c.args.map c.define.result _ ready (c.define.ensures.refusal t))
 
 pub returns-clause-applies : goal.returns-clause-applies
-returns-clause-applies g c = rw (c.reply_of.ensures, fault_of_reply c.define.result) (λ t size e w memory ready legal_id legal_map.
+returns-clause-applies g c = rw (c.reply_of_definition.ensures, fault_of_reply c.define.result) (λ t size e w memory ready legal_id legal_map.
     Applies-define size w memory c.args.id c.args.map (fault_in c.define.result) _ _ ready legal_id legal_map (c.define.ensures.idle t) (c.define.ensures.defines t) (c.define.ensures.rests t))
 
 pub returns-clause-rest : goal.returns-clause-rest
@@ -15,7 +15,7 @@ returns-clause-rest g c = λ t.
     KeepsRest-define (reads (g.H.Host.state c.args.h.now).now.words) c.args.id c.args.map (fault_in c.define.result) _ _ (c.define.ensures.idle t) (c.define.ensures.defines t)
 
 pub returns-clause-rests : goal.returns-clause-rests
-returns-clause-rests g c = rw (c.reply_of.ensures, fault_of_reply c.define.result) c.define.ensures.rests
+returns-clause-rests g c = rw (c.reply_of_definition.ensures, fault_of_reply c.define.result) c.define.ensures.rests
 
 pub returns-clause-cause : goal.returns-clause-cause
-returns-clause-cause g c = rw (c.reply_of.ensures, fault_of_reply c.define.result) c.define.ensures.cause
+returns-clause-cause g c = rw (c.reply_of_definition.ensures, fault_of_reply c.define.result) c.define.ensures.cause

@@ -39,7 +39,7 @@ returns-clause-reply g c = λ t size w ready.
     let holds = holds_found size w now _ here.ready c.args.client c.args.name c.in-Ok.found at here.is refl in
     let on = ap (λ (m : Memory). m.frames) c.self.view_is ∙ here.ready.frames in
     let built = c.in_ok-build.ensures in
-    ap of_reply c.reply_of.ensures
+    ap of_reply c.reply_of_read.ensures
     ∙ reply_when_read w c.args.client c.args.name c.args.s c.args.f w.stored.frames image at at c.in_ok-read.read holds refl
     (λ graph stored.
     c.in_ok-read.ensures.object t image (still_reads built.only_reads t refl) (built.judged t image refl (judged_ready size w view s there)) at
