@@ -8,7 +8,7 @@ use Rattle.pud_defs.specs.Stored.{Stored, places_of}
 use Rattle.pud_defs.proofs.Keyed.{count_used_step}
 use Rattle.pud_defs.proofs.Graphs.{under_serial-free, under_serial-used, graph_of-each, length-live}
 use Rattle.graph_read.specs.declared.judge.Totals.{Totals}
-use Rattle.graph_read.specs.Asking.{serials_in, with_serials}
+use Rattle.graph_read.specs.Checking.{serials_in, with_serials}
 use Rattle.graph_read.specs.Numbers.{numbers_below, totals_of}
 use Rattle.graph_read.proofs.Numbers.{number_sum-places}
 

@@ -25,7 +25,7 @@ use Rattle.graph_laws.proofs.Words.{place_of_serial-some}
 use Rattle.puddle_header.specs.Places.{places_in}
 use Rattle.graph_read.specs.declared.index.Kept.{Kept}
 use Rattle.graph_read.specs.declared.index.Index.{Index}
-use Rattle.graph_read.specs.Asking.{serials_in, with_serials}
+use Rattle.graph_read.specs.Checking.{serials_in, with_serials}
 use Rattle.graph_read.specs.Index.{kept_under, HasRoom, with_more_references, names_one, after_retain}
 use Rattle.graph_read.specs.Indexed.{kept_of, IsIndexOf, serial_named, after_list, Gains, HasAtMost, contents_name, place_names, places_name}
 use Rattle.graph_read.specs.Reading.{table_in, place_in_pool}

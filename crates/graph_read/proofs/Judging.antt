@@ -21,8 +21,8 @@ use Rattle.pud_defs.proofs.Spaces.{all_below-same}
 use Rattle.pud_defs.specs.Keyed.{are_distinct}
 use Rattle.pud_defs.specs.Spaces.{all_below}
 use Rattle.pud_defs.specs.Stored.{Stored, stored_in, places_of}
-use Rattle.graph_read.specs.declared.asking.Asked.TheVariants.{IsSound}
-use Rattle.graph_read.specs.Asking.{content_of, serials_in, with_serials, contents_pass, place_passes}
+use Rattle.graph_read.specs.declared.checking.SlotCheck.TheVariants.{IsSound}
+use Rattle.graph_read.specs.Checking.{content_of, serials_in, with_serials, contents_pass, place_passes}
 
 -- the frame and the record of an ordinal
 abbrev pub entry : List (ℕ × Puddle) → ℕ → ℕ × Puddle

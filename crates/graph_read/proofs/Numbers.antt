@@ -18,9 +18,9 @@ use Rattle.pud_defs.proofs.Graphs.{under_serial-free, under_serial-used, graph_o
 use Rattle.pud_defs.specs.Spaces.{all_below}
 use Rattle.pud_defs.proofs.Spaces.{all_below-fails}
 use Rattle.pud_defs.proofs.PoolsCounted.{sum_places, sum_places-same, worth, sum-keyed}
-use Rattle.graph_read.specs.declared.asking.Asked.{Asked}
+use Rattle.graph_read.specs.declared.checking.SlotCheck.{SlotCheck}
 use Rattle.graph_read.specs.Numbers.{number_in, numbers_of, number_sum, number_by, contents_sum, numbers_under, numbers_at, numbers_below, value_number, fields_sum, place_sum, places_sum}
-use Rattle.graph_read.specs.Asking.{serial_passes, place_passes}
+use Rattle.graph_read.specs.Checking.{serial_passes, place_passes}
 use Rattle.graph_read.proofs.Passing.{field_passes, place_passes-free, place_passes-refused, place_passes-live}
 
 -- ---- what there is where a test passes
@@ -66,15 +66,15 @@ abbrev pub fields_counted : Stored → (place m count : ℕ) → ℕ
 fields_counted st place m count = sum_by number_by (map (field_content st place m) (range_with_len 0 count))
 
 -- a field that passed, by its word, and what it counts
-pub value_passed : (asked : Asked) (serial : ℕ → ℕ) (st : Stored) (place m f v number : ℕ) (o : Option ℕ) → v ≡ place_word st place (SLOT_FIELDS_WORD + f) → o ≡ value_number asked serial (content st.puddles m place f v) → o ≡ Some number
-    → (field_passes asked serial st place m f ≡ true) × (number_by (field_content st place m f) ≡ number)
-value_passed asked serial st place m f v number o word is some =
-    then_some-some _ _ number (sym (is ∙ ap (λ (x : ℕ). value_number asked serial (content st.puddles m place f x)) word) ∙ some)
+pub value_passed : (check : SlotCheck) (serial : ℕ → ℕ) (st : Stored) (place m f v number : ℕ) (o : Option ℕ) → v ≡ place_word st place (SLOT_FIELDS_WORD + f) → o ≡ value_number check serial (content st.puddles m place f v) → o ≡ Some number
+    → (field_passes check serial st place m f ≡ true) × (number_by (field_content st place m f) ≡ number)
+value_passed check serial st place m f v number o word is some =
+    then_some-some _ _ number (sym (is ∙ ap (λ (x : ℕ). value_number check serial (content st.puddles m place f x)) word) ∙ some)
 
-pub value_refused : (asked : Asked) (serial : ℕ → ℕ) (st : Stored) (place m f v : ℕ) (o : Option ℕ) → v ≡ place_word st place (SLOT_FIELDS_WORD + f) → o ≡ value_number asked serial (content st.puddles m place f v) → o ≡ None
-    → field_passes asked serial st place m f ≡ false
-value_refused asked serial st place m f v o word is none =
-    then_some-none _ (number_by (field_content st place m f)) (sym (is ∙ ap (λ (x : ℕ). value_number asked serial (content st.puddles m place f x)) word) ∙ none)
+pub value_refused : (check : SlotCheck) (serial : ℕ → ℕ) (st : Stored) (place m f v : ℕ) (o : Option ℕ) → v ≡ place_word st place (SLOT_FIELDS_WORD + f) → o ≡ value_number check serial (content st.puddles m place f v) → o ≡ None
+    → field_passes check serial st place m f ≡ false
+value_refused check serial st place m f v o word is none =
+    then_some-none _ (number_by (field_content st place m f)) (sym (is ∙ ap (λ (x : ℕ). value_number check serial (content st.puddles m place f x)) word) ∙ none)
 
 -- one field more is added
 pub fields_counted-more : (st : Stored) (place m f sum number : ℕ) → sum ≡ fields_counted st place m f % 2 ^ 64 → number ≡ number_by (field_content st place m f) → (sum + number) % 2 ^ 64 ≡ fields_counted st place m (f + 1) % 2 ^ 64
@@ -112,14 +112,14 @@ numbers_at-live t p used = ap numbers_under (under_serial-used t.serial (object_
 
 -- ---- what was summed at a place
 
-pub place_sum-free : (asked : Asked) (t : Table) (p : ℕ) → t.serial p ≡ 0 → place_sum asked t p ≡ Some 0
-place_sum-free asked t p free = ap₂ (λ b (n : ℕ). then_some b (n % 2 ^ 64)) (place_passes-free asked t p free) (numbers_at-free t p free)
+pub place_sum-free : (check : SlotCheck) (t : Table) (p : ℕ) → t.serial p ≡ 0 → place_sum check t p ≡ Some 0
+place_sum-free check t p free = ap₂ (λ b (n : ℕ). then_some b (n % 2 ^ 64)) (place_passes-free check t p free) (numbers_at-free t p free)
 
-pub place_sum-refused : (asked : Asked) (t : Table) (p : ℕ) → t.serial p ≢ 0 → serial_passes asked (t.serial p) ≡ false → place_sum asked t p ≡ None
-place_sum-refused asked t p live refused = ap (λ b. then_some b (numbers_at t p % 2 ^ 64)) (place_passes-refused asked t p live refused)
+pub place_sum-refused : (check : SlotCheck) (t : Table) (p : ℕ) → t.serial p ≢ 0 → serial_passes check (t.serial p) ≡ false → place_sum check t p ≡ None
+place_sum-refused check t p live refused = ap (λ b. then_some b (numbers_at t p % 2 ^ 64)) (place_passes-refused check t p live refused)
 
-pub place_sum-live : (asked : Asked) (t : Table) (p : ℕ) → t.serial p ≢ 0 → serial_passes asked (t.serial p) ≡ true → place_sum asked t p ≡ fields_sum asked t.serial (t.contents p)
-place_sum-live asked t p live taken = ap₂ (λ b (n : ℕ). then_some b (n % 2 ^ 64)) (place_passes-live asked t p live taken) (numbers_at-live t p live)
+pub place_sum-live : (check : SlotCheck) (t : Table) (p : ℕ) → t.serial p ≢ 0 → serial_passes check (t.serial p) ≡ true → place_sum check t p ≡ fields_sum check t.serial (t.contents p)
+place_sum-live check t p live taken = ap₂ (λ b (n : ℕ). then_some b (n % 2 ^ 64)) (place_passes-live check t p live taken) (numbers_at-live t p live)
 
 -- ---- all places
 
@@ -138,16 +138,16 @@ numbers_below-more t p sum numbers so_far is =
     ∙ ap (λ (n : ℕ). n % 2 ^ 64) (sym (numbers_below-next t p))
 
 -- a place that passed, and what it adds
-pub place_summed : (asked : Asked) (t : Table) (p numbers : ℕ) (o : Option ℕ) → o ≡ place_sum asked t p → o ≡ Some numbers → (place_passes asked t p ≡ true) × (numbers_at t p % 2 ^ 64 ≡ numbers)
-place_summed asked t p numbers o is some = then_some-some (place_passes asked t p) (numbers_at t p % 2 ^ 64) numbers (sym is ∙ some)
+pub place_summed : (check : SlotCheck) (t : Table) (p numbers : ℕ) (o : Option ℕ) → o ≡ place_sum check t p → o ≡ Some numbers → (place_passes check t p ≡ true) × (numbers_at t p % 2 ^ 64 ≡ numbers)
+place_summed check t p numbers o is some = then_some-some (place_passes check t p) (numbers_at t p % 2 ^ 64) numbers (sym is ∙ some)
 
 -- a place that does not pass leaves no sum
-pub places_sum-refused : (asked : Asked) (t : Table) (n p : ℕ) (o : Option ℕ) → p < n → o ≡ place_sum asked t p → o ≡ None → None ≡ places_sum asked t n
-places_sum-refused asked t n p o below is none =
-    ap (λ b. then_some b (numbers_below t n % 2 ^ 64)) (sym (all_below-fails n p (place_passes asked t) below (then_some-none (place_passes asked t p) (numbers_at t p % 2 ^ 64) (sym is ∙ none))))
+pub places_sum-refused : (check : SlotCheck) (t : Table) (n p : ℕ) (o : Option ℕ) → p < n → o ≡ place_sum check t p → o ≡ None → None ≡ places_sum check t n
+places_sum-refused check t n p o below is none =
+    ap (λ b. then_some b (numbers_below t n % 2 ^ 64)) (sym (all_below-fails n p (place_passes check t) below (then_some-none (place_passes check t p) (numbers_at t p % 2 ^ 64) (sym is ∙ none))))
 
-pub places_sum-all : (asked : Asked) (t : Table) (n p sum : ℕ) → p ≡ n → all_below p (place_passes asked t) ≡ true → sum ≡ numbers_below t p % 2 ^ 64 → Some sum ≡ places_sum asked t n
-places_sum-all asked t n p sum all passed summed = ap₂ (λ b m. then_some b m) (sym passed) summed ∙ ap (places_sum asked t) all
+pub places_sum-all : (check : SlotCheck) (t : Table) (n p sum : ℕ) → p ≡ n → all_below p (place_passes check t) ≡ true → sum ≡ numbers_below t p % 2 ^ 64 → Some sum ≡ places_sum check t n
+places_sum-all check t n p sum all passed summed = ap₂ (λ b m. then_some b m) (sym passed) summed ∙ ap (places_sum check t) all
 
 -- ---- the graph
 

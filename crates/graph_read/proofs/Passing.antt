@@ -9,37 +9,37 @@ use Rattle.std.proofs.lemmas.Bool.Decides.{nat_tests}
 use Rattle.pud_defs.specs.declared.layout.TheConstants.{MAX_FIELDS}
 use Rattle.pud_defs.specs.Spaces.{all_below}
 use Rattle.pud_defs.specs.Stored.{Stored, place_word}
-use Rattle.graph_read.specs.declared.asking.Asked.{Asked}
+use Rattle.graph_read.specs.declared.checking.SlotCheck.{SlotCheck}
 use Rattle.graph_read.specs.Reading.{pointee_of}
-use Rattle.graph_read.specs.Asking.{content_of, passes, serial_passes, contents_pass, place_passes}
+use Rattle.graph_read.specs.Checking.{content_of, passes, serial_passes, contents_pass, place_passes}
 use Rattle.pud_defs.proofs.Spaces.{list_all-below}
 
 -- a field of the slot at a place passes
-abbrev pub field_passes : Asked → (ℕ → ℕ) → Stored → (place type_map f : ℕ) → Bool
-field_passes asked serial st place type_map f = passes asked serial (content st.puddles type_map place f (place_word st place (SLOT_FIELDS_WORD + f)))
+abbrev pub field_passes : SlotCheck → (ℕ → ℕ) → Stored → (place type_map f : ℕ) → Bool
+field_passes check serial st place type_map f = passes check serial (content st.puddles type_map place f (place_word st place (SLOT_FIELDS_WORD + f)))
 
 -- the same by the word that was read
-pub field_passes-read : (asked : Asked) (serial : ℕ → ℕ) (st : Stored) (place type_map f v : ℕ) (pass : Bool) → v ≡ place_word st place (SLOT_FIELDS_WORD + f)
-    → pass ≡ passes asked serial (content st.puddles type_map place f v) → pass ≡ field_passes asked serial st place type_map f
-field_passes-read asked serial st place type_map f v pass word is = is ∙ ap (λ (x : ℕ). passes asked serial (content st.puddles type_map place f x)) word
+pub field_passes-read : (check : SlotCheck) (serial : ℕ → ℕ) (st : Stored) (place type_map f v : ℕ) (pass : Bool) → v ≡ place_word st place (SLOT_FIELDS_WORD + f)
+    → pass ≡ passes check serial (content st.puddles type_map place f v) → pass ≡ field_passes check serial st place type_map f
+field_passes-read check serial st place type_map f v pass word is = is ∙ ap (λ (x : ℕ). passes check serial (content st.puddles type_map place f x)) word
 
 pub field_count-least : (m : ℕ) → min (map_fields m) MAX_FIELDS ≡ field_count m
 field_count-least m = grind (arith, nat_tests)
 
 -- the fields of a slot whose type has this map
-pub fields_pass-each : (asked : Asked) (serial : ℕ → ℕ) (st : Stored) (place type_map : ℕ)
-    → contents_pass asked serial (slot_contents st place (Some type_map)) ≡ all_below (field_count type_map) (field_passes asked serial st place type_map)
-fields_pass-each asked serial st place type_map =
-    list_all-below (passes asked serial) (λ f. content st.puddles type_map place f (place_word st place (SLOT_FIELDS_WORD + f))) (field_count type_map)
+pub fields_pass-each : (check : SlotCheck) (serial : ℕ → ℕ) (st : Stored) (place type_map : ℕ)
+    → contents_pass check serial (slot_contents st place (Some type_map)) ≡ all_below (field_count type_map) (field_passes check serial st place type_map)
+fields_pass-each check serial st place type_map =
+    list_all-below (passes check serial) (λ f. content st.puddles type_map place f (place_word st place (SLOT_FIELDS_WORD + f))) (field_count type_map)
 
-pub place_passes-free : (asked : Asked) (t : Table) (p : ℕ) → t.serial p ≡ 0 → place_passes asked t p ≡ true
-place_passes-free asked t p free = ap (λ b. b || (serial_passes asked (t.serial p) && contents_pass asked t.serial (t.contents p))) (eq-eqb _ _ free)
+pub place_passes-free : (check : SlotCheck) (t : Table) (p : ℕ) → t.serial p ≡ 0 → place_passes check t p ≡ true
+place_passes-free check t p free = ap (λ b. b || (serial_passes check (t.serial p) && contents_pass check t.serial (t.contents p))) (eq-eqb _ _ free)
 
-pub place_passes-refused : (asked : Asked) (t : Table) (p : ℕ) → t.serial p ≢ 0 → serial_passes asked (t.serial p) ≡ false → place_passes asked t p ≡ false
-place_passes-refused asked t p live refused = ap₂ (λ (a b : Bool). a || (b && contents_pass asked t.serial (t.contents p))) (ne_eqb _ _ live) refused
+pub place_passes-refused : (check : SlotCheck) (t : Table) (p : ℕ) → t.serial p ≢ 0 → serial_passes check (t.serial p) ≡ false → place_passes check t p ≡ false
+place_passes-refused check t p live refused = ap₂ (λ (a b : Bool). a || (b && contents_pass check t.serial (t.contents p))) (ne_eqb _ _ live) refused
 
-pub place_passes-live : (asked : Asked) (t : Table) (p : ℕ) → t.serial p ≢ 0 → serial_passes asked (t.serial p) ≡ true → place_passes asked t p ≡ contents_pass asked t.serial (t.contents p)
-place_passes-live asked t p live taken = ap₂ (λ (a b : Bool). a || (b && contents_pass asked t.serial (t.contents p))) (ne_eqb _ _ live) taken
+pub place_passes-live : (check : SlotCheck) (t : Table) (p : ℕ) → t.serial p ≢ 0 → serial_passes check (t.serial p) ≡ true → place_passes check t p ≡ contents_pass check t.serial (t.contents p)
+place_passes-live check t p live taken = ap₂ (λ (a b : Bool). a || (b && contents_pass check t.serial (t.contents p))) (ne_eqb _ _ live) taken
 
 content_read : (v : ℕ) (found : Option ℕ) → content_of (pointee_of (cond (eqb v 0) Null (at_place found))) ≡ cond (eqb v 0) Null (at_place found)
 content_read v None = elim (eqb v 0) as (λ b. content_of (pointee_of (cond b Null Nowhere)) ≡ cond b Null Nowhere) [ true ↦ refl | false ↦ refl ]

@@ -10,7 +10,7 @@ use Rattle.pud_defs.specs.declared.records.Puddle.{Puddle}
 use Rattle.pud_defs.specs.Geometry.{ordinal_of, places_among}
 use Rattle.pud_defs.specs.Image.{Image}
 use Rattle.pud_defs.specs.Stored.{stored_in, word_in_frame, place_begins}
-use Rattle.graph_read.specs.Asking.{serials_in}
+use Rattle.graph_read.specs.Checking.{serials_in}
 
 -- the list has what f gives at the places below n, and 0 behind them
 pub record IsReadTo (f : ℕ → ℕ) (n : ℕ) (xs : List ℕ) : Type 0 where

@@ -1,4 +1,4 @@
-pub mod Asking
+pub mod Checking
 pub mod Index
 pub mod Indexed
 pub mod Numbers

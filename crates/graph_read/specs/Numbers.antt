@@ -7,9 +7,9 @@ use Rattle.pud_defs.specs.declared.objects.Val.TheVariants.{Num, Ref}
 use Rattle.pud_defs.specs.Graph.{Content, Object, Table, Graph, live}
 use Rattle.pud_defs.specs.Graph.Content.{Number, Null, At, Nowhere}
 use Rattle.pud_defs.specs.Spaces.{all_below}
-use Rattle.graph_read.specs.declared.asking.Asked.{Asked}
+use Rattle.graph_read.specs.declared.checking.SlotCheck.{SlotCheck}
 use Rattle.graph_read.specs.declared.judge.Totals.{Totals}
-use Rattle.graph_read.specs.Asking.{passes, contents_pass, place_passes}
+use Rattle.graph_read.specs.Checking.{passes, contents_pass, place_passes}
 
 -- ---- of a graph
 
@@ -60,17 +60,17 @@ numbers_below t n = sum_by (numbers_at t) (range_with_len 0 n)
 -- ---- where all passes
 
 -- what a field counts, where it passes
-abbrev pub value_number : Asked → (ℕ → ℕ) → Content → Option ℕ
-value_number asked serial c = then_some (passes asked serial c) (number_by c)
+abbrev pub value_number : SlotCheck → (ℕ → ℕ) → Content → Option ℕ
+value_number check serial c = then_some (passes check serial c) (number_by c)
 
 -- the sum of the number fields of a slot, modulo 2^64, where all of its fields pass
-abbrev pub fields_sum : Asked → (ℕ → ℕ) → Option (List Content) → Option ℕ
-fields_sum asked serial contents = then_some (contents_pass asked serial contents) (contents_sum contents % 2 ^ 64)
+abbrev pub fields_sum : SlotCheck → (ℕ → ℕ) → Option (List Content) → Option ℕ
+fields_sum check serial contents = then_some (contents_pass check serial contents) (contents_sum contents % 2 ^ 64)
 
 -- the sum of the number fields at a place, modulo 2^64, where it is free or its slot passes
-abbrev pub place_sum : Asked → Table → ℕ → Option ℕ
-place_sum asked t p = then_some (place_passes asked t p) (numbers_at t p % 2 ^ 64)
+abbrev pub place_sum : SlotCheck → Table → ℕ → Option ℕ
+place_sum check t p = then_some (place_passes check t p) (numbers_at t p % 2 ^ 64)
 
 -- the sum of the number fields at the first n places, modulo 2^64, where each is free or its slot passes
-abbrev pub places_sum : Asked → Table → ℕ → Option ℕ
-places_sum asked t n = then_some (all_below n (place_passes asked t)) (numbers_below t n % 2 ^ 64)
+abbrev pub places_sum : SlotCheck → Table → ℕ → Option ℕ
+places_sum check t n = then_some (all_below n (place_passes check t)) (numbers_below t n % 2 ^ 64)

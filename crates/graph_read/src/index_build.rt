@@ -12,12 +12,12 @@ ghost use Rattle.pud_defs.specs.Layout.{device_words};
 ghost use Rattle.pud_defs.specs.Stored.{IsOnDevice, stored_in};
 ghost use Rattle.pud_defs.specs.Types.{types_of};
 ghost use Rattle.puddle_header.specs.Places.{places_in};
-ghost use Rattle.graph_read.specs.Asking.{with_serials};
+ghost use Rattle.graph_read.specs.Checking.{with_serials};
 ghost use Rattle.graph_read.specs.Index.{kept_under};
 ghost use Rattle.graph_read.specs.Indexed.{kept_of, IsIndexOf, after_list, Gains, HasAtMost, contents_name, place_names, places_name};
 ghost use Rattle.graph_read.specs.Reading.{table_in};
 
-use crate::asking::{field_word, type_at};
+use crate::checking::{field_word, type_at};
 use crate::index::Index;
 use crate::pointers::read_pointer;
 use crate::serials::{PLACES, Serials, named, read_serials};

@@ -14,7 +14,7 @@ ghost use Rattle.pud_defs.specs.Types.{types_of};
 ghost use Rattle.puddle_header.specs.Places.{places_in};
 ghost use Rattle.graph_read.specs.Numbers.{totals_of};
 
-use crate::asking::{Asked, places_sum};
+use crate::checking::{SlotCheck, places_sum};
 use crate::pointers::read_pointer;
 use crate::serials::{PLACES, Serials, read_serials};
 use pm_model::{HostFault, Loads};
@@ -130,15 +130,15 @@ pub fn pool_totals<H: Loads>(
     let next = next_serial(h, frames, first)?;
     let root = root_value(h, frames, first)?;
     let serials = read_serials(h, frames, pool)?;
-    let asked = Asked::IsSound(next);
-    let Some(sum) = places_sum(h, frames, pool, &serials, asked)? else {
+    let check = SlotCheck::IsSound(next);
+    let Some(sum) = places_sum(h, frames, pool, &serials, check)? else {
         return Ok(None);
     };
     let places = places_among(pool.len() as u32) as usize;
     let sound = are_all(
         headers,
         is_next_serial(next),
-        asked.passes(&serials, read_pointer(pool, 0, 0, root)),
+        check.passes(&serials, read_pointer(pool, 0, 0, root)),
         are_distinct(&serials, places),
     );
     let objects = count_live(&serials, places);

@@ -6,7 +6,7 @@
 //! of the device. Nothing changes, and the only errors are the host's own.
 #![tactic(auto)]
 
-mod asking;
+mod checking;
 mod fields;
 mod references;
 mod index;
@@ -16,7 +16,7 @@ mod places;
 mod pointers;
 mod serials;
 
-pub use asking::{field_word, type_at};
+pub use checking::{field_word, type_at};
 pub use fields::{FieldRead, field_at, read_field, serial_behind, value_at};
 pub use references::is_referenced;
 pub use index::{Index, Kept};

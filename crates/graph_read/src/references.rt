@@ -10,7 +10,7 @@ ghost use Rattle.pud_defs.specs.Layout.{device_words};
 ghost use Rattle.pud_defs.specs.Stored.{IsOnDevice, stored_in};
 ghost use Rattle.pud_defs.specs.Types.{types_of};
 
-use crate::asking::{Asked, places_sum};
+use crate::checking::{SlotCheck, places_sum};
 use crate::pointers::read_pointer;
 use crate::serials::{named, read_serials};
 use pm_model::{HostFault, Loads};
@@ -47,7 +47,7 @@ pub fn is_referenced<H: Loads>(
     let (first, _) = pool[0];
     let root = root_value(h, frames, first)?;
     let serials = read_serials(h, frames, pool)?;
-    let spared = places_sum(h, frames, pool, &serials, Asked::Spares(s))?.is_some();
+    let spared = places_sum(h, frames, pool, &serials, SlotCheck::LacksPointerTo(s))?.is_some();
     let root = named(&serials, read_pointer(pool, 0, 0, root));
     Ok(is_referenced_by(root, s, spared))
 }

@@ -8,7 +8,7 @@ ghost use Rattle.pud_defs.specs.Graph.{named_by};
 ghost use Rattle.pud_defs.specs.Image.{Image};
 ghost use Rattle.pud_defs.specs.Layout.{device_words};
 ghost use Rattle.pud_defs.specs.Stored.{IsOnDevice, stored_in};
-ghost use Rattle.graph_read.specs.Asking.{content_of, serials_in};
+ghost use Rattle.graph_read.specs.Checking.{content_of, serials_in};
 
 use pm_model::{HostFault, Loads};
 use pud_defs::layout::MAX_FRAMES;

@@ -10,7 +10,7 @@ use Rattle.pud_defs.specs.Geometry.{puddle_slots, slot_at, place_at}
 use Rattle.pud_defs.specs.Graph.{At, slot_address, pointee_at}
 use Rattle.pud_defs.specs.Exported.{address_in, address_of}
 use Rattle.puddle_header.proofs.Placed.{place_ordinal, place_slot}
-use Rattle.graph_read.specs.Asking.{content_of}
+use Rattle.graph_read.specs.Checking.{content_of}
 use Rattle.graph_read.specs.Reading.{pointee_of}
 use Rattle.graph_read.proofs.Passing.{pointee_read}
 use Rattle.graph_laws.specs.Rewriting.{rewritten}

@@ -5,7 +5,7 @@ ghost use Rattle.pud_defs.specs.Exported.{address_of};
 ghost use Rattle.pud_defs.specs.Geometry.{puddle_slots, place_at};
 ghost use Rattle.pud_defs.specs.Graph.{At};
 ghost use Rattle.graph_laws.specs.Rewriting.{rewritten};
-ghost use Rattle.graph_read.specs.Asking.{content_of};
+ghost use Rattle.graph_read.specs.Checking.{content_of};
 ghost use Rattle.graph_read.specs.Reading.{LeadsWithin};
 ghost use Rattle.lazy_rewrite.specs.Entries.{HasLowBases, IsToRewrite};
 

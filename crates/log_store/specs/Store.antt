@@ -39,8 +39,8 @@ abbrev pub undo_entry : (address : ℕ) → List ℕ → Entry
 undo_entry address vals = record { address = address; seq = UNDO_SEQ; order = UNDO_ORDER; vals = vals }
 
 -- with so many words more that count, of entries that ask for nothing
-abbrev pub longer : ℕ → OpenLog → OpenLog
-longer words log = record log { used = log.used + words }
+abbrev pub with_words : ℕ → OpenLog → OpenLog
+with_words words log = record log { used = log.used + words }
 
 -- of one that asks for values
 abbrev pub with_deferred_words : ℕ → OpenLog → OpenLog

@@ -10,7 +10,7 @@ ghost use Rattle.pm_model.specs.Changes.{only, placed, Changes, Leaves, Silently
 ghost use Rattle.pud_defs.specs.declared.layout.TheConstants.{LOG_WORDS, LOG_ENTRY_WORDS, ENTRY_HEADER_WORDS, MAX_ENTRY_VALUES};
 ghost use Rattle.pud_defs.specs.declared.log_words.TheConstants.{RUNNING_LO, RUNNING_HI, RUNNING_GATE, COMMITTING_LO, COMMITTING_HI, CLOSED_GATE, REDO_ORDER};
 ghost use Rattle.pud_defs.specs.Entries.{Entry, gate_word, entries_in};
-ghost use Rattle.log_store.specs.Store.{OpenLog, append_fault, InLog, IsOpen, spelled_all, words_write, HasGrown, Appends, committing, undo_entry, longer, with_entry};
+ghost use Rattle.log_store.specs.Store.{OpenLog, append_fault, InLog, IsOpen, spelled_all, words_write, HasGrown, Appends, committing, undo_entry, with_words, with_entry};
 
 use log_entry::encode;
 use pm_model::{Host, HostFault};
@@ -218,7 +218,7 @@ impl Log {
         requires no_more { length vals.now ≤ MAX_ENTRY_VALUES }
         ensures too_big { (result ≡ Result.Err AppendFault.TooBig) ↔ (LOG_ENTRY_WORDS < self.old.used + (length vals.now + 5)) }
         ensures too_big_stays { H.tells → result ≡ Result.Err AppendFault.TooBig → H.state h.new ≡ H.state h.old }
-        ensures appended { IfOk result (λ _. self.new ≡ longer (length vals.now + 5) self.old) }
+        ensures appended { IfOk result (λ _. self.new ≡ with_words (length vals.now + 5) self.old) }
         ensures failed { OnErr result (self.new ≡ self.old) }
         ensures changes { H.tells → Changes (InLog self.old.gate_at) (append_fault result) (H.state h.old) (H.state h.new) }
         ensures appends { H.tells → (es : List Entry) → IsOpen self.old es (H.state h.old).now.words

@@ -15,7 +15,7 @@ use Rattle.pud_defs.specs.Image.{Image}
 use Rattle.pud_defs.specs.Stored.{Stored, stored_in}
 use Rattle.pud_defs.specs.Exported.{address_of, number_in, exported_slot, exported_header, exported_frame}
 use Rattle.puddle_header.proofs.Placed.{stored_word}
-use Rattle.graph_read.specs.Asking.{content_of}
+use Rattle.graph_read.specs.Checking.{content_of}
 use Rattle.graph_read.specs.Reading.{pointee_of}
 use Rattle.graph_read.proofs.Passing.{pointee_read}
 use Rattle.pud_export.specs.Exporting.{slots_to}

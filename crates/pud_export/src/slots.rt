@@ -11,7 +11,7 @@ ghost use Rattle.pud_defs.specs.Image.{Image};
 ghost use Rattle.pud_defs.specs.Layout.{device_words};
 ghost use Rattle.pud_defs.specs.Stored.{IsOnDevice, stored_in, place_word};
 ghost use Rattle.puddle_header.specs.Places.{places_in};
-ghost use Rattle.graph_read.specs.Asking.{content_of};
+ghost use Rattle.graph_read.specs.Checking.{content_of};
 ghost use Rattle.graph_read.specs.Reading.{LeadsWithin};
 ghost use Rattle.pud_export.specs.Exporting.{HasLowBases};
 

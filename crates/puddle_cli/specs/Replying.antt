@@ -8,7 +8,7 @@ use Rattle.pud_defs.specs.StartText.{start_text}
 use Rattle.puddled.specs.declared.daemon.RunFault.{RunFault}
 use Rattle.puddled.specs.Saying.{IsPart, SaysPart}
 use Rattle.puddled.specs.Daemon.{IsAnswerText}
-use Rattle.puddle_cli.specs.declared.piece.TheConstants.{KEPT}
+use Rattle.puddle_cli.specs.declared.line_buffer.TheConstants.{KEPT}
 use Rattle.puddle_cli.specs.declared.run.Served.{Served}
 use Rattle.puddle_cli.specs.Status.{run_fault_at}
 

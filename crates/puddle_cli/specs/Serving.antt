@@ -18,7 +18,7 @@ use Rattle.puddled.specs.Faults.{run_fault, last_fault, CountsLine, CountsTurns}
 use Rattle.ready_daemon.specs.Memory.{Memory}
 use Rattle.ready_daemon.specs.Ready.{IsReady, RefusesNone}
 use Rattle.puddled.specs.Saying.{SaysPart}
-use Rattle.puddle_cli.specs.declared.piece.TheConstants.{KEPT}
+use Rattle.puddle_cli.specs.declared.line_buffer.TheConstants.{KEPT}
 use Rattle.puddle_cli.specs.declared.run.Served.{Served}
 
 -- ---- what is said of the lines of a run, and which world an image stands for meanwhile

@@ -4,7 +4,7 @@
 mod format;
 mod generate;
 mod generated;
-mod piece;
+mod line_buffer;
 mod run;
 mod show;
 mod source;

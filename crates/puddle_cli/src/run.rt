@@ -8,14 +8,14 @@ ghost use Rattle.pud_defs.specs.Layout.{device_words};
 ghost use Rattle.pud_defs.specs.World.{World, no_clients, nothing_open, world_of, closed};
 ghost use Rattle.puddled.specs.Faults.{run_fault, CountsToEnd};
 ghost use Rattle.ready_daemon.specs.Ready.{IsReady};
-ghost use Rattle.puddle_cli.specs.declared.piece.TheConstants.{KEPT};
+ghost use Rattle.puddle_cli.specs.declared.line_buffer.TheConstants.{KEPT};
 ghost use Rattle.puddle_cli.specs.Status.{status_fault, status_to, IsStatusOfMode, Causes};
 ghost use Rattle.puddle_cli.specs.Source.{is_aloud, bytes_left};
 ghost use Rattle.puddle_cli.specs.Serving.{KeepsScript, IsQuiet, IsUnsoundBehindLoss, Takes, TakesOne, TakesBy, AnswersLine, Serves, HasServed, HasServedBy};
 ghost use Rattle.puddle_cli.specs.Replying.{HearsLine, Hears, Heard, HeardBy, RunSays};
 ghost use Rattle.puddle_cli.specs.Headline.{TakesScript, Headline};
 
-use crate::piece::Piece;
+use crate::line_buffer::LineBuffer;
 use crate::source::Source;
 use crate::status::{DONE, NOT_USABLE, TOO_LONG, status_of, status_of_run};
 use pm_model::Host;
@@ -38,7 +38,7 @@ fn answer<H: Host>(
     alloc: Global,
     daemon: &mut Daemon,
     h: &mut H,
-    piece: &mut Piece,
+    piece: &mut LineBuffer,
     aloud: bool,
 ) -> Result<u32, RunFault>
     requires { device_words daemon.old.frames ≤ (H.counts h.old).size }
@@ -70,7 +70,7 @@ fn serve_byte<H: Host>(
     daemon: &mut Daemon,
     h: &mut H,
     source: &mut Source,
-    piece: &mut Piece,
+    piece: &mut LineBuffer,
     refused: &mut u32,
 ) -> Result<bool, RunFault>
     requires device { device_words daemon.old.frames ≤ (H.counts h.old).size }
@@ -123,7 +123,7 @@ fn serve_lines<H: Host>(
     ensures not_sound { H.tells → result ≡ Result.Err RunFault.NotSound → IsUnsoundBehindLoss (H.counts h.old) (H.counts h.new) (H.state h.new) }
     ensures cause { CountsToEnd (run_fault result) (H.counts h.old) (H.counts h.new) }
 {
-    let mut piece = Piece::new();
+    let mut piece = LineBuffer::new();
     let mut refused = 0;
     for _taken in 0..SCRIPT_LIMIT {
         if !serve_byte(alloc, daemon, h, source, &mut piece, &mut refused)? {

@@ -8,7 +8,7 @@ ghost use Rattle.pud_defs.specs.declared.layout.TheConstants.{LOG_WORDS, LOG_ENT
 ghost use Rattle.pud_defs.specs.declared.space.TheConstants.{WORD_BYTES};
 ghost use Rattle.pud_defs.specs.Image.{Image};
 ghost use Rattle.pud_defs.specs.Entries.{Entry, entries_of};
-ghost use Rattle.log_store.specs.Store.{InLog, longer};
+ghost use Rattle.log_store.specs.Store.{InLog, with_words};
 ghost use Rattle.word_transaction.specs.Scope.{Scope, IsScope};
 ghost use Rattle.word_transaction.specs.Coverage.{words_to_keep};
 ghost use Rattle.word_transaction.specs.Running.{IsRunning, IsOneOf, SavesWords};
@@ -33,7 +33,7 @@ impl WordTransaction {
         requires no_more { count ≤ MAX_ENTRY_VALUES }
         requires within { first + count ≤ (H.counts h.old).size }
         requires room { self.old.used + (count + ENTRY_HEADER_WORDS) ≤ LOG_ENTRY_WORDS }
-        ensures appended { IfOk result (λ _. self.new ≡ longer (count + ENTRY_HEADER_WORDS) self.old) }
+        ensures appended { IfOk result (λ _. self.new ≡ with_words (count + ENTRY_HEADER_WORDS) self.old) }
         ensures failed { OnErr result (self.new ≡ self.old) }
         ensures changes { H.tells → Changes (InLog self.old.gate_at) (fault_of result) (H.state h.old) (H.state h.new) }
         ensures keeps { H.tells → (size : ℕ) → size ≡ (H.counts h.old).size → (g : Scope) → (es : List Entry) → (before : Image) → IsScope size self.old.gate_at g
@@ -62,7 +62,7 @@ impl WordTransaction {
         requires within { first + count ≤ (H.counts h.old).size }
         requires second_within { second < (H.counts h.old).size }
         requires room { self.old.used + (count + 5) ≤ LOG_ENTRY_WORDS }
-        ensures appended { IfOk result (λ _. self.new ≡ longer (count + 5) self.old) }
+        ensures appended { IfOk result (λ _. self.new ≡ with_words (count + 5) self.old) }
         ensures failed { OnErr result (self.new ≡ self.old) }
         ensures changes { H.tells → Changes (InLog self.old.gate_at) (fault_of result) (H.state h.old) (H.state h.new) }
         ensures keeps { H.tells → (size : ℕ) → size ≡ (H.counts h.old).size → (g : Scope) → (es : List Entry) → (before : Image) → IsScope size self.old.gate_at g
@@ -99,7 +99,7 @@ impl WordTransaction {
         ensures room { self.new.used ≤ self.old.used + (count + ENTRY_HEADER_WORDS) }
         ensures failed { OnErr result (self.new ≡ self.old) }
         ensures appended { H.tells → (es : List Entry) → entries_of (reads (H.state h.old).now.words) self.old.gate_at ≡ Option.Some es → address + WORD_BYTES * count ≤ 2 ^ 64
-            → IfOk result (λ _. self.new ≡ longer (words_to_keep es address count) self.old) }
+            → IfOk result (λ _. self.new ≡ with_words (words_to_keep es address count) self.old) }
         ensures covered { H.tells → (es : List Entry) → entries_of (reads (H.state h.old).now.words) self.old.gate_at ≡ Option.Some es → address + WORD_BYTES * count ≤ 2 ^ 64
             → words_to_keep es address count ≡ 0 → H.state h.new ≡ H.state h.old }
         ensures changes { H.tells → Changes (InLog self.old.gate_at) (fault_of result) (H.state h.old) (H.state h.new) }
@@ -141,7 +141,7 @@ impl WordTransaction {
         ensures room { self.new.used ≤ self.old.used + (count + 5) }
         ensures failed { OnErr result (self.new ≡ self.old) }
         ensures appended { H.tells → (es : List Entry) → entries_of (reads (H.state h.old).now.words) self.old.gate_at ≡ Option.Some es → address + WORD_BYTES * count ≤ 2 ^ 64
-            → address2 + WORD_BYTES ≤ 2 ^ 64 → IfOk result (λ _. self.new ≡ longer (words_to_keep es address count + words_to_keep es address2 1) self.old) }
+            → address2 + WORD_BYTES ≤ 2 ^ 64 → IfOk result (λ _. self.new ≡ with_words (words_to_keep es address count + words_to_keep es address2 1) self.old) }
         ensures covered { H.tells → (es : List Entry) → entries_of (reads (H.state h.old).now.words) self.old.gate_at ≡ Option.Some es → address + WORD_BYTES * count ≤ 2 ^ 64
             → address2 + WORD_BYTES ≤ 2 ^ 64 → words_to_keep es address count + words_to_keep es address2 1 ≡ 0 → H.state h.new ≡ H.state h.old }
         ensures changes { H.tells → Changes (InLog self.old.gate_at) (fault_of result) (H.state h.old) (H.state h.new) }

@@ -6,8 +6,8 @@ use Rattle.pud_defs.specs.Types.{types_of}
 use Rattle.pud_defs.specs.Graph.{stands, under_serial, table_of}
 use Rattle.pud_defs.specs.Keyed.{are_distinct, count_used}
 use Rattle.pud_defs.specs.Spaces.{all_below}
-use Rattle.graph_read.specs.declared.asking.Asked.TheVariants.{IsSound}
-use Rattle.graph_read.specs.Asking.{content_of, place_passes, with_serials}
+use Rattle.graph_read.specs.declared.checking.SlotCheck.TheVariants.{IsSound}
+use Rattle.graph_read.specs.Checking.{content_of, place_passes, with_serials}
 use Rattle.graph_read.specs.Numbers.{places_sum, totals_of}
 use Rattle.graph_read.proofs.Counted.{totals_counted}
 use Rattle.graph_read.proofs.Judging.{judged, unsound_slots, first_word, root_read, same_places, positive_length, none_without_puddles}

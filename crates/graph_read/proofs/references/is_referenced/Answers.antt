@@ -3,8 +3,8 @@ use Rattle.pud_defs.specs.Graph.{named_by, table_of}
 use Rattle.pud_defs.specs.Spaces.{all_below}
 use Rattle.pud_defs.specs.Stored.{stored_in}
 use Rattle.pud_defs.specs.Types.{types_of}
-use Rattle.graph_read.specs.declared.asking.Asked.TheVariants.{Spares}
-use Rattle.graph_read.specs.Asking.{content_of, place_passes, with_serials}
+use Rattle.graph_read.specs.declared.checking.SlotCheck.TheVariants.{LacksPointerTo}
+use Rattle.graph_read.specs.Checking.{content_of, place_passes, with_serials}
 use Rattle.graph_read.proofs.Referenced.{held, none_held}
 use Rattle.graph_read.proofs.Judging.{root_read, same_places, positive_length}
 use Rattle.graph_read.proofs.Numbers.{is_some-then_some}
@@ -25,4 +25,4 @@ returns-clause-held g c = λ t image same graph stored.
     c.is_referenced_by.ensures
     ∙ held (types_of image) st graph c.args.s serial c.named-root.result c.is_some-spared.result stored (c.in_ok-serials.ensures.serials t image second)
     (c.named-root.ensures ∙ ap (λ p. named_by serial (content_of p)) c.read_pointer.ensures.pointee ∙ ap (named_by serial) (root_read c.args.frames at image c.in_ok-root.root some (c.in_ok-root.ensures.word t image same)))
-    (c.is_some-spared.ensures ∙ ap is_some (c.in_ok-places_sum.ensures.sum t image third) ∙ is_some-then_some _ _ ∙ ap (λ n. all_below n (place_passes (Spares c.args.s) (with_serials serial (table_of (types_of image) st)))) (same_places c.args.frames at image))
+    (c.is_some-spared.ensures ∙ ap is_some (c.in_ok-places_sum.ensures.sum t image third) ∙ is_some-then_some _ _ ∙ ap (λ n. all_below n (place_passes (LacksPointerTo c.args.s) (with_serials serial (table_of (types_of image) st)))) (same_places c.args.frames at image))

@@ -1,7 +1,7 @@
 use Rattle.std.proofs.Common.{length-set, refl, ◌∙◌, arith}
 use Rattle.pud_defs.specs.Stored.{stored_in}
 use Rattle.graph_read.specs.declared.serials.TheConstants.{PLACES}
-use Rattle.graph_read.specs.Asking.{serials_in}
+use Rattle.graph_read.specs.Checking.{serials_in}
 use Rattle.graph_read.proofs.SerialsRead.{IsReadTo-start, IsReadTo-more, IsReadTo-end, no_serial_behind}
 use Rattle.pm_model.proofs.Reading.{OnlyReads-none, OnlyReads-then, still_reads}
 use Rattle.graph_read.proofs.serials.read_serials.Goals as goal

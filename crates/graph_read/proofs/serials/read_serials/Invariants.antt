@@ -3,7 +3,7 @@ use Rattle.pm_model.specs.Words.{reads}
 use Rattle.pud_defs.specs.Image.{Image}
 use Rattle.pud_defs.specs.Stored.{stored_in}
 use Rattle.graph_read.specs.declared.serials.TheConstants.{PLACES}
-use Rattle.graph_read.specs.Asking.{serials_in}
+use Rattle.graph_read.specs.Checking.{serials_in}
 use Rattle.graph_read.proofs.SerialsRead.{IsReadTo}
 use Rattle.pm_model.specs.Reads.{OnlyReads}
 use Rattle.graph_read.proofs.serials.read_serials.Given as goal

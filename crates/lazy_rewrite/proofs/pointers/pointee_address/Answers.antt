@@ -1,6 +1,6 @@
 use Rattle.std.proofs.Common.{map, Some, sym, ap}
 use Rattle.pud_defs.specs.Exported.{address_of}
-use Rattle.graph_read.specs.Asking.{content_of}
+use Rattle.graph_read.specs.Checking.{content_of}
 use Rattle.lazy_rewrite.proofs.pointers.pointee_address.Goals as goal
 
 pub returns-in-Null : goal.returns-in-Null

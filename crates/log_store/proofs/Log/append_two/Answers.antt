@@ -1,7 +1,7 @@
 use Rattle.std.proofs.Common.{◌+◌, [], ◌∷◌, length, refl, ap, arith}
 use Rattle.std.proofs.lemmas.Result.{err_from_is_err_and}
 use Rattle.pud_defs.specs.Entries.{IsLegalEntry}
-use Rattle.log_store.specs.Store.{OpenLog, spelled_all, longer, undo_entry}
+use Rattle.log_store.specs.Store.{OpenLog, spelled_all, with_words, undo_entry}
 use Rattle.log_store.proofs.Appending.{both_counted, Persists-spelled, spells_two, changes_in_log, Appends-failed, Appends-done}
 use Rattle.log_store.proofs.Log.append_two.Goals as goal
 
@@ -54,4 +54,4 @@ returns-then-self-both-gt-LOG_ENTRY_WORDS-clause-too_big g c =
     (λ _. omega arith, λ _. refl)
 
 pub returns-clause-appended : goal.returns-clause-appended
-returns-clause-appended g c = ap (longer (length c.args.vals.now + 5)) c.self.view_is
+returns-clause-appended g c = ap (with_words (length c.args.vals.now + 5)) c.self.view_is

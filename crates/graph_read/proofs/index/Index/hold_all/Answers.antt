@@ -1,6 +1,6 @@
 use Rattle.std.proofs.Common.{◌+◌, slice_index}
 use Rattle.pm_model.proofs.Reading.{OnlyReads-then, still_reads}
-use Rattle.graph_read.specs.Asking.{with_serials}
+use Rattle.graph_read.specs.Checking.{with_serials}
 use Rattle.graph_read.specs.Indexed.{place_names, places_name}
 use Rattle.graph_read.specs.Reading.{table_in}
 use Rattle.graph_read.proofs.IndexBuilt.{Gains-then, places_name-more}

@@ -3,7 +3,7 @@ use Rattle.pm_model.specs.Words.{reads}
 use Rattle.pm_model.specs.Reads.{OnlyReads}
 use Rattle.pud_defs.specs.declared.layout.TheConstants.{MAX_FIELDS}
 use Rattle.pud_defs.specs.Image.{Image}
-use Rattle.graph_read.specs.Asking.{with_serials}
+use Rattle.graph_read.specs.Checking.{with_serials}
 use Rattle.graph_read.specs.Indexed.{Gains, HasAtMost, places_name}
 use Rattle.graph_read.specs.Reading.{table_in}
 use Rattle.graph_read.proofs.index.Index.hold_all.Given as goal

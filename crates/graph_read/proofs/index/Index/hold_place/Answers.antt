@@ -5,7 +5,7 @@ use Rattle.pud_defs.specs.declared.space.TheConstants.{SLOT_TYPE_WORD}
 use Rattle.pud_defs.specs.Graph.{table_of, slot_contents}
 use Rattle.pud_defs.specs.Stored.{stored_in, place_word}
 use Rattle.pud_defs.specs.Types.{types_of, map_of}
-use Rattle.graph_read.specs.Asking.{with_serials}
+use Rattle.graph_read.specs.Checking.{with_serials}
 use Rattle.graph_read.specs.Indexed.{Gains, contents_name, place_names}
 use Rattle.graph_read.proofs.IndexBuilt.{Gains-none, place_names-live}
 use Rattle.graph_read.proofs.index.Index.hold_place.Goals as goal

@@ -9,14 +9,14 @@ pub const KEPT: usize = LINE_LIMIT + 1;
 
 /// The first bytes of the line that is being read. It takes no memory.
 #[derive(Drop)]
-pub struct Piece {
+pub struct LineBuffer {
     bytes: [u8; KEPT],
     length: usize,
 }
 
-impl Model for Piece {
+impl Model for LineBuffer {
     ghost use Rattle.std.specs.Prelude.{◌≤◌, List, ℕ, take};
-    ghost use Rattle.puddle_cli.specs.declared.piece.TheConstants.{KEPT};
+    ghost use Rattle.puddle_cli.specs.declared.line_buffer.TheConstants.{KEPT};
 
     ghost Value = { List ℕ };
 
@@ -25,12 +25,12 @@ impl Model for Piece {
     ghost invariant = { λ p. p.length ≤ KEPT };
 }
 
-impl Piece {
+impl LineBuffer {
     /// Nothing was read yet.
     pub fn new() -> Self
         ensures { result ≡ [] }
     {
-        Piece {
+        LineBuffer {
             bytes: [0; KEPT],
             length: 0,
         }

@@ -6,12 +6,12 @@ use Rattle.pud_defs.specs.Spaces.{all_below}
 use Rattle.pud_defs.specs.Stored.{stored_in}
 use Rattle.graph_read.proofs.Numbers.{fields_counted}
 use Rattle.graph_read.proofs.Passing.{field_passes}
-use Rattle.graph_read.proofs.asking.fields_sum.Given as goal
+use Rattle.graph_read.proofs.checking.fields_sum.Given as goal
 
 abbrev pub invariant-loop-f : goal.invariant-loop-f
 invariant-loop-f g l = record {
   only_reads : OnlyReads g.H.Loads.tells g.H.Loads.state g.H.Loads.counts None l.initial.h l.h;
   passed : g.H.Loads.tells → (image : Image) → reads (g.H.Loads.state l.initial.h).now.words ≡ image
-      → all_below l.f (field_passes l.asked (slice_index l.serials) (stored_in l.frames l.pool image) l.place l.type_map) ≡ true;
+      → all_below l.f (field_passes l.check (slice_index l.serials) (stored_in l.frames l.pool image) l.place l.type_map) ≡ true;
   counted : g.H.Loads.tells → (image : Image) → reads (g.H.Loads.state l.initial.h).now.words ≡ image → l.sum ≡ fields_counted (stored_in l.frames l.pool image) l.place l.type_map l.f % 2 ^ 64;
 }

@@ -3,16 +3,16 @@ use Rattle.pm_model.specs.Words.{reads}
 use Rattle.pm_model.specs.Reads.{OnlyReads}
 use Rattle.pud_defs.specs.Image.{Image}
 use Rattle.pud_defs.specs.Spaces.{all_below}
-use Rattle.graph_read.specs.Asking.{place_passes, with_serials}
+use Rattle.graph_read.specs.Checking.{place_passes, with_serials}
 use Rattle.graph_read.specs.Numbers.{numbers_below}
 use Rattle.graph_read.specs.Reading.{table_in}
-use Rattle.graph_read.proofs.asking.places_sum.Given as goal
+use Rattle.graph_read.proofs.checking.places_sum.Given as goal
 
 abbrev pub invariant-loop-place : goal.invariant-loop-place
 invariant-loop-place g l = record {
   only_reads : OnlyReads g.H.Loads.tells g.H.Loads.state g.H.Loads.counts None l.initial.h l.h;
   passed : g.H.Loads.tells → (image : Image) → reads (g.H.Loads.state l.initial.h).now.words ≡ image
-      → all_below l.place (place_passes l.asked (with_serials (slice_index l.serials) (table_in l.frames l.pool image))) ≡ true;
+      → all_below l.place (place_passes l.check (with_serials (slice_index l.serials) (table_in l.frames l.pool image))) ≡ true;
   summed : g.H.Loads.tells → (image : Image) → reads (g.H.Loads.state l.initial.h).now.words ≡ image
       → l.sum ≡ numbers_below (with_serials (slice_index l.serials) (table_in l.frames l.pool image)) l.place % 2 ^ 64;
 }

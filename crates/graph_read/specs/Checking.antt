@@ -7,8 +7,8 @@ use Rattle.pud_defs.specs.declared.objects.Pointee.TheVariants as pointees
 use Rattle.pud_defs.specs.Geometry.{place_at}
 use Rattle.pud_defs.specs.Graph.{Content, Null, At, Nowhere, Table, value_of, stands, names_serial}
 use Rattle.pud_defs.specs.Stored.{Stored, place_word, slot_state}
-use Rattle.graph_read.specs.declared.asking.Asked.{Asked}
-use Rattle.graph_read.specs.declared.asking.Asked.TheVariants.{IsSound, Spares}
+use Rattle.graph_read.specs.declared.checking.SlotCheck.{SlotCheck}
+use Rattle.graph_read.specs.declared.checking.SlotCheck.TheVariants.{IsSound, LacksPointerTo}
 
 -- the serial at each place
 abbrev pub serials_in : Stored → ℕ → ℕ
@@ -25,25 +25,25 @@ content_of (Some pointees.Null) = Null
 content_of (Some (pointees.At ordinal slot)) = At (place_at ordinal slot)
 
 -- what a field holds passes
-abbrev pub passes : Asked → (ℕ → ℕ) → Content → Bool
+abbrev pub passes : SlotCheck → (ℕ → ℕ) → Content → Bool
 passes (IsSound next) serial c = stands serial c
-passes (Spares s) serial c = not (names_serial s (value_of serial c))
+passes (LacksPointerTo s) serial c = not (names_serial s (value_of serial c))
 
 -- the serial of a live slot passes
-abbrev pub serial_passes : Asked → ℕ → Bool
+abbrev pub serial_passes : SlotCheck → ℕ → Bool
 serial_passes (IsSound next) v = nat_lt v next
-serial_passes (Spares s) v = true
+serial_passes (LacksPointerTo s) v = true
 
 -- a slot passes whose type is not defined
-abbrev pub unknown_passes : Asked → Bool
+abbrev pub unknown_passes : SlotCheck → Bool
 unknown_passes (IsSound next) = false
-unknown_passes (Spares s) = true
+unknown_passes (LacksPointerTo s) = true
 
 -- all fields of a slot pass
-abbrev pub contents_pass : Asked → (ℕ → ℕ) → Option (List Content) → Bool
-contents_pass asked serial None = unknown_passes asked
-contents_pass asked serial (Some contents) = list_all (passes asked serial) contents
+abbrev pub contents_pass : SlotCheck → (ℕ → ℕ) → Option (List Content) → Bool
+contents_pass check serial None = unknown_passes check
+contents_pass check serial (Some contents) = list_all (passes check serial) contents
 
 -- the place is free, or its slot passes
-abbrev pub place_passes : Asked → Table → ℕ → Bool
-place_passes asked t p = (slot_state (t.serial p)).is_free || (serial_passes asked (t.serial p) && contents_pass asked t.serial (t.contents p))
+abbrev pub place_passes : SlotCheck → Table → ℕ → Bool
+place_passes check t p = (slot_state (t.serial p)).is_free || (serial_passes check (t.serial p) && contents_pass check t.serial (t.contents p))

@@ -2,7 +2,7 @@ use Rattle.std.proofs.Common.{◌≡◌, ℕ, ◌+◌, ◌∙◌, ap, subst, IfO
 use Rattle.pud_defs.specs.declared.space.TheConstants.{SLOT_FIELDS_WORD}
 use Rattle.pud_defs.specs.Stored.{stored_in, place_word}
 use Rattle.puddle_header.proofs.Placed.{slot_at_place}
-use Rattle.graph_read.proofs.asking.field_word.Goals as goal
+use Rattle.graph_read.proofs.checking.field_word.Goals as goal
 
 pub returns-clause-word : goal.returns-clause-word
 returns-clause-word g c = λ t image same.

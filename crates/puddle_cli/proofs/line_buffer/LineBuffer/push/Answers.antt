@@ -1,6 +1,6 @@
 use Rattle.std.proofs.Common.{◌≡◌, ◌≤◌, ℕ, List, ◌++◌, ◌∷◌, [], length, take, sym, ap, ◌∙◌, arith, length-append, length-take}
 use Rattle.std.proofs.lemmas.List.{take_all, take_at, take_more_set}
-use Rattle.puddle_cli.proofs.piece.Piece.push.Goals as goal
+use Rattle.puddle_cli.proofs.line_buffer.LineBuffer.push.Goals as goal
 
 pub returns-then-self-lt-KEPT : goal.returns-then-self-lt-KEPT
 returns-then-self-lt-KEPT c =

@@ -8,7 +8,7 @@ ghost use Rattle.pud_defs.specs.Graph.{content, slot_contents};
 ghost use Rattle.pud_defs.specs.Image.{Image};
 ghost use Rattle.pud_defs.specs.Layout.{device_words};
 ghost use Rattle.pud_defs.specs.Stored.{IsOnDevice, stored_in, place_word};
-ghost use Rattle.graph_read.specs.Asking.{content_of, passes, serial_passes, unknown_passes, with_serials};
+ghost use Rattle.graph_read.specs.Checking.{content_of, passes, serial_passes, unknown_passes, with_serials};
 ghost use Rattle.graph_read.specs.Numbers.{value_number, fields_sum, place_sum, places_sum};
 ghost use Rattle.puddle_header.specs.Places.{places_in};
 ghost use Rattle.graph_read.specs.Reading.{table_in};
@@ -26,22 +26,22 @@ use type_maps::find;
 
 /// What is asked of a slot that is not free.
 #[derive(Clone, Copy)]
-pub(crate) enum Asked {
+pub(crate) enum SlotCheck {
     /// Whether its serial is below this next one, its type is defined, and each of its fields stands for something.
     IsSound(u64),
     /// Whether none of its fields names this serial.
-    Spares(u64),
+    LacksPointerTo(u64),
 }
 
-impl Asked {
+impl SlotCheck {
     /// Whether a pointer passes, by what was read of it.
     pub(crate) fn passes(self, serials: &Serials, pointee: Option<Pointee>) -> bool
         ensures { result ≡ passes self (slice_index serials.now) (content_of pointee) }
     {
         let serial = named(serials, pointee);
         match self {
-            Asked::IsSound(_) => matches!(pointee, Some(Pointee::Null)) || is_live(serial),
-            Asked::Spares(other) => serial != other,
+            SlotCheck::IsSound(_) => matches!(pointee, Some(Pointee::Null)) || is_live(serial),
+            SlotCheck::LacksPointerTo(other) => serial != other,
         }
     }
 
@@ -50,8 +50,8 @@ impl Asked {
         ensures { result ≡ serial_passes self serial }
     {
         match self {
-            Asked::IsSound(next) => serial < next,
-            Asked::Spares(_) => true,
+            SlotCheck::IsSound(next) => serial < next,
+            SlotCheck::LacksPointerTo(_) => true,
         }
     }
 
@@ -59,7 +59,7 @@ impl Asked {
     fn unknown_passes(self) -> bool
         ensures { result ≡ unknown_passes self }
     {
-        matches!(self, Asked::Spares(_))
+        matches!(self, SlotCheck::LacksPointerTo(_))
     }
 }
 
@@ -68,7 +68,7 @@ impl Asked {
 fn value_number(
     pool: &[(u32, Puddle)],
     serials: &Serials,
-    asked: Asked,
+    check: SlotCheck,
     place: u32,
     type_map: u64,
     f: u32,
@@ -76,13 +76,13 @@ fn value_number(
 ) -> Option<u64>
     requires few { length pool.now ≤ MAX_PUDDLES }
     requires within { place < places_in pool.now }
-    ensures { result ≡ value_number asked (slice_index serials.now) (content (map (λ e. e.1) pool.now) type_map place f v) }
+    ensures { result ≡ value_number check (slice_index serials.now) (content (map (λ e. e.1) pool.now) type_map place f v) }
 {
     if !map_is_pointer(type_map, f) {
         return Some(v);
     }
     let pointee = read_pointer(pool, ordinal_of(place), slot_of(place) + 1, v);
-    asked.passes(serials, pointee).then_some(0)
+    check.passes(serials, pointee).then_some(0)
 }
 
 /// The type id in the slot at a place, whatever the slot holds. One word is read.
@@ -131,7 +131,7 @@ fn fields_sum<H: Loads>(
     frames: u32,
     pool: &[(u32, Puddle)],
     serials: &Serials,
-    asked: Asked,
+    check: SlotCheck,
     place: u32,
     type_map: u64,
 ) -> Result<Option<u64>, HostFault>
@@ -140,13 +140,13 @@ fn fields_sum<H: Loads>(
     requires known { IsOnDevice frames pool.now }
     requires within { place < places_in pool.now }
     ensures sum { H.tells → (image : Image) → reads (H.state h.old).now.words ≡ image
-        → IfOk result (λ sum. sum ≡ fields_sum asked (slice_index serials.now) (slot_contents (stored_in frames pool.now image) place (Option.Some type_map))) }
+        → IfOk result (λ sum. sum ≡ fields_sum check (slice_index serials.now) (slot_contents (stored_in frames pool.now image) place (Option.Some type_map))) }
     ensures only_reads { OnlyReads H.tells H.state H.counts (fault_of result) h.old h.new }
 {
     let mut sum: u64 = 0;
     for f in 0..map_fields(type_map).min(MAX_FIELDS) {
         let v = field_word(h, frames, pool, place, f)?;
-        let Some(number) = value_number(pool, serials, asked, place, type_map, f, v) else {
+        let Some(number) = value_number(pool, serials, check, place, type_map, f, v) else {
             return Ok(None);
         };
         sum = sum.wrapping_add(number);
@@ -161,7 +161,7 @@ fn place_sum<H: Loads>(
     frames: u32,
     pool: &[(u32, Puddle)],
     serials: &Serials,
-    asked: Asked,
+    check: SlotCheck,
     place: u32,
 ) -> Result<Option<u64>, HostFault>
     requires few { frames ≤ MAX_FRAMES }
@@ -169,20 +169,20 @@ fn place_sum<H: Loads>(
     requires known { IsOnDevice frames pool.now }
     requires within { place < places_in pool.now }
     ensures sum { H.tells → (image : Image) → reads (H.state h.old).now.words ≡ image
-        → IfOk result (λ sum. sum ≡ place_sum asked (with_serials (slice_index serials.now) (table_in frames pool.now image)) place) }
+        → IfOk result (λ sum. sum ≡ place_sum check (with_serials (slice_index serials.now) (table_in frames pool.now image)) place) }
     ensures only_reads { OnlyReads H.tells H.state H.counts (fault_of result) h.old h.new }
 {
     let serial = serials[place as usize];
     if is_free(serial) {
         return Ok(Some(0));
     }
-    if !asked.serial_passes(serial) {
+    if !check.serial_passes(serial) {
         return Ok(None);
     }
     let id = type_at(h, frames, pool, place)?;
     match find(h, id)? {
-        Some(type_map) => fields_sum(h, frames, pool, serials, asked, place, type_map),
-        None => Ok(asked.unknown_passes().then_some(0)),
+        Some(type_map) => fields_sum(h, frames, pool, serials, check, place, type_map),
+        None => Ok(check.unknown_passes().then_some(0)),
     }
 }
 
@@ -193,18 +193,18 @@ pub(crate) fn places_sum<H: Loads>(
     frames: u32,
     pool: &[(u32, Puddle)],
     serials: &Serials,
-    asked: Asked,
+    check: SlotCheck,
 ) -> Result<Option<u64>, HostFault>
     requires few { frames ≤ MAX_FRAMES }
     requires room { device_words frames ≤ (H.counts h.old).size }
     requires known { IsOnDevice frames pool.now }
     ensures sum { H.tells → (image : Image) → reads (H.state h.old).now.words ≡ image
-        → IfOk result (λ sum. sum ≡ places_sum asked (with_serials (slice_index serials.now) (table_in frames pool.now image)) (places_in pool.now)) }
+        → IfOk result (λ sum. sum ≡ places_sum check (with_serials (slice_index serials.now) (table_in frames pool.now image)) (places_in pool.now)) }
     ensures only_reads { OnlyReads H.tells H.state H.counts (fault_of result) h.old h.new }
 {
     let mut sum: u64 = 0;
     for place in 0..places_among(pool.len() as u32) {
-        let Some(numbers) = place_sum(h, frames, pool, serials, asked, place)? else {
+        let Some(numbers) = place_sum(h, frames, pool, serials, check, place)? else {
             return Ok(None);
         };
         sum = sum.wrapping_add(numbers);
