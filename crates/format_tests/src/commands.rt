@@ -1,5 +1,5 @@
 //! Lines that are commands, and lines that are none.
-use pud_defs::objects::Val;
+use pud_defs::objects::FieldValue;
 use pud_defs::records::Name;
 use script::{Command, parse_line};
 use std::process::Abort;
@@ -45,7 +45,7 @@ fn new_object(client: u8, name: Name, t: u32) -> Command {
     Command::New { client, name, t }
 }
 
-fn set(client: u8, name: Name, s: u64, f: u32, x: Val) -> Command {
+fn set(client: u8, name: Name, s: u64, f: u32, x: FieldValue) -> Command {
     Command::Set {
         client,
         name,
@@ -55,7 +55,7 @@ fn set(client: u8, name: Name, s: u64, f: u32, x: Val) -> Command {
     }
 }
 
-fn later(client: u8, name: Name, s: u64, f: u32, x: Val) -> Command {
+fn later(client: u8, name: Name, s: u64, f: u32, x: FieldValue) -> Command {
     Command::Later {
         client,
         name,
@@ -218,17 +218,17 @@ fn lines_of_transactions(rt: HostRuntime) {
                 "new 7 abcdefghijklmnop 65535",
                 new_object(7, sixteen, 65_535),
             ),
-            ("set 0 p 1.0 0", set(0, p, 1, 0, Val::Num(0))),
-            ("set 0 p 1.0 10", set(0, p, 1, 0, Val::Num(10))),
-            ("set 0 p 1.1 @0", set(0, p, 1, 1, Val::Ref(0))),
-            ("set 0 p 12.1 @10", set(0, p, 12, 1, Val::Ref(10))),
+            ("set 0 p 1.0 0", set(0, p, 1, 0, FieldValue::Num(0))),
+            ("set 0 p 1.0 10", set(0, p, 1, 0, FieldValue::Num(10))),
+            ("set 0 p 1.1 @0", set(0, p, 1, 1, FieldValue::Ref(0))),
+            ("set 0 p 12.1 @10", set(0, p, 12, 1, FieldValue::Ref(10))),
             (
                 "set 7 p 18446744073709551615.29 18446744073709551615",
-                set(7, p, u64::MAX, 29, Val::Num(u64::MAX)),
+                set(7, p, u64::MAX, 29, FieldValue::Num(u64::MAX)),
             ),
             (
                 "set 7 p 1.29 @18446744073709551615",
-                set(7, p, 1, 29, Val::Ref(u64::MAX)),
+                set(7, p, 1, 29, FieldValue::Ref(u64::MAX)),
             ),
         ],
     );
@@ -281,16 +281,16 @@ fn lines_of_values_to_come_roots_and_freed_objects(rt: HostRuntime) {
     are_commands(
         &rt,
         &[
-            ("later 0 p 1.0 0", later(0, p, 1, 0, Val::Num(0))),
-            ("later 0 p 12.1 @0", later(0, p, 12, 1, Val::Ref(0))),
-            ("later 1 p 12.1 @10", later(1, p, 12, 1, Val::Ref(10))),
+            ("later 0 p 1.0 0", later(0, p, 1, 0, FieldValue::Num(0))),
+            ("later 0 p 12.1 @0", later(0, p, 12, 1, FieldValue::Ref(0))),
+            ("later 1 p 12.1 @10", later(1, p, 12, 1, FieldValue::Ref(10))),
             (
                 "later 7 p 18446744073709551615.29 18446744073709551615",
-                later(7, p, u64::MAX, 29, Val::Num(u64::MAX)),
+                later(7, p, u64::MAX, 29, FieldValue::Num(u64::MAX)),
             ),
             (
                 "later 7 abcdefghijklmnop 1.29 @18446744073709551615",
-                later(7, sixteen, 1, 29, Val::Ref(u64::MAX)),
+                later(7, sixteen, 1, 29, FieldValue::Ref(u64::MAX)),
             ),
             ("root 0 p 0", root(0, p, 0)),
             ("root 1 p 1", root(1, p, 1)),

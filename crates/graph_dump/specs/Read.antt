@@ -3,7 +3,7 @@ use Rattle.std.specs.Prelude.{ℕ, ◌+◌, List, map, Option}
 use Rattle.std.specs.List.{range_with_len}
 use Rattle.pud_defs.specs.declared.space.TheConstants.{SLOT_FIELDS_WORD}
 use Rattle.pud_defs.specs.declared.records.Puddle.{Puddle}
-use Rattle.pud_defs.specs.declared.objects.Val.{Val}
+use Rattle.pud_defs.specs.declared.objects.FieldValue.{FieldValue}
 use Rattle.pud_defs.specs.Image.{Image}
 use Rattle.pud_defs.specs.Stored.{stored_in, place_word}
 use Rattle.pud_defs.specs.Graph.{value_of, content, field_count, under_serial, object_at}
@@ -11,11 +11,11 @@ use Rattle.pud_defs.specs.DumpText.{object_text}
 use Rattle.graph_read.specs.Reading.{table_in}
 
 -- what field f at a place holds by the map of a type
-abbrev pub field_value : (F : ℕ) → List (ℕ × Puddle) → Image → (place map field : ℕ) → Val
+abbrev pub field_value : (F : ℕ) → List (ℕ × Puddle) → Image → (place map field : ℕ) → FieldValue
 field_value F at image p m f = value_of (table_in F at image).serial (content (map (λ e. e.1) at) m p f (place_word (stored_in F at image) p (SLOT_FIELDS_WORD + f)))
 
 -- what the fields hold
-abbrev pub field_values : (F : ℕ) → List (ℕ × Puddle) → Image → (place map : ℕ) → List Val
+abbrev pub field_values : (F : ℕ) → List (ℕ × Puddle) → Image → (place map : ℕ) → List FieldValue
 field_values F at image p m = map (field_value F at image p m) (range_with_len 0 (field_count m))
 
 -- a place under its serial, where it is live

@@ -5,14 +5,14 @@ ghost use Rattle.pud_defs.specs.declared.layout.TheConstants.{MAX_FIELDS};
 ghost use Rattle.pud_defs.specs.Graph.{Object};
 
 use pud_defs::layout::MAX_FIELDS;
-use pud_defs::objects::Val;
+use pud_defs::objects::FieldValue;
 use std::marker::Model;
 
 /// As many values as an object has fields at most.
-pub(crate) type Fields = [Val; MAX_FIELDS as usize];
+pub(crate) type Fields = [FieldValue; MAX_FIELDS as usize];
 
 /// Values that stand for none.
-pub(crate) const NO_FIELDS: Fields = [Val::Num(0); MAX_FIELDS as usize];
+pub(crate) const NO_FIELDS: Fields = [FieldValue::Num(0); MAX_FIELDS as usize];
 
 /// An object, as it was read.
 #[derive(Drop)]
@@ -51,7 +51,7 @@ impl ObjectRead {
     }
 
     /// The fields, in turn.
-    pub(crate) fn fields(&self) -> &[Val]
+    pub(crate) fn fields(&self) -> &[FieldValue]
         ensures { result.now ≡ (self.now).fields }
     {
         &self.values[..self.count as usize]

@@ -5,7 +5,7 @@ ghost use Rattle.pud_defs.specs.DumpText.{pointer_text, field_text, object_text}
 ghost use Rattle.graph_dump.specs.Spelled.{Spells, SpellsEach, separator};
 
 use crate::object::ObjectRead;
-use pud_defs::objects::Val;
+use pud_defs::objects::FieldValue;
 use serde_json::{Value, json};
 use std::alloc::{AllocError, Global};
 
@@ -20,17 +20,17 @@ pub(crate) fn pointer_value(alloc: Global, serial: u64) -> Result<Value, AllocEr
 }
 
 /// A field.
-fn field_value(alloc: Global, field: Val) -> Result<Value, AllocError>
+fn field_value(alloc: Global, field: FieldValue) -> Result<Value, AllocError>
     ensures { IfOk result (Spells (field_text field)) }
 {
     match field {
-        Val::Num(value) => Ok(Value::from(value)),
-        Val::Ref(serial) => pointer_value(alloc, serial),
+        FieldValue::Num(value) => Ok(Value::from(value)),
+        FieldValue::Ref(serial) => pointer_value(alloc, serial),
     }
 }
 
 /// Fields, in turn.
-fn field_values(alloc: Global, fields: &[Val]) -> Result<Vec<Value>, AllocError>
+fn field_values(alloc: Global, fields: &[FieldValue]) -> Result<Vec<Value>, AllocError>
     ensures { IfOk result (λ values. SpellsEach (map field_text fields.now) values.items) }
 {
     let mut values = Vec::with_capacity(alloc, fields.len())?;

@@ -7,8 +7,8 @@ use Rattle.std.proofs.lemmas.List.{same_lists, length-set, get_or-set_same, get_
 use Rattle.std.proofs.lemmas.List.FromFn.{get_or-map-range_with_len, length-map-range_with_len}
 use Rattle.pud_defs.specs.declared.space.TheConstants.{FRAME_HEADER_WORDS, SLOT_TYPE_WORD, SLOT_FIELDS_WORD}
 use Rattle.pud_defs.specs.declared.records.Puddle.{Puddle}
-use Rattle.pud_defs.specs.declared.objects.Val.{Val}
-use Rattle.pud_defs.specs.declared.objects.Val.TheVariants.{Num, Ref}
+use Rattle.pud_defs.specs.declared.objects.FieldValue.{FieldValue}
+use Rattle.pud_defs.specs.declared.objects.FieldValue.TheVariants.{Num, Ref}
 use Rattle.pud_defs.specs.TypeMap.{is_pointer}
 use Rattle.pud_defs.specs.Geometry.{ordinal_of, slot_of}
 use Rattle.pud_defs.specs.Types.{map_of}
@@ -83,12 +83,12 @@ module _ (types : List (ℕ × ℕ)) (st : Stored) (p m f v : ℕ) (below : f < 
         ∙ ap (set contents f) (ap (content st.puddles m p f) (slot_word-there p (SLOT_FIELDS_WORD + f) v st few)))
 
     -- the object of the place has another value in the field
-    object_after : (x : Val) → after.serial ≡ before.serial → value_of before.serial (content st.puddles m p f v) ≡ x → object_at after p ≡ object_with f x (object_at before p)
+    object_after : (x : FieldValue) → after.serial ≡ before.serial → value_of before.serial (content st.puddles m p f v) ≡ x → object_at after p ≡ object_with f x (object_at before p)
     object_after x serials value =
         let fields =
         ap₂ (λ (s : ℕ → ℕ) (o : Option (List Content)). map (value_of s) (contents_or_none o)) serials contents_after
         ∙ map-set (value_of before.serial) contents f (content st.puddles m p f v)
-        ∙ ap₂ (λ (o : Option (List Content)) (w : Val). set (map (value_of before.serial) (contents_or_none o)) f w) (sym contents_before) value in
+        ∙ ap₂ (λ (o : Option (List Content)) (w : FieldValue). set (map (value_of before.serial) (contents_or_none o)) f w) (sym contents_before) value in
         let type = type_kept in
         λ i. record { type_id = type i; fields = fields i }
 
@@ -99,7 +99,7 @@ module _ (types : List (ℕ × ℕ)) (st : Stored) (p m f v : ℕ) (below : f < 
       same = same_but types st later p is_live.within (slot_word-others p (SLOT_FIELDS_WORD + f) v st few)
 
       -- what the field stands for now, and the value that it is
-      module _ (g : Graph) (x : Val) (h : HasGraph types st g) (stand : stands before.serial (content st.puddles m p f v) ≡ true) (value : value_of before.serial (content st.puddles m p f v) ≡ x) where
+      module _ (g : Graph) (x : FieldValue) (h : HasGraph types st g) (stand : stands before.serial (content st.puddles m p f v) ≡ true) (value : value_of before.serial (content st.puddles m p f v) ≡ x) where
         all_stand_after : all_stand before.serial (after.contents p) ≡ true
         all_stand_after =
             ap (all_stand before.serial) contents_after
@@ -125,7 +125,7 @@ module _ (types : List (ℕ × ℕ)) (st : Stored) (p m f v : ℕ) (below : f < 
             ∙ ap (λ (k : Graph). Some (with_field (before.serial p) f x k)) h.is
 
 -- A field's word is stored: what it stands for stands, and is the value x.
-graph_of-field : (types : List (ℕ × ℕ)) (st : Stored) (g : Graph) (s p m f v : ℕ) (x : Val) → graph_of types st ≡ Some g → IsField types st s p m f
+graph_of-field : (types : List (ℕ × ℕ)) (st : Stored) (g : Graph) (s p m f v : ℕ) (x : FieldValue) → graph_of types st ≡ Some g → IsField types st s p m f
     → stands (table_of types st).serial (content st.puddles m p f v) ≡ true → value_of (table_of types st).serial (content st.puddles m p f v) ≡ x
     → graph_of types (with_field_word p f v st) ≡ Some (with_field s f x g)
 graph_of-field types st g s p m f v x is field stand value =

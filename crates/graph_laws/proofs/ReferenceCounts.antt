@@ -7,8 +7,8 @@ use Rattle.std.proofs.lemmas.Bool.{cond-false, lt-ltb}
 use Rattle.std.proofs.lemmas.Cmp.{nat_cmp_total}
 use Rattle.std.proofs.lemmas.List.Sums.{sum_by-cons}
 use Rattle.std.proofs.lemmas.Option.{none-some, same_Some}
-use Rattle.pud_defs.specs.declared.objects.Val.{Val}
-use Rattle.pud_defs.specs.declared.objects.Val.TheVariants.{Num, Ref}
+use Rattle.pud_defs.specs.declared.objects.FieldValue.{FieldValue}
+use Rattle.pud_defs.specs.declared.objects.FieldValue.TheVariants.{Num, Ref}
 use Rattle.pud_defs.specs.TypeMap.{is_pointer}
 use Rattle.pud_defs.specs.Stored.{Stored, places_of}
 use Rattle.pud_defs.specs.Graph.{Object, Graph, table_of, place_of_serial, object_at, live, field_count, names_serial, object_in, is_referenced, next_serial_of, graph_of}
@@ -44,7 +44,7 @@ module _ (types : List (ℕ × ℕ)) (st : Stored) (g : Graph) (is : graph_of ty
 -- ---- one change
 
 -- a field of another value
-pub reference_count-field : (q s f : ℕ) (x was : Val) (o : Object) (g : Graph) → T (is_sorted nat_cmp g.objects) → object_in s g ≡ Some o → slice_get o.fields f ≡ Some was
+pub reference_count-field : (q s f : ℕ) (x was : FieldValue) (o : Object) (g : Graph) → T (is_sorted nat_cmp g.objects) → object_in s g ≡ Some o → slice_get o.fields f ≡ Some was
     → reference_count q (with_field s f x g) + times_named_by q was ≡ reference_count q g + times_named_by q x
 unfolding reference_count
 reference_count-field q s f x was o g sorted there field =
@@ -54,7 +54,7 @@ reference_count-field q s f x was o g sorted there field =
     let fields = fields_set o.fields f field in
     ap (λ (k : Graph). reference_count q k + times_named_by q was) named ∙ omega (arith, sums, fields)
   where
-    fields_set : (vals : List Val) (i : ℕ) → slice_get vals i ≡ Some was → count_by (names_serial q) (set vals i x) + times_named_by q was ≡ count_by (names_serial q) vals + times_named_by q x
+    fields_set : (vals : List FieldValue) (i : ℕ) → slice_get vals i ≡ Some was → count_by (names_serial q) (set vals i x) + times_named_by q was ≡ count_by (names_serial q) vals + times_named_by q x
     fields_set [] i none = absurd (none-some was none)
     fields_set (v ∷ vals) zero here =
         let is = same_Some v was here in

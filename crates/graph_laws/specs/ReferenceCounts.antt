@@ -1,10 +1,10 @@
 -- How many hold an object: the pointers of objects and the root that name it.
 use Rattle.std.specs.Prelude.{ℕ, ◌+◌, ◌==◌, cond, count_by, sum_by}
-use Rattle.pud_defs.specs.declared.objects.Val.{Val}
+use Rattle.pud_defs.specs.declared.objects.FieldValue.{FieldValue}
 use Rattle.pud_defs.specs.Graph.{Object, Graph, names_serial}
 
 -- how often a value names the serial, once or not at all
-abbrev pub times_named_by : ℕ → Val → ℕ
+abbrev pub times_named_by : ℕ → FieldValue → ℕ
 times_named_by s v = cond (names_serial s v) 1 0
 
 -- how many fields of an object name it

@@ -4,10 +4,10 @@ ghost use Rattle.std.specs.Prelude.{◌≡◌, ◌≢◌, ◌↔◌, nat_lt, ◌
 ghost use Rattle.pud_defs.specs.declared.layout.TheConstants.{FRAME_WORDS, NUMBER_LIMIT};
 ghost use Rattle.pud_defs.specs.declared.space.TheConstants.{FRAME_HEADER_WORDS, FRAME_ORDINAL_WORD, ROOT_WORD, SLOT_SERIAL_WORD, SLOT_TYPE_WORD, SLOT_FIELDS_WORD, LAST_FRONTIER};
 ghost use Rattle.pud_defs.specs.declared.records.TheConstants.{POOL_RECORDS};
-ghost use Rattle.pud_defs.specs.declared.records.PoolRec.{PoolRec};
+ghost use Rattle.pud_defs.specs.declared.records.PoolRecord.{PoolRecord};
 ghost use Rattle.pud_defs.specs.declared.records.Puddle.{Puddle};
-ghost use Rattle.pud_defs.specs.declared.objects.Val.{Val};
-ghost use Rattle.pud_defs.specs.declared.objects.Val.TheVariants.{Num, Ref};
+ghost use Rattle.pud_defs.specs.declared.objects.FieldValue.{FieldValue};
+ghost use Rattle.pud_defs.specs.declared.objects.FieldValue.TheVariants.{Num, Ref};
 ghost use Rattle.pud_defs.specs.TypeMap.{is_pointer};
 ghost use Rattle.pud_defs.specs.Geometry.{ordinal_of, slot_of};
 ghost use Rattle.pud_defs.specs.Types.{map_of, types_of, with_type};
@@ -93,7 +93,7 @@ pub fn stored_address_is_the_root()
 /// Where a field of an object is set, the object that the field named has a holder fewer, and the one that it names now has
 /// one more.
 pub fn set_field_moves_one_reference()
-    ensures { (types : List (ℕ × ℕ)) (st : Stored) (g : Graph) (q : ℕ) (s : ℕ) (f : ℕ) (x : Val) (was : Val) (o : Object) → graph_of types st ≡ Option.Some g → object_in s g ≡ Option.Some o → slice_get o.fields f ≡ Option.Some was
+    ensures { (types : List (ℕ × ℕ)) (st : Stored) (g : Graph) (q : ℕ) (s : ℕ) (f : ℕ) (x : FieldValue) (was : FieldValue) (o : Object) → graph_of types st ≡ Option.Some g → object_in s g ≡ Option.Some o → slice_get o.fields f ≡ Option.Some was
         → reference_count q (with_field s f x g) + times_named_by q was ≡ reference_count q g + times_named_by q x }
 {}
 
@@ -236,7 +236,7 @@ pub fn bytes_of_exported_words_are_a_file()
 /// A pool of a sound registry can be exported: its types and the bases of its puddles are legal in a file, and are no more
 /// than it may have.
 pub fn pool_of_a_sound_registry_can_be_exported()
-    ensures { (size : ℕ) (image : Image) (frames : ℕ) (slot : ℕ) (rec : PoolRec) → is_registry size image ≡ true → frames ≡ frames_of image
+    ensures { (size : ℕ) (image : Image) (frames : ℕ) (slot : ℕ) (rec : PoolRecord) → is_registry size image ≡ true → frames ≡ frames_of image
         → slot < POOL_RECORDS → (tables_of frames image).pools slot ≡ Option.Some rec → IsExportable (types_of image) (stored_in frames (puddles_in_turn (tables_of frames image) slot) image) }
 {}
 

@@ -1,6 +1,6 @@
 -- The totals of small graphs.
 use Rattle.std.proofs.Common.{◌≡◌, ◌-◌, ◌^◌, [], ◌∷◌, refl}
-use Rattle.pud_defs.specs.declared.objects.Val.TheVariants.{Num, Ref}
+use Rattle.pud_defs.specs.declared.objects.FieldValue.TheVariants.{Num, Ref}
 use Rattle.pud_defs.specs.Graph.{Graph, empty_graph}
 use Rattle.graph_read.specs.Numbers.{number_sum, totals_of}
 

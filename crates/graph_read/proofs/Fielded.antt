@@ -8,7 +8,7 @@ use Rattle.std.proofs.lemmas.List.FromFn.{get_or-range_with_len, length-range_wi
 use Rattle.std.proofs.lemmas.List.{length-map}
 use Rattle.pud_defs.specs.declared.layout.TheConstants.{MAX_FIELDS}
 use Rattle.pud_defs.specs.declared.space.TheConstants.{SLOT_TYPE_WORD, SLOT_FIELDS_WORD}
-use Rattle.pud_defs.specs.declared.objects.Val.TheVariants.{Num, Ref}
+use Rattle.pud_defs.specs.declared.objects.FieldValue.TheVariants.{Num, Ref}
 use Rattle.pud_defs.specs.declared.objects.Pointee.TheVariants as pointees
 use Rattle.pud_defs.specs.declared.records.Puddle.{Puddle}
 use Rattle.pud_defs.specs.declared.records.Slot.{Slot}

@@ -10,8 +10,8 @@ use Rattle.std.proofs.lemmas.List.{map-id}
 use Rattle.std.proofs.lemmas.List.FromFn.{sum_by-map-range_with_len_more}
 use Rattle.std.proofs.lemmas.List.Sums.{sum_by-cons}
 use Rattle.pud_defs.specs.declared.records.Puddle.{Puddle}
-use Rattle.pud_defs.specs.declared.objects.Val.{Val}
-use Rattle.pud_defs.specs.declared.objects.Val.TheVariants.{Num, Ref}
+use Rattle.pud_defs.specs.declared.objects.FieldValue.{FieldValue}
+use Rattle.pud_defs.specs.declared.objects.FieldValue.TheVariants.{Num, Ref}
 use Rattle.pud_defs.specs.Image.{Image}
 use Rattle.pud_defs.specs.Graph.{Content, Number, Null, At, Nowhere, Table, Object, Graph, under_serial, table_of, contents_or_none, object_at, live, value_of, named_by, names_serial, root_of, graph_of}
 use Rattle.pud_defs.specs.Keyed.{under, first_from}
@@ -157,7 +157,7 @@ abbrev once : Bool → ℕ
 once b = cond b 1 0
 
 -- a value names once what its serial says
-pub named_once : (q : ℕ) (v : Val) → (q ≡ 0 → ⊥) → times_named_by q v ≡ names_one (serial_named v) q
+pub named_once : (q : ℕ) (v : FieldValue) → (q ≡ 0 → ⊥) → times_named_by q v ≡ names_one (serial_named v) q
 named_once q (Num n) some = sym (cond-false _ _ _ (ap (λ b. b && not (eqb q 0)) (ne_eqb 0 q (λ none. some (sym none)))))
 named_once q (Ref r) some =
     elim (eqb r q) as (λ a. once a ≡ once (a && not (eqb q 0))) [ true ↦ ap (λ b. once (not b)) (sym (ne_eqb q 0 some)) | false ↦ refl ]

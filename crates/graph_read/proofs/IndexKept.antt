@@ -5,8 +5,8 @@ use Rattle.std.proofs.lemmas.Bool.{cases_eq, cond-true, cond-false}
 use Rattle.std.proofs.lemmas.List.Sums.{sum_by-cons}
 use Rattle.std.proofs.lemmas.Option.{same_Some}
 use Rattle.pud_defs.specs.declared.records.Puddle.{Puddle}
-use Rattle.pud_defs.specs.declared.objects.Val.{Val}
-use Rattle.pud_defs.specs.declared.objects.Val.TheVariants.{Num, Ref}
+use Rattle.pud_defs.specs.declared.objects.FieldValue.{FieldValue}
+use Rattle.pud_defs.specs.declared.objects.FieldValue.TheVariants.{Num, Ref}
 use Rattle.pud_defs.specs.Image.{Image}
 use Rattle.pud_defs.specs.Stored.{stored_in}
 use Rattle.pud_defs.specs.Graph.{Object, Graph, object_in, is_referenced, graph_of}
@@ -117,7 +117,7 @@ module _ (F : ℕ) (at : List (ℕ × Puddle)) (types : List (ℕ × ℕ)) (imag
     }
 
     -- where a value names another serial, and the places stay
-    moved_index : (was now : Val) (y : Index) → ((q : ℕ) → place_in_pool F at later q ≡ place q) → ((q : ℕ) → kept_under y q ≡ after_retarget (serial_named was) (serial_named now) q (kept_under x q))
+    moved_index : (was now : FieldValue) (y : Index) → ((q : ℕ) → place_in_pool F at later q ≡ place q) → ((q : ℕ) → kept_under y q ≡ after_retarget (serial_named was) (serial_named now) q (kept_under x q))
         → ((q : ℕ) → times_named_by q was ≤ reference_count q g) → ((q : ℕ) → reference_count q h + times_named_by q was ≡ reference_count q g + times_named_by q now) → IsIndexOf F at types later y
     moved_index was now y stay moved had counts = record {
       graph = h;
@@ -135,7 +135,7 @@ module _ (F : ℕ) (at : List (ℕ × Puddle)) (types : List (ℕ × ℕ)) (imag
     }
 
   -- a field is set
-  pub index_set : (later : Image) (s f : ℕ) (now was : Val) (o : Object) (y : Index) → object_in s g ≡ Some o → slice_get o.fields f ≡ Some was → graph_of types (stored_in F at later) ≡ Some (with_field s f now g)
+  pub index_set : (later : Image) (s f : ℕ) (now was : FieldValue) (o : Object) (y : Index) → object_in s g ≡ Some o → slice_get o.fields f ≡ Some was → graph_of types (stored_in F at later) ≡ Some (with_field s f now g)
       → ((q : ℕ) → place_in_pool F at later q ≡ place q) → ((q : ℕ) → kept_under y q ≡ after_retarget (serial_named was) (serial_named now) q (kept_under x q)) → IsIndexOf F at types later y
   index_set later s f now was o y there field after stay moved =
       let sorted = objects_sorted types (stored_in F at image) g stored in
@@ -173,7 +173,7 @@ module _ (F : ℕ) (at : List (ℕ × Puddle)) (types : List (ℕ × ℕ)) (imag
   index_begins_to_free s o there =
       IsIndexBy-same place place (λ q. reference_count q g) (references_left g s o.fields) x (λ q. refl) (λ q p known. reference_count-freed q s o g (objects_sorted types (stored_in F at image) g stored) there) by_graph
 
-pub index_lets_go : (F : ℕ) (at : List (ℕ × Puddle)) (image : Image) (g : Graph) (s : ℕ) (v : Val) (left : List Val) (x y : Index) → ((q : ℕ) → kept_under y q ≡ after_retarget (serial_named v) 0 q (kept_under x q))
+pub index_lets_go : (F : ℕ) (at : List (ℕ × Puddle)) (image : Image) (g : Graph) (s : ℕ) (v : FieldValue) (left : List FieldValue) (x y : Index) → ((q : ℕ) → kept_under y q ≡ after_retarget (serial_named v) 0 q (kept_under x q))
     → IsIndexBy (place_in_pool F at image) (references_left g s (v ∷ left)) x → IsIndexBy (place_in_pool F at image) (references_left g s left) y
 index_lets_go F at image g s v left x y moved is =
     IsIndexBy-moved (place_in_pool F at image) (references_left g s (v ∷ left)) (references_left g s left) (serial_named v) 0 x y moved

@@ -2,8 +2,8 @@
 use Rattle.std.specs.Prelude.{◌≡◌, ℕ, ◌+◌, ◌≤◌, not, ◌&&◌, ◌==◌, cond, count_by, sum_by, List, Option, Some, None, option_map, IfSome}
 use Rattle.std.specs.List.{range_with_len}
 use Rattle.pud_defs.specs.declared.records.Puddle.{Puddle}
-use Rattle.pud_defs.specs.declared.objects.Val.{Val}
-use Rattle.pud_defs.specs.declared.objects.Val.TheVariants.{Num, Ref}
+use Rattle.pud_defs.specs.declared.objects.FieldValue.{FieldValue}
+use Rattle.pud_defs.specs.declared.objects.FieldValue.TheVariants.{Num, Ref}
 use Rattle.pud_defs.specs.Geometry.{ordinal_of, slot_of}
 use Rattle.pud_defs.specs.Image.{Image}
 use Rattle.pud_defs.specs.Stored.{stored_in}
@@ -36,12 +36,12 @@ pub record IsIndexOf (F : ℕ) (at : List (ℕ × Puddle)) (types : List (ℕ ×
 -- ---- an object that is freed
 
 -- the serial that a value names, 0 where it names none
-abbrev pub serial_named : Val → ℕ
+abbrev pub serial_named : FieldValue → ℕ
 serial_named (Num v) = 0
 serial_named (Ref s) = s
 
 -- how many hold an object while one is freed, of whose fields these are still to be let go
-abbrev pub references_left : Graph → (freed : ℕ) → List Val → ℕ → ℕ
+abbrev pub references_left : Graph → (freed : ℕ) → List FieldValue → ℕ → ℕ
 references_left g freed left q = reference_count q (without_object freed g) + count_by (names_serial q) left
 
 -- ---- how it is built

@@ -2,8 +2,8 @@
 use Rattle.std.specs.Prelude.{ℕ, ◌%◌, ◌^◌, List, length, sum_by, Option, Some, None}
 use Rattle.std.specs.Bool.{then_some}
 use Rattle.std.specs.List.{range_with_len}
-use Rattle.pud_defs.specs.declared.objects.Val.{Val}
-use Rattle.pud_defs.specs.declared.objects.Val.TheVariants.{Num, Ref}
+use Rattle.pud_defs.specs.declared.objects.FieldValue.{FieldValue}
+use Rattle.pud_defs.specs.declared.objects.FieldValue.TheVariants.{Num, Ref}
 use Rattle.pud_defs.specs.Graph.{Content, Object, Table, Graph, live}
 use Rattle.pud_defs.specs.Graph.Content.{Number, Null, At, Nowhere}
 use Rattle.pud_defs.specs.Spaces.{all_below}
@@ -14,7 +14,7 @@ use Rattle.graph_read.specs.Checking.{passes, contents_pass, place_passes}
 -- ---- of a graph
 
 -- what a field counts: a number itself, and a pointer nothing
-abbrev pub number_in : Val → ℕ
+abbrev pub number_in : FieldValue → ℕ
 number_in (Num v) = v
 number_in (Ref s) = 0
 

@@ -1,7 +1,7 @@
 -- What is read of a pool: slots, pointers and fields, as its table and its graph have them.
 use Rattle.std.specs.Prelude.{ℕ, ◌<◌, List, slice_get, Option, Some, None, option_map}
 use Rattle.pud_defs.specs.declared.records.Puddle.{Puddle}
-use Rattle.pud_defs.specs.declared.objects.Val.{Val}
+use Rattle.pud_defs.specs.declared.objects.FieldValue.{FieldValue}
 use Rattle.pud_defs.specs.declared.objects.Pointee.{Pointee}
 use Rattle.pud_defs.specs.declared.objects.Pointee.TheVariants as pointees
 use Rattle.pud_defs.specs.Geometry.{puddle_slots, ordinal_of, slot_of}
@@ -44,7 +44,7 @@ LeadsWithin count (pointees.At ordinal slot) = IsSlotWithin count ordinal slot
 -- ---- fields
 
 -- what is read of an object's field, where it has one
-abbrev pub read_value : Option Val → FieldRead
+abbrev pub read_value : Option FieldValue → FieldRead
 read_value None = NoField
 read_value (Some v) = Value v
 

@@ -16,7 +16,7 @@ use crate::places::find_serial;
 use crate::pointers::read_pointer;
 use pm_model::{HostFault, Loads};
 use pud_defs::layout::{MAX_FIELDS, MAX_FRAMES};
-use pud_defs::objects::{Pointee, Val};
+use pud_defs::objects::{Pointee, FieldValue};
 use pud_defs::records::{Puddle, Slot};
 use pud_defs::type_map::{map_fields, map_is_pointer};
 use puddle_header::{slot_field, slot_serial, slot_type};
@@ -30,7 +30,7 @@ pub enum FieldRead {
     /// The object's type has fewer fields, or is not defined.
     NoField,
     /// The field holds this value.
-    Value(Val),
+    Value(FieldValue),
 }
 
 /// The serial of the slot to which a pointer leads that stands at a step of the puddle of an ordinal, 0 where it leads to
@@ -69,7 +69,7 @@ pub fn value_at<H: Loads>(
     at: &Slot,
     map_word: u64,
     f: u32,
-) -> Result<Val, HostFault>
+) -> Result<FieldValue, HostFault>
     requires few { frames ≤ MAX_FRAMES }
     requires room { device_words frames ≤ (H.counts h.old).size }
     requires known { IsOnDevice frames pool.now }
@@ -83,9 +83,9 @@ pub fn value_at<H: Loads>(
     let value = slot_field(h, frames, at.frame, at.slot, f)?;
     if map_is_pointer(map_word, f) {
         let serial = serial_behind(h, frames, pool, at.ordinal, at.slot + 1, value)?;
-        Ok(Val::Ref(serial))
+        Ok(FieldValue::Ref(serial))
     } else {
-        Ok(Val::Num(value))
+        Ok(FieldValue::Num(value))
     }
 }
 

@@ -6,7 +6,7 @@ use graph_read::{FieldRead, Index, is_referenced, pool_is_sound, read_field};
 use pm_mem::{MemHost, Plan};
 use pm_model::{Host, HostFault};
 use pud_defs::layout::{MAX_FIELDS, MAX_FRAMES, MIN_FRAMES, device_words};
-use pud_defs::objects::Val;
+use pud_defs::objects::FieldValue;
 use pud_defs::records::{MAX_PUDDLES, Puddle};
 use std::alloc::Global;
 use std::process::Abort;
@@ -83,8 +83,8 @@ fn judged(outcome: Result<bool, HostFault>) -> Answer {
 
 fn field(outcome: Result<FieldRead, HostFault>) -> Answer {
     match outcome {
-        Ok(FieldRead::Value(Val::Num(v))) => Answer::Number(v),
-        Ok(FieldRead::Value(Val::Ref(serial))) => Answer::Pointer(serial),
+        Ok(FieldRead::Value(FieldValue::Num(v))) => Answer::Number(v),
+        Ok(FieldRead::Value(FieldValue::Ref(serial))) => Answer::Pointer(serial),
         Ok(FieldRead::NoObject) => Answer::NoObject,
         Ok(FieldRead::NoField) => Answer::NoField,
         Err(_) => Answer::Fault,

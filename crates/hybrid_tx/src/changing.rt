@@ -34,7 +34,7 @@ use graph_read::find_serial;
 use object_alloc::{AllocFault, alloc_slot, free_slot};
 use pm_model::{Host, HostFault};
 use pud_defs::layout::SET_UNITS;
-use pud_defs::objects::Val;
+use pud_defs::objects::FieldValue;
 use pud_defs::records::{Puddle, Slot};
 use pud_defs::space::{
     MAX_SLOT_WORDS, NEXT_SERIAL_WORD, ROOT_WORD, SLOT_FIELDS_WORD, SLOT_SERIAL_WORD,
@@ -57,7 +57,7 @@ pub fn word_for<H: Host>(
     h: &mut H,
     frames: u32,
     pool: &[(u32, Puddle)],
-    x: Val,
+    x: FieldValue,
 ) -> Result<Option<u64>, HostFault>
     requires few { frames ≤ MAX_FRAMES }
     requires room { device_words frames ≤ (H.counts h.old).size }
@@ -67,8 +67,8 @@ pub fn word_for<H: Host>(
     ensures only_reads { OnlyReads H.tells H.state H.counts (fault_of result) h.old h.new }
 {
     match x {
-        Val::Num(v) => Ok(Some(v)),
-        Val::Ref(r) => {
+        FieldValue::Num(v) => Ok(Some(v)),
+        FieldValue::Ref(r) => {
             if r == 0 {
                 return Ok(Some(0));
             }
@@ -87,7 +87,7 @@ pub fn place_and_word<H: Host>(
     frames: u32,
     pool: &[(u32, Puddle)],
     s: u64,
-    x: Val,
+    x: FieldValue,
 ) -> Result<Option<(Slot, u64)>, HostFault>
     requires few { frames ≤ MAX_FRAMES }
     requires room { device_words frames ≤ (H.counts h.old).size }
@@ -134,7 +134,7 @@ impl Tx {
         pool: &[(u32, Puddle)],
         s: u64,
         f: u32,
-        x: Val,
+        x: FieldValue,
     ) -> Result<(), HostFault>
         requires few { frames ≤ MAX_FRAMES }
         requires device { device_words frames ≤ (H.counts h.old).size }
@@ -183,7 +183,7 @@ impl Tx {
         requires room { (self.old).units + SET_UNITS ≤ LOG_ENTRY_WORDS }
         ensures at { (self.new).log.gate_at ≡ (self.old).log.gate_at }
         ensures changes { H.tells → Changes (ByTransaction (pool_scope frames pool.now) (self.old).log.gate_at) (fault_of result) (H.state h.old) (H.state h.new) }
-        ensures runs { H.tells → (types : List (ℕ × ℕ)) (before : Image) (graph_before : Graph) (now : Graph) (deferred : List DeferredValue) (s : ℕ) (x : Val) → IsPlaced frames pool.now
+        ensures runs { H.tells → (types : List (ℕ × ℕ)) (before : Image) (graph_before : Graph) (now : Graph) (deferred : List DeferredValue) (s : ℕ) (x : FieldValue) → IsPlaced frames pool.now
             → IsRewrittenFor frames pool.now (reads (H.state h.old).now.words) s → IsOpenOn frames pool.now types (self.old).log before graph_before now deferred (H.state h.old).now.words → MaySet types now s f x
             → place_in_pool frames pool.now (reads (H.state h.old).now.words) s ≡ Option.Some (place_of_slot at.now) → word_for frames pool.now (reads (H.state h.old).now.words) x ≡ Option.Some word
             → KeepsOpenOn frames pool.now types (self.new).log before graph_before (with_field s f x now) deferred (fault_of result) (H.state h.old) (H.state h.new) }
@@ -441,11 +441,11 @@ impl Tx {
             → IsOpenOn frames pool.now types (self.old).log before graph_before now deferred (H.state h.old).now.words → MayName now s
             → IfOk result (λ _. (self.new).units ≡ (self.old).units + SET_UNITS) }
         ensures nothing { H.tells → All (λ e. is_legal_base e.1.base ≡ true) pool.now
-            → (length pool.now ≡ 0) ⊎ (word_for frames pool.now (reads (H.state h.old).now.words) (Val.Ref s) ≡ Option.None)
+            → (length pool.now ≡ 0) ⊎ (word_for frames pool.now (reads (H.state h.old).now.words) (FieldValue.Ref s) ≡ Option.None)
             → (H.state h.new ≡ H.state h.old) × (self.new ≡ self.old) }
         ensures cause { H.counts h.new ≡ after_fault (fault_of result) (H.counts h.old) }
     {
-        match word_for(h, frames, pool, Val::Ref(s))? {
+        match word_for(h, frames, pool, FieldValue::Ref(s))? {
             Some(word) => self.root_at(h, frames, pool, word),
             None => Ok(()),
         }
@@ -471,7 +471,7 @@ impl Tx {
         ensures changes { H.tells → Changes (ByTransaction (pool_scope frames pool.now) (self.old).log.gate_at) (fault_of result) (H.state h.old) (H.state h.new) }
         ensures runs { H.tells → (types : List (ℕ × ℕ)) (before : Image) (graph_before : Graph) (now : Graph) (deferred : List DeferredValue) (s : ℕ) → IsPlaced frames pool.now
             → IsRewrittenAt pool.now 0 → IsOpenOn frames pool.now types (self.old).log before graph_before now deferred (H.state h.old).now.words
-            → word_for frames pool.now (reads (H.state h.old).now.words) (Val.Ref s) ≡ Option.Some word
+            → word_for frames pool.now (reads (H.state h.old).now.words) (FieldValue.Ref s) ≡ Option.Some word
             → KeepsOpenOn frames pool.now types (self.new).log before graph_before (with_root s now) deferred (fault_of result) (H.state h.old) (H.state h.new) }
         ensures counts { H.tells → (types : List (ℕ × ℕ)) (before : Image) (graph_before : Graph) (now : Graph) (deferred : List DeferredValue)
             → IsOpenOn frames pool.now types (self.old).log before graph_before now deferred (H.state h.old).now.words → IfOk result (λ _. (self.new).units ≡ (self.old).units + SET_UNITS) }

@@ -32,7 +32,7 @@ use graph_read::find_serial;
 use log_entry::{Entry, EntryReader};
 use pm_model::{Host, HostFault};
 use pud_defs::log_words::REDO_ORDER;
-use pud_defs::objects::Val;
+use pud_defs::objects::FieldValue;
 use pud_defs::records::{MAX_PUDDLES, Puddle, Slot};
 use pud_defs::space::{
     HEADER_BYTES, SLOT_FIELDS_WORD, WORD_BYTES, slot_begins, slot_bytes_of, slots_of,
@@ -142,7 +142,7 @@ impl Tx {
         pool: &[(u32, Puddle)],
         s: u64,
         f: u32,
-        x: Val,
+        x: FieldValue,
     ) -> Result<(), HostFault>
         requires few { frames ≤ MAX_FRAMES }
         requires device { device_words frames ≤ (H.counts h.old).size }
@@ -191,7 +191,7 @@ impl Tx {
         requires room { (self.old).units + SET_UNITS ≤ LOG_ENTRY_WORDS }
         ensures at { (self.new).log.gate_at ≡ (self.old).log.gate_at }
         ensures changes { H.tells → Changes (InLog (self.old).log.gate_at) (fault_of result) (H.state h.old) (H.state h.new) }
-        ensures runs { H.tells → (types : List (ℕ × ℕ)) (before : Image) (graph_before : Graph) (now : Graph) (deferred : List DeferredValue) (s : ℕ) (x : Val) → IsPlaced frames pool.now
+        ensures runs { H.tells → (types : List (ℕ × ℕ)) (before : Image) (graph_before : Graph) (now : Graph) (deferred : List DeferredValue) (s : ℕ) (x : FieldValue) → IsPlaced frames pool.now
             → IsRewrittenFor frames pool.now (reads (H.state h.old).now.words) s → IsOpenOn frames pool.now types (self.old).log before graph_before now deferred (H.state h.old).now.words → MaySet types now s f x
             → place_in_pool frames pool.now (reads (H.state h.old).now.words) s ≡ Option.Some (place_of_slot at.now) → word_for frames pool.now (reads (H.state h.old).now.words) x ≡ Option.Some word
             → KeepsOpenOn frames pool.now types (self.new).log before graph_before now (deferred ++ record { s = s; f = f; x = x } ∷ []) (fault_of result) (H.state h.old) (H.state h.new) }

@@ -7,8 +7,8 @@ ghost use Rattle.pud_defs.specs.declared.layout.TheConstants.{LOG_WORDS, NUMBER_
 ghost use Rattle.pud_defs.specs.declared.space.TheConstants.{ROOT_WORD};
 ghost use Rattle.pud_defs.specs.declared.records.Puddle.{Puddle};
 ghost use Rattle.pud_defs.specs.declared.records.Slot.{Slot};
-ghost use Rattle.pud_defs.specs.declared.objects.Val.{Val};
-ghost use Rattle.pud_defs.specs.declared.objects.Val.TheVariants.{Ref};
+ghost use Rattle.pud_defs.specs.declared.objects.FieldValue.{FieldValue};
+ghost use Rattle.pud_defs.specs.declared.objects.FieldValue.TheVariants.{Ref};
 ghost use Rattle.pud_defs.specs.Layout.{device_words, frames_at};
 ghost use Rattle.pud_defs.specs.Types.{map_of};
 ghost use Rattle.pud_defs.specs.Image.{Image};
@@ -39,7 +39,7 @@ pub fn pools_are_scopes()
 pub fn stored_word_sets_the_field()
     ensures { (types : List (ℕ × ℕ)) (frames : ℕ) (at : List (ℕ × Puddle)) (image : Image) (g : Graph) → graph_of types (stored_in frames at image) ≡ Option.Some g
         → IsPlaced frames at → (s : ℕ) (f : ℕ) (slot : Slot) → IsRewrittenAt at slot.ordinal → IsSlotOf at slot → place_in_pool frames at image s ≡ Option.Some (place_of_slot slot)
-        → (x : Val) (v : ℕ) → MaySet types g s f x → word_for frames at image x ≡ Option.Some v
+        → (x : FieldValue) (v : ℕ) → MaySet types g s f x → word_for frames at image x ≡ Option.Some v
         → graph_of types (stored_in frames at (overwritten (placed (frame_at frames slot.frame + field_word slot f) (v ∷ [])) image)) ≡ Option.Some (with_field s f x g) }
 {}
 

@@ -7,8 +7,8 @@ use Rattle.pud_defs.specs.declared.machine.Command.TheVariants.{Define, Begin, N
 use Rattle.pud_defs.specs.declared.machine.Command.TheVariants as commands
 use Rattle.pud_defs.specs.declared.machine.Refusal.{Refusal}
 use Rattle.pud_defs.specs.declared.machine.Refusal.TheVariants as refusals
-use Rattle.pud_defs.specs.declared.objects.Val.{Val}
-use Rattle.pud_defs.specs.declared.objects.Val.TheVariants.{Ref}
+use Rattle.pud_defs.specs.declared.objects.FieldValue.{FieldValue}
+use Rattle.pud_defs.specs.declared.objects.FieldValue.TheVariants.{Ref}
 use Rattle.pud_defs.specs.Types.{map_of}
 use Rattle.pud_defs.specs.Spaces.{Owner}
 use Rattle.pud_defs.specs.Graph.{Graph}
@@ -222,4 +222,4 @@ pub answer-same : (S : Names) (w v : World) (c : Command) → is_within S (name_
 unfolding answer
 answer-same S w v c named same =
     let graph = graph_for-same w v c same in
-    ap₂ (λ (o : Option Val) (text : Option (List ℕ)). text_or (value_or_ok o) text) (value-same w v c graph) (text-same S w v c named graph)
+    ap₂ (λ (o : Option FieldValue) (text : Option (List ℕ)). text_or (value_or_ok o) text) (value-same w v c graph) (text-same S w v c named graph)

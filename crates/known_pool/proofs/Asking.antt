@@ -1,7 +1,7 @@
 -- What an index answers of a pool of which it is known.
 use Rattle.std.proofs.Common.{◌≡◌, ℕ, ◌<◌, true, true≢false, ltb, Option, Some, None, option_map, is_none, is_some, IfSome, refl, sym, ap, subst, ◌∙◌}
 use Rattle.std.proofs.lemmas.Option.{none-some, same_Some}
-use Rattle.pud_defs.specs.declared.objects.Val.{Val}
+use Rattle.pud_defs.specs.declared.objects.FieldValue.{FieldValue}
 use Rattle.pud_defs.specs.Image.{Image}
 use Rattle.pud_defs.specs.Stored.{stored_in}
 use Rattle.pud_defs.specs.Types.{types_of}
@@ -33,7 +33,7 @@ some_mapped None some = absurd (true≢false (sym some))
 some_mapped (Some x) some = refl
 
 -- what may be counted in one that has the same entries may be counted in it
-pub MayMove-entries : (was now : Val) (x y : Index) → entries_of y ≡ entries_of x → MayMove was now x → MayMove was now y
+pub MayMove-entries : (was now : FieldValue) (x y : Index) → entries_of y ≡ entries_of x → MayMove was now x → MayMove was now y
 MayMove-entries was now x y same may = record {
   held = λ some. subst HasReference (sym (same_kept x y same (serial_named was))) (may.held some);
   room = λ some. subst MayBeReferenced (sym (same_kept x y same (serial_named now))) (may.room some);

@@ -4,8 +4,8 @@ use Rattle.std.specs.Prelude.{slice_get}
 use Rattle.std.proofs.lemmas.Bool.{cases_eq}
 use Rattle.pud_defs.specs.declared.records.Puddle.{Puddle}
 use Rattle.pud_defs.specs.declared.records.Slot.{Slot}
-use Rattle.pud_defs.specs.declared.objects.Val.{Val}
-use Rattle.pud_defs.specs.declared.objects.Val.TheVariants.{Ref}
+use Rattle.pud_defs.specs.declared.objects.FieldValue.{FieldValue}
+use Rattle.pud_defs.specs.declared.objects.FieldValue.TheVariants.{Ref}
 use Rattle.pud_defs.specs.Geometry.{puddle_slots}
 use Rattle.pud_defs.specs.Image.{Image}
 use Rattle.pud_defs.specs.Stored.{stored_in, IsLivePlace}
@@ -43,7 +43,7 @@ module _ (F : ℕ) (known next : Known) (image later : Image) (g : Graph) (puddl
       λ free. live (sym (keeps.each p (live_within F at image p live)) ∙ free)
 
   -- a field was set
-  pub IsKnown-set : (s f : ℕ) (now was : Val) (o : Object) → object_in s g ≡ Some o → slice_get o.fields f ≡ Some was → graph_of (types_of image) (stored_in F at later) ≡ Some (with_field s f now g)
+  pub IsKnown-set : (s f : ℕ) (now was : FieldValue) (o : Object) → object_in s g ≡ Some o → slice_get o.fields f ≡ Some was → graph_of (types_of image) (stored_in F at later) ≡ Some (with_field s f now g)
       → KeepsSerials F at at image later → Follows (after_move was now) known.index next.index → next.full_below ≡ known.full_below → IsKnown F later next
   IsKnown-set s f now was o there field after keeps follows full = record {
     indexed = λ y kept.

@@ -3,8 +3,8 @@ use Rattle.std.proofs.Common.{◌≡◌, ℕ, suc, ◌+◌, ◌-◌, ◌<◌, �
 use Rattle.std.specs.List.{range_with_len}
 use Rattle.std.proofs.lemmas.Option.{same_Some}
 use Rattle.pud_defs.specs.declared.records.Puddle.{Puddle}
-use Rattle.pud_defs.specs.declared.objects.Val.{Val}
-use Rattle.pud_defs.specs.declared.objects.Val.TheVariants.{Num}
+use Rattle.pud_defs.specs.declared.objects.FieldValue.{FieldValue}
+use Rattle.pud_defs.specs.declared.objects.FieldValue.TheVariants.{Num}
 use Rattle.pud_defs.specs.declared.space.TheConstants.{SLOT_TYPE_WORD}
 use Rattle.pud_defs.specs.Image.{Image}
 use Rattle.pud_defs.specs.Stored.{stored_in, place_word}
@@ -29,11 +29,11 @@ module _ (F : ℕ) (at : List (ℕ × Puddle)) (image : Image) (p : ℕ) where
   place = place_in_pool F at image
 
   -- so many fields of the slot at the place from one on, by the map of its type
-  abbrev fields_from : (m f count : ℕ) → List Val
+  abbrev fields_from : (m f count : ℕ) → List FieldValue
   fields_from m f count = map (value_of serial) (map (field_content (stored_in F at image) p m) (range_with_len f count))
 
   -- what is left to be let go from one field on
-  abbrev left_from : (m f : ℕ) → List Val
+  abbrev left_from : (m f : ℕ) → List FieldValue
   left_from m f = fields_from m f (field_count m - f)
 
   -- Each index that is kept has let go what the fields before this one name, of whatever object stands there.
@@ -61,27 +61,27 @@ module _ (F : ℕ) (at : List (ℕ × Puddle)) (image : Image) (p : ℕ) where
     LetsFirst-start m is_type = record {
       each = λ g s stored there x kept.
           let all : field_count m ≡ field_count m - 0 = omega arith in
-          subst (λ (vals : List Val). IsIndexBy place (references_left g s vals) x) (fields_by (Some m) is_type ∙ ap (λ (n : ℕ). fields_from m 0 n) all) (begins g s stored there x kept);
+          subst (λ (vals : List FieldValue). IsIndexBy place (references_left g s vals) x) (fields_by (Some m) is_type ∙ ap (λ (n : ℕ). fields_from m 0 n) all) (begins g s stored there x kept);
     }
 
     -- where the type is not defined there is none
     pub lets_none : map_of (place_word (stored_in F at image) p SLOT_TYPE_WORD) (types_of image) ≡ None → (g : Graph) (s : ℕ) → graph_of (types_of image) (stored_in F at image) ≡ Some g → place s ≡ Some p
         → HasReleased place g s (option_map entries_of index)
-    lets_none none g s stored there = record { each = λ x kept. subst (λ (vals : List Val). IsIndexBy place (references_left g s vals) x) (fields_by None none) (begins g s stored there x kept) }
+    lets_none none g s stored there = record { each = λ x kept. subst (λ (vals : List FieldValue). IsIndexBy place (references_left g s vals) x) (fields_by None none) (begins g s stored there x kept) }
 
   -- one more
-  pub LetsFirst-more : (m f : ℕ) (was : Val) (old new : Option (List (ℕ × Kept))) → f < field_count m → was ≡ value_of serial (field_content (stored_in F at image) p m f) → Follows (after_move was (Num 0)) old new → LetsFirst m f old
+  pub LetsFirst-more : (m f : ℕ) (was : FieldValue) (old new : Option (List (ℕ × Kept))) → f < field_count m → was ≡ value_of serial (field_content (stored_in F at image) p m f) → Follows (after_move was (Num 0)) old new → LetsFirst m f old
       → LetsFirst m (f + 1) new
   LetsFirst-more m f was old new below is follows lets = record {
     each = λ g s stored there y kept.
         let from = follows.each y kept in
         let one : field_count m - f ≡ suc (field_count m - (f + 1)) = omega (arith, below) in
         index_lets_go F at image g s was (left_from m (f + 1)) from.before y from.each
-        (subst (λ (vals : List Val). IsIndexBy place (references_left g s vals) from.before) (ap (fields_from m f) one ∙ ap (λ (v : Val). v ∷ left_from m (f + 1)) (sym is)) (lets.each g s stored there from.before from.was));
+        (subst (λ (vals : List FieldValue). IsIndexBy place (references_left g s vals) from.before) (ap (fields_from m f) one ∙ ap (λ (v : FieldValue). v ∷ left_from m (f + 1)) (sym is)) (lets.each g s stored there from.before from.was));
   }
 
   -- and all
   pub LetsFirst-end : (m f : ℕ) (index : Option (List (ℕ × Kept))) → field_count m ≤ f → LetsFirst m f index → (g : Graph) (s : ℕ) → graph_of (types_of image) (stored_in F at image) ≡ Some g → place s ≡ Some p → HasReleased place g s index
   LetsFirst-end m f index past lets g s stored there =
       let none : field_count m - f ≡ 0 = omega (arith, past) in
-      record { each = λ x kept. subst (λ (vals : List Val). IsIndexBy place (references_left g s vals) x) (ap (fields_from m f) none) (lets.each g s stored there x kept) }
+      record { each = λ x kept. subst (λ (vals : List FieldValue). IsIndexBy place (references_left g s vals) x) (ap (fields_from m f) none) (lets.each g s stored there x kept) }

@@ -1,6 +1,6 @@
 -- What becomes of the index that is kept of a pool when the pool is changed.
 use Rattle.std.specs.Prelude.{◌≡◌, ◌≢◌, ℕ, nat_eq, cond, List, [], Option, Some, None}
-use Rattle.pud_defs.specs.declared.objects.Val.{Val}
+use Rattle.pud_defs.specs.declared.objects.FieldValue.{FieldValue}
 use Rattle.pud_defs.specs.declared.records.Slot.{Slot}
 use Rattle.pud_defs.specs.Graph.{Graph}
 use Rattle.graph_read.specs.declared.index.Index.{Index}
@@ -20,7 +20,7 @@ pub record Follows (change : ℕ → Option Kept → Option Kept) (old new : Opt
   pub each : (now : Index) → new ≡ Some (entries_of now) → ComesFrom change old now
 
 -- a pointer that named the one value names the other
-abbrev pub after_move : (was now : Val) → (q : ℕ) → Option Kept → Option Kept
+abbrev pub after_move : (was now : FieldValue) → (q : ℕ) → Option Kept → Option Kept
 after_move was now q kept = after_retarget (serial_named was) (serial_named now) q kept
 
 -- an object of this serial is kept in a slot, and none holds it
@@ -28,7 +28,7 @@ abbrev pub after_made : (s : ℕ) → Slot → (q : ℕ) → Option Kept → Opt
 after_made s slot q kept = cond (nat_eq s q) (Some (unreferenced_at (slot.ordinal, slot.slot))) kept
 
 -- the index can count that a pointer which named the one value names the other
-pub record MayMove (was now : Val) (x : Index) : Type 0 where
+pub record MayMove (was now : FieldValue) (x : Index) : Type 0 where
   pub held : serial_named was ≢ 0 → HasReference (kept_under x (serial_named was))
   pub room : serial_named now ≢ 0 → MayBeReferenced (kept_under x (serial_named now))
 

@@ -23,7 +23,7 @@ use crate::KnownPool;
 use graph_read::{Index, value_at};
 use pm_model::{HostFault, Loads};
 use pud_defs::layout::MAX_FIELDS;
-use pud_defs::objects::Val;
+use pud_defs::objects::FieldValue;
 use pud_defs::records::{Puddle, Slot};
 use pud_defs::space::place_at;
 use pud_defs::type_map::map_fields;
@@ -31,12 +31,12 @@ use puddle_header::slot_type;
 use type_maps::find;
 
 /// The serial that a value names, 0 where it names none.
-fn serial_named(x: Val) -> u64
+fn serial_named(x: FieldValue) -> u64
     ensures { result ≡ serial_named x }
 {
     match x {
-        Val::Num(_) => 0,
-        Val::Ref(s) => s,
+        FieldValue::Num(_) => 0,
+        FieldValue::Ref(s) => s,
     }
 }
 
@@ -67,7 +67,7 @@ fn may_hold(index: &Index, s: u64) -> bool
 
 /// Counts that a pointer which had one value has the other, where an index is kept. It goes where that cannot be: where what the
 /// one value names has no holder there, or what the other names is not there.
-fn retarget(index: &mut Option<Index>, was: Val, now: Val)
+fn retarget(index: &mut Option<Index>, was: FieldValue, now: FieldValue)
     ensures follows { Follows (after_move was now) (option_map entries_of index.old) (option_map entries_of index.new) }
     ensures kept { (x : Index) → index.old ≡ Option.Some x → MayMove was now x → is_some index.new ≡ true }
 {
@@ -113,7 +113,7 @@ fn release_fields<H: Loads>(
     };
     for f in 0..map_fields(map).min(MAX_FIELDS) {
         let value = value_at(h, frames, pool, at, map, f)?;
-        retarget(index, value, Val::Num(0));
+        retarget(index, value, FieldValue::Num(0));
     }
     Ok(())
 }
@@ -121,7 +121,7 @@ fn release_fields<H: Loads>(
 impl KnownPool {
     /// The root, or a field of an object, that had one value has the other. The index goes where that cannot be: where what the one
     /// value names has no holder there, or what the other names is not there.
-    pub fn moved(&mut self, was: Val, now: Val)
+    pub fn moved(&mut self, was: FieldValue, now: FieldValue)
         ensures follows { Follows (after_move was now) self.old.index self.new.index }
         ensures kept { (x : Index) → self.old.index ≡ Option.Some (entries_of x) → MayMove was now x → is_some self.new.index ≡ true }
         ensures puddles { self.new.puddles ≡ self.old.puddles }

@@ -11,7 +11,7 @@ use Rattle.pm_model.specs.Changes.{Silently}
 use Rattle.pm_model.proofs.Leaves.{Leaves-weaker}
 use Rattle.pud_defs.specs.declared.layout.TheConstants.{DAEMON_LOG, NEXT_NUMBER_WORD, TYPE_TABLE, PUDDLE_TABLE, FRAME_WORDS}
 use Rattle.pud_defs.specs.declared.records.TheConstants.{POOL_RECORDS}
-use Rattle.pud_defs.specs.declared.records.PoolRec.{PoolRec}
+use Rattle.pud_defs.specs.declared.records.PoolRecord.{PoolRecord}
 use Rattle.pud_defs.specs.declared.records.Puddle.{Puddle}
 use Rattle.pud_defs.specs.Geometry.{is_legal_frontier}
 use Rattle.pud_defs.specs.Image.{Image}
@@ -107,7 +107,7 @@ module _ (size : ℕ) (s : StoredWorld) (slot : ℕ) (at : List (ℕ × Puddle))
 
     -- ---- what each pool holds
 
-    holds_there : (rec : PoolRec) → slot < POOL_RECORDS → t.pools slot ≡ Some rec → holding_in s.types F j (map (moved_in e.0 m) (listed (puddles_of t slot))) ≡ holding_in s.types F i (listed (puddles_of t slot))
+    holds_there : (rec : PoolRecord) → slot < POOL_RECORDS → t.pools slot ≡ Some rec → holding_in s.types F j (map (moved_in e.0 m) (listed (puddles_of t slot))) ≡ holding_in s.types F i (listed (puddles_of t slot))
     holds_there rec low used =
         let all : listed (puddles_of t slot) ≡ at = sym (puddles_in_turn-listed s.next_number t slot rec sound low used) ∙ turn_now in
         let distinct = distinct_frames F slot at i turn_now in

@@ -8,7 +8,7 @@ use Rattle.pm_model.specs.Masks.{masked, IsOff}
 use Rattle.pud_defs.specs.declared.layout.TheConstants.{DAEMON_LOG, TYPE_TABLE, POOL_TABLE, FRAME_WORDS}
 use Rattle.pud_defs.specs.declared.records.TheConstants.{POOL_RECORDS}
 use Rattle.pud_defs.specs.declared.records.Puddle.{Puddle}
-use Rattle.pud_defs.specs.declared.records.PoolRec.{PoolRec}
+use Rattle.pud_defs.specs.declared.records.PoolRecord.{PoolRecord}
 use Rattle.pud_defs.specs.Geometry.{steps_of, is_legal_frontier}
 use Rattle.pud_defs.specs.Image.{Image}
 use Rattle.pud_defs.specs.Frames.{frame_at}
@@ -59,7 +59,7 @@ pub record MayStop (at : List (ℕ × Puddle)) (goal : ℕ → ℕ) : Type 0 whe
 pub record IsRewritableIn (size : ℕ) (s : StoredWorld) (slot : ℕ) (at : List (ℕ × Puddle)) (g : Graph) (words : Words) : Type 0 where
   pub settled : IsQuiescent size s words
   pub pool : IsRewritable s.frames slot at g words
-  pub rec : PoolRec
+  pub rec : PoolRecord
   pub below : slot < POOL_RECORDS
   pub used : (tables_of s.frames (reads words)).pools slot ≡ Some rec
   pub whole : (o : ℕ) (e : ℕ × Puddle) → slice_get at o ≡ Some e → (k : ℕ) → k < FRAME_WORDS → HasOnly (words (frame_at s.frames e.0 + k)) (words (frame_at s.frames e.0 + k)).newest

@@ -29,7 +29,7 @@ use batch::Batch;
 pub use closing::close_logs;
 use log_entry::is_closed_log;
 use pm_model::{Host, HostFault};
-use pud_defs::layout::{CLIENT_LOGS, CLIENTS, LogNo, SPACE_RECORD_WORDS, SPACE_TABLE, log_at};
+use pud_defs::layout::{CLIENT_LOGS, CLIENTS, LogNumber, SPACE_RECORD_WORDS, SPACE_TABLE, log_at};
 use pud_defs::records::Owner;
 
 /// Gives the first words of the record of client `slot` these values, all or none.
@@ -164,7 +164,7 @@ pub fn owner<H: Host>(h: &mut H, slot: u32) -> Result<Option<Owner>, HostFault>
 ///
 /// The device has so many frames and the words that they need; the rest of it may hold anything. Nothing changes, and the
 /// only errors are the host's own.
-pub fn free_log<H: Host>(h: &mut H, frames: u32, slot: u32) -> Result<Option<LogNo>, HostFault>
+pub fn free_log<H: Host>(h: &mut H, frames: u32, slot: u32) -> Result<Option<LogNumber>, HostFault>
     requires few { frames ≤ MAX_FRAMES }
     requires room { device_words frames ≤ (H.counts h.old).size }
     requires known { slot < CLIENTS }

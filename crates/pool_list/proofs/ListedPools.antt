@@ -2,7 +2,7 @@
 use Rattle.std.proofs.Common.{◌≡◌, ℕ, List, ◌++◌, codes, sym, ap, ap₂, ◌∙◌}
 use Rattle.std.specs.List.{flat_map}
 use Rattle.std.proofs.lemmas.List.Folds.{flat_map-map}
-use Rattle.pud_defs.specs.declared.records.PoolRec.{PoolRec}
+use Rattle.pud_defs.specs.declared.records.PoolRecord.{PoolRecord}
 use Rattle.pud_defs.specs.Names.{name_cmp}
 use Rattle.pud_defs.specs.Pools.{pool_read}
 use Rattle.pud_defs.specs.Spaces.{owner}
@@ -23,8 +23,8 @@ use Rattle.pool_table.specs.InOrder.{in_order}
 use Rattle.pool_list.specs.Listed.{record_text, puddles_counted, listed_text}
 
 -- what is said of the records in turn is what is said of the pools in turn, where it is so of each
-pub each_listed : (hold : Reader) (t : Tables) (text : ℕ × PoolRec → List ℕ) (line : List ℕ × Pool → List ℕ)
-    → ((e : List ℕ × (ℕ × PoolRec)) → IsPlaced t e → text (e.1.0, pool_read e.1.1) ≡ line (e.0, pool_by_record hold t e.1)) → flat_map text (in_order t) ≡ flat_map line (pools_of hold t)
+pub each_listed : (hold : Reader) (t : Tables) (text : ℕ × PoolRecord → List ℕ) (line : List ℕ × Pool → List ℕ)
+    → ((e : List ℕ × (ℕ × PoolRecord)) → IsPlaced t e → text (e.1.0, pool_read e.1.1) ≡ line (e.0, pool_by_record hold t e.1)) → flat_map text (in_order t) ≡ flat_map line (pools_of hold t)
 each_listed hold t text line each =
     flat_map-map text (λ e. (e.1.0, pool_read e.1.1)) (records_of t)
     ∙ flat_map-each _ _ (records_of t) (each-weaker (IsPlaced t) _ (records_of t) each (each_placed t))
@@ -33,7 +33,7 @@ each_listed hold t text line each =
 
 module _ (hold : Reader) (next : ℕ) (t : Tables) (sound : HasSoundTables next t) (id : ℕ) where
   -- the text of a record, as it was read and counted
-  text_here : (e : List ℕ × (ℕ × PoolRec)) → IsPlaced t e → record_text id (pool_read e.1.1) (puddles_counted t e.1.0) ≡ pool_text id (e.0, pool_by_record hold t e.1)
+  text_here : (e : List ℕ × (ℕ × PoolRecord)) → IsPlaced t e → record_text id (pool_read e.1.1) (puddles_counted t e.1.0) ≡ pool_text id (e.0, pool_by_record hold t e.1)
   unfolding pool_of
   text_here e p =
       let r = e.1.1 in

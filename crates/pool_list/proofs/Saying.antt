@@ -8,7 +8,7 @@ use Rattle.pm_model.specs.Moments.{State}
 use Rattle.pm_model.specs.Calls.{Says}
 use Rattle.pm_model.proofs.Saying.{Says-then, Says-front}
 use Rattle.pud_defs.specs.declared.layout.TheConstants.{MACHINE_WORD}
-use Rattle.pud_defs.specs.declared.records.PoolRec.{PoolRec}
+use Rattle.pud_defs.specs.declared.records.PoolRecord.{PoolRecord}
 use Rattle.pud_defs.specs.Image.{Image}
 use Rattle.pud_defs.specs.Tables.{tables_of}
 use Rattle.pud_defs.specs.Texts.{line_of}
@@ -50,7 +50,7 @@ Says-line records fault a b c d ok listed end = Says-then (codes "ok" ++ records
 
 -- ---- the list, as it was read
 
-pub records_text-read : (F : ℕ) (image : Image) (id : ℕ) (records : List (ℕ × PoolRec)) (counts : List ℕ) → id ≡ image MACHINE_WORD → records ≡ in_order (tables_of F image) → All IsInSlot records → CountsPools F (tables_of F image) counts
+pub records_text-read : (F : ℕ) (image : Image) (id : ℕ) (records : List (ℕ × PoolRecord)) (counts : List ℕ) → id ≡ image MACHINE_WORD → records ≡ in_order (tables_of F image) → All IsInSlot records → CountsPools F (tables_of F image) counts
     → records_text id (λ slot. get_or counts slot 0) records ≡ listed_text (image MACHINE_WORD) (tables_of F image)
 unfolding listed_text tables_of
 records_text-read F image id records counts machine listed within counted =

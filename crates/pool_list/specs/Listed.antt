@@ -1,6 +1,6 @@
 -- The text of the pools that the tables of a device list, sound or not.
 use Rattle.std.specs.Prelude.{ℕ, List, ◌∷◌, ◌++◌, flat_map, decimal}
-use Rattle.pud_defs.specs.declared.records.PoolRec.{PoolRec}
+use Rattle.pud_defs.specs.declared.records.PoolRecord.{PoolRecord}
 use Rattle.pud_defs.specs.Identifiers.{puddle_uuid, uuid_text}
 use Rattle.pud_defs.specs.Keyed.{count_used}
 use Rattle.pud_defs.specs.Spaces.{owner}
@@ -25,11 +25,11 @@ puddles_text id number puddles = field_text puddles ++ colon ∷ uuid_text (pudd
 -- ---- the list
 
 -- the text of a record with so many puddles, of a machine with this id
-abbrev pub record_text : ℕ → PoolRec → ℕ → List ℕ
+abbrev pub record_text : ℕ → PoolRecord → ℕ → List ℕ
 record_text id r puddles = described id r.name (owner r.uid r.gid) r.mode r.number puddles
 
 -- the texts of records with their slots, where this is how many puddles each slot has
-abbrev pub records_text : ℕ → (ℕ → ℕ) → List (ℕ × PoolRec) → List ℕ
+abbrev pub records_text : ℕ → (ℕ → ℕ) → List (ℕ × PoolRecord) → List ℕ
 records_text id puddles records = flat_map (λ e. record_text id e.1 (puddles e.0)) records
 
 -- how many used puddle records name the pool of a slot

@@ -20,12 +20,12 @@ pub use laws::sound_tables_list_their_pools;
 use pm_model::{Host, HostFault};
 use pool_table::in_order;
 use pud_defs::layout::MACHINE_WORD;
-use pud_defs::records::{POOL_RECORDS, PoolRec};
+use pud_defs::records::{POOL_RECORDS, PoolRecord};
 use puddle_table::count_by_pool;
 use text::pool_text;
 
 /// Says the pool of this record with so many puddles.
-fn say_pool<H: Host>(h: &mut H, id: u64, rec: &PoolRec, puddles: u32) -> Result<(), HostFault>
+fn say_pool<H: Host>(h: &mut H, id: u64, rec: &PoolRecord, puddles: u32) -> Result<(), HostFault>
     ensures says { H.tells → Says (record_text id rec.now puddles) (fault_of result) (H.state h.old) (H.state h.new) }
     ensures cause { H.counts h.new ≡ after_fault (fault_of result) (H.counts h.old) }
     ensures never_cut { fault_of result ≢ Option.Some HostFault.Cut }
@@ -38,7 +38,7 @@ fn say_pool<H: Host>(h: &mut H, id: u64, rec: &PoolRec, puddles: u32) -> Result<
 fn say_each<H: Host>(
     h: &mut H,
     id: u64,
-    records: &[(u32, PoolRec)],
+    records: &[(u32, PoolRecord)],
     counts: &[u32; POOL_RECORDS as usize],
 ) -> Result<(), HostFault>
     requires { All IsInSlot records.now }
@@ -57,7 +57,7 @@ fn say_each<H: Host>(
 fn say_list<H: Host>(
     h: &mut H,
     id: u64,
-    records: &[(u32, PoolRec)],
+    records: &[(u32, PoolRecord)],
     counts: &[u32; POOL_RECORDS as usize],
 ) -> Result<(), HostFault>
     requires { All IsInSlot records.now }

@@ -10,7 +10,7 @@ ghost use Rattle.pool_list.specs.Listed.{field_text, rights_text, puddles_text, 
 
 use arrayvec::ArrayVec;
 use itoa::Buffer;
-use pud_defs::records::{Name, PoolRec};
+use pud_defs::records::{Name, PoolRecord};
 use uid_make::{print_uuid, puddle_uuid};
 
 /// The most bytes that a text has. That of a pool in the list has at most 91, and a line on a puddle at most 103.
@@ -124,7 +124,7 @@ fn add_puddles(text: &mut Text, id: u64, number: u64, puddles: u32)
 
 /// The text of the pool of this record with so many puddles, on the machine of this id.
 #[tactic(auto, unfolding(pud_defs::specs::Listing::described))]
-pub(crate) fn pool_text(id: u64, rec: &PoolRec, puddles: u32) -> Text
+pub(crate) fn pool_text(id: u64, rec: &PoolRecord, puddles: u32) -> Text
     ensures { result.items ≡ record_text id rec.now puddles }
 {
     let mut text = Text::new();

@@ -2,7 +2,7 @@
 use Rattle.std.specs.Prelude.{◌≡◌, ℕ, ◌<◌, List, Option, Some, None, Result, Ok, Err}
 use Rattle.pm_model.specs.declared.host.HostFault.{HostFault}
 use Rattle.pud_defs.specs.declared.records.TheConstants.{POOL_RECORDS}
-use Rattle.pud_defs.specs.declared.records.PoolRec.{PoolRec}
+use Rattle.pud_defs.specs.declared.records.PoolRecord.{PoolRecord}
 use Rattle.pud_defs.specs.declared.records.Put.{Put}
 use Rattle.pud_defs.specs.Keyed.{first_free}
 use Rattle.pud_defs.specs.Tables.{Tables, pool_in}
@@ -20,7 +20,7 @@ fault_in (Err faults.Exists) = None
 fault_in (Err faults.Full) = None
 
 -- where a pool stands that was found, or would stand where it was not
-abbrev pub lookup_by : Option (ℕ × PoolRec) → Option ℕ → Lookup
+abbrev pub lookup_by : Option (ℕ × PoolRecord) → Option ℕ → Lookup
 lookup_by (Some found) free = places.Used found.0 found.1
 lookup_by None (Some slot) = places.Free slot
 lookup_by None None = places.Full
@@ -36,7 +36,7 @@ IsInTable (places.Free slot) = slot < POOL_RECORDS
 IsInTable places.Full = Unit {0}
 
 -- the same of what was found
-abbrev pub IsKnown : Option (ℕ × PoolRec) → Type 0
+abbrev pub IsKnown : Option (ℕ × PoolRecord) → Type 0
 IsKnown None = Unit {0}
 IsKnown (Some found) = found.0 < POOL_RECORDS
 
@@ -51,17 +51,17 @@ abbrev pub slot_for : Tables → List ℕ → Result ℕ PoolFault
 slot_for t name = slot_by_lookup (lookup_of t name)
 
 -- what adding a record answers at its place
-abbrev pub added_at : Lookup → PoolRec → Result Put PoolFault
+abbrev pub added_at : Lookup → PoolRecord → Result Put PoolFault
 added_at (places.Used slot rec) r = Err faults.Exists
 added_at (places.Free slot) r = Ok (pool_put slot r)
 added_at places.Full r = Err faults.Full
 
 -- What adding a record answers: the name is there, or the words of the lowest free slot, or none is free.
-abbrev pub added : Tables → PoolRec → Result Put PoolFault
+abbrev pub added : Tables → PoolRecord → Result Put PoolFault
 added t r = added_at (lookup_of t r.name) r
 
 -- A record is added in the lowest free slot to tables that have none of its name.
-pub record Adds (r : PoolRec) (t u : Tables) : Type 0 where
+pub record Adds (r : PoolRecord) (t u : Tables) : Type 0 where
   pub slot : ℕ
   pub lowest : first_free t.pools 0 POOL_RECORDS ≡ Some slot
   pub absent : pool_in t r.name ≡ None

@@ -5,10 +5,10 @@ use Rattle.std.specs.Option.{option_or}
 use Rattle.pm_model.specs.Words.{reads}
 use Rattle.pm_model.specs.Moments.{State}
 use Rattle.pud_defs.specs.declared.layout.TheConstants.{LOG_ENTRY_WORDS, SET_UNITS}
-use Rattle.pud_defs.specs.declared.objects.Val.{Val}
+use Rattle.pud_defs.specs.declared.objects.FieldValue.{FieldValue}
 use Rattle.pud_defs.specs.declared.records.Puddle.{Puddle}
 use Rattle.pud_defs.specs.declared.records.Slot.{Slot}
-use Rattle.pud_defs.specs.declared.objects.Val.TheVariants.{Num, Ref}
+use Rattle.pud_defs.specs.declared.objects.FieldValue.TheVariants.{Num, Ref}
 use Rattle.pud_defs.specs.declared.machine.Command.TheVariants.{Commit, Set, Root, Free}
 use Rattle.pud_defs.specs.declared.machine.Refusal.{Refusal}
 use Rattle.pud_defs.specs.declared.machine.Refusal.TheVariants as refusals
@@ -43,20 +43,20 @@ use Rattle.pool_transaction.proofs.TransactionRefusals.{change_refusal, refusal_
 
 -- ---- what was read of a field, as the machine's causes
 
-by_field : (o : Option Val) (x : Val) (units : ℕ)
+by_field : (o : Option FieldValue) (x : FieldValue) (units : ℕ)
     → field_refusal (read_value o) x units ≡ cond (is_none o) (Some refusals.Field) (cond (differ_in_kind o x) (Some refusals.Kind) (cond (ltb LOG_ENTRY_WORDS (units + SET_UNITS)) (Some refusals.TooBig) None))
 by_field None x units = refl
 by_field (Some v) x units = refl
 
 -- what is read where the object stands, if it does, and where the value's does
-abbrev by_places : (missed : Bool) (o : Option Object) (f : ℕ) (x : Val) (units : ℕ) → Option Refusal
+abbrev by_places : (missed : Bool) (o : Option Object) (f : ℕ) (x : FieldValue) (units : ℕ) → Option Refusal
 by_places missed o f x units =
     cond (missed || is_none o) (Some refusals.Object)
     (cond (is_none (field_of f o)) (Some refusals.Field)
     (cond (differ_in_kind (field_of f o) x) (Some refusals.Kind)
     (cond (ltb LOG_ENTRY_WORDS (units + SET_UNITS)) (Some refusals.TooBig) None)))
 
-missing : (missed : Bool) (f : ℕ) (x : Val) (units : ℕ) → Some refusals.Object ≡ by_places missed None f x units
+missing : (missed : Bool) (f : ℕ) (x : FieldValue) (units : ℕ) → Some refusals.Object ≡ by_places missed None f x units
 missing true f x units = refl
 missing false f x units = refl
 
@@ -104,13 +104,13 @@ module _ (size : ℕ) (w : World) (memory : Memory) (s : State) (ready : IsReady
     object_is = object_by_place (types_of image) frames at image now graph_at
 
     -- an object is missed where no word stands for the value
-    missed_is : (x : Val) → is_dangling (Some now) x ≡ is_none (word_for frames at image x)
+    missed_is : (x : FieldValue) → is_dangling (Some now) x ≡ is_none (word_for frames at image x)
     missed_is (Num v) = refl
     missed_is (Ref r) =
         ap (λ (o : Option Object). not (eqb r 0) && is_none o) (object_is r) ∙ missed_when (eqb r 0) (place_in_pool frames at image r) (object_at (table_in frames at image)) (address_at at)
 
     -- why a field of it is not set, by where the object stands, and by the word of the value
-    by_found : (serial f units : ℕ) (x : Val) → units ≡ active.tx.units
+    by_found : (serial f units : ℕ) (x : FieldValue) → units ≡ active.tx.units
         → by_places (is_none (word_for frames at image x)) (option_map (object_at (table_in frames at image)) (place_in_pool frames at image serial)) f x units ≡ refusal_of w (Set active.client active.name serial f x)
     by_found serial f units x used =
         (λ p. by_places (sym (missed_is x) p) (sym (object_is serial) p) f x ((used ∙ sym is.units) p)) ∙ refused_by (changes.Set serial f x)
@@ -122,7 +122,7 @@ module _ (size : ℕ) (w : World) (memory : Memory) (s : State) (ready : IsReady
     placed = subst (IsPlaced frames) (sym same) (placed_at frames on)
 
     -- one of the two is not there
-    pub refused_unfound : (serial f : ℕ) (x : Val) → (Placed → LacksPlaceOrWord frames at image serial x) → Some refusals.Object ≡ refusal_of w (Set active.client active.name serial f x)
+    pub refused_unfound : (serial f : ℕ) (x : FieldValue) → (Placed → LacksPlaceOrWord frames at image serial x) → Some refusals.Object ≡ refusal_of w (Set active.client active.name serial f x)
     refused_unfound serial f x lacks =
         elim (lacks placed) [
           | inl none ↦
@@ -133,7 +133,7 @@ module _ (size : ℕ) (w : World) (memory : Memory) (s : State) (ready : IsReady
         ∙ by_found serial f active.tx.units x refl
 
     -- both are: by what was read of the field
-    pub refused_to_set : (serial f units : ℕ) (x : Val) (slot : Slot) (word : ℕ) (read : FieldRead) (found : Option (Slot × ℕ)) → found ≡ Some (slot, word)
+    pub refused_to_set : (serial f units : ℕ) (x : FieldValue) (slot : Slot) (word : ℕ) (read : FieldRead) (found : Option (Slot × ℕ)) → found ≡ Some (slot, word)
         → (Placed → IfSome found (IsPlaceAndWord frames at image serial x)) → read ≡ read_by (Some (object_at (table_in frames at image) (place_of_slot slot))) f → units ≡ active.tx.units
         → field_refusal read x units ≡ refusal_of w (Set active.client active.name serial f x)
     refused_to_set serial f units x slot word read found is_found found_so is_read used =

@@ -13,7 +13,7 @@ use Rattle.pm_model.specs.Changes.{Silently}
 use Rattle.pm_model.proofs.Words.{Picks-reads}
 use Rattle.pm_model.proofs.Leaves.{Leaves-now, Leaves-weaker}
 use Rattle.pud_defs.specs.declared.layout.TheConstants.{DAEMON_LOG}
-use Rattle.pud_defs.specs.declared.records.PoolRec.{PoolRec}
+use Rattle.pud_defs.specs.declared.records.PoolRecord.{PoolRecord}
 use Rattle.pud_defs.specs.declared.records.Puddle.{Puddle}
 use Rattle.pud_defs.specs.declared.records.TheConstants.{POOL_RECORDS}
 use Rattle.pud_defs.specs.Puddles.{Member, member_moved}
@@ -53,14 +53,14 @@ listed_there (suc i) from x (e ∷ es) up found =
     let same : from + 1 + i ≡ from + suc i = omega arith in
     listed_there i (from + 1) x es parts.1 (ap (λ (n : ℕ). find nat_cmp n es) same ∙ sym (passed_by (from + suc i) e es (omega (arith, first))) ∙ found)
 
-some_record : (r : Option PoolRec) → is_some r ≡ true → (rec : PoolRec) × (r ≡ Some rec)
+some_record : (r : Option PoolRecord) → is_some r ≡ true → (rec : PoolRecord) × (r ≡ Some rec)
 some_record None some = absurd (let it : false ≡ true = some in cc)
 some_record (Some rec) some = (rec, refl)
 
 module _ (next : ℕ) (t : Tables) (sound : HasSoundTables next t) (slot : ℕ) (within : slot < POOL_RECORDS) (frame : ℕ) (m : Member) (below : frame < t.frames) (used : t.puddles frame ≡ Some m)
     (pool : m.pool ≡ slot + 1) where
   -- its pool is one of the table
-  pub pool_used : (rec : PoolRec) × (t.pools slot ≡ Some rec)
+  pub pool_used : (rec : PoolRecord) × (t.pools slot ≡ Some rec)
   pool_used =
       let legal : is_legal_member next t m ≡ true = sym (ap (is_sound_puddle next t) used) ∙ legal_puddle next t sound frame below in
       let some = and_parts (not (eqb m.pool 0)) (is_some (t.pools (m.pool - 1))) (and_parts (is_pool t m.pool) _ (and_parts _ _ legal).0).0 in

@@ -10,8 +10,8 @@ use Rattle.std.proofs.lemmas.List.{length-map}
 use Rattle.std.proofs.lemmas.List.FromFn.{get_or-range_with_len, length-range_with_len}
 use Rattle.std.proofs.lemmas.Option.{none-some, same_Some, cond_some, slice_get-map, slice_get-get_or, slice_get_past}
 use Rattle.pud_defs.specs.declared.space.TheConstants.{SLOT_FIELDS_WORD}
-use Rattle.pud_defs.specs.declared.objects.Val.{Val}
-use Rattle.pud_defs.specs.declared.objects.Val.TheVariants.{Num, Ref}
+use Rattle.pud_defs.specs.declared.objects.FieldValue.{FieldValue}
+use Rattle.pud_defs.specs.declared.objects.FieldValue.TheVariants.{Num, Ref}
 use Rattle.pud_defs.specs.declared.records.Puddle.{Puddle}
 use Rattle.pud_defs.specs.declared.machine.Refusal.TheVariants as refusals
 use Rattle.pud_defs.specs.TypeMap.{is_pointer}
@@ -34,7 +34,7 @@ use Rattle.pool_transaction.proofs.TransactionRefusals.{IsSettable, freeing_refu
 -- ---- of which kind a field is
 
 -- it is null, or the serial of an object
-abbrev pub is_reference : Val → Bool
+abbrev pub is_reference : FieldValue → Bool
 is_reference (Num v) = false
 is_reference (Ref r) = true
 
@@ -58,7 +58,7 @@ kind_of_content serial puddles m p f v =
 -- ---- fields of an object
 
 -- the object's type is defined, and has the field, which is a pointer exactly where the value is a reference
-pub record IsTypedField (types : List (ℕ × ℕ)) (o : Object) (f : ℕ) (v : Val) : Type 0 where
+pub record IsTypedField (types : List (ℕ × ℕ)) (o : Object) (f : ℕ) (v : FieldValue) : Type 0 where
   pub type_map : ℕ
   pub defined : map_of o.type_id types ≡ Some type_map
   pub below : f < field_count type_map
@@ -79,7 +79,7 @@ module _ (types : List (ℕ × ℕ)) (st : Stored) where
   t = table_of types st
 
   -- by the map of the type at its place
-  typed_by : (p f : ℕ) (v : Val) (found : Option ℕ) → map_of (t.type_id p) types ≡ found → all_stand t.serial (slot_contents st p found) ≡ true
+  typed_by : (p f : ℕ) (v : FieldValue) (found : Option ℕ) → map_of (t.type_id p) types ≡ found → all_stand t.serial (slot_contents st p found) ≡ true
       → slice_get (map (value_of t.serial) (contents_or_none (slot_contents st p found))) f ≡ Some v → IsTypedField types (object_at t p) f v
   typed_by p f v None is stand there = absurd (let no : false ≡ true = stand in cc)
   typed_by p f v (Some m) is stand there =
@@ -110,7 +110,7 @@ module _ (types : List (ℕ × ℕ)) (st : Stored) where
     }
   ]
 
-  pub typed_field : (g : Graph) (s f : ℕ) (o : Object) (v : Val) → graph_of types st ≡ Some g → object_in s g ≡ Some o → slice_get o.fields f ≡ Some v → IsTypedField types o f v
+  pub typed_field : (g : Graph) (s f : ℕ) (o : Object) (v : FieldValue) → graph_of types st ≡ Some g → object_in s g ≡ Some o → slice_get o.fields f ≡ Some v → IsTypedField types o f v
   typed_field g s f o v is lives there =
       let has = graph_of-each types st g is in
       let n = places_of st in
@@ -131,14 +131,14 @@ live_or_null s None named = elim (cases_eq s 0) [
 ]
 live_or_null s (Some x) named = inr refl
 
-may_hold : (g : Graph) (m f : ℕ) (was x : Val) → is_reference was ≡ is_pointer m f → differ_in_kind (Some was) x ≡ false → is_dangling (Some g) x ≡ false → MayHold m f g x
+may_hold : (g : Graph) (m f : ℕ) (was x : FieldValue) → is_reference was ≡ is_pointer m f → differ_in_kind (Some was) x ≡ false → is_dangling (Some g) x ≡ false → MayHold m f g x
 may_hold g m f (Num v) (Num n) kind same named = sym kind
 may_hold g m f (Ref r) (Num n) kind same named = absurd (let no : true ≡ false = same in cc)
 may_hold g m f (Num v) (Ref s) kind same named = absurd (let no : true ≡ false = same in cc)
 may_hold g m f (Ref r) (Ref s) kind same named = (sym kind, live_or_null s (object_in s g) named)
 
 -- what is settable by the graph may be set by the types that it has
-may_set : (types : List (ℕ × ℕ)) (st : Stored) (g : Graph) (units s f : ℕ) (x : Val) → graph_of types st ≡ Some g → IsSettable g units s f x → MaySet types g s f x
+may_set : (types : List (ℕ × ℕ)) (st : Stored) (g : Graph) (units s f : ℕ) (x : FieldValue) → graph_of types st ≡ Some g → IsSettable g units s f x → MaySet types g s f x
 may_set types st g units s f x is settable =
     let typed = typed_field types st g s f settable.object settable.was is settable.live settable.there in
     record {

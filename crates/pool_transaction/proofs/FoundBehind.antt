@@ -3,8 +3,8 @@ use Rattle.std.proofs.Common.{◌≡◌, inl, inr, ℕ, eqb, List, length, get_o
 use Rattle.std.specs.Prelude.{slice_get}
 use Rattle.std.proofs.lemmas.Bool.{cases_lt}
 use Rattle.std.proofs.lemmas.Option.{none-some, slice_get-map, slice_get-get_or, slice_get_past}
-use Rattle.pud_defs.specs.declared.objects.Val.{Val}
-use Rattle.pud_defs.specs.declared.objects.Val.TheVariants.{Num, Ref}
+use Rattle.pud_defs.specs.declared.objects.FieldValue.{FieldValue}
+use Rattle.pud_defs.specs.declared.objects.FieldValue.TheVariants.{Num, Ref}
 use Rattle.pud_defs.specs.declared.records.Puddle.{Puddle}
 use Rattle.pud_defs.specs.Exported.{address_in}
 use Rattle.pud_defs.specs.Geometry.{ordinal_of, slot_of}
@@ -40,7 +40,7 @@ address_behind at later moved p =
 
 module _ (F : ℕ) (at later : List (ℕ × Puddle)) (i j : Image) (spares : SparesObjects F at later i j) where
   -- a value is stored as the same word
-  pub word_behind : (x : Val) → word_for F later j x ≡ word_for F at i x
+  pub word_behind : (x : FieldValue) → word_for F later j x ≡ word_for F at i x
   word_behind (Num v) = refl
   word_behind (Ref r) =
       let addresses : (p : ℕ) → address_at later p ≡ address_at at p = address_behind at later spares.moved in

@@ -9,7 +9,7 @@ use Rattle.pm_model.specs.declared.host.HostFault.TheVariants.{Cut, Failed}
 use Rattle.pm_model.specs.Words.{reads}
 use Rattle.pm_model.specs.Moments.{State}
 use Rattle.pud_defs.specs.declared.machine.Refusal.{Refusal}
-use Rattle.pud_defs.specs.declared.objects.Val.{Val}
+use Rattle.pud_defs.specs.declared.objects.FieldValue.{FieldValue}
 use Rattle.pud_defs.specs.declared.records.Puddle.{Puddle}
 use Rattle.pud_defs.specs.declared.records.Slot.{Slot}
 use Rattle.pud_defs.specs.declared.space.TheConstants.{LAST_FRONTIER}
@@ -104,7 +104,7 @@ finishes_object F at image s slot of there =
     let below = of.below in
     record { place = place_of_slot slot; is = there; goal_is = ap end_of (sym (place_ordinal slot.ordinal slot.slot (omega arith))) }
 
-finishes_field : (F : ℕ) (at : List (ℕ × Puddle)) (image : Image) (later : Bool) (s f : ℕ) (x : Val) (goal : ℕ → ℕ) → FinishesObject F at image s goal → FinishesFor F at image (field_change later s f x) goal
+finishes_field : (F : ℕ) (at : List (ℕ × Puddle)) (image : Image) (later : Bool) (s f : ℕ) (x : FieldValue) (goal : ℕ → ℕ) → FinishesObject F at image s goal → FinishesFor F at image (field_change later s f x) goal
 finishes_field F at image true s f x goal so = so
 finishes_field F at image false s f x goal so = so
 

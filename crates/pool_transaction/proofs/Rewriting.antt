@@ -12,7 +12,7 @@ use Rattle.pm_model.proofs.Changes.{Changes-said}
 use Rattle.pm_model.proofs.Words.{HasOnly-own, HasOnly-newest}
 use Rattle.pud_defs.specs.declared.layout.TheConstants.{DAEMON_LOG}
 use Rattle.pud_defs.specs.declared.records.Puddle.{Puddle}
-use Rattle.pud_defs.specs.declared.records.PoolRec.{PoolRec}
+use Rattle.pud_defs.specs.declared.records.PoolRecord.{PoolRecord}
 use Rattle.pud_defs.specs.declared.records.TheConstants.{POOL_RECORDS}
 use Rattle.pud_defs.specs.Image.{Image}
 use Rattle.pud_defs.specs.Puddles.{Member}
@@ -66,7 +66,7 @@ keeps_world w active = record { frames = refl; transactions = refl; present = λ
 -- ---- one batch
 
 module _ (size : ℕ) (w : World) (memory : Memory) (slot : ℕ) (kept : Known) (old new : State) (ready : IsReady size w memory old) (is_kept : known_pool_in memory.judged slot ≡ Some kept)
-    (goal : ℕ → ℕ) (o m : ℕ) (e : ℕ × Puddle) (next : AreNextSteps kept.puddles goal o m e) (rec : PoolRec) (low : slot < POOL_RECORDS)
+    (goal : ℕ → ℕ) (o m : ℕ) (e : ℕ × Puddle) (next : AreNextSteps kept.puddles goal o m e) (rec : PoolRecord) (low : slot < POOL_RECORDS)
     (used : (tables_of w.stored.frames (reads old.now.words)).pools slot ≡ Some rec) where
   abbrev F : ℕ
   F = w.stored.frames
@@ -251,7 +251,7 @@ module _ (size : ℕ) (w : World) (slot : ℕ) (low : slot < POOL_RECORDS) (goal
 
   -- the pool of a puddle is one of the table
   used_of : (memory : Memory) (at : List (ℕ × Puddle)) (o m : ℕ) (e : ℕ × Puddle) (old : State) (ready : IsReady size w memory old) → known_puddles_in memory.judged slot ≡ Some at → AreNextSteps at goal o m e
-      → (rec : PoolRec) × ((tables_of w.stored.frames (reads old.now.words)).pools slot ≡ Some rec)
+      → (rec : PoolRecord) × ((tables_of w.stored.frames (reads old.now.words)).pools slot ≡ Some rec)
   used_of memory at o m e old ready known next =
       let of = member_of_pool w.stored.frames slot at (reads old.now.words) (known_in_turn size w memory old ready slot at known) o e next.here in
       pool_used w.stored.next_number (tables_of w.stored.frames (reads old.now.words)) (sound_read size w memory old ready) slot low e.0 of.member of.below of.used of.pool

@@ -13,7 +13,7 @@ use Rattle.pm_model.proofs.Masks.{Changes-masked, masked-there, masked-elsewhere
 use Rattle.pm_model.proofs.Words.{HasOnly-newest}
 use Rattle.pud_defs.specs.declared.layout.TheConstants.{DAEMON_LOG, SPACE_TABLE, PUDDLE_TABLE}
 use Rattle.pud_defs.specs.declared.records.TheConstants.{POOL_RECORDS}
-use Rattle.pud_defs.specs.declared.records.PoolRec.{PoolRec}
+use Rattle.pud_defs.specs.declared.records.PoolRecord.{PoolRecord}
 use Rattle.pud_defs.specs.declared.records.Puddle.{Puddle}
 use Rattle.pud_defs.specs.Geometry.{steps_of, is_legal_frontier}
 use Rattle.pud_defs.specs.Image.{Image}
@@ -162,7 +162,7 @@ module _ (size : ℕ) (w : World) (memory : Memory) (slot : ℕ) (at : List (ℕ
   ]
 
   -- masked, the pool may be rewritten
-  pub rewritable_masked : (rec : PoolRec) → slot < POOL_RECORDS → t.pools slot ≡ Some rec → IsRewritableIn size (closed w) slot at graph_masked.0 under
+  pub rewritable_masked : (rec : PoolRecord) → slot < POOL_RECORDS → t.pools slot ≡ Some rec → IsRewritableIn size (closed w) slot at graph_masked.0 under
   rewritable_masked rec low used = record {
     settled = ready.settled;
     pool = record {
@@ -181,7 +181,7 @@ module _ (size : ℕ) (w : World) (memory : Memory) (slot : ℕ) (at : List (ℕ
 
   -- ---- a batch
 
-  module _ (goal : ℕ → ℕ) (o m : ℕ) (e : ℕ × Puddle) (next : AreNextSteps at goal o m e) (rec : PoolRec) (low : slot < POOL_RECORDS) (used : t.pools slot ≡ Some rec) where
+  module _ (goal : ℕ → ℕ) (o m : ℕ) (e : ℕ × Puddle) (next : AreNextSteps at goal o m e) (rec : PoolRecord) (low : slot < POOL_RECORDS) (used : t.pools slot ≡ Some rec) where
     next_its : AreNextSteps at (its_goal o m) o m e
     next_its = its_steps at goal o m e next
 

@@ -7,8 +7,8 @@ use Rattle.std.proofs.lemmas.Option.{none-some}
 use Rattle.pm_model.specs.Words.{Words}
 use Rattle.pm_model.specs.Changes.{Write}
 use Rattle.pud_defs.specs.declared.layout.TheConstants.{LOG_ENTRY_WORDS, SET_UNITS, NEW_UNITS}
-use Rattle.pud_defs.specs.declared.objects.Val.{Val}
-use Rattle.pud_defs.specs.declared.objects.Val.TheVariants.{Ref}
+use Rattle.pud_defs.specs.declared.objects.FieldValue.{FieldValue}
+use Rattle.pud_defs.specs.declared.objects.FieldValue.TheVariants.{Ref}
 use Rattle.pud_defs.specs.declared.machine.Command.TheVariants.{Commit, Abort, New, Set}
 use Rattle.pud_defs.specs.declared.machine.Command.TheVariants as commands
 use Rattle.pud_defs.specs.declared.machine.Refusal.{Refusal}
@@ -42,7 +42,7 @@ own_refusal who found client opened =
     (cond (not (is_own client opened)) (Some refusals.Tx) None))))
 
 -- of `set`, where the client's own transaction is open, by the graph as it is seen and the units that are used
-abbrev pub setting_refusal : Option Graph → (units s f : ℕ) → Val → Option Refusal
+abbrev pub setting_refusal : Option Graph → (units s f : ℕ) → FieldValue → Option Refusal
 setting_refusal g units s f x =
     cond (is_dangling g x || is_none (object_of s g)) (Some refusals.Object)
     (cond (is_none (field_of f (object_of s g))) (Some refusals.Field)
@@ -104,7 +104,7 @@ module _ (w : World) (client : ℕ) (name : List ℕ) where
   refusal_of-abort = refl
 
   -- what is asked for later is refused as what is set
-  pub refusal_of-later : (s f : ℕ) (x : Val) → refusal_of w (commands.Later client name s f x) ≡ refusal_of w (Set client name s f x)
+  pub refusal_of-later : (s f : ℕ) (x : FieldValue) → refusal_of w (commands.Later client name s f x) ≡ refusal_of w (Set client name s f x)
   unfolding refusal_of cause_holds
   refusal_of-later s f x = refl
 
@@ -188,16 +188,16 @@ some_there None there = absurd (let no : true ≡ false = there in cc)
 some_there (Some x) there = (x, refl)
 
 -- The object is live and has the field, which is of the value's kind; what is to be named is live or null; and the units fit.
-pub record IsSettable (g : Graph) (units s f : ℕ) (x : Val) : Type 0 where
+pub record IsSettable (g : Graph) (units s f : ℕ) (x : FieldValue) : Type 0 where
   pub object : Object
   pub live : object_in s g ≡ Some object
-  pub was : Val
+  pub was : FieldValue
   pub there : slice_get object.fields f ≡ Some was
   pub named : is_dangling (Some g) x ≡ false
   pub kind : differ_in_kind (Some was) x ≡ false
   pub fits : units + SET_UNITS ≤ LOG_ENTRY_WORDS
 
-pub settable_by : (g : Graph) (units s f : ℕ) (x : Val) → setting_refusal (Some g) units s f x ≡ None → IsSettable g units s f x
+pub settable_by : (g : Graph) (units s f : ℕ) (x : FieldValue) → setting_refusal (Some g) units s f x ≡ None → IsSettable g units s f x
 settable_by g units s f x none =
     let object = unless (is_dangling (Some g) x || is_none (object_in s g)) refusals.Object _ none in
     let names = or_parts (is_dangling (Some g) x) (is_none (object_in s g)) object.0 in
@@ -213,7 +213,7 @@ settable_by g units s f x none =
       was = v.0;
       there = there;
       named = names.0;
-      kind = ap (λ (d : Option Val). differ_in_kind d x) (sym v.1) ∙ kind.0;
+      kind = ap (λ (d : Option FieldValue). differ_in_kind d x) (sym v.1) ∙ kind.0;
       fits = ltb-false LOG_ENTRY_WORDS (units + SET_UNITS) big.0;
     }
 

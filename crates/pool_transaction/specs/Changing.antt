@@ -7,8 +7,8 @@ use Rattle.pud_defs.specs.declared.machine.Command.{Command}
 use Rattle.pud_defs.specs.declared.machine.Command.TheVariants as commands
 use Rattle.pud_defs.specs.declared.machine.Refusal.{Refusal}
 use Rattle.pud_defs.specs.declared.machine.Refusal.TheVariants as refusals
-use Rattle.pud_defs.specs.declared.objects.Val.{Val}
-use Rattle.pud_defs.specs.declared.objects.Val.TheVariants.{Ref}
+use Rattle.pud_defs.specs.declared.objects.FieldValue.{FieldValue}
+use Rattle.pud_defs.specs.declared.objects.FieldValue.TheVariants.{Ref}
 use Rattle.pud_defs.specs.declared.records.Puddle.{Puddle}
 use Rattle.pud_defs.specs.declared.records.Slot.{Slot}
 use Rattle.pud_defs.specs.GraphChanges.{with_field, with_root, without_object, with_new}
@@ -102,13 +102,13 @@ MayChange types t (Free s) = MayFree t.now s × (deferred_set_names s t.deferred
 -- ---- what was found of it
 
 -- the change of a field, at once or at the commit
-abbrev pub field_change : (later : Bool) → (s f : ℕ) → Val → Update
+abbrev pub field_change : (later : Bool) → (s f : ℕ) → FieldValue → Update
 field_change later s f x = cond later (Later s f x) (Set s f x)
 
 -- A field is to be set, or its value asked for: by this image of the pool the slot is that of its object, and the word stands for the value.
 pub record IsFieldFound (F : ℕ) (at : List (ℕ × Puddle)) (image : Image) (change : Update) (slot : Slot) (f word : ℕ) (later : Bool) : Type 0 where
   pub s : ℕ
-  pub x : Val
+  pub x : FieldValue
   pub is : change ≡ field_change later s f x
   pub found : IsPlaceAndWord F at image s x (slot, word)
 

@@ -1,7 +1,7 @@
 -- Why a line of a transaction is refused, by what was read for it, and what was found of the client's own.
 use Rattle.std.specs.Prelude.{◌+◌, ℕ, Bool, ◌||◌, nat_lt, cond, Option, Some, None}
 use Rattle.pud_defs.specs.declared.layout.TheConstants.{LOG_ENTRY_WORDS, SET_UNITS}
-use Rattle.pud_defs.specs.declared.objects.Val.{Val}
+use Rattle.pud_defs.specs.declared.objects.FieldValue.{FieldValue}
 use Rattle.pud_defs.specs.declared.machine.Refusal.{Refusal}
 use Rattle.pud_defs.specs.declared.machine.Refusal.TheVariants as refusals
 use Rattle.pud_defs.specs.Step.{differ_in_kind}
@@ -17,7 +17,7 @@ abbrev pub room_refusal : (units : ℕ) → Option Refusal
 room_refusal units = cond (nat_lt LOG_ENTRY_WORDS (units + SET_UNITS)) (Some refusals.TooBig) None
 
 -- why a field is not set to a value of which this was read, by how many units are used
-abbrev pub field_refusal : FieldRead → Val → (units : ℕ) → Option Refusal
+abbrev pub field_refusal : FieldRead → FieldValue → (units : ℕ) → Option Refusal
 field_refusal NoObject x units = Some refusals.Object
 field_refusal NoField x units = Some refusals.Field
 field_refusal (Value was) x units = cond (differ_in_kind (Some was) x) (Some refusals.Kind) (room_refusal units)

@@ -43,7 +43,7 @@ use object_alloc::{AllocFault, alloc_slot};
 use pm_model::{Host, HostFault};
 use pud_defs::layout::{LOG_ENTRY_WORDS, NEW_UNITS, NUMBER_LIMIT};
 use pud_defs::machine::{Refusal, Reply};
-use pud_defs::objects::Val;
+use pud_defs::objects::FieldValue;
 use pud_defs::records::{Puddle, Slot};
 use puddle_header::next_serial;
 use puddle_table::{Puddles, find_puddles};
@@ -63,9 +63,9 @@ pub enum Change {
 #[derive(Clone, Copy)]
 pub enum Update {
     /// Field `f` of the object of serial `s` gets the value.
-    Set { s: u64, f: u32, x: Val },
+    Set { s: u64, f: u32, x: FieldValue },
     /// It gets it at the commit, behind all that is set and all that was asked for before.
-    Later { s: u64, f: u32, x: Val },
+    Later { s: u64, f: u32, x: FieldValue },
     /// The object of serial `s` is made the root; with 0 there is none.
     Root { s: u64 },
     /// The object of serial `s` is freed.

@@ -27,14 +27,14 @@ use known_pool::KnownPool;
 use pm_model::{Host, HostFault};
 use pud_defs::layout::{LOG_ENTRY_WORDS, SET_UNITS};
 use pud_defs::machine::Refusal;
-use pud_defs::objects::Val;
+use pud_defs::objects::FieldValue;
 
 /// Whether one is a number and the other a reference.
-fn differ_in_kind(was: Val, x: Val) -> bool
+fn differ_in_kind(was: FieldValue, x: FieldValue) -> bool
     ensures { result ≡ differ_in_kind (Option.Some was) x }
 {
     match (was, x) {
-        (Val::Num(_), Val::Num(_)) | (Val::Ref(_), Val::Ref(_)) => false,
+        (FieldValue::Num(_), FieldValue::Num(_)) | (FieldValue::Ref(_), FieldValue::Ref(_)) => false,
         _ => true,
     }
 }
@@ -53,7 +53,7 @@ fn room_refusal(units: u32) -> Option<Refusal>
 }
 
 /// Why a field of which this was read is not set to the value, by how many units are used.
-fn field_refusal(read: FieldRead, x: Val, units: u32) -> Option<Refusal>
+fn field_refusal(read: FieldRead, x: FieldValue, units: u32) -> Option<Refusal>
     requires { units ≤ LOG_ENTRY_WORDS }
     ensures refusal { result ≡ field_refusal read x units }
     ensures fits { IfNone result (units + SET_UNITS ≤ LOG_ENTRY_WORDS) }
@@ -95,7 +95,7 @@ impl PoolTransaction {
         pool: &KnownPool,
         s: u64,
         f: u32,
-        x: Val,
+        x: FieldValue,
         later: bool,
     ) -> Result<Result<Found, Refusal>, HostFault>
         requires few { frames ≤ MAX_FRAMES }
@@ -145,7 +145,7 @@ impl PoolTransaction {
         ensures room { IfOk result (λ found. IfOk found (λ _. (self.now).tx.units + SET_UNITS ≤ LOG_ENTRY_WORDS)) }
         ensures only_reads { OnlyReads H.tells H.state H.counts (fault_of result) h.old h.new }
     {
-        let Some(word) = word_for(h, frames, pool.as_slice(), Val::Ref(s))? else {
+        let Some(word) = word_for(h, frames, pool.as_slice(), FieldValue::Ref(s))? else {
             return Ok(Err(Refusal::Object));
         };
         match room_refusal(self.tx.units()) {

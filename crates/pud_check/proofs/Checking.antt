@@ -6,7 +6,7 @@ use Rattle.pm_model.specs.declared.host.HostFault.{HostFault}
 use Rattle.pm_model.specs.Moments.{State}
 use Rattle.pm_model.specs.Calls.{Says}
 use Rattle.pm_model.proofs.Saying.{Says-then, Says-front}
-use Rattle.pud_defs.specs.declared.records.PoolRec.{PoolRec}
+use Rattle.pud_defs.specs.declared.records.PoolRecord.{PoolRecord}
 use Rattle.pud_defs.specs.declared.records.Puddle.{Puddle}
 use Rattle.pud_defs.specs.Image.{Image}
 use Rattle.pud_defs.specs.Names.{name_cmp}
@@ -32,17 +32,17 @@ use Rattle.pud_check.specs.Checked.{objects_text, objects_line, objects_in, pudd
 
 -- ---- as it is read
 
-module _ (F : ℕ) (image : Image) (records : List (ℕ × PoolRec)) (read : records ≡ in_order (tables_of F image)) where
+module _ (F : ℕ) (image : Image) (records : List (ℕ × PoolRecord)) (read : records ≡ in_order (tables_of F image)) where
   -- the fault comes in the lines of the pools
   pub Says-uncounted : (fault : HostFault) (a b : State) → Says (flat_map (pool_checked F image) records) (Some fault) a b → Says (listed_check F image) (Some fault) a b
   unfolding listed_check
   Says-uncounted fault a b pools =
-      subst (λ (rs : List (ℕ × PoolRec)). Says (records_checked F image rs) (Some fault) a b) read (Says-front (flat_map (pool_checked F image) records) (count_line (length records)) fault a b pools)
+      subst (λ (rs : List (ℕ × PoolRecord)). Says (records_checked F image rs) (Some fault) a b) read (Says-front (flat_map (pool_checked F image) records) (count_line (length records)) fault a b pools)
 
   pub Says-checked : (fault : Option HostFault) (a b c : State) → Says (flat_map (pool_checked F image) records) None a b → Says (count_line (length records)) fault b c → Says (listed_check F image) fault a c
   unfolding listed_check
   Says-checked fault a b c pools count =
-      subst (λ (rs : List (ℕ × PoolRec)). Says (records_checked F image rs) fault a c) read (Says-then (flat_map (pool_checked F image) records) (count_line (length records)) fault a b c pools count)
+      subst (λ (rs : List (ℕ × PoolRecord)). Says (records_checked F image rs) fault a c) read (Says-then (flat_map (pool_checked F image) records) (count_line (length records)) fault a b c pools count)
 
 -- ---- on sound tables
 
@@ -58,7 +58,7 @@ module _ (next F : ℕ) (image : Image) (sound : HasSoundTables next (tables_of 
   abbrev hold : Reader
   hold = holding_in (types_of image) F image
 
-  line_here : (e : List ℕ × (ℕ × PoolRec)) → IsPlaced t e → pool_checked F image (e.1.0, pool_read e.1.1) ≡ checked_line (e.0, pool_by_record hold t e.1)
+  line_here : (e : List ℕ × (ℕ × PoolRecord)) → IsPlaced t e → pool_checked F image (e.1.0, pool_read e.1.1) ≡ checked_line (e.0, pool_by_record hold t e.1)
   unfolding checked_line pool_of
   line_here e p =
       let at = listed (puddles_of t e.1.0) in

@@ -6,7 +6,7 @@ use Rattle.std.proofs.lemmas.Bool.{and_parts}
 use Rattle.std.proofs.lemmas.List.Folds.{flat_map-map}
 use Rattle.std.proofs.lemmas.Option.{none-some}
 use Rattle.pud_defs.specs.declared.records.TheConstants.{POOL_RECORDS, MAX_PUDDLES}
-use Rattle.pud_defs.specs.declared.records.PoolRec.{PoolRec}
+use Rattle.pud_defs.specs.declared.records.PoolRecord.{PoolRecord}
 use Rattle.pud_defs.specs.declared.records.Puddle.{Puddle}
 use Rattle.pud_defs.specs.Bases.{is_legal_base}
 use Rattle.pud_defs.specs.Geometry.{steps_of, is_legal_frontier}
@@ -86,14 +86,14 @@ module _ (next : ℕ) (t : Tables) (sound : HasSoundTables next t) (id : ℕ) wh
   line_as_is : (slot : ℕ) (e : ℕ × (ℕ × Puddle)) → IsReadAsIs e → line_read slot e.0 (Some e.1) ≡ puddle_line id e
   line_as_is slot e as_is = ap (λ (n : ℕ). puddle_line id (e.0, (e.1.0, record e.1.1 { frontier = n }))) as_is
 
-  puddles_laid : (slot : ℕ) (r : PoolRec) → slot < POOL_RECORDS → t.pools slot ≡ Some r → puddles_listed id t slot ≡ flat_map (puddle_line id) (puddles_of t slot)
+  puddles_laid : (slot : ℕ) (r : PoolRecord) → slot < POOL_RECORDS → t.pools slot ≡ Some r → puddles_listed id t slot ≡ flat_map (puddle_line id) (puddles_of t slot)
   unfolding puddles_listed
   puddles_laid slot r below used =
       let few = few_members next t sound slot r below used in
       found_in_turn (line_read slot) (λ i. refl) (puddles_of t slot) 0 MAX_PUDDLES few.ordinals few.few
       ∙ flat_map-each (λ e. line_read slot e.0 (Some e.1)) (puddle_line id) (puddles_of t slot) (each-weaker IsReadAsIs _ (puddles_of t slot) (line_as_is slot) (each_as_is slot))
 
-  pool_laid : (e : List ℕ × (ℕ × PoolRec)) → IsPlaced t e → pool_listed id t (e.1.0, pool_read e.1.1) ≡ pool_lines id t e.1
+  pool_laid : (e : List ℕ × (ℕ × PoolRecord)) → IsPlaced t e → pool_listed id t (e.1.0, pool_read e.1.1) ≡ pool_lines id t e.1
   pool_laid e p =
       let legal = ap (is_sound_pool next) (sym p.used) ∙ legal_pool next t sound e.1.0 p.below in
       ap₂ (λ (mode : ℕ) (puddles : List ℕ). pool_line id (record e.1.1 { mode = mode }) ++ puddles) (mode_read e.1.1.mode (legal_mode next e.1.1 legal)) (puddles_laid e.1.0 e.1.1 p.below p.used)

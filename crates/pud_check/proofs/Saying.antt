@@ -11,7 +11,7 @@ use Rattle.pm_model.proofs.Saying.{Says-then, Says-front}
 use Rattle.pud_defs.specs.Image.{Image}
 use Rattle.pud_defs.specs.declared.layout.TheConstants.{MACHINE_WORD, NEXT_NUMBER_WORD}
 use Rattle.pud_defs.specs.declared.records.TheConstants.{MAX_PUDDLES}
-use Rattle.pud_defs.specs.declared.records.PoolRec.{PoolRec}
+use Rattle.pud_defs.specs.declared.records.PoolRecord.{PoolRecord}
 use Rattle.pud_defs.specs.Keyed.{count_used}
 use Rattle.pud_defs.specs.LayoutText.{frames_line, tables_text, layout_text}
 use Rattle.pud_defs.specs.Registry.{frames_of}
@@ -58,7 +58,7 @@ module _ (id : ℕ) (t : Tables) (slot ordinal : ℕ) where
 pub holds_counted : (F : ℕ) (image : Image) (p : Placed) → HoldsPlaces (tables_of F image) p → p.count ≡ F → HoldsPlaces (tables_of p.count image) p
 holds_counted F image p holds count = subst (λ (f : ℕ). HoldsPlaces (tables_of f image) p) (sym count) holds
 
-module _ (F : ℕ) (image : Image) (p : Placed) (id next : ℕ) (records : List (ℕ × PoolRec)) (holds : HoldsPlaces (tables_of F image) p) (count : p.count ≡ F) (machine : id ≡ image MACHINE_WORD) (number : next ≡ image NEXT_NUMBER_WORD) (listed : records ≡ in_order (tables_of F image)) where
+module _ (F : ℕ) (image : Image) (p : Placed) (id next : ℕ) (records : List (ℕ × PoolRecord)) (holds : HoldsPlaces (tables_of F image) p) (count : p.count ≡ F) (machine : id ≡ image MACHINE_WORD) (number : next ≡ image NEXT_NUMBER_WORD) (listed : records ≡ in_order (tables_of F image)) where
   -- the text, as it was read
   listed_layout-read : frames_line F p.used next ++ flat_map (pool_listed id (tables_of p.count image)) records ≡ listed_layout (image MACHINE_WORD) (image NEXT_NUMBER_WORD) (tables_of F image)
   unfolding listed_layout

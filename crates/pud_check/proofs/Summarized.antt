@@ -5,7 +5,7 @@ use Rattle.pm_model.specs.declared.host.HostFault.{HostFault}
 use Rattle.pm_model.specs.Moments.{State}
 use Rattle.pm_model.specs.Calls.{Says}
 use Rattle.pm_model.proofs.Saying.{Says-then, Says-front}
-use Rattle.pud_defs.specs.declared.records.PoolRec.{PoolRec}
+use Rattle.pud_defs.specs.declared.records.PoolRecord.{PoolRecord}
 use Rattle.pud_defs.specs.Image.{Image}
 use Rattle.pud_defs.specs.Names.{name_cmp}
 use Rattle.pud_defs.specs.Pools.{pool_read}
@@ -49,7 +49,7 @@ module _ (next F : ℕ) (image : Image) (sound : HasSoundTables next (tables_of 
   hold = holding_in (types_of image) F image
 
   -- what is read under a name is what the pool of that name holds
-  held_here : (o : Option (ℕ × PoolRec)) → find name_cmp name (records_of t) ≡ o
+  held_here : (o : Option (ℕ × PoolRecord)) → find name_cmp name (records_of t) ≡ o
       → option_map (holding_listed F image) (option_map (λ p. (p.0, pool_read p.1)) o) ≡ option_map (λ (p : Pool). p.holding) (option_map (pool_by_record hold t) o)
   unfolding pool_of
   held_here None is = refl

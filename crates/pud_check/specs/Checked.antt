@@ -1,6 +1,6 @@
 -- The text of which pools are sound, as a device lists them, whatever its tables hold.
 use Rattle.std.specs.Prelude.{ℕ, List, ◌++◌, length, codes, decimal, flat_map, Option, Some, None, option_map}
-use Rattle.pud_defs.specs.declared.records.PoolRec.{PoolRec}
+use Rattle.pud_defs.specs.declared.records.PoolRecord.{PoolRecord}
 use Rattle.pud_defs.specs.declared.records.Puddle.{Puddle}
 use Rattle.pud_defs.specs.Image.{Image}
 use Rattle.pud_defs.specs.Types.{types_of}
@@ -26,15 +26,15 @@ abbrev pub objects_in : ℕ → Image → List (ℕ × Puddle) → Option ℕ
 objects_in F image at = option_map (λ g. length g.objects) (graph_of (types_of image) (stored_in F at image))
 
 -- the line of a pool with this record and these puddles
-abbrev pub puddles_checked : ℕ → Image → PoolRec → List (ℕ × Puddle) → List ℕ
+abbrev pub puddles_checked : ℕ → Image → PoolRecord → List (ℕ × Puddle) → List ℕ
 puddles_checked F image r at = objects_line r.name (objects_in F image at) (length at)
 
 -- the line of a pool by its slot and record
-abbrev pub pool_checked : ℕ → Image → ℕ × PoolRec → List ℕ
+abbrev pub pool_checked : ℕ → Image → ℕ × PoolRecord → List ℕ
 pool_checked F image e = puddles_checked F image e.1 (puddles_in_turn (tables_of F image) e.0)
 
 -- the lines of these records, each with its slot, and how many they are
-abbrev pub records_checked : ℕ → Image → List (ℕ × PoolRec) → List ℕ
+abbrev pub records_checked : ℕ → Image → List (ℕ × PoolRecord) → List ℕ
 records_checked F image records = flat_map (pool_checked F image) records ++ count_line (length records)
 
 -- the lines of the used pool records by ascending names, and how many they are

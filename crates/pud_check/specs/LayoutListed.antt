@@ -2,9 +2,9 @@
 use Rattle.std.specs.Prelude.{ℕ, List, [], ◌∷◌, ◌++◌, flat_map, decimal, Option, Some, None}
 use Rattle.std.specs.List.{range_with_len}
 use Rattle.pud_defs.specs.declared.records.TheConstants.{MAX_PUDDLES}
-use Rattle.pud_defs.specs.declared.records.PoolRec.{PoolRec}
+use Rattle.pud_defs.specs.declared.records.PoolRecord.{PoolRecord}
 use Rattle.pud_defs.specs.declared.records.Puddle.{Puddle}
-use Rattle.pud_defs.specs.declared.records.PuddleRec.{PuddleRec}
+use Rattle.pud_defs.specs.declared.records.PuddleRecord.{PuddleRecord}
 use Rattle.pud_defs.specs.Identifiers.{puddle_uuid, uuid_text}
 use Rattle.pud_defs.specs.Keyed.{count_used}
 use Rattle.pud_defs.specs.Tables.{Tables, puddle_in}
@@ -26,15 +26,15 @@ line_end id number = line_of (space ∷ uuid_text (puddle_uuid id number))
 -- ---- what is listed
 
 -- what a record says of its puddle
-abbrev pub puddle_of : PuddleRec → Puddle
+abbrev pub puddle_of : PuddleRecord → Puddle
 puddle_of r = record { number = r.number; base = r.base; old_base = r.old_base; frontier = r.frontier }
 
 -- the line of a record with its frame, of a machine with this id
-abbrev pub record_line : ℕ → ℕ × PuddleRec → List ℕ
+abbrev pub record_line : ℕ → ℕ × PuddleRecord → List ℕ
 record_line id (frame, r) = puddle_line id (r.ordinal, (frame, puddle_of r))
 
 -- the line of a record with its frame, where there is one
-abbrev pub line_found : ℕ → Option (ℕ × PuddleRec) → List ℕ
+abbrev pub line_found : ℕ → Option (ℕ × PuddleRecord) → List ℕ
 line_found id None = []
 line_found id (Some found) = record_line id found
 
@@ -47,7 +47,7 @@ unfoldable pub puddles_listed : ℕ → Tables → ℕ → List ℕ
 puddles_listed id t slot = flat_map (puddle_listed id t slot) (range_with_len 0 MAX_PUDDLES)
 
 -- the lines of a pool by its slot and record
-abbrev pub pool_listed : ℕ → Tables → ℕ × PoolRec → List ℕ
+abbrev pub pool_listed : ℕ → Tables → ℕ × PoolRecord → List ℕ
 pool_listed id t (slot, r) = pool_line id r ++ puddles_listed id t slot
 
 -- the line of the frames, and the lines of the used pool records by ascending names, where this UUID number is the next

@@ -1,6 +1,6 @@
 -- The summary of a generated run as the tables of a device have its pools, sound or not.
 use Rattle.std.specs.Prelude.{ℕ, List, ◌++◌, option_map}
-use Rattle.pud_defs.specs.declared.records.PoolRec.{PoolRec}
+use Rattle.pud_defs.specs.declared.records.PoolRecord.{PoolRecord}
 use Rattle.pud_defs.specs.Image.{Image}
 use Rattle.pud_defs.specs.Types.{types_of}
 use Rattle.pud_defs.specs.Holdings.{Holding, holding_in}
@@ -9,7 +9,7 @@ use Rattle.pud_check.specs.declared.sums.Summed.{Summed}
 use Rattle.pud_check.specs.Summary.{summed, summed_line, gen_pool, copy_pool, refused_line}
 
 -- what the puddles hold of the pool of this slot and record
-abbrev pub holding_listed : ℕ → Image → ℕ × PoolRec → Holding
+abbrev pub holding_listed : ℕ → Image → ℕ × PoolRecord → Holding
 holding_listed F image found = holding_in (types_of image) F image (puddles_in_turn (tables_of F image) found.0)
 
 -- the pool of a name, summed up

@@ -21,7 +21,7 @@ use crate::text::{count_line, objects_line};
 use graph_read::pool_totals;
 use pm_model::{Host, HostFault};
 use pool_table::in_order;
-use pud_defs::records::PoolRec;
+use pud_defs::records::PoolRecord;
 use puddle_table::{Places, find_places};
 
 /// Says the line of the pool of this slot and record.
@@ -30,7 +30,7 @@ fn say_pool<H: Host>(
     frames: u32,
     places: &Places,
     slot: u32,
-    rec: &PoolRec,
+    rec: &PoolRecord,
 ) -> Result<(), HostFault>
     requires few { frames ≤ MAX_FRAMES }
     requires room { device_words frames ≤ (H.counts h.old).size }
@@ -52,7 +52,7 @@ fn say_pools<H: Host>(
     h: &mut H,
     frames: u32,
     places: &Places,
-    records: &[(u32, PoolRec)],
+    records: &[(u32, PoolRecord)],
 ) -> Result<(), HostFault>
     requires few { frames ≤ MAX_FRAMES }
     requires room { device_words frames ≤ (H.counts h.old).size }

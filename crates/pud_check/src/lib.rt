@@ -27,7 +27,7 @@ pub use laws::{sound_tables_are_checked, sound_tables_are_laid_out, sound_tables
 use pm_model::{Host, HostFault};
 use pool_table::in_order;
 use pud_defs::layout::{MACHINE_WORD, NEXT_NUMBER_WORD};
-use pud_defs::records::{MAX_PUDDLES, PoolRec};
+use pud_defs::records::{MAX_PUDDLES, PoolRecord};
 use puddle_table::{Places, find_places};
 pub use sums::{say_sum, say_summary};
 use text::{frames_line, pool_line, puddle_line};
@@ -75,7 +75,7 @@ fn say_pool<H: Host>(
     id: u64,
     places: &Places,
     slot: u32,
-    rec: &PoolRec,
+    rec: &PoolRecord,
 ) -> Result<(), HostFault>
     requires slot { slot < POOL_RECORDS }
     requires table { tables_end (places.now).count ≤ (H.counts h.old).size }
@@ -93,7 +93,7 @@ fn say_pools<H: Host>(
     h: &mut H,
     id: u64,
     places: &Places,
-    records: &[(u32, PoolRec)],
+    records: &[(u32, PoolRecord)],
 ) -> Result<(), HostFault>
     requires slots { All IsInSlot records.now }
     requires table { tables_end (places.now).count ≤ (H.counts h.old).size }

@@ -12,7 +12,7 @@ ghost use Rattle.pud_check.specs.Summary.{summed_text, summed_line, refused_line
 
 use crate::sums::Summed;
 use pool_list::text::{Text, add, add_identifier, add_long, add_mode, add_name, add_number};
-use pud_defs::records::{Name, PoolRec, PuddleRec};
+use pud_defs::records::{Name, PoolRecord, PuddleRecord};
 use uid_make::print_uuid;
 
 /// Adds a space and the number.
@@ -63,7 +63,7 @@ pub fn frames_line(frames: u32, used: u32, next: u64) -> Text
 }
 
 /// `pool NAME uid gid mode identifier`, on the machine of this id: at most 85 bytes.
-pub fn pool_line(id: u64, rec: &PoolRec) -> Text
+pub fn pool_line(id: u64, rec: &PoolRecord) -> Text
     ensures { result.items ≡ pool_line id rec.now }
 {
     let mut text = Text::new();
@@ -78,7 +78,7 @@ pub fn pool_line(id: u64, rec: &PoolRec) -> Text
 }
 
 /// `puddle ordinal frame base old_base frontier identifier`, on the machine of this id: at most 103 bytes.
-pub fn puddle_line(id: u64, frame: u32, rec: &PuddleRec) -> Text
+pub fn puddle_line(id: u64, frame: u32, rec: &PuddleRecord) -> Text
     ensures { result.items ≡ record_line id (frame, rec.now) }
 {
     let mut text = Text::new();

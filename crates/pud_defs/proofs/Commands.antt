@@ -10,8 +10,8 @@ use Rattle.pud_defs.specs.declared.space.TheConstants.{MAX_STEPS}
 use Rattle.pud_defs.specs.declared.machine.Command.{Command}
 use Rattle.pud_defs.specs.declared.machine.Command.TheVariants.{Client, Leave, Define, Cut, Arm, Chmod, Begin, Commit, Abort, New, Set, Later, Root, Free, Dump, Export, Import, Rewrite, Pools, Get}
 use Rattle.pud_defs.specs.declared.machine.Command.TheVariants as commands
-use Rattle.pud_defs.specs.declared.objects.Val.{Val}
-use Rattle.pud_defs.specs.declared.objects.Val.TheVariants.{Num, Ref}
+use Rattle.pud_defs.specs.declared.objects.FieldValue.{FieldValue}
+use Rattle.pud_defs.specs.declared.objects.FieldValue.TheVariants.{Num, Ref}
 use Rattle.std.specs.Prelude.{IsTrue}
 use Rattle.pud_defs.specs.Modes.{is_legal_mode}
 use Rattle.pud_defs.specs.Names.{IsName, is_legal_name}
@@ -171,16 +171,16 @@ field_taken : (next : ℕ × ℕ → Parser) → ((field : ℕ × ℕ) → IsFie
 field_taken next after = taken field_place IsFieldPlace next field_place-place after
 
 -- the value of a field
-word_legal : (kind : ℕ → Val) (bytes : List ℕ) (x : Val) → ((n : ℕ) → n < 2 ^ 64 → IsLegalValue (kind n)) → option_map kind (word_number bytes) ≡ Some x → IsLegalValue x
+word_legal : (kind : ℕ → FieldValue) (bytes : List ℕ) (x : FieldValue) → ((n : ℕ) → n < 2 ^ 64 → IsLegalValue (kind n)) → option_map kind (word_number bytes) ≡ Some x → IsLegalValue x
 word_legal kind bytes x fits e = let m = option_map_parts kind (word_number bytes) x e in subst IsLegalValue m.gives (fits m.value (number_within-bounds 0 (2 ^ 64) bytes m.value m.is).1)
 
-field_value-legal : (bytes : List ℕ) (x : Val) → field_value bytes ≡ Some x → IsLegalValue x
+field_value-legal : (bytes : List ℕ) (x : FieldValue) → field_value bytes ≡ Some x → IsLegalValue x
 unfolding field_value
 field_value-legal [] x e = absurd (none-some x e)
 field_value-legal (b ∷ bytes) x e =
     chosen IsLegalValue (eqb b 64) (option_map Ref (word_number bytes)) (option_map Num (word_number (b ∷ bytes))) x (word_legal Ref bytes x (λ n below. below)) (word_legal Num (b ∷ bytes) x (λ n below. below)) e
 
-value_taken : (next : Val → Parser) → ((x : Val) → IsLegalValue x → IsLegalParser (next x)) → IsLegalParser (taking field_value next)
+value_taken : (next : FieldValue → Parser) → ((x : FieldValue) → IsLegalValue x → IsLegalParser (next x)) → IsLegalParser (taking field_value next)
 value_taken next after = taken field_value IsLegalValue next field_value-legal after
 
 ended : (command : Command) → IsLegalCommand command → IsLegalParser (at_end command)

@@ -8,7 +8,7 @@ use Rattle.std.proofs.lemmas.List.{length-map}
 use Rattle.std.proofs.lemmas.Option.{none-some, same_Some, cond_some}
 use Rattle.pud_defs.specs.declared.space.TheConstants.{WORD_BYTES, SLOT_FIELDS_WORD}
 use Rattle.pud_defs.specs.declared.records.Puddle.{Puddle}
-use Rattle.pud_defs.specs.declared.objects.Val.{Val}
+use Rattle.pud_defs.specs.declared.objects.FieldValue.{FieldValue}
 use Rattle.pud_defs.specs.TypeMap.{is_pointer}
 use Rattle.pud_defs.specs.Geometry.{slots_of, slot_words_of, ordinal_of, slot_of, places_among}
 use Rattle.pud_defs.specs.Stored.{Stored, places_of, place_word}
@@ -61,7 +61,7 @@ module _ (s r : ℕ → ℕ) (test : ℕ → Bool) (same : (p : ℕ) → test p 
   values-same [] only = refl
   values-same (c ∷ cs) only =
       let parts = and_parts (names_only test c) (list_all (names_only test) cs) only in
-      ap₂ (λ (x : Val) (xs : List Val). x ∷ xs) (value_of-same c parts.0) (values-same cs parts.1)
+      ap₂ (λ (x : FieldValue) (xs : List FieldValue). x ∷ xs) (value_of-same c parts.0) (values-same cs parts.1)
 
 -- ---- a pointer of 0
 

@@ -5,8 +5,8 @@ use Rattle.std.specs.Fmt.{digits, digits_onto, digit_glyph}
 use Rattle.std.specs.List.{AllByRecursion}
 use Rattle.std.proofs.lemmas.Bool.{cond-true, lt-ltb}
 use Rattle.std.proofs.lemmas.List.Elements.{filter-append}
-use Rattle.pud_defs.specs.declared.objects.Val.{Val}
-use Rattle.pud_defs.specs.declared.objects.Val.TheVariants.{Num, Ref}
+use Rattle.pud_defs.specs.declared.objects.FieldValue.{FieldValue}
+use Rattle.pud_defs.specs.declared.objects.FieldValue.TheVariants.{Num, Ref}
 use Rattle.pud_defs.specs.Graph.{Object, Graph}
 use Rattle.pud_defs.specs.Texts.{in_one_line}
 use Rattle.pud_defs.specs.DumpText.{joined_behind, joined, pointer_text, field_text, object_text, dump_text}
@@ -58,7 +58,7 @@ pointer_in_line s = elim (eqb s 0) as (λ b. IsOneLine (cond b (codes "null") (c
   | false ↦ append_in_line (codes "\"@") (decimal s ++ codes "\"") refl (number_in_line s (codes "\"") refl)
 ]
 
-field_in_line : (v : Val) → IsOneLine (field_text v)
+field_in_line : (v : FieldValue) → IsOneLine (field_text v)
 field_in_line (Num v) = digits_in_line (decimal v) (decimal-digits v)
 field_in_line (Ref s) = pointer_in_line s
 

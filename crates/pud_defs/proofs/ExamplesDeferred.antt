@@ -1,7 +1,7 @@
 -- Lines on what comes at the commit, on roots, and on objects that are freed, each answered in turn.
 use Rattle.std.proofs.Common.{◌≡◌, ℕ, List, [], ◌∷◌, codes, Option, Some, None, refl}
-use Rattle.pud_defs.specs.declared.objects.Val.{Val}
-use Rattle.pud_defs.specs.declared.objects.Val.TheVariants.{Num, Ref}
+use Rattle.pud_defs.specs.declared.objects.FieldValue.{FieldValue}
+use Rattle.pud_defs.specs.declared.objects.FieldValue.TheVariants.{Num, Ref}
 use Rattle.pud_defs.specs.Graph.{Object, Graph, empty_graph}
 use Rattle.pud_defs.specs.DeferredValues.{DeferredValue}
 use Rattle.pud_defs.specs.World.{Transaction, World, no_clients, open_on}
@@ -21,7 +21,7 @@ used_on units g = world_with g (under_way 1 units g)
 abbrev begun_on : Graph → World
 begun_on g = used_on 0 g
 
-abbrev later : (s f : ℕ) → Val → DeferredValue
+abbrev later : (s f : ℕ) → FieldValue → DeferredValue
 later s f x = record { s = s; f = f; x = x }
 
 -- a transaction of client 0 that was begun once, has used so many units, sees this graph and has asked for this

@@ -1,6 +1,6 @@
 -- Small graphs with their texts.
 use Rattle.std.proofs.Common.{◌≡◌, [], ◌∷◌, codes, refl}
-use Rattle.pud_defs.specs.declared.objects.Val.TheVariants.{Num}
+use Rattle.pud_defs.specs.declared.objects.FieldValue.TheVariants.{Num}
 use Rattle.pud_defs.specs.Graph.{empty_graph}
 use Rattle.pud_defs.specs.DumpText.{dump_text}
 use Rattle.pud_defs.proofs.Opened.{opened}

@@ -1,7 +1,7 @@
 -- Lines that are commands, and lines that are not.
 use Rattle.std.proofs.Common.{◌≡◌, true, [], ◌∷◌, ◌++◌, replicate, codes, Some, None, refl}
 use Rattle.pud_defs.specs.declared.machine.Command.TheVariants.{Client, Leave, Define, Begin, Commit, Abort, New, Set, Later, Root, Free, Get, Rewrite, Cut, Arm}
-use Rattle.pud_defs.specs.declared.objects.Val.TheVariants.{Num, Ref}
+use Rattle.pud_defs.specs.declared.objects.FieldValue.TheVariants.{Num, Ref}
 use Rattle.pud_defs.specs.TypeMap.{map_word, is_legal_map}
 use Rattle.pud_defs.specs.Grammar.{number_of, command_of}
 use Rattle.pud_defs.proofs.Opened.{opened}

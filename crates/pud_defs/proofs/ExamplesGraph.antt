@@ -1,7 +1,7 @@
 -- Small pools as they are stored, with the graphs that they are read as, and pools that are none.
 use Rattle.std.proofs.Common.{◌≡◌, ℕ, ◌+◌, ◌^◌, ◌==◌, cond, true, false, List, [], ◌∷◌, Some, None, refl}
 use Rattle.pud_defs.specs.declared.space.TheConstants.{FRAME_MAGIC, FRAME_MAGIC_WORD, FRAME_NUMBER_WORD, FRAME_ORDINAL_WORD, NEXT_SERIAL_WORD, ROOT_WORD}
-use Rattle.pud_defs.specs.declared.objects.Val.TheVariants.{Num, Ref}
+use Rattle.pud_defs.specs.declared.objects.FieldValue.TheVariants.{Num, Ref}
 use Rattle.pud_defs.specs.Image.{Image, written}
 use Rattle.pud_defs.specs.TypeMap.{map_fields, is_pointer}
 use Rattle.pud_defs.specs.Bases.{base_at}

@@ -1,7 +1,7 @@
 -- Lines on transactions, each answered in turn, with what is said and the world behind them.
 use Rattle.std.proofs.Common.{◌≡◌, ℕ, ◌+◌, List, [], ◌∷◌, map, replicate, codes, Option, Some, None, refl}
 use Rattle.std.specs.List.{range_with_len}
-use Rattle.pud_defs.specs.declared.objects.Val.TheVariants.{Num, Ref}
+use Rattle.pud_defs.specs.declared.objects.FieldValue.TheVariants.{Num, Ref}
 use Rattle.pud_defs.specs.Spaces.{owner}
 use Rattle.pud_defs.specs.Graph.{Graph, empty_graph}
 use Rattle.pud_defs.specs.Holdings.Holding.{Sound}

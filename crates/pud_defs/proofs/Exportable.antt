@@ -12,7 +12,7 @@ use Rattle.std.proofs.lemmas.Option.{slice_get-map, slice_get-get_or}
 use Rattle.pud_defs.specs.declared.layout.TheConstants.{TYPE_RECORDS, NEXT_NUMBER_WORD}
 use Rattle.pud_defs.specs.declared.records.TheConstants.{POOL_RECORDS}
 use Rattle.pud_defs.specs.declared.records.Puddle.{Puddle}
-use Rattle.pud_defs.specs.declared.records.PoolRec.{PoolRec}
+use Rattle.pud_defs.specs.declared.records.PoolRecord.{PoolRecord}
 use Rattle.pud_defs.specs.Image.{Image}
 use Rattle.pud_defs.specs.Bases.{is_legal_base}
 use Rattle.pud_defs.specs.Spaces.{all_below}
@@ -96,7 +96,7 @@ module _ (next : ℕ) (t : Tables) (sound : HasSoundTables next t) (slot : ℕ) 
 
 -- ---- a pool
 
-pub exportable : (next : ℕ) (image : Image) (F slot : ℕ) (r : PoolRec) → are_legal_types (type_at image) ≡ true → HasSoundTables next (tables_of F image) → slot < POOL_RECORDS → (tables_of F image).pools slot ≡ Some r
+pub exportable : (next : ℕ) (image : Image) (F slot : ℕ) (r : PoolRecord) → are_legal_types (type_at image) ≡ true → HasSoundTables next (tables_of F image) → slot < POOL_RECORDS → (tables_of F image).pools slot ≡ Some r
     → IsExportable (types_of image) (stored_in F (puddles_in_turn (tables_of F image) slot) image)
 exportable next image F slot r legal sound below used =
     let t = tables_of F image in
@@ -115,7 +115,7 @@ exportable next image F slot r legal sound below used =
     }
 
 -- one of a sound registry
-pub exportable_of_registry : (size : ℕ) (image : Image) (F slot : ℕ) (r : PoolRec) → is_registry size image ≡ true → F ≡ frames_of image → slot < POOL_RECORDS → (tables_of F image).pools slot ≡ Some r
+pub exportable_of_registry : (size : ℕ) (image : Image) (F slot : ℕ) (r : PoolRecord) → is_registry size image ≡ true → F ≡ frames_of image → slot < POOL_RECORDS → (tables_of F image).pools slot ≡ Some r
     → IsExportable (types_of image) (stored_in F (puddles_in_turn (tables_of F image) slot) image)
 unfolding stored_by
 exportable_of_registry size image F slot r registry frames below used =

@@ -7,7 +7,7 @@ use Rattle.std.proofs.lemmas.List.{length-map}
 use Rattle.std.proofs.lemmas.Option.{none-some, same_Some}
 use Rattle.pud_defs.specs.declared.layout.TheConstants.{POOL_TABLE}
 use Rattle.pud_defs.specs.declared.records.TheConstants.{POOL_RECORDS, MAX_PUDDLES}
-use Rattle.pud_defs.specs.declared.records.PoolRec.{PoolRec}
+use Rattle.pud_defs.specs.declared.records.PoolRecord.{PoolRecord}
 use Rattle.pud_defs.specs.declared.records.Puddle.{Puddle}
 use Rattle.pud_defs.specs.Image.{Image}
 use Rattle.pud_defs.specs.Layout.{tables_end}
@@ -156,8 +156,8 @@ module _ (t : Tables) (frame n : ℕ) where
 
   -- ---- pools
 
-  module _ (hold now : Reader) (same : (slot : ℕ) (r : PoolRec) → slot < POOL_RECORDS → t.pools slot ≡ Some r → now (map there (listed (puddles_of t slot))) ≡ hold (listed (puddles_of t slot))) where
-    entry-moved : (slot : ℕ) (r : Option PoolRec) → slot < POOL_RECORDS → t.pools slot ≡ r → entry_of now (puddles_of after slot) r ≡ entry_of hold (puddles_of t slot) r
+  module _ (hold now : Reader) (same : (slot : ℕ) (r : PoolRecord) → slot < POOL_RECORDS → t.pools slot ≡ Some r → now (map there (listed (puddles_of t slot))) ≡ hold (listed (puddles_of t slot))) where
+    entry-moved : (slot : ℕ) (r : Option PoolRecord) → slot < POOL_RECORDS → t.pools slot ≡ r → entry_of now (puddles_of after slot) r ≡ entry_of hold (puddles_of t slot) r
     unfolding pool_of
     entry-moved slot None below used = refl
     entry-moved slot (Some r) below used =

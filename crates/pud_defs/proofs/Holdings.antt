@@ -6,7 +6,7 @@ use Rattle.std.proofs.lemmas.Bool.{cases_lt, cond-false, le-ltb}
 use Rattle.std.proofs.lemmas.Option.{cond_some, none-some}
 use Rattle.pud_defs.specs.declared.layout.TheConstants.{FRAME_WORDS}
 use Rattle.pud_defs.specs.declared.records.TheConstants.{POOL_RECORDS}
-use Rattle.pud_defs.specs.declared.records.PoolRec.{PoolRec}
+use Rattle.pud_defs.specs.declared.records.PoolRecord.{PoolRecord}
 use Rattle.pud_defs.specs.declared.records.Puddle.{Puddle}
 use Rattle.pud_defs.specs.Image.{Image}
 use Rattle.pud_defs.specs.Layout.{frames_at, device_words}
@@ -80,10 +80,10 @@ stored_in-same F i j at same = λ p. record { puddles = map (λ e. e.1) at; word
 
 -- ---- pools that hold the same
 
-abbrev pool_entry : Reader → List (ℕ × (ℕ × Puddle)) → Option PoolRec → Option (List ℕ × Pool)
+abbrev pool_entry : Reader → List (ℕ × (ℕ × Puddle)) → Option PoolRecord → Option (List ℕ × Pool)
 pool_entry hold puddles r = option_map (λ r. (r.name, pool_of hold r puddles)) r
 
-entry_same : (hold other : Reader) (puddles : List (ℕ × (ℕ × Puddle))) (r : Option PoolRec) → (is_some r ≡ true → hold (listed puddles) ≡ other (listed puddles)) → pool_entry hold puddles r ≡ pool_entry other puddles r
+entry_same : (hold other : Reader) (puddles : List (ℕ × (ℕ × Puddle))) (r : Option PoolRecord) → (is_some r ≡ true → hold (listed puddles) ≡ other (listed puddles)) → pool_entry hold puddles r ≡ pool_entry other puddles r
 unfolding pool_of
 entry_same hold other puddles None same = refl
 entry_same hold other puddles (Some r) same = ap (λ (h : Holding). Some (r.name, record { owner = owner r.uid r.gid; mode = r.mode; number = r.number; puddles = length puddles; holding = h })) (same refl)
@@ -111,7 +111,7 @@ pools_in-same types F i j tables same =
 
 -- ---- one type more
 
-read_entry : (types : List (ℕ × ℕ)) (hold : Reader) (puddles : List (ℕ × (ℕ × Puddle))) (r : Option PoolRec)
+read_entry : (types : List (ℕ × ℕ)) (hold : Reader) (puddles : List (ℕ × (ℕ × Puddle))) (r : Option PoolRecord)
     → pool_entry (λ at. read_anew types (hold at)) puddles r ≡ option_map (of_entry name_cmp (read_by types)) (pool_entry hold puddles r)
 unfolding pool_of
 read_entry types hold puddles None = refl

@@ -7,7 +7,7 @@ use Rattle.std.proofs.lemmas.Option.{none-some, same_Some}
 use Rattle.pud_defs.specs.declared.machine.Reply.TheVariants as replies
 use Rattle.pud_defs.specs.declared.layout.TheConstants.{MAX_OWNER_ID}
 use Rattle.pud_defs.specs.declared.records.TheConstants.{POOL_RECORDS}
-use Rattle.pud_defs.specs.declared.records.PoolRec.{PoolRec}
+use Rattle.pud_defs.specs.declared.records.PoolRecord.{PoolRecord}
 use Rattle.pud_defs.specs.Names.{name_cmp, is_name_byte, is_filled, is_legal_name}
 use Rattle.pud_defs.specs.Identifiers.{puddle_uuid, hex_digit, hex_digits, hyphen, uuid_text}
 use Rattle.pud_defs.specs.Modes.{is_legal_mode}
@@ -135,7 +135,7 @@ of_pools : (id : ℕ) (pools : List (List ℕ × Pool)) → AllByRecursion HasPl
 of_pools id [] names = nothing
 of_pools id (e ∷ pools) names = joined (pool_text id e) _ (of_pool id e names.0) (of_pools id pools names.1)
 
-plain_name : (hold : Reader) (next : ℕ) (t : Tables) (slot : ℕ) (o : Option PoolRec) → is_sound_pool next o ≡ true → (e : List ℕ × Pool) → entry_of hold (puddles_of t slot) o ≡ Some e → HasPlainName e
+plain_name : (hold : Reader) (next : ℕ) (t : Tables) (slot : ℕ) (o : Option PoolRecord) → is_sound_pool next o ≡ true → (e : List ℕ × Pool) → entry_of hold (puddles_of t slot) o ≡ Some e → HasPlainName e
 plain_name hold next t slot None sound e is = absurd (none-some e is)
 plain_name hold next t slot (Some r) sound e is =
     let four = and_parts (is_legal_name r.name && leb r.uid MAX_OWNER_ID && leb r.gid MAX_OWNER_ID && is_legal_mode r.mode) (is_given next r.number) sound in

@@ -7,7 +7,7 @@ use Rattle.std.specs.Cmp.Lexicographic.{nat_list_cmp_total}
 use Rattle.std.proofs.lemmas.Bool.{lt-leb, le-ltb}
 use Rattle.std.proofs.lemmas.Option.{none-some, cond_some}
 use Rattle.pud_defs.specs.declared.records.TheConstants.{POOL_RECORDS}
-use Rattle.pud_defs.specs.declared.records.PoolRec.{PoolRec}
+use Rattle.pud_defs.specs.declared.records.PoolRecord.{PoolRecord}
 use Rattle.pud_defs.specs.declared.machine.Command.TheVariants.{Chmod, Import}
 use Rattle.pud_defs.specs.declared.machine.Command.TheVariants as commands
 use Rattle.pud_defs.specs.declared.machine.Refusal.{Refusal}
@@ -85,10 +85,10 @@ refusal_of-import w client mode name file bytes contents there is =
 -- ---- what the tables tell
 
 -- the pool of a record with its slot
-abbrev pub pool_by_record : Reader → Tables → ℕ × PoolRec → Pool
+abbrev pub pool_by_record : Reader → Tables → ℕ × PoolRecord → Pool
 pool_by_record hold t p = pool_of hold p.1 (puddles_of t p.0)
 
-entry_by_record : (hold : Reader) (t : Tables) (slot : ℕ) (r : Option PoolRec) → option_map (λ r. (r.name, pool_of hold r (puddles_of t slot))) r ≡ option_map (of_entry name_cmp (pool_by_record hold t)) (option_map (λ r. (r.name, (slot, r))) r)
+entry_by_record : (hold : Reader) (t : Tables) (slot : ℕ) (r : Option PoolRecord) → option_map (λ r. (r.name, pool_of hold r (puddles_of t slot))) r ≡ option_map (of_entry name_cmp (pool_by_record hold t)) (option_map (λ r. (r.name, (slot, r))) r)
 entry_by_record hold t slot None = refl
 entry_by_record hold t slot (Some r) = refl
 
@@ -140,24 +140,24 @@ module _ (hold : Reader) (next : ℕ) (t : Tables) (sound : HasSoundTables next 
 -- ---- a record that is found
 
 -- it stands in its slot, under its name
-pub record IsFoundAt (t : Tables) (name : List ℕ) (slot : ℕ) (r : PoolRec) : Type 0 where
+pub record IsFoundAt (t : Tables) (name : List ℕ) (slot : ℕ) (r : PoolRecord) : Type 0 where
   pub below : slot < POOL_RECORDS
   pub used : t.pools slot ≡ Some r
   pub name_is : r.name ≡ name
 
-under_name : (t : Tables) (name : List ℕ) (i slot : ℕ) (r : PoolRec) (o : Option PoolRec) → i < POOL_RECORDS → t.pools i ≡ o → under {X = ℕ × PoolRec} name_cmp name (option_map (λ r. (r.name, (i, r))) o) ≡ Some (slot, r) → IsFoundAt t name slot r
+under_name : (t : Tables) (name : List ℕ) (i slot : ℕ) (r : PoolRecord) (o : Option PoolRecord) → i < POOL_RECORDS → t.pools i ≡ o → under {X = ℕ × PoolRecord} name_cmp name (option_map (λ r. (r.name, (i, r))) o) ≡ Some (slot, r) → IsFoundAt t name slot r
 under_name t name i slot r None below there is = absurd (none-some (slot, r) is)
 under_name t name i slot r (Some x) below there is =
     let parts = cond_some (eq_by_cmp name_cmp name x.name) (i, x) (slot, r) is in
-    let place : i ≡ slot = ap (λ (p : ℕ × PoolRec). p.0) parts.1 in
-    let same : x ≡ r = ap (λ (p : ℕ × PoolRec). p.1) parts.1 in
+    let place : i ≡ slot = ap (λ (p : ℕ × PoolRecord). p.0) parts.1 in
+    let same : x ≡ r = ap (λ (p : ℕ × PoolRecord). p.1) parts.1 in
     record {
       below = subst (λ (n : ℕ). n < POOL_RECORDS) place below;
       used = ap t.pools (sym place) ∙ there ∙ ap Some same;
-      name_is = ap (λ (y : PoolRec). y.name) (sym same) ∙ sym (same_name name x.name ((Equal-is (name_cmp name x.name)).0 parts.0));
+      name_is = ap (λ (y : PoolRecord). y.name) (sym same) ∙ sym (same_name name x.name ((Equal-is (name_cmp name x.name)).0 parts.0));
     }
 
-pub found_record : (t : Tables) (name : List ℕ) (slot : ℕ) (r : PoolRec) → find name_cmp name (records_of t) ≡ Some (slot, r) → IsFoundAt t name slot r
+pub found_record : (t : Tables) (name : List ℕ) (slot : ℕ) (r : PoolRecord) → find name_cmp name (records_of t) ≡ Some (slot, r) → IsFoundAt t name slot r
 unfolding records_of
 found_record t name slot r is =
     let first = first_from_some name_cmp name (named t) 0 POOL_RECORDS (slot, r) (sym (find-keyed name_cmp nat_list_cmp_total name (named t) 0 POOL_RECORDS) ∙ is) in

@@ -9,9 +9,9 @@ use Rattle.std.specs.declared.cmp.Ordering.TheVariants.{Equal}
 use Rattle.std.proofs.lemmas.Cmp.{nat_cmp_total}
 use Rattle.std.proofs.lemmas.Bool.{cases_eq, cond-true, cond-false}
 use Rattle.pud_defs.specs.declared.records.TheConstants.{POOL_RECORDS}
-use Rattle.pud_defs.specs.declared.records.PoolRec.{PoolRec}
+use Rattle.pud_defs.specs.declared.records.PoolRecord.{PoolRecord}
 use Rattle.pud_defs.specs.declared.records.Puddle.{Puddle}
-use Rattle.pud_defs.specs.declared.records.PuddleRec.{PuddleRec}
+use Rattle.pud_defs.specs.declared.records.PuddleRecord.{PuddleRecord}
 use Rattle.pud_defs.specs.Image.{Image}
 use Rattle.pud_defs.specs.Names.{name_cmp}
 use Rattle.pud_defs.specs.Keyed.{under, keyed, first_from, without}
@@ -35,11 +35,11 @@ changed_elsewhere i now at j other = cond-false (eqb j i) now (at j) (ne_eqb j i
 pub same_name : (x y : List ℕ) → name_cmp x y ≡ Equal → x ≡ y
 same_name x y e = slice_cmp-IsAntisymmetric nat_cmp-IsAntisymmetric x y e
 
-abbrev pub entry_of : Reader → List (ℕ × (ℕ × Puddle)) → Option PoolRec → Option (List ℕ × Pool)
+abbrev pub entry_of : Reader → List (ℕ × (ℕ × Puddle)) → Option PoolRecord → Option (List ℕ × Pool)
 entry_of hold puddles r = option_map (λ r. (r.name, pool_of hold r puddles)) r
 
-entry_key : (hold : Reader) (slot : ℕ) (puddles : List (ℕ × (ℕ × Puddle))) (r : Option PoolRec)
-    → option_map (λ (p : List ℕ × (ℕ × PoolRec)). p.0) (option_map (λ r. (r.name, (slot, r))) r) ≡ option_map (λ (p : List ℕ × Pool). p.0) (entry_of hold puddles r)
+entry_key : (hold : Reader) (slot : ℕ) (puddles : List (ℕ × (ℕ × Puddle))) (r : Option PoolRecord)
+    → option_map (λ (p : List ℕ × (ℕ × PoolRecord)). p.0) (option_map (λ r. (r.name, (slot, r))) r) ≡ option_map (λ (p : List ℕ × Pool). p.0) (entry_of hold puddles r)
 entry_key hold slot puddles None = refl
 entry_key hold slot puddles (Some r) = refl
 
@@ -52,11 +52,11 @@ itself_free_for name e p is = ap (is_free_for name_cmp name) is ∙ ap is_eq (ti
 
 -- ---- a mode
 
-pub puddles_of-pool : (t : Tables) (slot : ℕ) (now : Option PoolRec) (s : ℕ) → puddles_of (with_pool_at slot now t) s ≡ puddles_of t s
+pub puddles_of-pool : (t : Tables) (slot : ℕ) (now : Option PoolRecord) (s : ℕ) → puddles_of (with_pool_at slot now t) s ≡ puddles_of t s
 unfolding puddles_of
 puddles_of-pool t slot now s = refl
 
-module _ (t : Tables) (slot : ℕ) (r : PoolRec) (distinct : HasDistinctKeys name_cmp (named t) 0 POOL_RECORDS) (within : slot < POOL_RECORDS) (used : t.pools slot ≡ Some r) where
+module _ (t : Tables) (slot : ℕ) (r : PoolRecord) (distinct : HasDistinctKeys name_cmp (named t) 0 POOL_RECORDS) (within : slot < POOL_RECORDS) (used : t.pools slot ≡ Some r) where
   entry_there : (hold : Reader) → entries hold t slot ≡ Some (r.name, pool_of hold r (puddles_of t slot))
   entry_there hold = ap (entry_of hold (puddles_of t slot)) used
 
@@ -65,7 +65,7 @@ module _ (t : Tables) (slot : ℕ) (r : PoolRec) (distinct : HasDistinctKeys nam
   name_alone hold = alone_there name_cmp nat_list_cmp_total (entries hold t) 0 POOL_RECORDS slot (r.name, pool_of hold r (puddles_of t slot)) (distinct_entries hold t distinct) (omega arith) (omega arith) (entry_there hold)
 
   -- the record is changed, but for its name
-  pub pools_changed : (hold : Reader) (now : PoolRec) → now.name ≡ r.name → pools_of hold (with_pool_at slot (Some now) t) ≡ put name_cmp r.name (pool_of hold now (puddles_of t slot)) (pools_of hold t)
+  pub pools_changed : (hold : Reader) (now : PoolRecord) → now.name ≡ r.name → pools_of hold (with_pool_at slot (Some now) t) ≡ put name_cmp r.name (pool_of hold now (puddles_of t slot)) (pools_of hold t)
   unfolding pools_of
   pools_changed hold now name =
       let after = with_pool_at slot (Some now) t in
@@ -111,7 +111,7 @@ module _ (t : Tables) (slot : ℕ) (r : PoolRec) (distinct : HasDistinctKeys nam
 -- ---- a pool is made
 
 -- the record of a free slot and that of a free frame are filled, for a pool of a name that is not there
-pub record IsMade (t : Tables) (slot frame : ℕ) (r : PoolRec) (m : Member) : Type 0 where
+pub record IsMade (t : Tables) (slot frame : ℕ) (r : PoolRecord) (m : Member) : Type 0 where
   pub slot_below : slot < POOL_RECORDS
   pub slot_free : t.pools slot ≡ None
   pub frame_below : frame < t.frames
@@ -120,10 +120,10 @@ pub record IsMade (t : Tables) (slot frame : ℕ) (r : PoolRec) (m : Member) : T
   pub none : (f : ℕ) → f < t.frames → is_of_pool slot (t.puddles f) ≡ false
   pub new_name : first_from name_cmp r.name (named t) 0 POOL_RECORDS ≡ None
 
-abbrev pub made : (slot frame : ℕ) → PoolRec → Member → Tables → Tables
+abbrev pub made : (slot frame : ℕ) → PoolRecord → Member → Tables → Tables
 made slot frame r m t = with_puddle_at frame (Some m) (with_pool_at slot (Some r) t)
 
-module _ (t : Tables) (slot frame : ℕ) (r : PoolRec) (m : Member) (h : IsMade t slot frame r m) where
+module _ (t : Tables) (slot frame : ℕ) (r : PoolRecord) (m : Member) (h : IsMade t slot frame r m) where
   -- a pool beside it has the same puddles
   pub new_elsewhere : (s : ℕ) → (s ≡ slot → ⊥) → (f : ℕ) → members (made slot frame r m t) s f ≡ members t s f
   new_elsewhere s other f = elim (cases_eq f frame) [
@@ -177,7 +177,7 @@ module _ (t : Tables) (slot frame : ℕ) (r : PoolRec) (m : Member) (h : IsMade 
       })
 
 -- the words of both records make it of an image
-pub tables_of-made : (F : ℕ) (image : Image) (slot frame : ℕ) (r : PoolRec) (p : PuddleRec) → slot < POOL_RECORDS → IsEncodable r → frame < F → p.pool + 1 < 2 ^ 32
+pub tables_of-made : (F : ℕ) (image : Image) (slot frame : ℕ) (r : PoolRecord) (p : PuddleRecord) → slot < POOL_RECORDS → IsEncodable r → frame < F → p.pool + 1 < 2 ^ 32
     → tables_of F (with_put (puddle_put frame p) (with_put (pool_put slot r) image)) ≡ made slot frame r (member_by p) (tables_of F image)
 tables_of-made F image slot frame r p slot_below held frame_below fits =
     puddle_put_made F (with_put (pool_put slot r) image) frame p frame_below fits ∙ ap (with_puddle_at frame (Some (member_by p))) (pool_put_made F image slot slot_below r held)

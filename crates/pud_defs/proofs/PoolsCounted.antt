@@ -11,7 +11,7 @@ use Rattle.std.proofs.lemmas.Bool.{cases_eq, cases_lt, cond-true, cond-false, an
 use Rattle.std.proofs.lemmas.Option.{none-some, same_Some}
 use Rattle.std.proofs.lemmas.List.Sums.{sum_by-cons}
 use Rattle.pud_defs.specs.declared.records.TheConstants.{POOL_RECORDS, MAX_PUDDLES}
-use Rattle.pud_defs.specs.declared.records.PoolRec.{PoolRec}
+use Rattle.pud_defs.specs.declared.records.PoolRecord.{PoolRecord}
 use Rattle.pud_defs.specs.declared.records.Puddle.{Puddle}
 use Rattle.pud_defs.specs.Names.{name_cmp}
 use Rattle.pud_defs.specs.Keyed.{put_entry, keyed, count_used}
@@ -101,7 +101,7 @@ count_used-same f g from (suc count) same =
 
 -- ---- the pools
 
-entry_used : (hold : Reader) (puddles : List (ℕ × (ℕ × Puddle))) (r : Option PoolRec) → is_none (entry_of hold puddles r) ≡ is_none r
+entry_used : (hold : Reader) (puddles : List (ℕ × (ℕ × Puddle))) (r : Option PoolRecord) → is_none (entry_of hold puddles r) ≡ is_none r
 entry_used hold puddles None = refl
 entry_used hold puddles (Some r) = refl
 
@@ -122,7 +122,7 @@ or_right : (a b : Bool) → (a || b) ≡ true → a ≡ false → b ≡ true
 or_right true b h e = absurd (true≢false e)
 or_right false b h e = h
 
-pub few_members : (next : ℕ) (t : Tables) → HasSoundTables next t → (slot : ℕ) (r : PoolRec) → slot < POOL_RECORDS → t.pools slot ≡ Some r → HasFewPuddles t slot
+pub few_members : (next : ℕ) (t : Tables) → HasSoundTables next t → (slot : ℕ) (r : PoolRecord) → slot < POOL_RECORDS → t.pools slot ≡ Some r → HasFewPuddles t slot
 few_members next t h slot r below used =
     let counted = or_right (is_none (t.pools slot)) (are_counted (puddles_of t slot)) (counted_puddles next t h slot below) (ap is_none used) in
     let parts = and_parts (leb 1 (length (puddles_of t slot)) && leb (length (puddles_of t slot)) MAX_PUDDLES) _ counted in
@@ -214,7 +214,7 @@ module _ (next : ℕ) (t : Tables) (h : HasSoundTables next t) where
   unfolding puddles_of
   length_puddles slot below = length-keyed nat_cmp nat_cmp_total (members t slot) 0 t.frames (distinct_ordinals next t h slot below)
 
-  worth_of : (hold : Reader) (slot : ℕ) → slot < POOL_RECORDS → (o : Option PoolRec) → t.pools slot ≡ o → worth name_cmp (λ (e : List ℕ × Pool). e.1.puddles) (entry_of hold (puddles_of t slot) o) ≡ count_used (members t slot) 0 t.frames
+  worth_of : (hold : Reader) (slot : ℕ) → slot < POOL_RECORDS → (o : Option PoolRecord) → t.pools slot ≡ o → worth name_cmp (λ (e : List ℕ × Pool). e.1.puddles) (entry_of hold (puddles_of t slot) o) ≡ count_used (members t slot) 0 t.frames
   unfolding pool_of
   worth_of hold slot below None is = sym (count_used-none (members t slot) 0 t.frames (λ f low high. no_member slot f (omega arith) is))
   worth_of hold slot below (Some r) is = length_puddles slot below

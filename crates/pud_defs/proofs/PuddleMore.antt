@@ -11,7 +11,7 @@ use Rattle.std.proofs.lemmas.Cmp.{nat_cmp_total}
 use Rattle.std.proofs.lemmas.Bool.{cases_eq, cond-true, cond-false, and_parts, and_from, lt-ltb, le-leb}
 use Rattle.std.proofs.lemmas.List.{length_push}
 use Rattle.pud_defs.specs.declared.records.TheConstants.{POOL_RECORDS, MAX_PUDDLES}
-use Rattle.pud_defs.specs.declared.records.PoolRec.{PoolRec}
+use Rattle.pud_defs.specs.declared.records.PoolRecord.{PoolRecord}
 use Rattle.pud_defs.specs.declared.records.Puddle.{Puddle}
 use Rattle.pud_defs.specs.Names.{name_cmp}
 use Rattle.pud_defs.specs.Keyed.{under, keyed}
@@ -60,7 +60,7 @@ module _ {X : Type 0} where
 
 -- The record of a free frame is filled for the next puddle of a used pool: it is legal where later numbers were given out, and no puddle has
 -- its bases.
-pub record IsNextPuddle (later : ℕ) (t : Tables) (slot frame : ℕ) (r : PoolRec) (m : Member) : Type 0 where
+pub record IsNextPuddle (later : ℕ) (t : Tables) (slot frame : ℕ) (r : PoolRecord) (m : Member) : Type 0 where
   pub within : slot < POOL_RECORDS
   pub used : t.pools slot ≡ Some r
   pub frame_below : frame < t.frames
@@ -72,7 +72,7 @@ pub record IsNextPuddle (later : ℕ) (t : Tables) (slot frame : ℕ) (r : PoolR
   pub new_base : (f : ℕ) → f < t.frames → under nat_cmp m.puddle.base (bases t f) ≡ None
   pub new_old_base : (f : ℕ) → f < t.frames → under nat_cmp m.puddle.old_base (old_bases t slot f) ≡ None
 
-module _ (next later : ℕ) (more : next ≤ later) (t : Tables) (slot frame : ℕ) (r : PoolRec) (m : Member) (sound : HasSoundTables next t) (h : IsNextPuddle later t slot frame r m) where
+module _ (next later : ℕ) (more : next ≤ later) (t : Tables) (slot frame : ℕ) (r : PoolRecord) (m : Member) (sound : HasSoundTables next t) (h : IsNextPuddle later t slot frame r m) where
   abbrev after : Tables
   after = with_puddle_at frame (Some m) t
 
@@ -206,7 +206,7 @@ module _ (next later : ℕ) (more : next ≤ later) (t : Tables) (slot frame : �
   counted_more : (s : ℕ) → s < POOL_RECORDS → (is_none (t.pools s) || are_counted (puddles_of after s)) ≡ true
   counted_more s below = elim (cases_eq s slot) [
     | inl e ↦
-        ap (λ (x : Option PoolRec). is_none x || are_counted (puddles_of after s)) (ap t.pools e ∙ h.used)
+        ap (λ (x : Option PoolRecord). is_none x || are_counted (puddles_of after s)) (ap t.pools e ∙ h.used)
         ∙ ap are_counted (ap (puddles_of after) e ∙ puddles_of-more) ∙ all_counted
     | inr other ↦ ap (λ ps. is_none (t.pools s) || are_counted ps) (puddles_elsewhere s other) ∙ counted_puddles next t sound s below
   ]

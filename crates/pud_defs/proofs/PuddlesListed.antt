@@ -7,7 +7,7 @@ use Rattle.std.proofs.lemmas.Cmp.{nat_cmp_total}
 use Rattle.std.proofs.lemmas.List.Elements.{All-nil, All-cons}
 use Rattle.std.proofs.lemmas.Option.{none-some}
 use Rattle.pud_defs.specs.declared.records.TheConstants.{POOL_RECORDS, MAX_PUDDLES}
-use Rattle.pud_defs.specs.declared.records.PoolRec.{PoolRec}
+use Rattle.pud_defs.specs.declared.records.PoolRecord.{PoolRecord}
 use Rattle.pud_defs.specs.declared.records.Puddle.{Puddle}
 use Rattle.pud_defs.specs.Keyed.{under}
 use Rattle.pud_defs.specs.Puddles.{Member}
@@ -85,7 +85,7 @@ module _ {X : Type 0} where
 
 -- ---- the puddles of a pool
 
-pub puddles_in_turn-listed : (next : ℕ) (t : Tables) (slot : ℕ) (r : PoolRec) → HasSoundTables next t → slot < POOL_RECORDS → t.pools slot ≡ Some r → puddles_in_turn t slot ≡ listed (puddles_of t slot)
+pub puddles_in_turn-listed : (next : ℕ) (t : Tables) (slot : ℕ) (r : PoolRecord) → HasSoundTables next t → slot < POOL_RECORDS → t.pools slot ≡ Some r → puddles_in_turn t slot ≡ listed (puddles_of t slot)
 puddles_in_turn-listed next t slot r sound below used =
     let few = few_members next t sound slot r below used in
     in_turn-listed (puddles_of t slot) 0 MAX_PUDDLES few.ordinals few.few

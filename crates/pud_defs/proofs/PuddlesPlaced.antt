@@ -14,7 +14,7 @@ use Rattle.std.proofs.lemmas.Bool.{cases_eq, cond-true, and_parts}
 use Rattle.std.proofs.lemmas.List.{length_push}
 use Rattle.std.proofs.lemmas.Cmp.{nat_cmp_total}
 use Rattle.pud_defs.specs.declared.records.TheConstants.{POOL_RECORDS, MAX_PUDDLES}
-use Rattle.pud_defs.specs.declared.records.PoolRec.{PoolRec}
+use Rattle.pud_defs.specs.declared.records.PoolRecord.{PoolRecord}
 use Rattle.pud_defs.specs.declared.records.Puddle.{Puddle}
 use Rattle.pud_defs.specs.Names.{name_cmp}
 use Rattle.pud_defs.specs.ExportFile.{under_base, are_file_bases}
@@ -159,7 +159,7 @@ file_bases_distinct puddles is =
     }
 
 -- So many puddles of a new pool stand: these, the first ones for the bases of a file; each stands before this frame, and their bases are those taken.
-pub record IsPlacing (later : ℕ) (t : Tables) (slot : ℕ) (r : PoolRec) (all : List ℕ) (ordinal frame : ℕ) (taken : List ℕ) (done : List (ℕ × (ℕ × Puddle))) (now : Tables) : Type 0 where
+pub record IsPlacing (later : ℕ) (t : Tables) (slot : ℕ) (r : PoolRecord) (all : List ℕ) (ordinal frame : ℕ) (taken : List ℕ) (done : List (ℕ × (ℕ × Puddle))) (now : Tables) : Type 0 where
   pub sound : HasSoundTables later now
   pub used : now.pools slot ≡ Some r
   pub frames : now.frames ≡ t.frames
@@ -184,7 +184,7 @@ pub record IsPlacedNext (later : ℕ) (all : List ℕ) (ordinal : ℕ) (e : ℕ 
 
 -- ---- one more
 
-module _ (later : ℕ) (t : Tables) (slot : ℕ) (r : PoolRec) (all : List ℕ) (distinct : AreDistinctBases all) (within : slot < POOL_RECORDS) where
+module _ (later : ℕ) (t : Tables) (slot : ℕ) (r : PoolRecord) (all : List ℕ) (distinct : AreDistinctBases all) (within : slot < POOL_RECORDS) where
   module _ (o frame : ℕ) (taken : List ℕ) (done : List (ℕ × (ℕ × Puddle))) (now : Tables) (h : IsPlacing later t slot r all o frame taken done now)
       (e : ℕ × Puddle) (free : first_free t.puddles frame (t.frames - frame) ≡ Some e.0) (base : IsNoBase t taken e.1.base) (next : IsPlacedNext later all o e) where
     abbrev m : Member
@@ -281,7 +281,7 @@ module _ (later : ℕ) (t : Tables) (slot : ℕ) (r : PoolRec) (all : List ℕ) 
 
 -- ---- from the first one on
 
-module _ (next later : ℕ) (more : next ≤ later) (t : Tables) (slot : ℕ) (r : PoolRec) (all : List ℕ) (e : ℕ × Puddle) (sound : HasSoundTables next t)
+module _ (next later : ℕ) (more : next ≤ later) (t : Tables) (slot : ℕ) (r : PoolRecord) (all : List ℕ) (e : ℕ × Puddle) (sound : HasSoundTables next t)
     (is_made : IsMade t slot e.0 r (member_for slot 0 e.1)) (is_added : IsAdded later t r (member_for slot 0 e.1)) (wanted : e.1.old_base ≡ get_or all 0 0) where
   abbrev first_member : Member
   first_member = member_for slot 0 e.1
@@ -319,7 +319,7 @@ module _ (next later : ℕ) (more : next ≤ later) (t : Tables) (slot : ℕ) (r
   }
 
 -- a pool that comes in a free slot, under a name that is not there
-pub record IsNewPool (later : ℕ) (t : Tables) (slot : ℕ) (r : PoolRec) : Type 0 where
+pub record IsNewPool (later : ℕ) (t : Tables) (slot : ℕ) (r : PoolRecord) : Type 0 where
   pub slot_below : slot < POOL_RECORDS
   pub slot_free : t.pools slot ≡ None
   pub none : (f : ℕ) → f < t.frames → is_of_pool slot (t.puddles f) ≡ false
@@ -327,7 +327,7 @@ pub record IsNewPool (later : ℕ) (t : Tables) (slot : ℕ) (r : PoolRec) : Typ
   pub legal : is_legal_pool later r ≡ true
 
 -- it stands with all of its puddles
-pub all_placed : (next later : ℕ) → next ≤ later → (t : Tables) (slot : ℕ) (r : PoolRec) (all : List ℕ) (distinct : AreDistinctBases all) (within : slot < POOL_RECORDS) → HasSoundTables next t → IsNewPool later t slot r
+pub all_placed : (next later : ℕ) → next ≤ later → (t : Tables) (slot : ℕ) (r : PoolRecord) (all : List ℕ) (distinct : AreDistinctBases all) (within : slot < POOL_RECORDS) → HasSoundTables next t → IsNewPool later t slot r
     → (wanted : List ℕ) (at : List (ℕ × Puddle)) → 1 ≤ length at → ArePlacedFrom t 0 [] wanted at → ArePlacedNext later t slot r all distinct within 0 at
     → HasPlaced later t slot r all distinct within (counted 0 at) (with_puddles_at slot 0 at (with_pool_at slot (Some r) t))
 all_placed next later more t slot r all distinct within sound new wanted [] some placed each = absurd (omega arith)

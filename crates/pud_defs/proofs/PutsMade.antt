@@ -6,8 +6,8 @@ use Rattle.std.proofs.lemmas.List.{get_or-take, get_or-drop, take-append-drop, l
 use Rattle.std.proofs.lemmas.Nat.{le_bytes_8}
 use Rattle.std.proofs.Math.ListN.{get_or-eq_default}
 use Rattle.pud_defs.specs.declared.records.TheConstants.{POOL_RECORDS}
-use Rattle.pud_defs.specs.declared.records.PoolRec.{PoolRec}
-use Rattle.pud_defs.specs.declared.records.PuddleRec.{PuddleRec}
+use Rattle.pud_defs.specs.declared.records.PoolRecord.{PoolRecord}
+use Rattle.pud_defs.specs.declared.records.PuddleRecord.{PuddleRecord}
 use Rattle.pud_defs.specs.declared.records.Put.{Put}
 use Rattle.pud_defs.specs.Image.{Image}
 use Rattle.pud_defs.specs.Names.{IsName, name_by, is_legal_name}
@@ -84,10 +84,10 @@ gid_of : (uid gid : ℕ) → uid < 2 ^ 32 → owner_gid (owner_word uid gid) ≡
 gid_of uid gid h = omega arith
 
 -- the record of five words
-abbrev record_by : (name : List ℕ) (uid gid mode number : ℕ) → PoolRec
+abbrev record_by : (name : List ℕ) (uid gid mode number : ℕ) → PoolRecord
 record_by name uid gid mode number = record { name = name; uid = uid; gid = gid; mode = mode; number = number }
 
-pool_by-words : (r : PoolRec) → IsEncodable r → pool_by (name_word r.name) (next_name_word r.name) (owner_word r.uid r.gid) r.mode r.number ≡ Some r
+pool_by-words : (r : PoolRecord) → IsEncodable r → pool_by (name_word r.name) (next_name_word r.name) (owner_word r.uid r.gid) r.mode r.number ≡ Some r
 unfolding pool_by
 pool_by-words r h =
     let owner = owner_word r.uid r.gid in
@@ -119,7 +119,7 @@ module _ (F : ℕ) (image : Image) (slot : ℕ) (within : slot < POOL_RECORDS) w
       (λ k l h. with_put-outside put image k (λ from to. omega arith))
 
   -- the words of a record put it into the slot
-  pub pool_put_made : (r : PoolRec) → IsEncodable r → tables_of F (with_put (pool_put slot r) image) ≡ with_pool_at slot (Some r) (tables_of F image)
+  pub pool_put_made : (r : PoolRecord) → IsEncodable r → tables_of F (with_put (pool_put slot r) image) ≡ with_pool_at slot (Some r) (tables_of F image)
   pool_put_made r h =
       let put = pool_put slot r in
       in_record put (omega arith) (omega arith)
@@ -160,10 +160,10 @@ module _ (F : ℕ) (image : Image) (slot : ℕ) (within : slot < POOL_RECORDS) w
 member_used : (pool ordinal : ℕ) → pool < 2 ^ 32 → 0 < pool → member_word pool ordinal ≡ 0 → ⊥
 member_used pool ordinal fits above none = omega arith
 
-abbrev member_with : (pool ordinal : ℕ) → PuddleRec → Member
+abbrev member_with : (pool ordinal : ℕ) → PuddleRecord → Member
 member_with pool ordinal r = record { pool = pool; ordinal = ordinal; puddle = record { number = r.number; base = r.base; old_base = r.old_base; frontier = r.frontier } }
 
-puddle_by-words : (r : PuddleRec) → r.pool + 1 < 2 ^ 32 → puddle_by (member_word (r.pool + 1) r.ordinal) r.number r.base r.old_base r.frontier ≡ Some (member_by r)
+puddle_by-words : (r : PuddleRecord) → r.pool + 1 < 2 ^ 32 → puddle_by (member_word (r.pool + 1) r.ordinal) r.number r.base r.old_base r.frontier ≡ Some (member_by r)
 unfolding puddle_by
 puddle_by-words r fits =
     let pool : member_pool (member_word (r.pool + 1) r.ordinal) ≡ r.pool + 1 = omega arith in
@@ -187,7 +187,7 @@ module _ (F : ℕ) (image : Image) (frame : ℕ) where
       (λ k l h not. with_put-outside put image k (λ from to. not (omega arith) (omega arith)))
 
   -- the words of a record put it into the frame's record
-  pub puddle_put_made : (r : PuddleRec) → frame < F → r.pool + 1 < 2 ^ 32 → tables_of F (with_put (puddle_put frame r) image) ≡ with_puddle_at frame (Some (member_by r)) (tables_of F image)
+  pub puddle_put_made : (r : PuddleRecord) → frame < F → r.pool + 1 < 2 ^ 32 → tables_of F (with_put (puddle_put frame r) image) ≡ with_puddle_at frame (Some (member_by r)) (tables_of F image)
   puddle_put_made r within fits =
       let put = puddle_put frame r in
       in_puddle_record put within (omega arith) (omega arith)

@@ -5,7 +5,7 @@ use Rattle.std.proofs.lemmas.Bool.{and_parts}
 use Rattle.std.proofs.lemmas.Option.{none-some, same_Some}
 use Rattle.pud_defs.specs.declared.layout.TheConstants.{MAX_OWNER_ID}
 use Rattle.pud_defs.specs.declared.records.TheConstants.{POOL_RECORDS, MAX_MODE}
-use Rattle.pud_defs.specs.declared.records.PoolRec.{PoolRec}
+use Rattle.pud_defs.specs.declared.records.PoolRecord.{PoolRecord}
 use Rattle.pud_defs.specs.Names.{name_cmp, is_legal_name}
 use Rattle.pud_defs.specs.Modes.{is_legal_mode}
 use Rattle.pud_defs.specs.Pools.{is_given}
@@ -14,12 +14,12 @@ use Rattle.pud_defs.specs.SoundTables.{is_sound_pool}
 use Rattle.pud_defs.proofs.KeyedEach.{each-keyed}
 use Rattle.pud_defs.proofs.PoolsChanged.{same_name}
 
-pub record IsPlaced (t : Tables) (e : List ℕ × (ℕ × PoolRec)) : Type 0 where
+pub record IsPlaced (t : Tables) (e : List ℕ × (ℕ × PoolRecord)) : Type 0 where
   pub below : e.1.0 < POOL_RECORDS
   pub used : t.pools e.1.0 ≡ Some e.1.1
   pub name : e.1.1.name ≡ e.0
 
-placed : (t : Tables) (slot : ℕ) → slot < POOL_RECORDS → (o : Option PoolRec) → t.pools slot ≡ o → (e : List ℕ × (ℕ × PoolRec)) → option_map (λ r. (r.name, (slot, r))) o ≡ Some e → IsPlaced t e
+placed : (t : Tables) (slot : ℕ) → slot < POOL_RECORDS → (o : Option PoolRecord) → t.pools slot ≡ o → (e : List ℕ × (ℕ × PoolRecord)) → option_map (λ r. (r.name, (slot, r))) o ≡ Some e → IsPlaced t e
 placed t slot below None is e there = absurd (none-some e there)
 placed t slot below (Some r) is e there = subst (IsPlaced t) (same_Some (r.name, (slot, r)) e there) (record { below = below; used = is; name = refl })
 
@@ -37,7 +37,7 @@ mode_read mode legal =
     let few = leb-true mode MAX_MODE one.0 in
     omega arith
 
-pub legal_mode : (next : ℕ) (r : PoolRec) → is_sound_pool next (Some r) ≡ true → is_legal_mode r.mode ≡ true
+pub legal_mode : (next : ℕ) (r : PoolRecord) → is_sound_pool next (Some r) ≡ true → is_legal_mode r.mode ≡ true
 legal_mode next r sound =
     let four = and_parts (is_legal_name r.name && leb r.uid MAX_OWNER_ID && leb r.gid MAX_OWNER_ID && is_legal_mode r.mode) (is_given next r.number) sound in
     (and_parts (is_legal_name r.name && leb r.uid MAX_OWNER_ID && leb r.gid MAX_OWNER_ID) (is_legal_mode r.mode) four.0).1

@@ -4,7 +4,7 @@ use Rattle.std.proofs.lemmas.Bool.{cases_eq, cond-true, cond-false, and_parts, a
 use Rattle.std.specs.Cmp.Lexicographic.{nat_list_cmp_total}
 use Rattle.std.proofs.lemmas.Cmp.{nat_cmp_total}
 use Rattle.pud_defs.specs.declared.records.TheConstants.{POOL_RECORDS, MAX_PUDDLES}
-use Rattle.pud_defs.specs.declared.records.PoolRec.{PoolRec}
+use Rattle.pud_defs.specs.declared.records.PoolRecord.{PoolRecord}
 use Rattle.pud_defs.specs.Names.{name_cmp}
 use Rattle.pud_defs.specs.Keyed.{first_from, are_distinct}
 use Rattle.pud_defs.specs.Pools.{is_given, is_legal_pool}
@@ -97,7 +97,7 @@ sound_puddle_same : (next : ℕ) (t u : Tables) → HasSamePools t u → (m : Op
 sound_puddle_same next t u h None = refl
 sound_puddle_same next t u h (Some m) = ap (λ b. (not (eqb m.pool 0) && b) && ltb m.ordinal MAX_PUDDLES && is_legal_puddle next m.puddle) (h.used (m.pool - 1))
 
-module _ (next : ℕ) (t : Tables) (slot : ℕ) (r now : PoolRec) (sound : HasSoundTables next t) (within : slot < POOL_RECORDS) (used : t.pools slot ≡ Some r) (name : now.name ≡ r.name) (legal : is_legal_pool next now ≡ true) where
+module _ (next : ℕ) (t : Tables) (slot : ℕ) (r now : PoolRecord) (sound : HasSoundTables next t) (within : slot < POOL_RECORDS) (used : t.pools slot ≡ Some r) (name : now.name ≡ r.name) (legal : is_legal_pool next now ≡ true) where
   changed_pool : (s : ℕ) → s < POOL_RECORDS → is_sound_pool next (changed_at slot (Some now) t.pools s) ≡ true
   changed_pool s below = elim (cases_eq s slot) [
     | inl e ↦ ap (λ k. is_sound_pool next (changed_at slot (Some now) t.pools k)) e ∙ ap (is_sound_pool next) (changed_here slot (Some now) t.pools) ∙ legal
@@ -110,17 +110,17 @@ module _ (next : ℕ) (t : Tables) (slot : ℕ) (r now : PoolRec) (sound : HasSo
     | inr other ↦ ap is_some (changed_elsewhere slot (Some now) t.pools s other)
   ]
 
-  name_of : (s : ℕ) (x : Option PoolRec) → option_map (λ (p : List ℕ × (ℕ × PoolRec)). p.0) (option_map (λ r. (r.name, (s, r))) x) ≡ option_map (λ (r : PoolRec). r.name) x
+  name_of : (s : ℕ) (x : Option PoolRecord) → option_map (λ (p : List ℕ × (ℕ × PoolRecord)). p.0) (option_map (λ r. (r.name, (s, r))) x) ≡ option_map (λ (r : PoolRecord). r.name) x
   name_of s None = refl
   name_of s (Some x) = refl
 
-  same_names : (s : ℕ) → option_map (λ (r : PoolRec). r.name) (t.pools s) ≡ option_map (λ (r : PoolRec). r.name) (changed_at slot (Some now) t.pools s)
+  same_names : (s : ℕ) → option_map (λ (r : PoolRecord). r.name) (t.pools s) ≡ option_map (λ (r : PoolRecord). r.name) (changed_at slot (Some now) t.pools s)
   same_names s = elim (cases_eq s slot) [
-    | inl e ↦ ap (option_map (λ (r : PoolRec). r.name)) (ap t.pools e ∙ used) ∙ ap Some (sym name) ∙ sym (ap (option_map (λ (r : PoolRec). r.name)) (cond-true (eqb s slot) (Some now) (t.pools s) (eq-eqb s slot e)))
-    | inr other ↦ sym (ap (option_map (λ (r : PoolRec). r.name)) (changed_elsewhere slot (Some now) t.pools s other))
+    | inl e ↦ ap (option_map (λ (r : PoolRecord). r.name)) (ap t.pools e ∙ used) ∙ ap Some (sym name) ∙ sym (ap (option_map (λ (r : PoolRecord). r.name)) (cond-true (eqb s slot) (Some now) (t.pools s) (eq-eqb s slot e)))
+    | inr other ↦ sym (ap (option_map (λ (r : PoolRecord). r.name)) (changed_elsewhere slot (Some now) t.pools s other))
   ]
 
-  none_or_not : (x y : Option PoolRec) (b : Bool) → is_some x ≡ is_some y → (is_none y || b) ≡ true → (is_none x || b) ≡ true
+  none_or_not : (x y : Option PoolRecord) (b : Bool) → is_some x ≡ is_some y → (is_none y || b) ≡ true → (is_none x || b) ≡ true
   none_or_not None None b e h = h
   none_or_not None (Some y) b e h = refl
   none_or_not (Some x) None b e h = absurd (true≢false e)
@@ -143,7 +143,7 @@ module _ (next : ℕ) (t : Tables) (slot : ℕ) (r now : PoolRec) (sound : HasSo
 
 -- ---- a pool is dropped
 
-module _ (next : ℕ) (t : Tables) (slot : ℕ) (r : PoolRec) (sound : HasSoundTables next t) (within : slot < POOL_RECORDS) (used : t.pools slot ≡ Some r) where
+module _ (next : ℕ) (t : Tables) (slot : ℕ) (r : PoolRecord) (sound : HasSoundTables next t) (within : slot < POOL_RECORDS) (used : t.pools slot ≡ Some r) where
   pools_left : (s : ℕ) → (changed_at slot None t.pools s ≡ t.pools s) ⊎ (changed_at slot None t.pools s ≡ None)
   pools_left s = elim (cases_eq s slot) [
     | inl e ↦ inr (cond-true (eqb s slot) None (t.pools s) (eq-eqb s slot e))
@@ -197,9 +197,9 @@ module _ (next : ℕ) (t : Tables) (slot : ℕ) (r : PoolRec) (sound : HasSoundT
 
   counted_left : (s : ℕ) → s < POOL_RECORDS → (is_none (changed_at slot None t.pools s) || are_counted (puddles_of (without_pool_at slot t) s)) ≡ true
   counted_left s below = elim (cases_eq s slot) [
-    | inl e ↦ ap (λ (x : Option PoolRec). is_none x || are_counted (puddles_of (without_pool_at slot t) s)) (cond-true (eqb s slot) None (t.pools s) (eq-eqb s slot e))
+    | inl e ↦ ap (λ (x : Option PoolRecord). is_none x || are_counted (puddles_of (without_pool_at slot t) s)) (cond-true (eqb s slot) None (t.pools s) (eq-eqb s slot e))
     | inr other ↦
-        ap₂ (λ (x : Option PoolRec) ps. is_none x || are_counted ps) (changed_elsewhere slot None t.pools s other) (puddles_of-dropped t slot r (distinct_names next t sound) within used s other)
+        ap₂ (λ (x : Option PoolRecord) ps. is_none x || are_counted ps) (changed_elsewhere slot None t.pools s other) (puddles_of-dropped t slot r (distinct_names next t sound) within used s other)
         ∙ counted_puddles next t sound s below
   ]
 
@@ -225,7 +225,7 @@ given_later next later number more h =
     let below = ltb-true number next parts.1 in
     and_from _ _ parts.0 (lt-ltb number later (omega arith))
 
-pub sound_pool_later : (next later : ℕ) → next ≤ later → (o : Option PoolRec) → is_sound_pool next o ≡ true → is_sound_pool later o ≡ true
+pub sound_pool_later : (next later : ℕ) → next ≤ later → (o : Option PoolRecord) → is_sound_pool next o ≡ true → is_sound_pool later o ≡ true
 sound_pool_later next later more None h = refl
 sound_pool_later next later more (Some r) h = let parts = and_parts _ (is_given next r.number) h in and_from _ _ parts.0 (given_later next later r.number more parts.1)
 
@@ -237,13 +237,13 @@ legal_puddle_later next later more p h =
     and_from _ _ (and_from _ _ (and_from _ _ (given_later next later p.number more one.0) one.1) two.1) three.1
 
 -- What is added is legal where later numbers were given out, the puddle is the first of its pool, and no puddle has its base.
-pub record IsAdded (later : ℕ) (t : Tables) (r : PoolRec) (m : Member) : Type 0 where
+pub record IsAdded (later : ℕ) (t : Tables) (r : PoolRecord) (m : Member) : Type 0 where
   pub pool : is_legal_pool later r ≡ true
   pub puddle : is_legal_puddle later m.puddle ≡ true
   pub first : m.ordinal ≡ 0
   pub new_base : first_from nat_cmp m.puddle.base (bases t) 0 t.frames ≡ None
 
-module _ (next later : ℕ) (more : next ≤ later) (t : Tables) (slot frame : ℕ) (r : PoolRec) (m : Member) (sound : HasSoundTables next t) (h : IsMade t slot frame r m) (added : IsAdded later t r m) where
+module _ (next later : ℕ) (more : next ≤ later) (t : Tables) (slot frame : ℕ) (r : PoolRecord) (m : Member) (sound : HasSoundTables next t) (h : IsMade t slot frame r m) (added : IsAdded later t r m) where
   legal_made : (s : ℕ) → s < POOL_RECORDS → is_sound_pool later (changed_at slot (Some r) t.pools s) ≡ true
   legal_made s below = elim (cases_eq s slot) [
     | inl e ↦ ap (is_sound_pool later) (cond-true (eqb s slot) (Some r) (t.pools s) (eq-eqb s slot e)) ∙ added.pool
@@ -258,7 +258,7 @@ module _ (next later : ℕ) (more : next ≤ later) (t : Tables) (slot frame : �
         high = omega arith;
         others = λ s other. ap (option_map (λ r. (r.name, (s, r)))) (changed_elsewhere slot (Some r) t.pools s other);
         is = ap (option_map (λ r. (r.name, (slot, r)))) (changed_here slot (Some r) t.pools);
-        was = ap (λ o. is_free_for {X = ℕ × PoolRec} name_cmp r.name (option_map (λ r. (r.name, (slot, r))) o)) h.slot_free;
+        was = ap (λ o. is_free_for {X = ℕ × PoolRecord} name_cmp r.name (option_map (λ r. (r.name, (slot, r))) o)) h.slot_free;
         alone = λ s low high other. first_from_none_each name_cmp r.name (named t) 0 POOL_RECORDS h.new_name s low high;
       }) (distinct_names next t sound)
 
@@ -332,10 +332,10 @@ module _ (next later : ℕ) (more : next ≤ later) (t : Tables) (slot frame : �
   counted_made : (s : ℕ) → s < POOL_RECORDS → (is_none (changed_at slot (Some r) t.pools s) || are_counted (puddles_of (made slot frame r m t) s)) ≡ true
   counted_made s below = elim (cases_eq s slot) [
     | inl e ↦
-        ap (λ (x : Option PoolRec). is_none x || are_counted (puddles_of (made slot frame r m t) s)) (cond-true (eqb s slot) (Some r) (t.pools s) (eq-eqb s slot e))
+        ap (λ (x : Option PoolRecord). is_none x || are_counted (puddles_of (made slot frame r m t) s)) (cond-true (eqb s slot) (Some r) (t.pools s) (eq-eqb s slot e))
         ∙ one_is_counted (puddles_of (made slot frame r m t) s) (ap (puddles_of (made slot frame r m t)) e ∙ puddles_of-made t slot frame r m h)
     | inr other ↦
-        ap₂ (λ (x : Option PoolRec) ps. is_none x || are_counted ps) (changed_elsewhere slot (Some r) t.pools s other) (puddles_elsewhere t slot frame r m h s other)
+        ap₂ (λ (x : Option PoolRecord) ps. is_none x || are_counted ps) (changed_elsewhere slot (Some r) t.pools s other) (puddles_elsewhere t slot frame r m h s other)
         ∙ counted_puddles next t sound s below
   ]
 

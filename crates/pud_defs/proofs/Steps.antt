@@ -12,8 +12,8 @@ use Rattle.pud_defs.specs.Types.{map_of}
 use Rattle.pud_defs.specs.Spaces.{Owner}
 use Rattle.pud_defs.specs.World.{World}
 use Rattle.pud_defs.specs.PoolChanges.{pools_read, with_type_defined}
-use Rattle.pud_defs.specs.declared.objects.Val.{Val}
-use Rattle.pud_defs.specs.declared.objects.Val.TheVariants.{Num, Ref}
+use Rattle.pud_defs.specs.declared.objects.FieldValue.{FieldValue}
+use Rattle.pud_defs.specs.declared.objects.FieldValue.TheVariants.{Num, Ref}
 use Rattle.pud_defs.specs.Step.{Answer, is_other, is_clash, is_full, cause_holds, refusal_of, after, text_for, value_for, value_or_ok, text_or, answer, answer_unless, answer_by, world_by, unless_refused}
 use Rattle.pud_defs.specs.Step.Answer.{of_reply}
 use Rattle.pud_defs.specs.Gives.{StepBy}
@@ -104,7 +104,7 @@ no_cut_unless : (r : Option Refusal) (done : Answer) → is_cut done ≡ false �
 no_cut_unless None done none = none
 no_cut_unless (Some r) done none = refl
 
-no_cut_in : (field : Option Val) (text : Option (List ℕ)) → is_cut (text_or (value_or_ok field) text) ≡ false
+no_cut_in : (field : Option FieldValue) (text : Option (List ℕ)) → is_cut (text_or (value_or_ok field) text) ≡ false
 no_cut_in None None = refl
 no_cut_in (Some (Num v)) None = refl
 no_cut_in (Some (Ref serial)) None = refl

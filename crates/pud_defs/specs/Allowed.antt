@@ -3,7 +3,7 @@ use Rattle.std.specs.Prelude.{ℕ, ◌+◌, ◌-◌, ◌%◌, Bool, false, not, 
 use Rattle.std.specs.List.{list_all, list_any}
 use Rattle.pud_defs.specs.declared.layout.TheConstants.{FRAME_WORDS}
 use Rattle.pud_defs.specs.declared.space.TheConstants.{WORD_BYTES}
-use Rattle.pud_defs.specs.declared.records.PoolRec.{PoolRec}
+use Rattle.pud_defs.specs.declared.records.PoolRecord.{PoolRecord}
 use Rattle.pud_defs.specs.Entries.{Entry, Log}
 use Rattle.pud_defs.specs.Replay.{AddressMap, is_in_range, entries_or_none}
 use Rattle.pud_defs.specs.Spaces.{Owner, owner}
@@ -18,7 +18,7 @@ unfoldable pub puddle_word : Tables → AddressMap
 puddle_word t address = option_map (λ at. frame_at t.frames at.0 + at.1) (located t address)
 
 -- the pool of this record is there, and its mode lets the owner write it
-abbrev pub may_write_record : Owner → Option PoolRec → Bool
+abbrev pub may_write_record : Owner → Option PoolRecord → Bool
 may_write_record who None = false
 may_write_record who (Some r) = may_write r.mode (owner r.uid r.gid) who
 

@@ -1,7 +1,7 @@
 -- What is asked for within a transaction and comes when it is committed: values of fields.
 use Rattle.std.specs.Prelude.{ℕ, Bool, ◌||◌, ◌==◌, List, [], ◌∷◌}
 use Rattle.std.specs.List.{list_any}
-use Rattle.pud_defs.specs.declared.objects.Val.{Val}
+use Rattle.pud_defs.specs.declared.objects.FieldValue.{FieldValue}
 use Rattle.pud_defs.specs.Graph.{Graph, names_serial}
 use Rattle.pud_defs.specs.GraphChanges.{with_field}
 
@@ -9,7 +9,7 @@ use Rattle.pud_defs.specs.GraphChanges.{with_field}
 pub record DeferredValue : Type 0 where
   pub s : ℕ
   pub f : ℕ
-  pub x : Val
+  pub x : FieldValue
 
 -- the graph with it
 abbrev pub with_deferred_value : DeferredValue → Graph → Graph

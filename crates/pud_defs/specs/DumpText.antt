@@ -1,7 +1,7 @@
 -- A graph as the compact text of one JSON object.
 use Rattle.std.specs.Prelude.{ℕ, ◌==◌, cond, List, [], ◌∷◌, ◌++◌, map, codes, decimal}
-use Rattle.pud_defs.specs.declared.objects.Val.{Val}
-use Rattle.pud_defs.specs.declared.objects.Val.TheVariants.{Num, Ref}
+use Rattle.pud_defs.specs.declared.objects.FieldValue.{FieldValue}
+use Rattle.pud_defs.specs.declared.objects.FieldValue.TheVariants.{Num, Ref}
 use Rattle.pud_defs.specs.Graph.{Object, Graph}
 
 -- texts, each behind a comma
@@ -18,7 +18,7 @@ joined (text ∷ texts) = text ++ joined_behind texts
 abbrev pub pointer_text : (serial : ℕ) → List ℕ
 pointer_text s = cond (s == 0) (codes "null") (codes "\"@" ++ (decimal s ++ codes "\""))
 
-abbrev pub field_text : Val → List ℕ
+abbrev pub field_text : FieldValue → List ℕ
 field_text (Num v) = decimal v
 field_text (Ref s) = pointer_text s
 

@@ -6,8 +6,8 @@ use Rattle.pud_defs.specs.declared.space.TheConstants.{MAX_STEPS}
 use Rattle.pud_defs.specs.declared.machine.Command.{Command}
 use Rattle.pud_defs.specs.declared.machine.Command.TheVariants.{Client, Leave, Define, Cut, Arm, Chmod, Begin, Commit, Abort, New, Set, Later, Root, Free, Dump, Export, Import, Rewrite, Pools, Get}
 use Rattle.pud_defs.specs.declared.machine.Command.TheVariants as commands
-use Rattle.pud_defs.specs.declared.objects.Val.{Val}
-use Rattle.pud_defs.specs.declared.objects.Val.TheVariants.{Num, Ref}
+use Rattle.pud_defs.specs.declared.objects.FieldValue.{FieldValue}
+use Rattle.pud_defs.specs.declared.objects.FieldValue.TheVariants.{Num, Ref}
 use Rattle.pud_defs.specs.declared.records.TheConstants.{NAME_BYTES}
 use Rattle.pud_defs.specs.Modes.{is_legal_mode}
 use Rattle.pud_defs.specs.Names.{IsName, is_name_byte, is_legal_name}
@@ -120,7 +120,7 @@ unfoldable pub field_place : List ℕ → Option (ℕ × ℕ)
 field_place bytes = field_by (split_at 46 bytes)
 
 -- the value of a field: a number, or `@` and the serial of an object, 0 for null, each in 64 bits
-unfoldable pub field_value : List ℕ → Option Val
+unfoldable pub field_value : List ℕ → Option FieldValue
 field_value [] = None
 field_value (b ∷ bytes) = cond (b == 64) (option_map Ref (word_number bytes)) (option_map Num (word_number (b ∷ bytes)))
 
@@ -278,7 +278,7 @@ unfoldable pub command_of : List ℕ → Option Command
 command_of line = cond (nat_le (length line) LINE_LIMIT) (command_by (split_at 32 line)) None
 
 -- the value fits in 64 bits
-abbrev pub IsLegalValue : Val → Type 0
+abbrev pub IsLegalValue : FieldValue → Type 0
 IsLegalValue (Num v) = v < 2 ^ 64
 IsLegalValue (Ref s) = s < 2 ^ 64
 

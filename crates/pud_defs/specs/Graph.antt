@@ -7,8 +7,8 @@ use Rattle.std.specs.FinMap.Entries.{find}
 use Rattle.pud_defs.specs.declared.layout.TheConstants.{MAX_FIELDS}
 use Rattle.pud_defs.specs.declared.space.TheConstants.{WORD_BYTES, SLOT_SERIAL_WORD, SLOT_TYPE_WORD, SLOT_FIELDS_WORD, NEXT_SERIAL_WORD, ROOT_WORD, FRAME_MAGIC_WORD, FRAME_NUMBER_WORD, FRAME_ORDINAL_WORD}
 use Rattle.pud_defs.specs.declared.records.Puddle.{Puddle}
-use Rattle.pud_defs.specs.declared.objects.Val.{Val}
-use Rattle.pud_defs.specs.declared.objects.Val.TheVariants.{Num, Ref}
+use Rattle.pud_defs.specs.declared.objects.FieldValue.{FieldValue}
+use Rattle.pud_defs.specs.declared.objects.FieldValue.TheVariants.{Num, Ref}
 use Rattle.pud_defs.specs.TypeMap.{map_fields, is_pointer}
 use Rattle.pud_defs.specs.Geometry.{slots_of, slot_words_of, slot_at, ordinal_of, slot_of, places_among}
 use Rattle.pud_defs.specs.Types.{map_of}
@@ -111,7 +111,7 @@ place_of_serial s t n = first_from nat_cmp s (serial_and_place t) 0 n
 
 pub record Object : Type 0 where
   pub type_id : ℕ
-  pub fields : List Val
+  pub fields : List FieldValue
 
 -- the next serial, the serial of the root, 0 where there is none, and the objects by ascending serials
 pub record Graph : Type 0 where
@@ -126,7 +126,7 @@ named_by serial Null = 0
 named_by serial (At p) = serial p
 named_by serial Nowhere = 0
 
-abbrev pub value_of : (ℕ → ℕ) → Content → Val
+abbrev pub value_of : (ℕ → ℕ) → Content → FieldValue
 value_of serial (Number v) = Num v
 value_of serial Null = Ref 0
 value_of serial (At p) = Ref (serial p)
@@ -206,7 +206,7 @@ abbrev pub object_in : ℕ → Graph → Option Object
 object_in s g = find nat_cmp s g.objects
 
 -- a pointer to the object of this serial
-abbrev pub names_serial : ℕ → Val → Bool
+abbrev pub names_serial : ℕ → FieldValue → Bool
 names_serial s (Num v) = false
 names_serial s (Ref r) = r == s
 

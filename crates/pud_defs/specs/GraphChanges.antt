@@ -3,8 +3,8 @@ use Rattle.std.specs.Prelude.{ℕ, ◌+◌, cond, map, set, Option, Some, None, 
 use Rattle.std.specs.Ordering.{nat_cmp}
 use Rattle.std.specs.List.{range_with_len}
 use Rattle.std.specs.FinMap.Entries.{put}
-use Rattle.pud_defs.specs.declared.objects.Val.{Val}
-use Rattle.pud_defs.specs.declared.objects.Val.TheVariants.{Num, Ref}
+use Rattle.pud_defs.specs.declared.objects.FieldValue.{FieldValue}
+use Rattle.pud_defs.specs.declared.objects.FieldValue.TheVariants.{Num, Ref}
 use Rattle.pud_defs.specs.TypeMap.{is_pointer}
 use Rattle.pud_defs.specs.Keyed.{without}
 use Rattle.pud_defs.specs.Graph.{field_count, Object, Graph, object_in}
@@ -12,10 +12,10 @@ use Rattle.pud_defs.specs.Graph.{field_count, Object, Graph, object_in}
 -- ---- objects
 
 -- a field with another value
-abbrev pub object_with : (f : ℕ) → Val → Object → Object
+abbrev pub object_with : (f : ℕ) → FieldValue → Object → Object
 object_with f x o = record { type_id = o.type_id; fields = set o.fields f x }
 
-abbrev pub blank_value : (map f : ℕ) → Val
+abbrev pub blank_value : (map f : ℕ) → FieldValue
 blank_value map f = cond (is_pointer map f) (Ref 0) (Num 0)
 
 -- an object of a type with this map, each of whose fields is 0 or null
@@ -34,7 +34,7 @@ with_some_object s None g = g
 with_some_object s (Some o) g = with_object s o g
 
 -- field f of the object of a serial with another value, where there is such an object
-abbrev pub with_field : (s f : ℕ) → Val → Graph → Graph
+abbrev pub with_field : (s f : ℕ) → FieldValue → Graph → Graph
 with_field s f x g = with_some_object s (option_map (object_with f x) (object_in s g)) g
 
 abbrev pub with_root : ℕ → Graph → Graph

@@ -1,7 +1,7 @@
 -- What the mode `layout` says: which pools a device has, and where their puddles stand.
 use Rattle.std.specs.Prelude.{ℕ, List, ◌∷◌, ◌++◌, codes, decimal, flat_map}
 use Rattle.pud_defs.specs.declared.layout.TheConstants.{MACHINE_WORD, NEXT_NUMBER_WORD}
-use Rattle.pud_defs.specs.declared.records.PoolRec.{PoolRec}
+use Rattle.pud_defs.specs.declared.records.PoolRecord.{PoolRecord}
 use Rattle.pud_defs.specs.declared.records.Puddle.{Puddle}
 use Rattle.pud_defs.specs.Image.{Image}
 use Rattle.pud_defs.specs.Identifiers.{hex_digits, puddle_uuid, uuid_text}
@@ -20,7 +20,7 @@ abbrev pub frames_line : (frames used next : ℕ) → List ℕ
 frames_line frames used next = line_of (codes "frames " ++ decimal frames ++ codes " used " ++ decimal used ++ codes " next " ++ decimal next)
 
 -- the pool of a record, on the machine with this id: `pool NAME uid gid mode identifier`
-abbrev pub pool_line : ℕ → PoolRec → List ℕ
+abbrev pub pool_line : ℕ → PoolRecord → List ℕ
 pool_line id r =
     line_of (codes "pool " ++ name_text r.name ++ space ∷ decimal r.uid ++ space ∷ decimal r.gid ++ space ∷ mode_text r.mode ++ space ∷ uuid_text (puddle_uuid id r.number))
 
@@ -31,7 +31,7 @@ puddle_line id (ordinal, (frame, p)) =
     ++ space ∷ uuid_text (puddle_uuid id p.number))
 
 -- a pool by its slot, and its puddles by ascending ordinals
-abbrev pub pool_lines : ℕ → Tables → ℕ × PoolRec → List ℕ
+abbrev pub pool_lines : ℕ → Tables → ℕ × PoolRecord → List ℕ
 pool_lines id t (slot, r) = pool_line id r ++ flat_map (puddle_line id) (puddles_of t slot)
 
 -- the frames, and then each pool by ascending names, on the machine with this id, where this UUID number is the next

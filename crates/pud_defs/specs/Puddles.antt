@@ -3,7 +3,7 @@ use Rattle.std.specs.Prelude.{ℕ, ◌+◌, ◌*◌, ◌/◌, ◌%◌, ◌^◌, 
 use Rattle.pud_defs.specs.declared.layout.TheConstants.{PUDDLE_TABLE, PUDDLE_RECORD_WORDS}
 use Rattle.pud_defs.specs.declared.records.TheConstants.{PUDDLE_NUMBER_WORD, PUDDLE_BASE_WORD, PUDDLE_OLD_BASE_WORD, PUDDLE_FRONTIER_WORD}
 use Rattle.pud_defs.specs.declared.records.Puddle.{Puddle}
-use Rattle.pud_defs.specs.declared.records.PuddleRec.{PuddleRec}
+use Rattle.pud_defs.specs.declared.records.PuddleRecord.{PuddleRecord}
 use Rattle.pud_defs.specs.Image.{Image}
 use Rattle.pud_defs.specs.Bases.{is_legal_base}
 use Rattle.pud_defs.specs.Geometry.{is_legal_frontier}
@@ -55,7 +55,7 @@ puddle_at image frame =
     (image (puddle_record_at frame + PUDDLE_OLD_BASE_WORD)) (image (puddle_record_at frame + PUDDLE_FRONTIER_WORD))
 
 -- the words that spell a record
-abbrev pub puddle_words : PuddleRec → List ℕ
+abbrev pub puddle_words : PuddleRecord → List ℕ
 puddle_words r = member_word (r.pool + 1) r.ordinal ∷ r.number ∷ r.base ∷ r.old_base ∷ r.frontier ∷ []
 
 -- the puddle of a legal record, beside whose it is
@@ -63,5 +63,5 @@ abbrev pub is_legal_puddle : ℕ → Puddle → Bool
 is_legal_puddle next p = is_given next p.number && is_legal_base p.base && is_legal_base p.old_base && is_legal_frontier p
 
 -- the record of a pool's puddle, as it is read into numbers of 32 bits; a legal one is read as it is
-abbrev pub puddle_read : (slot ordinal : ℕ) → Puddle → PuddleRec
+abbrev pub puddle_read : (slot ordinal : ℕ) → Puddle → PuddleRecord
 puddle_read slot ordinal p = record { pool = slot; ordinal = ordinal; number = p.number; base = p.base; old_base = p.old_base; frontier = p.frontier % 2 ^ 32 }

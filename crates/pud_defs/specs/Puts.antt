@@ -1,9 +1,9 @@
 -- The words that change one record of the pool table or of the puddle table, and what they make of the tables.
 use Rattle.std.specs.Prelude.{ℕ, ◌+◌, ◌-◌, Bool, ◌&&◌, nat_le, nat_lt, ◌==◌, cond, List, [], ◌∷◌, ◌++◌, length, slice_index, replicate, Option, Some, None, option_map, false}
 use Rattle.pud_defs.specs.declared.records.TheConstants.{POOL_MODE_WORD}
-use Rattle.pud_defs.specs.declared.records.PoolRec.{PoolRec}
+use Rattle.pud_defs.specs.declared.records.PoolRecord.{PoolRecord}
 use Rattle.pud_defs.specs.declared.records.Puddle.{Puddle}
-use Rattle.pud_defs.specs.declared.records.PuddleRec.{PuddleRec}
+use Rattle.pud_defs.specs.declared.records.PuddleRecord.{PuddleRecord}
 use Rattle.pud_defs.specs.declared.records.Put.{Put}
 use Rattle.pud_defs.specs.Image.{Image}
 use Rattle.pud_defs.specs.Pools.{pool_record_at, pool_words}
@@ -19,7 +19,7 @@ abbrev pub with_put : Put → Image → Image
 with_put put image k = cond (nat_le put.w k && nat_lt k (put.w + put.n)) (slice_index put.vals (k - put.w)) (image k)
 
 -- the record of a pool
-abbrev pub pool_put : ℕ → PoolRec → Put
+abbrev pub pool_put : ℕ → PoolRecord → Put
 pool_put slot r = put_of (pool_record_at slot) (pool_words r)
 
 -- the mode of a pool
@@ -31,7 +31,7 @@ abbrev pub free_pool_put : ℕ → Put
 free_pool_put slot = put_of (pool_record_at slot) (0 ∷ [])
 
 -- the record of a puddle
-abbrev pub puddle_put : ℕ → PuddleRec → Put
+abbrev pub puddle_put : ℕ → PuddleRecord → Put
 puddle_put frame r = put_of (puddle_record_at frame) (puddle_words r)
 
 -- a puddle record that is free
@@ -43,7 +43,7 @@ abbrev pub changed_at : {A : Type 0} → ℕ → A → (ℕ → A) → ℕ → A
 changed_at i now at j = cond (j == i) now (at j)
 
 -- the tables with the pool record of a slot changed
-abbrev pub with_pool_at : ℕ → Option PoolRec → Tables → Tables
+abbrev pub with_pool_at : ℕ → Option PoolRecord → Tables → Tables
 with_pool_at slot now t = record { frames = t.frames; pools = changed_at slot now t.pools; puddles = t.puddles }
 
 -- the tables with the puddle record of a frame changed
@@ -59,12 +59,12 @@ abbrev pub moved_in : (frame n : ℕ) → ℕ × Puddle → ℕ × Puddle
 moved_in frame n e = cond (e.0 == frame) (e.0, moved_to n e.1) e
 
 -- the record with this mode, where it is used
-abbrev pub with_mode : ℕ → Option PoolRec → Option PoolRec
+abbrev pub with_mode : ℕ → Option PoolRecord → Option PoolRecord
 with_mode mode None = None
 with_mode mode (Some r) = Some (record r { mode = mode })
 
 -- what the words of a puddle record make of it
-abbrev pub member_by : PuddleRec → Member
+abbrev pub member_by : PuddleRecord → Member
 member_by r = record { pool = r.pool + 1; ordinal = r.ordinal; puddle = record { number = r.number; base = r.base; old_base = r.old_base; frontier = r.frontier } }
 
 -- the record is one of the pool's puddles

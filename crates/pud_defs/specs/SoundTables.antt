@@ -2,7 +2,7 @@
 use Rattle.std.specs.Prelude.{◌≡◌, ℕ, ◌+◌, ◌-◌, Bool, true, not, ◌&&◌, ◌||◌, nat_le, nat_lt, ◌==◌, List, [], ◌∷◌, map, length, Option, Some, None, option_map, is_none, is_some}
 use Rattle.std.specs.Ordering.{nat_cmp}
 use Rattle.pud_defs.specs.declared.records.TheConstants.{POOL_RECORDS, MAX_PUDDLES}
-use Rattle.pud_defs.specs.declared.records.PoolRec.{PoolRec}
+use Rattle.pud_defs.specs.declared.records.PoolRecord.{PoolRecord}
 use Rattle.pud_defs.specs.declared.records.Puddle.{Puddle}
 use Rattle.pud_defs.specs.Spaces.{all_below}
 use Rattle.pud_defs.specs.Names.{name_cmp}
@@ -14,7 +14,7 @@ use Rattle.pud_defs.specs.Tables.{Tables, members, puddles_of, named}
 -- ---- the pool records
 
 -- the record is free, or it is legal
-abbrev pub is_sound_pool : ℕ → Option PoolRec → Bool
+abbrev pub is_sound_pool : ℕ → Option PoolRecord → Bool
 is_sound_pool next None = true
 is_sound_pool next (Some r) = is_legal_pool next r
 

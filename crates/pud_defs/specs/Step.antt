@@ -13,8 +13,8 @@ use Rattle.pud_defs.specs.declared.machine.Refusal.TheVariants as refusals
 use Rattle.pud_defs.specs.Geometry.{slots_among}
 use Rattle.pud_defs.specs.Types.{map_of}
 use Rattle.pud_defs.specs.Spaces.{Owner, owner, with_owner}
-use Rattle.pud_defs.specs.declared.objects.Val.{Val}
-use Rattle.pud_defs.specs.declared.objects.Val.TheVariants.{Num, Ref}
+use Rattle.pud_defs.specs.declared.objects.FieldValue.{FieldValue}
+use Rattle.pud_defs.specs.declared.objects.FieldValue.TheVariants.{Num, Ref}
 use Rattle.pud_defs.specs.Rights.{may_read, may_write}
 use Rattle.pud_defs.specs.Graph.{Graph, Object, object_in, is_referenced, empty_graph}
 use Rattle.pud_defs.specs.GraphChanges.{blank_object, with_field, with_root, without_object, with_new}
@@ -178,7 +178,7 @@ object_of s None = None
 object_of s (Some g) = object_in s g
 
 -- what a field holds, where there is an object that has it
-abbrev pub field_of : ℕ → Option Object → Option Val
+abbrev pub field_of : ℕ → Option Object → Option FieldValue
 field_of f None = None
 field_of f (Some object) = slice_get object.fields f
 
@@ -191,7 +191,7 @@ object_named (Free client name s) g = object_of s g
 object_named c g = None
 
 -- what the field holds that a command names, where the object has it
-abbrev pub field_named : Command → Option Object → Option Val
+abbrev pub field_named : Command → Option Object → Option FieldValue
 field_named (Get client name s f) object = field_of f object
 field_named (Set client name s f x) object = field_of f object
 field_named (Later client name s f x) object = field_of f object
@@ -218,7 +218,7 @@ abbrev pub object_for : World → Command → Option Object
 object_for w c = object_named c (graph_for w c)
 
 -- what the field holds that it names
-abbrev pub field_for : World → Command → Option Val
+abbrev pub field_for : World → Command → Option FieldValue
 field_for w c = field_named c (object_for w c)
 
 -- whether the transaction is that of the client that the command names, or another's
@@ -250,7 +250,7 @@ type_named (New client name t) = t
 type_named c = 0
 
 -- no object has the serial that is to be the value
-abbrev pub is_dangling : Option Graph → Val → Bool
+abbrev pub is_dangling : Option Graph → FieldValue → Bool
 is_dangling g (Num v) = false
 is_dangling g (Ref s) = not (s == 0) && is_none (object_of s g)
 
@@ -265,7 +265,7 @@ lacks_object (Root client name s) g = is_dangling g (Ref s)
 lacks_object c g = has_dangling_value c g || is_none (object_named c g)
 
 -- one is a number and the other a pointer
-abbrev pub differ_in_kind : Option Val → Val → Bool
+abbrev pub differ_in_kind : Option FieldValue → FieldValue → Bool
 differ_in_kind None x = false
 differ_in_kind (Some (Num v)) (Num n) = false
 differ_in_kind (Some (Num v)) (Ref s) = true
@@ -455,13 +455,13 @@ next_in None = 0
 next_in (Some g) = g.next_serial
 
 -- the value that a command asks for: that of a field, or the serial of the object that it makes
-abbrev pub value_for : World → Command → Option Val
+abbrev pub value_for : World → Command → Option FieldValue
 value_for w (Get client name s f) = field_for w (Get client name s f)
 value_for w (New client name t) = Some (Ref (next_in (graph_for w (New client name t))))
 value_for w c = None
 
 -- the value, or else `ok` alone
-abbrev pub value_or_ok : Option Val → Reply
+abbrev pub value_or_ok : Option FieldValue → Reply
 value_or_ok None = replies.Ok
 value_or_ok (Some (Num v)) = replies.Num v
 value_or_ok (Some (Ref serial)) = replies.Ref serial

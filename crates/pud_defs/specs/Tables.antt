@@ -3,8 +3,8 @@ use Rattle.std.specs.Prelude.{ℕ, zero, suc, ◌+◌, nat_lt, ◌==◌, cond, L
 use Rattle.std.specs.Ordering.{nat_cmp}
 use Rattle.std.specs.FinMap.Entries.{find}
 use Rattle.pud_defs.specs.declared.records.TheConstants.{POOL_RECORDS, MAX_PUDDLES}
-use Rattle.pud_defs.specs.declared.records.PoolRec.{PoolRec}
-use Rattle.pud_defs.specs.declared.records.PuddleRec.{PuddleRec}
+use Rattle.pud_defs.specs.declared.records.PoolRecord.{PoolRecord}
+use Rattle.pud_defs.specs.declared.records.PuddleRecord.{PuddleRecord}
 use Rattle.pud_defs.specs.declared.records.Puddle.{Puddle}
 use Rattle.pud_defs.specs.Image.{Image}
 use Rattle.pud_defs.specs.Spaces.{Owner, owner}
@@ -17,7 +17,7 @@ use Rattle.pud_defs.specs.Puddles.{Member, puddle_at, puddle_read}
 -- the number of frames, the used pool records by their slots, and the used puddle records by their frames
 pub record Tables : Type 0 where
   pub frames : ℕ
-  pub pools : ℕ → Option PoolRec
+  pub pools : ℕ → Option PoolRecord
   pub puddles : ℕ → Option Member
 
 -- The tables of an image. Beyond its last record a table has no used one, so images that agree on the words of both have the same tables.
@@ -44,7 +44,7 @@ unfoldable pub puddles_of : Tables → ℕ → List (ℕ × (ℕ × Puddle))
 puddles_of t slot = keyed nat_cmp (members t slot) 0 t.frames
 
 -- the record number and the record of a puddle of a pool
-abbrev pub puddle_in : Tables → (slot ordinal : ℕ) → Option (ℕ × PuddleRec)
+abbrev pub puddle_in : Tables → (slot ordinal : ℕ) → Option (ℕ × PuddleRecord)
 puddle_in t slot ordinal = option_map (λ p. (p.0, puddle_read slot ordinal p.1)) (find nat_cmp ordinal (puddles_of t slot))
 
 -- what was found in front of the rest, and no rest where nothing was found
@@ -64,15 +64,15 @@ puddles_in_turn t slot = in_turn (λ ordinal. find nat_cmp ordinal (puddles_of t
 -- ---- the pools
 
 -- a used pool record with its slot, under its name
-abbrev pub named : Tables → ℕ → Option (List ℕ × (ℕ × PoolRec))
+abbrev pub named : Tables → ℕ → Option (List ℕ × (ℕ × PoolRecord))
 named t slot = option_map (λ r. (r.name, (slot, r))) (t.pools slot)
 
 -- the used pool records by ascending names, each with its slot
-unfoldable pub records_of : Tables → List (List ℕ × (ℕ × PoolRec))
+unfoldable pub records_of : Tables → List (List ℕ × (ℕ × PoolRecord))
 records_of t = keyed name_cmp (named t) 0 POOL_RECORDS
 
 -- the slot and the record of the pool of a name
-abbrev pub pool_in : Tables → List ℕ → Option (ℕ × PoolRec)
+abbrev pub pool_in : Tables → List ℕ → Option (ℕ × PoolRecord)
 pool_in t name = option_map (λ p. (p.0, pool_read p.1)) (find name_cmp name (records_of t))
 
 -- A pool: its owner and group, its mode, its UUID number, how many puddles it has, and what they hold.
@@ -92,7 +92,7 @@ abbrev pub listed : List (ℕ × (ℕ × Puddle)) → List (ℕ × Puddle)
 listed puddles = map (λ e. e.1) puddles
 
 -- the pool of this record and these puddles
-unfoldable pub pool_of : Reader → PoolRec → List (ℕ × (ℕ × Puddle)) → Pool
+unfoldable pub pool_of : Reader → PoolRecord → List (ℕ × (ℕ × Puddle)) → Pool
 pool_of hold r puddles = record { owner = owner r.uid r.gid; mode = r.mode; number = r.number; puddles = length puddles; holding = hold (listed puddles) }
 
 -- the pool of a slot, under its name

@@ -5,7 +5,7 @@ ghost use Rattle.pud_defs.specs.Layout.{tables_end, log_at, frames_at, device_wo
 ghost use Rattle.pud_defs.specs.Settled.{ALL_LOGS, log_number_at};
 
 /// The number of a log among the 32 of a device, 0 to 31: log `k` of client `c` has the number `4 * c + k`.
-pub type LogNo = u32;
+pub type LogNumber = u32;
 
 /// The value of word 0 of a formatted device: the eight bytes `PUDDEV01`, lowest first.
 pub const DEVICE_MAGIC: u64 = 0x3130_5645_4444_5550;
@@ -145,7 +145,7 @@ pub const fn log_at(frames: u32, client: u32, number: u32) -> u32
 }
 
 /// The gate of a log by its number among those of all clients, on a device of so many frames.
-pub const fn log_number_at(frames: u32, number: LogNo) -> u32
+pub const fn log_number_at(frames: u32, number: LogNumber) -> u32
     requires few_frames { frames ≤ MAX_FRAMES }
     requires known { number < ALL_LOGS }
     ensures { result ≡ log_number_at frames number }

@@ -4,7 +4,7 @@ ghost use Rattle.std.specs.Prelude.{◌≡◌};
 ghost use Rattle.pud_defs.specs.Step.Answer.{of_reply};
 ghost use Rattle.pud_defs.specs.Texts.{begins_with_ok};
 
-use crate::objects::Val;
+use crate::objects::FieldValue;
 use crate::records::Name;
 
 /// What a line asks for.
@@ -80,7 +80,7 @@ pub enum Command {
         name: Name,
         s: u64,
         f: u32,
-        x: Val,
+        x: FieldValue,
     },
     /// `later C P o.f x`: the client, from 0 to 7, asks in its transaction on the pool of this name that field `f`, from 0 to 29, of the
     /// object with serial `s`, at least 1, has the value `x` once the transaction is committed, behind all that is set in it and all that
@@ -90,7 +90,7 @@ pub enum Command {
         name: Name,
         s: u64,
         f: u32,
-        x: Val,
+        x: FieldValue,
     },
     /// `root C P o`: the client, from 0 to 7, makes the object with serial `s`, or none where it is 0, the root of the pool of this name
     /// in its transaction.

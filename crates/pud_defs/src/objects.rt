@@ -5,7 +5,7 @@ ghost use Rattle.pud_defs.specs.Stored.{slot_state};
 
 /// The value of a field, as lines name it.
 #[derive(Clone, Copy, Debug, PartialEq, Eq)]
-pub enum Val {
+pub enum FieldValue {
     /// The number that a field holds which is no pointer.
     Num(u64),
     /// The serial of the object that a pointer field names, 0 where it is null.

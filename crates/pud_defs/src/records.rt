@@ -68,7 +68,7 @@ pub struct Owner {
 
 /// What a record says of a pool.
 #[derive(Clone, Copy, Debug, Default, PartialEq, Eq)]
-pub struct PoolRec {
+pub struct PoolRecord {
     /// The name, 16 bytes filled with zeros.
     pub name: Name,
     /// The uid of the owner, 0 to 65,535 in a legal record.
@@ -96,7 +96,7 @@ pub struct Puddle {
 
 /// What a record says of a puddle, and whose it is.
 #[derive(Clone, Copy, Debug, Default, PartialEq, Eq)]
-pub struct PuddleRec {
+pub struct PuddleRecord {
     /// The slot of the pool in the pool table, 0 to 31.
     pub pool: u32,
     /// The place of the puddle in its pool, 0 to 15.

@@ -13,7 +13,7 @@ use Rattle.pm_model.proofs.Words.{Picks-reads}
 use Rattle.pm_model.proofs.Masks.{reads-masked, HasOnly-masked, IsOff-none, Changes-masked}
 use Rattle.pud_defs.specs.declared.layout.TheConstants.{DAEMON_LOG, NEXT_NUMBER_WORD, TYPE_TABLE, TYPE_RECORDS}
 use Rattle.pud_defs.specs.declared.records.TheConstants.{MAX_PUDDLES}
-use Rattle.pud_defs.specs.declared.records.PoolRec.{PoolRec}
+use Rattle.pud_defs.specs.declared.records.PoolRecord.{PoolRecord}
 use Rattle.pud_defs.specs.declared.records.Puddle.{Puddle}
 use Rattle.pud_defs.specs.declared.space.TheConstants.{LAST_FRONTIER, SLOT_TYPE_WORD}
 use Rattle.pud_defs.specs.Image.{Image}
@@ -127,7 +127,7 @@ no_clash false full lacks none = refl
 
 -- ---- what was found, by equal lists
 
-pub placed_lists : {F slot : ℕ} {i : Image} {own file : List (ℕ × ℕ)} {wanted : List ℕ} {r : PoolRec} {found new : List NewType} {listed puddles : List Added} → own ≡ file → new ≡ found → puddles ≡ listed
+pub placed_lists : {F slot : ℕ} {i : Image} {own file : List (ℕ × ℕ)} {wanted : List ℕ} {r : PoolRecord} {found new : List NewType} {listed puddles : List Added} → own ≡ file → new ≡ found → puddles ≡ listed
     → IsPlacedFor F i own wanted slot r found listed → IsPlacedFor F i file wanted slot r new puddles
 placed_lists {F = F} {slot = slot} {i = i} {own = own} {wanted = wanted} {r = r} {found = found} {new = new} {puddles = puddles} same_file same_new same_puddles is =
     subst (λ (ts : List (ℕ × ℕ)). IsPlacedFor F i ts wanted slot r new puddles) same_file
@@ -135,7 +135,7 @@ placed_lists {F = F} {slot = slot} {i = i} {own = own} {wanted = wanted} {r = r}
     (subst (λ (ps : List Added). IsPlacedFor F i own wanted slot r found ps) (sym same_puddles) is))
 
 -- a state of which only was read before
-pub import_behind : {size F slot : ℕ} {s next : StoredWorld} {r : PoolRec} {file : FileContents} {stored : Stored} {wanted : List ℕ} {new : List NewType} {puddles : List Added} {mask : Write} {fault : Option HostFault} {old read : State} (later : State) → read ≡ old
+pub import_behind : {size F slot : ℕ} {s next : StoredWorld} {r : PoolRecord} {file : FileContents} {stored : Stored} {wanted : List ℕ} {new : List NewType} {puddles : List Added} {mask : Write} {fault : Option HostFault} {old read : State} (later : State) → read ≡ old
     → (MayImport size s F r.name r.uid r.gid r.mode file stored mask read.now.words → IsPlacedFor F (reads read.now.words) file.types wanted slot r new puddles → ChangesMasked mask size s next (λ _. ⊤) fault read later)
     → MayImport size s F r.name r.uid r.gid r.mode file stored mask old.now.words → IsPlacedFor F (reads old.now.words) file.types wanted slot r new puddles → ChangesMasked mask size s next (λ _. ⊤) fault old later
 import_behind {size = size} {F = F} {slot = slot} {s = s} {next = next} {r = r} {file = file} {stored = stored} {wanted = wanted} {new = new} {puddles = puddles} {mask = mask} {fault = fault} later same =
@@ -153,7 +153,7 @@ module _ (size : ℕ) (s : StoredWorld) (name : List ℕ) (uid gid mode : ℕ) (
   abbrev image : Image
   image = reads old.now.words
 
-  abbrev rec : PoolRec
+  abbrev rec : PoolRecord
   rec = new_record name uid gid mode (image NEXT_NUMBER_WORD)
 
   abbrev wanted : List ℕ
@@ -252,7 +252,7 @@ module _ (size : ℕ) (s : StoredWorld) (name : List ℕ) (uid gid mode : ℕ) (
 
 -- ---- on so many frames
 
-module _ (size : ℕ) (s : StoredWorld) (F slot : ℕ) (r : PoolRec) (new : List NewType) (puddles : List Added) (bytes : List ℕ) (file : FileContents) (held : file_graph bytes ≡ Some file) (mask : Write) (old mid : State)
+module _ (size : ℕ) (s : StoredWorld) (F slot : ℕ) (r : PoolRecord) (new : List NewType) (puddles : List Added) (bytes : List ℕ) (file : FileContents) (held : file_graph bytes ≡ Some file) (mask : Write) (old mid : State)
     (is : IsPlacedFor F (reads old.now.words) file.types (map (λ d. d.base) (stored_held bytes).puddles) slot r new puddles) where
   abbrev stored : Stored
   stored = stored_held bytes
@@ -266,16 +266,16 @@ module _ (size : ℕ) (s : StoredWorld) (F slot : ℕ) (r : PoolRec) (new : List
   abbrev h : HoldsFile file stored
   h = file_held bytes file held
 
-  abbrev drawn : PoolRec
+  abbrev drawn : PoolRecord
   drawn = new_record r.name r.uid r.gid r.mode (reads old.now.words NEXT_NUMBER_WORD)
 
   abbrev May : ℕ → Type 0
   May n = MayImport size s n r.name r.uid r.gid r.mode file stored mask old.now.words
 
-  abbrev Placed : ℕ → PoolRec → Type 0
+  abbrev Placed : ℕ → PoolRecord → Type 0
   Placed n r = IsPlacedFor n (reads old.now.words) file.types bases slot r new puddles
 
-  abbrev Then : ℕ → PoolRec → Type 0
+  abbrev Then : ℕ → PoolRecord → Type 0
   Then n r = MayPlace size s n file bases slot r new puddles mask mid.now.words
 
   abbrev Moves : StoredWorld → Option HostFault → State → State → Type 0

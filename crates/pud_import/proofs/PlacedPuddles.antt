@@ -5,7 +5,7 @@ use Rattle.std.specs.List.{list_all}
 use Rattle.std.proofs.lemmas.Option.{slice_get-map, none-some, same_Some}
 use Rattle.std.proofs.lemmas.List.{append-nil, length-append, map-append}
 use Rattle.std.proofs.lemmas.List.Elements.{All-push, All-nil, All-map}
-use Rattle.pud_defs.specs.declared.records.PoolRec.{PoolRec}
+use Rattle.pud_defs.specs.declared.records.PoolRecord.{PoolRecord}
 use Rattle.pud_defs.specs.declared.records.Puddle.{Puddle}
 use Rattle.pud_defs.specs.declared.space.TheConstants.{LAST_FRONTIER}
 use Rattle.pud_defs.specs.Image.{Image}
@@ -73,7 +73,7 @@ module _ (t : Tables) where
       omega arith
   rise from taken (w ∷ wanted) (x ∷ puddles) placed (suc i) (suc j) a b less is_a is_b = rise (x.frame + 1) (taken ++ x.puddle.base ∷ []) wanted puddles placed.3 i j a b (omega arith) is_a is_b
 
-pub placed_rise : (F : ℕ) (image : Image) (types : List (ℕ × ℕ)) (wanted : List ℕ) (slot : ℕ) (r : PoolRec) (new : List NewType) (puddles : List Added) → IsPlacedFor F image types wanted slot r new puddles → FramesRise puddles
+pub placed_rise : (F : ℕ) (image : Image) (types : List (ℕ × ℕ)) (wanted : List ℕ) (slot : ℕ) (r : PoolRecord) (new : List NewType) (puddles : List Added) → IsPlacedFor F image types wanted slot r new puddles → FramesRise puddles
 placed_rise F image types wanted slot r new puddles is = record { each = rise (tables_of F image) 0 [] wanted puddles is.placed.turn }
 
 -- ---- found one behind the other

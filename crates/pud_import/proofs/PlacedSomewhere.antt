@@ -5,7 +5,7 @@ use Rattle.pm_model.specs.Moments.{State}
 use Rattle.pm_model.specs.Changes.{Changes}
 use Rattle.pm_model.proofs.Changes.{Changes-now}
 use Rattle.pud_defs.specs.declared.layout.TheConstants.{DAEMON_LOG, NEXT_NUMBER_WORD}
-use Rattle.pud_defs.specs.declared.records.PoolRec.{PoolRec}
+use Rattle.pud_defs.specs.declared.records.PoolRecord.{PoolRecord}
 use Rattle.pud_defs.specs.Image.{Image}
 use Rattle.pud_defs.specs.Stored.{Stored}
 use Rattle.batch.specs.Batches.{HasIdleGate}
@@ -24,18 +24,18 @@ HasIdleGate-frames F puddles fault a b c idle = record {
   each = λ v had. ⊎_elim (λ was. idle.each v was) (λ of. let low = of.word.low in absurd (omega arith)) (Changes-now (ByFrames F puddles) fault a b c DAEMON_LOG v had);
 }
 
-module _ (F : ℕ) (image : Image) (file : Stored) (types : List (ℕ × ℕ)) (slot : ℕ) (r : PoolRec) (new : List NewType) (puddles : List Added) (is : IsPlacedFor F image types (map (λ d. d.base) file.puddles) slot r new puddles) where
+module _ (F : ℕ) (image : Image) (file : Stored) (types : List (ℕ × ℕ)) (slot : ℕ) (r : PoolRecord) (new : List NewType) (puddles : List Added) (is : IsPlacedFor F image types (map (λ d. d.base) file.puddles) slot r new puddles) where
   abbrev p : Placement
   p = record { slot = slot; types = new; puddles = puddles }
 
-  abbrev drawn : PoolRec
+  abbrev drawn : PoolRecord
   drawn = new_record r.name r.uid r.gid r.mode (image NEXT_NUMBER_WORD)
 
   is_drawn : r ≡ drawn
   is_drawn = ap (new_record r.name r.uid r.gid r.mode) is.number
 
   placed_so : IsPlacedFor F image types (map (λ d. d.base) file.puddles) slot drawn new puddles
-  placed_so = subst (λ (r : PoolRec). IsPlacedFor F image types (map (λ d. d.base) file.puddles) slot r new puddles) is_drawn is
+  placed_so = subst (λ (r : PoolRecord). IsPlacedFor F image types (map (λ d. d.base) file.puddles) slot r new puddles) is_drawn is
 
   -- the frames could not be filled
   pub PlacesSomewhere-unfilled : (fault : HostFault) (old mid : State) → Changes (ByFrames F puddles) (Some fault) old mid → PlacesSomewhere F image file types r.name r.uid r.gid r.mode (Some fault) old mid
@@ -59,7 +59,7 @@ module _ (F : ℕ) (image : Image) (file : Stored) (types : List (ℕ × ℕ)) (
     first = None;
     fills = c;
     filled = λ none. filled (placed_rise F image types (map (λ d. d.base) file.puddles) slot r new puddles is) refl;
-    then = inr (refl, subst (λ (r : PoolRec). CommitsPuts (placing slot r new puddles) fault mid later) is_drawn (commits (HasIdleGate-frames F puddles None old mid c idle)));
+    then = inr (refl, subst (λ (r : PoolRecord). CommitsPuts (placing slot r new puddles) fault mid later) is_drawn (commits (HasIdleGate-frames F puddles None old mid c idle)));
   }
 
 -- a state of which only was read before

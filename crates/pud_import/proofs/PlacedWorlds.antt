@@ -9,7 +9,7 @@ use Rattle.pud_defs.specs.declared.layout.TheConstants.{FRAME_WORDS, TYPE_RECORD
 use Rattle.pud_defs.specs.declared.space.TheConstants.{FRAME_MAGIC, FRAME_MAGIC_WORD, FRAME_NUMBER_WORD, FRAME_ORDINAL_WORD, LAST_FRONTIER}
 use Rattle.pud_defs.specs.declared.records.TheConstants.{POOL_RECORDS}
 use Rattle.pud_defs.specs.declared.records.Puddle.{Puddle}
-use Rattle.pud_defs.specs.declared.records.PoolRec.{PoolRec}
+use Rattle.pud_defs.specs.declared.records.PoolRecord.{PoolRecord}
 use Rattle.pud_defs.specs.Image.{Image}
 use Rattle.pud_defs.specs.Frames.{frame_at, frame_word}
 use Rattle.pud_defs.specs.Keyed.{first_free}
@@ -48,7 +48,7 @@ module _ (F : ℕ) (i j : Image) (tables : tables_of F j ≡ tables_of F i) (num
   same_types : types_of j ≡ types_of i
   same_types = keyed-same nat_cmp (type_at j) (type_at i) 0 TYPE_RECORDS (λ k low high. types k (omega arith))
 
-  pub IsPlacedFor-same : (file : List (ℕ × ℕ)) (wanted : List ℕ) (slot : ℕ) (r : PoolRec) (new : List NewType) (puddles : List Added) → IsPlacedFor F i file wanted slot r new puddles → IsPlacedFor F j file wanted slot r new puddles
+  pub IsPlacedFor-same : (file : List (ℕ × ℕ)) (wanted : List ℕ) (slot : ℕ) (r : PoolRecord) (new : List NewType) (puddles : List Added) → IsPlacedFor F i file wanted slot r new puddles → IsPlacedFor F j file wanted slot r new puddles
   IsPlacedFor-same file wanted slot r new puddles is = record {
     slot_is = ap (λ (t : Tables). first_free t.pools 0 POOL_RECORDS) tables ∙ is.slot_is;
     absent = ap (λ (t : Tables). pool_in t r.name) tables ∙ is.absent;

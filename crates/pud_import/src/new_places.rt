@@ -24,7 +24,7 @@ use crate::placing::PlaceFault;
 use arrayvec::ArrayVec;
 use pm_model::{Host, HostFault};
 use pud_defs::layout::{MAX_FRAMES, NUMBER_LIMIT};
-use pud_defs::records::{MAX_PUDDLES, POOL_RECORDS, PuddleRec};
+use pud_defs::records::{MAX_PUDDLES, POOL_RECORDS, PuddleRecord};
 use puddle_space::{free_base, has_base};
 use puddle_table::{PuddleFault, free_frame};
 use registry::Added;
@@ -135,7 +135,7 @@ pub(crate) fn find_places<H: Host>(
         bases.push(base);
         puddles.push(Added {
             frame,
-            puddle: PuddleRec {
+            puddle: PuddleRecord {
                 pool: slot,
                 ordinal,
                 number: number + 1 + u64::from(ordinal),

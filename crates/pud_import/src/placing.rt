@@ -25,7 +25,7 @@ use crate::filling::fill_frames;
 use crate::plan::find_plan;
 use pm_model::{Host, HostFault};
 use pud_defs::layout::{MAX_FRAMES, NUMBER_LIMIT, TYPE_RECORDS};
-use pud_defs::records::{MAX_PUDDLES, Name, POOL_RECORDS, PoolRec};
+use pud_defs::records::{MAX_PUDDLES, Name, POOL_RECORDS, PoolRecord};
 use registry::{Added, NewType, place_pool};
 
 /// Why a file was not placed. Nothing changed, but by a fault of the host.
@@ -62,7 +62,7 @@ fn fill_and_place<H: Host>(
     frames: u32,
     view: &FileView<'_>,
     slot: u32,
-    rec: PoolRec,
+    rec: PoolRecord,
     types: &[NewType],
     puddles: &[Added],
 ) -> Result<(), HostFault>
@@ -128,7 +128,7 @@ pub fn place<H: Host>(
     let plan = find_plan(h, frames, view, name)?;
     let types = plan.types.as_slice();
     let puddles = plan.puddles.as_slice();
-    let rec = PoolRec {
+    let rec = PoolRecord {
         name,
         uid,
         gid,

@@ -27,7 +27,7 @@ use crate::placing::PlaceFault;
 use pm_model::Host;
 use pool_table::{PoolFault, free_slot};
 use pud_defs::layout::{MAX_FRAMES, NEXT_NUMBER_WORD, NUMBER_LIMIT, SPACE_TABLE};
-use pud_defs::records::{MAX_PUDDLES, Name, POOL_RECORDS, PuddleRec};
+use pud_defs::records::{MAX_PUDDLES, Name, POOL_RECORDS, PuddleRecord};
 use pud_defs::space::LAST_FRONTIER;
 use registry::Added;
 
@@ -111,7 +111,7 @@ fn with_frontier(puddles: &[Added], frontier: u32) -> NewPuddles
 {
     let mut new = NewPuddles::new();
     for added in puddles {
-        let puddle = PuddleRec {
+        let puddle = PuddleRecord {
             frontier,
             ..added.puddle
         };

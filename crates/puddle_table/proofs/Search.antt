@@ -5,7 +5,7 @@ use Rattle.std.proofs.lemmas.Bool.{cases_eq, cond-true, cond-false}
 use Rattle.std.proofs.lemmas.Bool.Decides.{nat_tests}
 use Rattle.std.proofs.lemmas.Cmp.{nat_cmp_total}
 use Rattle.pud_defs.specs.declared.records.Puddle.{Puddle}
-use Rattle.pud_defs.specs.declared.records.PuddleRec.{PuddleRec}
+use Rattle.pud_defs.specs.declared.records.PuddleRecord.{PuddleRecord}
 use Rattle.pud_defs.specs.Image.{Image}
 use Rattle.pud_defs.specs.Keyed.{first_free, under, first_from}
 use Rattle.pud_defs.specs.Puddles.{Member, member_pool, member_ordinal, puddle_record_at, puddle_by, puddle_at, puddle_read, member_word}
@@ -53,7 +53,7 @@ pub frame_found : (o : Option ℕ) (frame : ℕ) → Ok frame ≡ frame_by o →
 frame_found None frame e = absurd (let no : Ok frame ≡ Err NoSpace = e in cc)
 frame_found (Some at) frame e = let same : Ok frame ≡ Ok at = e in cc
 
-pub none_found : (o : Option ℕ) (fault : PuddleFault) (r : PuddleRec) → Err fault ≡ frame_by o → Err fault ≡ added_at o r
+pub none_found : (o : Option ℕ) (fault : PuddleFault) (r : PuddleRecord) → Err fault ≡ frame_by o → Err fault ≡ added_at o r
 none_found None fault r e = let same : Err fault ≡ Err NoSpace = e in cc
 none_found (Some at) fault r e = absurd (let no : Err fault ≡ Ok at = e in cc)
 
@@ -88,12 +88,12 @@ whole : (n : ℕ) → n ≡ n - 0
 whole n = omega arith
 
 -- what was found, as it is read
-abbrev pub read_found : (slot ordinal : ℕ) → Option (ℕ × Puddle) → Option (ℕ × PuddleRec)
+abbrev pub read_found : (slot ordinal : ℕ) → Option (ℕ × Puddle) → Option (ℕ × PuddleRecord)
 read_found slot ordinal found = option_map (λ p. (p.0, puddle_read slot ordinal p.1)) found
 
 module _ (F : ℕ) (image : Image) (slot ordinal : ℕ) where
   -- what the search answers from a frame on
-  unfoldable pub found_from : ℕ → Option (ℕ × PuddleRec)
+  unfoldable pub found_from : ℕ → Option (ℕ × PuddleRecord)
   found_from frame = read_found slot ordinal (first_from nat_cmp ordinal (members (tables_of F image) slot) frame (F - frame))
 
   pub found_from-start : puddle_in (tables_of F image) slot ordinal ≡ found_from 0
@@ -140,6 +140,6 @@ words_read image frame at number base old_base frontier e n b o f =
     let f1 = f ∙ ap (λ (k : ℕ). image (k + 4)) e in
     λ p. puddle_of (n1 p) (b1 p) (o1 p) (f1 p)
 
-pub put_same : (frame : ℕ) (r : PuddleRec) (w member frontier : ℕ) → w ≡ puddle_record_at frame → member ≡ member_word (r.pool + 1) r.ordinal → frontier ≡ r.frontier
+pub put_same : (frame : ℕ) (r : PuddleRecord) (w member frontier : ℕ) → w ≡ puddle_record_at frame → member ≡ member_word (r.pool + 1) r.ordinal → frontier ≡ r.frontier
     → put_of w (member ∷ r.number ∷ r.base ∷ r.old_base ∷ frontier ∷ []) ≡ puddle_put frame r
 put_same frame r w member frontier e m f = λ p. put_of (e p) (m p ∷ r.number ∷ r.base ∷ r.old_base ∷ f p ∷ [])

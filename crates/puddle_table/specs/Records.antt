@@ -3,7 +3,7 @@ use Rattle.std.specs.Prelude.{◌≡◌, ℕ, ◌+◌, ◌-◌, ◌%◌, ◌^◌
 use Rattle.pm_model.specs.declared.host.HostFault.{HostFault}
 use Rattle.pud_defs.specs.declared.records.TheConstants.{POOL_RECORDS, PUDDLE_NUMBER_WORD, PUDDLE_BASE_WORD, PUDDLE_OLD_BASE_WORD, PUDDLE_FRONTIER_WORD}
 use Rattle.pud_defs.specs.declared.records.Puddle.{Puddle}
-use Rattle.pud_defs.specs.declared.records.PuddleRec.{PuddleRec}
+use Rattle.pud_defs.specs.declared.records.PuddleRecord.{PuddleRecord}
 use Rattle.pud_defs.specs.declared.records.Put.{Put}
 use Rattle.pud_defs.specs.Image.{Image}
 use Rattle.pud_defs.specs.Keyed.{first_free, count_used}
@@ -25,16 +25,16 @@ frame_by (Some frame) = Ok frame
 frame_by None = Err faults.NoSpace
 
 -- what adding a record answers at the lowest free frame
-abbrev pub added_at : Option ℕ → PuddleRec → Result Put PuddleFault
+abbrev pub added_at : Option ℕ → PuddleRecord → Result Put PuddleFault
 added_at (Some frame) r = Ok (puddle_put frame r)
 added_at None r = Err faults.NoSpace
 
 -- What adding a record from a frame on answers: the words of the lowest free one there, or none is free.
-abbrev pub added : Tables → ℕ → PuddleRec → Result Put PuddleFault
+abbrev pub added : Tables → ℕ → PuddleRecord → Result Put PuddleFault
 added t from r = added_at (first_free t.puddles from (t.frames - from)) r
 
 -- A record is added in the lowest free frame from one on.
-pub record Adds (r : PuddleRec) (from : ℕ) (t u : Tables) : Type 0 where
+pub record Adds (r : PuddleRecord) (from : ℕ) (t u : Tables) : Type 0 where
   pub frame : ℕ
   pub lowest : first_free t.puddles from (t.frames - from) ≡ Some frame
   pub is : u ≡ with_puddle_at frame (Some (member_by r)) t
@@ -57,7 +57,7 @@ abbrev pub frontier_of : Image → ℕ → ℕ
 frontier_of image frame = image (puddle_record_at frame + PUDDLE_FRONTIER_WORD) % 2 ^ 32
 
 -- what was found is in one of so many frames
-abbrev pub IsFrame : ℕ → ℕ × PuddleRec → Type 0
+abbrev pub IsFrame : ℕ → ℕ × PuddleRecord → Type 0
 IsFrame F found = found.0 < F
 
 -- Counts by slots of the pool table: how many used records of so many frames name the slot's pool.

@@ -25,7 +25,7 @@ use pm_model::{Host, HostFault};
 use pud_defs::layout::{MAX_FRAMES, PUDDLE_RECORD_WORDS, PUDDLE_TABLE};
 use pud_defs::records::{
     POOL_RECORDS, PUDDLE_BASE_WORD, PUDDLE_FRONTIER_WORD, PUDDLE_NUMBER_WORD, PUDDLE_OLD_BASE_WORD,
-    Puddle, PuddleRec, Put, RECORD_WORDS_READ, member_ordinal, member_pool, member_word,
+    Puddle, PuddleRecord, Put, RECORD_WORDS_READ, member_ordinal, member_pool, member_word,
 };
 
 /// Why a puddle was not added. Nothing changed.
@@ -79,7 +79,7 @@ pub fn free_frame<H: Host>(h: &mut H, frames: u32, from: u32) -> Result<u32, Pud
 }
 
 /// The words that put the record into that of the frame, whatever it held.
-pub fn record_put(frame: u32, rec: PuddleRec) -> Put
+pub fn record_put(frame: u32, rec: PuddleRecord) -> Put
     requires frame { frame < MAX_FRAMES }
     requires pool { rec.pool < POOL_RECORDS }
     ensures put { result ≡ puddle_put frame rec }
@@ -108,7 +108,7 @@ pub fn record_put(frame: u32, rec: PuddleRec) -> Put
 ///
 /// The device has the puddle table of so many frames. `NoSpace` comes exactly where no such frame is free, where the host
 /// does not fail first. Nothing is written.
-pub fn add<H: Host>(h: &mut H, frames: u32, from: u32, rec: PuddleRec) -> Result<Put, PuddleFault>
+pub fn add<H: Host>(h: &mut H, frames: u32, from: u32, rec: PuddleRecord) -> Result<Put, PuddleFault>
     requires few { frames ≤ MAX_FRAMES }
     requires table { tables_end frames ≤ (H.counts h.old).size }
     requires known { rec.pool < POOL_RECORDS }
@@ -170,7 +170,7 @@ fn read_record<H: Host>(
     frame: u32,
     pool: u32,
     ordinal: u32,
-) -> Result<PuddleRec, HostFault>
+) -> Result<PuddleRecord, HostFault>
     requires known { frame < MAX_FRAMES }
     requires table { puddle_record_at (frame + 1) ≤ (H.counts h.old).size }
     ensures record { H.tells → (image : Image) → reads (H.state h.old).now.words ≡ image
@@ -178,7 +178,7 @@ fn read_record<H: Host>(
     ensures only_reads { OnlyReads H.tells H.state H.counts (fault_of result) h.old h.new }
 {
     let puddle = read_puddle(h, frame)?;
-    Ok(PuddleRec {
+    Ok(PuddleRecord {
         pool,
         ordinal,
         number: puddle.number,
@@ -197,7 +197,7 @@ pub fn of_pool<H: Host>(
     frames: u32,
     pool: u32,
     ordinal: u32,
-) -> Result<Option<(u32, PuddleRec)>, HostFault>
+) -> Result<Option<(u32, PuddleRecord)>, HostFault>
     requires few { frames ≤ MAX_FRAMES }
     requires table { tables_end frames ≤ (H.counts h.old).size }
     requires known { pool < POOL_RECORDS }

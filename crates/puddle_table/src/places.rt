@@ -21,7 +21,7 @@ use crate::{read_puddle, read_record, record_at};
 use arrayvec::ArrayVec;
 use pm_model::{Host, HostFault};
 use pud_defs::records::{
-    MAX_PUDDLES, POOL_RECORDS, Puddle, PuddleRec, member_ordinal, member_pool,
+    MAX_PUDDLES, POOL_RECORDS, Puddle, PuddleRecord, member_ordinal, member_pool,
 };
 use std::marker::Model;
 
@@ -164,7 +164,7 @@ impl Places {
         h: &mut H,
         pool: u32,
         ordinal: u32,
-    ) -> Result<Option<(u32, PuddleRec)>, HostFault>
+    ) -> Result<Option<(u32, PuddleRecord)>, HostFault>
         requires pool { pool < POOL_RECORDS }
         requires ordinal { ordinal < MAX_PUDDLES }
         requires table { tables_end (self.now).count ≤ (H.counts h.old).size }

@@ -10,7 +10,7 @@ use Rattle.pm_model.specs.Masks.{masked}
 use Rattle.pm_model.proofs.Masks.{reads-masked}
 use Rattle.pm_model.specs.Moments.{State}
 use Rattle.pud_defs.specs.declared.layout.TheConstants.{CLIENTS}
-use Rattle.pud_defs.specs.declared.records.PoolRec.{PoolRec}
+use Rattle.pud_defs.specs.declared.records.PoolRecord.{PoolRecord}
 use Rattle.pud_defs.specs.declared.records.Puddle.{Puddle}
 use Rattle.pud_defs.specs.declared.machine.Refusal.{Refusal}
 use Rattle.pud_defs.specs.declared.machine.Refusal.TheVariants as refusals
@@ -204,7 +204,7 @@ module _ (size : ℕ) (w : World) (memory : Memory) (s : State) (ready : IsReady
   pub need_pool : (need : Need) (who : Owner) → w.clients client ≡ Some who → None ≡ pool_in t name → refusal_to w need client name ≡ Some refusals.Pool
   need_pool need who there none = ap₂ (λ (acts : Option Owner) (found : Option Pool). need_refusal need acts found client (open_on name w)) there (unnamed none)
 
-  module _ (slot : ℕ) (rec : PoolRec) (is : IsRecordOf F name image slot rec) where
+  module _ (slot : ℕ) (rec : PoolRecord) (is : IsRecordOf F name image slot rec) where
     pub found : IsNamed t name slot rec
     found = named_by t name slot rec (find name_cmp name (records_of t)) refl is
 
@@ -224,14 +224,14 @@ module _ (size : ℕ) (w : World) (memory : Memory) (s : State) (ready : IsReady
     pub mode_same : rec.mode ≡ found.r.mode
     mode_same =
         let at = found_record t name slot found.r found.found in
-        ap (λ (x : PoolRec). x.mode) found.same
+        ap (λ (x : PoolRecord). x.mode) found.same
         ∙ mode_read found.r.mode (legal_mode w.stored.next_number found.r (ap (is_sound_pool w.stored.next_number) (sym at.used) ∙ legal_pool w.stored.next_number t sound slot at.below))
 
     uid_same : rec.uid ≡ found.r.uid
-    uid_same = ap (λ (x : PoolRec). x.uid) found.same
+    uid_same = ap (λ (x : PoolRecord). x.uid) found.same
 
     gid_same : rec.gid ≡ found.r.gid
-    gid_same = ap (λ (x : PoolRec). x.gid) found.same
+    gid_same = ap (λ (x : PoolRecord). x.gid) found.same
 
     -- who acts so has the right that is needed, by what was read
     right_there : (need : Need) (uid gid : ℕ) → has_right need (Some (owner uid gid)) (Some (pool_by_record hold t (slot, found.r))) ≡ right_by need rec (owner uid gid)
@@ -316,7 +316,7 @@ module _ (size : ℕ) (w : World) (memory : Memory) (s : State) (ready : IsReady
             graph = holds.graph;
             holds = ap graph_in (sym named) ∙ had holds;
             stored = ap (λ (p : List (ℕ × Puddle)). graph_of (types_of image) (stored_in F p image)) (sym are) ∙ holds.stored;
-            number_is = ap (λ (x : PoolRec). x.number) found.same;
+            number_is = ap (λ (x : PoolRecord). x.number) found.same;
             count = ap length (sym are ∙ puddles_are) ∙ length-map (puddles_of t slot) (λ e. e.1);
             types = types.types;
             exportable = subst (λ (p : List (ℕ × Puddle)). IsExportable (types_of image) (stored_in F p image)) are

@@ -10,7 +10,7 @@ use Rattle.pm_model.specs.Moments.{State}
 use Rattle.pm_model.specs.Changes.{Write, Changes}
 use Rattle.pm_model.proofs.Words.{HasOnly-own}
 use Rattle.pud_defs.specs.declared.layout.TheConstants.{DAEMON_LOG, NEXT_NUMBER_WORD, FRAME_WORDS}
-use Rattle.pud_defs.specs.declared.records.PoolRec.{PoolRec}
+use Rattle.pud_defs.specs.declared.records.PoolRecord.{PoolRecord}
 use Rattle.pud_defs.specs.Image.{Image}
 use Rattle.pud_defs.specs.Frames.{frame_at}
 use Rattle.pud_defs.specs.Layout.{IsWithin, frames_at}
@@ -88,7 +88,7 @@ filled_single F file puddles new filled k = elim (is_among F puddles k) [
   | inr none ↦ inl (λ v may. none may)
 ]
 
-module _ (F : ℕ) (image : Image) (file : List (ℕ × ℕ)) (wanted : List ℕ) (slot : ℕ) (r : PoolRec) (p : Placement) (is : IsPlacedFor F image file wanted slot r p.types p.puddles) where
+module _ (F : ℕ) (image : Image) (file : List (ℕ × ℕ)) (wanted : List ℕ) (slot : ℕ) (r : PoolRecord) (p : Placement) (is : IsPlacedFor F image file wanted slot r p.types p.puddles) where
   -- they are free
   frame_words : (k v : ℕ) → ByFrames F p.puddles k v → IsFreeFrameWord F (tables_of F image) k
   frame_words k v word =

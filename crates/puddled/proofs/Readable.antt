@@ -7,8 +7,8 @@ use Rattle.pm_model.specs.declared.host.HostFault.TheVariants.{Cut}
 use Rattle.pm_model.specs.Words.{reads}
 use Rattle.pm_model.specs.Moments.{State}
 use Rattle.pud_defs.specs.declared.records.Puddle.{Puddle}
-use Rattle.pud_defs.specs.declared.objects.Val.{Val}
-use Rattle.pud_defs.specs.declared.objects.Val.TheVariants.{Num, Ref}
+use Rattle.pud_defs.specs.declared.objects.FieldValue.{FieldValue}
+use Rattle.pud_defs.specs.declared.objects.FieldValue.TheVariants.{Num, Ref}
 use Rattle.pud_defs.specs.declared.machine.Command.{Command}
 use Rattle.pud_defs.specs.declared.machine.Command.TheVariants.{Get}
 use Rattle.pud_defs.specs.declared.machine.Refusal.{Refusal}
@@ -82,7 +82,7 @@ ready_built size w memory judged a b same ready built puddles =
 -- ---- what is replied
 
 -- why the line is refused of a pool that it may read, by the object and its field
-abbrev lacking : Option Object → Option Val → Option Refusal
+abbrev lacking : Option Object → Option FieldValue → Option Refusal
 lacking object field = cond (is_none object) (Some refusals.Object) (cond (is_none field) (Some refusals.Field) None)
 
 module _ (w : World) (client : ℕ) (name : List ℕ) (serial f : ℕ) where
@@ -104,7 +104,7 @@ module _ (w : World) (client : ℕ) (name : List ℕ) (serial f : ℕ) where
   get_refused r is = refusal_of-get ∙ ap (λ (o : Option Refusal). option_or o (lacking object (field_of f object))) is
 
   -- it is read: what is replied by the object and its field
-  reply_by : (o : Option Object) (v : Option Val) (read : FieldRead) → object ≡ o → field_of f object ≡ v → read ≡ read_by o f → field_of f o ≡ v → refusal_to w needs.Read client name ≡ None
+  reply_by : (o : Option Object) (v : Option FieldValue) (read : FieldRead) → object ≡ o → field_of f object ≡ v → read ≡ read_by o f → field_of f o ≡ v → refusal_to w needs.Read client name ≡ None
       → of_reply (reply_of_read read) ≡ answer_by w (Some c)
   unfolding answer
   reply_by None v read is there e same free =

@@ -1,7 +1,7 @@
 -- What a line needs of the pool that it names, what is found of it, and why its session does not begin.
 use Rattle.std.specs.Prelude.{◌≡◌, ◌<◌, ℕ, Bool, true, false, not, ◌==◌, cond, is_some, is_none, unwrap_or, option_map, List, [], Option, Some, None, Result, Ok, Err}
 use Rattle.pud_defs.specs.declared.records.TheConstants.{POOL_RECORDS}
-use Rattle.pud_defs.specs.declared.records.PoolRec.{PoolRec}
+use Rattle.pud_defs.specs.declared.records.PoolRecord.{PoolRecord}
 use Rattle.pud_defs.specs.declared.machine.Refusal.{Refusal}
 use Rattle.pud_defs.specs.declared.machine.Refusal.TheVariants as refusals
 use Rattle.pud_defs.specs.Image.{Image}
@@ -49,7 +49,7 @@ has_right needs.Write who found = has_write_right who found
 has_right needs.Graph who found = true
 
 -- the same by the pool's record
-abbrev pub right_by : Need → PoolRec → Owner → Bool
+abbrev pub right_by : Need → PoolRecord → Owner → Bool
 right_by needs.Owner rec who = who.uid == rec.uid
 right_by needs.Read rec who = may_read rec.mode (owner rec.uid rec.gid) who
 right_by needs.Write rec who = may_write rec.mode (owner rec.uid rec.gid) who
@@ -78,8 +78,8 @@ beside None client slot number = Ok (record { slot = slot; number = number; own 
 beside (Some session) client slot number = cond (session.client == client) (Ok (record { slot = slot; number = number; own = Some session.log_number })) (Err refusals.Busy)
 
 -- the pool of the name has this record, as it is read, in the slot
-abbrev pub IsRecordOf : (F : ℕ) → List ℕ → Image → (slot : ℕ) → PoolRec → Type 0
-IsRecordOf F name image slot rec = ◌≡◌ {A = Option (ℕ × PoolRec)} (Some (slot, rec)) (pool_in (tables_of F image) name)
+abbrev pub IsRecordOf : (F : ℕ) → List ℕ → Image → (slot : ℕ) → PoolRecord → Type 0
+IsRecordOf F name image slot rec = ◌≡◌ {A = Option (ℕ × PoolRecord)} (Some (slot, rec)) (pool_in (tables_of F image) name)
 
 -- the session on it then
 abbrev pub session_found : List (Option Session) → (client : ℕ) → Found → Option Session
@@ -88,7 +88,7 @@ session_found sessions client found = option_map (λ number. record { client = c
 -- The pool that was found is that of the name, by its record. Where a transaction is open on it that is the client's own, with the log of the number.
 -- Where it needs a graph, what is known of it is its puddles, and that they have one.
 pub record IsFound (w : World) (need : Need) (client : ℕ) (name : List ℕ) (image : Image) (memory : Memory) (found : Found) : Type 0 where
-  pub rec : PoolRec
+  pub rec : PoolRecord
   pub is : IsRecordOf w.stored.frames name image found.slot rec
   pub number_is : found.number ≡ rec.number
   pub own : (number : ℕ) → found.own ≡ Some number → IsOwnTransactionOn client name found.slot number memory.active

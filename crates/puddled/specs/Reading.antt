@@ -1,6 +1,6 @@
 -- What is read of a pool, and what is replied to a line that reads a field.
 use Rattle.std.specs.Prelude.{◌≡◌, ℕ, List, Some}
-use Rattle.pud_defs.specs.declared.objects.Val.TheVariants.{Num, Ref}
+use Rattle.pud_defs.specs.declared.objects.FieldValue.TheVariants.{Num, Ref}
 use Rattle.pud_defs.specs.declared.records.Puddle.{Puddle}
 use Rattle.pud_defs.specs.declared.machine.Reply.{Reply}
 use Rattle.pud_defs.specs.declared.machine.Reply.TheVariants as replies

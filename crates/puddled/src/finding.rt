@@ -4,7 +4,7 @@ ghost use Rattle.pm_model.specs.Words.{reads};
 ghost use Rattle.pm_model.specs.Counts.{fault_of};
 ghost use Rattle.pm_model.specs.Reads.{OnlyReads};
 ghost use Rattle.pud_defs.specs.declared.layout.TheConstants.{CLIENTS};
-ghost use Rattle.pud_defs.specs.declared.records.PoolRec.{PoolRec};
+ghost use Rattle.pud_defs.specs.declared.records.PoolRecord.{PoolRecord};
 ghost use Rattle.pud_defs.specs.declared.records.TheConstants.{POOL_RECORDS};
 ghost use Rattle.pud_defs.specs.declared.machine.Command.TheVariants as commands;
 ghost use Rattle.pud_defs.specs.Layout.{device_words};
@@ -28,7 +28,7 @@ use owner_modes::{may_read, may_write};
 use pm_model::{Host, HostFault};
 use pool_table::find;
 use pud_defs::machine::Refusal;
-use pud_defs::records::{Name, Owner, PoolRec};
+use pud_defs::records::{Name, Owner, PoolRecord};
 
 /// What a line needs of the pool that it names.
 #[derive(Clone, Copy)]
@@ -74,7 +74,7 @@ fn needs_graph(need: Need) -> bool
 }
 
 /// Whether who acts as this owner has the right that is needed, by the pool's record.
-fn has_right(need: Need, rec: &PoolRec, who: Owner) -> bool
+fn has_right(need: Need, rec: &PoolRecord, who: Owner) -> bool
     ensures { result ≡ right_by need rec.now (owner_and who.uid who.gid) }
 {
     match need {
@@ -131,7 +131,7 @@ impl Daemon {
     ) -> Result<bool, HostFault>
         requires slot { slot < POOL_RECORDS }
         requires room { device_words (self.old).frames ≤ (H.counts h.old).size }
-        ensures lacks { H.tells → (size : ℕ) → (w : World) → IsReady size w self.old (H.state h.old) → (name : List ℕ) (rec : PoolRec) → IsRecordOf w.stored.frames name (reads (H.state h.old).now.words) slot rec
+        ensures lacks { H.tells → (size : ℕ) → (w : World) → IsReady size w self.old (H.state h.old) → (name : List ℕ) (rec : PoolRecord) → IsRecordOf w.stored.frames name (reads (H.state h.old).now.words) slot rec
             → IfOk result (λ lacks. lacks ≡ lacks_graph need (pool_named name w.stored)) }
         ensures known { IfOk result (λ lacks. lacks ≡ false → needs_graph need ≡ true → true ≡ is_some (known_puddles_in (self.new).judged slot)) }
         ensures ready { H.tells → (size : ℕ) → (w : World) → IsReady size w self.old (H.state h.old) → IsReady size w self.new (H.state h.old) }

@@ -19,7 +19,7 @@ use crate::finding::Need;
 use graph_read::FieldRead;
 use pm_model::{Host, HostFault};
 use pud_defs::machine::{Refusal, Reply};
-use pud_defs::objects::Val;
+use pud_defs::objects::FieldValue;
 use pud_defs::records::{Name, Puddle};
 use std::alloc::Global;
 
@@ -30,8 +30,8 @@ fn reply_of_read(read: FieldRead) -> Reply
     match read {
         FieldRead::NoObject => Reply::No(Refusal::Object),
         FieldRead::NoField => Reply::No(Refusal::Field),
-        FieldRead::Value(Val::Num(v)) => Reply::Num(v),
-        FieldRead::Value(Val::Ref(serial)) => Reply::Ref(serial),
+        FieldRead::Value(FieldValue::Num(v)) => Reply::Num(v),
+        FieldRead::Value(FieldValue::Ref(serial)) => Reply::Ref(serial),
     }
 }
 

@@ -7,7 +7,7 @@ use Rattle.std.proofs.lemmas.Cmp.{nat_cmp_total}
 use Rattle.std.proofs.lemmas.List.{length-map}
 use Rattle.std.proofs.lemmas.Option.{same_Some}
 use Rattle.pud_defs.specs.declared.records.TheConstants.{POOL_RECORDS}
-use Rattle.pud_defs.specs.declared.records.PoolRec.{PoolRec}
+use Rattle.pud_defs.specs.declared.records.PoolRecord.{PoolRecord}
 use Rattle.pud_defs.specs.declared.records.Puddle.{Puddle}
 use Rattle.pud_defs.specs.Keyed.{under}
 use Rattle.pud_defs.specs.Puddles.{Member}
@@ -56,7 +56,7 @@ module _ (next : ℕ) (t : Tables) (sound : HasSoundTables next t) (slot : ℕ) 
       ap (λ (x : ℕ × (ℕ × Puddle)). x.1) (same_Some {A = ℕ × (ℕ × Puddle)} (o, e) (o, d) both)
 
   -- as many members as the pool has puddles are all of them
-  pub all_members : (r : PoolRec) (at : List (ℕ × Puddle)) → t.pools slot ≡ Some r → HasMembers t slot at → length (puddles_of t slot) ≡ length at → puddles_in_turn t slot ≡ at
+  pub all_members : (r : PoolRecord) (at : List (ℕ × Puddle)) → t.pools slot ≡ Some r → HasMembers t slot at → length (puddles_of t slot) ≡ length at → puddles_in_turn t slot ≡ at
   all_members r at used has count =
       same_elements (puddles_in_turn t slot) at
       (ap length (puddles_in_turn-listed next t slot r sound within used) ∙ length-map (puddles_of t slot) (λ (e : ℕ × (ℕ × Puddle)). e.1) ∙ count)

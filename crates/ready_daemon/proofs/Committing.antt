@@ -8,7 +8,7 @@ use Rattle.std.proofs.lemmas.Bool.{cases_Bool, cond-true, false_from_ne_true}
 use Rattle.std.proofs.lemmas.Option.{same_Some}
 use Rattle.pud_defs.specs.declared.layout.TheConstants.{DAEMON_LOG, TYPE_TABLE, FRAME_WORDS}
 use Rattle.pud_defs.specs.declared.records.TheConstants.{POOL_RECORDS}
-use Rattle.pud_defs.specs.declared.records.PoolRec.{PoolRec}
+use Rattle.pud_defs.specs.declared.records.PoolRecord.{PoolRecord}
 use Rattle.pud_defs.specs.declared.records.Puddle.{Puddle}
 use Rattle.pud_defs.specs.Image.{Image}
 use Rattle.pud_defs.specs.Layout.{frames_at}
@@ -47,21 +47,21 @@ use Rattle.hybrid_tx.proofs.PoolScope.{pool_has_word-each}
 -- ---- pools that are read of two images
 
 -- the pool of a record, as two readers have it that agree on its puddles
-entry_read : (hold other : Reader) (t : Tables) (slot : ℕ) (r : Option PoolRec) → hold (listed (puddles_of t slot)) ≡ other (listed (puddles_of t slot))
+entry_read : (hold other : Reader) (t : Tables) (slot : ℕ) (r : Option PoolRecord) → hold (listed (puddles_of t slot)) ≡ other (listed (puddles_of t slot))
     → entry_of hold (puddles_of t slot) r ≡ entry_of other (puddles_of t slot) r
 unfolding pool_of
 entry_read hold other t slot None same = refl
 entry_read hold other t slot (Some r) same = ap (λ (h : Holding). Some (r.name, record (pool_of hold r (puddles_of t slot)) { holding = h })) same
 
 -- and as one has it that finds a graph in them
-pool_with_graph : (hold other : Reader) (r : PoolRec) (t : Tables) (slot : ℕ) (g : Graph) → hold (listed (puddles_of t slot)) ≡ Sound g
+pool_with_graph : (hold other : Reader) (r : PoolRecord) (t : Tables) (slot : ℕ) (g : Graph) → hold (listed (puddles_of t slot)) ≡ Sound g
     → pool_of hold r (puddles_of t slot) ≡ holding_graph g (pool_of other r (puddles_of t slot))
 unfolding pool_of
 pool_with_graph hold other r t slot g is = ap (λ (h : Holding). record (pool_of hold r (puddles_of t slot)) { holding = h }) is
 
 -- ---- an image that differs in a pool's frames
 
-module _ (size : ℕ) (s : StoredWorld) (i j : Image) (slot : ℕ) (r : PoolRec) (g : Graph) (stands : StandsFor size i s) (within : slot < POOL_RECORDS)
+module _ (size : ℕ) (s : StoredWorld) (i j : Image) (slot : ℕ) (r : PoolRecord) (g : Graph) (stands : StandsFor size i s) (within : slot < POOL_RECORDS)
     (used : (tables_of s.frames i).pools slot ≡ Some r)
     (same : (k : ℕ) → pool_has_word s.frames (puddles_in_turn (tables_of s.frames i) slot) k ≡ false → j k ≡ i k)
     (graph : graph_of s.types (stored_in s.frames (puddles_in_turn (tables_of s.frames i) slot) j) ≡ Some g) where
@@ -149,7 +149,7 @@ beside_same i j k same = elim (cases_Bool (is_in_log DAEMON_LOG k)) [
   | inr outside ↦ beside_log-outside DAEMON_LOG j k outside ∙ same ∙ sym (beside_log-outside DAEMON_LOG i k outside)
 ]
 
-module _ (size : ℕ) (s : StoredWorld) (i j : Image) (slot : ℕ) (r : PoolRec) (at : List (ℕ × Puddle)) (g : Graph) (idle : is_idle_gate (i DAEMON_LOG) ≡ true) (world : idle_world_of size i ≡ Some s)
+module _ (size : ℕ) (s : StoredWorld) (i j : Image) (slot : ℕ) (r : PoolRecord) (at : List (ℕ × Puddle)) (g : Graph) (idle : is_idle_gate (i DAEMON_LOG) ≡ true) (world : idle_world_of size i ≡ Some s)
     (within : slot < POOL_RECORDS) (used : (tables_of s.frames i).pools slot ≡ Some r) (puddles : puddles_in_turn (tables_of s.frames i) slot ≡ at)
     (same : (k : ℕ) → pool_has_word s.frames at k ≡ false → j k ≡ i k) (graph : graph_of s.types (stored_in s.frames at j) ≡ Some g) where
   abbrev near : Image

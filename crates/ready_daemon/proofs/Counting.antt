@@ -12,7 +12,7 @@ use Rattle.pm_model.specs.Words.{Words, reads}
 use Rattle.pm_model.proofs.Masks.{reads-masked, masked_image-elsewhere}
 use Rattle.pud_defs.specs.declared.layout.TheConstants.{CLIENTS, CLIENT_LOGS}
 use Rattle.pud_defs.specs.declared.records.TheConstants.{POOL_RECORDS}
-use Rattle.pud_defs.specs.declared.records.PoolRec.{PoolRec}
+use Rattle.pud_defs.specs.declared.records.PoolRecord.{PoolRecord}
 use Rattle.pud_defs.specs.Entries.{Log, gate_lo, gate_hi}
 use Rattle.pud_defs.specs.Holdings.{holding_in}
 use Rattle.pud_defs.specs.Image.{Image}
@@ -93,7 +93,7 @@ module _ (size : ℕ) (w : World) (memory : Memory) (s : State) (ready : IsReady
       let pool = active_pool w memory.active ready.mask s.now.words ready.active x.number on.active on.is in
       absurd (none-some pool.rec (sym free ∙ ap t.pools (sym on.slot_is) ∙ pool.used))
 
-  each_slot : (slot : ℕ) (r : Option PoolRec) → t.pools slot ≡ r → worth name_cmp counts (entry_of hold (puddles_of t slot) r) ≡ number_of (is_of client (session slot))
+  each_slot : (slot : ℕ) (r : Option PoolRecord) → t.pools slot ≡ r → worth name_cmp counts (entry_of hold (puddles_of t slot) r) ≡ number_of (is_of client (session slot))
   each_slot slot None free = ap number_of (sym (free_slot slot (session slot) free refl))
   each_slot slot (Some r) used =
       let here = holder_is size w memory s ready r.name slot (record { rec = r; used = used; name_is = refl }) in

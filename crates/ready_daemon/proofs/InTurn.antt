@@ -6,7 +6,7 @@ use Rattle.pm_model.specs.Words.{reads}
 use Rattle.pm_model.specs.Masks.{masked}
 use Rattle.pm_model.specs.Moments.{State}
 use Rattle.pud_defs.specs.declared.records.TheConstants.{POOL_RECORDS}
-use Rattle.pud_defs.specs.declared.records.PoolRec.{PoolRec}
+use Rattle.pud_defs.specs.declared.records.PoolRecord.{PoolRecord}
 use Rattle.pud_defs.specs.declared.records.Puddle.{Puddle}
 use Rattle.pud_defs.specs.Holdings.{holding_in}
 use Rattle.pud_defs.specs.Names.{name_cmp}
@@ -26,7 +26,7 @@ use Rattle.ready_daemon.proofs.TablesBeside.{sound_read, pools_read}
 -- ---- a daemon that is ready
 
 -- the world's pool of a record that is used, with the words masked of what is held
-pub record IsPoolOf (w : World) (hold : Reader) (t : Tables) (slot : ℕ) (r : PoolRec) : Type 0 where
+pub record IsPoolOf (w : World) (hold : Reader) (t : Tables) (slot : ℕ) (r : PoolRecord) : Type 0 where
   pub named : pool_named r.name w.stored ≡ Some (pool_of hold r (puddles_of t slot))
   pub in_turn : puddles_in_turn t slot ≡ listed (puddles_of t slot)
 
@@ -37,7 +37,7 @@ module _ (size : ℕ) (w : World) (memory : Memory) (s : State) (ready : IsReady
   abbrev hold : Reader
   hold = holding_in w.stored.types w.stored.frames (reads (masked ready.mask s.now.words))
 
-  pub pool_in_slot : (slot : ℕ) (r : PoolRec) → slot < POOL_RECORDS → t.pools slot ≡ Some r → IsPoolOf w hold t slot r
+  pub pool_in_slot : (slot : ℕ) (r : PoolRecord) → slot < POOL_RECORDS → t.pools slot ≡ Some r → IsPoolOf w hold t slot r
   pool_in_slot slot r within used =
       let sound = sound_read size w memory s ready in
       let named = ap (find name_cmp r.name) (sym (pools_read size w memory s ready)) ∙ found_pool hold w.stored.next_number t slot r sound within used in

@@ -11,8 +11,8 @@ use Rattle.pm_persist.proofs.Ranges.{placed_within}
 use Rattle.pud_defs.specs.declared.layout.TheConstants.{DAEMON_LOG, FRAME_WORDS, TYPE_TABLE, POOL_TABLE, PUDDLE_TABLE}
 use Rattle.pud_defs.specs.declared.records.TheConstants.{POOL_RECORDS}
 use Rattle.pud_defs.specs.declared.records.Puddle.{Puddle}
-use Rattle.pud_defs.specs.declared.records.PoolRec.{PoolRec}
-use Rattle.pud_defs.specs.declared.records.PuddleRec.{PuddleRec}
+use Rattle.pud_defs.specs.declared.records.PoolRecord.{PoolRecord}
+use Rattle.pud_defs.specs.declared.records.PuddleRecord.{PuddleRecord}
 use Rattle.pud_defs.specs.declared.records.Put.{Put}
 use Rattle.pud_defs.specs.Image.{Image}
 use Rattle.pud_defs.specs.Frames.{frame_at, fresh_frame}
@@ -124,7 +124,7 @@ module _ (F frame number ordinal : ℕ) (old mid : State) (free : (tables_of F (
   filled_puddles = puddles_same F (reads old.now.words) (reads mid.now.words) (λ k low high. filled_tables k (omega arith))
 
 -- the record of a puddle that is written behind words of no puddle's record is that of its frame alone
-module _ (F frame slot : ℕ) (r : PuddleRec) (before image : Image) (below : frame < F) (fits : r.pool + 1 < 2 ^ 32) (other : slot ≢ r.pool) (free : (tables_of F before).puddles frame ≡ None)
+module _ (F frame slot : ℕ) (r : PuddleRecord) (before image : Image) (below : frame < F) (fits : r.pool + 1 < 2 ^ 32) (other : slot ≢ r.pool) (free : (tables_of F before).puddles frame ≡ None)
     (same : (k : ℕ) → PUDDLE_TABLE ≤ k → k < tables_end F → image k ≡ before k) where
   member_here : member_of slot frame (Some (member_by r)) ≡ None
   member_here = cond-false (eqb (r.pool + 1) (slot + 1)) _ None (ne_eqb (r.pool + 1) (slot + 1) (λ e. other (let it : slot ≡ r.pool = omega arith in it)))
@@ -172,7 +172,7 @@ not_free F next slot image at sound has free =
 -- ---- a pool is made, or grows
 
 -- a frame is filled, and then changes are made of which the last is the record of its puddle, and no other is of a puddle
-record AddsPuddle (F frame : ℕ) (r : PuddleRec) (puts : List Put) (image : Image) : Type 0 where
+record AddsPuddle (F frame : ℕ) (r : PuddleRecord) (puts : List Put) (image : Image) : Type 0 where
   of : AreOfPools F puts
   below : frame < F
   few : r.pool < POOL_RECORDS
@@ -180,7 +180,7 @@ record AddsPuddle (F frame : ℕ) (r : PuddleRec) (puts : List Put) (image : Ima
   made : with_puts puts image ≡ with_put (puddle_put frame r) front
   same : (k : ℕ) → PUDDLE_TABLE ≤ k → k < tables_end F → front k ≡ image k
 
-module _ (F : ℕ) (but : Option ℕ) (old new : State) (puts : List Put) (frame number ordinal : ℕ) (r : PuddleRec) (free : (tables_of F (reads old.now.words)).puddles frame ≡ None)
+module _ (F : ℕ) (but : Option ℕ) (old new : State) (puts : List Put) (frame number ordinal : ℕ) (r : PuddleRecord) (free : (tables_of F (reads old.now.words)).puddles frame ≡ None)
     (adds : (image : Image) → AddsPuddle F frame r puts image)
     (other : (slot : ℕ) (at : List (ℕ × Puddle)) → but ≢ Some slot → HasGraphIn F slot (reads old.now.words) at → slot ≢ r.pool) where
   abbrev fill : Write
@@ -248,7 +248,7 @@ frame_within F frame image first =
 -- a pool is made: its slot was free, and no pool had a graph there
 module _ (F next number : ℕ) (name : List ℕ) (uid gid mode : ℕ) (old new : State) (sound : HasSoundTables next (tables_of F (reads old.now.words)))
     (m : MakesSomewhere (tables_of F (reads old.now.words)) number name uid gid mode None old new) where
-  abbrev pool : PoolRec
+  abbrev pool : PoolRecord
   pool = new_record name uid gid mode number
 
   slot_below : m.added.puddle.pool < POOL_RECORDS

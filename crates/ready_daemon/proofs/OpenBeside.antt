@@ -5,7 +5,7 @@ use Rattle.pm_model.specs.Words.{Words, reads}
 use Rattle.pm_model.specs.Changes.{Write}
 use Rattle.pm_model.specs.Masks.{masked_image}
 use Rattle.pm_model.proofs.Masks.{masked_image-elsewhere}
-use Rattle.pud_defs.specs.declared.records.PoolRec.{PoolRec}
+use Rattle.pud_defs.specs.declared.records.PoolRecord.{PoolRecord}
 use Rattle.pud_defs.specs.declared.records.Puddle.{Puddle}
 use Rattle.pud_defs.specs.Image.{Image}
 use Rattle.pud_defs.specs.Graph.{Graph, graph_of}
@@ -75,10 +75,10 @@ module _ (w : World) (active : ActiveTransaction) (mask : Write) (words : Words)
   abbrev p : OpenPool
   p = open_pool_of active is.puddles is.rec is.who
 
-  module _ (slot : ℕ) (r : PoolRec) (used : t.pools slot ≡ Some r) (other : r.name ≢ active.name) where
+  module _ (slot : ℕ) (r : PoolRecord) (used : t.pools slot ≡ Some r) (other : r.name ≢ active.name) where
     -- it does not stand in the slot of the held one
     pub other_slot : slot ≡ active.slot → ⊥
-    other_slot same = other (ap (λ (x : PoolRec). x.name) (same_Some r is.rec (sym used ∙ ap t.pools same ∙ used_still w active mask words is)) ∙ is.name)
+    other_slot same = other (ap (λ (x : PoolRecord). x.name) (same_Some r is.rec (sym used ∙ ap t.pools same ∙ used_still w active mask words is)) ∙ is.name)
 
     not_mine : (k : ℕ) → pool_has_word F (puddles_in_turn t slot) k ≡ true → pool_has_word F (finished_of is.puddles) k ≡ false
     not_mine = puddles_apart F t slot active.slot (puddles_in_turn t slot) (finished_of is.puddles) (each_in_turn t slot) (puddles_still w active mask words is).each other_slot
@@ -100,7 +100,7 @@ module _ (w : World) (active : ActiveTransaction) (mask : Write) (words : Words)
         mask_of_others F p is.before k (outside_log (log_number_at F active.log_number) k (inr (omega arith))) (not_mine k mine) (not_record k (is_open_record p k) refl mine)
 
 -- what a pool stores on which none is held is read as it is
-pub pool_unmasked : (w : World) (active : List (Option ActiveTransaction)) (mask : Write) (words : Words) (name : List ℕ) (slot : ℕ) (r : PoolRec) → AreActive w active mask words
+pub pool_unmasked : (w : World) (active : List (Option ActiveTransaction)) (mask : Write) (words : Words) (name : List ℕ) (slot : ℕ) (r : PoolRecord) → AreActive w active mask words
     → ((number : ℕ) (h : ActiveTransaction) → active_under active number ≡ Some h → h.name ≢ name) → (tables_of w.stored.frames (reads words)).pools slot ≡ Some r → r.name ≡ name
     → stored_in w.stored.frames (puddles_in_turn (tables_of w.stored.frames (reads words)) slot) (masked_image mask (reads words))
     ≡ stored_in w.stored.frames (puddles_in_turn (tables_of w.stored.frames (reads words)) slot) (reads words)

@@ -12,8 +12,8 @@ use Rattle.pm_model.specs.Changes.{Write}
 use Rattle.pm_model.specs.Masks.{masked}
 use Rattle.pud_defs.specs.declared.layout.TheConstants.{DAEMON_LOG, TYPE_RECORDS, TYPE_TABLE, PUDDLE_TABLE}
 use Rattle.pud_defs.specs.declared.records.TheConstants.{POOL_RECORDS}
-use Rattle.pud_defs.specs.declared.records.PoolRec.{PoolRec}
-use Rattle.pud_defs.specs.declared.records.PuddleRec.{PuddleRec}
+use Rattle.pud_defs.specs.declared.records.PoolRecord.{PoolRecord}
+use Rattle.pud_defs.specs.declared.records.PuddleRecord.{PuddleRecord}
 use Rattle.pud_defs.specs.declared.records.Put.{Put}
 use Rattle.pud_defs.specs.ExportFile.{FileContents}
 use Rattle.pud_defs.specs.Graph.{Graph, graph_of}
@@ -175,10 +175,10 @@ with_puts-free P [] image k are not = refl
 with_puts-free P (put ∷ puts) image k are not = with_puts-free P puts (with_put put image) k are.1 not ∙ with_put-outside put image k (λ low high. not (are.0 k low high))
 
 -- the record of another pool's puddle is none of this one's
-member_new : (slot frame : ℕ) (r : PuddleRec) → slot ≢ r.pool → member_of slot frame (Some (member_by r)) ≡ None
+member_new : (slot frame : ℕ) (r : PuddleRecord) → slot ≢ r.pool → member_of slot frame (Some (member_by r)) ≡ None
 member_new slot frame r other = cond-false (eqb (r.pool + 1) (slot + 1)) _ None (ne_eqb (r.pool + 1) (slot + 1) (λ e. other (let it : slot ≡ r.pool = omega arith in it)))
 
-member_beside : (slot frame : ℕ) (r : PuddleRec) (t : Tables) → slot ≢ r.pool → member_of slot frame (t.puddles frame) ≡ None
+member_beside : (slot frame : ℕ) (r : PuddleRecord) (t : Tables) → slot ≢ r.pool → member_of slot frame (t.puddles frame) ≡ None
     → (f : ℕ) → member_of slot f ((with_puddle_at frame (Some (member_by r)) t).puddles f) ≡ member_of slot f (t.puddles f)
 member_beside slot frame r t other none f = elim (cases_eq f frame) [
   | inl here ↦
@@ -194,7 +194,7 @@ abbrev AreOthers : (slot : ℕ) → Tables → List Added → Type 0
 AreOthers slot t [] = ⊤
 AreOthers slot t (a ∷ all) = (slot ≢ a.puddle.pool) × (member_of slot a.frame (t.puddles a.frame) ≡ None) × AreOthers slot t all
 
-others_more : (slot frame : ℕ) (r : PuddleRec) (t : Tables) → slot ≢ r.pool → member_of slot frame (t.puddles frame) ≡ None → (all : List Added) → AreOthers slot t all
+others_more : (slot frame : ℕ) (r : PuddleRecord) (t : Tables) → slot ≢ r.pool → member_of slot frame (t.puddles frame) ≡ None → (all : List Added) → AreOthers slot t all
     → AreOthers slot (with_puddle_at frame (Some (member_by r)) t) all
 others_more slot frame r t other none [] are = tt
 others_more slot frame r t other none (a ∷ all) are = (are.0, member_beside slot frame r t other none a.frame ∙ are.1, others_more slot frame r t other none all are.2)
@@ -237,7 +237,7 @@ types_in_front (new ∷ types) at from has known =
     let low = one.low in let high = one.high in
     (λ k from_here to. omega arith, types_in_front types at (new.record_number + 1) has.1 (omega arith))
 
-module _ (F : ℕ) (image : Image) (file : List (ℕ × ℕ)) (wanted : List ℕ) (slot : ℕ) (r : PoolRec) (types : List NewType) (puddles : List Added) (is : IsPlacedFor F image file wanted slot r types puddles) where
+module _ (F : ℕ) (image : Image) (file : List (ℕ × ℕ)) (wanted : List ℕ) (slot : ℕ) (r : PoolRecord) (types : List NewType) (puddles : List Added) (is : IsPlacedFor F image file wanted slot r types puddles) where
   abbrev t : Tables
   t = tables_of F image
 

@@ -14,7 +14,7 @@ use Rattle.pm_model.specs.Masks.{masked, masked_state, IsOff}
 use Rattle.pm_model.proofs.Masks.{reads-masked}
 use Rattle.pud_defs.specs.declared.layout.TheConstants.{CLIENTS, MAX_OWNER_ID, NEXT_NUMBER_WORD, DAEMON_LOG}
 use Rattle.pud_defs.specs.declared.records.TheConstants.{POOL_RECORDS, MAX_PUDDLES}
-use Rattle.pud_defs.specs.declared.records.PoolRec.{PoolRec}
+use Rattle.pud_defs.specs.declared.records.PoolRecord.{PoolRecord}
 use Rattle.pud_defs.specs.declared.records.Owner.{Owner}
 use Rattle.pud_defs.specs.declared.machine.Command.{Command}
 use Rattle.pud_defs.specs.declared.machine.Command.TheVariants.{Chmod}
@@ -417,26 +417,26 @@ all_free false false true beside none = absurd (let no : Some refusals.Denied �
 all_free false false false beside none = none
 
 -- a record as it is read
-abbrev read_record : ℕ × PoolRec → ℕ × PoolRec
+abbrev read_record : ℕ × PoolRecord → ℕ × PoolRecord
 read_record p = (p.0, pool_read p.1)
 
-pub no_record : (o : Option (ℕ × PoolRec)) → None ≡ option_map read_record o → o ≡ None
+pub no_record : (o : Option (ℕ × PoolRecord)) → None ≡ option_map read_record o → o ≡ None
 no_record None e = refl
-no_record (Some x) e = let read : ℕ × PoolRec = (x.0, pool_read x.1) in absurd (none-some read e)
+no_record (Some x) e = let read : ℕ × PoolRecord = (x.0, pool_read x.1) in absurd (none-some read e)
 
 -- the record of the name in these tables, as it is there and as it is read
-pub record IsNamed (t : Tables) (name : List ℕ) (slot : ℕ) (rec : PoolRec) : Type 0 where
-  pub r : PoolRec
+pub record IsNamed (t : Tables) (name : List ℕ) (slot : ℕ) (rec : PoolRecord) : Type 0 where
+  pub r : PoolRecord
   pub found : find name_cmp name (records_of t) ≡ Some (slot, r)
   pub same : rec ≡ pool_read r
 
-pub named_by : (t : Tables) (name : List ℕ) (slot : ℕ) (rec : PoolRec) (o : Option (ℕ × PoolRec)) → find name_cmp name (records_of t) ≡ o
-    → ◌≡◌ {A = Option (ℕ × PoolRec)} (Some (slot, rec)) (option_map read_record o) → IsNamed t name slot rec
-named_by t name slot rec None e is = absurd (none-some {A = ℕ × PoolRec} (slot, rec) (sym is))
+pub named_by : (t : Tables) (name : List ℕ) (slot : ℕ) (rec : PoolRecord) (o : Option (ℕ × PoolRecord)) → find name_cmp name (records_of t) ≡ o
+    → ◌≡◌ {A = Option (ℕ × PoolRecord)} (Some (slot, rec)) (option_map read_record o) → IsNamed t name slot rec
+named_by t name slot rec None e is = absurd (none-some {A = ℕ × PoolRecord} (slot, rec) (sym is))
 named_by t name slot rec (Some x) e is =
-    let same : ◌≡◌ {A = ℕ × PoolRec} (slot, rec) (read_record x) = same_Some {A = ℕ × PoolRec} (slot, rec) (read_record x) is in
-    let place : slot ≡ x.0 = ap (λ (p : ℕ × PoolRec). p.0) same in
-    record { r = x.1; found = e ∙ ap (λ n. Some (n, x.1)) (sym place); same = ap (λ (p : ℕ × PoolRec). p.1) same }
+    let same : ◌≡◌ {A = ℕ × PoolRecord} (slot, rec) (read_record x) = same_Some {A = ℕ × PoolRecord} (slot, rec) (read_record x) is in
+    let place : slot ≡ x.0 = ap (λ (p : ℕ × PoolRecord). p.0) same in
+    record { r = x.1; found = e ∙ ap (λ n. Some (n, x.1)) (sym place); same = ap (λ (p : ℕ × PoolRecord). p.1) same }
 
 -- the world's pool of the name
 pub pool_there : (size : ℕ) (w : World) (memory : Memory) (s : State) (ready : IsReady size w memory s) (name : List ℕ)
@@ -482,7 +482,7 @@ module _ (size : ℕ) (w : World) (memory : Memory) (s : State) (ready : IsReady
   refused_pool uid gid there none =
       by_owner uid gid None there (pool_there size w memory s ready name ∙ ap (option_map (pool_by_record active found_tables)) (no_record (find name_cmp name (records_of found_tables)) none))
 
-  module _ (uid gid slot : ℕ) (rec : PoolRec) (there : w.clients client ≡ Some (owner uid gid)) (is : ◌≡◌ {A = Option (ℕ × PoolRec)} (Some (slot, rec)) (pool_in found_tables name)) where
+  module _ (uid gid slot : ℕ) (rec : PoolRecord) (there : w.clients client ≡ Some (owner uid gid)) (is : ◌≡◌ {A = Option (ℕ × PoolRecord)} (Some (slot, rec)) (pool_in found_tables name)) where
     rec_of : IsNamed found_tables name slot rec
     rec_of = named_by found_tables name slot rec (find name_cmp name (records_of found_tables)) refl is
 
@@ -490,7 +490,7 @@ module _ (size : ℕ) (w : World) (memory : Memory) (s : State) (ready : IsReady
     unfolding pool_of
     by_uid =
         by_owner uid gid (Some (pool_by_record active found_tables (slot, rec_of.r))) there (pool_there size w memory s ready name ∙ ap (option_map (pool_by_record active found_tables)) rec_of.found)
-        ∙ ap (λ n. cond (not (eqb uid n)) (Some refusals.Denied) beside_open) (sym (ap (λ (x : PoolRec). x.uid) rec_of.same))
+        ∙ ap (λ n. cond (not (eqb uid n)) (Some refusals.Denied) beside_open) (sym (ap (λ (x : PoolRecord). x.uid) rec_of.same))
 
     pub refused_denied : eqb uid rec.uid ≡ false → refusal_of w asked ≡ Some refusals.Denied
     refused_denied other = by_uid ∙ ap (λ b. cond (not b) (Some refusals.Denied) beside_open) other
@@ -524,7 +524,7 @@ module _ (size : ℕ) (w : World) (memory : Memory) (client slot : ℕ) (name : 
   slot_apart number h there same =
       let pool = active_pool w memory.active m old.now.words ready.active number h there in
       let both : Some pool.rec ≡ Some at.rec = sym pool.used ∙ ap (tables_of N (reads old.now.words)).pools (sym same) ∙ at.used in
-      name_apart number h there (sym pool.name ∙ ap (λ (r : PoolRec). r.name) (same_Some pool.rec at.rec both) ∙ at.name_is)
+      name_apart number h there (sym pool.name ∙ ap (λ (r : PoolRecord). r.name) (same_Some pool.rec at.rec both) ∙ at.name_is)
 
   same_tables : tables_of N (reads (masked m old.now.words)) ≡ tables_of N (reads old.now.words)
   same_tables = ap (tables_of N) (reads-masked m old.now.words) ∙ (keeps_tables w memory.active m old.now.words ready.active).tables
@@ -534,7 +534,7 @@ module _ (size : ℕ) (w : World) (memory : Memory) (client slot : ℕ) (name : 
 
   pub Applies-mode : (mode : ℕ) → (fault ≡ Some Cut → IsRested new.now.words)
       → (HasIdleGate DAEMON_LOG old.now.words → Commits DAEMON_LOG (puts_batch (changing slot mode)) fault old new)
-      → (IsOff m (ByBatch DAEMON_LOG (puts_batch (changing slot mode))) → IsQuiescent size w.stored (masked m old.now.words) → (r : PoolRec) → IsPoolAt N slot r (masked m old.now.words)
+      → (IsOff m (ByBatch DAEMON_LOG (puts_batch (changing slot mode))) → IsQuiescent size w.stored (masked m old.now.words) → (r : PoolRecord) → IsPoolAt N slot r (masked m old.now.words)
       → ChangesPools size w.stored (with_pool_mode r.name mode w.stored) (λ _. ⊤) fault (masked_state m old) (masked_state m new))
       → Applies size w (world_by w (Some (Chmod client name mode))) memory fault old new
   unfolding after
@@ -560,7 +560,7 @@ module _ (size : ℕ) (w : World) (memory : Memory) (client slot : ℕ) (name : 
   abbrev Drops : ℕ → Type 0
   Drops n =
       KeepsTables n m (reads old.now.words) → IsOff m (ByBatch DAEMON_LOG (puts_batch (dropping (tables_of n (reads old.now.words)) slot)))
-      → IsQuiescent size w.stored (masked m old.now.words) → (r : PoolRec) → IsPoolAt N slot r (masked m old.now.words)
+      → IsQuiescent size w.stored (masked m old.now.words) → (r : PoolRecord) → IsPoolAt N slot r (masked m old.now.words)
       → ChangesPools size w.stored (without_pool r.name w.stored) (λ _. ⊤) fault (masked_state m old) (masked_state m new)
 
   few : count_used (members (tables_of N (reads old.now.words)) slot) 0 N ≤ MAX_PUDDLES

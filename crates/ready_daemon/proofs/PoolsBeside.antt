@@ -7,7 +7,7 @@ use Rattle.std.proofs.lemmas.Option.{same_Some}
 use Rattle.pm_model.specs.Words.{Words, reads}
 use Rattle.pm_model.specs.Changes.{Write}
 use Rattle.pud_defs.specs.declared.records.TheConstants.{POOL_RECORDS}
-use Rattle.pud_defs.specs.declared.records.PoolRec.{PoolRec}
+use Rattle.pud_defs.specs.declared.records.PoolRecord.{PoolRecord}
 use Rattle.pud_defs.specs.declared.records.Puddle.{Puddle}
 use Rattle.pud_defs.specs.Geometry.{steps_of}
 use Rattle.pud_defs.specs.Frames.{frame_at}
@@ -209,7 +209,7 @@ one_slot w active mask words holds n m h g here there same =
 
 -- the record of the slot is used, and has the name
 pub record IsHeldPool (t : Tables) (h : ActiveTransaction) : Type 0 where
-  pub rec : PoolRec
+  pub rec : PoolRecord
   pub used : t.pools h.slot ≡ Some rec
   pub name : rec.name ≡ h.name
 

@@ -7,7 +7,7 @@ use Rattle.std.proofs.lemmas.Option.{none-some, same_Some}
 use Rattle.pm_model.specs.Words.{Words, reads}
 use Rattle.pm_model.specs.Changes.{Write}
 use Rattle.pm_model.specs.Moments.{State}
-use Rattle.pud_defs.specs.declared.records.PoolRec.{PoolRec}
+use Rattle.pud_defs.specs.declared.records.PoolRecord.{PoolRecord}
 use Rattle.pud_defs.specs.declared.records.TheConstants.{POOL_RECORDS}
 use Rattle.pud_defs.specs.Image.{Image}
 use Rattle.pud_defs.specs.Names.{name_cmp}
@@ -49,7 +49,7 @@ own_on w active client name slot session of whose = record {
 -- ---- which pools they are
 
 -- a slot whose record is used is one of the table
-pub slot_within : (F slot : ℕ) (image : Image) (r : PoolRec) → (tables_of F image).pools slot ≡ Some r → slot < POOL_RECORDS
+pub slot_within : (F slot : ℕ) (image : Image) (r : PoolRecord) → (tables_of F image).pools slot ≡ Some r → slot < POOL_RECORDS
 slot_within F slot image r used = elim (cases_lt slot POOL_RECORDS) [
   | inl within ↦ within
   | inr beyond ↦ absurd (none-some r (sym (pools_beyond F image slot beyond) ∙ used))
@@ -61,17 +61,17 @@ module _ (next : ℕ) (t : Tables) (sound : HasSoundTables next t) where
   distinct = distinct_keys name_cmp (named t) 0 POOL_RECORDS sound.names
 
   -- in sound tables a record is found under its name
-  found_at : (slot : ℕ) (r : PoolRec) → slot < POOL_RECORDS → t.pools slot ≡ Some r → find name_cmp r.name (records_of t) ≡ Some (slot, r)
+  found_at : (slot : ℕ) (r : PoolRecord) → slot < POOL_RECORDS → t.pools slot ≡ Some r → find name_cmp r.name (records_of t) ≡ Some (slot, r)
   unfolding records_of
   found_at slot r within used =
-      find-keyed_place name_cmp nat_list_cmp_total (named t) 0 POOL_RECORDS slot (r.name, (slot, r)) distinct (omega arith) (omega arith) (ap (option_map (λ (x : PoolRec). (x.name, (slot, x)))) used)
+      find-keyed_place name_cmp nat_list_cmp_total (named t) 0 POOL_RECORDS slot (r.name, (slot, r)) distinct (omega arith) (omega arith) (ap (option_map (λ (x : PoolRecord). (x.name, (slot, x)))) used)
 
   -- so no two have one name
-  pub slot_by_name : (i j : ℕ) (r q : PoolRec) → i < POOL_RECORDS → j < POOL_RECORDS → t.pools i ≡ Some r → t.pools j ≡ Some q → r.name ≡ q.name → i ≡ j
+  pub slot_by_name : (i j : ℕ) (r q : PoolRecord) → i < POOL_RECORDS → j < POOL_RECORDS → t.pools i ≡ Some r → t.pools j ≡ Some q → r.name ≡ q.name → i ≡ j
   slot_by_name i j r q low high here there same =
-      let both : ◌≡◌ {A = Option (ℕ × PoolRec)} (Some (i, r)) (Some (j, q)) =
+      let both : ◌≡◌ {A = Option (ℕ × PoolRecord)} (Some (i, r)) (Some (j, q)) =
       sym (found_at i r low here) ∙ ap (λ (n : List ℕ). find name_cmp n (records_of t)) same ∙ found_at j q high there in
-      ap (λ (p : ℕ × PoolRec). p.0) (same_Some {A = ℕ × PoolRec} (i, r) (j, q) both)
+      ap (λ (p : ℕ × PoolRecord). p.0) (same_Some {A = ℕ × PoolRecord} (i, r) (j, q) both)
 
 module _ (w : World) (active : List (Option ActiveTransaction)) (mask : Write) (words : Words) (holds : AreActive w active mask words) where
   abbrev F : ℕ
@@ -94,12 +94,12 @@ module _ (w : World) (active : List (Option ActiveTransaction)) (mask : Write) (
         none-some (session_of number (active_is w active mask words holds number h there).transaction) (sym none ∙ ap (session_in sessions) (sym same) ∙ session_active number h there)
 
     -- the session on the pool of a name is that of the transaction that is open on it
-    pub session_there : (name : List ℕ) (slot : ℕ) (r : PoolRec) (s : Session) → t.pools slot ≡ Some r → r.name ≡ name → session_in sessions slot ≡ Some s → IsSessionOf w active name slot s
+    pub session_there : (name : List ℕ) (slot : ℕ) (r : PoolRecord) (s : Session) → t.pools slot ≡ Some r → r.name ≡ name → session_in sessions slot ≡ Some s → IsSessionOf w active name slot s
     session_there name slot r s used named there =
         let on = has.only slot s there in
         let is = active_is w active mask words holds s.log_number on.active on.is in
         let rec : is.rec ≡ r = same_Some is.rec r (sym (used_still w on.active mask words is) ∙ ap t.pools on.slot_is ∙ used) in
-        let same : on.active.name ≡ name = sym is.name ∙ ap (λ (x : PoolRec). x.name) rec ∙ named in
+        let same : on.active.name ≡ name = sym is.name ∙ ap (λ (x : PoolRecord). x.name) rec ∙ named in
         record {
           active = on.active;
           is = on.is;
@@ -111,7 +111,7 @@ module _ (w : World) (active : List (Option ActiveTransaction)) (mask : Write) (
           client = is.client;
         }
 
-    shut_by : (next : ℕ) → HasSoundTables next t → (name : List ℕ) (slot : ℕ) (r : PoolRec) → t.pools slot ≡ Some r → r.name ≡ name → session_in sessions slot ≡ None
+    shut_by : (next : ℕ) → HasSoundTables next t → (name : List ℕ) (slot : ℕ) (r : PoolRecord) → t.pools slot ≡ Some r → r.name ≡ name → session_in sessions slot ≡ None
         → (o : Option Transaction) → open_on name w ≡ o → o ≡ None
     shut_by next sound name slot r used named none None e = refl
     shut_by next sound name slot r used named none (Some x) e =
@@ -123,7 +123,7 @@ module _ (w : World) (active : List (Option ActiveTransaction)) (mask : Write) (
         absurd (none_active slot none under.number under.active under.is here)
 
     -- and none is open where it has none
-    pub no_session : (next : ℕ) → HasSoundTables next t → (name : List ℕ) (slot : ℕ) (r : PoolRec) → t.pools slot ≡ Some r → r.name ≡ name → session_in sessions slot ≡ None → open_on name w ≡ None
+    pub no_session : (next : ℕ) → HasSoundTables next t → (name : List ℕ) (slot : ℕ) (r : PoolRecord) → t.pools slot ≡ Some r → r.name ≡ name → session_in sessions slot ≡ None → open_on name w ≡ None
     no_session next sound name slot r used named none = shut_by next sound name slot r used named none (open_on name w) refl
 
 -- ---- a daemon that is ready

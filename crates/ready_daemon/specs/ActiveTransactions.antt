@@ -4,7 +4,7 @@ use Rattle.pm_model.specs.Words.{Words, reads, HasOnly}
 use Rattle.pm_model.specs.declared.host.HostFault.{HostFault}
 use Rattle.pm_model.specs.Moments.{State}
 use Rattle.pm_model.specs.Changes.{Footprint, Write, Changes, Leaves, Silently}
-use Rattle.pud_defs.specs.declared.records.PoolRec.{PoolRec}
+use Rattle.pud_defs.specs.declared.records.PoolRecord.{PoolRecord}
 use Rattle.pud_defs.specs.declared.layout.TheConstants.{DAEMON_LOG, CLIENTS, CLIENT_LOGS, LOG_ENTRY_WORDS}
 use Rattle.pud_defs.specs.declared.records.TheConstants.{POOL_RECORDS}
 use Rattle.pud_defs.specs.Image.{Image}
@@ -29,18 +29,18 @@ use Rattle.nesting.specs.Sessions.{session_in}
 use Rattle.ready_daemon.specs.Memory.{ActiveTransaction, active_under}
 
 -- where it is open
-abbrev pub open_pool_of : ActiveTransaction → List (ℕ × Puddle) → PoolRec → Owner → OpenPool
+abbrev pub open_pool_of : ActiveTransaction → List (ℕ × Puddle) → PoolRecord → Owner → OpenPool
 open_pool_of active at rec who = record { slot = active.slot; rec = rec; puddles = at; log_number = active.log_number; who = who }
 
 -- and from which image
-abbrev pub open_transaction_of : ActiveTransaction → List (ℕ × Puddle) → PoolRec → Owner → Image → OpenTransaction
+abbrev pub open_transaction_of : ActiveTransaction → List (ℕ × Puddle) → PoolRecord → Owner → Image → OpenTransaction
 open_transaction_of active at rec who before = record { pool = open_pool_of active at rec who; before = before }
 
 -- The transaction is the one that is open in the world on its pool, which has these puddles. By what the words held at its beginning the pool had the
 -- graph that the stored world has; by what is read it has the graph that its client sees. Its records are read as they were. Its words are masked, by
 -- what they held.
 pub record IsActive (w : World) (active : ActiveTransaction) (mask : Write) (words : Words) : Type 0 where
-  pub rec : PoolRec
+  pub rec : PoolRecord
   pub who : Owner
   pub puddles : List (ℕ × Puddle)
   pub before : Image

@@ -1,6 +1,6 @@
 -- What is known of a pool on which a transaction is to begin, and what is held as it begins.
 use Rattle.std.specs.Prelude.{◌≡◌, ℕ, true, List, Some}
-use Rattle.pud_defs.specs.declared.records.PoolRec.{PoolRec}
+use Rattle.pud_defs.specs.declared.records.PoolRecord.{PoolRecord}
 use Rattle.pud_defs.specs.declared.records.Puddle.{Puddle}
 use Rattle.pud_defs.specs.Image.{Image}
 use Rattle.pud_defs.specs.Rights.{may_write}
@@ -15,7 +15,7 @@ use Rattle.ready_daemon.specs.Memory.{ActiveTransaction}
 
 -- The pool of the name has its record in this slot and these puddles, which have a graph; the client, who is present, may write it.
 pub record MayBegin (F client : ℕ) (name : List ℕ) (image : Image) (slot : ℕ) (at : List (ℕ × Puddle)) : Type 0 where
-  pub rec : PoolRec
+  pub rec : PoolRecord
   pub who : Owner
   pub graph : Graph
   pub used : (tables_of F image).pools slot ≡ Some rec

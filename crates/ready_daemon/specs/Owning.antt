@@ -1,7 +1,7 @@
 -- What the daemon finds of a pool, and what is replied by what became of it.
 use Rattle.std.specs.Prelude.{◌≡◌, ℕ, ◌==◌, cond, List, Option, Some, None, Result, Ok, Err}
 use Rattle.pm_model.specs.declared.host.HostFault.{HostFault}
-use Rattle.pud_defs.specs.declared.records.PoolRec.{PoolRec}
+use Rattle.pud_defs.specs.declared.records.PoolRecord.{PoolRecord}
 use Rattle.pud_defs.specs.declared.machine.Reply.{Reply}
 use Rattle.pud_defs.specs.declared.machine.Reply.TheVariants as replies
 use Rattle.pud_defs.specs.declared.machine.Refusal.{Refusal}
@@ -31,6 +31,6 @@ refusal_beside (Some holder) client = cond (holder == client) (Some refusals.Ope
 
 -- the record of the slot is that of the pool of this name
 pub record IsSlotOf (F : ℕ) (name : List ℕ) (image : Image) (slot : ℕ) : Type 0 where
-  pub rec : PoolRec
+  pub rec : PoolRecord
   pub used : (tables_of F image).pools slot ≡ Some rec
   pub name_is : rec.name ≡ name

@@ -4,7 +4,7 @@ use Rattle.std.proofs.lemmas.Bool.{cond-false, cases_eq}
 use Rattle.pud_defs.specs.declared.layout.TheConstants.{FRAME_WORDS}
 use Rattle.pud_defs.specs.declared.space.TheConstants.{WORD_BYTES}
 use Rattle.pud_defs.specs.declared.records.TheConstants.{POOL_RECORDS, POOL_OWNER_WORD, POOL_MODE_WORD}
-use Rattle.pud_defs.specs.declared.records.PoolRec.{PoolRec}
+use Rattle.pud_defs.specs.declared.records.PoolRecord.{PoolRecord}
 use Rattle.pud_defs.specs.Image.{Image}
 use Rattle.pud_defs.specs.Entries.{Entry}
 use Rattle.pud_defs.specs.Spaces.{Owner, owner}
@@ -21,7 +21,7 @@ use Rattle.puddle_space.proofs.Records.{used_record}
 -- ---- the pool of a slot
 
 -- what a used record says of its pool
-read_of : Image → ℕ → PoolRec
+read_of : Image → ℕ → PoolRecord
 read_of image at = record {
   name = name_by (image at) (image (at + 1));
   uid = owner_uid (image (at + POOL_OWNER_WORD));

@@ -16,11 +16,11 @@ use crate::judge::{JudgedLog, Mark, judge_log};
 use log_replay::settle_copy;
 use pm_model::{Host, HostFault};
 use pm_persist::persist_word;
-use pud_defs::layout::{LOGS, LogNo, MAX_FRAMES, log_number_at};
+use pud_defs::layout::{LOGS, LogNumber, MAX_FRAMES, log_number_at};
 use pud_defs::log_words::CLOSED_GATE;
 
 /// Closes a log none of whose entries is in range, durably. One that has the gate of a closed log stays as it is.
-fn close_idle<H: Host>(h: &mut H, frames: u32, number: LogNo) -> Result<(), HostFault>
+fn close_idle<H: Host>(h: &mut H, frames: u32, number: LogNumber) -> Result<(), HostFault>
     requires few { frames ≤ MAX_FRAMES }
     requires known { number < ALL_LOGS }
     requires room { device_words frames ≤ (H.counts h.old).size }
@@ -43,7 +43,7 @@ fn close_idle<H: Host>(h: &mut H, frames: u32, number: LogNo) -> Result<(), Host
 fn settle_judged<H: Host>(
     h: &mut H,
     frames: u32,
-    number: LogNo,
+    number: LogNumber,
     judged: &JudgedLog,
 ) -> Result<(), HostFault>
     requires few { frames ≤ MAX_FRAMES }
@@ -65,7 +65,7 @@ fn settle_judged<H: Host>(
 
 /// Judges a log, and then replays and closes it if it is allowed. The answer is what was found of it, None where it is not registered:
 /// then nothing changes, nor where it is refused.
-fn recover_log<H: Host>(h: &mut H, frames: u32, number: LogNo) -> Result<Option<Mark>, HostFault>
+fn recover_log<H: Host>(h: &mut H, frames: u32, number: LogNumber) -> Result<Option<Mark>, HostFault>
     requires few { frames ≤ MAX_FRAMES }
     requires known { number < ALL_LOGS }
     requires room { device_words frames ≤ (H.counts h.old).size }

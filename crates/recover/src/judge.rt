@@ -25,7 +25,7 @@ use log_replay::device_word_at;
 use owner_modes::may_write;
 use pm_model::{Host, HostFault};
 use pud_defs::layout::{
-    CLIENT_LOGS, CLIENTS, ENTRY_HEADER_WORDS, FRAME_WORDS, LogNo, MAX_FRAMES, POOL_TABLE,
+    CLIENT_LOGS, CLIENTS, ENTRY_HEADER_WORDS, FRAME_WORDS, LogNumber, MAX_FRAMES, POOL_TABLE,
     PUDDLE_RECORD_WORDS, PUDDLE_TABLE, SPACE_RECORD_WORDS, SPACE_TABLE, log_number_at,
 };
 use pud_defs::log_words::{gate_used, is_legal_gate};
@@ -228,7 +228,7 @@ pub(crate) struct JudgedLog {
 pub(crate) fn judge_log<H: Host>(
     h: &mut H,
     frames: u32,
-    number: LogNo,
+    number: LogNumber,
 ) -> Result<Option<JudgedLog>, HostFault>
     requires few { frames ≤ MAX_FRAMES }
     requires known { number < ALL_LOGS }

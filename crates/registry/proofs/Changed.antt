@@ -6,7 +6,7 @@ use Rattle.std.specs.Cmp.Lexicographic.{nat_list_cmp_total}
 use Rattle.std.proofs.lemmas.Bool.{cases_lt, cases_eq, cases_Bool, cond-true, cond-false, and_parts, and_from}
 use Rattle.pud_defs.specs.declared.layout.TheConstants.{NEXT_NUMBER_WORD, PUDDLE_TABLE}
 use Rattle.pud_defs.specs.declared.records.TheConstants.{POOL_RECORDS}
-use Rattle.pud_defs.specs.declared.records.PoolRec.{PoolRec}
+use Rattle.pud_defs.specs.declared.records.PoolRecord.{PoolRecord}
 use Rattle.pud_defs.specs.Image.{Image}
 use Rattle.pud_defs.specs.Modes.{is_legal_mode}
 use Rattle.pud_defs.specs.Names.{name_cmp}
@@ -30,7 +30,7 @@ use Rattle.registry.specs.Adding.{MakesPools, pools_next}
 use Rattle.registry.proofs.Moved.{ReadsWorld}
 
 -- the pool of a used record is found under its name
-pub found_pool : (hold : Reader) (next : ℕ) (t : Tables) (slot : ℕ) (r : PoolRec) → HasSoundTables next t → slot < POOL_RECORDS → t.pools slot ≡ Some r → find name_cmp r.name (pools_of hold t) ≡ Some (pool_of hold r (puddles_of t slot))
+pub found_pool : (hold : Reader) (next : ℕ) (t : Tables) (slot : ℕ) (r : PoolRecord) → HasSoundTables next t → slot < POOL_RECORDS → t.pools slot ≡ Some r → find name_cmp r.name (pools_of hold t) ≡ Some (pool_of hold r (puddles_of t slot))
 unfolding pools_of
 found_pool hold next t slot r sound within used =
     find-keyed_place name_cmp nat_list_cmp_total (entries hold t) 0 POOL_RECORDS slot (r.name, pool_of hold r (puddles_of t slot)) (distinct_entries hold t (distinct_names next t sound)) (omega arith) (omega arith)
@@ -42,24 +42,24 @@ found_pool hold next t slot r sound within used =
 pub changing_of : (F slot mode : ℕ) → slot < POOL_RECORDS → AreOfPools F (changing slot mode)
 changing_of F slot mode within = (inr (inl (record { low = omega arith; high = omega arith; some = omega arith; fits = omega arith })), tt)
 
-legal_with_mode : (next mode : ℕ) (r : PoolRec) → is_legal_pool next r ≡ true → is_legal_mode mode ≡ true → is_legal_pool next (record r { mode = mode }) ≡ true
+legal_with_mode : (next mode : ℕ) (r : PoolRecord) → is_legal_pool next r ≡ true → is_legal_mode mode ≡ true → is_legal_pool next (record r { mode = mode }) ≡ true
 legal_with_mode next mode r legal is =
     let given = and_parts _ (is_given next r.number) legal in
     let old = and_parts _ (is_legal_mode r.mode) given.0 in
     and_from _ _ (and_from _ _ old.0 is) given.1
 
-pool_with_mode : (hold : Reader) (mode : ℕ) (r : PoolRec) (t : Tables) (slot : ℕ) → pool_of hold (record r { mode = mode }) (puddles_of t slot) ≡ record (pool_of hold r (puddles_of t slot)) { mode = mode }
+pool_with_mode : (hold : Reader) (mode : ℕ) (r : PoolRecord) (t : Tables) (slot : ℕ) → pool_of hold (record r { mode = mode }) (puddles_of t slot) ≡ record (pool_of hold r (puddles_of t slot)) { mode = mode }
 unfolding pool_of
 pool_with_mode hold mode r t slot = refl
 
 pub changed_there : (name : List ℕ) (change : Pool → Pool) (pools : List (List ℕ × Pool)) (p : Pool) → find name_cmp name pools ≡ Some p → changed_pool name change pools ≡ put name_cmp name (change p) pools
 changed_there name change pools p is = ap (λ o. unwrap_or (option_map (λ p. put name_cmp name (change p) pools) o) pools) is
 
-module _ (s : StoredWorld) (image : Image) (slot mode : ℕ) (r : PoolRec) (world : ReadsWorld s image) (within : slot < POOL_RECORDS) (used : (tables_of s.frames image).pools slot ≡ Some r) (legal : is_legal_mode mode ≡ true) where
+module _ (s : StoredWorld) (image : Image) (slot mode : ℕ) (r : PoolRecord) (world : ReadsWorld s image) (within : slot < POOL_RECORDS) (used : (tables_of s.frames image).pools slot ≡ Some r) (legal : is_legal_mode mode ≡ true) where
   abbrev t : Tables
   t = tables_of s.frames image
 
-  abbrev now : PoolRec
+  abbrev now : PoolRecord
   now = record r { mode = mode }
 
   mode_tables : (i : Image) → tables_of s.frames i ≡ t → tables_of s.frames (with_puts (changing slot mode) i) ≡ with_pool_at slot (Some now) t
@@ -188,7 +188,7 @@ freeing_behind at slot frame (suc count) i k below = elim (cases_Bool (is_of_poo
   | inr other ↦ ap (λ puts. with_puts puts i k) (cond-false _ _ _ other) ∙ freeing_behind at slot (frame + 1) count i k below
 ]
 
-module _ (s : StoredWorld) (image : Image) (slot : ℕ) (r : PoolRec) (world : ReadsWorld s image) (within : slot < POOL_RECORDS) (used : (tables_of s.frames image).pools slot ≡ Some r) where
+module _ (s : StoredWorld) (image : Image) (slot : ℕ) (r : PoolRecord) (world : ReadsWorld s image) (within : slot < POOL_RECORDS) (used : (tables_of s.frames image).pools slot ≡ Some r) where
   abbrev dropped_from : Tables
   dropped_from = tables_of s.frames image
 

@@ -8,7 +8,7 @@ use Rattle.std.proofs.lemmas.Option.{same_Some, slice_get_past}
 use Rattle.pud_defs.specs.declared.layout.TheConstants.{FRAME_WORDS, NUMBER_LIMIT}
 use Rattle.pud_defs.specs.declared.space.TheConstants.{FRAME_MAGIC, FRAME_MAGIC_WORD, FRAME_NUMBER_WORD, FRAME_ORDINAL_WORD, SLOT_SERIAL_WORD}
 use Rattle.pud_defs.specs.declared.records.TheConstants.{POOL_RECORDS, MAX_PUDDLES}
-use Rattle.pud_defs.specs.declared.records.PoolRec.{PoolRec}
+use Rattle.pud_defs.specs.declared.records.PoolRecord.{PoolRecord}
 use Rattle.pud_defs.specs.declared.records.Puddle.{Puddle}
 use Rattle.pud_defs.specs.Geometry.{ordinal_of}
 use Rattle.pud_defs.specs.Image.{Image}
@@ -144,7 +144,7 @@ wild_world s name d kept = refl
 
 -- ---- the tables
 
-module _ (s : StoredWorld) (image : Image) (a : Added) (r : PoolRec) (world : ReadsWorld s image) (within : a.puddle.pool < POOL_RECORDS) (used : (tables_of s.frames image).pools a.puddle.pool ≡ Some r)
+module _ (s : StoredWorld) (image : Image) (a : Added) (r : PoolRecord) (world : ReadsWorld s image) (within : a.puddle.pool < POOL_RECORDS) (used : (tables_of s.frames image).pools a.puddle.pool ≡ Some r)
     (place : IsGrowthFor (tables_of s.frames image) s.next_number a.puddle.pool (puddle_count (tables_of s.frames image) a.puddle.pool) a) where
   abbrev t : Tables
   t = tables_of s.frames image

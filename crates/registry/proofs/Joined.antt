@@ -10,7 +10,7 @@ use Rattle.pm_model.proofs.Masks.{reads-masked}
 use Rattle.pm_model.proofs.Leaves.{Leaves-weaker}
 use Rattle.pud_defs.specs.declared.layout.TheConstants.{DAEMON_LOG, NEXT_NUMBER_WORD}
 use Rattle.pud_defs.specs.declared.records.TheConstants.{POOL_RECORDS, MAX_PUDDLES}
-use Rattle.pud_defs.specs.declared.records.PoolRec.{PoolRec}
+use Rattle.pud_defs.specs.declared.records.PoolRecord.{PoolRecord}
 use Rattle.pud_defs.specs.declared.records.Put.{Put}
 use Rattle.pud_defs.specs.Image.{Image}
 use Rattle.pud_defs.specs.Entries.{Entry}
@@ -57,7 +57,7 @@ changes_by size s next number ps puts has also fault a b is settled tables makes
     (moves (subst (λ (n : StoredWorld). MovesBy size s n (puts_batch puts) a.now.words) is (MovesBy-puts size s number ps puts a.now.words settled tables has makes before)))
 
 -- a pool's mode is changed
-pub ChangesPools-mode : (size : ℕ) (s : StoredWorld) (slot mode : ℕ) (r : PoolRec) (es : List Entry) (fault : Option HostFault) (a b : State) → slot < POOL_RECORDS → IsQuiescent size s a.now.words
+pub ChangesPools-mode : (size : ℕ) (s : StoredWorld) (slot mode : ℕ) (r : PoolRecord) (es : List Entry) (fault : Option HostFault) (a b : State) → slot < POOL_RECORDS → IsQuiescent size s a.now.words
     → IsPoolAt s.frames slot r a.now.words → is_legal_mode mode ≡ true → es ≡ puts_batch (changing slot mode)
     → (MovesBy size s (with_pool_mode r.name mode s) es a.now.words → Moves size s (with_pool_mode r.name mode s) es fault a b)
     → ChangesPools size s (with_pool_mode r.name mode s) (λ _. ⊤) fault a b
@@ -68,7 +68,7 @@ ChangesPools-mode size s slot mode r es fault a b within settled at legal is mov
     (subst (λ (es : List Entry). MovesBy size s (with_pool_mode r.name mode s) es a.now.words → Moves size s (with_pool_mode r.name mode s) es fault a b) is moves)
 
 -- a pool that is there has few puddles
-pub few_puddles : (size : ℕ) (s : StoredWorld) (slot : ℕ) (r : PoolRec) (a : State) → slot < POOL_RECORDS → IsQuiescent size s a.now.words → IsPoolAt s.frames slot r a.now.words
+pub few_puddles : (size : ℕ) (s : StoredWorld) (slot : ℕ) (r : PoolRecord) (a : State) → slot < POOL_RECORDS → IsQuiescent size s a.now.words → IsPoolAt s.frames slot r a.now.words
     → count_used (members (tables_of s.frames (reads a.now.words)) slot) 0 s.frames ≤ MAX_PUDDLES
 few_puddles size s slot r a within settled at =
     let world = reads_world size s a.now.words settled at.tables in
@@ -78,7 +78,7 @@ few_puddles size s slot r a within settled at =
     subst (λ (n : ℕ). count_used (members t slot) 0 n ≤ MAX_PUDDLES) (frames_of_tables s.frames (reads a.now.words)) (let most = few.few in omega (arith, count))
 
 -- a pool is dropped
-pub ChangesPools-drop : (size : ℕ) (s : StoredWorld) (slot : ℕ) (r : PoolRec) (es : List Entry) (fault : Option HostFault) (a b : State) → slot < POOL_RECORDS → IsQuiescent size s a.now.words
+pub ChangesPools-drop : (size : ℕ) (s : StoredWorld) (slot : ℕ) (r : PoolRecord) (es : List Entry) (fault : Option HostFault) (a b : State) → slot < POOL_RECORDS → IsQuiescent size s a.now.words
     → IsPoolAt s.frames slot r a.now.words → es ≡ puts_batch (dropping (tables_of s.frames (reads a.now.words)) slot)
     → (MovesBy size s (without_pool r.name s) es a.now.words → Moves size s (without_pool r.name s) es fault a b)
     → ChangesPools size s (without_pool r.name s) (λ _. ⊤) fault a b
@@ -89,7 +89,7 @@ ChangesPools-drop size s slot r es fault a b within settled at is moves =
     (subst (λ (es : List Entry). MovesBy size s (without_pool r.name s) es a.now.words → Moves size s (without_pool r.name s) es fault a b) is moves)
 
 -- behind the search for its puddles
-pub ChangesPools-dropped : (size : ℕ) (s : StoredWorld) (F slot : ℕ) (r : PoolRec) (es : List Entry) (fault : Option HostFault) (a b c : State) → b ≡ a → F ≡ s.frames → slot < POOL_RECORDS
+pub ChangesPools-dropped : (size : ℕ) (s : StoredWorld) (F slot : ℕ) (r : PoolRecord) (es : List Entry) (fault : Option HostFault) (a b c : State) → b ≡ a → F ≡ s.frames → slot < POOL_RECORDS
     → IsQuiescent size s a.now.words → IsPoolAt s.frames slot r a.now.words
     → (count_used (members (tables_of F (reads a.now.words)) slot) 0 F ≤ MAX_PUDDLES → es ≡ puts_batch (dropping (tables_of F (reads a.now.words)) slot))
     → (IsQuiescent size s b.now.words → MovesBy size s (without_pool r.name s) es b.now.words → Moves size s (without_pool r.name s) es fault b c)
@@ -100,7 +100,7 @@ ChangesPools-dropped size s F slot r es fault a b c same frames within settled a
     ChangesPools-drop size s slot r es fault a c within settled at (batch (few_puddles size s slot r a within settled at)) (here settled)
 
 -- the batch that frees the records was gathered whole, with words masked that leave the tables as they are
-pub whole_batch : (size : ℕ) (s : StoredWorld) (F slot : ℕ) (r : PoolRec) (mask : Write) (a : State) (es : List Entry) → F ≡ s.frames → slot < POOL_RECORDS → IsQuiescent size s (masked mask a.now.words)
+pub whole_batch : (size : ℕ) (s : StoredWorld) (F slot : ℕ) (r : PoolRecord) (mask : Write) (a : State) (es : List Entry) → F ≡ s.frames → slot < POOL_RECORDS → IsQuiescent size s (masked mask a.now.words)
     → IsPoolAt s.frames slot r (masked mask a.now.words) → tables_of F (reads (masked mask a.now.words)) ≡ tables_of F (reads a.now.words)
     → (count_used (members (tables_of F (reads a.now.words)) slot) 0 F ≤ MAX_PUDDLES → es ≡ puts_batch (dropping (tables_of F (reads a.now.words)) slot))
     → es ≡ puts_batch (dropping (tables_of F (reads a.now.words)) slot)
@@ -217,7 +217,7 @@ record_is name uid gid mode next a is = ap (new_record name uid gid mode) (let s
 
 -- a first puddle was found for a new pool, and nothing changed
 module _ (F : ℕ) (image : Image) (name : List ℕ) (uid gid mode : ℕ) (a : Added) (place : IsFirstFor (tables_of F image) (image NEXT_NUMBER_WORD) name a) (fault : Option HostFault) (old mid new : State) (still : mid ≡ old) where
-  abbrev r : PoolRec
+  abbrev r : PoolRecord
   r = new_record name uid gid mode (image NEXT_NUMBER_WORD)
 
   -- on any content

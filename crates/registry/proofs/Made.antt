@@ -6,7 +6,7 @@ use Rattle.std.specs.Cmp.Lexicographic.{nat_list_cmp_total}
 use Rattle.std.proofs.lemmas.Bool.{cases_lt, cases_Bool, cond-true, and_from}
 use Rattle.pud_defs.specs.declared.layout.TheConstants.{NEXT_NUMBER_WORD, NUMBER_LIMIT, MAX_OWNER_ID, FRAME_WORDS}
 use Rattle.pud_defs.specs.declared.records.TheConstants.{POOL_RECORDS}
-use Rattle.pud_defs.specs.declared.records.PoolRec.{PoolRec}
+use Rattle.pud_defs.specs.declared.records.PoolRecord.{PoolRecord}
 use Rattle.pud_defs.specs.Image.{Image}
 use Rattle.pud_defs.specs.Names.{name_cmp}
 use Rattle.pud_defs.specs.Keyed.{first_from}
@@ -67,7 +67,7 @@ enough_numbers next enough = elim (cases_lt NUMBER_LIMIT (next + NUMBERS_DRAWN))
 ]
 
 -- the changes are of pools
-pub making_of : (F : ℕ) (r : PoolRec) (a : Added) → a.frame < F → a.puddle.pool < POOL_RECORDS → AreOfPools F (making r a)
+pub making_of : (F : ℕ) (r : PoolRecord) (a : Added) → a.frame < F → a.puddle.pool < POOL_RECORDS → AreOfPools F (making r a)
 making_of F r a frame slot = (inr (inl (record { low = omega arith; high = omega arith; some = omega arith; fits = omega arith })), adding_of F (a.puddle.number + 1) (a ∷ []) (frame, slot, tt))
 
 pub made_world : (s : StoredWorld) (name : List ℕ) (who : Owner) (mode : ℕ)
@@ -77,7 +77,7 @@ made_world s name who mode = refl
 
 -- ---- the tables
 
-module _ (s : StoredWorld) (image : Image) (a : Added) (r : PoolRec) (world : ReadsWorld s image) (place : IsFirstFor (tables_of s.frames image) s.next_number r.name a)
+module _ (s : StoredWorld) (image : Image) (a : Added) (r : PoolRecord) (world : ReadsWorld s image) (place : IsFirstFor (tables_of s.frames image) s.next_number r.name a)
     (legal : IsLegalPool r.name r.uid r.gid r.mode) (number : r.number ≡ s.next_number) where
   abbrev t : Tables
   t = tables_of s.frames image

@@ -15,7 +15,7 @@ use Rattle.pm_model.specs.Masks.{masked, masked_state, IsOff}
 use Rattle.pm_model.proofs.Words.{Picks-reads}
 use Rattle.pud_defs.specs.declared.layout.TheConstants.{NEXT_NUMBER_WORD, DAEMON_LOG, MAX_OWNER_ID, TYPE_RECORDS}
 use Rattle.pud_defs.specs.declared.records.TheConstants.{POOL_RECORDS, MAX_PUDDLES}
-use Rattle.pud_defs.specs.declared.records.PoolRec.{PoolRec}
+use Rattle.pud_defs.specs.declared.records.PoolRecord.{PoolRecord}
 use Rattle.pud_defs.specs.declared.records.Puddle.{Puddle}
 use Rattle.pud_defs.specs.declared.records.Put.{Put}
 use Rattle.pud_defs.specs.declared.space.TheConstants.{LAST_FRONTIER}
@@ -68,14 +68,14 @@ use Rattle.registry.proofs.TypesPut.{with_puts-append, AreOfTables-append, AreRe
 -- ---- the changes
 
 -- the records of the pool and of its puddles, and the next number
-abbrev pub pool_puts : (slot : ℕ) → PoolRec → List Added → List Put
+abbrev pub pool_puts : (slot : ℕ) → PoolRecord → List Added → List Put
 pool_puts slot r puddles = pool_put slot r ∷ adding (r.number + numbers_drawn (length puddles)) puddles
 
-pub pool_puts_of : (F slot : ℕ) (r : PoolRec) (puddles : List Added) → slot < POOL_RECORDS → AreWithin F puddles → AreOfPools F (pool_puts slot r puddles)
+pub pool_puts_of : (F slot : ℕ) (r : PoolRecord) (puddles : List Added) → slot < POOL_RECORDS → AreWithin F puddles → AreOfPools F (pool_puts slot r puddles)
 pool_puts_of F slot r puddles below within =
     (inr (inl (record { low = omega arith; high = omega arith; some = omega arith; fits = omega arith })), adding_of F (r.number + numbers_drawn (length puddles)) puddles within)
 
-pub placing_of : (F slot : ℕ) (r : PoolRec) (types : List NewType) (puddles : List Added) → slot < POOL_RECORDS → AreRecords types → AreWithin F puddles → AreOfTables F (placing slot r types puddles)
+pub placing_of : (F slot : ℕ) (r : PoolRecord) (types : List NewType) (puddles : List Added) → slot < POOL_RECORDS → AreRecords types → AreWithin F puddles → AreOfTables F (placing slot r types puddles)
 placing_of F slot r types puddles below records within =
     AreOfTables-append F (map new_type_put types) (pool_puts slot r puddles) (types_of_table F types records) (of_tables F (pool_puts slot r puddles) (pool_puts_of F slot r puddles below within))
 
@@ -84,7 +84,7 @@ within_each F [] all = tt
 within_each F (a ∷ puddles) all = let first = All-head (IsAddedWithin F) a puddles all in (first.frame, first.slot, within_each F puddles (All-tail (IsAddedWithin F) a puddles all))
 
 -- on any content the batch is written, all or none
-pub Commits-placed : (F size slot : ℕ) (r : PoolRec) (types : List NewType) (puddles : List Added) (es : List Entry) (fault : Option HostFault) (a b : State) → tables_end F ≤ size → slot < POOL_RECORDS
+pub Commits-placed : (F size slot : ℕ) (r : PoolRecord) (types : List NewType) (puddles : List Added) (es : List Entry) (fault : Option HostFault) (a b : State) → tables_end F ≤ size → slot < POOL_RECORDS
     → All (λ t. t.record_number < TYPE_RECORDS) types → All (IsAddedWithin F) puddles → es ≡ puts_batch (placing slot r types puddles)
     → (IsFree size DAEMON_LOG es a.now.words → Commits DAEMON_LOG es fault a b) → HasIdleGate DAEMON_LOG a.now.words → CommitsPuts (placing slot r types puddles) fault a b
 Commits-placed F size slot r types puddles es fault a b room below records within is commits idle =
@@ -118,7 +118,7 @@ puddle_there (b ∷ puddles) (suc i) a there = puddle_there puddles i a there
 frontier_within : (wanted : List ℕ) (at : List (ℕ × Puddle)) → placed_frontier wanted at ≤ LAST_FRONTIER
 frontier_within wanted at = elim (bytes_eq (map (λ (e : ℕ × Puddle). e.1.base) at) wanted) as (λ b. cond b LAST_FRONTIER 0 ≤ LAST_FRONTIER) [ true ↦ omega arith | false ↦ omega arith ]
 
-module _ (s : StoredWorld) (image : Image) (file : FileContents) (wanted : List ℕ) (slot : ℕ) (r : PoolRec) (types : List NewType) (puddles : List Added) (world : ReadsWorld s image)
+module _ (s : StoredWorld) (image : Image) (file : FileContents) (wanted : List ℕ) (slot : ℕ) (r : PoolRecord) (types : List NewType) (puddles : List Added) (world : ReadsWorld s image)
     (legal : IsLegalPool r.name r.uid r.gid r.mode) (place : IsPlacedFor s.frames image file.types wanted slot r types puddles) (distinct : AreDistinctBases wanted)
     (count : length puddles ≡ file.puddles) (some : 1 ≤ length puddles) (few : length puddles ≤ MAX_PUDDLES) where
   abbrev t : Tables
@@ -267,7 +267,7 @@ all_frames F i j (e ∷ at) same = (record { each = λ k high. same _ (omega ari
 
 -- ---- the batch
 
-module _ (size : ℕ) (s : StoredWorld) (file : FileContents) (wanted : List ℕ) (slot : ℕ) (r : PoolRec) (types : List NewType) (puddles : List Added) (mask : Write) (words : Words)
+module _ (size : ℕ) (s : StoredWorld) (file : FileContents) (wanted : List ℕ) (slot : ℕ) (r : PoolRecord) (types : List NewType) (puddles : List Added) (mask : Write) (words : Words)
     (may : MayPlace size s s.frames file wanted slot r types puddles mask words) where
   abbrev held : Words
   held = masked mask words
@@ -337,7 +337,7 @@ module _ (size : ℕ) (s : StoredWorld) (file : FileContents) (wanted : List ℕ
   }
 
 -- what the call owes
-pub ChangesPools-placed : (size : ℕ) (s : StoredWorld) (F : ℕ) (file : FileContents) (wanted : List ℕ) (slot : ℕ) (r : PoolRec) (types : List NewType) (puddles : List Added) (mask : Write) (es : List Entry) (fault : Option HostFault) (a b : State)
+pub ChangesPools-placed : (size : ℕ) (s : StoredWorld) (F : ℕ) (file : FileContents) (wanted : List ℕ) (slot : ℕ) (r : PoolRecord) (types : List NewType) (puddles : List Added) (mask : Write) (es : List Entry) (fault : Option HostFault) (a b : State)
     → MayPlace size s F file wanted slot r types puddles mask a.now.words → es ≡ puts_batch (placing slot r types puddles)
     → ((next : StoredWorld) → IsOff mask (ByBatch DAEMON_LOG es) → IsQuiescent size s (masked mask a.now.words) → MovesBy size s next es (masked mask a.now.words) → Moves size s next es fault (masked_state mask a) (masked_state mask b))
     → ChangesMasked mask size s (with_imported_pool r.name (owner r.uid r.gid) r.mode file s) (λ _. ⊤) fault a b

@@ -3,7 +3,7 @@ use Rattle.std.proofs.Common.{◌≡◌, ℕ, ◌<◌, length, Some, refl, sym, 
 use Rattle.std.specs.FinMap.Entries.{find}
 use Rattle.std.proofs.lemmas.Option.{same_Some}
 use Rattle.pud_defs.specs.declared.records.TheConstants.{POOL_RECORDS}
-use Rattle.pud_defs.specs.declared.records.PoolRec.{PoolRec}
+use Rattle.pud_defs.specs.declared.records.PoolRecord.{PoolRecord}
 use Rattle.pud_defs.specs.Image.{Image}
 use Rattle.pud_defs.specs.Names.{name_cmp}
 use Rattle.pud_defs.specs.Tables.{Tables, Pool, Reader, tables_of, puddles_of, pool_of}
@@ -15,7 +15,7 @@ use Rattle.registry.specs.Growth.{puddle_count}
 use Rattle.registry.proofs.Moved.{ReadsWorld}
 use Rattle.registry.proofs.Changed.{found_pool}
 
-module _ (s : StoredWorld) (image : Image) (slot : ℕ) (r : PoolRec) (p : Pool) (world : ReadsWorld s image) (within : slot < POOL_RECORDS) (used : (tables_of s.frames image).pools slot ≡ Some r) (there : pool_named r.name s ≡ Some p) where
+module _ (s : StoredWorld) (image : Image) (slot : ℕ) (r : PoolRecord) (p : Pool) (world : ReadsWorld s image) (within : slot < POOL_RECORDS) (used : (tables_of s.frames image).pools slot ≡ Some r) (there : pool_named r.name s ≡ Some p) where
   abbrev t : Tables
   t = tables_of s.frames image
 

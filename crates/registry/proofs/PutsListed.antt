@@ -4,7 +4,7 @@ use Rattle.std.proofs.lemmas.List.{map-append, take_more, take-append-drop}
 use Rattle.std.proofs.lemmas.List.Sums.{sum_by-append}
 use Rattle.pud_defs.specs.declared.layout.TheConstants.{LOG_ENTRY_WORDS, TYPE_RECORDS}
 use Rattle.pud_defs.specs.declared.records.TheConstants.{MAX_PUDDLES}
-use Rattle.pud_defs.specs.declared.records.PoolRec.{PoolRec}
+use Rattle.pud_defs.specs.declared.records.PoolRecord.{PoolRecord}
 use Rattle.pud_defs.specs.declared.records.Put.{Put}
 use Rattle.pud_defs.specs.Entries.{Entry}
 use Rattle.pud_defs.specs.Imports.{numbers_drawn}
@@ -55,7 +55,7 @@ words_puddles (a ∷ puddles) = let later = words_puddles puddles in omega (arit
 
 -- ---- all of it
 
-pub placing_gathered : (slot : ℕ) (r : PoolRec) (types : List NewType) (puddles : List Added) (b0 b1 b2 b3 b4 : List Entry) (pool number : Put) → length types ≤ TYPE_RECORDS → length puddles ≤ MAX_PUDDLES
+pub placing_gathered : (slot : ℕ) (r : PoolRecord) (types : List NewType) (puddles : List Added) (b0 b1 b2 b3 b4 : List Entry) (pool number : Put) → length types ≤ TYPE_RECORDS → length puddles ≤ MAX_PUDDLES
     → b0 ≡ [] → (words_of b0 + words_of (puts_batch (map new_type_put types)) ≤ LOG_ENTRY_WORDS → b1 ≡ b0 ++ puts_batch (map new_type_put types))
     → pool ≡ pool_put slot r → (words_of b1 + (pool.n + 2) ≤ LOG_ENTRY_WORDS → b2 ≡ b1 ++ put_entry pool ∷ [])
     → number ≡ number_put (r.number + numbers_drawn (length puddles)) → (words_of b2 + (number.n + 2) ≤ LOG_ENTRY_WORDS → b3 ≡ b2 ++ put_entry number ∷ [])

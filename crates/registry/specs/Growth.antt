@@ -9,7 +9,7 @@ use Rattle.pud_defs.specs.declared.machine.Refusal.TheVariants as refusals
 use Rattle.pud_defs.specs.declared.records.TheConstants.{MAX_PUDDLES}
 use Rattle.pud_defs.specs.declared.records.Puddle.{Puddle}
 use Rattle.pud_defs.specs.declared.records.Put.{Put}
-use Rattle.pud_defs.specs.declared.records.PoolRec.{PoolRec}
+use Rattle.pud_defs.specs.declared.records.PoolRecord.{PoolRecord}
 use Rattle.pud_defs.specs.Keyed.{first_free, count_used}
 use Rattle.pud_defs.specs.Frames.{fresh_frame}
 use Rattle.pud_defs.specs.Graph.{Graph}
@@ -94,7 +94,7 @@ pub record GrowsAt (size : ℕ) (s next : StoredWorld) (F : ℕ) (a : Added) (ma
   pub frames : F ≡ s.frames
   pub off : IsOffAdding mask F a (growing a)
   pub settled : IsQuiescent size s (masked mask words)
-  pub pool : PoolRec
+  pub pool : PoolRecord
   pub at : IsPoolAt s.frames a.puddle.pool pool (masked mask words)
   pub is : IsGrowthFor (tables_of s.frames (reads (masked mask words))) s.next_number a.puddle.pool (puddle_count (tables_of s.frames (reads (masked mask words))) a.puddle.pool) a
   pub grown : IsGrownBy pool.name s (added_puddle a) next

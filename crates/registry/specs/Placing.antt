@@ -5,7 +5,7 @@ use Rattle.pm_model.specs.Changes.{Write}
 use Rattle.pm_model.specs.Masks.{masked, IsOff}
 use Rattle.pud_defs.specs.declared.layout.TheConstants.{DAEMON_LOG, NEXT_NUMBER_WORD, NUMBER_LIMIT, TYPE_RECORDS}
 use Rattle.pud_defs.specs.declared.records.TheConstants.{POOL_RECORDS, MAX_PUDDLES}
-use Rattle.pud_defs.specs.declared.records.PoolRec.{PoolRec}
+use Rattle.pud_defs.specs.declared.records.PoolRecord.{PoolRecord}
 use Rattle.pud_defs.specs.declared.records.Puddle.{Puddle}
 use Rattle.pud_defs.specs.declared.records.Put.{Put}
 use Rattle.pud_defs.specs.Image.{Image}
@@ -36,7 +36,7 @@ abbrev pub new_type_put : NewType → Put
 new_type_put t = type_put t.record_number t.id t.map
 
 -- a pool is placed: the types, its record, and its puddles, behind which so many UUID numbers were given out
-abbrev pub placing : (slot : ℕ) → PoolRec → List NewType → List Added → List Put
+abbrev pub placing : (slot : ℕ) → PoolRecord → List NewType → List Added → List Put
 placing slot r types puddles = map new_type_put types ++ pool_put slot r ∷ adding (r.number + numbers_drawn (length puddles)) puddles
 
 -- ---- what is placed
@@ -56,7 +56,7 @@ HasFreeRecords at from (t ∷ types) = (first_free at from (TYPE_RECORDS - from)
 
 -- The pool is one that is placed by what an image holds, for a file with these bases: its record is a free one, the lowest, no pool has the name, and it
 -- draws the next UUID number; its puddles are placed, in turn; and each type is one that was not defined, in a free record.
-pub record IsPlacedFor (F : ℕ) (image : Image) (file : List (ℕ × ℕ)) (wanted : List ℕ) (slot : ℕ) (r : PoolRec) (types : List NewType) (puddles : List Added) : Type 0 where
+pub record IsPlacedFor (F : ℕ) (image : Image) (file : List (ℕ × ℕ)) (wanted : List ℕ) (slot : ℕ) (r : PoolRecord) (types : List NewType) (puddles : List Added) : Type 0 where
   pub slot_is : first_free (tables_of F image).pools 0 POOL_RECORDS ≡ Some slot
   pub absent : pool_in (tables_of F image) r.name ≡ None
   pub number : r.number ≡ image NEXT_NUMBER_WORD
@@ -71,7 +71,7 @@ pub record IsPlacedFor (F : ℕ) (image : Image) (file : List (ℕ × ℕ)) (wan
 -- With words masked that the batch does not write, each image stands for a world and the tables are durable. The pool is legal and placed, by what is read, for
 -- a file of these contents whose types and bases, the old ones of its puddles, are legal; and in each image the frames of its puddles hold the graph of the
 -- file, by the types that are defined then.
-pub record MayPlace (size : ℕ) (s : StoredWorld) (F : ℕ) (file : FileContents) (wanted : List ℕ) (slot : ℕ) (r : PoolRec) (types : List NewType) (puddles : List Added) (mask : Write) (words : Words) : Type 0 where
+pub record MayPlace (size : ℕ) (s : StoredWorld) (F : ℕ) (file : FileContents) (wanted : List ℕ) (slot : ℕ) (r : PoolRecord) (types : List NewType) (puddles : List Added) (mask : Write) (words : Words) : Type 0 where
   pub frames : F ≡ s.frames
   pub off : IsOff mask (ByBatch DAEMON_LOG (puts_batch (placing slot r types puddles)))
   pub settled : IsQuiescent size s (masked mask words)

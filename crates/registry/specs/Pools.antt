@@ -6,7 +6,7 @@ use Rattle.pm_model.specs.Moments.{State}
 use Rattle.pm_model.specs.Changes.{Write, Changes, Leaves, Silently}
 use Rattle.pm_model.specs.Masks.{masked, masked_image, masked_state}
 use Rattle.pud_defs.specs.declared.layout.TheConstants.{DAEMON_LOG, NEXT_NUMBER_WORD, MAX_OWNER_ID}
-use Rattle.pud_defs.specs.declared.records.PoolRec.{PoolRec}
+use Rattle.pud_defs.specs.declared.records.PoolRecord.{PoolRecord}
 use Rattle.pud_defs.specs.declared.records.Put.{Put}
 use Rattle.pud_defs.specs.Image.{Image}
 use Rattle.pud_defs.specs.Keyed.{first_free}
@@ -30,7 +30,7 @@ use Rattle.registry.specs.Places.{make_refusal, IsFirstFor}
 -- ---- what each batch writes
 
 -- a pool is made: its record, and with it its first puddle
-abbrev pub making : PoolRec → Added → List Put
+abbrev pub making : PoolRecord → Added → List Put
 making r a = pool_put a.puddle.pool r ∷ adding (a.puddle.number + 1) (a ∷ [])
 
 -- a pool's mode is changed
@@ -61,7 +61,7 @@ abbrev pub CommitsPuts : List Put → Option HostFault → State → State → T
 CommitsPuts puts fault old new = Commits DAEMON_LOG (puts_batch puts) fault old new
 
 -- the record of a pool that is made where this UUID number is the next
-abbrev pub new_record : List ℕ → (uid gid mode next : ℕ) → PoolRec
+abbrev pub new_record : List ℕ → (uid gid mode next : ℕ) → PoolRecord
 new_record name uid gid mode next = record { name = name; uid = uid; gid = gid; mode = mode; number = next }
 
 -- a pool is made with some first puddle that is the one for it: the frame is filled durably, and then the records are written
@@ -85,7 +85,7 @@ pub record IsLegalPool (name : List ℕ) (uid gid mode : ℕ) : Type 0 where
   pub gid_fits : gid ≤ MAX_OWNER_ID
 
 -- the tables of a device of so many frames are durable, and the record of the slot is this one
-pub record IsPoolAt (F slot : ℕ) (r : PoolRec) (words : Words) : Type 0 where
+pub record IsPoolAt (F slot : ℕ) (r : PoolRecord) (words : Words) : Type 0 where
   pub tables : HasDurableTables F words
   pub used : (tables_of F (reads words)).pools slot ≡ Some r
 

@@ -24,7 +24,7 @@ use crate::frames::fill_frame;
 use batch::Batch;
 use pm_model::{Host, HostFault};
 use pud_defs::layout::{MAX_FRAMES, NUMBER_LIMIT};
-use pud_defs::records::{POOL_RECORDS, PuddleRec};
+use pud_defs::records::{POOL_RECORDS, PuddleRecord};
 use pud_defs::space::LAST_FRONTIER;
 use puddle_space::free_base;
 use puddle_table::{PuddleFault, free_frame};
@@ -35,7 +35,7 @@ pub struct Added {
     /// Its frame.
     pub frame: u32,
     /// What its record says.
-    pub puddle: PuddleRec,
+    pub puddle: PuddleRecord,
 }
 
 /// The new puddle of this ordinal and of this UUID number in the pool of the slot: in the lowest free frame, at the lowest free base.
@@ -62,7 +62,7 @@ pub(crate) fn find_place<H: Host>(
     let base = free_base(h, frames, &[])?;
     Ok(Added {
         frame,
-        puddle: PuddleRec {
+        puddle: PuddleRecord {
             pool: slot,
             ordinal,
             number,

@@ -9,7 +9,7 @@ ghost use Rattle.pm_model.specs.Masks.{masked, masked_state, IsOff};
 ghost use Rattle.log_replay.specs.Replaying.{Anything};
 ghost use Rattle.pud_defs.specs.declared.layout.TheConstants.{DAEMON_LOG};
 ghost use Rattle.pud_defs.specs.declared.records.TheConstants.{MAX_PUDDLES};
-ghost use Rattle.pud_defs.specs.declared.records.PoolRec.{PoolRec};
+ghost use Rattle.pud_defs.specs.declared.records.PoolRecord.{PoolRecord};
 ghost use Rattle.pud_defs.specs.Image.{Image};
 ghost use Rattle.pud_defs.specs.Keyed.{count_used};
 ghost use Rattle.pud_defs.specs.Layout.{tables_end};
@@ -42,7 +42,7 @@ pub fn change_mode<H: Host>(h: &mut H, slot: u32, mode: u32) -> Result<(), HostF
     ensures commits { H.tells → (size : ℕ) → size ≡ (H.counts h.old).size → HasIdleGate DAEMON_LOG (H.state h.old).now.words
         → Commits DAEMON_LOG (puts_batch (changing slot mode)) (fault_of result) (H.state h.old) (H.state h.new) }
     ensures changes { H.tells → (size : ℕ) → size ≡ (H.counts h.old).size → (s : StoredWorld) → (mask : Write) → IsOff mask (ByBatch DAEMON_LOG (puts_batch (changing slot mode)))
-        → IsQuiescent size s (masked mask (H.state h.old).now.words) → (r : PoolRec) → IsPoolAt s.frames slot r (masked mask (H.state h.old).now.words) → is_legal_mode mode ≡ true
+        → IsQuiescent size s (masked mask (H.state h.old).now.words) → (r : PoolRecord) → IsPoolAt s.frames slot r (masked mask (H.state h.old).now.words) → is_legal_mode mode ≡ true
         → ChangesPools size s (with_pool_mode r.name mode s) (λ _. ⊤) (fault_of result) (masked_state mask (H.state h.old)) (masked_state mask (H.state h.new)) }
     ensures any { H.tells → Changes Anything (fault_of result) (H.state h.old) (H.state h.new) }
     ensures cause { H.counts h.new ≡ after_fault (fault_of result) (H.counts h.old) }
@@ -99,7 +99,7 @@ pub fn drop_pool<H: Host>(h: &mut H, frames: u32, slot: u32) -> Result<(), HostF
         → OrStill (CommitsPuts (dropping (tables_of frames image) slot)) (fault_of result) (H.state h.old) (H.state h.new) }
     ensures changes { H.tells → (size : ℕ) → size ≡ (H.counts h.old).size → (s : StoredWorld) → frames ≡ s.frames → (mask : Write) → KeepsTables frames mask (reads (H.state h.old).now.words)
         → IsOff mask (ByBatch DAEMON_LOG (puts_batch (dropping (tables_of frames (reads (H.state h.old).now.words)) slot)))
-        → IsQuiescent size s (masked mask (H.state h.old).now.words) → (r : PoolRec) → IsPoolAt s.frames slot r (masked mask (H.state h.old).now.words)
+        → IsQuiescent size s (masked mask (H.state h.old).now.words) → (r : PoolRecord) → IsPoolAt s.frames slot r (masked mask (H.state h.old).now.words)
         → ChangesPools size s (without_pool r.name s) (λ _. ⊤) (fault_of result) (masked_state mask (H.state h.old)) (masked_state mask (H.state h.new)) }
     ensures any { H.tells → Changes Anything (fault_of result) (H.state h.old) (H.state h.new) }
     ensures cause { H.counts h.new ≡ after_fault (fault_of result) (H.counts h.old) }

@@ -33,7 +33,7 @@ use soundness::judge_device;
 
 /// What a device is: how many frames it has, 4 to 1,024, and its machine id.
 #[derive(Clone, Copy, Debug, PartialEq, Eq)]
-pub struct Geo {
+pub struct DeviceGeometry {
     /// The number of frames.
     pub frames: u32,
     /// The machine id.
@@ -68,7 +68,7 @@ impl From<HostFault> for LoadFault {
 /// `Ok` each of them has its new value and no other, what is read stands for what it stood for, and the answer is of that.
 /// Where the device was rested, each image left meanwhile stands for it too, and is the same once the daemon log is replayed;
 /// at `Ok` that log counts nothing in any image. The clients' logs may hold anything, and none of them is read.
-pub fn load_sound<H: Host>(h: &mut H) -> Result<Geo, LoadFault>
+pub fn load_sound<H: Host>(h: &mut H) -> Result<DeviceGeometry, LoadFault>
     ensures not_sound { H.tells → load_fault result ≡ Option.None
         → (result ≡ Result.Err LoadFault.NotSound) ↔ (world_of (H.counts h.old).size (reads (H.state h.old).now.words) ≡ Option.None) }
     ensures unchanged { H.tells → result ≡ Result.Err LoadFault.NotSound → H.state h.new ≡ H.state h.old }
@@ -85,7 +85,7 @@ pub fn load_sound<H: Host>(h: &mut H) -> Result<Geo, LoadFault>
 {
     let frames = apply_sound(h)?;
     let id = h.load(MACHINE_WORD)?;
-    Ok(Geo { frames, id })
+    Ok(DeviceGeometry { frames, id })
 }
 
 /// Judges the device, and then applies what its daemon log names, and closes it. The answer is the number of its frames.

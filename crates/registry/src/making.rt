@@ -23,7 +23,7 @@ use batch::Batch;
 use pm_model::{Host, HostFault};
 use pool_table::PoolFault;
 use pud_defs::layout::{MAX_FRAMES, NEXT_NUMBER_WORD, NUMBER_LIMIT};
-use pud_defs::records::{Name, PoolRec};
+use pud_defs::records::{Name, PoolRecord};
 use puddle_table::PuddleFault;
 
 /// How many UUID numbers a new pool draws: its own, and behind it that of its first puddle.
@@ -105,7 +105,7 @@ fn find_first<H: Host>(h: &mut H, frames: u32, name: Name) -> Result<Added, Make
 }
 
 /// The batch that makes the pool of this record with its first puddle.
-fn making(rec: PoolRec, added: Added) -> Batch
+fn making(rec: PoolRecord, added: Added) -> Batch
     requires within { IsAddedWithin MAX_FRAMES added }
     ensures { result ≡ puts_batch (making rec added) }
 {
@@ -150,7 +150,7 @@ pub fn make_pool<H: Host>(
     ensures cause { H.counts h.new ≡ after_fault (make_fault result) (H.counts h.old) }
 {
     let added = find_first(h, frames, name)?;
-    let rec = PoolRec {
+    let rec = PoolRecord {
         name,
         uid,
         gid,

@@ -22,7 +22,7 @@ use crate::puts::{add_put, number_put};
 use batch::Batch;
 use pm_model::{Host, HostFault};
 use pud_defs::layout::{MAX_FRAMES, NUMBER_LIMIT, TYPE_RECORDS};
-use pud_defs::records::{MAX_PUDDLES, POOL_RECORDS, PoolRec};
+use pud_defs::records::{MAX_PUDDLES, POOL_RECORDS, PoolRecord};
 
 /// A type that is defined in a free record of the type table.
 #[derive(Clone, Copy, Debug, Default, PartialEq, Eq)]
@@ -56,7 +56,7 @@ fn add_puddles(batch: &mut Batch, puddles: &[Added])
 }
 
 /// The batch that places the pool of this record in the slot, with its types and its puddles.
-fn placing(slot: u32, rec: PoolRec, types: &[NewType], puddles: &[Added]) -> Batch
+fn placing(slot: u32, rec: PoolRecord, types: &[NewType], puddles: &[Added]) -> Batch
     requires slot { slot < POOL_RECORDS }
     requires number { rec.number < NUMBER_LIMIT }
     requires types { length types.now ≤ TYPE_RECORDS }
@@ -84,7 +84,7 @@ pub fn place_pool<H: Host>(
     h: &mut H,
     frames: u32,
     slot: u32,
-    rec: PoolRec,
+    rec: PoolRecord,
     types: &[NewType],
     puddles: &[Added],
 ) -> Result<(), HostFault>

@@ -13,7 +13,7 @@ use crate::places::{read_place, read_serial};
 use crate::values::read_value;
 use pud_defs::layout::{CLIENTS, MAX_ARMED_STEP, MAX_FIELDS, MAX_OWNER_ID, MAX_TYPE_ID};
 use pud_defs::machine::Command;
-use pud_defs::objects::Val;
+use pud_defs::objects::FieldValue;
 use pud_defs::records::Name;
 use pud_defs::space::MAX_STEPS;
 use std::marker::Model;
@@ -132,7 +132,7 @@ impl<'a> Arguments<'a> {
 
     /// The front argument as the value of a field.
     #[tactic(auto, using(crate::proofs::Taken::taken))]
-    pub(crate) fn value(&mut self) -> Option<Val>
+    pub(crate) fn value(&mut self) -> Option<FieldValue>
         ensures { IsTaken field_value self.old result self.new }
     {
         read_value(self.front()?)

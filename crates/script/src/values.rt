@@ -4,17 +4,17 @@ ghost use Rattle.std.specs.Prelude.{◌≡◌};
 ghost use Rattle.pud_defs.specs.Grammar.{field_value};
 
 use crate::numbers::read_number;
-use pud_defs::objects::Val;
+use pud_defs::objects::FieldValue;
 
 /// The value that the bytes are: a number below 2^64, or `@` and the serial of an object below 2^64, of which `@0` is null. None where
 /// they are no value.
 #[tactic(auto, unfolding(pud_defs::specs::Grammar::field_value))]
-pub(crate) fn read_value(bytes: &[u8]) -> Option<Val>
+pub(crate) fn read_value(bytes: &[u8]) -> Option<FieldValue>
     ensures { result ≡ field_value bytes.now }
 {
     match bytes {
         [] => None,
-        [b'@', serial @ ..] => Some(Val::Ref(read_number(serial)?)),
-        _ => Some(Val::Num(read_number(bytes)?)),
+        [b'@', serial @ ..] => Some(FieldValue::Ref(read_number(serial)?)),
+        _ => Some(FieldValue::Num(read_number(bytes)?)),
     }
 }

@@ -11,7 +11,7 @@ use Rattle.std.proofs.lemmas.Map.Lookups.{exact_bytes}
 use Rattle.std.proofs.lemmas.Map.Views.{tells_apart}
 use Rattle.std.proofs.lemmas.Nat.{from_le_bytes-to_le_bytes_8}
 use Rattle.pud_defs.specs.declared.records.TheConstants.{POOL_RECORDS}
-use Rattle.pud_defs.specs.declared.records.PoolRec.{PoolRec}
+use Rattle.pud_defs.specs.declared.records.PoolRecord.{PoolRecord}
 use Rattle.pud_defs.specs.Image.{Image}
 use Rattle.pud_defs.specs.Names.{name_by, name_cmp}
 use Rattle.pud_defs.specs.Keyed.{under, first_from, is_apart, are_distinct}
@@ -70,13 +70,13 @@ tied_by n m fn fm = elim (cases_eq m.low n.low) [
 -- ---- the records under their names
 
 module _ (F : ℕ) (image : Image) where
-  abbrev under_name : ℕ → PoolRec → List ℕ × (ℕ × PoolRec)
+  abbrev under_name : ℕ → PoolRecord → List ℕ × (ℕ × PoolRecord)
   under_name slot r = (r.name, (slot, r))
 
   at_slot : (slot : ℕ) → slot < POOL_RECORDS → named (tables_of F image) slot ≡ option_map (under_name slot) (pool_by_words (record_words image (pool_record_at slot)))
   at_slot slot known = ap (option_map (under_name slot)) (pool_here F image slot known)
 
-  abbrev pool : ℕ → NameWords → PoolRec
+  abbrev pool : ℕ → NameWords → PoolRecord
   pool slot n = record {
     name = spelled n;
     uid = image (pool_record_at slot + 2) % 2 ^ 32;
@@ -110,7 +110,7 @@ module _ (F : ℕ) (image : Image) where
   fits_of slot n is = record { low = is.low_fits; high = is.high_fits }
 
   -- a name is one of those behind exactly where a record of theirs has it
-  found_by : (q n : NameWords) (slot : ℕ) (later : Option (ℕ × PoolRec)) → Fits q → IsNameOf image slot n → (q.low ≡ 0 → ⊥) → (free : Bool) → eqb n.low 0 ≡ free
+  found_by : (q n : NameWords) (slot : ℕ) (later : Option (ℕ × PoolRecord)) → Fits q → IsNameOf image slot n → (q.low ≡ 0 → ⊥) → (free : Bool) → eqb n.low 0 ≡ free
       → is_none (option_or (under name_cmp (spelled q) (cond free None (Some (spelled n, (slot, pool slot n))))) later) ≡ not (is_name q n || not (is_none later))
   found_by q n slot later fq is used true tested =
       let other : eqb n.low q.low ≡ false = ne_eqb n.low q.low (λ same. used (sym same ∙ eqb-true n.low 0 tested)) in
@@ -128,7 +128,7 @@ module _ (F : ℕ) (image : Image) where
       let is = head_of from n ns holds in
       let later = first_from name_cmp (spelled q) (named (tables_of F image)) (from + 1) (length ns) in
       let behind = found q ns (from + 1) (omega arith) fq used (tail_of from n ns holds) in
-      ap (λ (o : Option (List ℕ × (ℕ × PoolRec))). is_none (option_or (under name_cmp (spelled q) o) later)) (entry_by from n (omega arith) is (eqb n.low 0) refl)
+      ap (λ (o : Option (List ℕ × (ℕ × PoolRecord))). is_none (option_or (under name_cmp (spelled q) o) later)) (entry_by from n (omega arith) is (eqb n.low 0) refl)
       ∙ found_by q n from later fq is used (eqb n.low 0) refl
       ∙ ap (λ (b : Bool). not (is_name q n || not b)) behind
       ∙ ap (λ (b : Bool). not (is_name q n || b)) (elim (list_any (is_name q) ns) as (λ b. not (not b) ≡ b) [ true ↦ refl | false ↦ refl ])
@@ -146,7 +146,7 @@ module _ (F : ℕ) (image : Image) where
       let tail = tail_of from n ns holds in
       let rest = are_distinct name_cmp (named (tables_of F image)) (from + 1) (length ns) in
       ap (λ (b : Bool). (eqb n.low 0 || not (list_any (is_name n) ns)) && b) (distinct_from ns (from + 1) (omega arith) tail)
-      ∙ sym (ap (λ (o : Option (List ℕ × (ℕ × PoolRec))). is_apart name_cmp o (named (tables_of F image)) (from + 1) (length ns) && rest) (entry_by from n (omega arith) is (eqb n.low 0) refl)
+      ∙ sym (ap (λ (o : Option (List ℕ × (ℕ × PoolRecord))). is_apart name_cmp o (named (tables_of F image)) (from + 1) (length ns) && rest) (entry_by from n (omega arith) is (eqb n.low 0) refl)
       ∙ ap (λ (b : Bool). b && rest) (apart_by n ns from few is tail (eqb n.low 0) refl))
 
   pub distinct_names : (names : List NameWords) → HoldsNames image names → are_apart names ≡ has_distinct_names (tables_of F image)

@@ -2,7 +2,7 @@
 use Rattle.std.proofs.Common.{◌≡◌, ℕ, ◌-◌, ◌<◌, ◌≤◌, Bool, true, false, not, ◌&&◌, cond, eqb, ltb, List, Option, Some, None, is_some, slice_index, refl, ap, ◌∙◌, sym, arith}
 use Rattle.std.proofs.lemmas.Bool.{cond-true, eq-eqb, ne_eqb, lt-ltb}
 use Rattle.pud_defs.specs.declared.records.TheConstants.{POOL_RECORDS, MAX_PUDDLES}
-use Rattle.pud_defs.specs.declared.records.PoolRec.{PoolRec}
+use Rattle.pud_defs.specs.declared.records.PoolRecord.{PoolRecord}
 use Rattle.pud_defs.specs.Image.{Image}
 use Rattle.pud_defs.specs.Pools.{pool_at, pool_by, pool_record_at}
 use Rattle.pud_defs.specs.Puddles.{puddle_at, puddle_by, puddle_record_at, member_pool, is_legal_puddle}
@@ -23,7 +23,7 @@ puddle_here F image frame known = cond-true _ _ _ (lt-ltb frame F known)
 
 -- ---- whether a pool is there, by its slot plus 1
 
-used_by : (b : Bool) (r : PoolRec) → is_some (cond b None (Some r)) ≡ not b
+used_by : (b : Bool) (r : PoolRecord) → is_some (cond b None (Some r)) ≡ not b
 used_by true r = refl
 used_by false r = refl
 
@@ -31,7 +31,7 @@ pub pool_there : (F : ℕ) (image : Image) (pool : ℕ) → (pool ≡ 0 → ⊥)
 unfolding pool_by
 pool_there F image pool some few =
     ap (λ (b : Bool). not b && is_some ((tables_of F image).pools (pool - 1))) (ne_eqb pool 0 some)
-    ∙ (ap (λ (o : Option PoolRec). is_some o) (pool_here F image (pool - 1) (omega arith)) ∙ used_by (eqb (image (pool_record_at (pool - 1))) 0) _)
+    ∙ (ap (λ (o : Option PoolRecord). is_some o) (pool_here F image (pool - 1) (omega arith)) ∙ used_by (eqb (image (pool_record_at (pool - 1))) 0) _)
 
 pub pool_zero : (F : ℕ) (image : Image) (pool : ℕ) → pool ≡ 0 → is_pool (tables_of F image) pool ≡ false
 pool_zero F image pool zero = ap (λ (b : Bool). not b && is_some ((tables_of F image).pools (pool - 1))) (eq-eqb pool 0 zero)
@@ -39,7 +39,7 @@ pool_zero F image pool zero = ap (λ (b : Bool). not b && is_some ((tables_of F 
 pub pool_beyond : (F : ℕ) (image : Image) (pool : ℕ) → POOL_RECORDS < pool → is_pool (tables_of F image) pool ≡ false
 pool_beyond F image pool beyond =
     ap (λ (b : Bool). not b && is_some ((tables_of F image).pools (pool - 1))) (ne_eqb pool 0 (λ zero. omega arith))
-    ∙ ap (λ (o : Option PoolRec). is_some o) (pools_beyond F image (pool - 1) (omega arith))
+    ∙ ap (λ (o : Option PoolRecord). is_some o) (pools_beyond F image (pool - 1) (omega arith))
 
 -- ---- a puddle record by its words
 

@@ -1,7 +1,7 @@
 -- The records of the pool table and the puddle table, judged one by one.
 use Rattle.std.specs.Prelude.{ℕ, ◌+◌, Bool, ◌&&◌, nat_lt, List, [], ◌∷◌, slice_index, Option}
 use Rattle.pud_defs.specs.declared.records.TheConstants.{MAX_PUDDLES, POOL_OWNER_WORD, POOL_MODE_WORD, POOL_NUMBER_WORD, PUDDLE_NUMBER_WORD, PUDDLE_BASE_WORD, PUDDLE_OLD_BASE_WORD, PUDDLE_FRONTIER_WORD}
-use Rattle.pud_defs.specs.declared.records.PoolRec.{PoolRec}
+use Rattle.pud_defs.specs.declared.records.PoolRecord.{PoolRecord}
 use Rattle.pud_defs.specs.Image.{Image}
 use Rattle.pud_defs.specs.Pools.{pool_by}
 use Rattle.pud_defs.specs.Puddles.{Member, member_pool, member_ordinal, puddle_by, is_legal_puddle}
@@ -11,7 +11,7 @@ abbrev pub record_words : Image → ℕ → List ℕ
 record_words image at = image at ∷ image (at + 1) ∷ image (at + 2) ∷ image (at + 3) ∷ image (at + 4) ∷ []
 
 -- the pool record of these words
-abbrev pub pool_by_words : List ℕ → Option PoolRec
+abbrev pub pool_by_words : List ℕ → Option PoolRecord
 pool_by_words ws = pool_by (slice_index ws 0) (slice_index ws 1) (slice_index ws POOL_OWNER_WORD) (slice_index ws POOL_MODE_WORD) (slice_index ws POOL_NUMBER_WORD)
 
 -- the puddle record of these words, and what a used one says

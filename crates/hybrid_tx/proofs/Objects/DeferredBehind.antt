@@ -10,7 +10,7 @@ use Rattle.pud_defs.specs.declared.layout.TheConstants.{FRAME_WORDS, MAX_FIELDS}
 use Rattle.pud_defs.specs.declared.space.TheConstants.{SLOT_SERIAL_WORD, ROOT_WORD}
 use Rattle.pud_defs.specs.declared.records.Puddle.{Puddle}
 use Rattle.pud_defs.specs.declared.records.Slot.{Slot}
-use Rattle.pud_defs.specs.declared.objects.Val.{Val}
+use Rattle.pud_defs.specs.declared.objects.FieldValue.{FieldValue}
 use Rattle.pud_defs.specs.Geometry.{puddle_slots, puddle_slot_at, ordinal_of, slot_of}
 use Rattle.pud_defs.specs.Image.{Image}
 use Rattle.pud_defs.specs.Keyed.{under, first_from}
@@ -43,7 +43,7 @@ found_put : (r s : ℕ) (d : Object) (g : Graph) → find nat_cmp r (put nat_cmp
 found_put r s d g = find-put nat_cmp nat_cmp_total r s d g.objects ∙ ap (λ b. cond b (Some d) (object_in r g)) (same_test r s)
 
 -- a field is set
-module _ (s f : ℕ) (x : Val) (g : Graph) where
+module _ (s f : ℕ) (x : FieldValue) (g : Graph) where
   field_by : (there : Option Object) → object_in s g ≡ there → (r : ℕ) (o : Object) → object_in r g ≡ Some o → IsOfType (with_some_object s (option_map (object_with f x) there) g) r o.type_id
   field_by None none r o live = record { object = o; live = live; same_type = refl }
   field_by (Some d) there r o live = elim (cases_eq r s) [

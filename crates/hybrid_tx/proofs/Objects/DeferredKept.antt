@@ -5,8 +5,8 @@ use Rattle.std.proofs.lemmas.Bool.{cases_eq, cond-true, cond-false}
 use Rattle.std.proofs.lemmas.Option.{none-some, slice_get-map}
 use Rattle.pud_defs.specs.declared.space.TheConstants.{SLOT_SERIAL_WORD}
 use Rattle.pud_defs.specs.declared.records.Puddle.{Puddle}
-use Rattle.pud_defs.specs.declared.objects.Val.{Val}
-use Rattle.pud_defs.specs.declared.objects.Val.TheVariants.{Num, Ref}
+use Rattle.pud_defs.specs.declared.objects.FieldValue.{FieldValue}
+use Rattle.pud_defs.specs.declared.objects.FieldValue.TheVariants.{Num, Ref}
 use Rattle.pud_defs.specs.Geometry.{steps_of, ordinal_of, slot_of}
 use Rattle.pud_defs.specs.Image.{Image}
 use Rattle.pud_defs.specs.Types.{map_of}
@@ -46,7 +46,7 @@ pub record KeepsTypes (types more : List (ℕ × ℕ)) : Type 0 where
   pub each : (id m : ℕ) → map_of id types ≡ Some m → map_of id more ≡ Some m
 
 module _ (types more : List (ℕ × ℕ)) (now next : Graph) (defined : KeepsTypes types more) (objects : KeepsObjects now next) where
-  MayHold-kept : (m f : ℕ) (x : Val) → MayHold m f now x → MayHold m f next x
+  MayHold-kept : (m f : ℕ) (x : FieldValue) → MayHold m f now x → MayHold m f next x
   MayHold-kept m f (Num v) holds = holds
   MayHold-kept m f (Ref r) holds = (
     holds.0,
@@ -57,7 +57,7 @@ module _ (types more : List (ℕ × ℕ)) (now next : Graph) (defined : KeepsTyp
   )
 
   -- what may be set may be so still
-  pub MaySet-kept : (s f : ℕ) (x : Val) → MaySet types now s f x → MaySet more next s f x
+  pub MaySet-kept : (s f : ℕ) (x : FieldValue) → MaySet types now s f x → MaySet more next s f x
   MaySet-kept s f x may =
       let there = objects.each s may.object may.live in
       record {
@@ -130,7 +130,7 @@ module _ (F : ℕ) (at wide : List (ℕ × Puddle)) (types more : List (ℕ × �
       ∙ word
 
   -- the word that stands for a value is the same
-  word_kept : (m f : ℕ) (x : Val) (v : ℕ) → MayHold m f now x → word_for F at i x ≡ Some v → word_for F wide j x ≡ Some v
+  word_kept : (m f : ℕ) (x : FieldValue) (v : ℕ) → MayHold m f now x → word_for F at i x ≡ Some v → word_for F wide j x ≡ Some v
   word_kept m f (Num n) v holds word = word
   word_kept m f (Ref r) v holds word = elim (cases_eq r 0) [
     | inl null ↦ cond-true _ _ _ (eq-eqb r 0 null) ∙ sym (cond-true _ _ _ (eq-eqb r 0 null)) ∙ word

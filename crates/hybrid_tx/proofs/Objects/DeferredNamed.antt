@@ -7,8 +7,8 @@ use Rattle.pud_defs.specs.declared.log_words.TheConstants.{REDO_ORDER}
 use Rattle.pud_defs.specs.declared.space.TheConstants.{RANGE_BYTES, SLOT_SERIAL_WORD, SLOT_TYPE_WORD}
 use Rattle.pud_defs.specs.declared.records.Puddle.{Puddle}
 use Rattle.pud_defs.specs.declared.records.Slot.{Slot}
-use Rattle.pud_defs.specs.declared.objects.Val.{Val}
-use Rattle.pud_defs.specs.declared.objects.Val.TheVariants.{Num, Ref}
+use Rattle.pud_defs.specs.declared.objects.FieldValue.{FieldValue}
+use Rattle.pud_defs.specs.declared.objects.FieldValue.TheVariants.{Num, Ref}
 use Rattle.pud_defs.specs.Geometry.{ordinal_of, slot_of}
 use Rattle.pud_defs.specs.Image.{Image}
 use Rattle.pud_defs.specs.TypeMap.{is_pointer}
@@ -174,11 +174,11 @@ module _ (F : ℕ) (at : List (ℕ × Puddle)) (types : List (ℕ × ℕ)) (imag
         (sym (ap (λ (o : Option ℕ). cond (eqb r 0) (Some 0) (option_map (address_at at) o)) (ap (place_in_pool F at image) same ∙ place) ∙ cond-false _ _ _ (ne_eqb r 0 (λ null. used (sym same ∙ null)))) ∙ word))
 
     -- by its value, where that is the address, the kind of the field tells it
-    value_by : (x : Val) (v m f : ℕ) → MayHold m f now x → word_for F at image x ≡ Some v → v ≡ address_at at p → is_pointer m f ≡ names_serial s x
+    value_by : (x : FieldValue) (v m f : ℕ) → MayHold m f now x → word_for F at image x ≡ Some v → v ≡ address_at at p → is_pointer m f ≡ names_serial s x
     value_by (Num n) v m f holds word same = holds
     value_by (Ref r) v m f holds word same = holds.0 ∙ sym (eq-eqb r s (named_by_word r v word same))
 
-    value_apart : (x : Val) (v m f : ℕ) → MayHold m f now x → word_for F at image x ≡ Some v → (v ≡ address_at at p → ⊥) → names_serial s x ≡ false
+    value_apart : (x : FieldValue) (v m f : ℕ) → MayHold m f now x → word_for F at image x ≡ Some v → (v ≡ address_at at p → ⊥) → names_serial s x ≡ false
     value_apart (Num n) v m f holds word apart = refl
     value_apart (Ref r) v m f holds word apart = ne_eqb r s (λ same. apart (word_of_named r v word same))
 
@@ -282,7 +282,7 @@ module _ (F : ℕ) (at : List (ℕ × Puddle)) (types : List (ℕ × ℕ)) (imag
       let nothing : None ≡ Some v = sym (ap (λ (o : Option ℕ). cond (eqb r 0) (Some 0) (option_map (address_at at) o)) place ∙ cond-false _ _ _ (ne_eqb r 0 null)) ∙ word in
       none-some v nothing
 
-  value_of_none : (x : Val) (v : ℕ) → word_for F at image x ≡ Some v → names_serial s x ≡ false
+  value_of_none : (x : FieldValue) (v : ℕ) → word_for F at image x ≡ Some v → names_serial s x ≡ false
   value_of_none (Num n) v word = refl
   value_of_none (Ref r) v word = ne_eqb r s (reference_of_none r v word)
 

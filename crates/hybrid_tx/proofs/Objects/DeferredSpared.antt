@@ -9,8 +9,8 @@ use Rattle.pm_model.specs.Changes.{placed}
 use Rattle.pud_defs.specs.declared.space.TheConstants.{SLOT_SERIAL_WORD}
 use Rattle.pud_defs.specs.declared.records.Puddle.{Puddle}
 use Rattle.pud_defs.specs.declared.records.Slot.{Slot}
-use Rattle.pud_defs.specs.declared.objects.Val.{Val}
-use Rattle.pud_defs.specs.declared.objects.Val.TheVariants.{Num, Ref}
+use Rattle.pud_defs.specs.declared.objects.FieldValue.{FieldValue}
+use Rattle.pud_defs.specs.declared.objects.FieldValue.TheVariants.{Num, Ref}
 use Rattle.pud_defs.specs.Image.{Image}
 use Rattle.pud_defs.specs.Entries.{Entry}
 use Rattle.pud_defs.specs.Replay.{overwritten}
@@ -47,7 +47,7 @@ module _ (s : ℕ) (g : Graph) where
 -- ---- what may be set still
 
 module _ (F : ℕ) (at : List (ℕ × Puddle)) (types : List (ℕ × ℕ)) (image : Image) (s : ℕ) (g : Graph) where
-  MayHold-spared : (m f : ℕ) (x : Val) → names_serial s x ≡ false → MayHold m f g x → MayHold m f (without_object s g) x
+  MayHold-spared : (m f : ℕ) (x : FieldValue) → names_serial s x ≡ false → MayHold m f g x → MayHold m f (without_object s g) x
   MayHold-spared m f (Num v) other holds = holds
   MayHold-spared m f (Ref r) other holds = (
     holds.0,

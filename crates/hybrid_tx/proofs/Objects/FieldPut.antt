@@ -12,7 +12,7 @@ use Rattle.pud_defs.specs.declared.layout.TheConstants.{LOG_WORDS}
 use Rattle.pud_defs.specs.declared.space.TheConstants.{WORD_BYTES}
 use Rattle.pud_defs.specs.declared.records.Puddle.{Puddle}
 use Rattle.pud_defs.specs.declared.records.Slot.{Slot}
-use Rattle.pud_defs.specs.declared.objects.Val.{Val}
+use Rattle.pud_defs.specs.declared.objects.FieldValue.{FieldValue}
 use Rattle.pud_defs.specs.Layout.{device_words, frames_at}
 use Rattle.pud_defs.specs.Image.{Image}
 use Rattle.pud_defs.specs.Bases.{is_legal_base}
@@ -45,7 +45,7 @@ use Rattle.hybrid_tx.proofs.Objects.Opening.{RunsOn-write}
 use Rattle.hybrid_tx.proofs.Objects.InFrames.{no_wrap}
 
 -- what was found is there
-pub found_there : (F : ℕ) (at : List (ℕ × Puddle)) (image : Image) (s : ℕ) (x : Val) (found : Slot × ℕ) → IsPlaceAndWord F at image s x found → LacksPlaceOrWord F at image s x → ⊥
+pub found_there : (F : ℕ) (at : List (ℕ × Puddle)) (image : Image) (s : ℕ) (x : FieldValue) (found : Slot × ℕ) → IsPlaceAndWord F at image s x found → LacksPlaceOrWord F at image s x → ⊥
 found_there F at image s x found there lacks = elim lacks [ inl none ↦ none-some _ (sym none ∙ there.0) | inr none ↦ none-some _ (sym none ∙ there.1) ]
 
 -- the address of a slot, by its ordinal
@@ -81,7 +81,7 @@ module _ (F : ℕ) (at : List (ℕ × Puddle)) (types : List (ℕ × ℕ)) (log 
         are = λ none. absurd (some_fault fault none);
       }
 
-  module _ (s f : ℕ) (x : Val) (old : State) (is_open : IsOpenOn F at types log before graph_before now deferred old.now.words) (may : MaySet types now s f x) where
+  module _ (s f : ℕ) (x : FieldValue) (old : State) (is_open : IsOpenOn F at types log before graph_before now deferred old.now.words) (may : MaySet types now s f x) where
     no_place : place_in_pool F at (reads old.now.words) s ≡ None → ⊥
     no_place = placed_if_live types F at (reads old.now.words) now is_open.is s may.object may.live
 

@@ -9,8 +9,8 @@ use Rattle.pud_defs.specs.declared.layout.TheConstants.{FRAME_WORDS}
 use Rattle.pud_defs.specs.declared.space.TheConstants.{SLOT_FIELDS_WORD}
 use Rattle.pud_defs.specs.declared.records.Puddle.{Puddle}
 use Rattle.pud_defs.specs.declared.records.Slot.{Slot}
-use Rattle.pud_defs.specs.declared.objects.Val.{Val}
-use Rattle.pud_defs.specs.declared.objects.Val.TheVariants.{Num, Ref}
+use Rattle.pud_defs.specs.declared.objects.FieldValue.{FieldValue}
+use Rattle.pud_defs.specs.declared.objects.FieldValue.TheVariants.{Num, Ref}
 use Rattle.pud_defs.specs.Geometry.{steps_of, puddle_slot_at, ordinal_of, slot_of, places_among}
 use Rattle.pud_defs.specs.Types.{map_of}
 use Rattle.pud_defs.specs.Image.{Image, written}
@@ -108,7 +108,7 @@ module _ (types : List (ℕ × ℕ)) (F : ℕ) (at : List (ℕ × Puddle)) (imag
   ]
 
   -- what a field may hold has one
-  pub word_if_held : (m f : ℕ) (x : Val) → MayHold m f g x → word_for F at image x ≡ None → ⊥
+  pub word_if_held : (m f : ℕ) (x : FieldValue) → MayHold m f g x → word_for F at image x ≡ None → ⊥
   word_if_held m f (Num v) holds none = none-some v (sym none)
   word_if_held m f (Ref r) holds none = word_if_named r holds.1 none
 
@@ -148,7 +148,7 @@ module _ (types : List (ℕ × ℕ)) (F : ℕ) (at : List (ℕ × Puddle)) (imag
           address_of_place placed (ordinal_of p) (slot_of p + 1) (slot.frame, of.puddle)
           (subst (λ (o : ℕ). IsRewrittenAt at o) (sym (place_ordinal slot.ordinal slot.slot of.below)) rewritten) (ap (slice_get at) (place_ordinal slot.ordinal slot.slot of.below) ∙ of.there) (omega arith) named.place v within named.is
 
-      of_value : (x : Val) (v : ℕ) → MayHold m f g x → word_for F at image x ≡ Some v → graph_of types (with_field_word p f v st) ≡ Some (with_field s f x g)
+      of_value : (x : FieldValue) (v : ℕ) → MayHold m f g x → word_for F at image x ≡ Some v → graph_of types (with_field_word p f v st) ≡ Some (with_field s f x g)
       of_value (Num n) v number word =
           let same : n ≡ v = same_Some n v word in
           graph_of-number types st g s p m f v is field number ∙ ap (λ k. Some (with_field s f (Num k) g)) (sym same)
@@ -158,7 +158,7 @@ module _ (types : List (ℕ × ℕ)) (F : ℕ) (at : List (ℕ × Puddle)) (imag
         | inr named ↦ graph_of-reference types st g s p m f v r named.place is field holds.0 (place_is r ∙ named.found) (address r v named)
       ]
 
-      field_set : (x : Val) (v : ℕ) → MayHold m f g x → word_for F at image x ≡ Some v
+      field_set : (x : FieldValue) (v : ℕ) → MayHold m f g x → word_for F at image x ≡ Some v
           → graph_of types (stored_in F at (overwritten (put_from (frame_at F slot.frame + field_word slot f) (v ∷ [])) image)) ≡ Some (with_field s f x g)
       field_set x v holds word =
           let few : field_word slot f < FRAME_WORDS = (let most = few_fields m in let slots = of.below in omega arith) in
@@ -167,6 +167,6 @@ module _ (types : List (ℕ × ℕ)) (F : ℕ) (at : List (ℕ × Puddle)) (imag
           (sym (place_ordinal slot.ordinal slot.slot of.below)) (sym (place_slot slot.ordinal slot.slot of.below))
           ∙ of_value x v holds word
 
-    pub set_value : (x : Val) (v : ℕ) → MaySet types g s f x → word_for F at image x ≡ Some v
+    pub set_value : (x : FieldValue) (v : ℕ) → MaySet types g s f x → word_for F at image x ≡ Some v
         → graph_of types (stored_in F at (overwritten (put_from (frame_at F slot.frame + field_word slot f) (v ∷ [])) image)) ≡ Some (with_field s f x g)
     set_value x v may word = field_set may.map may.object may.live may.defined may.below x v may.holds word

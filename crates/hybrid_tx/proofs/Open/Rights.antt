@@ -6,7 +6,7 @@ use Rattle.std.proofs.lemmas.Bool.{cases_Bool, and_from, or_left, or_right, le-l
 use Rattle.std.proofs.lemmas.List.Elements.{All-head, All-tail}
 use Rattle.pud_defs.specs.declared.layout.TheConstants.{FRAME_WORDS}
 use Rattle.pud_defs.specs.declared.space.TheConstants.{WORD_BYTES}
-use Rattle.pud_defs.specs.declared.records.PoolRec.{PoolRec}
+use Rattle.pud_defs.specs.declared.records.PoolRecord.{PoolRecord}
 use Rattle.pud_defs.specs.declared.records.Puddle.{Puddle}
 use Rattle.pud_defs.specs.Allowed.{may_write_record, may_write_puddle, are_writable, is_allowed_entry, are_allowed_entries, is_allowed_log}
 use Rattle.pud_defs.specs.Entries.{Entry, Log}
@@ -25,7 +25,7 @@ use Rattle.hybrid_tx.proofs.Open.PoolPlaces.{as_member}
 
 -- The pool of the slot is there, and its mode lets this owner write it.
 pub record MayWritePool (t : Tables) (slot : ℕ) (who : Owner) : Type 0 where
-  pub rec : PoolRec
+  pub rec : PoolRecord
   pub used : t.pools slot ≡ Some rec
   pub right : may_write rec.mode (owner rec.uid rec.gid) who ≡ true
 

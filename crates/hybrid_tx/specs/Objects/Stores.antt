@@ -4,8 +4,8 @@ use Rattle.pm_model.specs.Changes.{Footprint, Write, placed}
 use Rattle.pud_defs.specs.declared.space.TheConstants.{SLOT_FIELDS_WORD, NEXT_SERIAL_WORD}
 use Rattle.pud_defs.specs.declared.records.Puddle.{Puddle}
 use Rattle.pud_defs.specs.declared.records.Slot.{Slot}
-use Rattle.pud_defs.specs.declared.objects.Val.{Val}
-use Rattle.pud_defs.specs.declared.objects.Val.TheVariants.{Num, Ref}
+use Rattle.pud_defs.specs.declared.objects.FieldValue.{FieldValue}
+use Rattle.pud_defs.specs.declared.objects.FieldValue.TheVariants.{Num, Ref}
 use Rattle.pud_defs.specs.Geometry.{puddle_slot_words, slot_begins}
 use Rattle.pud_defs.specs.Image.{Image}
 use Rattle.pud_defs.specs.Frames.{frame_at}
@@ -20,16 +20,16 @@ abbrev pub address_at : List (ℕ × Puddle) → ℕ → ℕ
 address_at at p = address_of (map (λ e. e.1) at) (At p)
 
 -- the word that stands for a value: the number, 0 for null, or the address of the serial's object, where there is one
-abbrev pub word_for : (F : ℕ) → List (ℕ × Puddle) → Image → Val → Option ℕ
+abbrev pub word_for : (F : ℕ) → List (ℕ × Puddle) → Image → FieldValue → Option ℕ
 word_for F at image (Num v) = Some v
 word_for F at image (Ref r) = cond (r == 0) (Some 0) (option_map (address_at at) (place_in_pool F at image r))
 
 -- the slot is that of the object of a serial, and the word the one that stands for a value
-abbrev pub IsPlaceAndWord : (F : ℕ) → List (ℕ × Puddle) → Image → (s : ℕ) → Val → Slot × ℕ → Type 0
+abbrev pub IsPlaceAndWord : (F : ℕ) → List (ℕ × Puddle) → Image → (s : ℕ) → FieldValue → Slot × ℕ → Type 0
 IsPlaceAndWord F at image s x found = (place_in_pool F at image s ≡ Some (place_of_slot found.0)) × (word_for F at image x ≡ Some found.1)
 
 -- there is no such object, or no word that stands for the value
-abbrev pub LacksPlaceOrWord : (F : ℕ) → List (ℕ × Puddle) → Image → (s : ℕ) → Val → Type 0
+abbrev pub LacksPlaceOrWord : (F : ℕ) → List (ℕ × Puddle) → Image → (s : ℕ) → FieldValue → Type 0
 LacksPlaceOrWord F at image s x = (place_in_pool F at image s ≡ None) ⊎ (word_for F at image x ≡ None)
 
 -- the word of a frame that holds field f of a slot

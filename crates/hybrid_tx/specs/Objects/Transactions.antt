@@ -6,8 +6,8 @@ use Rattle.pm_model.specs.Words.{Words, HasOnly, reads}
 use Rattle.pm_model.specs.Moments.{State}
 use Rattle.pm_model.specs.Changes.{Write, Changes}
 use Rattle.pud_defs.specs.declared.space.TheConstants.{WORD_BYTES}
-use Rattle.pud_defs.specs.declared.objects.Val.{Val}
-use Rattle.pud_defs.specs.declared.objects.Val.TheVariants.{Num, Ref}
+use Rattle.pud_defs.specs.declared.objects.FieldValue.{FieldValue}
+use Rattle.pud_defs.specs.declared.objects.FieldValue.TheVariants.{Num, Ref}
 use Rattle.pud_defs.specs.declared.records.Puddle.{Puddle}
 use Rattle.pud_defs.specs.declared.records.Slot.{Slot}
 use Rattle.pud_defs.specs.Geometry.{steps_of}
@@ -46,12 +46,12 @@ abbrev pub MayName : Graph → (serial : ℕ) → Type 0
 MayName g serial = (serial ≡ 0) ⊎ (is_some (object_in serial g) ≡ true)
 
 -- a field of a type with this map may hold the value: a number where it is no pointer, else null or the serial of a live object
-abbrev pub MayHold : (map f : ℕ) → Graph → Val → Type 0
+abbrev pub MayHold : (map f : ℕ) → Graph → FieldValue → Type 0
 MayHold map f g (Num v) = is_pointer map f ≡ false
 MayHold map f g (Ref r) = (is_pointer map f ≡ true) × MayName g r
 
 -- The object of a serial is live, its type has the field, and the field may hold the value.
-pub record MaySet (types : List (ℕ × ℕ)) (g : Graph) (s f : ℕ) (x : Val) : Type 0 where
+pub record MaySet (types : List (ℕ × ℕ)) (g : Graph) (s f : ℕ) (x : FieldValue) : Type 0 where
   pub object : Object
   pub live : object_in s g ≡ Some object
   pub map : ℕ

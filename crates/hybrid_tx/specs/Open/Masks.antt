@@ -5,7 +5,7 @@ use Rattle.pm_model.specs.Changes.{Write}
 use Rattle.pud_defs.specs.declared.layout.TheConstants.{DAEMON_LOG}
 use Rattle.pud_defs.specs.declared.log_words.TheConstants.{CLOSED_GATE}
 use Rattle.pud_defs.specs.declared.records.TheConstants.{POOL_RECORDS, MAX_PUDDLES}
-use Rattle.pud_defs.specs.declared.records.PoolRec.{PoolRec}
+use Rattle.pud_defs.specs.declared.records.PoolRecord.{PoolRecord}
 use Rattle.pud_defs.specs.declared.records.Puddle.{Puddle}
 use Rattle.pud_defs.specs.Image.{Image}
 use Rattle.pud_defs.specs.Entries.{log_of}
@@ -24,7 +24,7 @@ use Rattle.hybrid_tx.specs.PoolScopes.{pool_has_word, pool_scope, finished_of}
 -- ones are its own; the number of its log among those of all clients; and as whom its client acts.
 pub record OpenPool : Type 0 where
   pub slot : ℕ
-  pub rec : PoolRec
+  pub rec : PoolRecord
   pub puddles : List (ℕ × Puddle)
   pub log_number : ℕ
   pub who : Owner

@@ -6,7 +6,7 @@ use Rattle.pm_model.specs.Calls.{Says}
 use Rattle.pm_model.proofs.Reading.{still_reads}
 use Rattle.pm_model.proofs.Saying.{Says-behind}
 use Rattle.pud_defs.specs.declared.layout.TheConstants.{MACHINE_WORD, NEXT_NUMBER_WORD}
-use Rattle.pud_defs.specs.declared.records.PoolRec.{PoolRec}
+use Rattle.pud_defs.specs.declared.records.PoolRecord.{PoolRecord}
 use Rattle.pud_defs.specs.LayoutText.{frames_line}
 use Rattle.pud_defs.specs.Tables.{tables_of}
 use Rattle.pud_check.specs.LayoutListed.{pool_listed}
@@ -50,7 +50,7 @@ returns-clause-says g c = λ t image e.
     let said = Says-behind _ None _ _ _ number (subst (λ (bytes : List ℕ). Says bytes None (g.H.Host.state c.load-2.new.self) (g.H.Host.state c.say.new.self)) line (c.in_ok-say.ensures.said t)) in
     let here = holds_counted c.args.frames image c.in_ok-places.places holds count in
     Says-layout c.args.frames image c.in_ok-places.places c.in_ok-id.id c.in_ok-next.next c.in_ok-records.records.items holds count id next listed fault _ _ _ said
-    (subst (λ (records : List (ℕ × PoolRec)). Says (flat_map (pool_listed c.in_ok-id.id (tables_of c.in_ok-places.places.count image)) records) fault (g.H.Host.state c.say.new.self) (g.H.Host.state c.say_pools.new.h)) c.as_slice-2.ensures.value
+    (subst (λ (records : List (ℕ × PoolRecord)). Says (flat_map (pool_listed c.in_ok-id.id (tables_of c.in_ok-places.places.count image)) records) fault (g.H.Host.state c.say.new.self) (g.H.Host.state c.say_pools.new.h)) c.as_slice-2.ensures.value
     (c.say_pools.ensures.says t image (reads-said _ _ _ _ image said e) here))
 
 pub returns-clause-sound : goal.returns-clause-sound

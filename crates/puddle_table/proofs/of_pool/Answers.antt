@@ -2,7 +2,7 @@ use Rattle.std.proofs.Common.{◌≡◌, true, false, Some, sym, ap, ◌∙◌, 
 use Rattle.pm_model.specs.Words.{reads}
 use Rattle.pm_model.specs.Moments.{State}
 use Rattle.pm_model.proofs.Reading.{OnlyReads-none, OnlyReads-then, still_reads}
-use Rattle.pud_defs.specs.declared.records.PuddleRec.{PuddleRec}
+use Rattle.pud_defs.specs.declared.records.PuddleRecord.{PuddleRecord}
 use Rattle.pud_defs.specs.Image.{Image}
 use Rattle.pud_defs.specs.Puddles.{puddle_record_at}
 use Rattle.puddle_table.specs.Records.{is_member}
@@ -19,7 +19,7 @@ returns-then-names-clause-found g c = λ t image e.
     let names : is_member (image (puddle_record_at frame)) c.args.pool c.args.ordinal ≡ true =
     ap (λ w. is_member w c.args.pool c.args.ordinal) (sym word) ∙ sym c.names.ensures ∙ c.if-names.true in
     let read = c.in_ok-read_record.ensures.record t image (still_reads c.load.ensures.only_reads t before) in
-    ap (λ (r : PuddleRec). Some (frame, r)) read
+    ap (λ (r : PuddleRecord). Some (frame, r)) read
     ∙ sym (found_moved _ image c.args.frames c.args.pool c.args.ordinal frame e (c.loop-frame.invariant.found t) ∙ found_from-here c.args.frames image c.args.pool c.args.ordinal frame (omega arith) names)
 
 pub loop-frame-init : goal.loop-frame-init

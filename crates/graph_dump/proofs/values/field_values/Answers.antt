@@ -1,6 +1,6 @@
 use Rattle.std.proofs.Common.{arith}
 use Rattle.std.proofs.lemmas.List.{map_more}
-use Rattle.pud_defs.specs.declared.objects.Val.TheVariants.{Num}
+use Rattle.pud_defs.specs.declared.objects.FieldValue.TheVariants.{Num}
 use Rattle.pud_defs.specs.DumpText.{field_text}
 use Rattle.graph_dump.proofs.Spelling.{SpellsEach-more}
 use Rattle.graph_dump.proofs.values.field_values.Goals as goal

@@ -10,7 +10,7 @@ use Rattle.pud_defs.specs.Registry.{frames_of}
 use Rattle.pud_defs.specs.Settled.{ALL_LOGS}
 use Rattle.pud_defs.specs.World.{world_of}
 use Rattle.log_replay.specs.Replaying.{Anything}
-use Rattle.registry.specs.declared.Geo.{Geo}
+use Rattle.registry.specs.declared.DeviceGeometry.{DeviceGeometry}
 use Rattle.registry.specs.declared.LoadFault.{LoadFault}
 use Rattle.registry.specs.declared.LoadFault.TheVariants.{NotSound}
 use Rattle.registry.specs.Registry.{load_fault}
@@ -25,7 +25,7 @@ returns-in_err-geo-clause-replays g c =
     let p = err_from_is_err_and c.from_residual.result c.from_residual.ensures.1 in
     let fault = c.in_err-geo.field-0.0 in
     rw (p.1, p.2) (λ t size same s world.
-    let sound : fault ≡ NotSound → ⊥ = λ is. none-some s (sym ((c.in_err-geo.ensures.not_sound t (ap (λ (f : LoadFault). load_fault {T = Geo} (Err f)) is)).0 (ap Err is)) ∙ rw (sym same) world) in
+    let sound : fault ≡ NotSound → ⊥ = λ is. none-some s (sym ((c.in_err-geo.ensures.not_sound t (ap (λ (f : LoadFault). load_fault {T = DeviceGeometry} (Err f)) is)).0 (ap Err is)) ∙ rw (sym same) world) in
     ReplaysLogs-loaded size s (g.H.Host.state c.args.h.now) world fault (g.H.Host.state c.load_sound.new.h) sound (c.in_err-geo.ensures.settles t (λ is. sound cc)))
 
 pub returns-in_err-geo-clause-recovers : goal.returns-in_err-geo-clause-recovers
@@ -33,7 +33,7 @@ returns-in_err-geo-clause-recovers g c =
     let p = err_from_is_err_and c.from_residual.result c.from_residual.ensures.1 in
     let fault = c.in_err-geo.field-0.0 in
     rw (p.1, p.2) (λ t size same s rested world.
-    let sound : fault ≡ NotSound → ⊥ = λ is. none-some s (sym ((c.in_err-geo.ensures.not_sound t (ap (λ (f : LoadFault). load_fault {T = Geo} (Err f)) is)).0 (ap Err is)) ∙ rw (sym same) world) in
+    let sound : fault ≡ NotSound → ⊥ = λ is. none-some s (sym ((c.in_err-geo.ensures.not_sound t (ap (λ (f : LoadFault). load_fault {T = DeviceGeometry} (Err f)) is)).0 (ap Err is)) ∙ rw (sym same) world) in
     RecoversDevice-loaded size s (g.H.Host.state c.args.h.now) world rested fault (g.H.Host.state c.load_sound.new.h) sound
     (c.in_err-geo.ensures.applies t size same s rested world) (c.in_err-geo.ensures.settles t (λ is. sound cc)))
 

@@ -4,7 +4,7 @@ use Rattle.pm_model.specs.Words.{reads}
 use Rattle.pm_model.specs.Masks.{masked_state}
 use Rattle.pm_model.proofs.Reading.{Changes-read, still_size}
 use Rattle.pud_defs.specs.declared.layout.TheConstants.{NEXT_NUMBER_WORD}
-use Rattle.pud_defs.specs.declared.records.PoolRec.{PoolRec}
+use Rattle.pud_defs.specs.declared.records.PoolRecord.{PoolRecord}
 use Rattle.registry.specs.Places.{make_fault}
 use Rattle.registry.specs.Puts.{puts_batch}
 use Rattle.registry.specs.Pools.{making, new_record}
@@ -35,7 +35,7 @@ returns-in_err-add_puddle-clause-commits g c =
     let place = c.in_ok-added.ensures.first t image read in
     let within = c.in_ok-added.ensures.within in
     let r = new_record c.args.name c.args.uid c.args.gid c.args.mode (image NEXT_NUMBER_WORD) in
-    let is = c.making.ensures ∙ ap (λ (r : PoolRec). puts_batch (making r a)) (record_is c.args.name c.args.uid c.args.gid c.args.mode (image NEXT_NUMBER_WORD) a place.puddle.number_is) in
+    let is = c.making.ensures ∙ ap (λ (r : PoolRecord). puts_batch (making r a)) (record_is c.args.name c.args.uid c.args.gid c.args.mode (image NEXT_NUMBER_WORD) a place.puddle.number_is) in
     MakesSomewhere-found c.args.frames image c.args.name c.args.uid c.args.gid c.args.mode a place (Some c.in_err-add_puddle.field-0.0) old mid _ (c.in_ok-added.ensures.only_reads.stays t)
     (λ idle_then. c.in_err-add_puddle.ensures.commits t (making r a) (making_of c.args.frames r a within.frame within.slot) is idle_then) idle)
 
@@ -47,7 +47,7 @@ returns-in_err-add_puddle-clause-makes g c =
     let a = c.in_ok-added.added in
     let old = g.H.Host.state c.args.h.now in
     let place = c.in_ok-added.ensures.first t (reads old.now.words) refl in
-    let is = c.making.ensures ∙ ap (λ (r : PoolRec). puts_batch (making r a)) (record_is c.args.name c.args.uid c.args.gid c.args.mode (reads old.now.words NEXT_NUMBER_WORD) a place.puddle.number_is) in
+    let is = c.making.ensures ∙ ap (λ (r : PoolRecord). puts_batch (making r a)) (record_is c.args.name c.args.uid c.args.gid c.args.mode (reads old.now.words NEXT_NUMBER_WORD) a place.puddle.number_is) in
     MakesPool-found size s c.args.frames c.args.name c.args.uid c.args.gid c.args.mode mask old may a place c.making.result (Some c.in_err-add_puddle.field-0.0) (g.H.Host.state c.find_first.new.h) _ (c.in_ok-added.ensures.only_reads.stays t) is
     (λ adds. c.in_err-add_puddle.ensures.adds t size then s _ mask adds))
 
@@ -59,7 +59,7 @@ returns-clause-commits g c = λ t image read idle none.
     let place = c.in_ok-added.ensures.first t image read in
     let within = c.in_ok-added.ensures.within in
     let r = new_record c.args.name c.args.uid c.args.gid c.args.mode (image NEXT_NUMBER_WORD) in
-    let is = c.making.ensures ∙ ap (λ (r : PoolRec). puts_batch (making r a)) (record_is c.args.name c.args.uid c.args.gid c.args.mode (image NEXT_NUMBER_WORD) a place.puddle.number_is) in
+    let is = c.making.ensures ∙ ap (λ (r : PoolRecord). puts_batch (making r a)) (record_is c.args.name c.args.uid c.args.gid c.args.mode (image NEXT_NUMBER_WORD) a place.puddle.number_is) in
     MakesSomewhere-found c.args.frames image c.args.name c.args.uid c.args.gid c.args.mode a place None old mid _ (c.in_ok-added.ensures.only_reads.stays t)
     (λ idle_then. c.in_ok-add_puddle.ensures.commits t (making r a) (making_of c.args.frames r a within.frame within.slot) is idle_then) idle
 
@@ -69,6 +69,6 @@ returns-clause-makes g c = λ t size same s mask may.
     let a = c.in_ok-added.added in
     let old = g.H.Host.state c.args.h.now in
     let place = c.in_ok-added.ensures.first t (reads old.now.words) refl in
-    let is = c.making.ensures ∙ ap (λ (r : PoolRec). puts_batch (making r a)) (record_is c.args.name c.args.uid c.args.gid c.args.mode (reads old.now.words NEXT_NUMBER_WORD) a place.puddle.number_is) in
+    let is = c.making.ensures ∙ ap (λ (r : PoolRecord). puts_batch (making r a)) (record_is c.args.name c.args.uid c.args.gid c.args.mode (reads old.now.words NEXT_NUMBER_WORD) a place.puddle.number_is) in
     MakesPool-found size s c.args.frames c.args.name c.args.uid c.args.gid c.args.mode mask old may a place c.making.result None (g.H.Host.state c.find_first.new.h) _ (c.in_ok-added.ensures.only_reads.stays t) is
     (λ adds. c.in_ok-add_puddle.ensures.adds t size then s _ mask adds)
