@@ -41,7 +41,7 @@ use Rattle.pud_defs.proofs.Parts.{Holds-same}
 use Rattle.pud_defs.proofs.Parts.Part.{Types}
 use Rattle.graph_laws.proofs.Grown.{slice_get-front, slice_get-push}
 use Rattle.batch.specs.Batches.{HasIdleGate}
-use Rattle.registry.specs.declared.adding.Added.{Added}
+use Rattle.registry.specs.declared.adding.NewPuddle.{NewPuddle}
 use Rattle.registry.specs.Puts.{puts_batch}
 use Rattle.registry.specs.Adding.{filling, IsFilled, PersistsThenCommits, IsOffAdding}
 use Rattle.registry.specs.Pools.{KeepsTables, ChangesPools, ChangesMasked}
@@ -115,7 +115,7 @@ found_beside_more name other s p there apart = ap (find name_cmp other) (changed
 
 -- ---- a daemon that is ready, and holds it
 
-module _ (size : ℕ) (w : World) (memory : Memory) (active : ActiveTransaction) (old : State) (number : ℕ) (there : active_under memory.active number ≡ Some active) (ready : IsReady size w memory old) (a : Added) where
+module _ (size : ℕ) (w : World) (memory : Memory) (active : ActiveTransaction) (old : State) (number : ℕ) (there : active_under memory.active number ≡ Some active) (ready : IsReady size w memory old) (a : NewPuddle) where
   abbrev F : ℕ
   F = w.stored.frames
 

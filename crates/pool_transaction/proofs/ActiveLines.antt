@@ -20,7 +20,7 @@ use Rattle.known_pool.specs.Known.{Known, by_puddles}
 use Rattle.ready_daemon.specs.PoolKnowledge.{puddles_known, KnowsAlone}
 use Rattle.ready_daemon.proofs.Known.{pool_kept}
 use Rattle.ready_daemon.specs.Memory.{ActiveTransaction, Memory, active_under, with_active}
-use Rattle.registry.specs.declared.adding.Added.{Added}
+use Rattle.registry.specs.declared.adding.NewPuddle.{NewPuddle}
 use Rattle.pool_transaction.specs.Changing.{IsActiveIn, with_opened, refusal_by_tables, GrowsBy, refusal_by_world, with_more, with_made}
 use Rattle.ready_daemon.specs.Moves.{led_in}
 use Rattle.ready_daemon.specs.Ready.{IsReady, Applies}
@@ -130,7 +130,7 @@ module _ (size : ℕ) (w : World) (memory : Memory) (active : ActiveTransaction)
       pub refused_by_tables : (r : Refusal) → Some r ≡ refusal_by_tables F at (reads old.now.words) → refusal_of w line ≡ Some r
       refused_by_tables r is = by_tables ∙ sym is
 
-      module _ (may : None ≡ refusal_by_tables F at (reads old.now.words)) (a : Added) (by : GrowsBy F active.slot at (reads old.now.words) a) where
+      module _ (may : None ≡ refusal_by_tables F at (reads old.now.words)) (a : NewPuddle) (by : GrowsBy F active.slot at (reads old.now.words) a) where
         free : refusal_of w line ≡ None
         free = by_tables ∙ sym may
 

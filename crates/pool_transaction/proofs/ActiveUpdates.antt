@@ -19,7 +19,7 @@ use Rattle.lazy_rewrite.specs.Batches.{Rewrites}
 use Rattle.lazy_rewrite.specs.Frontiers.{finished_at, frontier_at}
 use Rattle.hybrid_tx.specs.PoolScopes.{IsPlaced, IsRewrittenAt}
 use Rattle.hybrid_tx.specs.Objects.Transactions.{OpenTx, IsOpenOn, KeepsOpenOn}
-use Rattle.pool_transaction.specs.declared.changing.Found.{Found}
+use Rattle.pool_transaction.specs.declared.changing.FoundUpdate.{FoundUpdate}
 use Rattle.pool_transaction.specs.declared.changing.Update.{Update}
 use Rattle.pool_transaction.specs.Changing.{IsActiveIn, with_opened, update_line, changed_by, MayChange, IsFoundBy, ordinal_written}
 use Rattle.ready_daemon.specs.PoolKnowledge.{puddles_known, KnowsAlone}
@@ -42,7 +42,7 @@ use Rattle.pool_transaction.proofs.FoundBehind.{found_behind}
 use Rattle.pool_transaction.proofs.ActiveFinishes.{its_frontiers, Applies-unfinished, ready_finished, known_finished, spared_finished, Applies-behind}
 
 -- what the call owes that makes the update which was found
-abbrev pub CarriesOut : (F : ℕ) → List (ℕ × Puddle) → Found → (log now : OpenLog) → Option HostFault → State → State → Type 0
+abbrev pub CarriesOut : (F : ℕ) → List (ℕ × Puddle) → FoundUpdate → (log now : OpenLog) → Option HostFault → State → State → Type 0
 CarriesOut F at found log now fault old new =
     (types : List (ℕ × ℕ)) (before : Image) (graph_before : Graph) (t : Transaction) (update : Update) → IsPlaced F at → IsRewrittenAt at (ordinal_written found)
     → IsOpenOn F at types log before graph_before t.now t.deferred old.now.words → MayChange types t update → IsFoundBy F at (reads old.now.words) update found
@@ -80,7 +80,7 @@ module _ (size : ℕ) (w : World) (memory : Memory) (active : ActiveTransaction)
   its_ends = ends_finished at o (its_frontiers size w memory active old active.log_number its.there ready F on at its.known)
 
   -- it failed
-  pub Applies-unfinished_update : (found : Found) → o ≡ ordinal_written found → (behind : Memory) (fault : HostFault) → Finishes (Some fault)
+  pub Applies-unfinished_update : (found : FoundUpdate) → o ≡ ordinal_written found → (behind : Memory) (fault : HostFault) → Finishes (Some fault)
       → AppliesTo (led_in active.slot (end_of (ordinal_written found))) size w next behind (Some fault) old mid
   Applies-unfinished_update found is behind fault finishes =
       subst (λ (n : ℕ). AppliesTo (led_in active.slot (end_of n)) size w next behind (Some fault) old mid) is
@@ -88,7 +88,7 @@ module _ (size : ℕ) (w : World) (memory : Memory) (active : ActiveTransaction)
       (same_stored w active.client active.name update))
 
   -- or the update is made behind it
-  module _ (found : Found) (is : o ≡ ordinal_written found) (finished : later ≡ finished_at o at) (finishes : Finishes None) (lent : List (ℕ × Puddle)) (same : lent ≡ later) where
+  module _ (found : FoundUpdate) (is : o ≡ ordinal_written found) (finished : later ≡ finished_at o at) (finishes : Finishes None) (lent : List (ℕ × Puddle)) (same : lent ≡ later) where
     still_ready : IsReady size w then mid
     still_ready = ready_finished size w memory active old active.log_number its.there ready F on at its.known goal later mid finishes
 

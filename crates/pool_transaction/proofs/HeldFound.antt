@@ -19,7 +19,7 @@ use Rattle.ready_daemon.specs.Ready.{IsReady}
 use Rattle.ready_daemon.proofs.Applying.{IsReady-anew}
 use Rattle.ready_daemon.proofs.KnownOpen.{known_within}
 use Rattle.ready_daemon.proofs.Known.{known_kept_there}
-use Rattle.pool_transaction.specs.declared.changing.Found.{Found}
+use Rattle.pool_transaction.specs.declared.changing.FoundUpdate.{FoundUpdate}
 use Rattle.pool_transaction.specs.declared.changing.Update.{Update}
 use Rattle.pool_transaction.specs.Changing.{IsActiveIn, IsActiveWith, with_known, with_opened, update_line, IsFoundBy, IsFoundWithin, ordinal_written}
 use Rattle.pool_transaction.specs.Finishing.{end_of, FinishesFor, FinishesUnless, AppliesTo, AppliesFinishing}
@@ -28,7 +28,7 @@ use Rattle.pool_transaction.proofs.ActiveFinishes.{its_placed}
 use Rattle.pool_transaction.proofs.Leading.{AppliesTo-behind_reads, finishes_found, finishing_free}
 
 -- what the call owes that makes the update which was found, on the puddles that it is lent
-abbrev pub Updates : (F : ℕ) → (active now : ActiveTransaction) → (at later : List (ℕ × Puddle)) → Update → Found → (size : ℕ) → World → Option HostFault → (old new : State) → Type 0
+abbrev pub Updates : (F : ℕ) → (active now : ActiveTransaction) → (at later : List (ℕ × Puddle)) → Update → FoundUpdate → (size : ℕ) → World → Option HostFault → (old new : State) → Type 0
 Updates F active now at later update found size w fault old new =
     (memory : Memory) → IsActiveIn F active at memory → IsReady size w memory old → refusal_of w (update_line update active.client active.name) ≡ None → IsFoundBy F at (reads old.now.words) update found
     → AppliesTo (led_in active.slot (end_of (ordinal_written found))) size w (after w (update_line update active.client active.name)) (with_opened active.log_number active.slot now later memory) fault old new
@@ -70,7 +70,7 @@ module _ (F : ℕ) (active : ActiveTransaction) (known : Known) (memory : Memory
     }
 
   -- the line is carried out
-  module _ (update : Update) (found : Found) (free : refusal_of w (update_line update active.client active.name) ≡ None) (within : IsFoundWithin known.puddles found) (by : IsFoundBy F known.puddles (reads old.now.words) update found) where
+  module _ (update : Update) (found : FoundUpdate) (free : refusal_of w (update_line update active.client active.name) ≡ None) (within : IsFoundWithin known.puddles found) (by : IsFoundBy F known.puddles (reads old.now.words) update found) where
     abbrev line : Command
     line = update_line update active.client active.name
 

@@ -36,8 +36,8 @@ use Rattle.ready_daemon.proofs.Applying.{AppliesBy-then, AppliesBy-weaker}
 use Rattle.ready_daemon.proofs.Goals.{led_stays}
 use Rattle.ready_daemon.proofs.PuddlesLeft.{Joins-stays}
 use Rattle.pool_transaction.specs.declared.changing.Update.{Update}
-use Rattle.pool_transaction.specs.declared.changing.Found.{Found}
-use Rattle.pool_transaction.specs.declared.changing.Found.TheVariants.{Field, Root, Object}
+use Rattle.pool_transaction.specs.declared.changing.FoundUpdate.{FoundUpdate}
+use Rattle.pool_transaction.specs.declared.changing.FoundUpdate.TheVariants.{Field, Root, Object}
 use Rattle.pool_transaction.specs.Changing.{both_finished, field_change, IsFoundBy, IsFoundWithin, ordinal_written}
 use Rattle.pool_transaction.specs.Finishing.{end_of, end_of_both, no_end, FinishesObject, FinishesFor, FinishesLowest, FinishesTaken, IsLonger, FinishesUnless, UnlessFailed, AppliesTo, AppliesFinishing}
 use Rattle.pool_transaction.proofs.Arriving.{HaveReached, AreEnds, became}
@@ -109,7 +109,7 @@ finishes_field F at image true s f x goal so = so
 finishes_field F at image false s f x goal so = so
 
 -- the puddle that it writes is that of its object, or of the root
-pub finishes_found : (F : ℕ) (at : List (ℕ × Puddle)) (image : Image) (update : Update) (found : Found) → IsFoundWithin at found → IsFoundBy F at image update found
+pub finishes_found : (F : ℕ) (at : List (ℕ × Puddle)) (image : Image) (update : Update) (found : FoundUpdate) → IsFoundWithin at found → IsFoundBy F at image update found
     → FinishesFor F at image update (end_of (ordinal_written found))
 finishes_found F at image update (Field slot f word later) within by =
     subst (λ (u : Update). FinishesFor F at image u (end_of slot.ordinal)) (sym by.is) (finishes_field F at image later by.s f by.x (end_of slot.ordinal) (finishes_object F at image by.s slot within.0 by.found.0))

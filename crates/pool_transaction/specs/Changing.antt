@@ -20,7 +20,7 @@ use Rattle.pud_defs.specs.Tables.{tables_of}
 use Rattle.pud_defs.specs.Transactions.{with_changed, charged, deferring}
 use Rattle.pud_defs.specs.Types.{map_of}
 use Rattle.pud_defs.specs.World.{Transaction, World, open_on}
-use Rattle.registry.specs.declared.adding.Added.{Added}
+use Rattle.registry.specs.declared.adding.NewPuddle.{NewPuddle}
 use Rattle.registry.specs.Growth.{grow_refusal, IsGrowthFor}
 use Rattle.puddle_header.specs.Places.{place_of_slot, IsSlotOf}
 use Rattle.graph_read.specs.Reading.{place_in_pool}
@@ -32,8 +32,8 @@ use Rattle.pool_transaction.specs.declared.changing.Change.{Change}
 use Rattle.pool_transaction.specs.declared.changing.Change.TheVariants as changes
 use Rattle.pool_transaction.specs.declared.changing.Update.{Update}
 use Rattle.pool_transaction.specs.declared.changing.Update.TheVariants.{Set, Later, Root, Free}
-use Rattle.pool_transaction.specs.declared.changing.Found.{Found}
-use Rattle.pool_transaction.specs.declared.changing.Found.TheVariants as founds
+use Rattle.pool_transaction.specs.declared.changing.FoundUpdate.{FoundUpdate}
+use Rattle.pool_transaction.specs.declared.changing.FoundUpdate.TheVariants as founds
 use Rattle.known_pool.specs.Known.{Known, by_puddles}
 use Rattle.ready_daemon.specs.PoolKnowledge.{known_pool_in, KnowsAlone}
 use Rattle.ready_daemon.specs.Memory.{ActiveTransaction, Memory, active_under}
@@ -125,19 +125,19 @@ pub record IsObjectFound (F : ℕ) (at : List (ℕ × Puddle)) (image : Image) (
   pub found : place_in_pool F at image s ≡ Some (place_of_slot slot)
 
 -- what was found is so of the change
-abbrev pub IsFoundBy : ℕ → List (ℕ × Puddle) → Image → Update → Found → Type 0
+abbrev pub IsFoundBy : ℕ → List (ℕ × Puddle) → Image → Update → FoundUpdate → Type 0
 IsFoundBy F at image change (founds.Field slot f word later) = IsFieldFound F at image change slot f word later
 IsFoundBy F at image change (founds.Root word) = IsRootFound F at image change word
 IsFoundBy F at image change (founds.Object slot) = IsObjectFound F at image change slot
 
 -- the ordinal of the puddle that it writes
-abbrev pub ordinal_written : Found → ℕ
+abbrev pub ordinal_written : FoundUpdate → ℕ
 ordinal_written (founds.Field slot f word later) = slot.ordinal
 ordinal_written (founds.Root word) = 0
 ordinal_written (founds.Object slot) = slot.ordinal
 
 -- its slot is one of these puddles, and its field one that an object may have
-abbrev pub IsFoundWithin : List (ℕ × Puddle) → Found → Type 0
+abbrev pub IsFoundWithin : List (ℕ × Puddle) → FoundUpdate → Type 0
 IsFoundWithin at (founds.Field slot f word later) = IsSlotOf at slot × (f < MAX_FIELDS)
 IsFoundWithin at (founds.Root word) = Unit {0}
 IsFoundWithin at (founds.Object slot) = IsSlotOf at slot
@@ -164,7 +164,7 @@ abbrev pub refusal_by_tables : ℕ → List (ℕ × Puddle) → Image → Option
 refusal_by_tables F at image = grow_refusal (tables_of F image) (image NEXT_NUMBER_WORD) (length at)
 
 -- the puddle is the one by which the pool in the slot grows, by them
-abbrev pub GrowsBy : ℕ → (slot : ℕ) → List (ℕ × Puddle) → Image → Added → Type 0
+abbrev pub GrowsBy : ℕ → (slot : ℕ) → List (ℕ × Puddle) → Image → NewPuddle → Type 0
 GrowsBy F slot at image a = IsGrowthFor (tables_of F image) (image NEXT_NUMBER_WORD) slot (length at) a
 
 -- by the world, of an object of this type

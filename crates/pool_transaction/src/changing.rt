@@ -47,7 +47,7 @@ use pud_defs::objects::FieldValue;
 use pud_defs::records::{Puddle, Slot};
 use puddle_header::next_serial;
 use puddle_table::{Puddles, find_puddles};
-use registry::{Added, grow_pool};
+use registry::{NewPuddle, grow_pool};
 use type_maps::find;
 
 /// What a line changes within a transaction that is open.
@@ -74,7 +74,7 @@ pub enum Update {
 
 /// An update that may be made, with what was found of the objects that its line names.
 #[derive(Clone, Copy)]
-pub(crate) enum Found {
+pub(crate) enum FoundUpdate {
     /// Field `f` of the object in the slot gets the word of the value: at once, or at the commit.
     Field {
         at: Slot,
@@ -125,12 +125,12 @@ fn refusal_to_make(map: Option<u64>, units: u32, next: u64) -> Option<Refusal>
 }
 
 /// The ordinal of the puddle that the update which was found writes.
-fn ordinal_written(found: Found) -> u32
+fn ordinal_written(found: FoundUpdate) -> u32
     ensures { result ≡ ordinal_written found }
 {
     match found {
-        Found::Field { at, .. } | Found::Object { at } => at.ordinal,
-        Found::Root { .. } => 0,
+        FoundUpdate::Field { at, .. } | FoundUpdate::Object { at } => at.ordinal,
+        FoundUpdate::Root { .. } => 0,
     }
 }
 
@@ -140,7 +140,7 @@ fn carry_out<H: Host>(
     h: &mut H,
     frames: u32,
     pool: &[(u32, Puddle)],
-    found: Found,
+    found: FoundUpdate,
 ) -> Result<(), HostFault>
     requires few { frames ≤ MAX_FRAMES }
     requires device { device_words frames ≤ (H.counts h.old).size }
@@ -159,15 +159,15 @@ fn carry_out<H: Host>(
     ensures cause { H.counts h.new ≡ after_fault (fault_of result) (H.counts h.old) }
 {
     match found {
-        Found::Field { at, f, word, later } => {
+        FoundUpdate::Field { at, f, word, later } => {
             if later {
                 tx.later_at(h, frames, pool, &at, f, word)
             } else {
                 tx.set_at(h, frames, pool, &at, f, word)
             }
         }
-        Found::Root { word } => tx.root_at(h, frames, pool, word),
-        Found::Object { at } => tx.free_at(h, frames, pool, &at),
+        FoundUpdate::Root { word } => tx.root_at(h, frames, pool, word),
+        FoundUpdate::Object { at } => tx.free_at(h, frames, pool, &at),
     }
 }
 
@@ -203,7 +203,7 @@ impl PoolTransaction {
         h: &mut H,
         frames: u32,
         pool: &mut Puddles,
-        found: Found,
+        found: FoundUpdate,
     ) -> Result<(), HostFault>
         requires few { frames ≤ MAX_FRAMES }
         requires room { device_words frames ≤ (H.counts h.old).size }
@@ -297,7 +297,7 @@ impl PoolTransaction {
         h: &mut H,
         frames: u32,
         pool: &[(u32, Puddle)],
-    ) -> Result<Result<Added, Refusal>, HostFault>
+    ) -> Result<Result<NewPuddle, Refusal>, HostFault>
         requires few { frames ≤ MAX_FRAMES }
         requires room { device_words frames ≤ (H.counts h.old).size }
         requires held { IsActiveWithin frames self.now }
@@ -367,7 +367,7 @@ impl PoolTransaction {
         h: &mut H,
         frames: u32,
         pool: &mut Puddles,
-        added: Added,
+        added: NewPuddle,
     ) -> Result<(), HostFault>
         requires few { frames ≤ MAX_FRAMES }
         requires room { device_words frames ≤ (H.counts h.old).size }

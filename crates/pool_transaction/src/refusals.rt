@@ -19,7 +19,7 @@ ghost use Rattle.pool_transaction.specs.Changing.{IsActiveWith, update_line, fie
 ghost use Rattle.pool_transaction.specs.Refusing.{room_refusal, field_refusal, refusal_to_free};
 ghost use Rattle.ready_daemon.specs.Ready.{IsReady};
 
-use crate::changing::{Found, Update};
+use crate::changing::{FoundUpdate, Update};
 use crate::transaction::PoolTransaction;
 use graph_read::{FieldRead, field_at};
 use hybrid_tx::{place_and_word, word_for};
@@ -97,7 +97,7 @@ impl PoolTransaction {
         f: u32,
         x: FieldValue,
         later: bool,
-    ) -> Result<Result<Found, Refusal>, HostFault>
+    ) -> Result<Result<FoundUpdate, Refusal>, HostFault>
         requires few { frames ≤ MAX_FRAMES }
         requires device { device_words frames ≤ (H.counts h.old).size }
         requires within { IsActiveWithin frames self.now }
@@ -118,7 +118,7 @@ impl PoolTransaction {
         let read = field_at(h, frames, puddles, &at, f)?;
         match field_refusal(read, x, self.tx.units()) {
             Some(refusal) => Ok(Err(refusal)),
-            None => Ok(Ok(Found::Field { at, f, word, later })),
+            None => Ok(Ok(FoundUpdate::Field { at, f, word, later })),
         }
     }
 
@@ -132,7 +132,7 @@ impl PoolTransaction {
         frames: u32,
         pool: &KnownPool,
         s: u64,
-    ) -> Result<Result<Found, Refusal>, HostFault>
+    ) -> Result<Result<FoundUpdate, Refusal>, HostFault>
         requires few { frames ≤ MAX_FRAMES }
         requires device { device_words frames ≤ (H.counts h.old).size }
         requires within { IsActiveWithin frames self.now }
@@ -150,7 +150,7 @@ impl PoolTransaction {
         };
         match room_refusal(self.tx.units()) {
             Some(refusal) => Ok(Err(refusal)),
-            None => Ok(Ok(Found::Root { word })),
+            None => Ok(Ok(FoundUpdate::Root { word })),
         }
     }
 
@@ -164,7 +164,7 @@ impl PoolTransaction {
         frames: u32,
         pool: &KnownPool,
         s: u64,
-    ) -> Result<Result<Found, Refusal>, HostFault>
+    ) -> Result<Result<FoundUpdate, Refusal>, HostFault>
         requires few { frames ≤ MAX_FRAMES }
         requires device { device_words frames ≤ (H.counts h.old).size }
         requires within { IsActiveWithin frames self.now }
@@ -185,7 +185,7 @@ impl PoolTransaction {
         let asked = self.tx.deferred_names_at(h, frames, pool.as_slice(), s, &at)?;
         match refusal_to_free(referenced, asked, self.tx.units()) {
             Some(refusal) => Ok(Err(refusal)),
-            None => Ok(Ok(Found::Object { at })),
+            None => Ok(Ok(FoundUpdate::Object { at })),
         }
     }
 
@@ -198,7 +198,7 @@ impl PoolTransaction {
         frames: u32,
         pool: &KnownPool,
         update: Update,
-    ) -> Result<Result<Found, Refusal>, HostFault>
+    ) -> Result<Result<FoundUpdate, Refusal>, HostFault>
         requires few { frames ≤ MAX_FRAMES }
         requires device { device_words frames ≤ (H.counts h.old).size }
         requires within { IsActiveWithin frames self.now }

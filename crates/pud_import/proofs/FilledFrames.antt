@@ -12,7 +12,7 @@ use Rattle.pm_persist.proofs.Ranges.{placed_at, placed_within}
 use Rattle.pud_defs.specs.declared.layout.TheConstants.{FRAME_WORDS}
 use Rattle.pud_defs.specs.Frames.{frame_at}
 use Rattle.pud_defs.specs.Stored.{Stored}
-use Rattle.registry.specs.declared.adding.Added.{Added}
+use Rattle.registry.specs.declared.adding.NewPuddle.{NewPuddle}
 use Rattle.pud_import.specs.Filling.{filled_value, ByFrame, FillsFrame, ByFrames, AreFilled}
 use Rattle.pud_import.specs.Places.{FramesRise}
 
@@ -31,25 +31,25 @@ FillsFrame-persisted F frame words value fault old new whole are p = record {
 -- ---- many
 
 -- the frames of the first so many puddles hold what the file's do
-pub record AreFilledBelow (F : ℕ) (file : Stored) (puddles : List Added) (count : ℕ) (words : Words) : Type 0 where
-  pub each : (o k : ℕ) (a : Added) → o < count → slice_get puddles o ≡ Some a → k < FRAME_WORDS → HasOnly (words (frame_at F a.frame + k)) (filled_value file o a.puddle.number k)
+pub record AreFilledBelow (F : ℕ) (file : Stored) (puddles : List NewPuddle) (count : ℕ) (words : Words) : Type 0 where
+  pub each : (o k : ℕ) (a : NewPuddle) → o < count → slice_get puddles o ≡ Some a → k < FRAME_WORDS → HasOnly (words (frame_at F a.frame + k)) (filled_value file o a.puddle.number k)
 
-module _ (F : ℕ) (file : Stored) (puddles : List Added) where
-  by_frame : (i : ℕ) (a : Added) → slice_get puddles i ≡ Some a → (k v : ℕ) → ByFrame F a.frame k v → ByFrames F puddles k v
+module _ (F : ℕ) (file : Stored) (puddles : List NewPuddle) where
+  by_frame : (i : ℕ) (a : NewPuddle) → slice_get puddles i ≡ Some a → (k v : ℕ) → ByFrame F a.frame k v → ByFrames F puddles k v
   by_frame i a there k v within = record { ordinal = i; added = a; there = there; word = within }
 
-  pub Changes-frame : (i : ℕ) (a : Added) (value : ℕ → ℕ) (fault : Option HostFault) (s b c : State) → slice_get puddles i ≡ Some a → Changes (ByFrames F puddles) None s b → FillsFrame F a.frame value fault b c
+  pub Changes-frame : (i : ℕ) (a : NewPuddle) (value : ℕ → ℕ) (fault : Option HostFault) (s b c : State) → slice_get puddles i ≡ Some a → Changes (ByFrames F puddles) None s b → FillsFrame F a.frame value fault b c
       → Changes (ByFrames F puddles) fault s c
   Changes-frame i a value fault s b c there before step =
       Changes-then (ByFrames F puddles) fault s b c before (Changes-wider (ByFrame F a.frame) (ByFrames F puddles) fault b c (by_frame i a there) step.changes)
 
-  pub filled_more : (i : ℕ) (a : Added) (b c : State) → FramesRise puddles → slice_get puddles i ≡ Some a → FillsFrame F a.frame (filled_value file i a.puddle.number) None b c → AreFilledBelow F file puddles i b.now.words
+  pub filled_more : (i : ℕ) (a : NewPuddle) (b c : State) → FramesRise puddles → slice_get puddles i ≡ Some a → FillsFrame F a.frame (filled_value file i a.puddle.number) None b c → AreFilledBelow F file puddles i b.now.words
       → AreFilledBelow F file puddles (i + 1) c.now.words
   filled_more i a b c rise there step before = record {
     each = λ o k d below is few. ⊎_elim
         (λ here.
         let same : a ≡ d = same_Some a d (sym there ∙ ap (slice_get puddles) (sym here) ∙ is) in
-        subst (λ (d : Added). HasOnly (c.now.words (frame_at F d.frame + k)) (filled_value file o d.puddle.number k)) same
+        subst (λ (d : NewPuddle). HasOnly (c.now.words (frame_at F d.frame + k)) (filled_value file o d.puddle.number k)) same
         (subst (λ (n : ℕ). HasOnly (c.now.words (frame_at F a.frame + k)) (filled_value file n a.puddle.number k)) (sym here) (step.durable refl k few)))
         (λ other.
         let apart = rise.each o i d a (omega arith) is there in

@@ -26,7 +26,7 @@ use Rattle.pud_defs.proofs.TablesOf.{tables_of-same}
 use Rattle.batch.specs.Worlds.{IsQuiescent}
 use Rattle.batch.specs.Tables.{HasDurableTables}
 use Rattle.batch.proofs.Tables.{HasDurableTables-kept}
-use Rattle.registry.specs.declared.adding.Added.{Added}
+use Rattle.registry.specs.declared.adding.NewPuddle.{NewPuddle}
 use Rattle.registry.specs.Pools.{MayStand, ChangesPools}
 use Rattle.registry.specs.Puts.{ByPools}
 use Rattle.registry.proofs.Moved.{settled_tables}
@@ -56,11 +56,11 @@ standing_unnamed size i j s h same frames = record { holds = held }
         }
 
 -- each of these puddles has a frame of the device whose record is free
-pub record AreFree (F : ℕ) (t : Tables) (puddles : List Added) : Type 0 where
-  pub within : (o : ℕ) (a : Added) → slice_get puddles o ≡ Some a → a.frame < F
-  pub free : (o : ℕ) (a : Added) → slice_get puddles o ≡ Some a → t.puddles a.frame ≡ None
+pub record AreFree (F : ℕ) (t : Tables) (puddles : List NewPuddle) : Type 0 where
+  pub within : (o : ℕ) (a : NewPuddle) → slice_get puddles o ≡ Some a → a.frame < F
+  pub free : (o : ℕ) (a : NewPuddle) → slice_get puddles o ≡ Some a → t.puddles a.frame ≡ None
 
-module _ (size : ℕ) (s : StoredWorld) (puddles : List Added) where
+module _ (size : ℕ) (s : StoredWorld) (puddles : List NewPuddle) where
   abbrev F : ℕ
   F = s.frames
 

@@ -39,7 +39,7 @@ use Rattle.pud_defs.proofs.TypeTable.{type_at-same}
 use Rattle.batch.specs.Worlds.{IsQuiescent}
 use Rattle.batch.proofs.Tables.{reads_kept}
 use Rattle.graph_laws.specs.Placed.{AreFrontiers}
-use Rattle.registry.specs.declared.adding.Added.{Added}
+use Rattle.registry.specs.declared.adding.NewPuddle.{NewPuddle}
 use Rattle.registry.specs.declared.placing.NewType.{NewType}
 use Rattle.registry.specs.Placing.{puddle_of, IsPlacedFor, MayPlace}
 use Rattle.registry.specs.Pools.{new_record, ChangesPools, ChangesMasked}
@@ -111,9 +111,9 @@ free_placed t frame taken (base ∷ wanted) (x ∷ at) placed zero e is =
     subst (λ (e : ℕ × Puddle). (e.0 < t.frames) × (t.puddles e.0 ≡ None)) same (omega arith, lowest.free)
 free_placed t frame taken (base ∷ wanted) (x ∷ at) placed (suc o) e is = free_placed t (x.0 + 1) (taken ++ x.1.base ∷ []) wanted at placed.3 o e is
 
-pub are_free : (F : ℕ) (t : Tables) (wanted : List ℕ) (puddles : List Added) → t.frames ≡ F → ArePlacedFrom t 0 [] wanted (map puddle_of puddles) → AreFree F t puddles
+pub are_free : (F : ℕ) (t : Tables) (wanted : List ℕ) (puddles : List NewPuddle) → t.frames ≡ F → ArePlacedFrom t 0 [] wanted (map puddle_of puddles) → AreFree F t puddles
 are_free F t wanted puddles frames placed =
-    let one = λ (o : ℕ) (a : Added) (is : slice_get puddles o ≡ Some a). free_placed t 0 [] wanted (map puddle_of puddles) placed o (puddle_of a) (slice_get-map puddle_of puddles o ∙ ap (option_map puddle_of) is) in
+    let one = λ (o : ℕ) (a : NewPuddle) (is : slice_get puddles o ≡ Some a). free_placed t 0 [] wanted (map puddle_of puddles) placed o (puddle_of a) (slice_get-map puddle_of puddles o ∙ ap (option_map puddle_of) is) in
     record {
       within = λ o a is. let below = (one o a is).0 in omega arith;
       free = λ o a is. (one o a is).1;
@@ -127,15 +127,15 @@ no_clash false full lacks none = refl
 
 -- ---- what was found, by equal lists
 
-pub placed_lists : {F slot : ℕ} {i : Image} {own file : List (ℕ × ℕ)} {wanted : List ℕ} {r : PoolRecord} {found new : List NewType} {listed puddles : List Added} → own ≡ file → new ≡ found → puddles ≡ listed
+pub placed_lists : {F slot : ℕ} {i : Image} {own file : List (ℕ × ℕ)} {wanted : List ℕ} {r : PoolRecord} {found new : List NewType} {listed puddles : List NewPuddle} → own ≡ file → new ≡ found → puddles ≡ listed
     → IsPlacedFor F i own wanted slot r found listed → IsPlacedFor F i file wanted slot r new puddles
 placed_lists {F = F} {slot = slot} {i = i} {own = own} {wanted = wanted} {r = r} {found = found} {new = new} {puddles = puddles} same_file same_new same_puddles is =
     subst (λ (ts : List (ℕ × ℕ)). IsPlacedFor F i ts wanted slot r new puddles) same_file
     (subst (λ (ts : List NewType). IsPlacedFor F i own wanted slot r ts puddles) (sym same_new)
-    (subst (λ (ps : List Added). IsPlacedFor F i own wanted slot r found ps) (sym same_puddles) is))
+    (subst (λ (ps : List NewPuddle). IsPlacedFor F i own wanted slot r found ps) (sym same_puddles) is))
 
 -- a state of which only was read before
-pub import_behind : {size F slot : ℕ} {s next : StoredWorld} {r : PoolRecord} {file : FileContents} {stored : Stored} {wanted : List ℕ} {new : List NewType} {puddles : List Added} {mask : Write} {fault : Option HostFault} {old read : State} (later : State) → read ≡ old
+pub import_behind : {size F slot : ℕ} {s next : StoredWorld} {r : PoolRecord} {file : FileContents} {stored : Stored} {wanted : List ℕ} {new : List NewType} {puddles : List NewPuddle} {mask : Write} {fault : Option HostFault} {old read : State} (later : State) → read ≡ old
     → (MayImport size s F r.name r.uid r.gid r.mode file stored mask read.now.words → IsPlacedFor F (reads read.now.words) file.types wanted slot r new puddles → ChangesMasked mask size s next (λ _. ⊤) fault read later)
     → MayImport size s F r.name r.uid r.gid r.mode file stored mask old.now.words → IsPlacedFor F (reads old.now.words) file.types wanted slot r new puddles → ChangesMasked mask size s next (λ _. ⊤) fault old later
 import_behind {size = size} {F = F} {slot = slot} {s = s} {next = next} {r = r} {file = file} {stored = stored} {wanted = wanted} {new = new} {puddles = puddles} {mask = mask} {fault = fault} later same =
@@ -252,7 +252,7 @@ module _ (size : ℕ) (s : StoredWorld) (name : List ℕ) (uid gid mode : ℕ) (
 
 -- ---- on so many frames
 
-module _ (size : ℕ) (s : StoredWorld) (F slot : ℕ) (r : PoolRecord) (new : List NewType) (puddles : List Added) (bytes : List ℕ) (file : FileContents) (held : file_graph bytes ≡ Some file) (mask : Write) (old mid : State)
+module _ (size : ℕ) (s : StoredWorld) (F slot : ℕ) (r : PoolRecord) (new : List NewType) (puddles : List NewPuddle) (bytes : List ℕ) (file : FileContents) (held : file_graph bytes ≡ Some file) (mask : Write) (old mid : State)
     (is : IsPlacedFor F (reads old.now.words) file.types (map (λ d. d.base) (stored_held bytes).puddles) slot r new puddles) where
   abbrev stored : Stored
   stored = stored_held bytes

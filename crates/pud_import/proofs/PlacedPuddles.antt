@@ -13,28 +13,28 @@ use Rattle.pud_defs.specs.Keyed.{first_free}
 use Rattle.pud_defs.specs.Placement.{IsBaseFor, ArePlacedFrom, ArePlaced}
 use Rattle.pud_defs.specs.Tables.{Tables, tables_of}
 use Rattle.pud_defs.proofs.Keyed.{IsMapped, option_map_parts, first_free_some}
-use Rattle.registry.specs.declared.adding.Added.{Added}
+use Rattle.registry.specs.declared.adding.NewPuddle.{NewPuddle}
 use Rattle.registry.specs.declared.placing.NewType.{NewType}
 use Rattle.registry.specs.Adding.{IsAddedWithin}
 use Rattle.registry.specs.Placing.{puddle_of, IsPlacedFor}
 use Rattle.pud_import.specs.Places.{at_frontier, IsPuddleAt, AreMembers, FramesRise}
 
-abbrev pub base_of : Added → ℕ
+abbrev pub base_of : NewPuddle → ℕ
 base_of a = a.puddle.base
 
 -- the frame from which the search goes on behind these
-unfoldable pub next_from : (from : ℕ) → List Added → ℕ
+unfoldable pub next_from : (from : ℕ) → List NewPuddle → ℕ
 next_from from [] = from
 next_from from (a ∷ puddles) = next_from (a.frame + 1) puddles
 
-next_from-more : (from : ℕ) (puddles : List Added) (a : Added) → next_from from (puddles ++ a ∷ []) ≡ a.frame + 1
+next_from-more : (from : ℕ) (puddles : List NewPuddle) (a : NewPuddle) → next_from from (puddles ++ a ∷ []) ≡ a.frame + 1
 unfolding next_from
 next_from-more from [] a = refl
 next_from-more from (b ∷ puddles) a = next_from-more (b.frame + 1) puddles a
 
 module _ (t : Tables) where
   -- one puddle more
-  placed_more : (from : ℕ) (taken wanted : List ℕ) (puddles : List Added) (a : Added) → ArePlacedFrom t from taken wanted (map puddle_of puddles) → first_free t.puddles (next_from from puddles) (t.frames - next_from from puddles) ≡ Some a.frame
+  placed_more : (from : ℕ) (taken wanted : List ℕ) (puddles : List NewPuddle) (a : NewPuddle) → ArePlacedFrom t from taken wanted (map puddle_of puddles) → first_free t.puddles (next_from from puddles) (t.frames - next_from from puddles) ≡ Some a.frame
       → IsBaseFor t (taken ++ map base_of puddles) a.puddle.old_base a.puddle.base → ArePlacedFrom t from taken (wanted ++ a.puddle.old_base ∷ []) (map puddle_of (puddles ++ a ∷ []))
   unfolding next_from
   placed_more from taken [] [] a placed frame base = (frame, subst (λ (l : List ℕ). IsBaseFor t l a.puddle.old_base a.puddle.base) (append-nil taken) base, refl, placed)
@@ -49,37 +49,37 @@ module _ (t : Tables) where
   )
 
   -- each frame lies behind those before
-  behind_from : (from : ℕ) (taken wanted : List ℕ) (puddles : List Added) → ArePlacedFrom t from taken wanted (map puddle_of puddles) → (j : ℕ) (a : Added) → slice_get puddles j ≡ Some a → from ≤ a.frame
+  behind_from : (from : ℕ) (taken wanted : List ℕ) (puddles : List NewPuddle) → ArePlacedFrom t from taken wanted (map puddle_of puddles) → (j : ℕ) (a : NewPuddle) → slice_get puddles j ≡ Some a → from ≤ a.frame
   behind_from from taken [] [] placed j a is = absurd (none-some a is)
   behind_from from taken (w ∷ wanted) [] placed j a is = absurd placed
   behind_from from taken [] (x ∷ puddles) placed j a is = absurd placed
   behind_from from taken (w ∷ wanted) (x ∷ puddles) placed zero a is =
       let low = (first_free_some t.puddles from (t.frames - from) x.frame placed.0).low in
-      let same : x.frame ≡ a.frame = ap (λ (a : Added). a.frame) (same_Some x a is) in
+      let same : x.frame ≡ a.frame = ap (λ (a : NewPuddle). a.frame) (same_Some x a is) in
       omega arith
   behind_from from taken (w ∷ wanted) (x ∷ puddles) placed (suc j) a is =
       let low = (first_free_some t.puddles from (t.frames - from) x.frame placed.0).low in
       let later = behind_from (x.frame + 1) (taken ++ x.puddle.base ∷ []) wanted puddles placed.3 j a is in
       omega arith
 
-  rise : (from : ℕ) (taken wanted : List ℕ) (puddles : List Added) → ArePlacedFrom t from taken wanted (map puddle_of puddles) → (i j : ℕ) (a b : Added) → i < j → slice_get puddles i ≡ Some a → slice_get puddles j ≡ Some b → a.frame < b.frame
+  rise : (from : ℕ) (taken wanted : List ℕ) (puddles : List NewPuddle) → ArePlacedFrom t from taken wanted (map puddle_of puddles) → (i j : ℕ) (a b : NewPuddle) → i < j → slice_get puddles i ≡ Some a → slice_get puddles j ≡ Some b → a.frame < b.frame
   rise from taken [] [] placed i j a b less is_a is_b = absurd (none-some a is_a)
   rise from taken (w ∷ wanted) [] placed i j a b less is_a is_b = absurd placed
   rise from taken [] (x ∷ puddles) placed i j a b less is_a is_b = absurd placed
   rise from taken (w ∷ wanted) (x ∷ puddles) placed i zero a b less is_a is_b = absurd (omega arith)
   rise from taken (w ∷ wanted) (x ∷ puddles) placed zero (suc j) a b less is_a is_b =
       let later = behind_from (x.frame + 1) (taken ++ x.puddle.base ∷ []) wanted puddles placed.3 j b is_b in
-      let same : x.frame ≡ a.frame = ap (λ (a : Added). a.frame) (same_Some x a is_a) in
+      let same : x.frame ≡ a.frame = ap (λ (a : NewPuddle). a.frame) (same_Some x a is_a) in
       omega arith
   rise from taken (w ∷ wanted) (x ∷ puddles) placed (suc i) (suc j) a b less is_a is_b = rise (x.frame + 1) (taken ++ x.puddle.base ∷ []) wanted puddles placed.3 i j a b (omega arith) is_a is_b
 
-pub placed_rise : (F : ℕ) (image : Image) (types : List (ℕ × ℕ)) (wanted : List ℕ) (slot : ℕ) (r : PoolRecord) (new : List NewType) (puddles : List Added) → IsPlacedFor F image types wanted slot r new puddles → FramesRise puddles
+pub placed_rise : (F : ℕ) (image : Image) (types : List (ℕ × ℕ)) (wanted : List ℕ) (slot : ℕ) (r : PoolRecord) (new : List NewType) (puddles : List NewPuddle) → IsPlacedFor F image types wanted slot r new puddles → FramesRise puddles
 placed_rise F image types wanted slot r new puddles is = record { each = rise (tables_of F image) 0 [] wanted puddles is.placed.turn }
 
 -- ---- found one behind the other
 
 -- So many were found: they are members, the search goes on behind their frames, and these are their bases.
-pub record AreFound (F slot next o from : ℕ) (bases : List ℕ) (puddles : List Added) : Type 0 where
+pub record AreFound (F slot next o from : ℕ) (bases : List ℕ) (puddles : List NewPuddle) : Type 0 where
   pub count : length puddles ≡ o
   pub are_bases : bases ≡ map base_of puddles
   pub goes_on : next_from 0 puddles ≡ from
@@ -102,7 +102,7 @@ got_more [] x (suc o) d is = absurd (none-some d is)
 got_more (y ∷ xs) x zero d is = inl is
 got_more (y ∷ xs) x (suc o) d is = elim (got_more xs x o d is) [ inl there ↦ inl there | inr last ↦ let at = last.0 in inr (omega arith, last.1) ]
 
-module _ (F slot next o from : ℕ) (bases : List ℕ) (puddles : List Added) (h : AreFound F slot next o from bases puddles) (a : Added) where
+module _ (F slot next o from : ℕ) (bases : List ℕ) (puddles : List NewPuddle) (h : AreFound F slot next o from bases puddles) (a : NewPuddle) where
   pub found_more : IsPuddleAt slot next o a → IsAddedWithin F a → AreFound F slot next (o + 1) (a.frame + 1) (bases ++ a.puddle.base ∷ []) (puddles ++ a ∷ [])
   found_more one within = record {
     count = length-append puddles (a ∷ []) ∙ ap (λ n. n + 1) h.count;
@@ -113,7 +113,7 @@ module _ (F slot next o from : ℕ) (bases : List ℕ) (puddles : List Added) (h
         | inl before ↦ h.members.each n d before
         | inr last ↦
             let here : n ≡ o = last.0 ∙ h.count in
-            subst (λ (d : Added). IsPuddleAt slot next n d) last.1 (subst (λ (n : ℕ). IsPuddleAt slot next n a) (sym here) one)
+            subst (λ (d : NewPuddle). IsPuddleAt slot next n d) last.1 (subst (λ (n : ℕ). IsPuddleAt slot next n a) (sym here) one)
       ];
     };
     within = All-push (IsAddedWithin F) puddles a h.within within;
@@ -128,21 +128,21 @@ module _ (F slot next o from : ℕ) (bases : List ℕ) (puddles : List Added) (h
 -- ---- with a frontier
 
 module _ (f : ℕ) where
-  at_bases : (puddles : List Added) → map (λ (e : ℕ × Puddle). e.1.base) (map puddle_of (map (at_frontier f) puddles)) ≡ map (λ (e : ℕ × Puddle). e.1.base) (map puddle_of puddles)
+  at_bases : (puddles : List NewPuddle) → map (λ (e : ℕ × Puddle). e.1.base) (map puddle_of (map (at_frontier f) puddles)) ≡ map (λ (e : ℕ × Puddle). e.1.base) (map puddle_of puddles)
   at_bases [] = refl
   at_bases (a ∷ puddles) = ap (λ (bases : List ℕ). a.puddle.base ∷ bases) (at_bases puddles)
 
-  placed_at : (t : Tables) (from : ℕ) (taken wanted : List ℕ) (puddles : List Added) → ArePlacedFrom t from taken wanted (map puddle_of puddles) → ArePlacedFrom t from taken wanted (map puddle_of (map (at_frontier f) puddles))
+  placed_at : (t : Tables) (from : ℕ) (taken wanted : List ℕ) (puddles : List NewPuddle) → ArePlacedFrom t from taken wanted (map puddle_of puddles) → ArePlacedFrom t from taken wanted (map puddle_of (map (at_frontier f) puddles))
   placed_at t from taken [] [] placed = placed
   placed_at t from taken [] (a ∷ puddles) placed = absurd placed
   placed_at t from taken (w ∷ wanted) [] placed = absurd placed
   placed_at t from taken (w ∷ wanted) (a ∷ puddles) placed = (placed.0, placed.1, placed.2, placed_at t (a.frame + 1) (taken ++ a.puddle.base ∷ []) wanted puddles placed.3)
 
   -- one of these is one of those before, but for its frontier
-  one_of : (puddles : List Added) (o : ℕ) (a : Added) → slice_get (map (at_frontier f) puddles) o ≡ Some a → IsMapped (at_frontier f) (slice_get puddles o) a
+  one_of : (puddles : List NewPuddle) (o : ℕ) (a : NewPuddle) → slice_get (map (at_frontier f) puddles) o ≡ Some a → IsMapped (at_frontier f) (slice_get puddles o) a
   one_of puddles o a is = option_map_parts (at_frontier f) (slice_get puddles o) a (sym (slice_get-map (at_frontier f) puddles o) ∙ is)
 
-  pub members_at : (slot next : ℕ) (puddles : List Added) → AreMembers slot next puddles → AreMembers slot next (map (at_frontier f) puddles)
+  pub members_at : (slot next : ℕ) (puddles : List NewPuddle) → AreMembers slot next puddles → AreMembers slot next (map (at_frontier f) puddles)
   members_at slot next puddles h = record {
     each = λ o a is.
         let b = one_of puddles o a is in
@@ -150,29 +150,29 @@ module _ (f : ℕ) where
         subst (IsPuddleAt slot next o) b.gives (record { pool = was.pool; is_ordinal = was.is_ordinal; number = was.number });
   }
 
-  pub within_at : (F : ℕ) (puddles : List Added) → All (IsAddedWithin F) puddles → All (IsAddedWithin F) (map (at_frontier f) puddles)
+  pub within_at : (F : ℕ) (puddles : List NewPuddle) → All (IsAddedWithin F) puddles → All (IsAddedWithin F) (map (at_frontier f) puddles)
   within_at F puddles within = All-map (IsAddedWithin F) (at_frontier f) puddles (λ k d below. let w = within k d below in record { frame = w.frame; slot = w.slot; number = w.number })
 
 -- each kept its base where those that they have are those that are wanted
-kept_wanted : (t : Tables) (from : ℕ) (taken wanted : List ℕ) (puddles : List Added) → ArePlacedFrom t from taken wanted (map puddle_of puddles)
-    → list_all (λ (a : Added). eqb a.puddle.base a.puddle.old_base) puddles ≡ bytes_eq (map (λ (e : ℕ × Puddle). e.1.base) (map puddle_of puddles)) wanted
+kept_wanted : (t : Tables) (from : ℕ) (taken wanted : List ℕ) (puddles : List NewPuddle) → ArePlacedFrom t from taken wanted (map puddle_of puddles)
+    → list_all (λ (a : NewPuddle). eqb a.puddle.base a.puddle.old_base) puddles ≡ bytes_eq (map (λ (e : ℕ × Puddle). e.1.base) (map puddle_of puddles)) wanted
 kept_wanted t from taken [] [] placed = refl
 kept_wanted t from taken [] (a ∷ puddles) placed = absurd placed
 kept_wanted t from taken (w ∷ wanted) [] placed = absurd placed
 kept_wanted t from taken (w ∷ wanted) (a ∷ puddles) placed =
     ap₂ (λ (n : ℕ) (b : Bool). eqb a.puddle.base n && b) placed.2 (kept_wanted t (a.frame + 1) (taken ++ a.puddle.base ∷ []) wanted puddles placed.3)
 
-pub placed_whole : (t : Tables) (slot next : ℕ) (wanted : List ℕ) (puddles : List Added) → AreMembers slot next puddles → ArePlacedFrom t 0 [] wanted (map puddle_of puddles)
-    → ArePlaced t next wanted (map puddle_of (map (at_frontier (cond (list_all (λ (a : Added). eqb a.puddle.base a.puddle.old_base) puddles) LAST_FRONTIER 0)) puddles))
+pub placed_whole : (t : Tables) (slot next : ℕ) (wanted : List ℕ) (puddles : List NewPuddle) → AreMembers slot next puddles → ArePlacedFrom t 0 [] wanted (map puddle_of puddles)
+    → ArePlaced t next wanted (map puddle_of (map (at_frontier (cond (list_all (λ (a : NewPuddle). eqb a.puddle.base a.puddle.old_base) puddles) LAST_FRONTIER 0)) puddles))
 placed_whole t slot next wanted puddles members placed =
-    let f = cond (list_all (λ (a : Added). eqb a.puddle.base a.puddle.old_base) puddles) LAST_FRONTIER 0 in
+    let f = cond (list_all (λ (a : NewPuddle). eqb a.puddle.base a.puddle.old_base) puddles) LAST_FRONTIER 0 in
     let new = map (at_frontier f) puddles in
     record {
       turn = placed_at f t 0 [] wanted puddles placed;
       frontier = λ o e is.
           let a = option_map_parts puddle_of (slice_get new o) e (sym (slice_get-map puddle_of new o) ∙ is) in
           let b = one_of f puddles o a.value a.is in
-          sym (ap (λ (a : Added). a.puddle.frontier) b.gives ∙ ap (λ (e : ℕ × Puddle). e.1.frontier) a.gives)
+          sym (ap (λ (a : NewPuddle). a.puddle.frontier) b.gives ∙ ap (λ (e : ℕ × Puddle). e.1.frontier) a.gives)
           ∙ ap (λ (b : Bool). cond b LAST_FRONTIER 0) (kept_wanted t 0 [] wanted puddles placed ∙ ap (λ (l : List ℕ). bytes_eq l wanted) (sym (at_bases f puddles)));
       number = λ o e is.
           let a = option_map_parts puddle_of (slice_get new o) e (sym (slice_get-map puddle_of new o) ∙ is) in

@@ -9,7 +9,7 @@ use Rattle.pud_defs.specs.declared.records.PoolRecord.{PoolRecord}
 use Rattle.pud_defs.specs.Image.{Image}
 use Rattle.pud_defs.specs.Stored.{Stored}
 use Rattle.batch.specs.Batches.{HasIdleGate}
-use Rattle.registry.specs.declared.adding.Added.{Added}
+use Rattle.registry.specs.declared.adding.NewPuddle.{NewPuddle}
 use Rattle.registry.specs.declared.placing.NewType.{NewType}
 use Rattle.registry.specs.Placing.{placing, IsPlacedFor}
 use Rattle.registry.specs.Pools.{new_record, CommitsPuts}
@@ -19,12 +19,12 @@ use Rattle.pud_import.specs.Placing.{Placement, PlacesSomewhere}
 use Rattle.pud_import.proofs.PlacedPuddles.{placed_rise}
 
 -- filling frames leaves the daemon log as it was
-pub HasIdleGate-frames : (F : ℕ) (puddles : List Added) (fault : Option HostFault) (a b : State) → Changes (ByFrames F puddles) fault a b → HasIdleGate DAEMON_LOG a.now.words → HasIdleGate DAEMON_LOG b.now.words
+pub HasIdleGate-frames : (F : ℕ) (puddles : List NewPuddle) (fault : Option HostFault) (a b : State) → Changes (ByFrames F puddles) fault a b → HasIdleGate DAEMON_LOG a.now.words → HasIdleGate DAEMON_LOG b.now.words
 HasIdleGate-frames F puddles fault a b c idle = record {
   each = λ v had. ⊎_elim (λ was. idle.each v was) (λ of. let low = of.word.low in absurd (omega arith)) (Changes-now (ByFrames F puddles) fault a b c DAEMON_LOG v had);
 }
 
-module _ (F : ℕ) (image : Image) (file : Stored) (types : List (ℕ × ℕ)) (slot : ℕ) (r : PoolRecord) (new : List NewType) (puddles : List Added) (is : IsPlacedFor F image types (map (λ d. d.base) file.puddles) slot r new puddles) where
+module _ (F : ℕ) (image : Image) (file : Stored) (types : List (ℕ × ℕ)) (slot : ℕ) (r : PoolRecord) (new : List NewType) (puddles : List NewPuddle) (is : IsPlacedFor F image types (map (λ d. d.base) file.puddles) slot r new puddles) where
   abbrev p : Placement
   p = record { slot = slot; types = new; puddles = puddles }
 

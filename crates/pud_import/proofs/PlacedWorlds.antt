@@ -26,7 +26,7 @@ use Rattle.pud_defs.proofs.Graphs.{graph_of-each}
 use Rattle.graph_laws.specs.Placed.{AreFrontiers}
 use Rattle.graph_laws.proofs.Pointers.{there_is_puddle}
 use Rattle.graph_laws.proofs.Placed.{pointers-kept, pointers-moved, graph_of-placed}
-use Rattle.registry.specs.declared.adding.Added.{Added}
+use Rattle.registry.specs.declared.adding.NewPuddle.{NewPuddle}
 use Rattle.registry.specs.declared.placing.NewType.{NewType}
 use Rattle.registry.specs.Placing.{puddle_of, HasFreeRecords, IsPlacedFor}
 use Rattle.pud_import.specs.Filling.{filled_value}
@@ -48,7 +48,7 @@ module _ (F : ℕ) (i j : Image) (tables : tables_of F j ≡ tables_of F i) (num
   same_types : types_of j ≡ types_of i
   same_types = keyed-same nat_cmp (type_at j) (type_at i) 0 TYPE_RECORDS (λ k low high. types k (omega arith))
 
-  pub IsPlacedFor-same : (file : List (ℕ × ℕ)) (wanted : List ℕ) (slot : ℕ) (r : PoolRecord) (new : List NewType) (puddles : List Added) → IsPlacedFor F i file wanted slot r new puddles → IsPlacedFor F j file wanted slot r new puddles
+  pub IsPlacedFor-same : (file : List (ℕ × ℕ)) (wanted : List ℕ) (slot : ℕ) (r : PoolRecord) (new : List NewType) (puddles : List NewPuddle) → IsPlacedFor F i file wanted slot r new puddles → IsPlacedFor F j file wanted slot r new puddles
   IsPlacedFor-same file wanted slot r new puddles is = record {
     slot_is = ap (λ (t : Tables). first_free t.pools 0 POOL_RECORDS) tables ∙ is.slot_is;
     absent = ap (λ (t : Tables). pool_in t r.name) tables ∙ is.absent;
@@ -105,26 +105,26 @@ module _ (t : Tables) (next : ℕ) (file : List Puddle) (at : List (ℕ × Puddl
 -- ---- the graph
 
 -- in an image the frames of these puddles hold what the file's do
-pub record HoldFile (F : ℕ) (file : Stored) (puddles : List Added) (image : Image) : Type 0 where
-  pub each : (o k : ℕ) (a : Added) → slice_get puddles o ≡ Some a → k < FRAME_WORDS → image (frame_at F a.frame + k) ≡ filled_value file o a.puddle.number k
+pub record HoldFile (F : ℕ) (file : Stored) (puddles : List NewPuddle) (image : Image) : Type 0 where
+  pub each : (o k : ℕ) (a : NewPuddle) → slice_get puddles o ≡ Some a → k < FRAME_WORDS → image (frame_at F a.frame + k) ≡ filled_value file o a.puddle.number k
 
-module _ (F : ℕ) (file : Stored) (puddles : List Added) (image : Image) (count : length puddles ≡ length file.puddles) (hold : HoldFile F file puddles image) where
+module _ (F : ℕ) (file : Stored) (puddles : List NewPuddle) (image : Image) (count : length puddles ≡ length file.puddles) (hold : HoldFile F file puddles image) where
   abbrev later : Stored
   later = stored_in F (map puddle_of puddles) image
 
   length-later : length later.puddles ≡ length file.puddles
   length-later = length-map (map puddle_of puddles) (λ (e : ℕ × Puddle). e.1) ∙ length-map puddles puddle_of ∙ count
 
-  word_there : (o k : ℕ) (a : Added) → slice_get puddles o ≡ Some a → k < FRAME_WORDS → later.word o k ≡ filled_value file o a.puddle.number k
+  word_there : (o k : ℕ) (a : NewPuddle) → slice_get puddles o ≡ Some a → k < FRAME_WORDS → later.word o k ≡ filled_value file o a.puddle.number k
   word_there o k a there few =
       ap (word_in_frame F image k) (slice_get-map puddle_of puddles o ∙ ap (option_map puddle_of) there)
       ∙ cond-true (ltb k FRAME_WORDS) (frame_word F a.frame k image) 0 (lt-ltb k FRAME_WORDS few)
       ∙ hold.each o k a there few
 
-  added_there : (o : ℕ) → o < length file.puddles → (a : Added) × (slice_get puddles o ≡ Some a)
+  added_there : (o : ℕ) → o < length file.puddles → (a : NewPuddle) × (slice_get puddles o ≡ Some a)
   added_there o below = there_is puddles o (omega arith)
     where
-      there_is : (puddles : List Added) (o : ℕ) → o < length puddles → (a : Added) × (slice_get puddles o ≡ Some a)
+      there_is : (puddles : List NewPuddle) (o : ℕ) → o < length puddles → (a : NewPuddle) × (slice_get puddles o ≡ Some a)
       there_is [] o below = absurd (omega arith)
       there_is (a ∷ puddles) zero below = (a, refl)
       there_is (a ∷ puddles) (suc o) below = there_is puddles o (omega arith)

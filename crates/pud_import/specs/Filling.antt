@@ -9,7 +9,7 @@ use Rattle.pud_defs.specs.declared.space.TheConstants.{FRAME_NUMBER_WORD}
 use Rattle.pud_defs.specs.Layout.{IsWithin}
 use Rattle.pud_defs.specs.Frames.{frame_at}
 use Rattle.pud_defs.specs.Stored.{Stored}
-use Rattle.registry.specs.declared.adding.Added.{Added}
+use Rattle.registry.specs.declared.adding.NewPuddle.{NewPuddle}
 
 -- ---- one frame
 
@@ -29,16 +29,16 @@ pub record FillsFrame (F frame : ℕ) (value : ℕ → ℕ) (fault : Option Host
 -- ---- the frames of puddles
 
 -- the word is one of the frame of one of these puddles
-pub record IsFrameWord (F : ℕ) (puddles : List Added) (k : ℕ) : Type 0 where
+pub record IsFrameWord (F : ℕ) (puddles : List NewPuddle) (k : ℕ) : Type 0 where
   pub ordinal : ℕ
-  pub added : Added
+  pub added : NewPuddle
   pub there : slice_get puddles ordinal ≡ Some added
   pub word : IsWithin (frame_at F added.frame) (frame_at F added.frame + FRAME_WORDS) k
 
 -- any value may come to the frames of these puddles
-abbrev pub ByFrames : (F : ℕ) → List Added → Footprint
+abbrev pub ByFrames : (F : ℕ) → List NewPuddle → Footprint
 ByFrames F puddles k v = IsFrameWord F puddles k
 
 -- the frames of these puddles hold what the file's do, durably, but for the puddles' own UUID numbers
-pub record AreFilled (F : ℕ) (file : Stored) (puddles : List Added) (words : Words) : Type 0 where
-  pub each : (o k : ℕ) (a : Added) → slice_get puddles o ≡ Some a → k < FRAME_WORDS → HasOnly (words (frame_at F a.frame + k)) (filled_value file o a.puddle.number k)
+pub record AreFilled (F : ℕ) (file : Stored) (puddles : List NewPuddle) (words : Words) : Type 0 where
+  pub each : (o k : ℕ) (a : NewPuddle) → slice_get puddles o ≡ Some a → k < FRAME_WORDS → HasOnly (words (frame_at F a.frame + k)) (filled_value file o a.puddle.number k)

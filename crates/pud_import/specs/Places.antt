@@ -1,21 +1,21 @@
 -- The puddles that are added for a file.
 use Rattle.std.specs.Prelude.{◌≡◌, ℕ, ◌+◌, ◌<◌, List, slice_get, Some}
-use Rattle.registry.specs.declared.adding.Added.{Added}
+use Rattle.registry.specs.declared.adding.NewPuddle.{NewPuddle}
 
 -- the puddle, with so many steps rewritten
-abbrev pub at_frontier : ℕ → Added → Added
+abbrev pub at_frontier : ℕ → NewPuddle → NewPuddle
 at_frontier f a = record a { puddle = record a.puddle { frontier = f } }
 
 -- the puddle of an ordinal of the pool of a slot that draws this UUID number
-pub record IsPuddleAt (slot next ordinal : ℕ) (a : Added) : Type 0 where
+pub record IsPuddleAt (slot next ordinal : ℕ) (a : NewPuddle) : Type 0 where
   pub pool : a.puddle.pool ≡ slot
   pub is_ordinal : a.puddle.ordinal ≡ ordinal
   pub number : a.puddle.number ≡ next + 1 + ordinal
 
 -- they are the puddles of that pool, by their ordinals
-pub record AreMembers (slot next : ℕ) (puddles : List Added) : Type 0 where
-  pub each : (o : ℕ) (a : Added) → slice_get puddles o ≡ Some a → IsPuddleAt slot next o a
+pub record AreMembers (slot next : ℕ) (puddles : List NewPuddle) : Type 0 where
+  pub each : (o : ℕ) (a : NewPuddle) → slice_get puddles o ≡ Some a → IsPuddleAt slot next o a
 
 -- each frame lies behind those of the puddles before
-pub record FramesRise (puddles : List Added) : Type 0 where
-  pub each : (i j : ℕ) (a b : Added) → i < j → slice_get puddles i ≡ Some a → slice_get puddles j ≡ Some b → a.frame < b.frame
+pub record FramesRise (puddles : List NewPuddle) : Type 0 where
+  pub each : (i j : ℕ) (a b : NewPuddle) → i < j → slice_get puddles i ≡ Some a → slice_get puddles j ≡ Some b → a.frame < b.frame

@@ -19,7 +19,7 @@ use Rattle.pud_defs.specs.World.{StoredWorld}
 use Rattle.batch.specs.Batches.{ByBatch}
 use Rattle.batch.specs.Worlds.{IsQuiescent}
 use Rattle.batch.specs.Tables.{HasDurableTables}
-use Rattle.registry.specs.declared.adding.Added.{Added}
+use Rattle.registry.specs.declared.adding.NewPuddle.{NewPuddle}
 use Rattle.registry.specs.declared.placing.NewType.{NewType}
 use Rattle.registry.specs.Puts.{puts_batch}
 use Rattle.registry.specs.Pools.{IsLegalPool, KeepsTables, CommitsPuts, new_record}
@@ -75,7 +75,7 @@ refusal_by F image file = place_refusal (types_of image) (used_types image) (tab
 pub record Placement : Type 0 where
   pub slot : ℕ
   pub types : List NewType
-  pub puddles : List Added
+  pub puddles : List NewPuddle
 
 -- A pool is placed somewhere, as it is to be by what was read: its frames are filled, durably, and only then the batch is written that names them.
 pub record PlacesSomewhere (F : ℕ) (image : Image) (file : Stored) (types : List (ℕ × ℕ)) (name : List ℕ) (uid gid mode : ℕ) (fault : Option HostFault) (old new : State) : Type 0 where

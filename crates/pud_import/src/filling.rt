@@ -17,7 +17,7 @@ use pm_persist::persist_range;
 use pud_defs::layout::{FRAME_WORDS, MAX_FRAMES};
 use pud_defs::records::MAX_PUDDLES;
 use pud_defs::space::{FRAME_NUMBER_WORD, frame_at};
-use registry::Added;
+use registry::NewPuddle;
 
 /// A word of the frame of a puddle: what the file has there, but for the puddle's UUID number.
 fn filled_word(view: &FileView<'_>, ordinal: u32, number: u64, w: u32) -> u64
@@ -50,7 +50,7 @@ fn fill_frame<H: Host>(
     frames: u32,
     view: &FileView<'_>,
     ordinal: u32,
-    added: Added,
+    added: NewPuddle,
 ) -> Result<(), HostFault>
     requires few { frames ≤ MAX_FRAMES }
     requires room { device_words frames ≤ (H.counts h.old).size }
@@ -70,7 +70,7 @@ pub(crate) fn fill_frames<H: Host>(
     h: &mut H,
     frames: u32,
     view: &FileView<'_>,
-    puddles: &[Added],
+    puddles: &[NewPuddle],
 ) -> Result<(), HostFault>
     requires few { frames ≤ MAX_FRAMES }
     requires room { device_words frames ≤ (H.counts h.old).size }

@@ -27,10 +27,10 @@ use pud_defs::layout::{MAX_FRAMES, NUMBER_LIMIT};
 use pud_defs::records::{MAX_PUDDLES, POOL_RECORDS, PuddleRecord};
 use puddle_space::{free_base, has_base};
 use puddle_table::{PuddleFault, free_frame};
-use registry::Added;
+use registry::NewPuddle;
 
 /// Puddles that are added, by their ordinals.
-pub(crate) type NewPuddles = ArrayVec<Added, { PUDDLES }>;
+pub(crate) type NewPuddles = ArrayVec<NewPuddle, { PUDDLES }>;
 
 /// Bases, one a puddle.
 type Bases = ArrayVec<u64, { PUDDLES }>;
@@ -133,7 +133,7 @@ pub(crate) fn find_places<H: Host>(
         let frame = next_frame(h, frames, from)?;
         let base = base_for(h, frames, bases.as_slice(), old_base)?;
         bases.push(base);
-        puddles.push(Added {
+        puddles.push(NewPuddle {
             frame,
             puddle: PuddleRecord {
                 pool: slot,

@@ -26,7 +26,7 @@ use crate::plan::find_plan;
 use pm_model::{Host, HostFault};
 use pud_defs::layout::{MAX_FRAMES, NUMBER_LIMIT, TYPE_RECORDS};
 use pud_defs::records::{MAX_PUDDLES, Name, POOL_RECORDS, PoolRecord};
-use registry::{Added, NewType, place_pool};
+use registry::{NewPuddle, NewType, place_pool};
 
 /// Why a file was not placed. Nothing changed, but by a fault of the host.
 #[derive(Clone, Copy, Debug, PartialEq, Eq, thiserror::Error)]
@@ -64,7 +64,7 @@ fn fill_and_place<H: Host>(
     slot: u32,
     rec: PoolRecord,
     types: &[NewType],
-    puddles: &[Added],
+    puddles: &[NewPuddle],
 ) -> Result<(), HostFault>
     requires few { frames ≤ MAX_FRAMES }
     requires room { device_words frames ≤ (H.counts h.old).size }

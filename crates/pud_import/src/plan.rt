@@ -29,7 +29,7 @@ use pool_table::{PoolFault, free_slot};
 use pud_defs::layout::{MAX_FRAMES, NEXT_NUMBER_WORD, NUMBER_LIMIT, SPACE_TABLE};
 use pud_defs::records::{MAX_PUDDLES, Name, POOL_RECORDS, PuddleRecord};
 use pud_defs::space::LAST_FRONTIER;
-use registry::Added;
+use registry::NewPuddle;
 
 /// What is found for a pool that is to be placed.
 #[derive(Drop)]
@@ -82,7 +82,7 @@ fn find_number<H: Host>(h: &mut H, puddles: u32) -> Result<u64, PlaceFault>
 }
 
 /// Whether each puddle got the base that it has in the file.
-fn keep_bases(puddles: &[Added]) -> bool
+fn keep_bases(puddles: &[NewPuddle]) -> bool
     ensures { result ≡ list_all (λ a. a.puddle.base == a.puddle.old_base) puddles.now }
 {
     for added in puddles {
@@ -94,7 +94,7 @@ fn keep_bases(puddles: &[Added]) -> bool
 }
 
 /// How many steps are rewritten of each puddle: all where each got the base that it has in the file, and else none.
-fn frontier_for(puddles: &[Added]) -> u32
+fn frontier_for(puddles: &[NewPuddle]) -> u32
     ensures { result ≡ cond (list_all (λ a. a.puddle.base == a.puddle.old_base) puddles.now) LAST_FRONTIER 0 }
 {
     if keep_bases(puddles) {
@@ -105,7 +105,7 @@ fn frontier_for(puddles: &[Added]) -> u32
 }
 
 /// The puddles, with so many steps rewritten of each.
-fn with_frontier(puddles: &[Added], frontier: u32) -> NewPuddles
+fn with_frontier(puddles: &[NewPuddle], frontier: u32) -> NewPuddles
     requires { length puddles.now ≤ MAX_PUDDLES }
     ensures { result.items ≡ map (at_frontier frontier) puddles.now }
 {
@@ -115,7 +115,7 @@ fn with_frontier(puddles: &[Added], frontier: u32) -> NewPuddles
             frontier,
             ..added.puddle
         };
-        new.push(Added { puddle, ..*added });
+        new.push(NewPuddle { puddle, ..*added });
     }
     new
 }

@@ -22,7 +22,7 @@ use Rattle.pud_defs.specs.Step.Answer.{of_reply}
 use Rattle.pud_defs.specs.Gives.{with_file, contents_for}
 use Rattle.pud_defs.specs.Changing.{KeepsFiles}
 use Rattle.puddled.specs.declared.answers.LineAnswer.TheVariants as answers
-use Rattle.puddled.specs.declared.finding.Found.{Found}
+use Rattle.puddled.specs.declared.finding.FoundPool.{FoundPool}
 use Rattle.puddled.specs.declared.finding.Need.TheVariants as needs
 use Rattle.puddled.proofs.Found.{Finds, stored_pool}
 use Rattle.puddled.specs.Daemon.{CarriesOut}
@@ -44,7 +44,7 @@ own_is_open size w memory s ready client name number own =
 -- ---- none is
 
 -- the pool as it is known, on a device of so many frames
-pub stored_found : (size : ℕ) (w : World) (client : ℕ) (name : List ℕ) (memory : Memory) (s : State) (found : Found) (here : Finds size w needs.Read client name memory s found) → found.own ≡ None
+pub stored_found : (size : ℕ) (w : World) (client : ℕ) (name : List ℕ) (memory : Memory) (s : State) (found : FoundPool) (here : Finds size w needs.Read client name memory s found) → found.own ≡ None
     → IsStoredPool w memory.frames name (reads s.now.words) found.number (unwrap_or (known_puddles_in memory.judged found.slot) [])
 stored_found size w client name memory s found here off =
     let at = unwrap_or (known_puddles_in memory.judged found.slot) [] in

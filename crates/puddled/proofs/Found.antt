@@ -57,9 +57,9 @@ use Rattle.ready_daemon.proofs.Pooling.{IsNamed, no_record, named_by, pool_there
 use Rattle.pool_transaction.proofs.TransactionRefusals.{unless}
 use Rattle.puddled.specs.declared.finding.Need.{Need}
 use Rattle.puddled.specs.declared.finding.Need.TheVariants as needs
-use Rattle.puddled.specs.declared.finding.Found.{Found}
+use Rattle.puddled.specs.declared.finding.FoundPool.{FoundPool}
 use Rattle.puddled.specs.Files.{IsStoredPool}
-use Rattle.puddled.specs.Finding.{needs_graph, lacks_graph, has_right, right_by, need_refusal, refusal_to, beside, session_found, IsRecordOf, IsFound}
+use Rattle.puddled.specs.Finding.{needs_graph, lacks_graph, has_right, right_by, need_refusal, refusal_to, found_unless_busy, session_found, IsRecordOf, IsFound}
 use Rattle.puddled.specs.Reading.{HoldsGraph}
 use Rattle.pud_defs.proofs.DistinctKeys.{none_by_some}
 use Rattle.ready_daemon.proofs.GraphLonger.{graph_as}
@@ -86,24 +86,24 @@ judged_ready size w memory s ready = subst (λ (n : ℕ). AreKnownPools n memory
 
 -- it is the client's own, or none is open
 whose_own : (sessions : List (Option Session)) (client slot number : ℕ) (s : Session) → session_in sessions slot ≡ Some s → (own : Bool) → eqb s.client client ≡ own
-    → IfOk {T = Found} (cond own (Ok (record { slot = slot; number = number; own = Some s.log_number })) (Err refusals.Busy)) (λ found. session_in sessions found.slot ≡ session_found sessions client found)
+    → IfOk {T = FoundPool} (cond own (Ok (record { slot = slot; number = number; own = Some s.log_number })) (Err refusals.Busy)) (λ found. session_in sessions found.slot ≡ session_found sessions client found)
 whose_own sessions client slot number s is false e = tt
 whose_own sessions client slot number s is true e = is ∙ ap₂ (λ (c d : ℕ). Some (record { client = c; log_number = s.log_number; depth = d })) (eqb-true s.client client e) (sym (ap session_depth is))
 
 whose_by : (sessions : List (Option Session)) (client slot number : ℕ) (o : Option Session) → session_in sessions slot ≡ o
-    → IfOk (beside o client slot number) (λ found. session_in sessions found.slot ≡ session_found sessions client found)
+    → IfOk (found_unless_busy o client slot number) (λ found. session_in sessions found.slot ≡ session_found sessions client found)
 whose_by sessions client slot number None is = is
 whose_by sessions client slot number (Some s) is = whose_own sessions client slot number s is (eqb s.client client) refl
 
-pub whose_found : (sessions : List (Option Session)) (client slot number : ℕ) → IfOk (beside (session_in sessions slot) client slot number) (λ found. session_in sessions found.slot ≡ session_found sessions client found)
+pub whose_found : (sessions : List (Option Session)) (client slot number : ℕ) → IfOk (found_unless_busy (session_in sessions slot) client slot number) (λ found. session_in sessions found.slot ≡ session_found sessions client found)
 whose_found sessions client slot number = whose_by sessions client slot number (session_in sessions slot) refl
 
 -- with the log of a number that there is
-pub number_found : (o : Option Session) (client slot number : ℕ) → IfSome o IsSession → IfOk (beside o client slot number) (λ found. IfSome found.own (λ n. n < ALL_LOGS))
+pub number_found : (o : Option Session) (client slot number : ℕ) → IfSome o IsSession → IfOk (found_unless_busy o client slot number) (λ found. IfSome found.own (λ n. n < ALL_LOGS))
 number_found None client slot number is = tt
 number_found (Some s) client slot number is = by_own (eqb s.client client)
   where
-    by_own : (own : Bool) → IfOk {T = Found} (cond own (Ok (record { slot = slot; number = number; own = Some s.log_number })) (Err refusals.Busy)) (λ found. IfSome found.own (λ n. n < ALL_LOGS))
+    by_own : (own : Bool) → IfOk {T = FoundPool} (cond own (Ok (record { slot = slot; number = number; own = Some s.log_number })) (Err refusals.Busy)) (λ found. IfSome found.own (λ n. n < ALL_LOGS))
     by_own false = tt
     by_own true = is.number
 
@@ -361,18 +361,18 @@ module _ (size : ℕ) (w : World) (memory : Memory) (s : State) (ready : IsReady
     pub lacks_judged : (need : Need) (judged_sound : Bool) → needs_graph need ≡ true → judged_sound ≡ is_some (puddles_with_graph F image slot) → not judged_sound ≡ lacks_graph need (pool_named name w.stored)
     lacks_judged need judged_sound needed judged = lacks_by need judged_sound needed judged (session_in memory.sessions slot) refl
 
-    others_by : (o : Option Session) → session_in memory.sessions slot ≡ o → (number : ℕ) → refusal_found (beside o client slot number) ≡ cond (is_others client (open_on name w)) (Some refusals.Busy) None
+    others_by : (o : Option Session) → session_in memory.sessions slot ≡ o → (number : ℕ) → refusal_found (found_unless_busy o client slot number) ≡ cond (is_others client (open_on name w)) (Some refusals.Busy) None
     others_by None at number = ap (λ (t : Option Transaction). cond (is_others client t) (Some refusals.Busy) None) (sym (shut_by at))
     others_by (Some session) at number =
         busy_by (eqb session.client client)
         ∙ ap (λ (n : ℕ). cond (not (eqb n client)) (Some refusals.Busy) None) (sym (its_client session at))
         ∙ ap (λ (t : Option Transaction). cond (is_others client t) (Some refusals.Busy) None) (sym (of_session session at).there)
       where
-        busy_by : (own : Bool) → refusal_found {A = Found} (cond own (Ok (record { slot = slot; number = number; own = Some session.log_number })) (Err refusals.Busy)) ≡ cond (not own) (Some refusals.Busy) None
+        busy_by : (own : Bool) → refusal_found {A = FoundPool} (cond own (Ok (record { slot = slot; number = number; own = Some session.log_number })) (Err refusals.Busy)) ≡ cond (not own) (Some refusals.Busy) None
         busy_by true = refl
         busy_by false = refl
 
-    pub refusal_beside_it : (number : ℕ) → refusal_found (beside (session_in memory.sessions slot) client slot number) ≡ cond (is_others client (open_on name w)) (Some refusals.Busy) None
+    pub refusal_beside_it : (number : ℕ) → refusal_found (found_unless_busy (session_in memory.sessions slot) client slot number) ≡ cond (is_others client (open_on name w)) (Some refusals.Busy) None
     refusal_beside_it = others_by (session_in memory.sessions slot) refl
 
     -- what is known of it, where it was judged
@@ -380,7 +380,7 @@ module _ (size : ℕ) (w : World) (memory : Memory) (s : State) (ready : IsReady
       known_here : needs_graph need ≡ true → Some (unwrap_or (known_puddles_in memory.judged slot) []) ≡ puddles_with_graph F image slot
       known_here needed = judged_puddles F slot image memory.judged (known needed) ready.knows.judged
 
-      found_by : (o : Option Session) → session_in memory.sessions slot ≡ o → IfOk (beside o client slot rec.number) (IsFound w need client name image memory)
+      found_by : (o : Option Session) → session_in memory.sessions slot ≡ o → IfOk (found_unless_busy o client slot rec.number) (IsFound w need client name image memory)
       found_by None at = record {
         rec = rec;
         is = is;
@@ -392,7 +392,7 @@ module _ (size : ℕ) (w : World) (memory : Memory) (s : State) (ready : IsReady
       found_by (Some session) at = own_by (eqb session.client client) refl
         where
           own_by : (own : Bool) → eqb session.client client ≡ own
-              → IfOk {T = Found} (cond own (Ok (record { slot = slot; number = rec.number; own = Some session.log_number })) (Err refusals.Busy)) (IsFound w need client name image memory)
+              → IfOk {T = FoundPool} (cond own (Ok (record { slot = slot; number = rec.number; own = Some session.log_number })) (Err refusals.Busy)) (IsFound w need client name image memory)
           own_by false e = tt
           own_by true e = record {
             rec = rec;
@@ -405,7 +405,7 @@ module _ (size : ℕ) (w : World) (memory : Memory) (s : State) (ready : IsReady
             known = known_here;
           }
 
-      pub found_beside : IfOk (beside (session_in memory.sessions slot) client slot rec.number) (IsFound w need client name image memory)
+      pub found_beside : IfOk (found_unless_busy (session_in memory.sessions slot) client slot rec.number) (IsFound w need client name image memory)
       found_beside = found_by (session_in memory.sessions slot) refl
 
     -- a transaction of a client that may write it may begin
@@ -449,19 +449,19 @@ judged_more size w memory judged old ready right kept =
 -- ---- behind the call that finds a pool
 
 -- The daemon is ready, what was found is the pool of the name, and no line of the client that needs so much is refused for the pool.
-pub record Finds (size : ℕ) (w : World) (need : Need) (client : ℕ) (name : List ℕ) (memory : Memory) (s : State) (found : Found) : Type 0 where
+pub record Finds (size : ℕ) (w : World) (need : Need) (client : ℕ) (name : List ℕ) (memory : Memory) (s : State) (found : FoundPool) : Type 0 where
   pub ready : IsReady size w memory s
   pub is : IsFound w need client name (reads s.now.words) memory found
   pub whose : session_in memory.sessions found.slot ≡ session_found memory.sessions client found
   pub free : refusal_to w need client name ≡ None
 
-pub finds : (size : ℕ) (w : World) (need : Need) (client : ℕ) (name : List ℕ) (old now : Memory) (a b : State) (result : Result Found Refusal) (found : Found) → result ≡ Ok found → b ≡ a
+pub finds : (size : ℕ) (w : World) (need : Need) (client : ℕ) (name : List ℕ) (old now : Memory) (a b : State) (result : Result FoundPool Refusal) (found : FoundPool) → result ≡ Ok found → b ≡ a
     → now.sessions ≡ old.sessions → IsReady size w now a → refusal_found result ≡ refusal_to w need client name → IfOk result (IsFound w need client name (reads a.now.words) now)
     → IfOk result (λ f. session_in old.sessions f.slot ≡ session_found old.sessions client f) → Finds size w need client name now b found
 finds size w need client name old now a b result found ok same sessions ready refusal is whose = record {
   ready = subst (IsReady size w now) (sym same) ready;
-  is = subst (λ (s : State). IsFound w need client name (reads s.now.words) now found) (sym same) (subst (λ (r : Result Found Refusal). IfOk r (IsFound w need client name (reads a.now.words) now)) ok is);
+  is = subst (λ (s : State). IsFound w need client name (reads s.now.words) now found) (sym same) (subst (λ (r : Result FoundPool Refusal). IfOk r (IsFound w need client name (reads a.now.words) now)) ok is);
   whose = subst (λ (ss : List (Option Session)). session_in ss found.slot ≡ session_found ss client found) (sym sessions)
-      (subst (λ (r : Result Found Refusal). IfOk r (λ f. session_in old.sessions f.slot ≡ session_found old.sessions client f)) ok whose);
+      (subst (λ (r : Result FoundPool Refusal). IfOk r (λ f. session_in old.sessions f.slot ≡ session_found old.sessions client f)) ok whose);
   free = sym refusal ∙ ap refusal_found ok;
 }

@@ -9,7 +9,7 @@ pub mod FileLines
 pub mod ExportLines
 pub mod Entering
 pub mod Changing
-pub mod Releasing
+pub mod TransactionTaken
 pub mod Counted
 pub mod Emptied
 pub mod Restarts

@@ -25,7 +25,7 @@ use Rattle.pud_defs.proofs.TablesOf.{frames_of_tables}
 use Rattle.batch.specs.Tables.{HasDurableTables}
 use Rattle.batch.specs.Batches.{HasIdleGate, ByBatch}
 use Rattle.batch.proofs.Tables.{StaysDurable, reads_kept}
-use Rattle.registry.specs.declared.adding.Added.{Added}
+use Rattle.registry.specs.declared.adding.NewPuddle.{NewPuddle}
 use Rattle.registry.specs.Puts.{puts_batch}
 use Rattle.registry.specs.Pools.{OrStill, CommitsPuts, new_record}
 use Rattle.registry.specs.Placing.{placing, IsPlacedFor}
@@ -48,24 +48,24 @@ use Rattle.ready_daemon.proofs.PuddlesLeft.{record_mask, masked_record, used_bel
 abbrev IsOutside : (F frame k : ℕ) → Type 0
 IsOutside F frame k = frame_at F frame ≤ k → k < frame_at F frame + FRAME_WORDS → ⊥
 
-among_more : (F : ℕ) (a : Added) (puddles : List Added) (k : ℕ) → IsFrameWord F puddles k → IsFrameWord F (a ∷ puddles) k
+among_more : (F : ℕ) (a : NewPuddle) (puddles : List NewPuddle) (k : ℕ) → IsFrameWord F puddles k → IsFrameWord F (a ∷ puddles) k
 among_more F a puddles k word = record { ordinal = suc word.ordinal; added = word.added; there = word.there; word = word.word }
 
-among_rest : (F : ℕ) (a : Added) (puddles : List Added) (k : ℕ) → IsOutside F a.frame k → (o : ℕ) (b : Added) → slice_get (a ∷ puddles) o ≡ Some b
+among_rest : (F : ℕ) (a : NewPuddle) (puddles : List NewPuddle) (k : ℕ) → IsOutside F a.frame k → (o : ℕ) (b : NewPuddle) → slice_get (a ∷ puddles) o ≡ Some b
     → IsWithin (frame_at F b.frame) (frame_at F b.frame + FRAME_WORDS) k → IsFrameWord F puddles k
 among_rest F a puddles k not zero b there word =
-    let same : a.frame ≡ b.frame = ap (λ (x : Added). x.frame) (same_Some a b there) in
+    let same : a.frame ≡ b.frame = ap (λ (x : NewPuddle). x.frame) (same_Some a b there) in
     let low = word.low in let high = word.high in
     absurd (not (omega arith) (omega arith))
 among_rest F a puddles k not (suc o) b there word = record { ordinal = o; added = b; there = there; word = word }
 
-among_later : (F : ℕ) (a : Added) (puddles : List Added) (k : ℕ) → IsOutside F a.frame k → IsFrameWord F puddles k ⊎ (IsFrameWord F puddles k → ⊥)
+among_later : (F : ℕ) (a : NewPuddle) (puddles : List NewPuddle) (k : ℕ) → IsOutside F a.frame k → IsFrameWord F puddles k ⊎ (IsFrameWord F puddles k → ⊥)
     → IsFrameWord F (a ∷ puddles) k ⊎ (IsFrameWord F (a ∷ puddles) k → ⊥)
 among_later F a puddles k not (inl word) = inl (among_more F a puddles k word)
 among_later F a puddles k not (inr none) = inr (λ word. none (among_rest F a puddles k not word.ordinal word.added word.there word.word))
 
 -- the word is one of these frames, or it is none
-is_among : (F : ℕ) (puddles : List Added) (k : ℕ) → IsFrameWord F puddles k ⊎ (IsFrameWord F puddles k → ⊥)
+is_among : (F : ℕ) (puddles : List NewPuddle) (k : ℕ) → IsFrameWord F puddles k ⊎ (IsFrameWord F puddles k → ⊥)
 is_among F [] k = inr (λ word. none-some word.added word.there)
 is_among F (a ∷ puddles) k = elim (cases_lt k (frame_at F a.frame)) [
   | inl before ↦ among_later F a puddles k (λ low high. omega arith) (is_among F puddles k)
@@ -76,7 +76,7 @@ is_among F (a ∷ puddles) k = elim (cases_lt k (frame_at F a.frame)) [
 ]
 
 -- each of their words that were filled has one value
-filled_single : (F : ℕ) (file : Stored) (puddles : List Added) (new : State) → AreFilled F file puddles new.now.words → (k : ℕ) → StaysDurable (ByFrames F puddles) new k
+filled_single : (F : ℕ) (file : Stored) (puddles : List NewPuddle) (new : State) → AreFilled F file puddles new.now.words → (k : ℕ) → StaysDurable (ByFrames F puddles) new k
 filled_single F file puddles new filled k = elim (is_among F puddles k) [
   | inl word ↦
       let low = word.word.low in let high = word.word.high in

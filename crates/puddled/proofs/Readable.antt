@@ -33,7 +33,7 @@ use Rattle.ready_daemon.proofs.InTurn.{active_there_known}
 use Rattle.ready_daemon.proofs.OpenBeside.{open_here}
 use Rattle.ready_daemon.proofs.TablesBeside.{types_read}
 use Rattle.puddled.specs.declared.finding.Need.TheVariants as needs
-use Rattle.puddled.specs.declared.finding.Found.{Found}
+use Rattle.puddled.specs.declared.finding.FoundPool.{FoundPool}
 use Rattle.puddled.specs.Finding.{refusal_to, IsFound}
 use Rattle.puddled.specs.Reading.{HoldsGraph, reply_of_read}
 use Rattle.puddled.proofs.Found.{holds_graph, judged_ready, judged_more}
@@ -56,7 +56,7 @@ module _ (size : ℕ) (w : World) (memory : Memory) (s : State) (ready : IsReady
       }
 
   -- they hold the graph of the pool
-  pub holds_found : (found : Found) (at : List (ℕ × Puddle)) → IsFound w needs.Read client name (reads s.now.words) memory found → at ≡ unwrap_or (known_puddles_in memory.judged found.slot) []
+  pub holds_found : (found : FoundPool) (at : List (ℕ × Puddle)) → IsFound w needs.Read client name (reads s.now.words) memory found → at ≡ unwrap_or (known_puddles_in memory.judged found.slot) []
       → HoldsGraph w w.stored.frames name (reads s.now.words) at
   holds_found found at is known = by_own found.own refl
     where

@@ -17,10 +17,10 @@ use Rattle.nesting.specs.declared.EnterFault.{EnterFault}
 use Rattle.nesting.specs.declared.EnterFault.TheVariants.{Deep, Logs}
 use Rattle.nesting.specs.declared.Session.{Session}
 use Rattle.nesting.specs.Sessions.{session_in, depth_in}
-use Rattle.puddled.specs.declared.finding.Own.{Own}
+use Rattle.puddled.specs.declared.finding.OwnTransaction.{OwnTransaction}
 use Rattle.puddled.specs.declared.finding.Need.{Need}
 use Rattle.puddled.specs.declared.finding.Need.TheVariants as needs
-use Rattle.puddled.specs.declared.finding.Found.{Found}
+use Rattle.puddled.specs.declared.finding.FoundPool.{FoundPool}
 use Rattle.ready_daemon.specs.Memory.{Memory}
 use Rattle.ready_daemon.specs.OwnOnPool.{IsOwnTransactionOn}
 use Rattle.ready_daemon.specs.PoolKnowledge.{known_puddles_in, puddles_with_graph}
@@ -73,21 +73,21 @@ refusal_to w need client name = need_refusal need (w.clients client) (pool_named
 -- ---- what is found
 
 -- by the session on the pool
-abbrev pub beside : Option Session → (client slot number : ℕ) → Result Found Refusal
-beside None client slot number = Ok (record { slot = slot; number = number; own = None })
-beside (Some session) client slot number = cond (session.client == client) (Ok (record { slot = slot; number = number; own = Some session.log_number })) (Err refusals.Busy)
+abbrev pub found_unless_busy : Option Session → (client slot number : ℕ) → Result FoundPool Refusal
+found_unless_busy None client slot number = Ok (record { slot = slot; number = number; own = None })
+found_unless_busy (Some session) client slot number = cond (session.client == client) (Ok (record { slot = slot; number = number; own = Some session.log_number })) (Err refusals.Busy)
 
 -- the pool of the name has this record, as it is read, in the slot
 abbrev pub IsRecordOf : (F : ℕ) → List ℕ → Image → (slot : ℕ) → PoolRecord → Type 0
 IsRecordOf F name image slot rec = ◌≡◌ {A = Option (ℕ × PoolRecord)} (Some (slot, rec)) (pool_in (tables_of F image) name)
 
 -- the session on it then
-abbrev pub session_found : List (Option Session) → (client : ℕ) → Found → Option Session
+abbrev pub session_found : List (Option Session) → (client : ℕ) → FoundPool → Option Session
 session_found sessions client found = option_map (λ number. record { client = client; log_number = number; depth = depth_in sessions found.slot }) found.own
 
 -- The pool that was found is that of the name, by its record. Where a transaction is open on it that is the client's own, with the log of the number.
 -- Where it needs a graph, what is known of it is its puddles, and that they have one.
-pub record IsFound (w : World) (need : Need) (client : ℕ) (name : List ℕ) (image : Image) (memory : Memory) (found : Found) : Type 0 where
+pub record IsFound (w : World) (need : Need) (client : ℕ) (name : List ℕ) (image : Image) (memory : Memory) (found : FoundPool) : Type 0 where
   pub rec : PoolRecord
   pub is : IsRecordOf w.stored.frames name image found.slot rec
   pub number_is : found.number ≡ rec.number
@@ -96,7 +96,7 @@ pub record IsFound (w : World) (need : Need) (client : ℕ) (name : List ℕ) (i
   pub known : needs_graph need ≡ true → Some (unwrap_or (known_puddles_in memory.judged found.slot) []) ≡ puddles_with_graph w.stored.frames image found.slot
 
 -- What was found of the client's own transaction lies within the tables, and is the client's by its session.
-pub record FindsOwn (client : ℕ) (memory : Memory) (own : Own) : Type 0 where
+pub record FindsOwn (client : ℕ) (memory : Memory) (own : OwnTransaction) : Type 0 where
   pub slot : own.slot < POOL_RECORDS
   pub number : own.log_number < ALL_LOGS
   pub whose : session_in memory.sessions own.slot ≡ Some (record { client = client; log_number = own.log_number; depth = depth_in memory.sessions own.slot })

@@ -22,7 +22,7 @@ ghost use Rattle.puddled.specs.Frontiers.{AppliesAs};
 ghost use Rattle.puddled.specs.Daemon.{CarriesOut};
 
 use crate::daemon::Daemon;
-use crate::finding::{Need, Own};
+use crate::finding::{Need, OwnTransaction};
 use crate::known_pools::KnownPools;
 use pm_model::{Host, HostFault};
 use pool_transaction::{PoolTransactions, Change};
@@ -37,7 +37,7 @@ fn change_in<H: Host>(
     frames: u32,
     all: &mut PoolTransactions,
     judged: &mut KnownPools,
-    own: Own,
+    own: OwnTransaction,
     change: Change,
 ) -> Result<Reply, HostFault>
     requires few { frames ≤ MAX_FRAMES }

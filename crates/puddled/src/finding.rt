@@ -19,7 +19,7 @@ ghost use Rattle.ready_daemon.specs.OwnOnPool.{IsOwnTransactionOn};
 ghost use Rattle.ready_daemon.specs.PoolKnowledge.{known_puddles_in, AreKnownPools};
 ghost use Rattle.ready_daemon.specs.Owning.{refusal_found};
 ghost use Rattle.ready_daemon.specs.Ready.{IsReady};
-ghost use Rattle.puddled.specs.Finding.{needs_graph, lacks_graph, right_by, refusal_to, beside, session_found, IsRecordOf, IsFound, FindsOwn, refusal_to_enter};
+ghost use Rattle.puddled.specs.Finding.{needs_graph, lacks_graph, right_by, refusal_to, found_unless_busy, session_found, IsRecordOf, IsFound, FindsOwn, refusal_to_enter};
 
 use crate::daemon::Daemon;
 use log_space::owner;
@@ -45,7 +45,7 @@ pub(crate) enum Need {
 
 /// A pool that was found.
 #[derive(Clone, Copy)]
-pub(crate) struct Found {
+pub(crate) struct FoundPool {
     /// The slot of its record, 0 to 31.
     pub(crate) slot: u32,
     /// Its UUID number.
@@ -56,7 +56,7 @@ pub(crate) struct Found {
 
 /// The client's own transaction on a pool: the slot of the pool's record, and the number of its log.
 #[derive(Clone, Copy)]
-pub(crate) struct Own {
+pub(crate) struct OwnTransaction {
     /// 0 to 31.
     pub(crate) slot: u32,
     /// 0 to 31, among those of all clients.
@@ -86,18 +86,18 @@ fn has_right(need: Need, rec: &PoolRecord, who: Owner) -> bool
 }
 
 /// The pool that was found, where no other client's transaction is open on it by this session.
-fn beside(session: Option<Session>, client: u8, slot: u32, number: u64) -> Result<Found, Refusal>
-    ensures { result ≡ beside session client slot number }
+fn found_unless_busy(session: Option<Session>, client: u8, slot: u32, number: u64) -> Result<FoundPool, Refusal>
+    ensures { result ≡ found_unless_busy session client slot number }
 {
     match session {
-        None => Ok(Found {
+        None => Ok(FoundPool {
             slot,
             number,
             own: None,
         }),
         Some(session) => {
             if session.client == client {
-                Ok(Found {
+                Ok(FoundPool {
                     slot,
                     number,
                     own: Some(session.log_number),
@@ -161,7 +161,7 @@ impl Daemon {
         client: u8,
         name: Name,
         need: Need,
-    ) -> Result<Result<Found, Refusal>, HostFault>
+    ) -> Result<Result<FoundPool, Refusal>, HostFault>
         requires known { client < CLIENTS }
         requires room { device_words (self.old).frames ≤ (H.counts h.old).size }
         ensures refusal { H.tells → (size : ℕ) → (w : World) → IsReady size w self.old (H.state h.old)
@@ -194,7 +194,7 @@ impl Daemon {
         if !has_right(need, &rec, who) {
             return Ok(Err(Refusal::Denied));
         }
-        Ok(beside(self.sessions.session(slot), client, slot, rec.number))
+        Ok(found_unless_busy(self.sessions.session(slot), client, slot, rec.number))
     }
 
     /// The client's own transaction on the pool of this name, or why a line on it is refused before what it asks is looked at.
@@ -205,7 +205,7 @@ impl Daemon {
         h: &mut H,
         client: u8,
         name: Name,
-    ) -> Result<Result<Own, Refusal>, HostFault>
+    ) -> Result<Result<OwnTransaction, Refusal>, HostFault>
         requires known { client < CLIENTS }
         requires room { device_words (self.old).frames ≤ (H.counts h.old).size }
         ensures refusal { H.tells → (size : ℕ) → (w : World) → IsReady size w self.old (H.state h.old)
@@ -224,7 +224,7 @@ impl Daemon {
             Ok(found) => found,
         };
         match found.own {
-            Some(number) => Ok(Ok(Own {
+            Some(number) => Ok(Ok(OwnTransaction {
                 slot: found.slot,
                 log_number: number,
             })),

@@ -25,7 +25,7 @@ ghost use Rattle.puddled.specs.declared.finding.Need.TheVariants as needs;
 ghost use Rattle.puddled.specs.Finding.{refusal_to};
 
 use crate::daemon::Daemon;
-use crate::finding::{Own, refusal_to_enter};
+use crate::finding::{OwnTransaction, refusal_to_enter};
 use log_space::free_log;
 use pm_model::{Host, HostFault};
 use pool_transaction::{PoolTransactions, PoolTransaction, lose};
@@ -35,7 +35,7 @@ use pud_defs::records::Name;
 use std::mem;
 
 /// Holds a transaction under the number. What was held there, if anything, is given up.
-fn hold(all: &mut PoolTransactions, number: u32, opened: PoolTransaction)
+fn put_transaction(all: &mut PoolTransactions, number: u32, opened: PoolTransaction)
     requires { number < ALL_LOGS }
     ensures held { all.new ≡ set all.old number (Option.Some opened) }
     ensures within { number < length all.old }
@@ -98,12 +98,12 @@ impl Daemon {
             return Ok(Reply::No(refusal_to_enter(fault)));
         }
         let opened = PoolTransaction::begin(h, self.frames, client, name, slot, number)?;
-        hold(&mut self.opened, number, opened);
+        put_transaction(&mut self.opened, number, opened);
         Ok(Reply::Ok)
     }
 
     /// Lets go of what is held under the number: its session ends. Of its pool the puddles alone are known still.
-    fn release(&mut self, number: u32) -> Option<PoolTransaction>
+    fn take_transaction(&mut self, number: u32) -> Option<PoolTransaction>
         requires { number < ALL_LOGS }
         ensures opened { result ≡ active_under (self.old).active number }
         ensures within { IfSome result (IsActiveWithin (self.old).frames) }
@@ -126,7 +126,7 @@ impl Daemon {
         &mut self,
         h: &mut H,
         client: u8,
-        own: Own,
+        own: OwnTransaction,
     ) -> Result<(), HostFault>
         requires room { device_words (self.old).frames ≤ (H.counts h.old).size }
         requires number { own.log_number < ALL_LOGS }
@@ -147,7 +147,7 @@ impl Daemon {
             return Ok(());
         }
         let frames = self.frames;
-        match self.release(own.log_number) {
+        match self.take_transaction(own.log_number) {
             Some(opened) => opened.commit(h, frames),
             None => Ok(()),
         }
@@ -169,7 +169,7 @@ impl Daemon {
         ensures cause { H.counts h.new ≡ after_fault (fault_of result) (H.counts h.old) }
     {
         let frames = self.frames;
-        match self.release(number) {
+        match self.take_transaction(number) {
             Some(opened) => opened.abort(h, frames),
             None => Ok(()),
         }

@@ -35,7 +35,7 @@ use Rattle.pud_defs.proofs.TablesOf.{frames_of_tables}
 use Rattle.batch.specs.Batches.{Commits}
 use Rattle.batch.proofs.Tables.{reads_kept, reads_committed}
 use Rattle.registry.specs.Puts.{puts_batch, number_put, with_puts, AreOfPools, IsPoolsWord}
-use Rattle.registry.specs.declared.adding.Added.{Added}
+use Rattle.registry.specs.declared.adding.NewPuddle.{NewPuddle}
 use Rattle.registry.specs.Adding.{frame_write, filling, PersistsThenCommits}
 use Rattle.registry.specs.Pools.{making, new_record, changing, freeing, dropping, OrStill, CommitsPuts, MakesSomewhere}
 use Rattle.registry.specs.Growth.{growing}
@@ -278,7 +278,7 @@ module _ (F next number : ℕ) (name : List ℕ) (uid gid mode : ℕ) (old new :
       m.commits
 
 -- a pool grows by a puddle in the lowest free frame, and all others stay
-module _ (F : ℕ) (a : Added) (old new : State) (within : a.puddle.pool < POOL_RECORDS)
+module _ (F : ℕ) (a : NewPuddle) (old new : State) (within : a.puddle.pool < POOL_RECORDS)
     (first : first_free (tables_of F (reads old.now.words)).puddles 0 (tables_of F (reads old.now.words)).frames ≡ Some a.frame) where
   adds_next : (image : Image) → AddsPuddle F a.frame a.puddle (growing a) image
   unfolding with_puts

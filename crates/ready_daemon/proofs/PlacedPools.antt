@@ -46,7 +46,7 @@ use Rattle.pud_defs.proofs.PutsMade.{with_put-outside}
 use Rattle.pud_defs.proofs.TablesOf.{tables_of-same}
 use Rattle.batch.specs.Batches.{ByBatch}
 use Rattle.batch.proofs.Tables.{reads_kept, reads_committed}
-use Rattle.registry.specs.declared.adding.Added.{Added}
+use Rattle.registry.specs.declared.adding.NewPuddle.{NewPuddle}
 use Rattle.registry.specs.declared.placing.NewType.{NewType}
 use Rattle.registry.specs.Puts.{puts_batch, with_puts, AreOfTables}
 use Rattle.registry.specs.Adding.{adding}
@@ -190,29 +190,29 @@ member_beside slot frame r t other none f = elim (cases_eq f frame) [
 ]
 
 -- these are puddles of another pool than that in the slot, in frames that have none of its puddles
-abbrev AreOthers : (slot : ℕ) → Tables → List Added → Type 0
+abbrev AreOthers : (slot : ℕ) → Tables → List NewPuddle → Type 0
 AreOthers slot t [] = ⊤
 AreOthers slot t (a ∷ all) = (slot ≢ a.puddle.pool) × (member_of slot a.frame (t.puddles a.frame) ≡ None) × AreOthers slot t all
 
-others_more : (slot frame : ℕ) (r : PuddleRecord) (t : Tables) → slot ≢ r.pool → member_of slot frame (t.puddles frame) ≡ None → (all : List Added) → AreOthers slot t all
+others_more : (slot frame : ℕ) (r : PuddleRecord) (t : Tables) → slot ≢ r.pool → member_of slot frame (t.puddles frame) ≡ None → (all : List NewPuddle) → AreOthers slot t all
     → AreOthers slot (with_puddle_at frame (Some (member_by r)) t) all
 others_more slot frame r t other none [] are = tt
 others_more slot frame r t other none (a ∷ all) are = (are.0, member_beside slot frame r t other none a.frame ∙ are.1, others_more slot frame r t other none all are.2)
 
 -- so they leave its puddles
-others_added : (slot : ℕ) (all : List Added) (t : Tables) (f : ℕ) → AreOthers slot t all → member_of slot f ((with_added all t).puddles f) ≡ member_of slot f (t.puddles f)
+others_added : (slot : ℕ) (all : List NewPuddle) (t : Tables) (f : ℕ) → AreOthers slot t all → member_of slot f ((with_added all t).puddles f) ≡ member_of slot f (t.puddles f)
 others_added slot [] t f are = refl
 others_added slot (a ∷ all) t f are =
     others_added slot all (with_puddle_at a.frame (Some (member_by a.puddle)) t) f (others_more slot a.frame a.puddle t are.0 are.1 all are.2)
     ∙ member_beside slot a.frame a.puddle t are.0 are.1 f
 
-others_by : (F slot its : ℕ) (t : Tables) (all : List Added) → slot ≢ its → ((o : ℕ) (a : Added) → slice_get all o ≡ Some a → (a.puddle.pool ≡ its) × (t.puddles a.frame ≡ None)) → AreOthers slot t all
+others_by : (F slot its : ℕ) (t : Tables) (all : List NewPuddle) → slot ≢ its → ((o : ℕ) (a : NewPuddle) → slice_get all o ≡ Some a → (a.puddle.pool ≡ its) × (t.puddles a.frame ≡ None)) → AreOthers slot t all
 others_by F slot its t [] other each = tt
 others_by F slot its t (a ∷ all) other each =
     let here = each 0 a refl in
     (λ same. other (same ∙ here.0), ap (member_of slot a.frame) here.1, others_by F slot its t all other (λ o b there. each (suc o) b there))
 
-within_by : (F its : ℕ) (all : List Added) → its < POOL_RECORDS → ((o : ℕ) (a : Added) → slice_get all o ≡ Some a → (a.puddle.pool ≡ its) × (a.frame < F)) → AreWithin F all
+within_by : (F its : ℕ) (all : List NewPuddle) → its < POOL_RECORDS → ((o : ℕ) (a : NewPuddle) → slice_get all o ≡ Some a → (a.puddle.pool ≡ its) × (a.frame < F)) → AreWithin F all
 within_by F its [] known each = tt
 within_by F its (a ∷ all) known each =
     let here = each 0 a refl in
@@ -237,7 +237,7 @@ types_in_front (new ∷ types) at from has known =
     let low = one.low in let high = one.high in
     (λ k from_here to. omega arith, types_in_front types at (new.record_number + 1) has.1 (omega arith))
 
-module _ (F : ℕ) (image : Image) (file : List (ℕ × ℕ)) (wanted : List ℕ) (slot : ℕ) (r : PoolRecord) (types : List NewType) (puddles : List Added) (is : IsPlacedFor F image file wanted slot r types puddles) where
+module _ (F : ℕ) (image : Image) (file : List (ℕ × ℕ)) (wanted : List ℕ) (slot : ℕ) (r : PoolRecord) (types : List NewType) (puddles : List NewPuddle) (is : IsPlacedFor F image file wanted slot r types puddles) where
   abbrev t : Tables
   t = tables_of F image
 
@@ -253,7 +253,7 @@ module _ (F : ℕ) (image : Image) (file : List (ℕ × ℕ)) (wanted : List ℕ
   free_slot : t.pools slot ≡ None
   free_slot = (placed_slot F image file wanted slot r types puddles is).1
 
-  their_frame : (o : ℕ) (a : Added) → slice_get puddles o ≡ Some a → (a.puddle.pool ≡ slot) × (a.frame < F)
+  their_frame : (o : ℕ) (a : NewPuddle) → slice_get puddles o ≡ Some a → (a.puddle.pool ≡ slot) × (a.frame < F)
   their_frame o a there = let at = placed_frame F image file wanted slot r types puddles is o a there in let below = at.below in ((is.members o a there).0, omega (arith, frames_of_tables F image))
 
   are_within : AreWithin F puddles

@@ -21,7 +21,7 @@ use Rattle.pud_defs.specs.Types.{type_at}
 use Rattle.pud_defs.proofs.Keyed.{first_free_some}
 use Rattle.pud_defs.proofs.TablesOf.{frames_of_tables}
 use Rattle.batch.specs.Batches.{batch_write, ByBatch}
-use Rattle.registry.specs.declared.adding.Added.{Added}
+use Rattle.registry.specs.declared.adding.NewPuddle.{NewPuddle}
 use Rattle.registry.specs.declared.placing.NewType.{NewType}
 use Rattle.registry.specs.Puts.{puts_batch}
 use Rattle.registry.specs.Adding.{adding}
@@ -113,8 +113,8 @@ slice_get-mapped f (y ∷ xs) zero x there = ap (λ z. Some (f z)) (same_Some y 
 slice_get-mapped f (y ∷ xs) (suc i) x there = slice_get-mapped f xs i x there
 
 -- each of these is so
-abbrev AreFree : (F : ℕ) → Tables → List Added → Type 0
-AreFree F t puddles = (o : ℕ) (a : Added) → slice_get puddles o ≡ Some a → IsFreeFrame t a.frame
+abbrev AreFree : (F : ℕ) → Tables → List NewPuddle → Type 0
+AreFree F t puddles = (o : ℕ) (a : NewPuddle) → slice_get puddles o ≡ Some a → IsFreeFrame t a.frame
 
 module _ (F : ℕ) (t : Tables) (frames : t.frames ≡ F) where
   type_words : (at : ℕ → Option (ℕ × ℕ)) (from : ℕ) (types : List NewType) → HasFreeRecords at from types → from ≤ TYPE_RECORDS → AreWords (IsFreeWord F t) (map new_type_put types)
@@ -124,7 +124,7 @@ module _ (F : ℕ) (t : Tables) (frames : t.frames ≡ F) where
       let low = one.low in let high = one.high in
       (λ k from_here to. inl (omega arith), type_words at (new.record_number + 1) types has.1 (omega arith))
 
-  record_words : (puddles : List Added) → AreFree F t puddles → AreWords (IsFreeWord F t) (map (λ (a : Added). puddle_put a.frame a.puddle) puddles)
+  record_words : (puddles : List NewPuddle) → AreFree F t puddles → AreWords (IsFreeWord F t) (map (λ (a : NewPuddle). puddle_put a.frame a.puddle) puddles)
   record_words [] free = tt
   record_words (a ∷ puddles) free =
       let here = free 0 a refl in
@@ -133,12 +133,12 @@ module _ (F : ℕ) (t : Tables) (frames : t.frames ≡ F) where
         record_words puddles (λ o b there. free (suc o) b there),
       )
 
-module _ (F : ℕ) (image : Image) (file : List (ℕ × ℕ)) (wanted : List ℕ) (slot : ℕ) (r : PoolRecord) (types : List NewType) (puddles : List Added) (is : IsPlacedFor F image file wanted slot r types puddles) where
+module _ (F : ℕ) (image : Image) (file : List (ℕ × ℕ)) (wanted : List ℕ) (slot : ℕ) (r : PoolRecord) (types : List NewType) (puddles : List NewPuddle) (is : IsPlacedFor F image file wanted slot r types puddles) where
   abbrev t : Tables
   t = tables_of F image
 
   -- each puddle stands in a frame that was free
-  pub placed_frame : (o : ℕ) (a : Added) → slice_get puddles o ≡ Some a → IsFreeFrame t a.frame
+  pub placed_frame : (o : ℕ) (a : NewPuddle) → slice_get puddles o ≡ Some a → IsFreeFrame t a.frame
   placed_frame o a there = placed_free t 0 [] wanted (map puddle_of puddles) is.placed.turn o (puddle_of a) (slice_get-mapped puddle_of puddles o a there)
 
   -- and the record of the pool was free

@@ -42,7 +42,7 @@ use Rattle.batch.specs.Batches.{batch_write, AreBatched, HasIdleGate, ByBatch}
 use Rattle.batch.specs.Tables.{HasDurableTables}
 use Rattle.batch.proofs.Tables.{StaysDurable, HasDurableTables-changed, reads_kept}
 use Rattle.registry.specs.Puts.{puts_batch, AreOfPools, ByPools}
-use Rattle.registry.specs.declared.adding.Added.{Added}
+use Rattle.registry.specs.declared.adding.NewPuddle.{NewPuddle}
 use Rattle.registry.specs.Adding.{frame_write, filling, PersistsThenCommits, IsOffAdding}
 use Rattle.registry.specs.Pools.{making, new_record, changing, freeing, dropping, OrStill, CommitsPuts, MakesSomewhere, IsOffMaking, MayStand, ChangesPools}
 use Rattle.registry.proofs.PutBatches.{puts_batched, lies_fit, either_some}
@@ -295,7 +295,7 @@ LeavesMasked-filled mask write es fault old new off_write off apart batched idle
     ]
 
 -- a puddle was added
-pub LeavesMasked-adds : (mask : Write) (F : ℕ) (a : Added) (puts : List Put) (fault : Option HostFault) (old new : State) → IsOffAdding mask F a puts → HasIdleGate DAEMON_LOG old.now.words
+pub LeavesMasked-adds : (mask : Write) (F : ℕ) (a : NewPuddle) (puts : List Put) (fault : Option HostFault) (old new : State) → IsOffAdding mask F a puts → HasIdleGate DAEMON_LOG old.now.words
     → PersistsThenCommits (filling F a) (puts_batch puts) fault old new → LeavesMasked mask fault old new
 LeavesMasked-adds mask F a puts fault old new off idle commits =
     LeavesMasked-filled mask (filling F a) (puts_batch puts) fault old new off.frame off.records

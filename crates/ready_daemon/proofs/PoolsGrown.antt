@@ -20,7 +20,7 @@ use Rattle.pud_defs.specs.Keyed.{first_free}
 use Rattle.pud_defs.proofs.TablesOf.{tables_of-same, frames_of_tables}
 use Rattle.batch.specs.Batches.{ByBatch, Commits}
 use Rattle.batch.proofs.Tables.{reads_kept, reads_committed}
-use Rattle.registry.specs.declared.adding.Added.{Added}
+use Rattle.registry.specs.declared.adding.NewPuddle.{NewPuddle}
 use Rattle.registry.specs.Puts.{puts_batch, with_puts, AreOfPools}
 use Rattle.registry.specs.Adding.{filling, IsFilled, PersistsThenCommits, IsOffAdding}
 use Rattle.registry.specs.Growth.{growing}
@@ -35,7 +35,7 @@ use Rattle.ready_daemon.proofs.PoolsApart.{IsOff-puts, frame_below, new_frame, f
 -- ---- beside what is held
 
 -- no word that a puddle more takes is masked
-pub off_growing : (w : World) (active : List (Option ActiveTransaction)) (mask : Write) (words : Words) → AreActive w active mask words → (a : Added)
+pub off_growing : (w : World) (active : List (Option ActiveTransaction)) (mask : Write) (words : Words) → AreActive w active mask words → (a : NewPuddle)
     → first_free (tables_of w.stored.frames (reads words)).puddles 0 (tables_of w.stored.frames (reads words)).frames ≡ Some a.frame → a.puddle.pool < POOL_RECORDS → IsOffAdding mask w.stored.frames a (growing a)
 off_growing w active mask words holds a first slot =
     let F = w.stored.frames in
@@ -47,7 +47,7 @@ off_growing w active mask words holds a first slot =
 
 -- ---- what is read behind it
 
-module _ (F : ℕ) (a : Added) (known : a.frame < F) (slot : a.puddle.pool < POOL_RECORDS) (old new : State) (commits : PersistsThenCommits (filling F a) (puts_batch (growing a)) None old new) where
+module _ (F : ℕ) (a : NewPuddle) (known : a.frame < F) (slot : a.puddle.pool < POOL_RECORDS) (old new : State) (commits : PersistsThenCommits (filling F a) (puts_batch (growing a)) None old new) where
   abbrev before : Image
   before = reads old.now.words
 

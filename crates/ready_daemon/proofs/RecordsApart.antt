@@ -24,7 +24,7 @@ use Rattle.pud_defs.proofs.Keyed.{first_free_some}
 use Rattle.pud_defs.proofs.TablesOf.{frames_of_tables}
 use Rattle.batch.specs.Batches.{HasIdleGate, ByBatch}
 use Rattle.batch.specs.Tables.{HasDurableTables}
-use Rattle.registry.specs.declared.adding.Added.{Added}
+use Rattle.registry.specs.declared.adding.NewPuddle.{NewPuddle}
 use Rattle.registry.specs.Adding.{filling, PersistsThenCommits, IsOffAdding}
 use Rattle.registry.specs.Growth.{growing}
 use Rattle.registry.specs.Pools.{making, new_record, changing, freeing, dropping, OrStill, CommitsPuts, MakesSomewhere, IsOffMaking}
@@ -70,7 +70,7 @@ module _ (F frame : ℕ) (image : Image) (m : Member) (used : (tables_of F image
   free_below : (f : ℕ) → first_free t.puddles 0 t.frames ≡ Some f → f < F
   free_below f first = let high = (first_free_some t.puddles 0 t.frames f first).high in omega (arith, frames_of_tables F image)
 
-  filling_off : (n : ℕ) → n ≡ F → (a : Added) → IsOff mask (written (filling n a))
+  filling_off : (n : ℕ) → n ≡ F → (a : NewPuddle) → IsOff mask (written (filling n a))
   filling_off n same a = IsOff-record frame image (written (filling n a))
       (λ k v low high may.
       let within = placed_within (frame_at n a.frame) k v (fresh_frame a.puddle.number a.puddle.ordinal) may in
@@ -79,7 +79,7 @@ module _ (F frame : ℕ) (image : Image) (m : Member) (used : (tables_of F image
       absurd (omega arith))
 
   -- a puddle is added
-  pub off_growing_record : (a : Added) → first_free t.puddles 0 t.frames ≡ Some a.frame → a.puddle.pool < POOL_RECORDS → IsOffAdding mask F a (growing a)
+  pub off_growing_record : (a : NewPuddle) → first_free t.puddles 0 t.frames ≡ Some a.frame → a.puddle.pool < POOL_RECORDS → IsOffAdding mask F a (growing a)
   off_growing_record a first slot = record {
     frame = filling_off F refl a;
     records = IsOff-put_record (growing a) (adding_of F (a.puddle.number + 1) (a ∷ []) (free_below a.frame first, slot, tt))
@@ -130,7 +130,7 @@ module _ (F : ℕ) (fault : Option HostFault) (old new : State) (tables : HasDur
   image = reads old.now.words
 
   -- a puddle was added
-  pub LeavesPuddles-adds : (a : Added) → first_free (tables_of F image).puddles 0 (tables_of F image).frames ≡ Some a.frame → a.puddle.pool < POOL_RECORDS
+  pub LeavesPuddles-adds : (a : NewPuddle) → first_free (tables_of F image).puddles 0 (tables_of F image).frames ≡ Some a.frame → a.puddle.pool < POOL_RECORDS
       → PersistsThenCommits (filling F a) (puts_batch (growing a)) fault old new → LeavesPuddles F Stays old new
   LeavesPuddles-adds a first slot commits =
       LeavesPuddles-beside F fault old new tables

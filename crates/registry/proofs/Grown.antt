@@ -32,7 +32,7 @@ use Rattle.pud_defs.proofs.PoolsCounted.{few_members, length_puddles}
 use Rattle.graph_laws.specs.Reads.{with_puddle, IsGrown}
 use Rattle.graph_laws.proofs.Grown.{slice_get-front, slice_get-push, graph_of-grown}
 use Rattle.graph_laws.proofs.StaysWild.{graph_of-wild}
-use Rattle.registry.specs.declared.adding.Added.{Added}
+use Rattle.registry.specs.declared.adding.NewPuddle.{NewPuddle}
 use Rattle.registry.specs.Adding.{IsFilled, MakesPools, pools_next}
 use Rattle.registry.specs.Growth.{puddle_count, growing, IsGrowthFor, HoldsGraph, HoldsNoGraph, added_puddle, kept_longer, with_kept_longer, with_wild_grown}
 use Rattle.registry.proofs.Moved.{ReadsWorld}
@@ -144,7 +144,7 @@ wild_world s name d kept = refl
 
 -- ---- the tables
 
-module _ (s : StoredWorld) (image : Image) (a : Added) (r : PoolRecord) (world : ReadsWorld s image) (within : a.puddle.pool < POOL_RECORDS) (used : (tables_of s.frames image).pools a.puddle.pool ≡ Some r)
+module _ (s : StoredWorld) (image : Image) (a : NewPuddle) (r : PoolRecord) (world : ReadsWorld s image) (within : a.puddle.pool < POOL_RECORDS) (used : (tables_of s.frames image).pools a.puddle.pool ≡ Some r)
     (place : IsGrowthFor (tables_of s.frames image) s.next_number a.puddle.pool (puddle_count (tables_of s.frames image) a.puddle.pool) a) where
   abbrev t : Tables
   t = tables_of s.frames image

@@ -32,7 +32,7 @@ use Rattle.batch.specs.Batches.{HasIdleGate, IsFree, Commits}
 use Rattle.batch.specs.Worlds.{IsQuiescent, MovesBy, Moves, IsBetween}
 use Rattle.batch.specs.Tables.{HasDurableTables}
 use Rattle.batch.proofs.Tables.{reads_kept}
-use Rattle.registry.specs.declared.adding.Added.{Added}
+use Rattle.registry.specs.declared.adding.NewPuddle.{NewPuddle}
 use Rattle.registry.specs.Puts.{puts_batch, AreOfPools}
 use Rattle.registry.specs.Adding.{filling, IsFilled, PersistsThenCommits, IsOffAdding, MakesPools, pools_next, AddsTo}
 use Rattle.registry.specs.Places.{IsFirstFor}
@@ -116,7 +116,7 @@ free_there t frame is = (first_free_some t.puddles 0 t.frames frame is).free
 -- ---- a puddle is added
 
 -- its frame was filled, and then the batch is written
-module _ (size : ℕ) (s next : StoredWorld) (F : ℕ) (a : Added) (es : List Entry) (mask : Write) (fault : Option HostFault) (old mid new : State) (adds : AddsTo size s next F a es mask old.now.words) where
+module _ (size : ℕ) (s next : StoredWorld) (F : ℕ) (a : NewPuddle) (es : List Entry) (mask : Write) (fault : Option HostFault) (old mid new : State) (adds : AddsTo size s next F a es mask old.now.words) where
   abbrev start : State
   start = masked_state mask old
 
@@ -153,7 +153,7 @@ module _ (size : ℕ) (s next : StoredWorld) (F : ℕ) (a : Added) (es : List En
   ChangesPools-added = subst (λ (n : ℕ). a.frame < n → Persists (filling n a) None start filled → MovesThen → ChangesPools size s next (IsFilled n a) fault start end) (sym adds.frames) added_here
 
 -- the puddle by which a pool grows
-module _ (size : ℕ) (s next : StoredWorld) (F : ℕ) (a : Added) (es : List Entry) (mask : Write) (words : Words) (within : a.puddle.pool < POOL_RECORDS) (is : es ≡ puts_batch (growing a)) (g : GrowsAt size s next F a mask words) where
+module _ (size : ℕ) (s next : StoredWorld) (F : ℕ) (a : NewPuddle) (es : List Entry) (mask : Write) (words : Words) (within : a.puddle.pool < POOL_RECORDS) (is : es ≡ puts_batch (growing a)) (g : GrowsAt size s next F a mask words) where
   abbrev read : Image
   read = reads (masked mask words)
 
@@ -212,11 +212,11 @@ ChangesPools-weaker size s next also besides fault a c weaker p = record {
 }
 
 -- the number before the puddle's is the pool's
-pub record_is : (name : List ℕ) (uid gid mode next : ℕ) (a : Added) → a.puddle.number ≡ next + 1 → record { name = name; uid = uid; gid = gid; mode = mode; number = a.puddle.number - 1 } ≡ new_record name uid gid mode next
+pub record_is : (name : List ℕ) (uid gid mode next : ℕ) (a : NewPuddle) → a.puddle.number ≡ next + 1 → record { name = name; uid = uid; gid = gid; mode = mode; number = a.puddle.number - 1 } ≡ new_record name uid gid mode next
 record_is name uid gid mode next a is = ap (new_record name uid gid mode) (let same : a.puddle.number - 1 ≡ next = omega arith in same)
 
 -- a first puddle was found for a new pool, and nothing changed
-module _ (F : ℕ) (image : Image) (name : List ℕ) (uid gid mode : ℕ) (a : Added) (place : IsFirstFor (tables_of F image) (image NEXT_NUMBER_WORD) name a) (fault : Option HostFault) (old mid new : State) (still : mid ≡ old) where
+module _ (F : ℕ) (image : Image) (name : List ℕ) (uid gid mode : ℕ) (a : NewPuddle) (place : IsFirstFor (tables_of F image) (image NEXT_NUMBER_WORD) name a) (fault : Option HostFault) (old mid new : State) (still : mid ≡ old) where
   abbrev r : PoolRecord
   r = new_record name uid gid mode (image NEXT_NUMBER_WORD)
 
@@ -231,7 +231,7 @@ module _ (F : ℕ) (image : Image) (name : List ℕ) (uid gid mode : ℕ) (a : A
         commits = subst (λ (b : State). HasIdleGate DAEMON_LOG b.now.words → PersistsThenCommits (filling F a) (puts_batch (making r a)) fault b new) still commits idle;
       })
 
-fresh_place : (F next n : ℕ) (before : Image) (name : List ℕ) (a : Added) → IsFirstFor (tables_of F before) next name a → next ≡ n → (image : Image) → IsFilled F a image → HasFreshFrame (tables_of F before) (n + 1) image
+fresh_place : (F next n : ℕ) (before : Image) (name : List ℕ) (a : NewPuddle) → IsFirstFor (tables_of F before) next name a → next ≡ n → (image : Image) → IsFilled F a image → HasFreshFrame (tables_of F before) (n + 1) image
 unfolding tables_of
 fresh_place F next n before name a place is image filled = record {
   frame = a.frame;
@@ -241,7 +241,7 @@ fresh_place F next n before name a place is image filled = record {
 
 -- where each image stands for a world
 module _ (size : ℕ) (s : StoredWorld) (F : ℕ) (name : List ℕ) (uid gid mode : ℕ) (mask : Write) (old : State) (may : MayMake size s F name uid gid mode mask old.now.words)
-    (a : Added) (place : IsFirstFor (tables_of F (reads old.now.words)) (reads old.now.words NEXT_NUMBER_WORD) name a) where
+    (a : NewPuddle) (place : IsFirstFor (tables_of F (reads old.now.words)) (reads old.now.words NEXT_NUMBER_WORD) name a) where
   abbrev image : Image
   image = reads old.now.words
 

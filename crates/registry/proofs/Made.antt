@@ -30,7 +30,7 @@ use Rattle.pud_defs.proofs.PutsMade.{pool_put_made}
 use Rattle.pud_defs.proofs.PoolsChanged.{IsMade, made, pools_made}
 use Rattle.pud_defs.proofs.PoolsCounted.{no_member}
 use Rattle.pud_defs.proofs.SoundChanged.{IsAdded, sound_made}
-use Rattle.registry.specs.declared.adding.Added.{Added}
+use Rattle.registry.specs.declared.adding.NewPuddle.{NewPuddle}
 use Rattle.registry.specs.Puts.{AreOfPools, with_puts}
 use Rattle.registry.specs.Adding.{IsFilled, MakesPools, pools_next}
 use Rattle.registry.specs.Places.{IsFirstFor}
@@ -67,7 +67,7 @@ enough_numbers next enough = elim (cases_lt NUMBER_LIMIT (next + NUMBERS_DRAWN))
 ]
 
 -- the changes are of pools
-pub making_of : (F : ℕ) (r : PoolRecord) (a : Added) → a.frame < F → a.puddle.pool < POOL_RECORDS → AreOfPools F (making r a)
+pub making_of : (F : ℕ) (r : PoolRecord) (a : NewPuddle) → a.frame < F → a.puddle.pool < POOL_RECORDS → AreOfPools F (making r a)
 making_of F r a frame slot = (inr (inl (record { low = omega arith; high = omega arith; some = omega arith; fits = omega arith })), adding_of F (a.puddle.number + 1) (a ∷ []) (frame, slot, tt))
 
 pub made_world : (s : StoredWorld) (name : List ℕ) (who : Owner) (mode : ℕ)
@@ -77,7 +77,7 @@ made_world s name who mode = refl
 
 -- ---- the tables
 
-module _ (s : StoredWorld) (image : Image) (a : Added) (r : PoolRecord) (world : ReadsWorld s image) (place : IsFirstFor (tables_of s.frames image) s.next_number r.name a)
+module _ (s : StoredWorld) (image : Image) (a : NewPuddle) (r : PoolRecord) (world : ReadsWorld s image) (place : IsFirstFor (tables_of s.frames image) s.next_number r.name a)
     (legal : IsLegalPool r.name r.uid r.gid r.mode) (number : r.number ≡ s.next_number) where
   abbrev t : Tables
   t = tables_of s.frames image

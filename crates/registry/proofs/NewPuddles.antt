@@ -19,42 +19,42 @@ use Rattle.pud_defs.proofs.Keyed.{under_apart}
 use Rattle.pud_defs.proofs.PutsMade.{with_put-outside, with_put-inside, puddle_put_made}
 use Rattle.pud_defs.proofs.Spaces.{all_below-each}
 use Rattle.pud_defs.proofs.TablesOf.{tables_of-same}
-use Rattle.registry.specs.declared.adding.Added.{Added}
+use Rattle.registry.specs.declared.adding.NewPuddle.{NewPuddle}
 use Rattle.registry.specs.Puts.{AreOfPools, number_put, with_puts}
 use Rattle.registry.specs.Adding.{IsNewPuddle, puddle_records, adding}
 
 -- ---- what their changes make
 
 -- their frames are among so many, and their pools are of the table
-abbrev pub AreWithin : ℕ → List Added → Type 0
+abbrev pub AreWithin : ℕ → List NewPuddle → Type 0
 AreWithin F [] = ⊤
 AreWithin F (a ∷ all) = (a.frame < F) × (a.puddle.pool < POOL_RECORDS) × AreWithin F all
 
 -- the tables with their records
-abbrev pub with_added : List Added → Tables → Tables
+abbrev pub with_added : List NewPuddle → Tables → Tables
 with_added [] t = t
 with_added (a ∷ all) t = with_added all (with_puddle_at a.frame (Some (member_by a.puddle)) t)
 
-records_of : (F : ℕ) (all : List Added) → AreWithin F all → AreOfPools F (puddle_records all)
+records_of : (F : ℕ) (all : List NewPuddle) → AreWithin F all → AreOfPools F (puddle_records all)
 records_of F [] within = tt
 records_of F (a ∷ all) within = let below = within.0 in (inr (inr (record { low = omega arith; high = omega arith; some = omega arith; fits = omega arith })), records_of F all within.2)
 
 -- the changes are of pools
-pub adding_of : (F next : ℕ) (all : List Added) → AreWithin F all → AreOfPools F (adding next all)
+pub adding_of : (F next : ℕ) (all : List NewPuddle) → AreWithin F all → AreOfPools F (adding next all)
 adding_of F next all within = (inl (record { low = omega arith; high = omega arith; some = omega arith; fits = omega arith }), records_of F all within)
 
-records_front : (all : List Added) (i : Image) (k : ℕ) → k < PUDDLE_TABLE → with_puts (puddle_records all) i k ≡ i k
+records_front : (all : List NewPuddle) (i : Image) (k : ℕ) → k < PUDDLE_TABLE → with_puts (puddle_records all) i k ≡ i k
 unfolding with_puts
 records_front [] i k below = refl
 records_front (a ∷ all) i k below = records_front all (with_put (puddle_put a.frame a.puddle) i) k below ∙ with_put-outside (puddle_put a.frame a.puddle) i k (λ low high. omega arith)
 
-pub adding_next : (next : ℕ) (all : List Added) (i : Image) → with_puts (adding next all) i NEXT_NUMBER_WORD ≡ next
+pub adding_next : (next : ℕ) (all : List NewPuddle) (i : Image) → with_puts (adding next all) i NEXT_NUMBER_WORD ≡ next
 unfolding with_puts
 adding_next next all i =
     records_front all (with_put (number_put next) i) NEXT_NUMBER_WORD (omega arith)
     ∙ with_put-inside (number_put next) i NEXT_NUMBER_WORD 0 (omega arith) (omega arith)
 
-records_tables : (F : ℕ) (all : List Added) (i : Image) → AreWithin F all → tables_of F (with_puts (puddle_records all) i) ≡ with_added all (tables_of F i)
+records_tables : (F : ℕ) (all : List NewPuddle) (i : Image) → AreWithin F all → tables_of F (with_puts (puddle_records all) i) ≡ with_added all (tables_of F i)
 unfolding with_puts
 records_tables F [] i within = refl
 records_tables F (a ∷ all) i within =
@@ -62,7 +62,7 @@ records_tables F (a ∷ all) i within =
     records_tables F all (with_put (puddle_put a.frame a.puddle) i) within.2
     ∙ ap (with_added all) (puddle_put_made F i a.frame a.puddle within.0 (omega arith))
 
-pub adding_tables : (F next : ℕ) (all : List Added) (i : Image) → AreWithin F all → tables_of F (with_puts (adding next all) i) ≡ with_added all (tables_of F i)
+pub adding_tables : (F next : ℕ) (all : List NewPuddle) (i : Image) → AreWithin F all → tables_of F (with_puts (adding next all) i) ≡ with_added all (tables_of F i)
 unfolding with_puts
 adding_tables F next all i within =
     let put = number_put next in
@@ -101,7 +101,7 @@ others_bases t base lowest f below =
     all_below-each t.frames (λ frame. has_other_bases base (t.puddles frame)) (and_parts true (all_below t.frames (λ frame. has_other_bases base (t.puddles frame))) lowest.free).1 f below
 
 -- it is legal once its number is given
-pub legal_new : (t : Tables) (slot ordinal number later : ℕ) (a : Added) → IsNewPuddle t slot ordinal number a → 1 ≤ number → number < later → is_legal_puddle later (member_by a.puddle).puddle ≡ true
+pub legal_new : (t : Tables) (slot ordinal number later : ℕ) (a : NewPuddle) → IsNewPuddle t slot ordinal number a → 1 ≤ number → number < later → is_legal_puddle later (member_by a.puddle).puddle ≡ true
 legal_new t slot ordinal number later a new low high =
     let is = new.number_is in
     and_from _ _ (and_from _ _ (and_from _ _ (given later a.puddle.number (omega arith) (omega arith)) new.base.legal) (ap is_legal_base new.old_base ∙ new.base.legal)) (le-leb a.puddle.frontier LAST_FRONTIER (omega (arith, new.frontier)))

@@ -14,7 +14,7 @@ use Rattle.pool_table.proofs.LookUp.{slot_found, lowest_free, found_free}
 use Rattle.puddle_table.specs.declared.PuddleFault.{PuddleFault}
 use Rattle.puddle_table.specs.declared.PuddleFault.TheVariants as puddles
 use Rattle.puddle_table.specs.Records.{fault_in, frame_by}
-use Rattle.registry.specs.declared.adding.Added.{Added}
+use Rattle.registry.specs.declared.adding.NewPuddle.{NewPuddle}
 use Rattle.registry.specs.declared.making.MakeFault.TheVariants as faults
 use Rattle.registry.specs.Adding.{IsNewPuddle}
 use Rattle.registry.specs.Growth.{has_room, grow_refusal}
@@ -78,11 +78,11 @@ module _ (F : ℕ) (image : Image) (name : List ℕ) (slot number : ℕ) (found 
       λ p. cond (is_some (none p)) (Some faults.Exists) (cond (is_none (some p) || numbers p) (Some faults.Full) (cond (is_none (is p)) (Some faults.NoSpace) None))
 
   -- no frame is free
-  pub refused_for_space : (f : PuddleFault) → make_fault {T = Added} (Err (of_puddle_fault f)) ≡ None → (f ≡ puddles.NoSpace → first_free t.puddles 0 t.frames ≡ None) → Some (of_puddle_fault f) ≡ make_refusal t next name
+  pub refused_for_space : (f : PuddleFault) → make_fault {T = NewPuddle} (Err (of_puddle_fault f)) ≡ None → (f ≡ puddles.NoSpace → first_free t.puddles 0 t.frames ≡ None) → Some (of_puddle_fault f) ≡ make_refusal t next name
   refused_for_space puddles.NoSpace none told = sym (refused_by None (told refl))
   refused_for_space (puddles.Host fault) none told = absurd (let no : Some fault ≡ None = none in cc)
 
-  module _ (a : Added) (new : IsNewPuddle t slot 0 (number + 1) a) where
+  module _ (a : NewPuddle) (new : IsNewPuddle t slot 0 (number + 1) a) where
     -- nothing stands against it
     pub makes_first : None ≡ make_refusal t next name
     makes_first = sym (refused_by (Some a.frame) new.frame)

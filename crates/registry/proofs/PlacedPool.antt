@@ -53,7 +53,7 @@ use Rattle.pud_defs.proofs.TypesDefined.{types_missing-new, AreNewTypes, typed, 
 use Rattle.batch.specs.Batches.{HasIdleGate, IsFree, ByBatch, Commits}
 use Rattle.batch.specs.Worlds.{IsQuiescent, MovesBy, Moves}
 use Rattle.batch.specs.Tables.{HasDurableTables}
-use Rattle.registry.specs.declared.adding.Added.{Added}
+use Rattle.registry.specs.declared.adding.NewPuddle.{NewPuddle}
 use Rattle.registry.specs.declared.placing.NewType.{NewType}
 use Rattle.registry.specs.Puts.{puts_batch, with_puts, AreOfPools, AreOfTables}
 use Rattle.registry.specs.Adding.{adding, IsAddedWithin, MakesPools, pools_next}
@@ -68,23 +68,23 @@ use Rattle.registry.proofs.TypesPut.{with_puts-append, AreOfTables-append, AreRe
 -- ---- the changes
 
 -- the records of the pool and of its puddles, and the next number
-abbrev pub pool_puts : (slot : ℕ) → PoolRecord → List Added → List Put
+abbrev pub pool_puts : (slot : ℕ) → PoolRecord → List NewPuddle → List Put
 pool_puts slot r puddles = pool_put slot r ∷ adding (r.number + numbers_drawn (length puddles)) puddles
 
-pub pool_puts_of : (F slot : ℕ) (r : PoolRecord) (puddles : List Added) → slot < POOL_RECORDS → AreWithin F puddles → AreOfPools F (pool_puts slot r puddles)
+pub pool_puts_of : (F slot : ℕ) (r : PoolRecord) (puddles : List NewPuddle) → slot < POOL_RECORDS → AreWithin F puddles → AreOfPools F (pool_puts slot r puddles)
 pool_puts_of F slot r puddles below within =
     (inr (inl (record { low = omega arith; high = omega arith; some = omega arith; fits = omega arith })), adding_of F (r.number + numbers_drawn (length puddles)) puddles within)
 
-pub placing_of : (F slot : ℕ) (r : PoolRecord) (types : List NewType) (puddles : List Added) → slot < POOL_RECORDS → AreRecords types → AreWithin F puddles → AreOfTables F (placing slot r types puddles)
+pub placing_of : (F slot : ℕ) (r : PoolRecord) (types : List NewType) (puddles : List NewPuddle) → slot < POOL_RECORDS → AreRecords types → AreWithin F puddles → AreOfTables F (placing slot r types puddles)
 placing_of F slot r types puddles below records within =
     AreOfTables-append F (map new_type_put types) (pool_puts slot r puddles) (types_of_table F types records) (of_tables F (pool_puts slot r puddles) (pool_puts_of F slot r puddles below within))
 
-within_each : (F : ℕ) (puddles : List Added) → All (IsAddedWithin F) puddles → AreWithin F puddles
+within_each : (F : ℕ) (puddles : List NewPuddle) → All (IsAddedWithin F) puddles → AreWithin F puddles
 within_each F [] all = tt
 within_each F (a ∷ puddles) all = let first = All-head (IsAddedWithin F) a puddles all in (first.frame, first.slot, within_each F puddles (All-tail (IsAddedWithin F) a puddles all))
 
 -- on any content the batch is written, all or none
-pub Commits-placed : (F size slot : ℕ) (r : PoolRecord) (types : List NewType) (puddles : List Added) (es : List Entry) (fault : Option HostFault) (a b : State) → tables_end F ≤ size → slot < POOL_RECORDS
+pub Commits-placed : (F size slot : ℕ) (r : PoolRecord) (types : List NewType) (puddles : List NewPuddle) (es : List Entry) (fault : Option HostFault) (a b : State) → tables_end F ≤ size → slot < POOL_RECORDS
     → All (λ t. t.record_number < TYPE_RECORDS) types → All (IsAddedWithin F) puddles → es ≡ puts_batch (placing slot r types puddles)
     → (IsFree size DAEMON_LOG es a.now.words → Commits DAEMON_LOG es fault a b) → HasIdleGate DAEMON_LOG a.now.words → CommitsPuts (placing slot r types puddles) fault a b
 Commits-placed F size slot r types puddles es fault a b room below records within is commits idle =
@@ -95,7 +95,7 @@ Commits-placed F size slot r types puddles es fault a b room below records withi
 -- ---- the tables
 
 -- the puddles are added in turn
-added_in_turn : (slot : ℕ) (puddles : List Added) (o : ℕ) (t : Tables) → ((i : ℕ) (a : Added) → slice_get puddles i ≡ Some a → (a.puddle.pool ≡ slot) × (a.puddle.ordinal ≡ o + i))
+added_in_turn : (slot : ℕ) (puddles : List NewPuddle) (o : ℕ) (t : Tables) → ((i : ℕ) (a : NewPuddle) → slice_get puddles i ≡ Some a → (a.puddle.pool ≡ slot) × (a.puddle.ordinal ≡ o + i))
     → with_added puddles t ≡ with_puddles_at slot o (map puddle_of puddles) t
 added_in_turn slot [] o t members = refl
 added_in_turn slot (a ∷ puddles) o t members =
@@ -106,19 +106,19 @@ added_in_turn slot (a ∷ puddles) o t members =
     ∙ added_in_turn slot puddles (o + 1) (with_puddle_at a.frame (Some (member_for slot o (puddle_of a).1)) t) (λ i b there. let later = members (suc i) b there in (later.0, (let is = later.1 in omega arith)))
 
 -- each stands in a frame of the device, in a pool of the table
-added_within : (F slot : ℕ) (puddles : List Added) → slot < POOL_RECORDS → ((i : ℕ) (a : Added) → slice_get puddles i ≡ Some a → (a.frame < F) × (a.puddle.pool ≡ slot)) → AreWithin F puddles
+added_within : (F slot : ℕ) (puddles : List NewPuddle) → slot < POOL_RECORDS → ((i : ℕ) (a : NewPuddle) → slice_get puddles i ≡ Some a → (a.frame < F) × (a.puddle.pool ≡ slot)) → AreWithin F puddles
 added_within F slot [] below each = tt
 added_within F slot (a ∷ puddles) below each = let first = each 0 a refl in (first.0, (let pool = first.1 in omega arith), added_within F slot puddles below (λ i b there. each (suc i) b there))
 
-puddle_there : (puddles : List Added) (i : ℕ) (a : Added) → slice_get puddles i ≡ Some a → slice_get (map puddle_of puddles) i ≡ Some (puddle_of a)
+puddle_there : (puddles : List NewPuddle) (i : ℕ) (a : NewPuddle) → slice_get puddles i ≡ Some a → slice_get (map puddle_of puddles) i ≡ Some (puddle_of a)
 puddle_there [] i a there = absurd (let no : None ≡ Some a = there in cc)
-puddle_there (b ∷ puddles) zero a there = let same : b ≡ a = cc in ap (λ (x : Added). Some (puddle_of x)) same
+puddle_there (b ∷ puddles) zero a there = let same : b ≡ a = cc in ap (λ (x : NewPuddle). Some (puddle_of x)) same
 puddle_there (b ∷ puddles) (suc i) a there = puddle_there puddles i a there
 
 frontier_within : (wanted : List ℕ) (at : List (ℕ × Puddle)) → placed_frontier wanted at ≤ LAST_FRONTIER
 frontier_within wanted at = elim (bytes_eq (map (λ (e : ℕ × Puddle). e.1.base) at) wanted) as (λ b. cond b LAST_FRONTIER 0 ≤ LAST_FRONTIER) [ true ↦ omega arith | false ↦ omega arith ]
 
-module _ (s : StoredWorld) (image : Image) (file : FileContents) (wanted : List ℕ) (slot : ℕ) (r : PoolRecord) (types : List NewType) (puddles : List Added) (world : ReadsWorld s image)
+module _ (s : StoredWorld) (image : Image) (file : FileContents) (wanted : List ℕ) (slot : ℕ) (r : PoolRecord) (types : List NewType) (puddles : List NewPuddle) (world : ReadsWorld s image)
     (legal : IsLegalPool r.name r.uid r.gid r.mode) (place : IsPlacedFor s.frames image file.types wanted slot r types puddles) (distinct : AreDistinctBases wanted)
     (count : length puddles ≡ file.puddles) (some : 1 ≤ length puddles) (few : length puddles ≤ MAX_PUDDLES) where
   abbrev t : Tables
@@ -267,7 +267,7 @@ all_frames F i j (e ∷ at) same = (record { each = λ k high. same _ (omega ari
 
 -- ---- the batch
 
-module _ (size : ℕ) (s : StoredWorld) (file : FileContents) (wanted : List ℕ) (slot : ℕ) (r : PoolRecord) (types : List NewType) (puddles : List Added) (mask : Write) (words : Words)
+module _ (size : ℕ) (s : StoredWorld) (file : FileContents) (wanted : List ℕ) (slot : ℕ) (r : PoolRecord) (types : List NewType) (puddles : List NewPuddle) (mask : Write) (words : Words)
     (may : MayPlace size s s.frames file wanted slot r types puddles mask words) where
   abbrev held : Words
   held = masked mask words
@@ -337,7 +337,7 @@ module _ (size : ℕ) (s : StoredWorld) (file : FileContents) (wanted : List ℕ
   }
 
 -- what the call owes
-pub ChangesPools-placed : (size : ℕ) (s : StoredWorld) (F : ℕ) (file : FileContents) (wanted : List ℕ) (slot : ℕ) (r : PoolRecord) (types : List NewType) (puddles : List Added) (mask : Write) (es : List Entry) (fault : Option HostFault) (a b : State)
+pub ChangesPools-placed : (size : ℕ) (s : StoredWorld) (F : ℕ) (file : FileContents) (wanted : List ℕ) (slot : ℕ) (r : PoolRecord) (types : List NewType) (puddles : List NewPuddle) (mask : Write) (es : List Entry) (fault : Option HostFault) (a b : State)
     → MayPlace size s F file wanted slot r types puddles mask a.now.words → es ≡ puts_batch (placing slot r types puddles)
     → ((next : StoredWorld) → IsOff mask (ByBatch DAEMON_LOG es) → IsQuiescent size s (masked mask a.now.words) → MovesBy size s next es (masked mask a.now.words) → Moves size s next es fault (masked_state mask a) (masked_state mask b))
     → ChangesMasked mask size s (with_imported_pool r.name (owner r.uid r.gid) r.mode file s) (λ _. ⊤) fault a b

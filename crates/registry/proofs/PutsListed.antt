@@ -10,7 +10,7 @@ use Rattle.pud_defs.specs.Entries.{Entry}
 use Rattle.pud_defs.specs.Imports.{numbers_drawn}
 use Rattle.pud_defs.specs.Puts.{pool_put, puddle_put}
 use Rattle.batch.specs.Batches.{words_of}
-use Rattle.registry.specs.declared.adding.Added.{Added}
+use Rattle.registry.specs.declared.adding.NewPuddle.{NewPuddle}
 use Rattle.registry.specs.declared.placing.NewType.{NewType}
 use Rattle.registry.specs.Puts.{put_entry, puts_batch, number_put}
 use Rattle.registry.specs.Adding.{puddle_records}
@@ -49,13 +49,13 @@ words_types : (types : List NewType) → words_of (puts_batch (map new_type_put 
 words_types [] = refl
 words_types (t ∷ types) = let later = words_types types in omega (arith, words_both (put_entry (new_type_put t) ∷ []) (puts_batch (map new_type_put types)), later)
 
-words_puddles : (puddles : List Added) → words_of (puts_batch (puddle_records puddles)) ≡ 7 * length puddles
+words_puddles : (puddles : List NewPuddle) → words_of (puts_batch (puddle_records puddles)) ≡ 7 * length puddles
 words_puddles [] = refl
 words_puddles (a ∷ puddles) = let later = words_puddles puddles in omega (arith, words_both (put_entry (puddle_put a.frame a.puddle) ∷ []) (puts_batch (puddle_records puddles)), later)
 
 -- ---- all of it
 
-pub placing_gathered : (slot : ℕ) (r : PoolRecord) (types : List NewType) (puddles : List Added) (b0 b1 b2 b3 b4 : List Entry) (pool number : Put) → length types ≤ TYPE_RECORDS → length puddles ≤ MAX_PUDDLES
+pub placing_gathered : (slot : ℕ) (r : PoolRecord) (types : List NewType) (puddles : List NewPuddle) (b0 b1 b2 b3 b4 : List Entry) (pool number : Put) → length types ≤ TYPE_RECORDS → length puddles ≤ MAX_PUDDLES
     → b0 ≡ [] → (words_of b0 + words_of (puts_batch (map new_type_put types)) ≤ LOG_ENTRY_WORDS → b1 ≡ b0 ++ puts_batch (map new_type_put types))
     → pool ≡ pool_put slot r → (words_of b1 + (pool.n + 2) ≤ LOG_ENTRY_WORDS → b2 ≡ b1 ++ put_entry pool ∷ [])
     → number ≡ number_put (r.number + numbers_drawn (length puddles)) → (words_of b2 + (number.n + 2) ≤ LOG_ENTRY_WORDS → b3 ≡ b2 ++ put_entry number ∷ [])

@@ -22,14 +22,14 @@ use Rattle.pud_defs.specs.World.{StoredWorld}
 use Rattle.batch.specs.Batches.{ByBatch, Commits}
 use Rattle.batch.specs.Worlds.{IsQuiescent}
 use Rattle.batch.specs.Tables.{HasDurableTables}
-use Rattle.registry.specs.declared.adding.Added.{Added}
+use Rattle.registry.specs.declared.adding.NewPuddle.{NewPuddle}
 use Rattle.registry.specs.Puts.{puts_batch, with_puts, number_put, AreOfPools}
 
 -- ---- a puddle
 
 -- The puddle is the new one of this ordinal and of this UUID number in the pool of a slot: in the lowest free frame and at the lowest free base, over
 -- which all of its pointers stand.
-pub record IsNewPuddle (t : Tables) (slot ordinal number : ℕ) (a : Added) : Type 0 where
+pub record IsNewPuddle (t : Tables) (slot ordinal number : ℕ) (a : NewPuddle) : Type 0 where
   pub frame : first_free t.puddles 0 t.frames ≡ Some a.frame
   pub base : IsLowestBase t [] a.puddle.base
   pub slot_is : a.puddle.pool ≡ slot
@@ -39,7 +39,7 @@ pub record IsNewPuddle (t : Tables) (slot ordinal number : ℕ) (a : Added) : Ty
   pub frontier : a.puddle.frontier ≡ LAST_FRONTIER
 
 -- its frame is one of so many, its pool's record one of the table, and there is a number behind its own
-pub record IsAddedWithin (F : ℕ) (a : Added) : Type 0 where
+pub record IsAddedWithin (F : ℕ) (a : NewPuddle) : Type 0 where
   pub frame : a.frame < F
   pub slot : a.puddle.pool < POOL_RECORDS
   pub number : a.puddle.number < NUMBER_LIMIT
@@ -51,19 +51,19 @@ abbrev pub frame_write : (F frame number ordinal : ℕ) → Write
 frame_write F frame number ordinal = placed (frame_at F frame) (fresh_frame number ordinal)
 
 -- those of its frame
-abbrev pub filling : ℕ → Added → Write
+abbrev pub filling : ℕ → NewPuddle → Write
 filling F a = frame_write F a.frame a.puddle.number a.puddle.ordinal
 
 -- its frame has them
-abbrev pub IsFilled : ℕ → Added → Image → Type 0
+abbrev pub IsFilled : ℕ → NewPuddle → Image → Type 0
 IsFilled F a image = IsFreshFrame F a.frame a.puddle.number a.puddle.ordinal image
 
 -- the records of puddles that are added
-abbrev pub puddle_records : List Added → List Put
-puddle_records added = map (λ (a : Added). puddle_put a.frame a.puddle) added
+abbrev pub puddle_records : List NewPuddle → List Put
+puddle_records added = map (λ (a : NewPuddle). puddle_put a.frame a.puddle) added
 
 -- puddles are added: the next UUID number, and the record of each
-abbrev pub adding : (next : ℕ) → List Added → List Put
+abbrev pub adding : (next : ℕ) → List NewPuddle → List Put
 adding next added = number_put next ∷ puddle_records added
 
 -- ---- what a call does
@@ -76,7 +76,7 @@ pub record PersistsThenCommits (write : Write) (es : List Entry) (fault : Option
   pub then : ((new ≡ mid) × (fault ≡ first)) ⊎ ((first ≡ None) × Commits DAEMON_LOG es fault mid new)
 
 -- none of the words is masked that the frame is filled with, or that the batch of these changes writes
-pub record IsOffAdding (mask : Write) (F : ℕ) (a : Added) (puts : List Put) : Type 0 where
+pub record IsOffAdding (mask : Write) (F : ℕ) (a : NewPuddle) (puts : List Put) : Type 0 where
   pub frame : IsOff mask (written (filling F a))
   pub records : IsOff mask (ByBatch DAEMON_LOG (puts_batch puts))
 
@@ -98,7 +98,7 @@ pools_next s number ps = record s { next_number = number; pools = ps }
 
 -- With words masked that neither its frame takes nor the batch, each image stands for a world, the tables are durable and the puddle's frame is free;
 -- and once that one is filled the batch makes the pools of the next world.
-pub record AddsTo (size : ℕ) (s next : StoredWorld) (F : ℕ) (a : Added) (es : List Entry) (mask : Write) (words : Words) : Type 0 where
+pub record AddsTo (size : ℕ) (s next : StoredWorld) (F : ℕ) (a : NewPuddle) (es : List Entry) (mask : Write) (words : Words) : Type 0 where
   pub frames : F ≡ s.frames
   pub puts : List Put
   pub is : es ≡ puts_batch puts

@@ -21,7 +21,7 @@ use Rattle.pud_defs.specs.PoolChanges.{pool_named, changed_pool, with_grown_pool
 use Rattle.pud_defs.specs.World.{StoredWorld}
 use Rattle.graph_laws.specs.Reads.{with_puddle}
 use Rattle.batch.specs.Worlds.{IsQuiescent}
-use Rattle.registry.specs.declared.adding.Added.{Added}
+use Rattle.registry.specs.declared.adding.NewPuddle.{NewPuddle}
 use Rattle.registry.specs.Adding.{IsNewPuddle, IsOffAdding, adding}
 use Rattle.registry.specs.Pools.{IsPoolAt}
 
@@ -40,14 +40,14 @@ abbrev pub grow_refusal : Tables → (next puddles : ℕ) → Option Refusal
 grow_refusal t next puddles = cond (not (has_room puddles next)) (Some refusals.Full) (cond (is_none (first_free t.puddles 0 t.frames)) (Some refusals.Space) None)
 
 -- The puddle is the new one of the next UUID number, the next of the pool of a slot that has so many, which may have it.
-pub record IsGrowthFor (t : Tables) (next slot puddles : ℕ) (a : Added) : Type 0 where
+pub record IsGrowthFor (t : Tables) (next slot puddles : ℕ) (a : NewPuddle) : Type 0 where
   pub puddle : IsNewPuddle t slot puddles next a
   pub room : has_room puddles next ≡ true
 
 -- ---- what its batch writes
 
 -- a pool grows: its puddle is added
-abbrev pub growing : Added → List Put
+abbrev pub growing : NewPuddle → List Put
 growing a = adding (a.puddle.number + 1) (a ∷ [])
 
 -- ---- worlds
@@ -67,7 +67,7 @@ pub record HoldsNoGraph (name : List ℕ) (s : StoredWorld) (kept : Stored) : Ty
   pub holds : pool.holding ≡ Wild kept
 
 -- what its record says of it, beside whose it is
-abbrev pub added_puddle : Added → Puddle
+abbrev pub added_puddle : NewPuddle → Puddle
 added_puddle a = (member_by a.puddle).puddle
 
 -- what is kept with this puddle behind the others: its record, and the words of its frame, which is that of a new puddle
@@ -90,7 +90,7 @@ IsGrownBy name s d next =
 
 -- With words masked that the puddle does not take, each image stands for a world, the tables are durable, and the puddle is the one by which a pool
 -- grows that is there; with it more in that pool the world is the next.
-pub record GrowsAt (size : ℕ) (s next : StoredWorld) (F : ℕ) (a : Added) (mask : Write) (words : Words) : Type 0 where
+pub record GrowsAt (size : ℕ) (s next : StoredWorld) (F : ℕ) (a : NewPuddle) (mask : Write) (words : Words) : Type 0 where
   pub frames : F ≡ s.frames
   pub off : IsOffAdding mask F a (growing a)
   pub settled : IsQuiescent size s (masked mask words)

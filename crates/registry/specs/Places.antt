@@ -11,7 +11,7 @@ use Rattle.puddle_table.specs.declared.PuddleFault.{PuddleFault}
 use Rattle.puddle_table.specs.declared.PuddleFault.TheVariants as puddles
 use Rattle.registry.specs.declared.making.MakeFault.{MakeFault}
 use Rattle.registry.specs.declared.making.MakeFault.TheVariants as faults
-use Rattle.registry.specs.declared.adding.Added.{Added}
+use Rattle.registry.specs.declared.adding.NewPuddle.{NewPuddle}
 use Rattle.registry.specs.Adding.{IsNewPuddle}
 
 -- the host's fault that the making of a pool answered
@@ -47,7 +47,7 @@ make_refusal t next name =
 
 -- the puddle is the first of a new pool in the lowest free slot, which draws the next UUID number and the puddle the one behind, for a name that is
 -- not there
-pub record IsFirstFor (t : Tables) (next : ℕ) (name : List ℕ) (a : Added) : Type 0 where
+pub record IsFirstFor (t : Tables) (next : ℕ) (name : List ℕ) (a : NewPuddle) : Type 0 where
   pub slot : first_free t.pools 0 POOL_RECORDS ≡ Some a.puddle.pool
   pub puddle : IsNewPuddle t a.puddle.pool 0 (next + 1) a
   pub enough : lacks_numbers next ≡ false

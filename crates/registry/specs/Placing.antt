@@ -23,7 +23,7 @@ use Rattle.pud_defs.specs.World.{StoredWorld}
 use Rattle.batch.specs.Batches.{ByBatch}
 use Rattle.batch.specs.Worlds.{IsQuiescent}
 use Rattle.batch.specs.Tables.{HasDurableTables}
-use Rattle.registry.specs.declared.adding.Added.{Added}
+use Rattle.registry.specs.declared.adding.NewPuddle.{NewPuddle}
 use Rattle.registry.specs.declared.placing.NewType.{NewType}
 use Rattle.registry.specs.Puts.{puts_batch}
 use Rattle.registry.specs.Adding.{adding}
@@ -36,7 +36,7 @@ abbrev pub new_type_put : NewType → Put
 new_type_put t = type_put t.record_number t.id t.map
 
 -- a pool is placed: the types, its record, and its puddles, behind which so many UUID numbers were given out
-abbrev pub placing : (slot : ℕ) → PoolRecord → List NewType → List Added → List Put
+abbrev pub placing : (slot : ℕ) → PoolRecord → List NewType → List NewPuddle → List Put
 placing slot r types puddles = map new_type_put types ++ pool_put slot r ∷ adding (r.number + numbers_drawn (length puddles)) puddles
 
 -- ---- what is placed
@@ -46,7 +46,7 @@ abbrev pub type_of : NewType → ℕ × ℕ
 type_of t = (t.id, t.map)
 
 -- the puddle, with its frame
-abbrev pub puddle_of : Added → ℕ × Puddle
+abbrev pub puddle_of : NewPuddle → ℕ × Puddle
 puddle_of a = (a.frame, (member_by a.puddle).puddle)
 
 -- Each type has the lowest free record from one on, behind that of the type before.
@@ -56,7 +56,7 @@ HasFreeRecords at from (t ∷ types) = (first_free at from (TYPE_RECORDS - from)
 
 -- The pool is one that is placed by what an image holds, for a file with these bases: its record is a free one, the lowest, no pool has the name, and it
 -- draws the next UUID number; its puddles are placed, in turn; and each type is one that was not defined, in a free record.
-pub record IsPlacedFor (F : ℕ) (image : Image) (file : List (ℕ × ℕ)) (wanted : List ℕ) (slot : ℕ) (r : PoolRecord) (types : List NewType) (puddles : List Added) : Type 0 where
+pub record IsPlacedFor (F : ℕ) (image : Image) (file : List (ℕ × ℕ)) (wanted : List ℕ) (slot : ℕ) (r : PoolRecord) (types : List NewType) (puddles : List NewPuddle) : Type 0 where
   pub slot_is : first_free (tables_of F image).pools 0 POOL_RECORDS ≡ Some slot
   pub absent : pool_in (tables_of F image) r.name ≡ None
   pub number : r.number ≡ image NEXT_NUMBER_WORD
@@ -64,14 +64,14 @@ pub record IsPlacedFor (F : ℕ) (image : Image) (file : List (ℕ × ℕ)) (wan
   pub types_are : map type_of types ≡ types_missing (types_of image) file
   pub records : HasFreeRecords (type_at image) 0 types
   pub placed : ArePlaced (tables_of F image) r.number wanted (map puddle_of puddles)
-  pub members : (o : ℕ) (a : Added) → slice_get puddles o ≡ Some a → (a.puddle.pool ≡ slot) × (a.puddle.ordinal ≡ o)
+  pub members : (o : ℕ) (a : NewPuddle) → slice_get puddles o ≡ Some a → (a.puddle.pool ≡ slot) × (a.puddle.ordinal ≡ o)
 
 -- ---- worlds
 
 -- With words masked that the batch does not write, each image stands for a world and the tables are durable. The pool is legal and placed, by what is read, for
 -- a file of these contents whose types and bases, the old ones of its puddles, are legal; and in each image the frames of its puddles hold the graph of the
 -- file, by the types that are defined then.
-pub record MayPlace (size : ℕ) (s : StoredWorld) (F : ℕ) (file : FileContents) (wanted : List ℕ) (slot : ℕ) (r : PoolRecord) (types : List NewType) (puddles : List Added) (mask : Write) (words : Words) : Type 0 where
+pub record MayPlace (size : ℕ) (s : StoredWorld) (F : ℕ) (file : FileContents) (wanted : List ℕ) (slot : ℕ) (r : PoolRecord) (types : List NewType) (puddles : List NewPuddle) (mask : Write) (words : Words) : Type 0 where
   pub frames : F ≡ s.frames
   pub off : IsOff mask (ByBatch DAEMON_LOG (puts_batch (placing slot r types puddles)))
   pub settled : IsQuiescent size s (masked mask words)

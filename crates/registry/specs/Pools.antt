@@ -22,7 +22,7 @@ use Rattle.pud_defs.specs.World.{StoredWorld, idle_world_of}
 use Rattle.batch.specs.Batches.{Commits}
 use Rattle.batch.specs.Worlds.{IsQuiescent}
 use Rattle.batch.specs.Tables.{HasDurableTables}
-use Rattle.registry.specs.declared.adding.Added.{Added}
+use Rattle.registry.specs.declared.adding.NewPuddle.{NewPuddle}
 use Rattle.registry.specs.Puts.{puts_batch, ByPools}
 use Rattle.registry.specs.Adding.{filling, adding, PersistsThenCommits, IsOffAdding}
 use Rattle.registry.specs.Places.{make_refusal, IsFirstFor}
@@ -30,7 +30,7 @@ use Rattle.registry.specs.Places.{make_refusal, IsFirstFor}
 -- ---- what each batch writes
 
 -- a pool is made: its record, and with it its first puddle
-abbrev pub making : PoolRecord → Added → List Put
+abbrev pub making : PoolRecord → NewPuddle → List Put
 making r a = pool_put a.puddle.pool r ∷ adding (a.puddle.number + 1) (a ∷ [])
 
 -- a pool's mode is changed
@@ -66,7 +66,7 @@ new_record name uid gid mode next = record { name = name; uid = uid; gid = gid; 
 
 -- a pool is made with some first puddle that is the one for it: the frame is filled durably, and then the records are written
 pub record MakesSomewhere (t : Tables) (next : ℕ) (name : List ℕ) (uid gid mode : ℕ) (fault : Option HostFault) (old new : State) : Type 0 where
-  pub added : Added
+  pub added : NewPuddle
   pub is : IsFirstFor t next name added
   pub commits : PersistsThenCommits (filling t.frames added) (puts_batch (making (new_record name uid gid mode next) added)) fault old new
 
@@ -98,7 +98,7 @@ pub record KeepsTables (F : ℕ) (mask : Write) (image : Image) : Type 0 where
 
 -- none of the words that a new pool takes is masked, wherever it is to stand
 pub record IsOffMaking (mask : Write) (t : Tables) (next : ℕ) (name : List ℕ) (uid gid mode : ℕ) : Type 0 where
-  pub each : (a : Added) → IsFirstFor t next name a → IsOffAdding mask t.frames a (making (new_record name uid gid mode next) a)
+  pub each : (a : NewPuddle) → IsFirstFor t next name a → IsOffAdding mask t.frames a (making (new_record name uid gid mode next) a)
 
 -- an image that stands for the world before, or for the next one and then also for this
 abbrev pub MayStand : (size : ℕ) → (s next : StoredWorld) → (Image → Type 0) → Image → Type 0

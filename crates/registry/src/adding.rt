@@ -31,7 +31,7 @@ use puddle_table::{PuddleFault, free_frame};
 
 /// A puddle that is added to a pool.
 #[derive(Clone, Copy, Debug, Default, PartialEq, Eq)]
-pub struct Added {
+pub struct NewPuddle {
     /// Its frame.
     pub frame: u32,
     /// What its record says.
@@ -46,7 +46,7 @@ pub(crate) fn find_place<H: Host>(
     slot: u32,
     ordinal: u32,
     number: u64,
-) -> Result<Added, PuddleFault>
+) -> Result<NewPuddle, PuddleFault>
     requires few { frames ≤ MAX_FRAMES }
     requires room { device_words frames ≤ (H.counts h.old).size }
     requires known { slot < POOL_RECORDS }
@@ -60,7 +60,7 @@ pub(crate) fn find_place<H: Host>(
 {
     let frame = free_frame(h, frames, 0)?;
     let base = free_base(h, frames, &[])?;
-    Ok(Added {
+    Ok(NewPuddle {
         frame,
         puddle: PuddleRecord {
             pool: slot,
@@ -77,7 +77,7 @@ pub(crate) fn find_place<H: Host>(
 pub(crate) fn add_puddle<H: Host>(
     h: &mut H,
     frames: u32,
-    added: Added,
+    added: NewPuddle,
     batch: Batch,
 ) -> Result<(), HostFault>
     requires few { frames ≤ MAX_FRAMES }

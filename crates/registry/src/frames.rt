@@ -7,7 +7,7 @@ ghost use Rattle.pud_defs.specs.Layout.{device_words};
 ghost use Rattle.pud_defs.specs.Frames.{first_serial, fresh_frame};
 ghost use Rattle.registry.specs.Adding.{filling};
 
-use crate::adding::Added;
+use crate::adding::NewPuddle;
 use pm_model::{Host, HostFault};
 use pm_persist::persist_range;
 use pud_defs::layout::{FRAME_WORDS, MAX_FRAMES};
@@ -39,7 +39,7 @@ fn fresh_frame(number: u64, ordinal: u32) -> [u64; FRAME_WORDS as usize]
 /// Gives the puddle's frame the words of a new one, and makes them durable.
 ///
 /// A frame that no record names is free, whatever it holds: so it is filled before a batch names it. It costs one fence.
-pub(crate) fn fill_frame<H: Host>(h: &mut H, frames: u32, added: Added) -> Result<(), HostFault>
+pub(crate) fn fill_frame<H: Host>(h: &mut H, frames: u32, added: NewPuddle) -> Result<(), HostFault>
     requires few { frames ≤ MAX_FRAMES }
     requires known { added.frame < frames }
     requires room { device_words frames ≤ (H.counts h.old).size }

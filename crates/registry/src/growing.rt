@@ -18,7 +18,7 @@ ghost use Rattle.registry.specs.Places.{refusal_in};
 ghost use Rattle.registry.specs.Pools.{ChangesMasked};
 ghost use Rattle.registry.specs.Growth.{has_room, grow_refusal, IsGrowthFor, growing, GrowsAt};
 
-use crate::adding::{Added, add_puddle, find_place};
+use crate::adding::{NewPuddle, add_puddle, find_place};
 use crate::puts::{add_put, number_put};
 use batch::Batch;
 use pm_model::{Host, HostFault};
@@ -44,7 +44,7 @@ pub fn find_growth<H: Host>(
     frames: u32,
     slot: u32,
     puddles: u32,
-) -> Result<Result<Added, Refusal>, HostFault>
+) -> Result<Result<NewPuddle, Refusal>, HostFault>
     requires few { frames ≤ MAX_FRAMES }
     requires room { device_words frames ≤ (H.counts h.old).size }
     requires known { slot < POOL_RECORDS }
@@ -67,7 +67,7 @@ pub fn find_growth<H: Host>(
 }
 
 /// The batch that adds the puddle to its pool.
-fn growing(added: Added) -> Batch
+fn growing(added: NewPuddle) -> Batch
     requires within { IsAddedWithin MAX_FRAMES added }
     ensures { result ≡ puts_batch (growing added) }
 {
@@ -87,7 +87,7 @@ fn growing(added: Added) -> Batch
 /// for that world, or for the one in which this pool has a puddle more, and then has the frame filled; at `Ok` each stands for the
 /// latter, and the daemon log is closed. A pool which holds a graph then holds the same one. One that holds none still holds none, and
 /// keeps what it kept, and behind it the record and the words of the new puddle. The only errors are the host's own.
-pub fn grow_pool<H: Host>(h: &mut H, frames: u32, added: Added) -> Result<(), HostFault>
+pub fn grow_pool<H: Host>(h: &mut H, frames: u32, added: NewPuddle) -> Result<(), HostFault>
     requires few { frames ≤ MAX_FRAMES }
     requires room { device_words frames ≤ (H.counts h.old).size }
     requires within { IsAddedWithin frames added }

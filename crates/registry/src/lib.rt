@@ -21,7 +21,7 @@ mod making;
 mod placing;
 mod puts;
 
-pub use adding::Added;
+pub use adding::NewPuddle;
 pub use changing::{change_mode, drop_pool};
 pub use growing::{find_growth, grow_pool};
 use log_replay::settle_copy;

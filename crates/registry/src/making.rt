@@ -17,7 +17,7 @@ ghost use Rattle.registry.specs.Adding.{IsAddedWithin};
 ghost use Rattle.registry.specs.Places.{make_fault, refusal_in, make_refusal, IsFirstFor};
 ghost use Rattle.registry.specs.Pools.{making, OrStill, MakesSomewhere, MayMake, MakesPool};
 
-use crate::adding::{Added, add_puddle, find_place};
+use crate::adding::{NewPuddle, add_puddle, find_place};
 use crate::puts::{add_put, number_put};
 use batch::Batch;
 use pm_model::{Host, HostFault};
@@ -85,7 +85,7 @@ impl From<PuddleFault> for MakeFault {
 
 /// The first puddle of a new pool of this name, with the slot that the pool takes, or why none can be made. The pool's own UUID number is the one
 /// before the puddle's.
-fn find_first<H: Host>(h: &mut H, frames: u32, name: Name) -> Result<Added, MakeFault>
+fn find_first<H: Host>(h: &mut H, frames: u32, name: Name) -> Result<NewPuddle, MakeFault>
     requires few { frames ≤ MAX_FRAMES }
     requires room { device_words frames ≤ (H.counts h.old).size }
     ensures refusal { H.tells → (image : Image) → reads (H.state h.old).now.words ≡ image → make_fault result ≡ Option.None
@@ -105,7 +105,7 @@ fn find_first<H: Host>(h: &mut H, frames: u32, name: Name) -> Result<Added, Make
 }
 
 /// The batch that makes the pool of this record with its first puddle.
-fn making(rec: PoolRecord, added: Added) -> Batch
+fn making(rec: PoolRecord, added: NewPuddle) -> Batch
     requires within { IsAddedWithin MAX_FRAMES added }
     ensures { result ≡ puts_batch (making rec added) }
 {

@@ -17,7 +17,7 @@ ghost use Rattle.registry.specs.Adding.{IsAddedWithin, puddle_records};
 ghost use Rattle.registry.specs.Placing.{new_type_put, placing, MayPlace};
 ghost use Rattle.registry.specs.Pools.{CommitsPuts, ChangesMasked};
 
-use crate::adding::Added;
+use crate::adding::NewPuddle;
 use crate::puts::{add_put, number_put};
 use batch::Batch;
 use pm_model::{Host, HostFault};
@@ -46,7 +46,7 @@ fn add_types(batch: &mut Batch, types: &[NewType])
 }
 
 /// Adds the records of the puddles to the batch.
-fn add_puddles(batch: &mut Batch, puddles: &[Added])
+fn add_puddles(batch: &mut Batch, puddles: &[NewPuddle])
     requires within { All (IsAddedWithin MAX_FRAMES) puddles.now }
     ensures { words_of batch.old + words_of (puts_batch (puddle_records puddles.now)) ≤ LOG_ENTRY_WORDS → batch.new ≡ batch.old ++ puts_batch (puddle_records puddles.now) }
 {
@@ -56,7 +56,7 @@ fn add_puddles(batch: &mut Batch, puddles: &[Added])
 }
 
 /// The batch that places the pool of this record in the slot, with its types and its puddles.
-fn placing(slot: u32, rec: PoolRecord, types: &[NewType], puddles: &[Added]) -> Batch
+fn placing(slot: u32, rec: PoolRecord, types: &[NewType], puddles: &[NewPuddle]) -> Batch
     requires slot { slot < POOL_RECORDS }
     requires number { rec.number < NUMBER_LIMIT }
     requires types { length types.now ≤ TYPE_RECORDS }
@@ -86,7 +86,7 @@ pub fn place_pool<H: Host>(
     slot: u32,
     rec: PoolRecord,
     types: &[NewType],
-    puddles: &[Added],
+    puddles: &[NewPuddle],
 ) -> Result<(), HostFault>
     requires few { frames ≤ MAX_FRAMES }
     requires room { device_words frames ≤ (H.counts h.old).size }

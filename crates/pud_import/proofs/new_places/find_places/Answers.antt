@@ -10,7 +10,7 @@ use Rattle.pud_defs.specs.Keyed.{first_free, count_used}
 use Rattle.pud_defs.specs.Placement.{IsBaseFor, ArePlacedFrom}
 use Rattle.pud_defs.specs.Tables.{tables_of}
 use Rattle.pud_defs.proofs.TablesOf.{frames_of_tables}
-use Rattle.registry.specs.declared.adding.Added.{Added}
+use Rattle.registry.specs.declared.adding.NewPuddle.{NewPuddle}
 use Rattle.registry.specs.Adding.{IsAddedWithin}
 use Rattle.registry.specs.Placing.{puddle_of}
 use Rattle.pud_import.specs.declared.placing.PlaceFault.TheVariants as faults
@@ -29,10 +29,10 @@ loop-ordinal-init g c =
     record {
       count = ap length c.new-puddles.ensures;
       many = ap length c.new-bases.ensures;
-      found = subst (λ (ps : List Added). AreFound F slot next 0 0 c.new-bases.result.items ps) (sym c.new-puddles.ensures) (subst (λ (bs : List ℕ). AreFound F slot next 0 0 bs []) (sym c.new-bases.ensures) (found_none F slot next));
+      found = subst (λ (ps : List NewPuddle). AreFound F slot next 0 0 c.new-bases.result.items ps) (sym c.new-puddles.ensures) (subst (λ (bs : List ℕ). AreFound F slot next 0 0 bs []) (sym c.new-bases.ensures) (found_none F slot next));
       only_reads = OnlyReads-none;
       counted = λ t image same. counted_none (tables_of F image).puddles F;
-      turn = λ t image same. subst (λ (ps : List Added). ArePlacedFrom (tables_of F image) 0 [] [] (map puddle_of ps)) (sym c.new-puddles.ensures) tt;
+      turn = λ t image same. subst (λ (ps : List NewPuddle). ArePlacedFrom (tables_of F image) 0 [] [] (map puddle_of ps)) (sym c.new-puddles.ensures) tt;
     }
 
 pub returns-in_err-frame-clause-refusal : goal.returns-in_err-frame-clause-refusal
@@ -59,7 +59,7 @@ loop-ordinal-preserved g c =
     let now = c.loop-ordinal.invariant in
     let frame = c.in_ok-frame.frame in
     let old_base = c.base-old_base.result in
-    let a : Added = record { frame = frame; puddle = record { pool = slot; ordinal = o; number = next + 1 + c.from.result; base = c.in_ok-base.base; old_base = old_base; frontier = 0 } } in
+    let a : NewPuddle = record { frame = frame; puddle = record { pool = slot; ordinal = o; number = next + 1 + c.from.result; base = c.in_ok-base.base; old_base = old_base; frontier = 0 } } in
     let one : IsPuddleAt slot next o a = record { pool = refl; is_ordinal = refl; number = ap (λ (n : ℕ). next + 1 + n) c.from.ensures } in
     let within : IsAddedWithin F a = record {
       frame = c.in_ok-frame.ensures.within;
@@ -70,7 +70,7 @@ loop-ordinal-preserved g c =
       count = omega (arith, c.push-in-loop-ordinal.ensures.len, now.count);
       many = omega (arith, c.push.ensures.len, now.many);
       found =
-          subst (λ (ps : List Added). AreFound F slot next (o + 1) (frame + 1) c.push.new.self.items ps) (sym c.push-in-loop-ordinal.ensures.items)
+          subst (λ (ps : List NewPuddle). AreFound F slot next (o + 1) (frame + 1) c.push.new.self.items ps) (sym c.push-in-loop-ordinal.ensures.items)
           (subst (λ (bs : List ℕ). AreFound F slot next (o + 1) (frame + 1) bs (puddles ++ a ∷ [])) (sym c.push.ensures.items) (found_more F slot next o from bases puddles now.found a one within));
       only_reads = OnlyReads-then {fault = None} (OnlyReads-then {fault = None} now.only_reads c.in_ok-frame.ensures.only_reads) c.in_ok-base.ensures.only_reads;
       counted = λ t image same. counted_more (tables_of F image).puddles F o from frame (now.counted t image same) (c.in_ok-frame.ensures.frame t image (still_reads now.only_reads t same));
@@ -83,7 +83,7 @@ loop-ordinal-preserved g c =
           ap (map base) (map-range_with_len_more puddle 0 o o (omega arith)) ∙ map-append base (map puddle (range_with_len 0 o)) (puddle o ∷ []) ∙ ap (λ (b : ℕ). wanted ++ b ∷ []) (sym c.base-old_base.ensures) in
           let read = still_reads now.only_reads t same in
           let given = subst (λ (bs : List ℕ). IsBaseFor tables bs old_base a.puddle.base) c.as_slice.ensures.value (c.in_ok-base.ensures.base t image (still_reads {fault = None} c.in_ok-frame.ensures.only_reads t read)) in
-          subst (λ (ps : List Added). ArePlacedFrom tables 0 [] (map base (map puddle (range_with_len 0 (o + 1)))) (map puddle_of ps)) (sym c.push-in-loop-ordinal.ensures.items)
+          subst (λ (ps : List NewPuddle). ArePlacedFrom tables 0 [] (map base (map puddle (range_with_len 0 (o + 1)))) (map puddle_of ps)) (sym c.push-in-loop-ordinal.ensures.items)
           (subst (λ (w : List ℕ). ArePlacedFrom tables 0 [] w (map puddle_of (puddles ++ a ∷ []))) (sym longer)
           (placed_next F slot next o from bases puddles now.found a tables wanted (frames_of_tables F image) (now.turn t image same) (c.in_ok-frame.ensures.frame t image read) given));
     }

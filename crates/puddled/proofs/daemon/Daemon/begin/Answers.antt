@@ -10,7 +10,7 @@ use Rattle.pud_defs.specs.Step.{world_by}
 use Rattle.ready_daemon.specs.Beginning.{MayBegin}
 use Rattle.ready_daemon.specs.PoolKnowledge.{known_puddles_in}
 use Rattle.ready_daemon.specs.Owning.{refusal_found}
-use Rattle.puddled.specs.declared.finding.Found.{Found}
+use Rattle.puddled.specs.declared.finding.FoundPool.{FoundPool}
 use Rattle.puddled.specs.declared.finding.Need.TheVariants as needs
 use Rattle.puddled.specs.Finding.{needs_graph, IsFound}
 use Rattle.puddled.proofs.Frontiers.{AppliesAs-none}
@@ -59,7 +59,7 @@ returns-in-None-clause-carries g c = λ t size e w ready.
     let s = g.H.Host.state c.find_pool.new.h in
     let here = finds size w needs.Write c.args.client c.args.name c.args.self.now now _ s _ c.in-Ok.found c.in-Ok.is (k.only_reads.stays t) k.sessions (k.ready t size w ready) (k.refusal t size w ready) (k.found t size w ready) k.whose in
     let at = unwrap_or (known_puddles_in now.judged slot) [] in
-    let known = subst (λ (r : Result Found Refusal). IfOk r (λ f. needs_graph needs.Write ≡ true → true ≡ is_some (known_puddles_in now.judged f.slot))) c.in-Ok.is k.known refl in
+    let known = subst (λ (r : Result FoundPool Refusal). IfOk r (λ f. needs_graph needs.Write ≡ true → true ≡ is_some (known_puddles_in now.judged f.slot))) c.in-Ok.is k.known refl in
     let there = there_is (known_puddles_in now.judged slot) [] known in
     let may = may_begin size w now s here.ready c.args.client c.args.name slot here.is.rec here.is.is at c.requires.known here.free (here.is.known refl) in
     let might = subst (λ F. MayBegin F c.args.client c.args.name (reads s.now.words) slot at) (sym here.ready.frames) may in
@@ -73,5 +73,5 @@ returns-in-None-clause-carries g c = λ t size e w ready.
 pub returns-in-None-clause-nested : goal.returns-in-None-clause-nested
 returns-in-None-clause-nested g c = λ t size w ready running is.
     let k = c.in_ok-refusal.ensures in
-    let found = subst (λ (r : Result Found Refusal). IfOk r (IsFound w needs.Write c.args.client c.args.name (reads (g.H.Host.state c.args.h.now).now.words) c.find_pool.new.self)) c.in-Ok.is (k.found t size w ready) in
+    let found = subst (λ (r : Result FoundPool Refusal). IfOk r (IsFound w needs.Write c.args.client c.args.name (reads (g.H.Host.state c.args.h.now).now.words) c.find_pool.new.self)) c.in-Ok.is (k.found t size w ready) in
     absurd (none-some running (sym (found.none c.in-None.is) ∙ is))

@@ -5,7 +5,7 @@ use Rattle.nesting.specs.declared.Session.{Session}
 use Rattle.nesting.specs.Sessions.{depth_in, left}
 use Rattle.ready_daemon.specs.Memory.{Memory}
 use Rattle.puddled.proofs.Depth.{Applies-rises}
-use Rattle.puddled.proofs.Releasing.{IsReleased, Applies-own_ended}
+use Rattle.puddled.proofs.TransactionTaken.{IsReleased, Applies-own_ended}
 use Rattle.puddled.proofs.daemon.Daemon.commit_own.Goals as goal
 
 pub returns-then-depth-gt1-clause-applies : goal.returns-then-depth-gt1-clause-applies
@@ -24,15 +24,15 @@ returns-in-Some-clause-applies g c = λ t size e w name ready own.
     let depth = ap (λ (m : Memory). depth_in m.sessions c.args.own.slot) c.self.view_is in
     let is = c.depth.ensures.depth in
     let last = c.if-depth-gt1.false in
-    let r = c.release.ensures in
-    let released : IsReleased c.args.own.log_number c.args.self.now c.release.new.self = record { active = r.active; sessions = r.sessions; judged = r.judged; frames = r.frames } in
+    let r = c.take_transaction.ensures in
+    let released : IsReleased c.args.own.log_number c.args.self.now c.take_transaction.new.self = record { active = r.active; sessions = r.sessions; judged = r.judged; frames = r.frames } in
     let there = sym r.opened ∙ c.in-Some.is in
-    Applies-own_ended c.args.own.log_number c.args.self.now c.release.new.self released size w (fault_of c.commit.result) _ _ c.in-Some.opened c.args.client name c.args.own.slot there own (omega (arith, depth, is, last))
+    Applies-own_ended c.args.own.log_number c.args.self.now c.take_transaction.new.self released size w (fault_of c.commit.result) _ _ c.in-Some.opened c.args.client name c.args.own.slot there own (omega (arith, depth, is, last))
     (c.commit.ensures.applies t size e w c.args.self.now c.args.own.log_number (ap (λ (m : Memory). m.frames) (sym c.self.view_is)) there ready)
 
 -- the client's own is held
 pub returns-in-None-clause-applies : goal.returns-in-None-clause-applies
-returns-in-None-clause-applies g c = λ t size e w name ready own. absurd (none-some own.own.active (sym (sym c.release.ensures.opened ∙ c.in-None.is) ∙ own.own.is))
+returns-in-None-clause-applies g c = λ t size e w name ready own. absurd (none-some own.own.active (sym (sym c.take_transaction.ensures.opened ∙ c.in-None.is) ∙ own.own.is))
 
 -- ---- begun more often than once
 

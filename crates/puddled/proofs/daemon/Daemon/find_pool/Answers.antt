@@ -11,8 +11,8 @@ use Rattle.ready_daemon.specs.PoolKnowledge.{known_puddles_in}
 use Rattle.ready_daemon.specs.Owning.{refusal_found}
 use Rattle.ready_daemon.specs.Ready.{IsReady}
 use Rattle.ready_daemon.proofs.Pooling.{acting, absent}
-use Rattle.puddled.specs.declared.finding.Found.{Found}
-use Rattle.puddled.specs.Finding.{beside, IsRecordOf, IsFound}
+use Rattle.puddled.specs.declared.finding.FoundPool.{FoundPool}
+use Rattle.puddled.specs.Finding.{found_unless_busy, IsRecordOf, IsFound}
 use Rattle.puddled.proofs.Commanding.{ready_read}
 use Rattle.puddled.proofs.Found.{need_client, need_pool, need_wild, need_denied, need_beside, refusal_beside_it, found_beside}
 use Rattle.puddled.proofs.daemon.Daemon.find_pool.Goals as goal
@@ -55,7 +55,7 @@ returns-clause-refusal g c = λ t size w ready.
     let before = ready_read size w _ _ _ same ready in
     let now = subst (λ (m : Memory). IsReady size w m (g.H.Host.state c.args.h.now)) (sym c.self.view_is) (ready_read size w _ _ _ (sym same) (c.in_ok-lacks_graph.ensures.ready t size w before)) in
     let lacks = c.in_ok-lacks_graph.ensures.lacks t size w before c.args.name c.in-Some-2.rec (subst (λ (s : State). IsRecordOf w.stored.frames c.args.name (reads s.now.words) c.in-Some-2.slot c.in-Some-2.rec) (sym same) there) in
-    ap refusal_found (c.beside.ensures ∙ ap (λ (o : Option Session). beside o c.args.client c.in-Some-2.slot c.in-Some-2.rec.number) c.session.ensures.session)
+    ap refusal_found (c.found_unless_busy.ensures ∙ ap (λ (o : Option Session). found_unless_busy o c.args.client c.in-Some-2.slot c.in-Some-2.rec.number) c.session.ensures.session)
     ∙ refusal_beside_it size w view _ now c.args.client c.args.name c.in-Some-2.slot c.in-Some-2.rec there c.in-Some-2.rec.number
     ∙ sym (need_beside size w view _ now c.args.client c.args.name c.in-Some-2.slot c.in-Some-2.rec there c.args.need c.in-Some.who.uid c.in-Some.who.gid who.is (sym c.if-branch.false ∙ lacks) (sym c.if-not-has_right.false ∙ c.has_right.ensures))
 
@@ -67,8 +67,8 @@ returns-clause-found g c = λ t size w ready.
     let same = c.find.ensures.only_reads.stays t ∙ c.owner.ensures.only_reads.stays t in
     let now = subst (λ (m : Memory). IsReady size w m (g.H.Host.state c.args.h.now)) (sym c.self.view_is) (ready_read size w _ _ _ (sym same) (c.in_ok-lacks_graph.ensures.ready t size w (ready_read size w _ _ _ same ready))) in
     let judged = ap (λ (m : Memory). m.judged) c.self.view_is in
-    subst (λ (m : Memory). IfOk c.beside.result (IsFound w c.args.need c.args.client c.args.name (reads (g.H.Host.state c.args.h.now).now.words) m)) c.self.view_is
-    (subst (λ (r : Result Found Refusal). IfOk r (IsFound w c.args.need c.args.client c.args.name (reads (g.H.Host.state c.args.h.now).now.words) view))
-    (sym (c.beside.ensures ∙ ap (λ (o : Option Session). beside o c.args.client c.in-Some-2.slot c.in-Some-2.rec.number) c.session.ensures.session))
+    subst (λ (m : Memory). IfOk c.found_unless_busy.result (IsFound w c.args.need c.args.client c.args.name (reads (g.H.Host.state c.args.h.now).now.words) m)) c.self.view_is
+    (subst (λ (r : Result FoundPool Refusal). IfOk r (IsFound w c.args.need c.args.client c.args.name (reads (g.H.Host.state c.args.h.now).now.words) view))
+    (sym (c.found_unless_busy.ensures ∙ ap (λ (o : Option Session). found_unless_busy o c.args.client c.in-Some-2.slot c.in-Some-2.rec.number) c.session.ensures.session))
     (found_beside size w view _ now c.args.client c.args.name c.in-Some-2.slot c.in-Some-2.rec there c.args.need
     (λ needed. subst (λ js. true ≡ is_some (known_puddles_in js c.in-Some-2.slot)) (sym judged) (c.in_ok-lacks_graph.ensures.known c.if-branch.false needed))))

@@ -4,7 +4,7 @@ use Rattle.ready_daemon.specs.PoolKnowledge.{AreOnDevice}
 use Rattle.ready_daemon.specs.Memory.{ActiveTransaction}
 use Rattle.ready_daemon.proofs.ActiveUnder.{AreActiveWithin-set, read_within}
 use Rattle.ready_daemon.proofs.Known.{AreOnDevice-alone}
-use Rattle.puddled.proofs.daemon.Daemon.release.Goals as goal
+use Rattle.puddled.proofs.daemon.Daemon.take_transaction.Goals as goal
 
 pub end-requires : goal.end-requires
 end-requires c =
