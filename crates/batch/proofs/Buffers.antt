@@ -6,7 +6,7 @@ use Rattle.pud_defs.specs.declared.layout.TheConstants.{LOG_ENTRY_WORDS, ENTRY_H
 use Rattle.pud_defs.specs.Entries.{Entry, IsLegalEntry, spelled, entries_in}
 use Rattle.pud_defs.specs.Replay.{entries_or_none}
 use Rattle.pud_defs.proofs.Entries.{entries_in-nothing, entries_in-one_more}
-use Rattle.batch.specs.Batches.{entries_spelled, words_of, IsBatchEntry, AreBatched, IsBuffer}
+use Rattle.batch.specs.Batches.{entries_spelled, word_count_of, IsBatchEntry, AreBatched, IsBuffer}
 
 pub nothing_spelled : (words : List ℕ) → entries_spelled 0 words ≡ []
 nothing_spelled words = ap entries_or_none (entries_in-nothing [] refl)
@@ -16,7 +16,7 @@ IsBuffer-empty words =
     record {
       within = omega arith;
       spells = entries_in-nothing [] refl ∙ ap Some (sym (nothing_spelled words));
-      count = ap words_of (sym (nothing_spelled words));
+      count = ap word_count_of (sym (nothing_spelled words));
       batched = subst (λ (es : List Entry). AreBatched es) (sym (nothing_spelled words)) (λ k d below. absurd (omega arith));
     }
 
@@ -41,7 +41,7 @@ has_more used words e n after buffer legal batched count within there =
       buffer = record {
         within = within;
         spells = spells ∙ ap Some (sym entries);
-        count = count ∙ (let sum : used + (length e.vals + ENTRY_HEADER_WORDS) ≡ words_of (es ++ e ∷ []) = omega (arith, sum_by-append (λ (x : Entry). length x.vals + ENTRY_HEADER_WORDS) es (e ∷ [])) in sum) ∙ ap words_of (sym entries);
+        count = count ∙ (let sum : used + (length e.vals + ENTRY_HEADER_WORDS) ≡ word_count_of (es ++ e ∷ []) = omega (arith, sum_by-append (λ (x : Entry). length x.vals + ENTRY_HEADER_WORDS) es (e ∷ [])) in sum) ∙ ap word_count_of (sym entries);
         batched = subst (λ (fs : List Entry). AreBatched fs) (sym entries) (All-append IsBatchEntry es (e ∷ []) buffer.batched (one_batched e batched));
       };
     }

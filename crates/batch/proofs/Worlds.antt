@@ -17,7 +17,7 @@ use Rattle.pud_defs.specs.Image.{Image}
 use Rattle.pud_defs.specs.Layout.{device_words}
 use Rattle.pud_defs.specs.Entries.{Entry, is_idle_gate}
 use Rattle.pud_defs.specs.Replay.{device_word, overwritten, is_in_log, settled_by}
-use Rattle.pud_defs.specs.Registry.{frames_of, may_be_logged, is_allowed, has_legal_log}
+use Rattle.pud_defs.specs.Registry.{frames_of, may_be_logged, is_loggable, has_legal_log}
 use Rattle.pud_defs.specs.World.{StoredWorld, idle_registry, idle_world_of}
 use Rattle.pud_defs.proofs.Replay.{overwritten-stays, overwritten-there, settled_by-idle, outside_log, within_log}
 use Rattle.pud_defs.proofs.Logged.{IsUnlogged, unlogged, lies_apart, allowed_in_range, new_value-allowed, has_legal_log-of}
@@ -36,10 +36,10 @@ names_apart F size e room may =
     let lies = lies_apart F size e.address (length e.vals) room may in
     record { first = e.address; placed = refl; within = lies.within; apart = lies.apart }
 
-all_apart : (F size : ℕ) (all es : List Entry) → device_words F ≤ size → AreBatched es → list_all (is_allowed F (committed all)) es ≡ true → All (NamesApart device_word size DAEMON_LOG) es
+all_apart : (F size : ℕ) (all es : List Entry) → device_words F ≤ size → AreBatched es → list_all (is_loggable F (committed all)) es ≡ true → All (NamesApart device_word size DAEMON_LOG) es
 all_apart F size all [] room batched allowed = All-nil (NamesApart device_word size DAEMON_LOG)
 all_apart F size all (e ∷ es) room batched allowed =
-    let parts = and_parts (is_allowed F (committed all) e) (list_all (is_allowed F (committed all)) es) allowed in
+    let parts = and_parts (is_loggable F (committed all) e) (list_all (is_loggable F (committed all)) es) allowed in
     let may = allowed_in_range F (committed all) e parts.0 (counts all e (All-head IsBatchEntry e es batched)) in
     All-cons (NamesApart device_word size DAEMON_LOG) e es (names_apart F size e room may) (all_apart F size all es room (All-tail IsBatchEntry e es batched) parts.1)
 

@@ -18,8 +18,8 @@ abbrev pub batch_entry : ℕ → List ℕ → Entry
 batch_entry w vals = record { address = w; seq = REDO_SEQ; order = REDO_ORDER; vals = vals }
 
 -- how many entry words the entries take
-abbrev pub words_of : List Entry → ℕ
-words_of es = sum_by (λ e. length e.vals + ENTRY_HEADER_WORDS) es
+abbrev pub word_count_of : List Entry → ℕ
+word_count_of es = sum_by (λ e. length e.vals + ENTRY_HEADER_WORDS) es
 
 -- what the entries of a batch write: of two that name a word the later counts
 unfoldable pub batch_write : List Entry → Write
@@ -42,7 +42,7 @@ entries_spelled used words = entries_or_none (entries_in 0 (take used words))
 pub record IsBuffer (used : ℕ) (words : List ℕ) : Type 0 where
   pub within : used ≤ LOG_ENTRY_WORDS
   pub spells : entries_in 0 (take used words) ≡ Some (entries_spelled used words)
-  pub count : used ≡ words_of (entries_spelled used words)
+  pub count : used ≡ word_count_of (entries_spelled used words)
   pub batched : AreBatched (entries_spelled used words)
 
 -- the log whose gate is this word counts nothing in each image

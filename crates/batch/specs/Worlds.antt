@@ -9,7 +9,7 @@ use Rattle.pud_defs.specs.declared.layout.TheConstants.{DAEMON_LOG}
 use Rattle.pud_defs.specs.Image.{Image}
 use Rattle.pud_defs.specs.Entries.{Entry, is_idle_gate}
 use Rattle.pud_defs.specs.Replay.{overwritten, is_in_log, settled_by}
-use Rattle.pud_defs.specs.Registry.{is_allowed}
+use Rattle.pud_defs.specs.Registry.{is_loggable}
 use Rattle.pud_defs.specs.World.{StoredWorld, idle_registry, idle_world_of}
 use Rattle.batch.specs.Batches.{batch_write, committed, IsBatched, Commits}
 
@@ -25,7 +25,7 @@ with_batch es image = overwritten (batch_write es) (settled_by DAEMON_LOG image)
 -- What a batch owes that is to make the next world of one: its entries lie where the daemon log may write, and with their words over it each
 -- image that may be left stands for the next, with each registered log closed.
 pub record MovesBy (size : ℕ) (s next : StoredWorld) (es : List Entry) (words : Words) : Type 0 where
-  pub allowed : list_all (is_allowed s.frames (committed es)) es ≡ true
+  pub allowed : list_all (is_loggable s.frames (committed es)) es ≡ true
   pub stands : (image : Image) → Picks words image → idle_registry size (with_batch es image) ≡ Some next
 
 -- An image of the batch that stands for the world before, and is as it was once the daemon log is replayed, or for the next, and then has all of

@@ -13,7 +13,7 @@ ghost use Rattle.log_replay.specs.Replaying.{Anything};
 ghost use Rattle.pud_defs.specs.declared.layout.TheConstants.{DAEMON_LOG, LOG_WORDS, LOG_ENTRY_WORDS, ENTRY_HEADER_WORDS, MAX_ENTRY_VALUES};
 ghost use Rattle.pud_defs.specs.Entries.{Entry, entries_in};
 ghost use Rattle.pud_defs.specs.World.{StoredWorld};
-ghost use Rattle.batch.specs.Batches.{batch_entry, words_of, AreBatched, IsFree, ByBatch, Prepares, Commits};
+ghost use Rattle.batch.specs.Batches.{batch_entry, word_count_of, AreBatched, IsFree, ByBatch, Prepares, Commits};
 ghost use Rattle.batch.specs.Worlds.{IsQuiescent, MovesBy, Moves};
 
 use log_entry::encode;
@@ -100,8 +100,8 @@ impl Batch {
     pub fn add(&mut self, w: u32, vals: &[u64]) -> Result<(), TooBig>
         requires some { 1 ≤ length vals.now }
         requires no_more { length vals.now ≤ MAX_ENTRY_VALUES }
-        ensures too_big { (IsErr result) ↔ (LOG_ENTRY_WORDS < words_of self.old + (length vals.now + ENTRY_HEADER_WORDS)) }
-        ensures added { words_of self.old + (length vals.now + ENTRY_HEADER_WORDS) ≤ LOG_ENTRY_WORDS
+        ensures too_big { (IsErr result) ↔ (LOG_ENTRY_WORDS < word_count_of self.old + (length vals.now + ENTRY_HEADER_WORDS)) }
+        ensures added { word_count_of self.old + (length vals.now + ENTRY_HEADER_WORDS) ≤ LOG_ENTRY_WORDS
             → self.new ≡ self.old ++ batch_entry w vals.now ∷ [] }
         ensures failed { OnErr result (self.new ≡ self.old) }
     {

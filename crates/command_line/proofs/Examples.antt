@@ -1,20 +1,20 @@
 -- What words ask for, by computation.
 use Rattle.std.specs.Prelude.{◌≡◌, [], ◌∷◌, Some, None, codes, refl}
-use Rattle.pud_defs.specs.Grammar.{number_of}
+use Rattle.pud_defs.specs.Grammar.{decimal_of}
 use Rattle.command_line.specs.declared.modes.Mode.TheVariants.{Format, Run, Layout, Check, Gen}
 use Rattle.command_line.specs.CommandLine.{mode_of}
 
 -- each mode
 format : mode_of (codes "puddle" ∷ codes "format" ∷ codes "4" ∷ codes "7" ∷ []) ≡ Some (Format 4 7)
-unfolding number_of
+unfolding decimal_of
 format = refl
 
 least : mode_of (codes "puddle" ∷ codes "format" ∷ codes "4" ∷ codes "0" ∷ []) ≡ Some (Format 4 0)
-unfolding number_of
+unfolding decimal_of
 least = refl
 
 most : mode_of (codes "puddle" ∷ codes "format" ∷ codes "1024" ∷ codes "18446744073709551615" ∷ []) ≡ Some (Format 1024 18446744073709551615)
-unfolding number_of
+unfolding decimal_of
 most = refl
 
 run : mode_of (codes "puddle" ∷ codes "run" ∷ []) ≡ Some Run
@@ -27,15 +27,15 @@ check : mode_of (codes "puddle" ∷ codes "check" ∷ []) ≡ Some Check
 check = refl
 
 gen : mode_of (codes "puddle" ∷ codes "gen" ∷ codes "1" ∷ codes "3" ∷ []) ≡ Some (Gen 1 3)
-unfolding number_of
+unfolding decimal_of
 gen = refl
 
 least_of_gen : mode_of (codes "puddle" ∷ codes "gen" ∷ codes "0" ∷ codes "1" ∷ []) ≡ Some (Gen 0 1)
-unfolding number_of
+unfolding decimal_of
 least_of_gen = refl
 
 most_of_gen : mode_of (codes "puddle" ∷ codes "gen" ∷ codes "65535" ∷ codes "992" ∷ []) ≡ Some (Gen 65535 992)
-unfolding number_of
+unfolding decimal_of
 most_of_gen = refl
 
 -- too few words and too many
@@ -68,43 +68,43 @@ third_number_of_gen = refl
 
 -- numbers out of range and in another form
 too_few_frames : mode_of (codes "puddle" ∷ codes "format" ∷ codes "3" ∷ codes "7" ∷ []) ≡ None
-unfolding number_of
+unfolding decimal_of
 too_few_frames = refl
 
 too_many_frames : mode_of (codes "puddle" ∷ codes "format" ∷ codes "1025" ∷ codes "7" ∷ []) ≡ None
-unfolding number_of
+unfolding decimal_of
 too_many_frames = refl
 
 too_large_an_id : mode_of (codes "puddle" ∷ codes "format" ∷ codes "4" ∷ codes "18446744073709551616" ∷ []) ≡ None
-unfolding number_of
+unfolding decimal_of
 too_large_an_id = refl
 
 too_large_a_seed : mode_of (codes "puddle" ∷ codes "gen" ∷ codes "65536" ∷ codes "3" ∷ []) ≡ None
-unfolding number_of
+unfolding decimal_of
 too_large_a_seed = refl
 
 no_objects : mode_of (codes "puddle" ∷ codes "gen" ∷ codes "1" ∷ codes "0" ∷ []) ≡ None
-unfolding number_of
+unfolding decimal_of
 no_objects = refl
 
 too_many_objects : mode_of (codes "puddle" ∷ codes "gen" ∷ codes "1" ∷ codes "993" ∷ []) ≡ None
-unfolding number_of
+unfolding decimal_of
 too_many_objects = refl
 
 sign : mode_of (codes "puddle" ∷ codes "format" ∷ codes "+4" ∷ codes "7" ∷ []) ≡ None
-unfolding number_of
+unfolding decimal_of
 sign = refl
 
 minus : mode_of (codes "puddle" ∷ codes "format" ∷ codes "4" ∷ codes "-7" ∷ []) ≡ None
-unfolding number_of
+unfolding decimal_of
 minus = refl
 
 leading_zero : mode_of (codes "puddle" ∷ codes "format" ∷ codes "04" ∷ codes "7" ∷ []) ≡ None
-unfolding number_of
+unfolding decimal_of
 leading_zero = refl
 
 empty_number : mode_of (codes "puddle" ∷ codes "format" ∷ codes "4" ∷ codes "" ∷ []) ≡ None
-unfolding number_of
+unfolding decimal_of
 empty_number = refl
 
 -- no other word, no help, no version and no option
@@ -130,7 +130,7 @@ version : mode_of (codes "puddle" ∷ codes "--version" ∷ []) ≡ None
 version = refl
 
 option : mode_of (codes "puddle" ∷ codes "format" ∷ codes "--frames=4" ∷ codes "--id=7" ∷ []) ≡ None
-unfolding number_of
+unfolding decimal_of
 option = refl
 
 -- one `--` behind the mode's word, and none before it
@@ -144,24 +144,24 @@ dashes_behind_run : mode_of (codes "puddle" ∷ codes "run" ∷ codes "--" ∷ [
 dashes_behind_run = refl
 
 dashes_before_frames : mode_of (codes "puddle" ∷ codes "format" ∷ codes "--" ∷ codes "4" ∷ codes "7" ∷ []) ≡ Some (Format 4 7)
-unfolding number_of
+unfolding decimal_of
 dashes_before_frames = refl
 
 dashes_between : mode_of (codes "puddle" ∷ codes "format" ∷ codes "4" ∷ codes "--" ∷ codes "7" ∷ []) ≡ Some (Format 4 7)
-unfolding number_of
+unfolding decimal_of
 dashes_between = refl
 
 dashes_within_gen : mode_of (codes "puddle" ∷ codes "gen" ∷ codes "1" ∷ codes "--" ∷ codes "3" ∷ []) ≡ Some (Gen 1 3)
-unfolding number_of
+unfolding decimal_of
 dashes_within_gen = refl
 
 dashes_at_the_end : mode_of (codes "puddle" ∷ codes "format" ∷ codes "4" ∷ codes "7" ∷ codes "--" ∷ []) ≡ Some (Format 4 7)
-unfolding number_of
+unfolding decimal_of
 dashes_at_the_end = refl
 
 dashes_twice : mode_of (codes "puddle" ∷ codes "run" ∷ codes "--" ∷ codes "--" ∷ []) ≡ None
 dashes_twice = refl
 
 dashes_for_an_id : mode_of (codes "puddle" ∷ codes "format" ∷ codes "4" ∷ codes "--" ∷ codes "--" ∷ []) ≡ None
-unfolding number_of
+unfolding decimal_of
 dashes_for_an_id = refl

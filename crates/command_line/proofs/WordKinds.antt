@@ -9,7 +9,7 @@ use Rattle.clap.specs.Walk.{Held, Row, Rule, Text, after_flag, arg_by_long, arg_
 use Rattle.clap.specs.Faults.{bundle_fault, bundle_step_fault, flag_word_fault, flags_fault, long_fault, short_fault}
 use Rattle.clap.specs.declared.error.kind.ErrorKind.TheVariants.{UnknownArgument}
 use Rattle.clap.proofs.WalkLemmas.{bundle_ends}
-use Rattle.pud_defs.specs.Grammar.{number_of, number_within}
+use Rattle.pud_defs.specs.Grammar.{decimal_of, number_within}
 
 -- no argument is an option
 pub record HasNoOptions (rules : List Rule) : Type 0 where
@@ -39,7 +39,7 @@ pub data WordKind (rules : List Rule) (word : Text) : Type 0 where
 
 -- what begins with a hyphen is no number
 hyphen_is_no_number : (bytes : Text) (least end : ℕ) → number_within least end (45 ∷ bytes) ≡ None
-unfolding number_of
+unfolding decimal_of
 hyphen_is_no_number bytes least end = rw (and-false _) refl
 
 module _ (rules : List Rule) where

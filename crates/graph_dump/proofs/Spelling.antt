@@ -12,7 +12,7 @@ use Rattle.serde_json.specs.declared.value.Value.{Value, the_lemmas}
 use Rattle.serde_json.specs.declared.value.Value as value
 use Rattle.serde_json.proofs.OnLiterals.{serde_json_on_literals}
 use Rattle.pud_defs.specs.Graph.{Object}
-use Rattle.pud_defs.specs.DumpText.{joined_behind, joined, pointer_text, field_text, object_text}
+use Rattle.pud_defs.specs.DumpText.{joined_behind, joined, pointer_text, value_text, object_text}
 use Rattle.pud_defs.proofs.DumpText.{IsDigit, decimal-digits}
 use Rattle.graph_dump.specs.Spelled.{Spells, SpellsEach}
 
@@ -74,14 +74,14 @@ abbrev pub object_data : (serial type_id : ℕ) → json_data.Items → json_dat
 object_data serial type_id fields =
     json_data.object (json_data.member (codes "fields") (json_data.array fields) (json_data.member (codes "serial") (json_data.number (json_data.unsigned serial)) (json_data.member (codes "type") (json_data.number (json_data.unsigned type_id)) json_data.no_members)))
 
-module _ (serial : ℕ) (o : Object) (values : List Value) (each : SpellsEach (map field_text o.fields) values) where
+module _ (serial : ℕ) (o : Object) (values : List Value) (each : SpellsEach (map value_text o.fields) values) where
   object_floatless : has_float (object_data serial o.type_id (items_of (map view values))) ≡ false
-  object_floatless = ap (λ b. b || false) (items_floatless (map field_text o.fields) values each)
+  object_floatless = ap (λ b. b || false) (items_floatless (map value_text o.fields) values each)
 
   object_spelled : compact_text (object_data serial o.type_id (items_of (map view values))) ≡ object_text (serial, o)
   unfolding serde_json_on_literals
   object_spelled =
-      let texts : List (List ℕ) = map field_text o.fields in
+      let texts : List (List ℕ) = map value_text o.fields in
       let behind : List ℕ = codes ",\"serial\":" ++ (decimal serial ++ (codes ",\"type\":" ++ (decimal o.type_id ++ codes "}"))) in
       ap (λ (l : List ℕ). codes "{\"fields\":[" ++ (l ++ behind)) (items_joined texts values each) ∙ ap (λ (l : List ℕ). codes "{\"fields\":[" ++ l) (append_assoc (joined texts) (codes "]") behind)
 

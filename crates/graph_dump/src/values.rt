@@ -1,7 +1,7 @@
 //! Parts of a graph as JSON values, and their text.
 
 ghost use Rattle.std.specs.Prelude.{◌≡◌, ◌++◌, map, IfOk, OnOk};
-ghost use Rattle.pud_defs.specs.DumpText.{pointer_text, field_text, object_text};
+ghost use Rattle.pud_defs.specs.DumpText.{pointer_text, value_text, object_text};
 ghost use Rattle.graph_dump.specs.Spelled.{Spells, SpellsEach, separator};
 
 use crate::object::ObjectRead;
@@ -21,7 +21,7 @@ pub(crate) fn pointer_value(alloc: Global, serial: u64) -> Result<Value, AllocEr
 
 /// A field.
 fn field_value(alloc: Global, field: FieldValue) -> Result<Value, AllocError>
-    ensures { IfOk result (Spells (field_text field)) }
+    ensures { IfOk result (Spells (value_text field)) }
 {
     match field {
         FieldValue::Num(value) => Ok(Value::from(value)),
@@ -31,7 +31,7 @@ fn field_value(alloc: Global, field: FieldValue) -> Result<Value, AllocError>
 
 /// Fields, in turn.
 fn field_values(alloc: Global, fields: &[FieldValue]) -> Result<Vec<Value>, AllocError>
-    ensures { IfOk result (λ values. SpellsEach (map field_text fields.now) values.items) }
+    ensures { IfOk result (λ values. SpellsEach (map value_text fields.now) values.items) }
 {
     let mut values = Vec::with_capacity(alloc, fields.len())?;
     for field in fields {

@@ -13,7 +13,7 @@ use Rattle.pud_defs.specs.Types.{map_of}
 use Rattle.pud_defs.specs.Spaces.{all_below}
 use Rattle.pud_defs.specs.Stored.{Stored, places_of, place_words, place_word, IsLivePlace}
 use Rattle.pud_defs.specs.Graph.{Number, Null, Table, table_of, slot_contents, slot_in, place_in, at_place, target, puddles_by, pointee_at, content, field_count, stands, has_header, headers_fit, Graph, next_serial_of, root_of, graph_of}
-use Rattle.pud_defs.specs.Exported.{address_of, exported_field, exported_object, number_in, exported_header}
+use Rattle.pud_defs.specs.Exported.{address_of, exported_field, exported_object, uuid_number_of, exported_header}
 use Rattle.pud_defs.proofs.Spaces.{all_below-from}
 use Rattle.pud_defs.proofs.Contents.{few_puddles}
 use Rattle.pud_defs.proofs.TypeMore.{defined_there}
@@ -72,7 +72,7 @@ module _ (types : List (ℕ × ℕ)) (st later : Stored) (bases : AreBases (map 
       let word = λ (k : ℕ) (low : k < FRAME_HEADER_WORDS). exported.headers o k below low in
       ap (has_header o (later.word o)) (ap (λ ds. slice_get ds o) exported.puddles ∙ at_rest_there st.puddles o d.0 d.1)
       ∙ and_from _ _
-      (and_from _ _ (eq-eqb (later.word o 0) FRAME_MAGIC (word 0 (omega arith))) (eq-eqb (later.word o 1) d.0.number (word 1 (omega arith) ∙ ap number_in d.1)))
+      (and_from _ _ (eq-eqb (later.word o 0) FRAME_MAGIC (word 0 (omega arith))) (eq-eqb (later.word o 1) d.0.number (word 1 (omega arith) ∙ ap uuid_number_of d.1)))
       (eq-eqb (later.word o 2) o (word 2 (omega arith)))
 
   headers-moved : headers_fit later ≡ true

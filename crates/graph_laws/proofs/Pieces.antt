@@ -16,7 +16,7 @@ use Rattle.pud_defs.specs.Stored.{Stored, places_of, place_words, place_word, pl
 use Rattle.pud_defs.specs.Types.{map_of}
 use Rattle.pud_defs.specs.Graph.{field_count}
 use Rattle.pud_defs.specs.ExportFile.{file_type_at, file_bases_at, file_frame_at, file_words, file_type, file_types, file_puddle, file_stored}
-use Rattle.pud_defs.specs.Exported.{exported_field, exported_object, exported_slot, number_in, exported_header, exported_frame, type_words, exported_words}
+use Rattle.pud_defs.specs.Exported.{exported_field, exported_object, exported_slot, uuid_number_of, exported_header, exported_frame, type_words, exported_words}
 use Rattle.graph_laws.proofs.Words.{few_fields}
 use Rattle.graph_laws.proofs.Chunks.{length-chunks, chunk, chunk-range, zeroes}
 
@@ -195,7 +195,7 @@ module _ (types : List (ℕ × ℕ)) (st : Stored) where
     puddle_read : (o : ℕ) (d : Puddle) → o < length st.puddles → slice_get st.puddles o ≡ Some d → file_puddle (slice_index written) (length used) (length st.puddles) o ≡ at_rest d
     unfolding exported_header
     puddle_read o d below here =
-        let number = frame_word o FRAME_NUMBER_WORD below (omega arith) ∙ header_word o FRAME_NUMBER_WORD (omega arith) ∙ ap number_in here in
+        let number = frame_word o FRAME_NUMBER_WORD below (omega arith) ∙ header_word o FRAME_NUMBER_WORD (omega arith) ∙ ap uuid_number_of here in
         let base = base_word o d below ∙ ap (λ (e : Puddle). e.base) (get_or_from_slice_get st.puddles o d d here) in
         λ k. record { number = number k; base = base k; old_base = base k; frontier = LAST_FRONTIER }
 

@@ -11,7 +11,7 @@ use Rattle.pud_defs.specs.Types.{map_of}
 use Rattle.pud_defs.specs.Stored.{Stored, places_of, place_begins, place_word}
 use Rattle.pud_defs.specs.Graph.{Content, Number, Null, slot_contents, slot_in, place_in, at_place, target, over_old, puddles_by, pointee_at, content, field_count, Graph, graph_of}
 use Rattle.pud_defs.proofs.Graphs.{graph_of-each}
-use Rattle.graph_laws.specs.Placed.{IsPlaced, AreFrontiers, KeepsBases, MovesBases}
+use Rattle.graph_laws.specs.Placed.{ArePlacedFrames, AreFrontiers, KeepsBases, MovesBases}
 use Rattle.graph_laws.proofs.Words.{few_fields, map-range_same}
 use Rattle.graph_laws.proofs.Pointers.{there_is_puddle}
 use Rattle.graph_laws.proofs.Same.{graph_of-kept}
@@ -69,7 +69,7 @@ pointers-moved file later ends moved o step v below low =
 
 -- ---- the graph
 
-module _ (types : List (ℕ × ℕ)) (file later : Stored) (placed : IsPlaced file later) (some : 1 ≤ length file.puddles) where
+module _ (types : List (ℕ × ℕ)) (file later : Stored) (placed : ArePlacedFrames file later) (some : 1 ≤ length file.puddles) where
   slot_word : (p j : ℕ) → p < places_of file → j < 32 → place_word later p j ≡ place_word file p j
   slot_word p j below low = placed.words (ordinal_of p) (place_begins file p + j) (omega arith) (omega arith) (λ is. absurd (omega arith))
 
@@ -86,7 +86,7 @@ module _ (types : List (ℕ × ℕ)) (file later : Stored) (placed : IsPlaced fi
       ap (λ (cs : List Content). Some cs)
       (map-range_same (λ f. content later.puddles m p f (place_word later p (SLOT_FIELDS_WORD + f))) (λ f. content file.puddles m p f (place_word file p (SLOT_FIELDS_WORD + f))) (field_count m) (λ f few. field-placed p m f below few))
 
-pub graph_of-placed : (types : List (ℕ × ℕ)) (file later : Stored) (g : Graph) → IsPlaced file later → 1 ≤ length file.puddles → graph_of types file ≡ Some g → graph_of types later ≡ Some g
+pub graph_of-placed : (types : List (ℕ × ℕ)) (file later : Stored) (g : Graph) → ArePlacedFrames file later → 1 ≤ length file.puddles → graph_of types file ≡ Some g → graph_of types later ≡ Some g
 graph_of-placed types file later g placed some is =
     graph_of-kept types file later g (record {
       puddles = placed.count;

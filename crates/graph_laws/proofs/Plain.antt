@@ -8,7 +8,7 @@ use Rattle.pud_defs.specs.Types.{map_of}
 use Rattle.pud_defs.specs.Stored.{Stored, places_of, place_words, place_word}
 use Rattle.pud_defs.specs.Graph.{field_count, Graph, next_serial_of, root_of, graph_of}
 use Rattle.pud_defs.specs.ExportFile.{types_used, is_zero, header_words_read, object_words_read, slot_words_read, is_plain}
-use Rattle.pud_defs.specs.Exported.{address_of, number_in, for_pool, exported_object, exported_header}
+use Rattle.pud_defs.specs.Exported.{address_of, uuid_number_of, for_pool, exported_object, exported_header}
 use Rattle.pud_defs.proofs.Spaces.{all_below-from}
 use Rattle.pud_defs.proofs.Graphs.{graph_of-each}
 use Rattle.graph_laws.specs.Changes.{AreBases}
@@ -30,7 +30,7 @@ module _ (st : Stored) (o : ℕ) where
   header_behind : (k : ℕ) → header_words_read 0 ≤ k → slice_index (exported_header st o) k ≡ 0
   unfolding exported_header
   header_behind k high =
-      let front : List ℕ = FRAME_MAGIC ∷ number_in (slice_get st.puddles o) ∷ o ∷ for_pool o (next_serial_of st) ∷ for_pool o (address_of st.puddles (root_of st)) ∷ [] in
+      let front : List ℕ = FRAME_MAGIC ∷ uuid_number_of (slice_get st.puddles o) ∷ o ∷ for_pool o (next_serial_of st) ∷ for_pool o (address_of st.puddles (root_of st)) ∷ [] in
       let rest : List ℕ = replicate (FRAME_HEADER_WORDS - 5) 0 in
       let at : k ≡ length front + (k - 5) = omega arith in
       ap (slice_index (front ++ rest)) at ∙ get_or-append-add front rest (k - 5) 0 ∙ zeroes (FRAME_HEADER_WORDS - 5) (k - 5)

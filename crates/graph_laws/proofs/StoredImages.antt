@@ -4,7 +4,7 @@ use Rattle.std.specs.Prelude.{slice_get}
 use Rattle.std.proofs.lemmas.Bool.{cases_eq, cases_lt, cond-true, cond-false, lt-ltb, le-ltb}
 use Rattle.pud_defs.specs.declared.layout.TheConstants.{FRAME_WORDS}
 use Rattle.pud_defs.specs.declared.records.Puddle.{Puddle}
-use Rattle.pud_defs.specs.Image.{Image, written}
+use Rattle.pud_defs.specs.Image.{Image, image_with}
 use Rattle.pud_defs.specs.Frames.{frame_at, frame_word}
 use Rattle.pud_defs.specs.Stored.{stored_in, word_in_frame}
 use Rattle.pud_defs.proofs.Images.{written_there, written_other}
@@ -27,7 +27,7 @@ stored_in-same F at i j agree =
 
 module _ (F : ℕ) (at : List (ℕ × Puddle)) (image : Image) (o k v : ℕ) (e : ℕ × Puddle) (distinct : HasDistinctFrames at) (here : slice_get at o ≡ Some e) (below : k < FRAME_WORDS) where
   abbrev after : Image
-  after = written (frame_at F e.0 + k) v image
+  after = image_with (frame_at F e.0 + k) v image
 
   word_there : word_in_frame F after k (slice_get at o) ≡ v
   word_there = ap (word_in_frame F after k) here ∙ cond-true _ _ _ (lt-ltb k FRAME_WORDS below) ∙ written_there (frame_at F e.0 + k) v image

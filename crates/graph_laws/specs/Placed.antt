@@ -8,7 +8,7 @@ use Rattle.pud_defs.specs.Graph.{pointee_at, headers_fit}
 
 -- The second pool has as many puddles, and their frames hold the same words, but for the numbers, which are those of its own puddles; and a pointer at
 -- any step stands for the same in both.
-pub record IsPlaced (file later : Stored) : Type 0 where
+pub record ArePlacedFrames (file later : Stored) : Type 0 where
   pub count : length later.puddles ≡ length file.puddles
   pub headers : headers_fit later ≡ true
   pub words : (o k : ℕ) → o < length file.puddles → k < FRAME_WORDS → (k ≡ FRAME_NUMBER_WORD → ⊥) → later.word o k ≡ file.word o k

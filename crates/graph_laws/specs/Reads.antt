@@ -31,8 +31,8 @@ abbrev pub with_puddle : Puddle → (ℕ → ℕ → ℕ) → Stored → Stored
 with_puddle d word st = record { puddles = st.puddles ++ d ∷ []; word = word }
 
 -- what is stored in one puddle alone
-abbrev pub alone : Puddle → (ℕ → ℕ → ℕ) → Stored
-alone d word = record { puddles = d ∷ []; word = word }
+abbrev pub puddle_alone : Puddle → (ℕ → ℕ → ℕ) → Stored
+puddle_alone d word = record { puddles = d ∷ []; word = word }
 
 -- By these words there is a puddle behind the others that has its header, and in which no slot is live; the frames of the others are as they were.
 pub record IsGrown (st : Stored) (d : Puddle) (word : ℕ → ℕ → ℕ) : Type 0 where

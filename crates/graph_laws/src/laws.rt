@@ -13,7 +13,7 @@ ghost use Rattle.pud_defs.specs.Geometry.{ordinal_of, slot_of};
 ghost use Rattle.pud_defs.specs.Types.{map_of, types_of, with_type};
 ghost use Rattle.pud_defs.specs.Registry.{frames_of, is_registry};
 ghost use Rattle.pud_defs.specs.Tables.{tables_of, puddles_in_turn};
-ghost use Rattle.pud_defs.specs.Image.{Image, written};
+ghost use Rattle.pud_defs.specs.Image.{Image, image_with};
 ghost use Rattle.pud_defs.specs.Frames.{frame_at, frame_word, fresh_frame};
 ghost use Rattle.pud_defs.specs.Replay.{overwritten};
 ghost use Rattle.pud_defs.specs.Stored.{Stored, stored_in, places_of, place_word, place_words, IsFreePlace};
@@ -23,12 +23,12 @@ ghost use Rattle.std.specs.List.{list_any, range_with_len};
 ghost use Rattle.pud_defs.specs.ExportFile.{words_in, is_type_used, types_used, contents_of, file_graph};
 ghost use Rattle.pud_defs.specs.Exported.{exported_words, IsExportable};
 ghost use Rattle.graph_laws.specs.Changes.{with_word, with_words, with_slot_word, with_field_word, with_serial_word, with_root_word, AreBases, IsAddress, IsField, IsMade};
-ghost use Rattle.graph_laws.specs.Reads.{ReadsSame, with_puddle, alone, IsGrown, AgreeOnFrames, HasDistinctFrames};
+ghost use Rattle.graph_laws.specs.Reads.{ReadsSame, with_puddle, puddle_alone, IsGrown, AgreeOnFrames, HasDistinctFrames};
 ghost use Rattle.graph_laws.specs.ReferenceCounts.{times_named_by, pointers_to, reference_count};
 ghost use Rattle.graph_laws.specs.Slots.{AreAllLive, is_of_type};
 ghost use Rattle.graph_laws.specs.Rewriting.{advanced, RewritesSteps, LeadSomewhere};
 ghost use Rattle.graph_laws.specs.Steps.{steps_in, with_steps};
-ghost use Rattle.graph_laws.specs.Placed.{IsPlaced, AreFrontiers, KeepsBases, MovesBases};
+ghost use Rattle.graph_laws.specs.Placed.{ArePlacedFrames, AreFrontiers, KeepsBases, MovesBases};
 
 /// The object of a serial is what stands at the place of the serial.
 pub fn object_stands_at_the_place_of_its_serial()
@@ -131,7 +131,7 @@ pub fn images_that_agree_store_the_same()
 /// A word that is written into the frame of a puddle is that word of what is stored, and no other.
 pub fn written_frame_word_is_a_stored_word()
     ensures { (frames : ℕ) (at : List (ℕ × Puddle)) (image : Image) (o : ℕ) (k : ℕ) (v : ℕ) (e : ℕ × Puddle) → HasDistinctFrames at → slice_get at o ≡ Option.Some e → k < FRAME_WORDS
-        → stored_in frames at (written (frame_at frames e.0 + k) v image) ≡ with_words (with_word o k v (stored_in frames at image).word) (stored_in frames at image) }
+        → stored_in frames at (image_with (frame_at frames e.0 + k) v image) ≡ with_words (with_word o k v (stored_in frames at image).word) (stored_in frames at image) }
 {}
 
 /// A word of a frame's header is not read behind the header's first three, but for the next serial and the root in the
@@ -156,7 +156,7 @@ pub fn words_behind_the_fields_are_not_read()
 /// A pool of one fresh puddle has the graph in which nothing was made yet.
 pub fn fresh_puddle_alone_is_the_empty_graph()
     ensures { (types : List (ℕ × ℕ)) (d : Puddle) (word : ℕ → ℕ → ℕ) → ((k : ℕ) → k < FRAME_WORDS → word 0 k ≡ slice_index (fresh_frame d.number 0) k)
-        → graph_of types (alone d word) ≡ Option.Some empty_graph }
+        → graph_of types (puddle_alone d word) ≡ Option.Some empty_graph }
 {}
 
 /// A puddle with no live slot that comes behind the others changes nothing.
@@ -243,7 +243,7 @@ pub fn pool_of_a_sound_registry_can_be_exported()
 /// Frames that are placed elsewhere hold the graph that they held, whatever numbers and bases their puddles have there, where their pointers
 /// stand for the same.
 pub fn placed_frames_have_the_graph()
-    ensures { (types : List (ℕ × ℕ)) (file : Stored) (later : Stored) (g : Graph) → IsPlaced file later → 1 ≤ length file.puddles → graph_of types file ≡ Option.Some g
+    ensures { (types : List (ℕ × ℕ)) (file : Stored) (later : Stored) (g : Graph) → ArePlacedFrames file later → 1 ≤ length file.puddles → graph_of types file ≡ Option.Some g
         → graph_of types later ≡ Option.Some g }
 {}
 

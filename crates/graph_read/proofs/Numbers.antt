@@ -19,7 +19,7 @@ use Rattle.pud_defs.specs.Spaces.{all_below}
 use Rattle.pud_defs.proofs.Spaces.{all_below-fails}
 use Rattle.pud_defs.proofs.PoolsCounted.{sum_places, sum_places-same, worth, sum-keyed}
 use Rattle.graph_read.specs.declared.checking.SlotCheck.{SlotCheck}
-use Rattle.graph_read.specs.Numbers.{number_in, numbers_of, number_sum, number_by, contents_sum, numbers_under, numbers_at, numbers_below, value_number, fields_sum, place_sum, places_sum}
+use Rattle.graph_read.specs.Numbers.{number_in_value, numbers_of, number_sum, number_in_content, contents_sum, numbers_under, numbers_at, numbers_below, value_number, fields_sum, place_sum, places_sum}
 use Rattle.graph_read.specs.Checking.{serial_passes, place_passes}
 use Rattle.graph_read.proofs.Passing.{field_passes, place_passes-free, place_passes-refused, place_passes-live}
 
@@ -39,21 +39,21 @@ is_some-then_some false x = refl
 
 -- ---- a field
 
-number_at_place : (o : Option ℕ) → number_by (at_place o) ≡ 0
+number_at_place : (o : Option ℕ) → number_in_content (at_place o) ≡ 0
 number_at_place None = refl
 number_at_place (Some p) = refl
 
-number_either : (b : Bool) (c : Content) → number_by c ≡ 0 → number_by (cond b Null c) ≡ 0
+number_either : (b : Bool) (c : Content) → number_in_content c ≡ 0 → number_in_content (cond b Null c) ≡ 0
 number_either true c e = refl
 number_either false c e = e
 
-number_of_target : (puddles : List Puddle) (v : ℕ) → number_by (target puddles v) ≡ 0
+number_of_target : (puddles : List Puddle) (v : ℕ) → number_in_content (target puddles v) ≡ 0
 unfolding target
 number_of_target puddles v = number_either (v == 0) (at_place (place_in 0 puddles v)) (number_at_place (place_in 0 puddles v))
 
 -- a pointer counts nothing, whatever it leads to
-pub number_by-pointer : (puddles : List Puddle) (m place f v : ℕ) → is_pointer m f ≡ true → number_by (content puddles m place f v) ≡ 0
-number_by-pointer puddles m place f v pointer = ap number_by (cond-true _ _ _ pointer) ∙ number_of_target _ v
+pub number_in_content-pointer : (puddles : List Puddle) (m place f v : ℕ) → is_pointer m f ≡ true → number_in_content (content puddles m place f v) ≡ 0
+number_in_content-pointer puddles m place f v pointer = ap number_in_content (cond-true _ _ _ pointer) ∙ number_of_target _ v
 
 -- ---- the fields of a place
 
@@ -63,42 +63,42 @@ field_content st place m f = content st.puddles m place f (place_word st place (
 
 -- the sum of the first so many number fields
 abbrev pub fields_counted : Stored → (place m count : ℕ) → ℕ
-fields_counted st place m count = sum_by number_by (map (field_content st place m) (range_with_len 0 count))
+fields_counted st place m count = sum_by number_in_content (map (field_content st place m) (range_with_len 0 count))
 
 -- a field that passed, by its word, and what it counts
 pub value_passed : (check : SlotCheck) (serial : ℕ → ℕ) (st : Stored) (place m f v number : ℕ) (o : Option ℕ) → v ≡ place_word st place (SLOT_FIELDS_WORD + f) → o ≡ value_number check serial (content st.puddles m place f v) → o ≡ Some number
-    → (field_passes check serial st place m f ≡ true) × (number_by (field_content st place m f) ≡ number)
+    → (field_passes check serial st place m f ≡ true) × (number_in_content (field_content st place m f) ≡ number)
 value_passed check serial st place m f v number o word is some =
     then_some-some _ _ number (sym (is ∙ ap (λ (x : ℕ). value_number check serial (content st.puddles m place f x)) word) ∙ some)
 
 pub value_refused : (check : SlotCheck) (serial : ℕ → ℕ) (st : Stored) (place m f v : ℕ) (o : Option ℕ) → v ≡ place_word st place (SLOT_FIELDS_WORD + f) → o ≡ value_number check serial (content st.puddles m place f v) → o ≡ None
     → field_passes check serial st place m f ≡ false
 value_refused check serial st place m f v o word is none =
-    then_some-none _ (number_by (field_content st place m f)) (sym (is ∙ ap (λ (x : ℕ). value_number check serial (content st.puddles m place f x)) word) ∙ none)
+    then_some-none _ (number_in_content (field_content st place m f)) (sym (is ∙ ap (λ (x : ℕ). value_number check serial (content st.puddles m place f x)) word) ∙ none)
 
 -- one field more is added
-pub fields_counted-more : (st : Stored) (place m f sum number : ℕ) → sum ≡ fields_counted st place m f % 2 ^ 64 → number ≡ number_by (field_content st place m f) → (sum + number) % 2 ^ 64 ≡ fields_counted st place m (f + 1) % 2 ^ 64
+pub fields_counted-more : (st : Stored) (place m f sum number : ℕ) → sum ≡ fields_counted st place m f % 2 ^ 64 → number ≡ number_in_content (field_content st place m f) → (sum + number) % 2 ^ 64 ≡ fields_counted st place m (f + 1) % 2 ^ 64
 fields_counted-more st place m f sum number so_far is =
     ap₂ (λ (a b : ℕ). (a + b) % 2 ^ 64) so_far is
-    ∙ mod-add-mod (fields_counted st place m f) (2 ^ 64) (number_by (field_content st place m f))
-    ∙ ap (λ (n : ℕ). n % 2 ^ 64) (sym (sum_by-map-range_with_len_more number_by (field_content st place m) 0 f f (zero-add f)))
+    ∙ mod-add-mod (fields_counted st place m f) (2 ^ 64) (number_in_content (field_content st place m f))
+    ∙ ap (λ (n : ℕ). n % 2 ^ 64) (sym (sum_by-map-range_with_len_more number_in_content (field_content st place m) 0 f f (zero-add f)))
 
 -- ---- the object at a place
 
-number_named : (serial : ℕ → ℕ) (c : Content) → number_in (value_of serial c) ≡ number_by c
+number_named : (serial : ℕ → ℕ) (c : Content) → number_in_value (value_of serial c) ≡ number_in_content c
 number_named serial (Number v) = refl
 number_named serial Null = refl
 number_named serial (At p) = refl
 number_named serial Nowhere = refl
 
-numbers_named : (serial : ℕ → ℕ) (contents : List Content) → sum_by number_in (map (value_of serial) contents) ≡ sum_by number_by contents
+numbers_named : (serial : ℕ → ℕ) (contents : List Content) → sum_by number_in_value (map (value_of serial) contents) ≡ sum_by number_in_content contents
 numbers_named serial [] = refl
 numbers_named serial (c ∷ contents) =
-    sum_by-cons number_in (value_of serial c) (map (value_of serial) contents)
+    sum_by-cons number_in_value (value_of serial c) (map (value_of serial) contents)
     ∙ ap₂ (λ (a b : ℕ). a + b) (number_named serial c) (numbers_named serial contents)
-    ∙ sym (sum_by-cons number_by c contents)
+    ∙ sym (sum_by-cons number_in_content c contents)
 
-numbers_there : (serial : ℕ → ℕ) (o : Option (List Content)) → sum_by number_in (map (value_of serial) (contents_or_none o)) ≡ contents_sum o
+numbers_there : (serial : ℕ → ℕ) (o : Option (List Content)) → sum_by number_in_value (map (value_of serial) (contents_or_none o)) ≡ contents_sum o
 numbers_there serial None = refl
 numbers_there serial (Some contents) = numbers_named serial contents
 

@@ -14,13 +14,13 @@ use Rattle.graph_read.specs.Checking.{passes, contents_pass, place_passes}
 -- ---- of a graph
 
 -- what a field counts: a number itself, and a pointer nothing
-abbrev pub number_in : FieldValue → ℕ
-number_in (Num v) = v
-number_in (Ref s) = 0
+abbrev pub number_in_value : FieldValue → ℕ
+number_in_value (Num v) = v
+number_in_value (Ref s) = 0
 
 -- the sum of the number fields of an object
 abbrev pub numbers_of : Object → ℕ
-numbers_of o = sum_by number_in o.fields
+numbers_of o = sum_by number_in_value o.fields
 
 -- the sum of the number fields of all objects, modulo 2^64
 abbrev pub number_sum : Graph → ℕ
@@ -33,16 +33,16 @@ totals_of g = record { objects = length g.objects; sum = number_sum g }
 -- ---- of what is stored
 
 -- what a field counts by what its word stands for: a number itself, and a pointer nothing
-abbrev pub number_by : Content → ℕ
-number_by (Number v) = v
-number_by Null = 0
-number_by (At p) = 0
-number_by Nowhere = 0
+abbrev pub number_in_content : Content → ℕ
+number_in_content (Number v) = v
+number_in_content Null = 0
+number_in_content (At p) = 0
+number_in_content Nowhere = 0
 
 -- the sum of the number fields at a place, where its type is defined
 abbrev pub contents_sum : Option (List Content) → ℕ
 contents_sum None = 0
-contents_sum (Some contents) = sum_by number_by contents
+contents_sum (Some contents) = sum_by number_in_content contents
 
 -- the sum of the number fields of an object under its serial, where there is one
 abbrev pub numbers_under : Option (ℕ × Object) → ℕ
@@ -61,7 +61,7 @@ numbers_below t n = sum_by (numbers_at t) (range_with_len 0 n)
 
 -- what a field counts, where it passes
 abbrev pub value_number : SlotCheck → (ℕ → ℕ) → Content → Option ℕ
-value_number check serial c = then_some (passes check serial c) (number_by c)
+value_number check serial c = then_some (passes check serial c) (number_in_content c)
 
 -- the sum of the number fields of a slot, modulo 2^64, where all of its fields pass
 abbrev pub fields_sum : SlotCheck → (ℕ → ℕ) → Option (List Content) → Option ℕ

@@ -11,7 +11,7 @@ use Rattle.pud_defs.specs.declared.records.Puddle.{Puddle}
 use Rattle.pud_defs.specs.Bases.{is_legal_base}
 use Rattle.pud_defs.specs.Geometry.{steps_of}
 use Rattle.graph_laws.specs.Changes.{AreBases}
-use Rattle.hybrid_tx.specs.PoolScopes.{pool_has_word, is_finished, finished_of, IsPlaced}
+use Rattle.hybrid_tx.specs.PoolScopes.{pool_has_word, is_finished, finished_of, ArePlacedPuddles}
 use Rattle.hybrid_tx.proofs.PoolScope.{base_there, bases_of, pool_has_word-each, pool_has_word-from}
 
 -- ---- what passes a test
@@ -126,7 +126,7 @@ module _ (F : ℕ) (at : List (ℕ × Puddle)) where
             once_pass is_finished SameBase at (bases_once bases) i j e.0 d.0 e.1.0 d.1.0 (e.1.1 ∙ sym d.1.1);
       }
 
-  pub finished_placed : IsPlaced F at → IsPlaced F (finished_of at)
+  pub finished_placed : ArePlacedPuddles F at → ArePlacedPuddles F (finished_of at)
   finished_placed placed =
       let few = few_pass is_finished at in
       let many = placed.on_device.few in

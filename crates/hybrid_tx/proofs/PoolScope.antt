@@ -17,7 +17,7 @@ use Rattle.pud_defs.specs.Replay.{is_in_log}
 use Rattle.graph_laws.specs.Changes.{AreBases}
 use Rattle.graph_laws.proofs.Pointers.{behind}
 use Rattle.word_transaction.specs.Scope.{Spans, IsScope}
-use Rattle.hybrid_tx.specs.PoolScopes.{word_by, pool_place, has_words, pool_may_name, is_in_frame, pool_has_word, pool_scope, IsPlaced}
+use Rattle.hybrid_tx.specs.PoolScopes.{word_by, pool_place, has_words, pool_may_name, is_in_puddle, pool_has_word, pool_scope, ArePlacedPuddles}
 
 -- ---- elements of lists
 
@@ -134,13 +134,13 @@ pub record IsMine (F : ℕ) (at : List (ℕ × Puddle)) (k : ℕ) : Type 0 where
 pub pool_has_word-each : (F : ℕ) (at : List (ℕ × Puddle)) (k : ℕ) → pool_has_word F at k ≡ true → IsMine F at k
 unfolding pool_has_word
 pool_has_word-each F at k mine =
-    let found = any_element (is_in_frame F k) at mine in
+    let found = any_element (is_in_puddle F k) at mine in
     let parts = and_parts (leb (frame_at F found.element.0) k) (ltb k (frame_at F found.element.0 + FRAME_WORDS)) found.passes in
     record { ordinal = found.index; puddle = found.element; there = found.there; low = leb-true _ _ parts.0; high = ltb-true _ _ parts.1 }
 
 pub pool_has_word-from : (F : ℕ) (at : List (ℕ × Puddle)) (k : ℕ) → IsMine F at k → pool_has_word F at k ≡ true
 unfolding pool_has_word
-pool_has_word-from F at k m = element_passes (is_in_frame F k) at m.ordinal m.puddle m.there (and_from _ _ (le-leb _ _ m.low) (lt-ltb _ _ m.high))
+pool_has_word-from F at k m = element_passes (is_in_puddle F k) at m.ordinal m.puddle m.there (and_from _ _ (le-leb _ _ m.low) (lt-ltb _ _ m.high))
 
 -- ---- the ground
 
@@ -150,7 +150,7 @@ base_below base legal =
     let parts = and_parts _ _ legal in
     ltb-true base (SPACE_START + SPACE_BYTES) (and_parts _ _ parts.0).1
 
-module _ (F size log : ℕ) (at : List (ℕ × Puddle)) (placed : IsPlaced F at) (room : device_words F ≤ size) (before : log + LOG_WORDS ≤ frames_at F) where
+module _ (F size log : ℕ) (at : List (ℕ × Puddle)) (placed : ArePlacedPuddles F at) (room : device_words F ≤ size) (before : log + LOG_WORDS ≤ frames_at F) where
   spans : (address count : ℕ) → IsNamed at address count → Spans size (pool_scope F at) address count
   spans address count named =
       let e = named.puddle in
@@ -184,7 +184,7 @@ module _ (F size log : ℕ) (at : List (ℕ × Puddle)) (placed : IsPlaced F at)
 
 -- ---- words by ordinal
 
-module _ (F : ℕ) (at : List (ℕ × Puddle)) (placed : IsPlaced F at) (o k : ℕ) (e : ℕ × Puddle) (there : slice_get at o ≡ Some e) where
+module _ (F : ℕ) (at : List (ℕ × Puddle)) (placed : ArePlacedPuddles F at) (o k : ℕ) (e : ℕ × Puddle) (there : slice_get at o ≡ Some e) where
   pub place_of_word : k < FRAME_WORDS → pool_place F at (e.1.base + WORD_BYTES * k) ≡ Some (frame_at F e.0 + k)
   place_of_word below =
       let word : (e.1.base + WORD_BYTES * k - e.1.base) / WORD_BYTES ≡ k = omega arith in

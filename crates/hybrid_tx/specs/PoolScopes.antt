@@ -37,12 +37,12 @@ pool_may_name at address count = (address % WORD_BYTES) == 0 && nat_le 1 count &
 -- ---- words
 
 -- the word is one of the frame of this puddle
-abbrev pub is_in_frame : (F k : ℕ) → ℕ × Puddle → Bool
-is_in_frame F k e = nat_le (frame_at F e.0) k && nat_lt k (frame_at F e.0 + FRAME_WORDS)
+abbrev pub is_in_puddle : (F k : ℕ) → ℕ × Puddle → Bool
+is_in_puddle F k e = nat_le (frame_at F e.0) k && nat_lt k (frame_at F e.0 + FRAME_WORDS)
 
 -- the word is one of the frames of these puddles
 unfoldable pub pool_has_word : ℕ → List (ℕ × Puddle) → ℕ → Bool
-pool_has_word F at k = list_any (is_in_frame F k) at
+pool_has_word F at k = list_any (is_in_puddle F k) at
 
 -- the ground of a transaction on these puddles
 abbrev pub pool_scope : ℕ → List (ℕ × Puddle) → Scope
@@ -51,7 +51,7 @@ pool_scope F at = record { place = pool_place F at; may_name = pool_may_name at;
 -- ---- how puddles lie
 
 -- Puddles of one pool: in frames of the device, no two in one, with ranges of the space, no two of which meet.
-pub record IsPlaced (F : ℕ) (at : List (ℕ × Puddle)) : Type 0 where
+pub record ArePlacedPuddles (F : ℕ) (at : List (ℕ × Puddle)) : Type 0 where
   pub on_device : IsOnDevice F at
   pub frames : HasDistinctFrames at
   pub legal : All (λ e. is_legal_base e.1.base ≡ true) at

@@ -24,9 +24,9 @@ ghost use Rattle.puddle_header.specs.Places.{place_of_slot, IsSlotOf};
 ghost use Rattle.graph_read.specs.Reading.{place_in_pool};
 ghost use Rattle.object_alloc.specs.Alloc.{serial_word_at};
 ghost use Rattle.word_transaction.specs.Running.{ByTransaction};
-ghost use Rattle.hybrid_tx.specs.PoolScopes.{pool_scope, finished_of, IsPlaced, IsRewrittenAt};
+ghost use Rattle.hybrid_tx.specs.PoolScopes.{pool_scope, finished_of, ArePlacedPuddles, IsRewrittenAt};
 ghost use Rattle.pud_defs.specs.DeferredValues.{DeferredValue, deferred_set_names};
-ghost use Rattle.hybrid_tx.specs.Objects.Stores.{address_at, word_for, IsPlaceAndWord, LacksPlaceOrWord, new_words, ByPutBoth};
+ghost use Rattle.hybrid_tx.specs.Objects.Stores.{address_at, word_for, IsPlaceAndWord, LacksPlaceOrWord, new_object_words, ByPutBoth};
 ghost use Rattle.hybrid_tx.specs.Objects.Transactions.{MayName, MaySet, IsRewrittenFor, IsRewrittenAtLowest, MayFree, IsSaving, IsOpenOn, KeepsSaving, KeepsOpenOn, MakesIn};
 
 use crate::Tx;
@@ -109,9 +109,9 @@ pub fn place_and_word<H: Host>(
 }
 
 /// The words of a slot that holds a new object of type `t`: its serial, its type, and 0 in each field.
-#[tactic(auto, unfolding(crate::specs::Objects::Stores::new_words))]
-fn new_words(serial: u64, t: u32) -> [u64; MAX_SLOT_WORDS as usize]
-    ensures { result ≡ new_words serial t }
+#[tactic(auto, unfolding(crate::specs::Objects::Stores::new_object_words))]
+fn new_object_words(serial: u64, t: u32) -> [u64; MAX_SLOT_WORDS as usize]
+    ensures { result ≡ new_object_words serial t }
 {
     let mut words = [0u64; MAX_SLOT_WORDS as usize];
     words[SLOT_SERIAL_WORD as usize] = serial;
@@ -144,10 +144,10 @@ impl Tx {
         requires room { (self.old).units + SET_UNITS ≤ LOG_ENTRY_WORDS }
         ensures at { (self.new).log.gate_at ≡ (self.old).log.gate_at }
         ensures changes { H.tells → Changes (ByTransaction (pool_scope frames pool.now) (self.old).log.gate_at) (fault_of result) (H.state h.old) (H.state h.new) }
-        ensures runs { H.tells → (types : List (ℕ × ℕ)) (before : Image) (graph_before : Graph) (now : Graph) (deferred : List DeferredValue) → IsPlaced frames pool.now
+        ensures runs { H.tells → (types : List (ℕ × ℕ)) (before : Image) (graph_before : Graph) (now : Graph) (deferred : List DeferredValue) → ArePlacedPuddles frames pool.now
             → IsRewrittenFor frames pool.now (reads (H.state h.old).now.words) s → IsOpenOn frames pool.now types (self.old).log before graph_before now deferred (H.state h.old).now.words → MaySet types now s f x
             → KeepsOpenOn frames pool.now types (self.new).log before graph_before (with_field s f x now) deferred (fault_of result) (H.state h.old) (H.state h.new) }
-        ensures counts { H.tells → (types : List (ℕ × ℕ)) (before : Image) (graph_before : Graph) (now : Graph) (deferred : List DeferredValue) → IsPlaced frames pool.now
+        ensures counts { H.tells → (types : List (ℕ × ℕ)) (before : Image) (graph_before : Graph) (now : Graph) (deferred : List DeferredValue) → ArePlacedPuddles frames pool.now
             → IsOpenOn frames pool.now types (self.old).log before graph_before now deferred (H.state h.old).now.words → MaySet types now s f x
             → IfOk result (λ _. (self.new).units ≡ (self.old).units + SET_UNITS) }
         ensures nothing { H.tells → All (λ e. is_legal_base e.1.base ≡ true) pool.now
@@ -183,7 +183,7 @@ impl Tx {
         requires room { (self.old).units + SET_UNITS ≤ LOG_ENTRY_WORDS }
         ensures at { (self.new).log.gate_at ≡ (self.old).log.gate_at }
         ensures changes { H.tells → Changes (ByTransaction (pool_scope frames pool.now) (self.old).log.gate_at) (fault_of result) (H.state h.old) (H.state h.new) }
-        ensures runs { H.tells → (types : List (ℕ × ℕ)) (before : Image) (graph_before : Graph) (now : Graph) (deferred : List DeferredValue) (s : ℕ) (x : FieldValue) → IsPlaced frames pool.now
+        ensures runs { H.tells → (types : List (ℕ × ℕ)) (before : Image) (graph_before : Graph) (now : Graph) (deferred : List DeferredValue) (s : ℕ) (x : FieldValue) → ArePlacedPuddles frames pool.now
             → IsRewrittenFor frames pool.now (reads (H.state h.old).now.words) s → IsOpenOn frames pool.now types (self.old).log before graph_before now deferred (H.state h.old).now.words → MaySet types now s f x
             → place_in_pool frames pool.now (reads (H.state h.old).now.words) s ≡ Option.Some (place_of_slot at.now) → word_for frames pool.now (reads (H.state h.old).now.words) x ≡ Option.Some word
             → KeepsOpenOn frames pool.now types (self.new).log before graph_before (with_field s f x now) deferred (fault_of result) (H.state h.old) (H.state h.new) }
@@ -215,7 +215,7 @@ impl Tx {
         ensures counts { IfOk result (λ _. (self.new).units ≡ (self.old).units + NEW_UNITS) }
         ensures changes { H.tells → (first : ℕ × Puddle) → slice_get pool.now 0 ≡ Option.Some first
             → Changes (ByPutBoth (self.old).log.gate_at (frame_at frames at.now.frame + slot_begins at.now) words.now (frame_at frames first.0 + NEXT_SERIAL_WORD) next) (fault_of result) (H.state h.old) (H.state h.new) }
-        ensures saves { H.tells → IsPlaced frames pool.now → (first : ℕ × Puddle) → slice_get pool.now 0 ≡ Option.Some first → IsRewrittenAt pool.now 0 → IsRewrittenAt pool.now at.now.ordinal
+        ensures saves { H.tells → ArePlacedPuddles frames pool.now → (first : ℕ × Puddle) → slice_get pool.now 0 ≡ Option.Some first → IsRewrittenAt pool.now 0 → IsRewrittenAt pool.now at.now.ordinal
             → (before : Image) (redo : List Entry) → IsSaving frames (finished_of pool.now) (self.old).log before redo (H.state h.old).now.words
             → KeepsSaving frames (finished_of pool.now) (self.new).log before redo (over (placed (frame_at frames at.now.frame + slot_begins at.now) words.now) (placed (frame_at frames first.0 + NEXT_SERIAL_WORD) (next ∷ [])))
             (fault_of result) (H.state h.old) (H.state h.new) }
@@ -257,11 +257,11 @@ impl Tx {
         requires room { (self.old).units + NEW_UNITS ≤ LOG_ENTRY_WORDS }
         ensures at { (self.new).log.gate_at ≡ (self.old).log.gate_at }
         ensures changes { H.tells → Changes (ByTransaction (pool_scope frames pool.now) (self.old).log.gate_at) (fault_of result) (H.state h.old) (H.state h.new) }
-        ensures runs { H.tells → (types : List (ℕ × ℕ)) (m : ℕ) (before : Image) (graph_before : Graph) (now : Graph) (deferred : List DeferredValue) → IsPlaced frames pool.now
+        ensures runs { H.tells → (types : List (ℕ × ℕ)) (m : ℕ) (before : Image) (graph_before : Graph) (now : Graph) (deferred : List DeferredValue) → ArePlacedPuddles frames pool.now
             → IsOpenOn frames pool.now types (self.old).log before graph_before now deferred (H.state h.old).now.words → map_of t types ≡ Option.Some m → now.next_serial < NUMBER_LIMIT
             → IsRewrittenAt pool.now 0 → IsRewrittenAt pool.now at.now.ordinal → IsFreePlace (stored_in frames pool.now (reads (H.state h.old).now.words)) (place_of_slot at.now)
             → KeepsOpenOn frames pool.now types (self.new).log before graph_before (with_new (blank_object t m) now) deferred (fault_of result) (H.state h.old) (H.state h.new) }
-        ensures makes { H.tells → (types : List (ℕ × ℕ)) (before : Image) (graph_before : Graph) (now : Graph) (deferred : List DeferredValue) → IsPlaced frames pool.now
+        ensures makes { H.tells → (types : List (ℕ × ℕ)) (before : Image) (graph_before : Graph) (now : Graph) (deferred : List DeferredValue) → ArePlacedPuddles frames pool.now
             → IsOpenOn frames pool.now types (self.old).log before graph_before now deferred (H.state h.old).now.words → now.next_serial < NUMBER_LIMIT
             → IsRewrittenAt pool.now 0 → IsRewrittenAt pool.now at.now.ordinal
             → MakesIn frames pool.now (self.old).log.gate_at at.now t (fault_of result) (H.state h.old) (H.state h.new) }
@@ -272,7 +272,7 @@ impl Tx {
     {
         let (first, _) = pool[0];
         let serial = next_serial(h, frames, first)?;
-        let words = new_words(serial, t);
+        let words = new_object_words(serial, t);
         self.put_object(h, frames, pool, at, &words, serial.wrapping_add(1))?;
         Ok(serial)
     }
@@ -298,11 +298,11 @@ impl Tx {
         requires room { (self.old).units + NEW_UNITS ≤ LOG_ENTRY_WORDS }
         ensures at { (self.new).log.gate_at ≡ (self.old).log.gate_at }
         ensures changes { H.tells → Changes (ByTransaction (pool_scope frames pool.now) (self.old).log.gate_at) (fault_of result) (H.state h.old) (H.state h.new) }
-        ensures runs { H.tells → (types : List (ℕ × ℕ)) (m : ℕ) (before : Image) (graph_before : Graph) (now : Graph) (deferred : List DeferredValue) → IsPlaced frames pool.now
+        ensures runs { H.tells → (types : List (ℕ × ℕ)) (m : ℕ) (before : Image) (graph_before : Graph) (now : Graph) (deferred : List DeferredValue) → ArePlacedPuddles frames pool.now
             → IsOpenOn frames pool.now types (self.old).log before graph_before now deferred (H.state h.old).now.words → map_of t types ≡ Option.Some m → now.next_serial < NUMBER_LIMIT
             → IsRewrittenAt pool.now 0 → IsRewrittenAtLowest frames pool.now (reads (H.state h.old).now.words) → (AreAllLive (stored_in frames pool.now (reads (H.state h.old).now.words)) → ⊥)
             → KeepsOpenOn frames pool.now types (self.new).log before graph_before (with_new (blank_object t m) now) deferred (fault_of result) (H.state h.old) (H.state h.new) }
-        ensures makes { H.tells → (types : List (ℕ × ℕ)) (before : Image) (graph_before : Graph) (now : Graph) (deferred : List DeferredValue) → IsPlaced frames pool.now
+        ensures makes { H.tells → (types : List (ℕ × ℕ)) (before : Image) (graph_before : Graph) (now : Graph) (deferred : List DeferredValue) → ArePlacedPuddles frames pool.now
             → IsOpenOn frames pool.now types (self.old).log before graph_before now deferred (H.state h.old).now.words → now.next_serial < NUMBER_LIMIT
             → IsRewrittenAt pool.now 0 → IsRewrittenAtLowest frames pool.now (reads (H.state h.old).now.words) → (slot : Slot) → IsSlotOf pool.now slot → IsLowestFreeSlot (stored_in frames pool.now (reads (H.state h.old).now.words)) (place_of_slot slot)
             → MakesIn frames pool.now (self.old).log.gate_at slot t (fault_of result) (H.state h.old) (H.state h.new) }
@@ -337,7 +337,7 @@ impl Tx {
         ensures at { (self.new).log.gate_at ≡ (self.old).log.gate_at }
         ensures counts { IfOk result (λ _. (self.new).units ≡ (self.old).units + SET_UNITS) }
         ensures changes { H.tells → Changes (ByTransaction (pool_scope frames pool.now) (self.old).log.gate_at) (fault_of result) (H.state h.old) (H.state h.new) }
-        ensures saves { H.tells → IsPlaced frames pool.now → IsRewrittenAt pool.now at.ordinal → (before : Image) (redo : List Entry)
+        ensures saves { H.tells → ArePlacedPuddles frames pool.now → IsRewrittenAt pool.now at.ordinal → (before : Image) (redo : List Entry)
             → IsSaving frames (finished_of pool.now) (self.old).log before redo (H.state h.old).now.words
             → KeepsSaving frames (finished_of pool.now) (self.new).log before redo (placed (serial_word_at frames at) (0 ∷ [])) (fault_of result) (H.state h.old) (H.state h.new) }
         ensures cause { H.counts h.new ≡ after_fault (fault_of result) (H.counts h.old) }
@@ -368,7 +368,7 @@ impl Tx {
         requires room { (self.old).units + SET_UNITS ≤ LOG_ENTRY_WORDS }
         ensures at { (self.new).log.gate_at ≡ (self.old).log.gate_at }
         ensures changes { H.tells → Changes (ByTransaction (pool_scope frames pool.now) (self.old).log.gate_at) (fault_of result) (H.state h.old) (H.state h.new) }
-        ensures runs { H.tells → (types : List (ℕ × ℕ)) (before : Image) (graph_before : Graph) (now : Graph) (deferred : List DeferredValue) (s : ℕ) → IsPlaced frames pool.now
+        ensures runs { H.tells → (types : List (ℕ × ℕ)) (before : Image) (graph_before : Graph) (now : Graph) (deferred : List DeferredValue) (s : ℕ) → ArePlacedPuddles frames pool.now
             → IsRewrittenFor frames pool.now (reads (H.state h.old).now.words) s → IsOpenOn frames pool.now types (self.old).log before graph_before now deferred (H.state h.old).now.words → MayFree now s → deferred_set_names s deferred ≡ false
             → place_in_pool frames pool.now (reads (H.state h.old).now.words) s ≡ Option.Some (place_of_slot at.now)
             → KeepsOpenOn frames pool.now types (self.new).log before graph_before (without_object s now) deferred (fault_of result) (H.state h.old) (H.state h.new) }
@@ -398,7 +398,7 @@ impl Tx {
         requires room { (self.old).units + SET_UNITS ≤ LOG_ENTRY_WORDS }
         ensures at { (self.new).log.gate_at ≡ (self.old).log.gate_at }
         ensures changes { H.tells → Changes (ByTransaction (pool_scope frames pool.now) (self.old).log.gate_at) (fault_of result) (H.state h.old) (H.state h.new) }
-        ensures runs { H.tells → (types : List (ℕ × ℕ)) (before : Image) (graph_before : Graph) (now : Graph) (deferred : List DeferredValue) → IsPlaced frames pool.now
+        ensures runs { H.tells → (types : List (ℕ × ℕ)) (before : Image) (graph_before : Graph) (now : Graph) (deferred : List DeferredValue) → ArePlacedPuddles frames pool.now
             → IsRewrittenFor frames pool.now (reads (H.state h.old).now.words) s → IsOpenOn frames pool.now types (self.old).log before graph_before now deferred (H.state h.old).now.words → MayFree now s → deferred_set_names s deferred ≡ false
             → KeepsOpenOn frames pool.now types (self.new).log before graph_before (without_object s now) deferred (fault_of result) (H.state h.old) (H.state h.new) }
         ensures counts { H.tells → (types : List (ℕ × ℕ)) (before : Image) (graph_before : Graph) (now : Graph) (deferred : List DeferredValue)
@@ -434,10 +434,10 @@ impl Tx {
         requires room { (self.old).units + SET_UNITS ≤ LOG_ENTRY_WORDS }
         ensures at { (self.new).log.gate_at ≡ (self.old).log.gate_at }
         ensures changes { H.tells → Changes (ByTransaction (pool_scope frames pool.now) (self.old).log.gate_at) (fault_of result) (H.state h.old) (H.state h.new) }
-        ensures runs { H.tells → (types : List (ℕ × ℕ)) (before : Image) (graph_before : Graph) (now : Graph) (deferred : List DeferredValue) → IsPlaced frames pool.now
+        ensures runs { H.tells → (types : List (ℕ × ℕ)) (before : Image) (graph_before : Graph) (now : Graph) (deferred : List DeferredValue) → ArePlacedPuddles frames pool.now
             → IsRewrittenAt pool.now 0 → IsOpenOn frames pool.now types (self.old).log before graph_before now deferred (H.state h.old).now.words → MayName now s
             → KeepsOpenOn frames pool.now types (self.new).log before graph_before (with_root s now) deferred (fault_of result) (H.state h.old) (H.state h.new) }
-        ensures counts { H.tells → (types : List (ℕ × ℕ)) (before : Image) (graph_before : Graph) (now : Graph) (deferred : List DeferredValue) → IsPlaced frames pool.now
+        ensures counts { H.tells → (types : List (ℕ × ℕ)) (before : Image) (graph_before : Graph) (now : Graph) (deferred : List DeferredValue) → ArePlacedPuddles frames pool.now
             → IsOpenOn frames pool.now types (self.old).log before graph_before now deferred (H.state h.old).now.words → MayName now s
             → IfOk result (λ _. (self.new).units ≡ (self.old).units + SET_UNITS) }
         ensures nothing { H.tells → All (λ e. is_legal_base e.1.base ≡ true) pool.now
@@ -469,7 +469,7 @@ impl Tx {
         requires room { (self.old).units + SET_UNITS ≤ LOG_ENTRY_WORDS }
         ensures at { (self.new).log.gate_at ≡ (self.old).log.gate_at }
         ensures changes { H.tells → Changes (ByTransaction (pool_scope frames pool.now) (self.old).log.gate_at) (fault_of result) (H.state h.old) (H.state h.new) }
-        ensures runs { H.tells → (types : List (ℕ × ℕ)) (before : Image) (graph_before : Graph) (now : Graph) (deferred : List DeferredValue) (s : ℕ) → IsPlaced frames pool.now
+        ensures runs { H.tells → (types : List (ℕ × ℕ)) (before : Image) (graph_before : Graph) (now : Graph) (deferred : List DeferredValue) (s : ℕ) → ArePlacedPuddles frames pool.now
             → IsRewrittenAt pool.now 0 → IsOpenOn frames pool.now types (self.old).log before graph_before now deferred (H.state h.old).now.words
             → word_for frames pool.now (reads (H.state h.old).now.words) (FieldValue.Ref s) ≡ Option.Some word
             → KeepsOpenOn frames pool.now types (self.new).log before graph_before (with_root s now) deferred (fault_of result) (H.state h.old) (H.state h.new) }

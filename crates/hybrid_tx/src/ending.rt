@@ -17,7 +17,7 @@ ghost use Rattle.pud_defs.specs.DeferredValues.{DeferredValue, with_deferred_set
 ghost use Rattle.log_store.specs.Store.{IsOpen, defers};
 ghost use Rattle.log_replay.specs.Replaying.{HasPuddleTable, Anything};
 ghost use Rattle.word_transaction.specs.Running.{ByCommit, HasPlaces, HasOneTable, CanRedo};
-ghost use Rattle.hybrid_tx.specs.PoolScopes.{pool_scope, finished_of, IsPlaced};
+ghost use Rattle.hybrid_tx.specs.PoolScopes.{pool_scope, finished_of, ArePlacedPuddles};
 ghost use Rattle.hybrid_tx.specs.Objects.Transactions.{IsOpenOn, AbortsOnPool, CommitsOnPool};
 
 use crate::Tx;
@@ -40,7 +40,7 @@ impl Tx {
     pub fn commit<H: Host>(self, h: &mut H, frames: u32) -> Result<(), HostFault>
         requires log { self.log.gate_at + LOG_WORDS ≤ (H.counts h.old).size }
         requires tables { HasPuddleTable frames (H.counts h.old).size }
-        ensures ends { H.tells → (pool : List (ℕ × Puddle)) (types : List (ℕ × ℕ)) (before : Image) (graph_before : Graph) (now : Graph) (deferred : List DeferredValue) → IsPlaced frames pool
+        ensures ends { H.tells → (pool : List (ℕ × Puddle)) (types : List (ℕ × ℕ)) (before : Image) (graph_before : Graph) (now : Graph) (deferred : List DeferredValue) → ArePlacedPuddles frames pool
             → device_words frames ≤ (H.counts h.old).size → self.log.gate_at + LOG_WORDS ≤ frames_at frames → IsOpenOn frames pool types self.log before graph_before now deferred (H.state h.old).now.words
             → (deferred ≢ [] → CanRedo (pool_scope frames (finished_of pool)) frames self.log.gate_at (H.state h.old).now.words)
             → CommitsOnPool frames pool types self.log.gate_at before graph_before (with_deferred_set deferred now) (fault_of result) (H.state h.old) (H.state h.new) }
@@ -65,7 +65,7 @@ impl Tx {
     pub fn abort<H: Host>(self, h: &mut H, frames: u32) -> Result<(), HostFault>
         requires log { self.log.gate_at + LOG_WORDS ≤ (H.counts h.old).size }
         requires tables { HasPuddleTable frames (H.counts h.old).size }
-        ensures closes { H.tells → (pool : List (ℕ × Puddle)) (types : List (ℕ × ℕ)) (before : Image) (graph_before : Graph) (now : Graph) (deferred : List DeferredValue) → IsPlaced frames pool
+        ensures closes { H.tells → (pool : List (ℕ × Puddle)) (types : List (ℕ × ℕ)) (before : Image) (graph_before : Graph) (now : Graph) (deferred : List DeferredValue) → ArePlacedPuddles frames pool
             → device_words frames ≤ (H.counts h.old).size → self.log.gate_at + LOG_WORDS ≤ frames_at frames → IsOpenOn frames pool types self.log before graph_before now deferred (H.state h.old).now.words
             → HasPlaces (pool_scope frames (finished_of pool)) (puddle_word (tables_of frames (reads (H.state h.old).now.words))) → HasOneTable frames (H.state h.old).now.words
             → AbortsOnPool frames pool types self.log.gate_at before graph_before (fault_of result) (H.state h.old) (H.state h.new) }

@@ -21,7 +21,7 @@ ghost use Rattle.log_store.specs.Store.{InLog};
 ghost use Rattle.graph_laws.specs.Changes.{AreBases};
 ghost use Rattle.puddle_header.specs.Places.{place_of_slot, IsSlotOf};
 ghost use Rattle.graph_read.specs.Reading.{place_in_pool};
-ghost use Rattle.hybrid_tx.specs.PoolScopes.{IsPlaced};
+ghost use Rattle.hybrid_tx.specs.PoolScopes.{ArePlacedPuddles};
 ghost use Rattle.hybrid_tx.specs.Objects.FieldAddresses.{IsFieldAddress, IsFieldOf};
 ghost use Rattle.hybrid_tx.specs.Objects.Stores.{address_at, word_for};
 ghost use Rattle.hybrid_tx.specs.Objects.Transactions.{MaySet, IsRewrittenFor, IsDeferredEntry, IsOpenOn, KeepsOpenOn};
@@ -100,7 +100,7 @@ fn names<H: Host>(
     requires room { device_words frames ≤ (H.counts h.old).size }
     requires known { IsOnDevice frames pool.now }
     requires source { entry.now.at < (H.counts h.old).size }
-    ensures names { H.tells → (image : Image) → reads (H.state h.old).now.words ≡ image → (now : Graph) (l : DeferredValue) (p : ℕ) → IsPlaced frames pool.now
+    ensures names { H.tells → (image : Image) → reads (H.state h.old).now.words ≡ image → (now : Graph) (l : DeferredValue) (p : ℕ) → ArePlacedPuddles frames pool.now
         → graph_of (types_of image) (stored_in frames pool.now image) ≡ Option.Some now → IsDeferredEntry frames pool.now (types_of image) image now l (entry_from image entry.now)
         → s ≢ 0 → place_in_pool frames pool.now image s ≡ Option.Some p → address ≡ address_at pool.now p → IfOk result (λ named. named ≡ deferred_value_names s l) }
     ensures saves { entry.now.order ≢ REDO_ORDER → IfOk result (λ named. named ≡ false) }
@@ -152,10 +152,10 @@ impl Tx {
         requires room { (self.old).units + SET_UNITS ≤ LOG_ENTRY_WORDS }
         ensures at { (self.new).log.gate_at ≡ (self.old).log.gate_at }
         ensures changes { H.tells → Changes (InLog (self.old).log.gate_at) (fault_of result) (H.state h.old) (H.state h.new) }
-        ensures runs { H.tells → (types : List (ℕ × ℕ)) (before : Image) (graph_before : Graph) (now : Graph) (deferred : List DeferredValue) → IsPlaced frames pool.now
+        ensures runs { H.tells → (types : List (ℕ × ℕ)) (before : Image) (graph_before : Graph) (now : Graph) (deferred : List DeferredValue) → ArePlacedPuddles frames pool.now
             → IsRewrittenFor frames pool.now (reads (H.state h.old).now.words) s → IsOpenOn frames pool.now types (self.old).log before graph_before now deferred (H.state h.old).now.words → MaySet types now s f x
             → KeepsOpenOn frames pool.now types (self.new).log before graph_before now (deferred ++ record { s = s; f = f; x = x } ∷ []) (fault_of result) (H.state h.old) (H.state h.new) }
-        ensures counts { H.tells → (types : List (ℕ × ℕ)) (before : Image) (graph_before : Graph) (now : Graph) (deferred : List DeferredValue) → IsPlaced frames pool.now
+        ensures counts { H.tells → (types : List (ℕ × ℕ)) (before : Image) (graph_before : Graph) (now : Graph) (deferred : List DeferredValue) → ArePlacedPuddles frames pool.now
             → IsOpenOn frames pool.now types (self.old).log before graph_before now deferred (H.state h.old).now.words → MaySet types now s f x
             → IfOk result (λ _. (self.new).units ≡ (self.old).units + SET_UNITS) }
         ensures nothing { H.tells → All (λ e. is_legal_base e.1.base ≡ true) pool.now
@@ -191,7 +191,7 @@ impl Tx {
         requires room { (self.old).units + SET_UNITS ≤ LOG_ENTRY_WORDS }
         ensures at { (self.new).log.gate_at ≡ (self.old).log.gate_at }
         ensures changes { H.tells → Changes (InLog (self.old).log.gate_at) (fault_of result) (H.state h.old) (H.state h.new) }
-        ensures runs { H.tells → (types : List (ℕ × ℕ)) (before : Image) (graph_before : Graph) (now : Graph) (deferred : List DeferredValue) (s : ℕ) (x : FieldValue) → IsPlaced frames pool.now
+        ensures runs { H.tells → (types : List (ℕ × ℕ)) (before : Image) (graph_before : Graph) (now : Graph) (deferred : List DeferredValue) (s : ℕ) (x : FieldValue) → ArePlacedPuddles frames pool.now
             → IsRewrittenFor frames pool.now (reads (H.state h.old).now.words) s → IsOpenOn frames pool.now types (self.old).log before graph_before now deferred (H.state h.old).now.words → MaySet types now s f x
             → place_in_pool frames pool.now (reads (H.state h.old).now.words) s ≡ Option.Some (place_of_slot at.now) → word_for frames pool.now (reads (H.state h.old).now.words) x ≡ Option.Some word
             → KeepsOpenOn frames pool.now types (self.new).log before graph_before now (deferred ++ record { s = s; f = f; x = x } ∷ []) (fault_of result) (H.state h.old) (H.state h.new) }
@@ -217,7 +217,7 @@ impl Tx {
         requires device { device_words frames ≤ (H.counts h.old).size }
         requires known { IsOnDevice frames pool.now }
         requires place { (self.now).log.gate_at + LOG_WORDS ≤ (H.counts h.old).size }
-        ensures names { H.tells → (image : Image) → reads (H.state h.old).now.words ≡ image → (before : Image) (graph_before : Graph) (now : Graph) (deferred : List DeferredValue) → IsPlaced frames pool.now
+        ensures names { H.tells → (image : Image) → reads (H.state h.old).now.words ≡ image → (before : Image) (graph_before : Graph) (now : Graph) (deferred : List DeferredValue) → ArePlacedPuddles frames pool.now
             → IsOpenOn frames pool.now (types_of image) (self.now).log before graph_before now deferred (H.state h.old).now.words → s ≢ 0 → IfOk result (λ named. named ≡ deferred_set_names s deferred) }
         ensures only_reads { OnlyReads H.tells H.state H.counts (fault_of result) h.old h.new }
     {
@@ -241,7 +241,7 @@ impl Tx {
         requires known { IsOnDevice frames pool.now }
         requires place { (self.now).log.gate_at + LOG_WORDS ≤ (H.counts h.old).size }
         requires within { IsSlotOf pool.now at.now }
-        ensures names { H.tells → (image : Image) → reads (H.state h.old).now.words ≡ image → (before : Image) (graph_before : Graph) (now : Graph) (deferred : List DeferredValue) → IsPlaced frames pool.now
+        ensures names { H.tells → (image : Image) → reads (H.state h.old).now.words ≡ image → (before : Image) (graph_before : Graph) (now : Graph) (deferred : List DeferredValue) → ArePlacedPuddles frames pool.now
             → IsOpenOn frames pool.now (types_of image) (self.now).log before graph_before now deferred (H.state h.old).now.words → s ≢ 0
             → place_in_pool frames pool.now image s ≡ Option.Some (place_of_slot at.now) → IfOk result (λ named. named ≡ deferred_set_names s deferred) }
         ensures only_reads { OnlyReads H.tells H.state H.counts (fault_of result) h.old h.new }

@@ -25,50 +25,50 @@ ghost use Rattle.object_alloc.specs.Alloc.{serial_word_at};
 ghost use Rattle.log_store.specs.Store.{OpenLog};
 ghost use Rattle.word_transaction.specs.Scope.{IsScope, written_in_turn};
 ghost use Rattle.word_transaction.specs.Running.{RecoversTo};
-ghost use Rattle.hybrid_tx.specs.PoolScopes.{pool_place, pool_has_word, pool_scope, finished_of, IsPlaced, IsRewrittenAt};
-ghost use Rattle.hybrid_tx.specs.Objects.Stores.{word_for, field_word, making};
+ghost use Rattle.hybrid_tx.specs.PoolScopes.{pool_place, pool_has_word, pool_scope, finished_of, ArePlacedPuddles, IsRewrittenAt};
+ghost use Rattle.hybrid_tx.specs.Objects.Stores.{word_for, field_word, new_object_write};
 ghost use Rattle.hybrid_tx.specs.Objects.Transactions.{MaySet, AreDeferredEntries, IsOpenOn, IsAtRest, KeepsOpenOn, AbortsOnPool, CommitsOnPool};
 
 /// What the addresses of a pool's ranges name are words of its frames, none of which is one of a log before all frames.
 pub fn pools_are_scopes()
-    ensures { (frames : ℕ) (size : ℕ) (log : ℕ) (at : List (ℕ × Puddle)) → IsPlaced frames at → device_words frames ≤ size → log + LOG_WORDS ≤ frames_at frames
+    ensures { (frames : ℕ) (size : ℕ) (log : ℕ) (at : List (ℕ × Puddle)) → ArePlacedPuddles frames at → device_words frames ≤ size → log + LOG_WORDS ≤ frames_at frames
         → IsScope size log (pool_scope frames at) }
 {}
 
 /// A field in whose word is stored what stands for a value has this value.
 pub fn stored_word_sets_the_field()
     ensures { (types : List (ℕ × ℕ)) (frames : ℕ) (at : List (ℕ × Puddle)) (image : Image) (g : Graph) → graph_of types (stored_in frames at image) ≡ Option.Some g
-        → IsPlaced frames at → (s : ℕ) (f : ℕ) (slot : Slot) → IsRewrittenAt at slot.ordinal → IsSlotOf at slot → place_in_pool frames at image s ≡ Option.Some (place_of_slot slot)
+        → ArePlacedPuddles frames at → (s : ℕ) (f : ℕ) (slot : Slot) → IsRewrittenAt at slot.ordinal → IsSlotOf at slot → place_in_pool frames at image s ≡ Option.Some (place_of_slot slot)
         → (x : FieldValue) (v : ℕ) → MaySet types g s f x → word_for frames at image x ≡ Option.Some v
         → graph_of types (stored_in frames at (overwritten (placed (frame_at frames slot.frame + field_word slot f) (v ∷ [])) image)) ≡ Option.Some (with_field s f x g) }
 {}
 
 /// A free slot that is filled under the next serial, which then is one more, is a new object.
 pub fn stored_words_make_the_object()
-    ensures { (types : List (ℕ × ℕ)) (frames : ℕ) (at : List (ℕ × Puddle)) (image : Image) → IsPlaced frames at → (first : ℕ × Puddle) → slice_get at 0 ≡ Option.Some first
+    ensures { (types : List (ℕ × ℕ)) (frames : ℕ) (at : List (ℕ × Puddle)) (image : Image) → ArePlacedPuddles frames at → (first : ℕ × Puddle) → slice_get at 0 ≡ Option.Some first
         → (slot : Slot) → IsSlotOf at slot → (serial : ℕ) (id : ℕ) (m : ℕ) → IsFreePlace (stored_in frames at image) (place_of_slot slot)
         → serial ≡ next_serial_of (stored_in frames at image) → map_of id types ≡ Option.Some m
         → (g : Graph) → graph_of types (stored_in frames at image) ≡ Option.Some g → g.next_serial < NUMBER_LIMIT
-        → graph_of types (stored_in frames at (overwritten (making frames first.0 slot serial id) image)) ≡ Option.Some (with_new (blank_object id m) g) }
+        → graph_of types (stored_in frames at (overwritten (new_object_write frames first.0 slot serial id) image)) ≡ Option.Some (with_new (blank_object id m) g) }
 {}
 
 /// A pool in the first of whose frames is stored what stands for a root has this root.
 pub fn stored_word_is_the_root()
     ensures { (types : List (ℕ × ℕ)) (frames : ℕ) (at : List (ℕ × Puddle)) (image : Image) (g : Graph) → graph_of types (stored_in frames at image) ≡ Option.Some g
-        → IsPlaced frames at → IsRewrittenAt at 0 → (first : ℕ × Puddle) → slice_get at 0 ≡ Option.Some first → (s : ℕ) (v : ℕ) → word_for frames at image (Ref s) ≡ Option.Some v
+        → ArePlacedPuddles frames at → IsRewrittenAt at 0 → (first : ℕ × Puddle) → slice_get at 0 ≡ Option.Some first → (s : ℕ) (v : ℕ) → word_for frames at image (Ref s) ≡ Option.Some v
         → graph_of types (stored_in frames at (overwritten (placed (frame_at frames first.0 + ROOT_WORD) (v ∷ [])) image)) ≡ Option.Some (with_root s g) }
 {}
 
 /// A slot whose serial is cleared is no object any more, where nothing held it.
 pub fn cleared_serial_frees_the_object()
     ensures { (types : List (ℕ × ℕ)) (frames : ℕ) (at : List (ℕ × Puddle)) (image : Image) (g : Graph) → graph_of types (stored_in frames at image) ≡ Option.Some g
-        → IsPlaced frames at → (s : ℕ) (slot : Slot) → IsSlotOf at slot → place_in_pool frames at image s ≡ Option.Some (place_of_slot slot) → is_referenced s g ≡ false
+        → ArePlacedPuddles frames at → (s : ℕ) (slot : Slot) → IsSlotOf at slot → place_in_pool frames at image s ≡ Option.Some (place_of_slot slot) → is_referenced s g ≡ false
         → graph_of types (stored_in frames at (overwritten (placed (serial_word_at frames slot) (0 ∷ [])) image)) ≡ Option.Some (without_object s g) }
 {}
 
 /// The redo entries of what is asked for later, written in turn over an image, make its graph the one with what is asked for.
 pub fn deferred_entries_make_the_graph()
-    ensures { (frames : ℕ) (at : List (ℕ × Puddle)) (types : List (ℕ × ℕ)) → IsPlaced frames at → (deferred : List DeferredValue) (redo : List Entry) (image : Image) (now : Graph)
+    ensures { (frames : ℕ) (at : List (ℕ × Puddle)) (types : List (ℕ × ℕ)) → ArePlacedPuddles frames at → (deferred : List DeferredValue) (redo : List Entry) (image : Image) (now : Graph)
         → graph_of types (stored_in frames at image) ≡ Option.Some now → AreDeferredEntries frames at types image now deferred redo
         → graph_of types (stored_in frames at (written_in_turn (pool_place frames (finished_of at)) redo image)) ≡ Option.Some (with_deferred_set deferred now) }
 {}

@@ -20,7 +20,7 @@ ghost use Rattle.pud_defs.specs.Graph.{Graph, graph_of};
 ghost use Rattle.log_store.specs.Store.{InLog, with_deferred_words};
 ghost use Rattle.word_transaction.specs.Scope.{Scope, IsScope, redo_entry};
 ghost use Rattle.word_transaction.specs.Running.{IsRunning, IsIdle, no_write, begun_log, ByTransaction, KeepsRunning, SavesAndWrites};
-ghost use Rattle.hybrid_tx.specs.PoolScopes.{pool_scope, finished_of, IsPlaced};
+ghost use Rattle.hybrid_tx.specs.PoolScopes.{pool_scope, finished_of, ArePlacedPuddles};
 ghost use Rattle.pud_defs.specs.Geometry.{steps_of};
 ghost use Rattle.hybrid_tx.specs.Objects.Stores.{ByPut, ByPutBoth};
 ghost use Rattle.hybrid_tx.specs.Objects.Transactions.{begun_tx, IsSaving, IsOpenOn, KeepsSaving};
@@ -45,9 +45,9 @@ impl Tx {
         requires known { log < ALL_LOGS }
         ensures opened { IfOk result (λ tx. tx ≡ begun_tx (log_number_at frames log)) }
         ensures persists { H.tells → Persists (only (log_number_at frames log) RUNNING_GATE) (fault_of result) (H.state h.old) (H.state h.new) }
-        ensures runs { H.tells → (at : List (ℕ × Puddle)) (before : Image) → IsPlaced frames at → IsIdle (pool_scope frames at) (log_number_at frames log) before (H.state h.old).now.words
+        ensures runs { H.tells → (at : List (ℕ × Puddle)) (before : Image) → ArePlacedPuddles frames at → IsIdle (pool_scope frames at) (log_number_at frames log) before (H.state h.old).now.words
             → KeepsRunning (pool_scope frames (finished_of at)) (begun_log (log_number_at frames log)) [] before no_write (fault_of result) (H.state h.old) (H.state h.new) }
-        ensures open { H.tells → (at : List (ℕ × Puddle)) (before : Image) → IsPlaced frames at → IsIdle (pool_scope frames at) (log_number_at frames log) before (H.state h.old).now.words
+        ensures open { H.tells → (at : List (ℕ × Puddle)) (before : Image) → ArePlacedPuddles frames at → IsIdle (pool_scope frames at) (log_number_at frames log) before (H.state h.old).now.words
             → (types : List (ℕ × ℕ)) (g : Graph) → graph_of types (stored_in frames at before) ≡ Option.Some g
             → IfOk result (λ tx. IsOpenOn frames at types tx.log before g g [] (H.state h.new).now.words) }
         ensures cause { H.counts h.new ≡ after_fault (fault_of result) (H.counts h.old) }
@@ -145,7 +145,7 @@ impl Tx {
         ensures at { (self.new).log.gate_at ≡ (self.old).log.gate_at }
         ensures counts { IfOk result (λ _. (self.new).units ≡ (self.old).units + (length vals.now + ENTRY_HEADER_WORDS)) }
         ensures changes { H.tells → Changes (ByTransaction (pool_scope frames pool.now) (self.old).log.gate_at) (fault_of result) (H.state h.old) (H.state h.new) }
-        ensures saves { H.tells → IsPlaced frames pool.now → (e : ℕ × Puddle) → slice_get pool.now ordinal ≡ Option.Some e → e.1.frontier ≡ steps_of e.1 → (before : Image) (redo : List Entry)
+        ensures saves { H.tells → ArePlacedPuddles frames pool.now → (e : ℕ × Puddle) → slice_get pool.now ordinal ≡ Option.Some e → e.1.frontier ≡ steps_of e.1 → (before : Image) (redo : List Entry)
             → IsSaving frames (finished_of pool.now) (self.old).log before redo (H.state h.old).now.words
             → KeepsSaving frames (finished_of pool.now) (self.new).log before redo (placed (frame_at frames e.0 + word) vals.now) (fault_of result) (H.state h.old) (H.state h.new) }
         ensures cause { H.counts h.new ≡ after_fault (fault_of result) (H.counts h.old) }
@@ -172,7 +172,7 @@ impl Tx {
         ensures done { IfOk result (λ _. (self.new).log ≡ with_deferred_words SET_UNITS (self.old).log) }
         ensures counts { IfOk result (λ _. (self.new).units ≡ (self.old).units + SET_UNITS) }
         ensures changes { H.tells → Changes (InLog (self.old).log.gate_at) (fault_of result) (H.state h.old) (H.state h.new) }
-        ensures defers { H.tells → (frames : ℕ) → IsPlaced frames pool.now → device_words frames ≤ (H.counts h.old).size → (self.old).log.gate_at + LOG_WORDS ≤ frames_at frames
+        ensures defers { H.tells → (frames : ℕ) → ArePlacedPuddles frames pool.now → device_words frames ≤ (H.counts h.old).size → (self.old).log.gate_at + LOG_WORDS ≤ frames_at frames
             → (e : ℕ × Puddle) → slice_get pool.now ordinal ≡ Option.Some e → e.1.frontier ≡ steps_of e.1 → (before : Image) (redo : List Entry)
             → IsSaving frames (finished_of pool.now) (self.old).log before redo (H.state h.old).now.words
             → KeepsSaving frames (finished_of pool.now) (self.new).log before (redo ++ redo_entry (e.1.base + WORD_BYTES * word) (value ∷ []) ∷ []) no_write (fault_of result) (H.state h.old) (H.state h.new) }

@@ -12,7 +12,7 @@ use Rattle.pud_defs.specs.GraphChanges.{blank_object, with_field, with_root, wit
 use Rattle.pud_defs.specs.ExportFile.{FileContents}
 use Rattle.pud_defs.specs.Tables.{Pool}
 use Rattle.pud_defs.specs.World.{World, Transaction, open_on, no_clients}
-use Rattle.pud_defs.specs.PoolChanges.{pool_named, new_pool, read_by, with_puddle_more, with_new_pool, with_pool_mode, without_pool, with_type_defined}
+use Rattle.pud_defs.specs.PoolChanges.{pool_named, new_pool, reread_pool, with_puddle_more, with_new_pool, with_pool_mode, without_pool, with_type_defined}
 use Rattle.pud_defs.specs.Imports.{types_missing, with_types_defined, imported_pool, with_imported_pool, with_pool_of}
 use Rattle.pud_defs.specs.Transactions.{is_own, open_after_begin, charged, deferring, lowered}
 use Rattle.pud_defs.specs.Step.{name_in, graph_in, graph_seen, is_all_live, grows, contents_named, owner_acting, after}
@@ -48,7 +48,7 @@ grows-share w n =
 -- the share of the pool that a command names; where it names none, that of any
 abbrev pub effect : (ℕ → Option Owner) → List (ℕ × ℕ) → Option FileContents → Command → Share → Share
 effect clients types contents (Leave client) s = record s { transaction = cond (is_own client s.transaction) None s.transaction }
-effect clients types contents (Define id map) s = record s { pool = option_map (read_by (with_type id map types)) s.pool }
+effect clients types contents (Define id map) s = record s { pool = option_map (reread_pool (with_type id map types)) s.pool }
 effect clients types contents (commands.Pool client name mode) s = record s { pool = Some (new_pool (owner_acting clients client) mode 0) }
 effect clients types contents (Chmod client name mode) s = record s { pool = option_map (λ (p : Pool). record p { mode = mode }) s.pool }
 effect clients types contents (commands.Drop client name) s = record s { pool = None }

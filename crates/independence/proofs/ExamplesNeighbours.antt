@@ -10,7 +10,7 @@ use Rattle.pud_defs.specs.PoolChanges.{pool_named}
 use Rattle.pud_defs.specs.Grammar.{command_of}
 use Rattle.pud_defs.specs.Step.{Answer, step_answer, step_world}
 use Rattle.pud_defs.specs.Step.Answer.{of_reply}
-use Rattle.pud_defs.specs.Gives.{with_file, contents_held, Exports}
+use Rattle.pud_defs.specs.Gives.{with_file, contents_of_pool, Exports}
 use Rattle.pud_defs.specs.Changing.{file_in}
 use Rattle.pud_defs.specs.Run.{Turn, IsTurn, IsRun, last_world}
 use Rattle.pud_defs.proofs.Changing.{Gives-plain}
@@ -18,7 +18,7 @@ use Rattle.pud_defs.proofs.Opened.{opened}
 use Rattle.pud_defs.proofs.ExamplesPools.{said, lines_said}
 use Rattle.pud_defs.proofs.ExamplesTransactions.{name_of}
 use Rattle.pud_defs.proofs.ExamplesFiles.{contents, bytes, of_its_bytes}
-use Rattle.independence.specs.Own.{Names, only, own, answers_to}
+use Rattle.independence.specs.Own.{Names, only_pool, lines_of_set, answers_to}
 use Rattle.independence.specs.Shares.{share}
 use Rattle.independence.specs.Limits.{meets_limit}
 
@@ -78,7 +78,7 @@ alone =
     codes "type 1 2 1" ∷ codes "client 0 5 5" ∷ codes "client 1 6 6" ∷ codes "pool 0 a 600" ∷ codes "begin 0 a"
     ∷ codes "new 0 a 1" ∷ codes "set 0 a 1.0 10" ∷ codes "leave 1" ∷ codes "get 0 a 1.0" ∷ codes "commit 0 a" ∷ []
 
-own_lines : own (only a) both ≡ alone
+own_lines : lines_of_set (only_pool a) both ≡ alone
 unfolding opened
 own_lines = refl
 
@@ -87,7 +87,7 @@ said_of_both : said (device 4) both
 unfolding opened said
 said_of_both = refl
 
-same_answers : answers_to (only a) (turns_of (device 4) alone) ≡ answers_to (only a) (turns_of (device 4) both)
+same_answers : answers_to (only_pool a) (turns_of (device 4) alone) ≡ answers_to (only_pool a) (turns_of (device 4) both)
 unfolding opened
 same_answers = refl
 
@@ -95,7 +95,7 @@ same_share : share (last (device 4) alone) a ≡ share (last (device 4) both) a
 unfolding opened
 same_share = refl
 
-no_limit_met : (any_limit (only a) (device 4) (turns_of (device 4) both) ≡ false) × (any_limit (only a) (device 4) (turns_of (device 4) alone) ≡ false)
+no_limit_met : (any_limit (only_pool a) (device 4) (turns_of (device 4) both) ≡ false) × (any_limit (only_pool a) (device 4) (turns_of (device 4) alone) ≡ false)
 unfolding opened
 no_limit_met = (refl, refl)
 
@@ -105,8 +105,8 @@ neighbour_first = codes "client 0 5 5" ∷ codes "pool 0 b 600" ∷ codes "pool 
 
 numbers_differ :
     (option_map (λ (p : Pool). p.number) (pool_named a (last (device 4) neighbour_first).stored) ≡ Some 3)
-    × (option_map (λ (p : Pool). p.number) (pool_named a (last (device 4) (own (only a) neighbour_first)).stored) ≡ Some 1)
-    × (share (last (device 4) neighbour_first) a ≡ share (last (device 4) (own (only a) neighbour_first)) a)
+    × (option_map (λ (p : Pool). p.number) (pool_named a (last (device 4) (lines_of_set (only_pool a) neighbour_first)).stored) ≡ Some 1)
+    × (share (last (device 4) neighbour_first) a ≡ share (last (device 4) (lines_of_set (only_pool a) neighbour_first)) a)
 unfolding opened
 numbers_differ = (refl, refl, refl)
 
@@ -119,14 +119,14 @@ neighbour_alone_is_refused : said (device 1) neighbour_without_space ≡ lines_s
 unfolding opened said
 neighbour_alone_is_refused = refl
 
-that_meets_no_limit : any_limit (only a) (device 1) (turns_of (device 1) neighbour_without_space) ≡ false
+that_meets_no_limit : any_limit (only_pool a) (device 1) (turns_of (device 1) neighbour_without_space) ≡ false
 unfolding opened
 that_meets_no_limit = refl
 
 -- ---- why no premise can go: with a neighbour the first answers, alone the second
 
 abbrev Differ : World → List (List ℕ) → List Answer → List Answer → Type 0
-Differ w lines with_neighbour by_itself = (answers_to (only a) (turns_of w lines) ≡ with_neighbour) × (answers_to (only a) (turns_of w (own (only a) lines)) ≡ by_itself)
+Differ w lines with_neighbour by_itself = (answers_to (only_pool a) (turns_of w lines) ≡ with_neighbour) × (answers_to (only_pool a) (turns_of w (lines_of_set (only_pool a) lines)) ≡ by_itself)
 
 frames_are_shared : Differ (device 1) (codes "client 0 5 5" ∷ codes "pool 0 b 600" ∷ codes "pool 0 a 600" ∷ []) (of_reply (replies.No refusals.Space) ∷ []) (ok ∷ [])
 unfolding opened
@@ -183,7 +183,7 @@ neighbours_pool = last with_files (codes "client 0 5 5" ∷ codes "import 0 b x 
 abbrev written : World
 written = record neighbours_pool { shelf = with_file (codes "y") bytes neighbours_pool.shelf }
 
-is_held : contents_held neighbours_pool.stored.types (pool_named (name_of 98) neighbours_pool.stored) ≡ Some contents
+is_held : contents_of_pool neighbours_pool.stored.types (pool_named (name_of 98) neighbours_pool.stored) ≡ Some contents
 unfolding opened
 is_held = refl
 

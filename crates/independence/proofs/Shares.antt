@@ -10,7 +10,7 @@ use Rattle.pud_defs.specs.Keyed.{without}
 use Rattle.pud_defs.specs.Types.{with_type}
 use Rattle.pud_defs.specs.Tables.{Pool}
 use Rattle.pud_defs.specs.World.{StoredWorld, Transaction}
-use Rattle.pud_defs.specs.PoolChanges.{changed_pool, read_by, pools_read, with_type_defined}
+use Rattle.pud_defs.specs.PoolChanges.{changed_pool, reread_pool, reread_pools, with_type_defined}
 use Rattle.pud_defs.specs.Imports.{with_types_defined}
 use Rattle.pud_defs.specs.Transactions.{holding_graph, committed_pools}
 use Rattle.pud_defs.specs.DeferredValues.{with_deferred_set}
@@ -111,13 +111,13 @@ seen_committed q n (Some t) pools = seen_changed_if (nat_le t.depth 1) q n (hold
 -- ---- types
 
 -- what is read anew by more types
-pub seen_read : (q : List ℕ) (types : List (ℕ × ℕ)) (pools : Pools) → seen (find name_cmp q (pools_read types pools)) ≡ option_map (read_by types) (seen (find name_cmp q pools))
-seen_read q types pools = ap seen (find-mapped name_cmp (read_by types) q pools) ∙ seen-mapped (read_by types) (λ p. refl) (find name_cmp q pools)
+pub seen_read : (q : List ℕ) (types : List (ℕ × ℕ)) (pools : Pools) → seen (find name_cmp q (reread_pools types pools)) ≡ option_map (reread_pool types) (seen (find name_cmp q pools))
+seen_read q types pools = ap seen (find-mapped name_cmp (reread_pool types) q pools) ∙ seen-mapped (reread_pool types) (λ p. refl) (find name_cmp q pools)
 
 -- a pool read anew by these types, one behind the other
 abbrev pub reread : (missing types : List (ℕ × ℕ)) → Option Pool → Option Pool
 reread [] types pool = pool
-reread (t ∷ missing) types pool = reread missing (with_type t.0 t.1 types) (option_map (read_by (with_type t.0 t.1 types)) pool)
+reread (t ∷ missing) types pool = reread missing (with_type t.0 t.1 types) (option_map (reread_pool (with_type t.0 t.1 types)) pool)
 
 -- the types with these, one behind the other
 abbrev pub types_with : (missing types : List (ℕ × ℕ)) → List (ℕ × ℕ)

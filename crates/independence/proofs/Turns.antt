@@ -22,10 +22,10 @@ use Rattle.pud_defs.specs.Listing.{name_text}
 use Rattle.pud_defs.specs.Grammar.{command_of}
 use Rattle.pud_defs.specs.Step.{Answer, name_in, pool_by_name, open_by_name, file_for, contents_named, refusal_of, after, answer, answer_unless, answer_by, unless_refused}
 use Rattle.pud_defs.specs.Step.Answer.{of_reply}
-use Rattle.pud_defs.specs.Gives.{Shelf, contents_held, Exports, GivesShelf, GivesUnless, Gives}
+use Rattle.pud_defs.specs.Gives.{Shelf, contents_of_pool, Exports, GivesShelf, GivesUnless, Gives}
 use Rattle.pud_defs.specs.Run.{Turn, IsTurn, is_cut}
 use Rattle.pud_defs.proofs.TypeLists.{same_number}
-use Rattle.independence.specs.Own.{Names, is_within, is_none_or_within, name_by, is_own}
+use Rattle.independence.specs.Own.{Names, is_within, is_none_or_within, name_of_command, is_line_of_set}
 use Rattle.independence.specs.Shares.{seen, Share, share}
 use Rattle.independence.specs.Limits.{is_full_by_itself, is_limit, is_at_limit}
 use Rattle.independence.specs.Premises.{DefinesNone, file_read, LeavesFiles}
@@ -136,12 +136,12 @@ ReadsAmong F c = (file : List ℕ) → file_read c ≡ Some file → F file ≡ 
 
 module _ (S : Names) (F : List ℕ → Bool) (w v : World) (agree : Agree S F w v) where
   pool-same : (o : Option (List ℕ)) → is_none_or_within S o ≡ true → seen (pool_by_name w.stored o) ≡ seen (pool_by_name v.stored o)
-  pool-same None is_own = refl
-  pool-same (Some name) is_own = ap (λ (s : Share). s.pool) (agree.shares name is_own)
+  pool-same None is_line_of_set = refl
+  pool-same (Some name) is_line_of_set = ap (λ (s : Share). s.pool) (agree.shares name is_line_of_set)
 
   open-same : (o : Option (List ℕ)) → is_none_or_within S o ≡ true → open_by_name w o ≡ open_by_name v o
-  open-same None is_own = refl
-  open-same (Some name) is_own = ap (λ (s : Share). s.transaction) (agree.shares name is_own)
+  open-same None is_line_of_set = refl
+  open-same (Some name) is_line_of_set = ap (λ (s : Share). s.transaction) (agree.shares name is_line_of_set)
 
   file-same : (c : Command) → ReadsAmong F c → option_map file_graph (file_for w c) ≡ option_map file_graph (file_for v c)
   file-same (Import client name file mode) among = agree.files (name_text file) (among (name_text file) refl)
@@ -149,23 +149,23 @@ module _ (S : Names) (F : List ℕ → Bool) (w v : World) (agree : Agree S F w 
 
   -- they look the same to a command of the set
   pub LooksSame-own : (c : Command) → is_none_or_within S (name_in c) ≡ true → ReadsAmong F c → LooksSame w v c
-  LooksSame-own c is_own among = record {
+  LooksSame-own c is_line_of_set among = record {
     clients = agree.clients;
     types = agree.types;
-    pool = pool-same (name_in c) is_own;
-    opened = open-same (name_in c) is_own;
+    pool = pool-same (name_in c) is_line_of_set;
+    opened = open-same (name_in c) is_line_of_set;
     file = file-same c among;
   }
 
 -- ---- an own line in both worlds
 
 within_touched : (S : Names) (q : List ℕ) (o : Option (List ℕ)) → is_none_or_within S o ≡ true → S q ≡ true → S (touched q o) ≡ true
-within_touched S q None is_own within = within
-within_touched S q (Some n) is_own within = is_own
+within_touched S q None is_line_of_set within = within
+within_touched S q (Some n) is_line_of_set within = is_line_of_set
 
-contents_held-seen : (types : List (ℕ × ℕ)) (o : Option Pool) → contents_held types (seen o) ≡ contents_held types o
-contents_held-seen types None = refl
-contents_held-seen types (Some p) = refl
+contents_of_pool-seen : (types : List (ℕ × ℕ)) (o : Option Pool) → contents_of_pool types (seen o) ≡ contents_of_pool types o
+contents_of_pool-seen types None = refl
+contents_of_pool-seen types (Some p) = refl
 
 written-same : (file q a b : List ℕ) (old other : Option (List ℕ)) (test : Bool) → file_graph a ≡ file_graph b → option_map file_graph old ≡ option_map file_graph other
     → option_map file_graph (cond test (Some a) old) ≡ option_map file_graph (cond test (Some b) other)
@@ -175,7 +175,7 @@ written-same file q a b old other false same rest = rest
 exported-same : (w v : World) (c : Command) (n file : List ℕ) → w.stored.types ≡ v.stored.types → seen (pool_named n w.stored) ≡ seen (pool_named n v.stored)
     → (a b : Shelf) → Exports w n file a → Exports v n file b → (q : List ℕ) → contents w q ≡ contents v q → option_map file_graph (a q) ≡ option_map file_graph (b q)
 exported-same w v c n file types pool a b x y q before =
-    let held = sym (contents_held-seen w.stored.types (pool_named n w.stored)) ∙ ap₂ contents_held types pool ∙ contents_held-seen v.stored.types (pool_named n v.stored) in
+    let held = sym (contents_of_pool-seen w.stored.types (pool_named n w.stored)) ∙ ap₂ contents_of_pool types pool ∙ contents_of_pool-seen v.stored.types (pool_named n v.stored) in
     let holds = x.holds ∙ sym x.held ∙ held ∙ y.held ∙ sym y.holds in
     ap (λ (shelf : Shelf). option_map file_graph (shelf q)) x.given
     ∙ written-same file q x.bytes y.bytes (w.shelf q) (v.shelf q) (bytes_eq q file) holds before
@@ -186,13 +186,13 @@ shelves-same : (w v : World) (c : Command) → LooksSame w v c → (a b : Shelf)
 shelves-same w v (Export client n file) same a b x y q before = exported-same w v (Export client n file) n (name_text file) same.types same.pool a b x y q before
 shelves-same w v c same a b x y q before = ap (λ (shelf : Shelf). option_map file_graph (shelf q)) x ∙ before ∙ ap (λ (shelf : Shelf). option_map file_graph (shelf q)) (sym y)
 
-module _ (S : Names) (F : List ℕ → Bool) (w v : World) (agree : Agree S F w v) (c : Command) (is_own : is_none_or_within S (name_in c) ≡ true) (among : ReadsAmong F c) where
+module _ (S : Names) (F : List ℕ → Bool) (w v : World) (agree : Agree S F w v) (c : Command) (is_line_of_set : is_none_or_within S (name_in c) ≡ true) (among : ReadsAmong F c) where
   abbrev same : LooksSame w v c
-  same = LooksSame-own S F w v agree c is_own among
+  same = LooksSame-own S F w v agree c is_line_of_set among
 
   share_after-same : (q : List ℕ) → S q ≡ true → share (after w c) q ≡ share (after v c) q
   share_after-same q within =
-      let here = agree.shares (touched q (name_in c)) (within_touched S q (name_in c) is_own within) in
+      let here = agree.shares (touched q (name_in c)) (within_touched S q (name_in c) is_line_of_set within) in
       let there = agree.shares q within in
       let held = contents-same w v c same in
       share_after w q c
@@ -328,21 +328,21 @@ module _ (S : Names) (w : World) (c : Command) (next : World) (outside : is_none
 Agree-still : (S : Names) (F : List ℕ → Bool) (w next : World) → next ≡ w → Agree S F next w
 Agree-still S F w next still = subst (λ (z : World). Agree S F z w) (sym still) (Agree-itself S F w)
 
-own_where_none : (S : Names) (line : List ℕ) → command_of line ≡ None → is_own S line ≡ true
-own_where_none S line is = ap (λ (o : Option Command). is_none_or_within S (name_by o)) is
+own_where_none : (S : Names) (line : List ℕ) → command_of line ≡ None → is_line_of_set S line ≡ true
+own_where_none S line is = ap (λ (o : Option Command). is_none_or_within S (name_of_command o)) is
 
-another_plain : (S : Names) (F : List ℕ → Bool) (w : World) (t : Turn) (command : Option Command) → command_of t.line ≡ command → is_own S t.line ≡ false → IsPlain w t → DefinesNone w t
+another_plain : (S : Names) (F : List ℕ → Bool) (w : World) (t : Turn) (command : Option Command) → command_of t.line ≡ command → is_line_of_set S t.line ≡ false → IsPlain w t → DefinesNone w t
     → ((file : List ℕ) → F file ≡ true → t.next.shelf file ≡ w.shelf file) → Agree S F t.next w
 another_plain S F w t None is outside plain none leaves = absurd (let no : true ≡ false = sym (own_where_none S t.line is) ∙ outside in cc)
 another_plain S F w t (Some c) is outside plain none leaves =
-    let named : is_none_or_within S (name_in c) ≡ false = ap (λ (o : Option Command). is_none_or_within S (name_by o)) (sym is) ∙ outside in
+    let named : is_none_or_within S (name_in c) ≡ false = ap (λ (o : Option Command). is_none_or_within S (name_of_command o)) (sym is) ∙ outside in
     elim (by_refusal w c t.next (subst (λ (o : Option Command). Gives w o t.next) is plain.gives)) [
       | inl done ↦ Agree-outside S w c t.next named done none.none F leaves
       | inr refused ↦ Agree-still S F w t.next refused.stays
     ]
 
 -- a line of another pool leaves all that the set has
-pub Agree-another : (S : Names) (F : List ℕ → Bool) (w : World) (t : Turn) → IsTurn w t → is_own S t.line ≡ false → is_cut t.answer ≡ false → DefinesNone w t → LeavesFiles F w t → Agree S F t.next w
+pub Agree-another : (S : Names) (F : List ℕ → Bool) (w : World) (t : Turn) → IsTurn w t → is_line_of_set S t.line ≡ false → is_cut t.answer ≡ false → DefinesNone w t → LeavesFiles F w t → Agree S F t.next w
 Agree-another S F w t is outside uncut none files = elim (plain_or_still w t is uncut) [
   | inl plain ↦ another_plain S F w t (command_of t.line) refl outside plain none files.leaves
   | inr still ↦ Agree-still S F w t.next still

@@ -17,7 +17,7 @@ use Rattle.pud_defs.specs.Changing.{file_in}
 use Rattle.pud_defs.specs.Run.{Turn, IsTurn, is_cut, IsRun, last_world}
 use Rattle.pud_defs.specs.Texts.{reply_text, begins_with_ok}
 use Rattle.pud_defs.proofs.Steps.{done_answer}
-use Rattle.independence.specs.Own.{Names, only, is_own}
+use Rattle.independence.specs.Own.{Names, only_pool, is_line_of_set}
 use Rattle.independence.specs.Shares.{seen, Share, share, AreAlikeOrAbsent, IsSamePool}
 use Rattle.independence.specs.Limits.{is_full_by_itself, is_limit, is_at_limit, MeetNoLimit, MeetNoneAtAll}
 use Rattle.independence.specs.Premises.{is_imported, LeavesFiles, OthersLeaveFiles, file_written, OthersWriteNone}
@@ -39,7 +39,7 @@ either_false false x y p q = q
 pub MeetNoLimit-whole : (S : Names) (w : World) (turns : List Turn) → MeetNoneAtAll w turns → MeetNoLimit S w turns
 MeetNoLimit-whole S w [] none = tt
 MeetNoLimit-whole S w (t ∷ turns) none = (
-  either_false (is_own S t.line) (is_at_limit w t) (is_cut t.answer) none.0 (uncut_where_none (is_full_by_itself w (command_of t.line)) t.answer none.0),
+  either_false (is_line_of_set S t.line) (is_at_limit w t) (is_cut t.answer) none.0 (uncut_where_none (is_full_by_itself w (command_of t.line)) t.answer none.0),
   MeetNoLimit-whole S t.next turns none.1,
 )
 
@@ -109,7 +109,7 @@ IsSamePool-shares name w v same = record {
 pub is_pool_by_itself : (w : World) (turns : List Turn) → IsRun w turns → IsPoolByItself w (map (λ (t : Turn). t.line) turns) turns
 is_pool_by_itself w turns run = record {
   alone = λ name none types unwritten others also lines unmet.
-      let S = only name in
+      let S = only_pool name in
       let same = (are_independent w turns run).alone S (MeetNoLimit-whole S w turns none) types
       (OthersLeaveFiles-unwritten S (is_imported S (map (λ (t : Turn). t.line) turns)) w turns run none unwritten) others also lines (MeetNoLimit-whole S w others unmet) in
       (same.answers, IsSamePool-shares name (last_world w others) (last_world w turns) (same.shares name ((bytes_eq-Decides name name).1 refl)));

@@ -2,7 +2,7 @@
 use Rattle.std.specs.Prelude.{◌≡◌, ℕ, true, false, List, map}
 use Rattle.pud_defs.specs.World.{World}
 use Rattle.pud_defs.specs.Run.{Turn, is_cut, IsRun, last_world}
-use Rattle.independence.specs.Own.{Names, only, is_own, own, answers_to}
+use Rattle.independence.specs.Own.{Names, only_pool, is_line_of_set, lines_of_set, answers_to}
 use Rattle.independence.specs.Shares.{share, IsSamePool}
 use Rattle.independence.specs.Limits.{MeetNoLimit, MeetNoneAtAll}
 use Rattle.independence.specs.Premises.{DefinesNone, OthersDefineNone, is_imported, OthersLeaveFiles, OthersWriteNone}
@@ -11,7 +11,7 @@ use Rattle.independence.specs.Premises.{DefinesNone, OthersDefineNone, is_import
 
 -- A line that names a pool outside a set and defines no type leaves each pool of the set with what is open on it, where power was not lost.
 pub record LeavesOthers (w : World) (t : Turn) : Type 0 where
-  pub others : (S : Names) → is_own S t.line ≡ false → is_cut t.answer ≡ false → DefinesNone w t → (name : List ℕ) → S name ≡ true → share t.next name ≡ share w name
+  pub others : (S : Names) → is_line_of_set S t.line ≡ false → is_cut t.answer ≡ false → DefinesNone w t → (name : List ℕ) → S name ≡ true → share t.next name ≡ share w name
 
 -- ---- a run
 
@@ -24,11 +24,11 @@ pub record IsSameFor (S : Names) (w : World) (turns : List Turn) (v : World) (ot
 -- where in the turns of others' lines power was not lost, no type was defined, and each file that the set imports stayed.
 pub record AreIndependent (w : World) (lines : List (List ℕ)) (turns : List Turn) : Type 0 where
   pub alone : (S : Names) → MeetNoLimit S w turns → OthersDefineNone S w turns → OthersLeaveFiles S (is_imported S lines) w turns
-      → (others : List Turn) → IsRun w others → map (λ t. t.line) others ≡ own S lines → MeetNoLimit S w others → IsSameFor S w turns w others
+      → (others : List Turn) → IsRun w others → map (λ t. t.line) others ≡ lines_of_set S lines → MeetNoLimit S w others → IsSameFor S w turns w others
 
 -- The same of one pool and whole runs: in neither run a shared limit was met, and no line of another pool defines a type or writes a file that a line
 -- of this one imports.
 pub record IsPoolByItself (w : World) (lines : List (List ℕ)) (turns : List Turn) : Type 0 where
-  pub alone : (name : List ℕ) → MeetNoneAtAll w turns → OthersDefineNone (only name) w turns → OthersWriteNone (only name) (is_imported (only name) lines) turns
-      → (others : List Turn) → IsRun w others → map (λ t. t.line) others ≡ own (only name) lines → MeetNoneAtAll w others
-      → (answers_to (only name) others ≡ answers_to (only name) turns) × IsSamePool name (last_world w others) (last_world w turns)
+  pub alone : (name : List ℕ) → MeetNoneAtAll w turns → OthersDefineNone (only_pool name) w turns → OthersWriteNone (only_pool name) (is_imported (only_pool name) lines) turns
+      → (others : List Turn) → IsRun w others → map (λ t. t.line) others ≡ lines_of_set (only_pool name) lines → MeetNoneAtAll w others
+      → (answers_to (only_pool name) others ≡ answers_to (only_pool name) turns) × IsSamePool name (last_world w others) (last_world w turns)

@@ -9,7 +9,7 @@ use Rattle.pud_defs.specs.Grammar.{command_of}
 use Rattle.pud_defs.specs.Step.{Answer, is_full_graph, graph_for}
 use Rattle.pud_defs.specs.Step.Answer.{of_reply, of_text}
 use Rattle.pud_defs.specs.Run.{Turn, is_cut}
-use Rattle.independence.specs.Own.{Names, is_own}
+use Rattle.independence.specs.Own.{Names, is_line_of_set}
 
 -- a command makes an object in a pool that by itself can have no more: it has as many as a pool may have, or no serial is left
 abbrev pub is_full_by_itself : World → Option Command → Bool
@@ -34,7 +34,7 @@ is_at_limit w t = is_limit (is_full_by_itself w (command_of t.line)) t.answer
 
 -- one was met by an own line of the set, or power was lost in another's
 abbrev pub meets_limit : Names → World → Turn → Bool
-meets_limit S w t = cond (is_own S t.line) (is_at_limit w t) (is_cut t.answer)
+meets_limit S w t = cond (is_line_of_set S t.line) (is_at_limit w t) (is_cut t.answer)
 
 -- in no turn is that so
 abbrev pub MeetNoLimit : Names → World → List Turn → Type 0

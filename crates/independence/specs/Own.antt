@@ -10,8 +10,8 @@ abbrev pub Names : Type 0
 Names = List ℕ → Bool
 
 -- the one pool of this name
-abbrev pub only : List ℕ → Names
-only name other = bytes_eq other name
+abbrev pub only_pool : List ℕ → Names
+only_pool name other = bytes_eq other name
 
 -- a name is given, and is of the set
 abbrev pub is_within : Names → Option (List ℕ) → Bool
@@ -24,21 +24,21 @@ is_none_or_within S None = true
 is_none_or_within S (Some name) = S name
 
 -- the name of the pool that a line names, by the command that it is: a line that is none names no pool
-abbrev pub name_by : Option Command → Option (List ℕ)
-name_by None = None
-name_by (Some c) = name_in c
+abbrev pub name_of_command : Option Command → Option (List ℕ)
+name_of_command None = None
+name_of_command (Some c) = name_in c
 
 -- the line names a pool of the set
 abbrev pub is_of : Names → List ℕ → Bool
-is_of S line = is_within S (name_by (command_of line))
+is_of S line = is_within S (name_of_command (command_of line))
 
 -- it names such a pool, or none
-abbrev pub is_own : Names → List ℕ → Bool
-is_own S line = is_none_or_within S (name_by (command_of line))
+abbrev pub is_line_of_set : Names → List ℕ → Bool
+is_line_of_set S line = is_none_or_within S (name_of_command (command_of line))
 
 -- the own lines of a set: those that name a pool of it, and those that name none
-abbrev pub own : Names → List (List ℕ) → List (List ℕ)
-own S lines = filter (is_own S) lines
+abbrev pub lines_of_set : Names → List (List ℕ) → List (List ℕ)
+lines_of_set S lines = filter (is_line_of_set S) lines
 
 -- the answers to the lines that name a pool of the set
 abbrev pub answers_to : Names → List Turn → List Answer

@@ -10,7 +10,7 @@ use Rattle.pud_defs.specs.Grammar.{command_of}
 use Rattle.pud_defs.specs.Changing.{file_in}
 use Rattle.pud_defs.specs.Run.{Turn}
 use Rattle.pud_defs.specs.Texts.{begins_with_ok}
-use Rattle.independence.specs.Own.{Names, is_own, is_of}
+use Rattle.independence.specs.Own.{Names, is_line_of_set, is_of}
 
 -- ---- types
 
@@ -21,7 +21,7 @@ pub record DefinesNone (w : World) (t : Turn) : Type 0 where
 -- so it is in each turn of a line that names a pool outside the set
 abbrev pub OthersDefineNone : Names → World → List Turn → Type 0
 OthersDefineNone S w [] = ⊤
-OthersDefineNone S w (t ∷ turns) = (is_own S t.line ≡ false → DefinesNone w t) × OthersDefineNone S t.next turns
+OthersDefineNone S w (t ∷ turns) = (is_line_of_set S t.line ≡ false → DefinesNone w t) × OthersDefineNone S t.next turns
 
 -- ---- files
 
@@ -30,13 +30,13 @@ abbrev pub file_read : Command → Option (List ℕ)
 file_read (Import client name file mode) = Some (name_text file)
 file_read c = None
 
-abbrev pub is_name : List ℕ → Option (List ℕ) → Bool
-is_name file None = false
-is_name file (Some other) = bytes_eq file other
+abbrev pub is_file_named : List ℕ → Option (List ℕ) → Bool
+is_file_named file None = false
+is_file_named file (Some other) = bytes_eq file other
 
 -- one of the lines makes a pool of the set of this file
 abbrev pub is_imported : Names → List (List ℕ) → List ℕ → Bool
-is_imported S lines file = list_any (λ line. is_of S line && is_name file (option_and_then file_read (command_of line))) lines
+is_imported S lines file = list_any (λ line. is_of S line && is_file_named file (option_and_then file_read (command_of line))) lines
 
 -- Each of these files is behind the turn as it was before.
 pub record LeavesFiles (F : List ℕ → Bool) (w : World) (t : Turn) : Type 0 where
@@ -45,7 +45,7 @@ pub record LeavesFiles (F : List ℕ → Bool) (w : World) (t : Turn) : Type 0 w
 -- so it is in each turn of a line that names a pool outside the set
 abbrev pub OthersLeaveFiles : Names → (List ℕ → Bool) → World → List Turn → Type 0
 OthersLeaveFiles S F w [] = ⊤
-OthersLeaveFiles S F w (t ∷ turns) = (is_own S t.line ≡ false → LeavesFiles F w t) × OthersLeaveFiles S F t.next turns
+OthersLeaveFiles S F w (t ∷ turns) = (is_line_of_set S t.line ≡ false → LeavesFiles F w t) × OthersLeaveFiles S F t.next turns
 
 -- the file that was written in a turn: a line that may write one was carried out
 abbrev pub file_written : Turn → Option (List ℕ)
@@ -54,4 +54,4 @@ file_written t = cond (begins_with_ok t.answer) (file_in (command_of t.line)) No
 -- no line that names a pool outside the set writes one of these files
 abbrev pub OthersWriteNone : Names → (List ℕ → Bool) → List Turn → Type 0
 OthersWriteNone S F [] = ⊤
-OthersWriteNone S F (t ∷ turns) = (is_own S t.line ≡ false → (file : List ℕ) → file_written t ≡ Some file → F file ≡ false) × OthersWriteNone S F turns
+OthersWriteNone S F (t ∷ turns) = (is_line_of_set S t.line ≡ false → (file : List ℕ) → file_written t ≡ Some file → F file ≡ false) × OthersWriteNone S F turns

@@ -14,7 +14,7 @@ use Rattle.graph_read.specs.Index.{kept_under, place_kept, references_kept, HasR
 use Rattle.graph_read.specs.Indexed.{slot_at_place, IsIndexOf, serial_named}
 use Rattle.graph_read.specs.Reading.{table_in, place_in_pool}
 use Rattle.graph_read.proofs.IndexKept.{found_by, held_by_index}
-use Rattle.known_pool.specs.Known.{Known, IsKnown, entries_of}
+use Rattle.known_pool.specs.Known.{Known, IsKnown, index_entries}
 use Rattle.known_pool.specs.Indexes.{MayMove}
 use Rattle.known_pool.proofs.KnownKept.{same_kept}
 
@@ -24,16 +24,16 @@ none_mapped f None = refl
 none_mapped f (Some x) = refl
 
 -- the index that is kept has these entries
-pub some_entries : (o : Option Index) (x : Index) → option_map entries_of o ≡ Some (entries_of x) → (y : Index) × ((o ≡ Some y) × (entries_of y ≡ entries_of x))
-some_entries None x none = absurd (none-some (entries_of x) none)
-some_entries (Some y) x same = (y, (refl, same_Some (entries_of y) (entries_of x) same))
+pub some_entries : (o : Option Index) (x : Index) → option_map index_entries o ≡ Some (index_entries x) → (y : Index) × ((o ≡ Some y) × (index_entries y ≡ index_entries x))
+some_entries None x none = absurd (none-some (index_entries x) none)
+some_entries (Some y) x same = (y, (refl, same_Some (index_entries y) (index_entries x) same))
 
-pub some_mapped : (o : Option Index) → is_some o ≡ true → is_some (option_map entries_of o) ≡ true
+pub some_mapped : (o : Option Index) → is_some o ≡ true → is_some (option_map index_entries o) ≡ true
 some_mapped None some = absurd (true≢false (sym some))
 some_mapped (Some x) some = refl
 
 -- what may be counted in one that has the same entries may be counted in it
-pub MayMove-entries : (was now : FieldValue) (x y : Index) → entries_of y ≡ entries_of x → MayMove was now x → MayMove was now y
+pub MayMove-entries : (was now : FieldValue) (x y : Index) → index_entries y ≡ index_entries x → MayMove was now x → MayMove was now y
 MayMove-entries was now x y same may = record {
   held = λ some. subst HasReference (sym (same_kept x y same (serial_named was))) (may.held some);
   room = λ some. subst MayBeReferenced (sym (same_kept x y same (serial_named now))) (may.room some);
@@ -50,7 +50,7 @@ module _ (F : ℕ) (image : Image) (known : Known) (k : IsKnown F image known) (
   pub place_within : IfSome place (λ p. p < places_in known.puddles)
   place_within = within_by place refl
 
-  module _ (x : Index) (is : known.index ≡ Some (entries_of x)) where
+  module _ (x : Index) (is : known.index ≡ Some (index_entries x)) where
     index_is : IsIndexOf F known.puddles (types_of image) image x
     index_is = k.indexed x is
 

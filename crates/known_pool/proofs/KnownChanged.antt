@@ -19,7 +19,7 @@ use Rattle.graph_read.specs.Indexed.{IsIndexOf}
 use Rattle.graph_read.specs.Reading.{place_in_pool}
 use Rattle.graph_read.proofs.IndexKept.{index_set, index_rooted, index_made, index_freed}
 use Rattle.object_alloc.specs.Alloc.{AreLiveBefore}
-use Rattle.known_pool.specs.Known.{Known, IsKnown, entries_of}
+use Rattle.known_pool.specs.Known.{Known, IsKnown, index_entries}
 use Rattle.known_pool.specs.Indexes.{Follows, after_move, after_made, Releases}
 use Rattle.known_pool.proofs.KnownKept.{serial_in, KeepsSerials, place_kept, live_within}
 use Rattle.known_pool.proofs.Bounded.{next_unnamed, slot_at_slot}
@@ -81,7 +81,7 @@ module _ (F : ℕ) (known next : Known) (image later : Image) (g : Graph) (puddl
   -- an object was freed
   pub IsKnown-freed : (s : ℕ) (slot : Slot) → graph_of (types_of image) (stored_in F at later) ≡ Some (without_object s g) → place_in_pool F at later s ≡ None
       → ((q : ℕ) → (q ≡ s → ⊥) → place_in_pool F at later q ≡ place_in_pool F at image q) → ((p : ℕ) → (p ≡ place_of_slot slot → ⊥) → serial_in F at later p ≡ serial_in F at image p)
-      → ((x : Index) → next.index ≡ Some (entries_of x) → Releases (place_in_pool F at image) g s x) → next.full_below ≤ known.full_below → next.full_below ≤ place_of_slot slot → IsKnown F later next
+      → ((x : Index) → next.index ≡ Some (index_entries x) → Releases (place_in_pool F at image) g s x) → next.full_below ≤ known.full_below → next.full_below ≤ place_of_slot slot → IsKnown F later next
   IsKnown-freed s slot after gone others serials lets fewer before = record {
     indexed = λ y kept.
         let let_go = lets y kept in

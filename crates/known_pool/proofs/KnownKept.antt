@@ -20,11 +20,11 @@ use Rattle.graph_read.proofs.IndexKept.{IsIndexBy-same, by_graph}
 use Rattle.graph_read.specs.declared.index.Index.{Index}
 use Rattle.graph_read.specs.declared.index.Kept.{Kept}
 use Rattle.graph_read.specs.Index.{kept_under}
-use Rattle.known_pool.specs.Known.{Known, IsKnown, entries_of, by_puddles, with_puddles}
+use Rattle.known_pool.specs.Known.{Known, IsKnown, index_entries, by_puddles, with_puddles}
 
 -- of the puddles alone all is so
 pub IsKnown-puddles : (F : ℕ) (at : List (ℕ × Puddle)) (image : Image) → IsKnown F image (by_puddles at)
-IsKnown-puddles F at image = record { indexed = λ x none. absurd (none-some (entries_of x) none); full = record { each = λ p below. absurd (omega arith) } }
+IsKnown-puddles F at image = record { indexed = λ x none. absurd (none-some (index_entries x) none); full = record { each = λ p below. absurd (omega arith) } }
 
 -- ---- places
 
@@ -88,9 +88,9 @@ module _ (F : ℕ) (known : Known) (later : List (ℕ × Puddle)) (before after 
 -- ---- indexes
 
 -- what is kept of a serial goes by the entries alone
-pub same_kept : (x y : Index) → entries_of y ≡ entries_of x → (q : ℕ) → kept_under y q ≡ kept_under x q
+pub same_kept : (x y : Index) → index_entries y ≡ index_entries x → (q : ℕ) → kept_under y q ≡ kept_under x q
 same_kept x y same q = ap (λ (es : List (ℕ × Kept)). lookup (eqb q) es) same
 
 -- and so does whether an index is that of a pool
-pub IsIndexOf-entries : (F : ℕ) (at : List (ℕ × Puddle)) (types : List (ℕ × ℕ)) (image : Image) (x y : Index) → entries_of y ≡ entries_of x → IsIndexOf F at types image x → IsIndexOf F at types image y
+pub IsIndexOf-entries : (F : ℕ) (at : List (ℕ × Puddle)) (types : List (ℕ × ℕ)) (image : Image) (x y : Index) → index_entries y ≡ index_entries x → IsIndexOf F at types image x → IsIndexOf F at types image y
 IsIndexOf-entries F at types image x y same is = record { graph = is.graph; is = is.is; index = record { each = λ q. same_kept x y same q ∙ is.index.each q } }

@@ -17,7 +17,7 @@ use Rattle.graph_read.specs.Reading.{table_in, place_in_pool}
 use Rattle.graph_read.proofs.Found.{object_in-place}
 use Rattle.graph_read.proofs.IndexKept.{index_begins_to_free, index_lets_go}
 use Rattle.graph_read.proofs.Numbers.{field_content}
-use Rattle.known_pool.specs.Known.{entries_of}
+use Rattle.known_pool.specs.Known.{index_entries}
 use Rattle.known_pool.proofs.KnownKept.{IsIndexOf-entries}
 use Rattle.known_pool.specs.Indexes.{Follows, after_move, HasReleased}
 
@@ -38,16 +38,16 @@ module _ (F : ℕ) (at : List (ℕ × Puddle)) (image : Image) (p : ℕ) where
 
   -- Each index that is kept has let go what the fields before this one name, of whatever object stands there.
   pub record LetsFirst (m f : ℕ) (index : Option (List (ℕ × Kept))) : Type 0 where
-    pub each : (g : Graph) (s : ℕ) → graph_of (types_of image) (stored_in F at image) ≡ Some g → place s ≡ Some p → (x : Index) → index ≡ Some (entries_of x) → IsIndexBy place (references_left g s (left_from m f)) x
+    pub each : (g : Graph) (s : ℕ) → graph_of (types_of image) (stored_in F at image) ≡ Some g → place s ≡ Some p → (x : Index) → index ≡ Some (index_entries x) → IsIndexBy place (references_left g s (left_from m f)) x
 
   -- before the first one
   module _ (index : Option Index) (is : (x : Index) → index ≡ Some x → IsIndexOf F at (types_of image) image x) where
     -- an index that has the entries of this one is of the pool too
-    same_index : (o : Option Index) (x : Index) → index ≡ o → option_map entries_of o ≡ Some (entries_of x) → IsIndexOf F at (types_of image) image x
-    same_index None x kept same = absurd (let no : None ≡ Some (entries_of x) = same in cc)
-    same_index (Some y) x kept same = IsIndexOf-entries F at (types_of image) image y x (sym (same_Some (entries_of y) (entries_of x) same)) (is y kept)
+    same_index : (o : Option Index) (x : Index) → index ≡ o → option_map index_entries o ≡ Some (index_entries x) → IsIndexOf F at (types_of image) image x
+    same_index None x kept same = absurd (let no : None ≡ Some (index_entries x) = same in cc)
+    same_index (Some y) x kept same = IsIndexOf-entries F at (types_of image) image y x (sym (same_Some (index_entries y) (index_entries x) same)) (is y kept)
 
-    begins : (g : Graph) (s : ℕ) → graph_of (types_of image) (stored_in F at image) ≡ Some g → place s ≡ Some p → (x : Index) → option_map entries_of index ≡ Some (entries_of x)
+    begins : (g : Graph) (s : ℕ) → graph_of (types_of image) (stored_in F at image) ≡ Some g → place s ≡ Some p → (x : Index) → option_map index_entries index ≡ Some (index_entries x)
         → IsIndexBy place (references_left g s (object_at (table_in F at image) p).fields) x
     begins g s stored there x kept =
         index_begins_to_free F at (types_of image) image g stored x (same_index index x refl kept) s (object_at (table_in F at image) p)
@@ -57,7 +57,7 @@ module _ (F : ℕ) (at : List (ℕ × Puddle)) (image : Image) (p : ℕ) where
         → (object_at (table_in F at image) p).fields ≡ map (value_of serial) (contents_or_none (slot_contents (stored_in F at image) p type))
     fields_by type is_type = ap (λ (t : Option ℕ). map (value_of serial) (contents_or_none (slot_contents (stored_in F at image) p t))) is_type
 
-    pub LetsFirst-start : (m : ℕ) → map_of (place_word (stored_in F at image) p SLOT_TYPE_WORD) (types_of image) ≡ Some m → LetsFirst m 0 (option_map entries_of index)
+    pub LetsFirst-start : (m : ℕ) → map_of (place_word (stored_in F at image) p SLOT_TYPE_WORD) (types_of image) ≡ Some m → LetsFirst m 0 (option_map index_entries index)
     LetsFirst-start m is_type = record {
       each = λ g s stored there x kept.
           let all : field_count m ≡ field_count m - 0 = omega arith in
@@ -66,7 +66,7 @@ module _ (F : ℕ) (at : List (ℕ × Puddle)) (image : Image) (p : ℕ) where
 
     -- where the type is not defined there is none
     pub lets_none : map_of (place_word (stored_in F at image) p SLOT_TYPE_WORD) (types_of image) ≡ None → (g : Graph) (s : ℕ) → graph_of (types_of image) (stored_in F at image) ≡ Some g → place s ≡ Some p
-        → HasReleased place g s (option_map entries_of index)
+        → HasReleased place g s (option_map index_entries index)
     lets_none none g s stored there = record { each = λ x kept. subst (λ (vals : List FieldValue). IsIndexBy place (references_left g s vals) x) (fields_by None none) (begins g s stored there x kept) }
 
   -- one more

@@ -6,18 +6,18 @@ use Rattle.pud_defs.specs.Graph.{Graph}
 use Rattle.graph_read.specs.declared.index.Index.{Index}
 use Rattle.graph_read.specs.declared.index.Kept.{Kept}
 use Rattle.graph_read.specs.Index.{kept_under, KeepsBut, unreferenced_at, after_retarget, HasReference, MayBeReferenced}
-use Rattle.known_pool.specs.Known.{entries_of}
+use Rattle.known_pool.specs.Known.{index_entries}
 use Rattle.graph_read.specs.Indexed.{IsIndexBy, serial_named, references_left}
 
 -- It comes from the one that was kept: of each serial it has what this makes of what that one had.
 pub record ComesFrom (change : ℕ → Option Kept → Option Kept) (old : Option (List (ℕ × Kept))) (now : Index) : Type 0 where
   pub before : Index
-  pub was : old ≡ Some (entries_of before)
+  pub was : old ≡ Some (index_entries before)
   pub each : (q : ℕ) → kept_under now q ≡ change q (kept_under before q)
 
 -- If one is kept then, it comes from the one that was.
 pub record Follows (change : ℕ → Option Kept → Option Kept) (old new : Option (List (ℕ × Kept))) : Type 0 where
-  pub each : (now : Index) → new ≡ Some (entries_of now) → ComesFrom change old now
+  pub each : (now : Index) → new ≡ Some (index_entries now) → ComesFrom change old now
 
 -- a pointer that named the one value names the other
 abbrev pub after_move : (was now : FieldValue) → (q : ℕ) → Option Kept → Option Kept
@@ -34,7 +34,7 @@ pub record MayMove (was now : FieldValue) (x : Index) : Type 0 where
 
 -- Each that is kept has let go what the object of this serial names.
 pub record HasReleased (place : ℕ → Option ℕ) (g : Graph) (s : ℕ) (index : Option (List (ℕ × Kept))) : Type 0 where
-  pub each : (x : Index) → index ≡ Some (entries_of x) → IsIndexBy place (references_left g s []) x
+  pub each : (x : Index) → index ≡ Some (index_entries x) → IsIndexBy place (references_left g s []) x
 
 -- It has let go what the object of this serial names, and then the object: what it had before that is the places, and the holders without the object.
 pub record Releases (place : ℕ → Option ℕ) (g : Graph) (s : ℕ) (now : Index) : Type 0 where

@@ -10,8 +10,8 @@ use Rattle.graph_read.specs.declared.index.Kept.{Kept}
 use Rattle.graph_read.specs.Indexed.{IsIndexOf}
 
 -- what an index keeps of each serial, in the order of its map
-abbrev pub entries_of : Index → List (ℕ × Kept)
-entries_of x = x.map.entries
+abbrev pub index_entries : Index → List (ℕ × Kept)
+index_entries x = x.map.entries
 
 pub record Known : Type 0 where
   -- its puddles by their ordinals, each with its frame
@@ -31,5 +31,5 @@ with_puddles at known = record known { puddles = at }
 
 -- It is so: the index is what a scan of the pool gives, and no slot is free before the place from which on one is looked for.
 pub record IsKnown (F : ℕ) (image : Image) (known : Known) : Type 0 where
-  pub indexed : (x : Index) → known.index ≡ Some (entries_of x) → IsIndexOf F known.puddles (types_of image) image x
+  pub indexed : (x : Index) → known.index ≡ Some (index_entries x) → IsIndexOf F known.puddles (types_of image) image x
   pub full : AreLiveBefore (stored_in F known.puddles image) known.full_below

@@ -16,7 +16,7 @@ ghost use Rattle.graph_read.specs.declared.index.Index.{Index};
 ghost use Rattle.graph_read.specs.Index.{HasReference, MayBeReferenced, kept_under};
 ghost use Rattle.graph_read.specs.Indexed.{IsIndexOf, serial_named};
 ghost use Rattle.graph_read.specs.Reading.{place_in_pool};
-ghost use Rattle.known_pool.specs.Known.{IsKnown, entries_of};
+ghost use Rattle.known_pool.specs.Known.{IsKnown, index_entries};
 ghost use Rattle.known_pool.specs.Indexes.{Follows, after_move, after_made, MayMove, HasReleased, Releases};
 
 use crate::KnownPool;
@@ -68,7 +68,7 @@ fn may_hold(index: &Index, s: u64) -> bool
 /// Counts that a pointer which had one value has the other, where an index is kept. It goes where that cannot be: where what the
 /// one value names has no holder there, or what the other names is not there.
 fn retarget(index: &mut Option<Index>, was: FieldValue, now: FieldValue)
-    ensures follows { Follows (after_move was now) (option_map entries_of index.old) (option_map entries_of index.new) }
+    ensures follows { Follows (after_move was now) (option_map index_entries index.old) (option_map index_entries index.new) }
     ensures kept { (x : Index) → index.old ≡ Option.Some x → MayMove was now x → is_some index.new ≡ true }
 {
     let from = serial_named(was);
@@ -101,7 +101,7 @@ fn release_fields<H: Loads>(
         → (g : Graph) → graph_of (types_of image) (stored_in frames pool.now image) ≡ Option.Some g
         → (s : ℕ) → place_in_pool frames pool.now image s ≡ Option.Some (place_of_slot at.now)
         → ((x : Index) → index.old ≡ Option.Some x → IsIndexOf frames pool.now (types_of image) image x)
-        → IfOk result (λ _. HasReleased (place_in_pool frames pool.now image) g s (option_map entries_of index.new)) }
+        → IfOk result (λ _. HasReleased (place_in_pool frames pool.now image) g s (option_map index_entries index.new)) }
     ensures only_reads { OnlyReads H.tells H.state H.counts (fault_of result) h.old h.new }
 {
     if index.is_none() {
@@ -123,7 +123,7 @@ impl KnownPool {
     /// value names has no holder there, or what the other names is not there.
     pub fn moved(&mut self, was: FieldValue, now: FieldValue)
         ensures follows { Follows (after_move was now) self.old.index self.new.index }
-        ensures kept { (x : Index) → self.old.index ≡ Option.Some (entries_of x) → MayMove was now x → is_some self.new.index ≡ true }
+        ensures kept { (x : Index) → self.old.index ≡ Option.Some (index_entries x) → MayMove was now x → is_some self.new.index ≡ true }
         ensures puddles { self.new.puddles ≡ self.old.puddles }
         ensures full { self.new.full_below ≡ self.old.full_below }
     {
@@ -166,7 +166,7 @@ impl KnownPool {
         ensures lets_go { H.tells → (image : Image) → reads (H.state h.old).now.words ≡ image
             → (g : Graph) → graph_of (types_of image) (stored_in frames self.old.puddles image) ≡ Option.Some g
             → place_in_pool frames self.old.puddles image s ≡ Option.Some (place_of_slot at.now) → IsKnown frames image self.old
-            → IfOk result (λ _. (x : Index) → self.new.index ≡ Option.Some (entries_of x) → Releases (place_in_pool frames self.old.puddles image) g s x) }
+            → IfOk result (λ _. (x : Index) → self.new.index ≡ Option.Some (index_entries x) → Releases (place_in_pool frames self.old.puddles image) g s x) }
         ensures puddles { self.new.puddles ≡ self.old.puddles }
         ensures full { IfOk result (λ _. self.new.full_below ≡ min self.old.full_below (place_of_slot at.now)) }
         ensures only_reads { OnlyReads H.tells H.state H.counts (fault_of result) h.old h.new }

@@ -37,11 +37,11 @@ pub struct KnownPool {
 
 impl Model for KnownPool {
     ghost use Rattle.std.specs.Prelude.{option_map};
-    ghost use Rattle.known_pool.specs.Known.{Known, entries_of};
+    ghost use Rattle.known_pool.specs.Known.{Known, index_entries};
 
     ghost Value = { Known };
 
-    ghost view = { λ k. record { puddles = k.puddles; index = option_map entries_of k.index; full_below = k.full_below } };
+    ghost view = { λ k. record { puddles = k.puddles; index = option_map index_entries k.index; full_below = k.full_below } };
 }
 
 impl KnownPool {

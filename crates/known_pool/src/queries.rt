@@ -15,7 +15,7 @@ ghost use Rattle.puddle_header.specs.Places.{place_of_slot, places_in, IsSlotOf}
 ghost use Rattle.graph_read.specs.declared.index.Index.{Index};
 ghost use Rattle.graph_read.specs.Indexed.{slot_at_place};
 ghost use Rattle.graph_read.specs.Reading.{place_in_pool, field_in, read_by};
-ghost use Rattle.known_pool.specs.Known.{IsKnown, entries_of};
+ghost use Rattle.known_pool.specs.Known.{IsKnown, index_entries};
 
 use crate::{KnownPool, SCANS_BETWEEN};
 use graph_read::{FieldRead, Index, field_at, find_serial, is_referenced};
@@ -59,7 +59,7 @@ impl KnownPool {
             → IsKnown frames image self.old → IsKnown frames image self.new }
         ensures puddles { self.new.puddles ≡ self.old.puddles }
         ensures full { self.new.full_below ≡ self.old.full_below }
-        ensures kept { (x : Index) → self.old.index ≡ Option.Some (entries_of x) → self.new ≡ self.old }
+        ensures kept { (x : Index) → self.old.index ≡ Option.Some (index_entries x) → self.new ≡ self.old }
         ensures only_reads { OnlyReads H.tells H.state H.counts (fault_of result) h.old h.new }
     {
         if self.index.is_some() {

@@ -22,9 +22,9 @@ use Rattle.graph_laws.specs.Rewriting.{rewritten, passes_slot, passes_root}
 use Rattle.graph_laws.specs.Steps.{pointer_by, slot_pointer, passed_word}
 use Rattle.graph_laws.proofs.Words.{few_fields}
 use Rattle.graph_laws.proofs.PassedWords.{passed-header, passed-slot}
-use Rattle.batch.specs.Batches.{batch_entry, words_of}
+use Rattle.batch.specs.Batches.{batch_entry, word_count_of}
 use Rattle.lazy_rewrite.specs.declared.batches.TheConstants.{BATCH_STEPS}
-use Rattle.lazy_rewrite.specs.Entries.{word_entry, words_batch, HasLowBases, IsToRewrite, new_words, first_slot, steps_batch}
+use Rattle.lazy_rewrite.specs.Entries.{word_entry, words_batch, HasLowBases, IsToRewrite, rewritten_words, first_slot, steps_batch}
 
 -- ---- entries of words in a row
 
@@ -59,14 +59,14 @@ module _ (at : ℕ) (new : ℕ → Option ℕ) where
   words_batch-none from (suc count) none =
       ap₂ (λ (o : Option ℕ) (es : List Entry). word_entry (at + from) o ++ es) (none from (omega arith) (omega arith)) (words_batch-none (from + 1) count (λ k low high. none k (omega arith) (omega arith)))
 
-  words_of-entry : (w : ℕ) (o : Option ℕ) → words_of (word_entry w o) ≤ 3
-  words_of-entry w None = let none : words_of (word_entry w None) ≡ 0 = refl in omega (arith, none)
-  words_of-entry w (Some v) = let three : words_of (word_entry w (Some v)) ≡ 3 = refl in omega (arith, three)
+  words_of-entry : (w : ℕ) (o : Option ℕ) → word_count_of (word_entry w o) ≤ 3
+  words_of-entry w None = let none : word_count_of (word_entry w None) ≡ 0 = refl in omega (arith, none)
+  words_of-entry w (Some v) = let three : word_count_of (word_entry w (Some v)) ≡ 3 = refl in omega (arith, three)
 
   -- three words of the log each at the most
-  pub words_of-batch : (from count : ℕ) → words_of (words_batch at new from count) ≤ 3 * count
+  pub words_of-batch : (from count : ℕ) → word_count_of (words_batch at new from count) ≤ 3 * count
   unfolding words_batch
-  words_of-batch from zero = let none : words_of [] ≡ 0 = refl in omega (arith, none)
+  words_of-batch from zero = let none : word_count_of [] ≡ 0 = refl in omega (arith, none)
   words_of-batch from (suc count) =
       omega (arith, sum_by-append (λ (e : Entry). length e.vals + 2) (word_entry (at + from) (new from)) (words_batch at new (from + 1) count), words_of-entry (at + from) (new from), words_of-batch (from + 1) count)
 
@@ -93,9 +93,9 @@ module _ (at : ℕ) (new : ℕ → Option ℕ) (from : ℕ) (old : List Entry) w
 
   -- one word more, where the room is that of 30 words
   pub added-more : (f w : ℕ) (so_far now : List Entry) (o : Option ℕ) → so_far ≡ old ++ words_batch at new from f → w ≡ at + (from + f) → o ≡ new (from + f)
-      → (words_of so_far + 3 ≤ LOG_ENTRY_WORDS → now ≡ so_far ++ word_entry w o) → words_of old + 3 * MAX_FIELDS ≤ LOG_ENTRY_WORDS → f < MAX_FIELDS → now ≡ old ++ words_batch at new from (f + 1)
+      → (word_count_of so_far + 3 ≤ LOG_ENTRY_WORDS → now ≡ so_far ++ word_entry w o) → word_count_of old + 3 * MAX_FIELDS ≤ LOG_ENTRY_WORDS → f < MAX_FIELDS → now ≡ old ++ words_batch at new from (f + 1)
   added-more f w so_far now o is place value added room low =
-      added (omega (arith, ap words_of is, sum_by-append (λ (e : Entry). length e.vals + 2) old (words_batch at new from f), words_of-batch at new from f))
+      added (omega (arith, ap word_count_of is, sum_by-append (λ (e : Entry). length e.vals + 2) old (words_batch at new from f), words_of-batch at new from f))
       ∙ (λ i. is i ++ word_entry (place i) (value i))
       ∙ append_assoc old (words_batch at new from f) (word_entry (at + (from + f)) (new (from + f)))
       ∙ ap (λ es. old ++ es) (sym (words_batch-more at new from f))
@@ -179,19 +179,19 @@ module _ (types : List (ℕ × ℕ)) (puddles : List Puddle) (word : ℕ → ℕ
       ∙ append-nil (words_batch base new SLOT_FIELDS_WORD count)
 
   -- at most 30, in 90 words of the log
-  pub words_of-slot : words_of (words_batch base (slot_pointer types puddles word slot) 0 puddle_slot_words) ≤ 3 * MAX_FIELDS
+  pub words_of-slot : word_count_of (words_batch base (slot_pointer types puddles word slot) 0 puddle_slot_words) ≤ 3 * MAX_FIELDS
   words_of-slot =
-      let none : words_of [] ≡ 0 = refl in
+      let none : word_count_of [] ≡ 0 = refl in
       ⊎_elim
       (λ live. by_type type_word refl live)
-      (λ free. omega (arith, ap words_of (slot-free free), none))
+      (λ free. omega (arith, ap word_count_of (slot-free free), none))
       (cases_Bool (slot_state (word (puddle_slot_at slot + 0))).is_live)
     where
-      by_type : (t : Option ℕ) → type_word ≡ t → (slot_state (word (puddle_slot_at slot + 0))).is_live ≡ true → words_of (words_batch base (slot_pointer types puddles word slot) 0 puddle_slot_words) ≤ 3 * MAX_FIELDS
-      by_type None is live = let none : words_of [] ≡ 0 = refl in omega (arith, ap words_of (slot-unknown is), none)
+      by_type : (t : Option ℕ) → type_word ≡ t → (slot_state (word (puddle_slot_at slot + 0))).is_live ≡ true → word_count_of (words_batch base (slot_pointer types puddles word slot) 0 puddle_slot_words) ≤ 3 * MAX_FIELDS
+      by_type None is live = let none : word_count_of [] ≡ 0 = refl in omega (arith, ap word_count_of (slot-unknown is), none)
       by_type (Some map) is live =
           let new = λ (j : ℕ). pointer_by puddles (Some map) j (word (puddle_slot_at slot + j)) in
-          omega (arith, ap words_of (slot-fields map live is), words_of-batch base new SLOT_FIELDS_WORD (field_count map), few_fields map)
+          omega (arith, ap word_count_of (slot-fields map live is), words_of-batch base new SLOT_FIELDS_WORD (field_count map), few_fields map)
 
 -- ---- the words of a frame
 
@@ -233,19 +233,19 @@ module _ (types : List (ℕ × ℕ)) (puddles : List Puddle) (word : ℕ → ℕ
       ∙ words_batch-one base new ROOT_WORD
       ∙ ap (word_entry (base + ROOT_WORD)) root
 
-  pub words_of-header : words_of (words_batch base new 0 FRAME_HEADER_WORDS) ≤ 3
+  pub words_of-header : word_count_of (words_batch base new 0 FRAME_HEADER_WORDS) ≤ 3
   words_of-header =
-      let none : words_of [] ≡ 0 = refl in
+      let none : word_count_of [] ≡ 0 = refl in
       ⊎_elim
-      (λ passes. omega (arith, ap words_of (header-root passes), words_of-entry base new (base + ROOT_WORD) (Some (rewritten puddles (word ROOT_WORD)))))
-      (λ out. omega (arith, ap words_of (header-still out), none))
+      (λ passes. omega (arith, ap word_count_of (header-root passes), words_of-entry base new (base + ROOT_WORD) (Some (rewritten puddles (word ROOT_WORD)))))
+      (λ out. omega (arith, ap word_count_of (header-still out), none))
       (cases_Bool (passes_root o n m))
 
 -- the root is added, where it is passed
 pub header-added : (F : ℕ) (at : List (ℕ × Puddle)) (image : Image) (o n m : ℕ) (e d : ℕ × Puddle) (old now : List Entry) (value v w : ℕ) → IsToRewrite at o n → slice_get at o ≡ Some e → n < m → o ≡ 0 → n ≡ 0
     → value ≡ frame_word F (get_or at 0 d).0 ROOT_WORD image → (IsToRewrite at 0 0 → v ≡ rewritten (map (λ d. d.1) at) value) → w ≡ frame_at F (get_or at 0 d).0 + ROOT_WORD
-    → (words_of old + 3 ≤ LOG_ENTRY_WORDS → now ≡ old ++ batch_entry w (v ∷ []) ∷ []) → words_of old + 3 ≤ LOG_ENTRY_WORDS
-    → now ≡ old ++ words_batch (frame_at F e.0) (new_words F at image o n m) 0 FRAME_HEADER_WORDS
+    → (word_count_of old + 3 ≤ LOG_ENTRY_WORDS → now ≡ old ++ batch_entry w (v ∷ []) ∷ []) → word_count_of old + 3 ≤ LOG_ENTRY_WORDS
+    → now ≡ old ++ words_batch (frame_at F e.0) (rewritten_words F at image o n m) 0 FRAME_HEADER_WORDS
 header-added F at image o n m e d old now value v w h here less first zero_from read is place added room =
     let types = types_of image in
     let puddles = map (λ (x : ℕ × Puddle). x.1) at in
@@ -279,16 +279,16 @@ first_below (suc n) m less = omega arith
 
 -- What was gathered in front of a slot, by what is read: the words of the header, and those of the slots from the first on.
 pub record HasGathered (F : ℕ) (at : List (ℕ × Puddle)) (image : Image) (o n m slot : ℕ) (e : ℕ × Puddle) (so_far : List Entry) : Type 0 where
-  pub is : so_far ≡ words_batch (frame_at F e.0) (new_words F at image o n m) 0 FRAME_HEADER_WORDS
-      ++ words_batch (frame_at F e.0) (new_words F at image o n m) (puddle_slot_at (first_slot n)) (puddle_slot_words * (slot - first_slot n))
-  pub few : words_of so_far ≤ 3 + 3 * MAX_FIELDS * (slot - first_slot n)
+  pub is : so_far ≡ words_batch (frame_at F e.0) (rewritten_words F at image o n m) 0 FRAME_HEADER_WORDS
+      ++ words_batch (frame_at F e.0) (rewritten_words F at image o n m) (puddle_slot_at (first_slot n)) (puddle_slot_words * (slot - first_slot n))
+  pub few : word_count_of so_far ≤ 3 + 3 * MAX_FIELDS * (slot - first_slot n)
 
 module _ (F : ℕ) (at : List (ℕ × Puddle)) (image : Image) (o n m : ℕ) (e : ℕ × Puddle) where
   abbrev base : ℕ
   base = frame_at F e.0
 
   abbrev words : ℕ → Option ℕ
-  words = new_words F at image o n m
+  words = rewritten_words F at image o n m
 
   pub HasGathered-start : (so_far : List Entry) → so_far ≡ words_batch base words 0 FRAME_HEADER_WORDS → HasGathered F at image o n m (first_slot n) e so_far
   HasGathered-start so_far is =
@@ -298,7 +298,7 @@ module _ (F : ℕ) (at : List (ℕ × Puddle)) (image : Image) (o n m : ℕ) (e 
             is
             ∙ sym (append-nil (words_batch base words 0 FRAME_HEADER_WORDS))
             ∙ ap (λ es. words_batch base words 0 FRAME_HEADER_WORDS ++ es) (sym (ap (words_batch base words (puddle_slot_at (first_slot n))) none ∙ words_batch-zero base words (puddle_slot_at (first_slot n))));
-        few = omega (arith, ap words_of is, words_of-header (types_of image) (map (λ d. d.1) at) ((stored_in F at image).word o) o n m base);
+        few = omega (arith, ap word_count_of is, words_of-header (types_of image) (map (λ d. d.1) at) ((stored_in F at image).word o) o n m base);
       }
 
   pub HasGathered-more : (slot : ℕ) (so_far now : List Entry) → first_slot n ≤ slot → passes_slot n m slot ≡ true → HasGathered F at image o n m slot e so_far
@@ -319,14 +319,14 @@ module _ (F : ℕ) (at : List (ℕ × Puddle)) (image : Image) (o n m : ℕ) (e 
             ∙ ap (λ c. words_batch base words 0 FRAME_HEADER_WORDS ++ words_batch base words (puddle_slot_at first) c) all;
         few =
             let more = sum_by-append (λ (d : Entry). length d.vals + 2) so_far (words_batch (base + puddle_slot_at slot) (slot_pointer types puddles word slot) 0 puddle_slot_words) in
-            omega (arith, ap words_of added, more, h.few, words_of-slot types puddles word (base + puddle_slot_at slot) slot);
+            omega (arith, ap word_count_of added, more, h.few, words_of-slot types puddles word (base + puddle_slot_at slot) slot);
       }
 
   -- one slot more fits
-  pub HasGathered-room : (slot : ℕ) (so_far : List Entry) → m ≤ n + BATCH_STEPS → slot < m - 1 → HasGathered F at image o n m slot e so_far → words_of so_far + 3 * MAX_FIELDS ≤ LOG_ENTRY_WORDS
+  pub HasGathered-room : (slot : ℕ) (so_far : List Entry) → m ≤ n + BATCH_STEPS → slot < m - 1 → HasGathered F at image o n m slot e so_far → word_count_of so_far + 3 * MAX_FIELDS ≤ LOG_ENTRY_WORDS
   HasGathered-room slot so_far few below h = omega (arith, h.few, few_slots n m few)
 
-  pub HasGathered-end : (so_far now : List Entry) → m ≤ n + BATCH_STEPS → HasGathered F at image o n m (m - 1) e so_far → (words_of so_far + 3 ≤ LOG_ENTRY_WORDS → now ≡ so_far ++ batch_entry (frontier_word e.0) (m ∷ []) ∷ [])
+  pub HasGathered-end : (so_far now : List Entry) → m ≤ n + BATCH_STEPS → HasGathered F at image o n m (m - 1) e so_far → (word_count_of so_far + 3 ≤ LOG_ENTRY_WORDS → now ≡ so_far ++ batch_entry (frontier_word e.0) (m ∷ []) ∷ [])
       → now ≡ steps_batch F e.0 words n m
   HasGathered-end so_far now few h added =
       let first = first_slot n in
@@ -342,9 +342,9 @@ IsToRewrite-here at o n e low here is = record { bases = low; old = λ d there. 
 
 -- what was gathered from a frontier on, of the pool as it was lent
 pub gathered_from : (F : ℕ) (at lent : List (ℕ × Puddle)) (image : Image) (o n m : ℕ) (e : ℕ × Puddle) (es : List Entry) → lent ≡ at → HasLowBases at → slice_get at o ≡ Some e → e.1.frontier ≡ n
-    → (IsToRewrite lent o n → (d : ℕ × Puddle) → slice_get lent o ≡ Some d → es ≡ steps_batch F d.0 (new_words F lent image o n m) n m)
-    → es ≡ steps_batch F e.0 (new_words F at image o e.1.frontier m) e.1.frontier m
+    → (IsToRewrite lent o n → (d : ℕ × Puddle) → slice_get lent o ≡ Some d → es ≡ steps_batch F d.0 (rewritten_words F lent image o n m) n m)
+    → es ≡ steps_batch F e.0 (rewritten_words F at image o e.1.frontier m) e.1.frontier m
 gathered_from F at lent image o n m e es same low here is gathered =
     gathered (subst (λ (ds : List (ℕ × Puddle)). IsToRewrite ds o n) (sym same) (IsToRewrite-here at o n e low here is)) e (ap (λ (ds : List (ℕ × Puddle)). slice_get ds o) same ∙ here)
-    ∙ ap (λ (ds : List (ℕ × Puddle)). steps_batch F e.0 (new_words F ds image o n m) n m) same
-    ∙ ap (λ (k : ℕ). steps_batch F e.0 (new_words F at image o k m) k m) (sym is)
+    ∙ ap (λ (ds : List (ℕ × Puddle)). steps_batch F e.0 (rewritten_words F ds image o n m) n m) same
+    ∙ ap (λ (k : ℕ). steps_batch F e.0 (rewritten_words F at image o k m) k m) (sym is)

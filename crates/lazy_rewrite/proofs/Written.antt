@@ -18,21 +18,21 @@ use Rattle.pud_defs.specs.Frames.{frame_at}
 use Rattle.pud_defs.specs.Puddles.{frontier_word}
 use Rattle.pud_defs.specs.Entries.{Entry}
 use Rattle.pud_defs.specs.Replay.{device_word, value_at}
-use Rattle.pud_defs.specs.Registry.{may_be_logged, is_allowed}
+use Rattle.pud_defs.specs.Registry.{may_be_logged, is_loggable}
 use Rattle.pud_defs.specs.Types.{types_of}
 use Rattle.pud_defs.specs.Stored.{stored_in}
 use Rattle.pud_defs.proofs.Replay.{or_none, value_at-there, value_at-apart}
-use Rattle.pud_defs.proofs.Logged.{may_be_logged-table, may_be_logged-frames, is_allowed-there}
+use Rattle.pud_defs.proofs.Logged.{may_be_logged-table, may_be_logged-frames, is_loggable-there}
 use Rattle.graph_laws.specs.Rewriting.{passes_slot, passes_root}
 use Rattle.graph_laws.specs.Steps.{passed_word, steps_write, with_steps}
 use Rattle.graph_laws.proofs.PassedWords.{passed-slot}
 use Rattle.graph_laws.proofs.StepsStored.{write-frame, write-frontier, write-other}
 use Rattle.log_replay.specs.Replaying.{NamesApart}
-use Rattle.batch.specs.Batches.{batch_entry, batch_write, words_of, committed, IsBatchEntry, AreBatched, HasIdleGate, IsFree, Commits}
+use Rattle.batch.specs.Batches.{batch_entry, batch_write, word_count_of, committed, IsBatchEntry, AreBatched, HasIdleGate, IsFree, Commits}
 use Rattle.batch.proofs.Writes.{batch_write-append, batch_write-single}
 use Rattle.batch.proofs.Worlds.{names_apart}
 use Rattle.lazy_rewrite.specs.declared.batches.TheConstants.{BATCH_STEPS, STEPS_WORDS}
-use Rattle.lazy_rewrite.specs.Entries.{word_entry, words_batch, new_words, first_slot, steps_batch}
+use Rattle.lazy_rewrite.specs.Entries.{word_entry, words_batch, rewritten_words, first_slot, steps_batch}
 use Rattle.lazy_rewrite.specs.Batches.{AreNextSteps, CommitsSteps, pool_behind, RewritesOnce}
 use Rattle.lazy_rewrite.proofs.Gathered.{words_batch-two, words_batch-zero, words_batch-none, frame-slot, header-still, words_of-slot, words_of-header, first_below}
 
@@ -233,10 +233,10 @@ module _ (F : ℕ) (new : ℕ → Option ℕ) (frame n m : ℕ) (below : frame <
   entries_batched : AreBatched entries
   entries_batched = All-weaker (IsStepsEntry F) IsBatchEntry (λ d h. h.batched) entries entries_each
 
-  entries_allowed : list_all (is_allowed F (committed entries)) entries ≡ true
+  entries_allowed : list_all (is_loggable F (committed entries)) entries ≡ true
   entries_allowed =
-      list_all-from_AllPass (is_allowed F (committed entries)) entries
-      (All-weaker (IsStepsEntry F) (λ d. is_allowed F (committed entries) d ≡ true) (λ d h. is_allowed-there F (committed entries) d h.logged) entries entries_each)
+      list_all-from_AllPass (is_loggable F (committed entries)) entries
+      (All-weaker (IsStepsEntry F) (λ d. is_loggable F (committed entries) d ≡ true) (λ d h. is_loggable-there F (committed entries) d h.logged) entries entries_each)
 
   entries_free : (size : ℕ) (words : Words) → device_words F ≤ size → HasIdleGate DAEMON_LOG words → IsFree size DAEMON_LOG entries words
   entries_free size words room idle = record {
@@ -250,41 +250,41 @@ module _ (types : List (ℕ × ℕ)) (puddles : List Puddle) (word : ℕ → ℕ
   abbrev passed : ℕ → Option ℕ
   passed = passed_word types puddles word o n m
 
-  one_slot : (slot : ℕ) → words_of (words_batch base passed (puddle_slot_at slot) puddle_slot_words) ≤ 3 * MAX_FIELDS
+  one_slot : (slot : ℕ) → word_count_of (words_batch base passed (puddle_slot_at slot) puddle_slot_words) ≤ 3 * MAX_FIELDS
   one_slot slot =
-      let none : words_of [] ≡ 0 = refl in
+      let none : word_count_of [] ≡ 0 = refl in
       ⊎_elim
-      (λ passes. omega (arith, ap words_of (frame-slot types puddles word o n m base slot passes), words_of-slot types puddles word (base + puddle_slot_at slot) slot))
+      (λ passes. omega (arith, ap word_count_of (frame-slot types puddles word o n m base slot passes), words_of-slot types puddles word (base + puddle_slot_at slot) slot))
       (λ out.
       let empty = words_batch-none base passed (puddle_slot_at slot) puddle_slot_words (λ k low high.
       let j = k - puddle_slot_at slot in
       let place : k ≡ puddle_slot_at slot + j = omega arith in
       ap passed place ∙ passed-slot types puddles word o n m slot j (omega arith) ∙ cond-false _ _ _ out) in
-      omega (arith, ap words_of empty, none))
+      omega (arith, ap word_count_of empty, none))
       (cases_Bool (passes_slot n m slot))
 
-  some_slots : (slot count : ℕ) → words_of (words_batch base passed (puddle_slot_at slot) (puddle_slot_words * count)) ≤ 3 * MAX_FIELDS * count
-  some_slots slot zero = let none : words_of [] ≡ 0 = refl in let nothing : puddle_slot_words * zero ≡ 0 = omega arith in omega (arith, ap (λ c. words_of (words_batch base passed (puddle_slot_at slot) c)) nothing, ap words_of (words_batch-zero base passed (puddle_slot_at slot)), none)
+  some_slots : (slot count : ℕ) → word_count_of (words_batch base passed (puddle_slot_at slot) (puddle_slot_words * count)) ≤ 3 * MAX_FIELDS * count
+  some_slots slot zero = let none : word_count_of [] ≡ 0 = refl in let nothing : puddle_slot_words * zero ≡ 0 = omega arith in omega (arith, ap (λ c. word_count_of (words_batch base passed (puddle_slot_at slot) c)) nothing, ap word_count_of (words_batch-zero base passed (puddle_slot_at slot)), none)
   some_slots slot (suc count) =
       let all : puddle_slot_words * suc count ≡ puddle_slot_words + puddle_slot_words * count = omega arith in
       let next : puddle_slot_at slot + puddle_slot_words ≡ puddle_slot_at (slot + 1) = omega arith in
       let first = words_batch base passed (puddle_slot_at slot) puddle_slot_words in
       let rest = words_batch base passed (puddle_slot_at (slot + 1)) (puddle_slot_words * count) in
       let both = ap (words_batch base passed (puddle_slot_at slot)) all ∙ words_batch-two base passed (puddle_slot_at slot) puddle_slot_words (puddle_slot_words * count) ∙ ap (λ k. first ++ words_batch base passed k (puddle_slot_words * count)) next in
-      omega (arith, ap words_of both, sum_by-append (λ (d : Entry). length d.vals + 2) first rest, one_slot slot, some_slots (slot + 1) count)
+      omega (arith, ap word_count_of both, sum_by-append (λ (d : Entry). length d.vals + 2) first rest, one_slot slot, some_slots (slot + 1) count)
 
   -- the root comes with nine slots at the most
-  header_and_slots : (k : ℕ) → n ≡ k → m ≤ n + BATCH_STEPS → words_of (words_batch base passed 0 FRAME_HEADER_WORDS) + 3 * MAX_FIELDS * (m - 1 - first_slot n) ≤ 3 * MAX_FIELDS * BATCH_STEPS
+  header_and_slots : (k : ℕ) → n ≡ k → m ≤ n + BATCH_STEPS → word_count_of (words_batch base passed 0 FRAME_HEADER_WORDS) + 3 * MAX_FIELDS * (m - 1 - first_slot n) ≤ 3 * MAX_FIELDS * BATCH_STEPS
   header_and_slots zero is few =
       let first : first_slot n ≡ 0 = ap first_slot is in
       omega (arith, words_of-header types puddles word o n m base)
   header_and_slots (suc k) is few =
-      let none : words_of [] ≡ 0 = refl in
+      let none : word_count_of [] ≡ 0 = refl in
       let first : first_slot n ≡ k = ap first_slot is in
       let out : passes_root o n m ≡ false = and_right (eqb o 0) (eqb n 0 && ltb 0 m) (and_left (eqb n 0) (ltb 0 m) (ne_eqb n 0 (λ e. absurd (omega arith)))) in
-      omega (arith, ap words_of (header-still types puddles word o n m base out), none)
+      omega (arith, ap word_count_of (header-still types puddles word o n m base out), none)
 
-  pub words_of-steps : (F frame : ℕ) → base ≡ frame_at F frame → m ≤ n + BATCH_STEPS → words_of (steps_batch F frame passed n m) ≤ STEPS_WORDS
+  pub words_of-steps : (F frame : ℕ) → base ≡ frame_at F frame → m ≤ n + BATCH_STEPS → word_count_of (steps_batch F frame passed n m) ≤ STEPS_WORDS
   words_of-steps F frame at few =
       let first = puddle_slot_at (first_slot n) in
       let count = m - 1 - first_slot n in
@@ -292,14 +292,14 @@ module _ (types : List (ℕ × ℕ)) (puddles : List Puddle) (word : ℕ → ℕ
       let slots = words_batch base passed first (puddle_slot_words * count) in
       let frontier = batch_entry (frontier_word frame) (m ∷ []) ∷ [] in
       let whole : steps_batch F frame passed n m ≡ header ++ (slots ++ frontier) = ap (λ b. words_batch b passed 0 FRAME_HEADER_WORDS ++ (words_batch b passed first (puddle_slot_words * count) ++ frontier)) (sym at) in
-      let three : words_of frontier ≡ 3 = refl in
-      omega (arith, ap words_of whole, sum_by-append (λ (d : Entry). length d.vals + 2) header (slots ++ frontier), sum_by-append (λ (d : Entry). length d.vals + 2) slots frontier, some_slots (first_slot n) count, header_and_slots n refl few, three)
+      let three : word_count_of frontier ≡ 3 = refl in
+      omega (arith, ap word_count_of whole, sum_by-append (λ (d : Entry). length d.vals + 2) header (slots ++ frontier), sum_by-append (λ (d : Entry). length d.vals + 2) slots frontier, some_slots (first_slot n) count, header_and_slots n refl few, three)
 
 -- ---- a batch that was gathered and committed
 
 module _ (F size : ℕ) (at : List (ℕ × Puddle)) (goal : ℕ → ℕ) (o m : ℕ) (e : ℕ × Puddle) (below : e.0 < F) (room : device_words F ≤ size) (next : AreNextSteps at goal o m e) (a : State) where
   abbrev gathered : List Entry
-  gathered = steps_batch F e.0 (new_words F at (reads a.now.words) o e.1.frontier m) e.1.frontier m
+  gathered = steps_batch F e.0 (rewritten_words F at (reads a.now.words) o e.1.frontier m) e.1.frontier m
 
   pub CommitsSteps-gathered : (es : List Entry) (fault : Option HostFault) (b d : State) → b ≡ a → es ≡ gathered → HasIdleGate DAEMON_LOG a.now.words
       → (IsFree size DAEMON_LOG es b.now.words → Commits DAEMON_LOG es fault b d) → CommitsSteps F at o m e fault a d
@@ -308,13 +308,13 @@ module _ (F size : ℕ) (at : List (ℕ × Puddle)) (goal : ℕ → ℕ) (o m : 
       let types = types_of image in
       let puddles = map (λ (x : ℕ × Puddle). x.1) at in
       let word = (stored_in F at image).word o in
-      let new = new_words F at image o e.1.frontier m in
+      let new = rewritten_words F at image o e.1.frontier m in
       let last = next.last in
       record {
         es = es;
         batched = subst (λ (xs : List Entry). AreBatched xs) (sym is) (entries_batched F new e.0 e.1.frontier m below next.some (omega arith));
-        few = omega (arith, ap words_of is, words_of-steps types puddles word o e.1.frontier m (frame_at F e.0) F e.0 refl next.few);
-        allowed = subst (λ (xs : List Entry). list_all (is_allowed F (committed xs)) xs ≡ true) (sym is) (entries_allowed F new e.0 e.1.frontier m below next.some (omega arith));
+        few = omega (arith, ap word_count_of is, words_of-steps types puddles word o e.1.frontier m (frame_at F e.0) F e.0 refl next.few);
+        allowed = subst (λ (xs : List Entry). list_all (is_loggable F (committed xs)) xs ≡ true) (sym is) (entries_allowed F new e.0 e.1.frontier m below next.some (omega arith));
         write = ap batch_write is ∙ batch_write-steps F types puddles word o m e below next.some next.last;
         commits = subst (λ (s : State). Commits DAEMON_LOG es fault s d) still
             (commits (subst (λ (s : State). IsFree size DAEMON_LOG es s.now.words) (sym still)

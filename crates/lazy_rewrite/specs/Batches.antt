@@ -14,10 +14,10 @@ use Rattle.pud_defs.specs.Frames.{frame_at}
 use Rattle.pud_defs.specs.Puddles.{frontier_word}
 use Rattle.pud_defs.specs.Entries.{Entry}
 use Rattle.pud_defs.specs.Replay.{IsInLog}
-use Rattle.pud_defs.specs.Registry.{is_allowed}
+use Rattle.pud_defs.specs.Registry.{is_loggable}
 use Rattle.pud_defs.specs.Types.{types_of}
 use Rattle.graph_laws.specs.Steps.{steps_in, with_steps}
-use Rattle.batch.specs.Batches.{batch_write, words_of, committed, AreBatched, Commits}
+use Rattle.batch.specs.Batches.{batch_write, word_count_of, committed, AreBatched, Commits}
 use Rattle.lazy_rewrite.specs.declared.batches.TheConstants.{BATCH_STEPS, STEPS_WORDS}
 
 -- ---- words
@@ -52,8 +52,8 @@ pub record AreNextSteps (at : List (ℕ × Puddle)) (goal : ℕ → ℕ) (o m : 
 pub record CommitsSteps (F : ℕ) (at : List (ℕ × Puddle)) (o m : ℕ) (e : ℕ × Puddle) (fault : Option HostFault) (old new : State) : Type 0 where
   pub es : List Entry
   pub batched : AreBatched es
-  pub few : words_of es ≤ STEPS_WORDS
-  pub allowed : list_all (is_allowed F (committed es)) es ≡ true
+  pub few : word_count_of es ≤ STEPS_WORDS
+  pub allowed : list_all (is_loggable F (committed es)) es ≡ true
   pub write : batch_write es ≡ steps_in F (types_of (reads old.now.words)) at (reads old.now.words) o m e
   pub commits : Commits DAEMON_LOG es fault old new
 

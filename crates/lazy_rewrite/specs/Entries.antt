@@ -32,8 +32,8 @@ pub record IsToRewrite (at : List (ℕ × Puddle)) (o step : ℕ) : Type 0 where
   pub old : (e : ℕ × Puddle) → slice_get at o ≡ Some e → e.1.frontier ≤ step
 
 -- the value that each word of a frame gets as the frontier of its puddle, of ordinal o, moves from n to m
-abbrev pub new_words : (F : ℕ) → List (ℕ × Puddle) → Image → (o n m : ℕ) → ℕ → Option ℕ
-new_words F at image o n m = passed_word (types_of image) (map (λ d. d.1) at) ((stored_in F at image).word o) o n m
+abbrev pub rewritten_words : (F : ℕ) → List (ℕ × Puddle) → Image → (o n m : ℕ) → ℕ → Option ℕ
+rewritten_words F at image o n m = passed_word (types_of image) (map (λ d. d.1) at) ((stored_in F at image).word o) o n m
 
 -- the first slot that a frontier passes from n on, where its first step may be that of the header
 abbrev pub first_slot : (n : ℕ) → ℕ

@@ -20,8 +20,8 @@ ghost use Rattle.pud_defs.specs.Types.{types_of};
 ghost use Rattle.puddle_header.specs.Places.{IsSlotOf};
 ghost use Rattle.graph_laws.specs.Rewriting.{rewritten};
 ghost use Rattle.graph_laws.specs.Steps.{pointer_by, slot_pointer, with_steps};
-ghost use Rattle.batch.specs.Batches.{words_of, batch_entry, HasIdleGate};
-ghost use Rattle.lazy_rewrite.specs.Entries.{word_entry, words_batch, HasLowBases, IsToRewrite, new_words, first_slot, steps_batch};
+ghost use Rattle.batch.specs.Batches.{word_count_of, batch_entry, HasIdleGate};
+ghost use Rattle.lazy_rewrite.specs.Entries.{word_entry, words_batch, HasLowBases, IsToRewrite, rewritten_words, first_slot, steps_batch};
 ghost use Rattle.lazy_rewrite.specs.Batches.{AreNextSteps, pool_behind, RewritesOnce};
 
 use crate::pointers::over_bases;
@@ -44,7 +44,7 @@ pub const STEPS_WORDS: u32 = 903;
 
 /// Adds a word to the batch, where it fits.
 fn add_word(batch: &mut Batch, w: u32, value: u64)
-    ensures { words_of batch.old + (1 + ENTRY_HEADER_WORDS) ≤ LOG_ENTRY_WORDS → batch.new ≡ batch.old ++ batch_entry w (value ∷ []) ∷ [] }
+    ensures { word_count_of batch.old + (1 + ENTRY_HEADER_WORDS) ≤ LOG_ENTRY_WORDS → batch.new ≡ batch.old ++ batch_entry w (value ∷ []) ∷ [] }
 {
     let _fits = batch.add(w, &[value]);
 }
@@ -63,7 +63,7 @@ fn add_field(
     requires known { IsOnDevice frames pool.now }
     requires within { IsSlotOf pool.now at.now }
     requires field { f < MAX_FIELDS }
-    ensures { IsToRewrite pool.now at.now.ordinal (at.now.slot + 1) → words_of batch.old + 3 ≤ LOG_ENTRY_WORDS
+    ensures { IsToRewrite pool.now at.now.ordinal (at.now.slot + 1) → word_count_of batch.old + 3 ≤ LOG_ENTRY_WORDS
         → batch.new ≡ batch.old ++ word_entry (frame_at frames at.now.frame + puddle_slot_at at.now.slot + (SLOT_FIELDS_WORD + f)) (cond (is_pointer type_map f) (Option.Some (rewritten (map (λ e. e.1) pool.now) value)) Option.None) }
 {
     if map_is_pointer(type_map, f) {
@@ -86,7 +86,7 @@ fn add_fields<H: Loads>(
     requires known { IsOnDevice frames pool.now }
     requires within { IsSlotOf pool.now at.now }
     ensures added { H.tells → (image : Image) → reads (H.state h.old).now.words ≡ image → IsToRewrite pool.now at.now.ordinal (at.now.slot + 1)
-        → words_of batch.old + 3 * MAX_FIELDS ≤ LOG_ENTRY_WORDS
+        → word_count_of batch.old + 3 * MAX_FIELDS ≤ LOG_ENTRY_WORDS
         → IfOk result (λ _. batch.new ≡ batch.old ++ words_batch (frame_at frames at.now.frame + puddle_slot_at at.now.slot)
         (λ j. pointer_by (map (λ e. e.1) pool.now) (Option.Some type_map) j ((stored_in frames pool.now image).word at.now.ordinal (puddle_slot_at at.now.slot + j)))
         SLOT_FIELDS_WORD (field_count type_map)) }
@@ -112,7 +112,7 @@ fn add_slot<H: Loads>(
     requires known { IsOnDevice frames pool.now }
     requires within { IsSlotOf pool.now at.now }
     ensures added { H.tells → (image : Image) → reads (H.state h.old).now.words ≡ image → IsToRewrite pool.now at.now.ordinal (at.now.slot + 1)
-        → words_of batch.old + 3 * MAX_FIELDS ≤ LOG_ENTRY_WORDS
+        → word_count_of batch.old + 3 * MAX_FIELDS ≤ LOG_ENTRY_WORDS
         → IfOk result (λ _. batch.new ≡ batch.old ++ words_batch (frame_at frames at.now.frame + puddle_slot_at at.now.slot)
         (slot_pointer (types_of image) (map (λ e. e.1) pool.now) ((stored_in frames pool.now image).word at.now.ordinal) at.now.slot) 0 puddle_slot_words) }
     ensures only_reads { OnlyReads H.tells H.state H.counts (fault_of result) h.old h.new }
@@ -141,9 +141,9 @@ fn add_header<H: Loads>(
     requires room { device_words frames ≤ (H.counts h.old).size }
     requires known { IsOnDevice frames pool.now }
     requires within { ordinal < length pool.now }
-    ensures added { H.tells → (image : Image) → reads (H.state h.old).now.words ≡ image → IsToRewrite pool.now ordinal from → words_of batch.old + 3 ≤ LOG_ENTRY_WORDS
+    ensures added { H.tells → (image : Image) → reads (H.state h.old).now.words ≡ image → IsToRewrite pool.now ordinal from → word_count_of batch.old + 3 ≤ LOG_ENTRY_WORDS
         → (e : ℕ × Puddle) → slice_get pool.now ordinal ≡ Option.Some e → (m : ℕ) → from < m
-        → IfOk result (λ _. batch.new ≡ batch.old ++ words_batch (frame_at frames e.0) (new_words frames pool.now image ordinal from m) 0 FRAME_HEADER_WORDS) }
+        → IfOk result (λ _. batch.new ≡ batch.old ++ words_batch (frame_at frames e.0) (rewritten_words frames pool.now image ordinal from m) 0 FRAME_HEADER_WORDS) }
     ensures only_reads { OnlyReads H.tells H.state H.counts (fault_of result) h.old h.new }
 {
     if ordinal != 0 || from != 0 {
@@ -183,7 +183,7 @@ fn gather<H: Loads>(
     requires last { to ≤ LAST_FRONTIER }
     ensures batch { H.tells → (image : Image) → reads (H.state h.old).now.words ≡ image → IsToRewrite pool.now ordinal from → to ≤ from + BATCH_STEPS
         → (e : ℕ × Puddle) → slice_get pool.now ordinal ≡ Option.Some e
-        → IfOk result (λ batch. batch ≡ steps_batch frames e.0 (new_words frames pool.now image ordinal from to) from to) }
+        → IfOk result (λ batch. batch ≡ steps_batch frames e.0 (rewritten_words frames pool.now image ordinal from to) from to) }
     ensures only_reads { OnlyReads H.tells H.state H.counts (fault_of result) h.old h.new }
 {
     let (frame, _) = pool[ordinal as usize];

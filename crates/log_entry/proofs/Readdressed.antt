@@ -3,7 +3,7 @@ use Rattle.std.proofs.Common.{◌≡◌, inl, inr, ℕ, ◌+◌, ◌-◌, ◌≤
 use Rattle.std.proofs.lemmas.Bool.{cases_Bool, cond-true, cond-false, and_parts, leb-true}
 use Rattle.std.proofs.lemmas.List.{append_assoc, take-append-le, drop_all}
 use Rattle.pud_defs.specs.declared.layout.TheConstants.{LOG_HEADER_WORDS, ENTRY_HEADER_WORDS}
-use Rattle.pud_defs.specs.Image.{Image, written}
+use Rattle.pud_defs.specs.Image.{Image, image_with}
 use Rattle.pud_defs.proofs.Images.{written_there, written_other}
 use Rattle.pud_defs.specs.Entries.{Entry, gate_used, entry_n, is_legal_entry_word, entry_by, words_from, first_entry, entries_in, entries_of}
 use Rattle.pud_defs.proofs.Entries.{words_from-length, words_from-none, words_from-add, words_from-step, words_from-same, first_entry-fits, first_entry-is, length-entry_by, entries_in-first, entries_in-nothing, entries_in-append, entries_of-is}
@@ -174,13 +174,13 @@ module _ (f : Entry → Entry) (i j : Image) (found : Option Found) (e : Found) 
 
 -- the entry gets this address
 pub Readdresses-set : (f : Entry → Entry) (i j : Image) (found : Option Found) (e : Found) (old now : Reading) (whole : List Entry) (address : ℕ) → found ≡ Some e → option_map (entry_from i) found ≡ entry_next i old
-    → entries_left i old ≡ left_before i found now → Passes found old now → ReaddressesSoFar f i old whole → j ≡ written (e.at - ENTRY_HEADER_WORDS) address i → f (entry_from i e) ≡ with_address address (entry_from i e)
+    → entries_left i old ≡ left_before i found now → Passes found old now → ReaddressesSoFar f i old whole → j ≡ image_with (e.at - ENTRY_HEADER_WORDS) address i → f (entry_from i e) ≡ with_address address (entry_from i e)
     → ReaddressesSoFar f j now whole
 Readdresses-set f i j found e old now whole address some next before passed so_far set changed =
     let passes : PassesOne e old now = subst (λ (o : Option Found). Passes o old now) some passed in
     let at = old.log_at + LOG_HEADER_WORDS + old.passed in
     let place : e.at - ENTRY_HEADER_WORDS ≡ at = let behind = passes.at in omega arith in
-    let there : j at ≡ address = ap (λ (x : Image). x at) set ∙ ap (written (e.at - ENTRY_HEADER_WORDS) address i) (sym place) ∙ written_there (e.at - ENTRY_HEADER_WORDS) address i in
+    let there : j at ≡ address = ap (λ (x : Image). x at) set ∙ ap (image_with (e.at - ENTRY_HEADER_WORDS) address i) (sym place) ∙ written_there (e.at - ENTRY_HEADER_WORDS) address i in
     Readdresses-more f i j found e old now whole some next before passed so_far
     (λ k other. ap (λ (x : Image). x k) set ∙ written_other (e.at - ENTRY_HEADER_WORDS) address i k (λ here. other (here ∙ place)))
     (changed ∙ ap (λ (a : ℕ). with_address a (entry_from i e)) (sym there))

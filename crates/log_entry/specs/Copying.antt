@@ -11,12 +11,12 @@ pub record Copied : Type 0 where
   pub words : List ℕ
 
 -- The copy as an image: the log in it begins at word 0, which is its gate. So what is said of the log of an image is said of a copy.
-abbrev pub image_of : Copied → Image
-image_of c k = cond (k == 0) c.gate (cond (nat_lt k LOG_HEADER_WORDS) 0 (slice_index c.words (k - LOG_HEADER_WORDS)))
+abbrev pub image_of_copy : Copied → Image
+image_of_copy c k = cond (k == 0) c.gate (cond (nat_lt k LOG_HEADER_WORDS) 0 (slice_index c.words (k - LOG_HEADER_WORDS)))
 
 -- what a copy says
 abbrev pub log_copied : Copied → Log
-log_copied c = log_of (image_of c) 0
+log_copied c = log_of (image_of_copy c) 0
 
 -- the entry stands among the words of a copy, with its values
 pub record IsOfCopy (e : Found) : Type 0 where

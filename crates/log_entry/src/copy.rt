@@ -4,12 +4,12 @@ ghost use Rattle.pm_model.specs.Words.{reads};
 ghost use Rattle.pm_model.specs.Counts.{fault_of};
 ghost use Rattle.pm_model.specs.Reads.{OnlyReads};
 ghost use Rattle.pud_defs.specs.declared.layout.TheConstants.{LOG_WORDS, LOG_ENTRY_WORDS, ENTRY_HEADER_WORDS};
-ghost use Rattle.pud_defs.specs.Image.{Image, written};
+ghost use Rattle.pud_defs.specs.Image.{Image, image_with};
 ghost use Rattle.pud_defs.specs.Entries.{log_of, words_from};
 ghost use Rattle.pud_defs.specs.Replay.{is_in_range};
 ghost use Rattle.log_entry.specs.Reading.{Reading, entry_next, entries_left, entry_from, Passes, left_before};
 ghost use Rattle.log_entry.specs.Ranges.{HasRange};
-ghost use Rattle.log_entry.specs.Copying.{Copied, image_of, log_copied, IsOfCopy};
+ghost use Rattle.log_entry.specs.Copying.{Copied, image_of_copy, log_copied, IsOfCopy};
 
 use crate::{Entry, LogRange, begins_entry};
 use pm_model::{Host, HostFault};
@@ -59,7 +59,7 @@ impl LogCopy {
 
     /// The gate of the log.
     pub fn gate(&self) -> u64
-        ensures { result ≡ image_of self.now 0 }
+        ensures { result ≡ image_of_copy self.now 0 }
     {
         self.gate
     }
@@ -92,7 +92,7 @@ impl LogCopy {
     /// The values of an entry that was read of a copy.
     pub fn values(&self, entry: &Entry) -> &[u64]
         requires { IsOfCopy entry.now }
-        ensures { result.now ≡ words_from (image_of self.now) entry.now.at entry.now.n }
+        ensures { result.now ≡ words_from (image_of_copy self.now) entry.now.at entry.now.n }
     {
         let from = (entry.at - LOG_HEADER_WORDS) as usize;
         &self.words[from..from + entry.n as usize]
@@ -101,7 +101,7 @@ impl LogCopy {
     /// Gives an entry that was read of a copy another address.
     pub fn set_address(&mut self, entry: &Entry, address: u64)
         requires { IsOfCopy entry.now }
-        ensures { image_of self.new ≡ written (entry.now.at - ENTRY_HEADER_WORDS) address (image_of self.old) }
+        ensures { image_of_copy self.new ≡ image_with (entry.now.at - ENTRY_HEADER_WORDS) address (image_of_copy self.old) }
     {
         self.words[(entry.at - LOG_HEADER_WORDS - ENTRY_HEADER_WORDS) as usize] = address;
     }
@@ -133,8 +133,8 @@ impl CopyReader {
     /// are read, or they spell no entry from here on. Of a well formed log the entries that were left are the one that was
     /// found and those left now; or none is found, and none was left.
     pub fn next(&mut self, copy: &LogCopy) -> Option<Entry>
-        ensures next { option_map (entry_from (image_of copy.now)) result ≡ entry_next (image_of copy.now) self.old }
-        ensures left { entries_left (image_of copy.now) self.old ≡ left_before (image_of copy.now) result self.new }
+        ensures next { option_map (entry_from (image_of_copy copy.now)) result ≡ entry_next (image_of_copy copy.now) self.old }
+        ensures left { entries_left (image_of_copy copy.now) self.old ≡ left_before (image_of_copy copy.now) result self.new }
         ensures passes { Passes result self.old self.new }
         ensures inside { IfSome result IsOfCopy }
     {

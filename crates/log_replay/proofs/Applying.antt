@@ -10,11 +10,11 @@ use Rattle.pm_model.specs.Changes.{Footprint, Write, Writes, Changes, placed, wr
 use Rattle.pm_model.proofs.Changes.{Changes-still, Changes-wider, Changes-then}
 use Rattle.pud_defs.specs.Entries.{Entry, Log}
 use Rattle.pud_defs.specs.Replay.{AddressMap, is_in_range, given_by, value_from, over}
-use Rattle.log_replay.specs.Replaying.{Anything, IsNamed, Named, Applies}
+use Rattle.log_replay.specs.Replaying.{Anything, IsNamed, Named, AppliesEntries}
 
 -- nothing is written
-pub Applies-nothing : (write : Write) (s t : State) → ((w : ℕ) → write w ≡ None) → t ≡ s → Applies write None s t
-Applies-nothing write s t none same =
+pub AppliesEntries-nothing : (write : Write) (s t : State) → ((w : ℕ) → write w ≡ None) → t ≡ s → AppliesEntries write None s t
+AppliesEntries-nothing write s t none same =
     record {
       changes = Changes-still (Named write) None s t (λ cut. cc) same;
       newest = λ e k v is. absurd (let it : None ≡ Some v = sym (none k) ∙ is in cc);
@@ -22,8 +22,8 @@ Applies-nothing write s t none same =
     }
 
 -- words that are written and marked
-pub Applies-writes : (write placing : Write) (fault : Option HostFault) (s t : State) → ((w : ℕ) → write w ≡ placing w) → Writes placing fault s t → Applies write fault s t
-Applies-writes write placing fault s t same writes =
+pub AppliesEntries-writes : (write placing : Write) (fault : Option HostFault) (s t : State) → ((w : ℕ) → write w ≡ placing w) → Writes placing fault s t → AppliesEntries write fault s t
+AppliesEntries-writes write placing fault s t same writes =
     record {
       changes = Changes-wider (written placing) (Named write) fault s t (λ k v may. record { value = v; is = same k ∙ may }) writes.changes;
       newest = λ e k v is. writes.newest e k v (sym (same k) ∙ is);
@@ -39,8 +39,8 @@ given_by-counts place log order e first w counts same there =
 
 -- ---- one after the other
 
-pub Applies-same : (f g : Write) (fault : Option HostFault) (s t : State) → ((w : ℕ) → g w ≡ f w) → Applies f fault s t → Applies g fault s t
-Applies-same f g fault s t same a =
+pub AppliesEntries-same : (f g : Write) (fault : Option HostFault) (s t : State) → ((w : ℕ) → g w ≡ f w) → AppliesEntries f fault s t → AppliesEntries g fault s t
+AppliesEntries-same f g fault s t same a =
     record {
       changes = Changes-wider (Named f) (Named g) fault s t (λ k v named. record { value = named.value; is = same k ∙ named.is }) a.changes;
       newest = λ e k v is. a.newest e k v (sym (same k) ∙ is);
@@ -66,8 +66,8 @@ either : (f g : Write) (k v : ℕ) (o : Option ℕ) → g k ≡ o → over f g k
 either f g k v None none is = record { which = inr (none, ap (λ (x : Option ℕ). option_or x (f k)) (sym none) ∙ is) }
 either f g k v (Some y) some is = record { which = inl (some ∙ (ap (λ (x : Option ℕ). option_or x (f k)) (sym some) ∙ is)) }
 
-pub Applies-then : (f g : Write) (fault : Option HostFault) (a b c : State) → Applies f None a b → Applies g fault b c → Applies (over f g) fault a c
-Applies-then f g fault a b c first later =
+pub AppliesEntries-then : (f g : Write) (fault : Option HostFault) (a b c : State) → AppliesEntries f None a b → AppliesEntries g fault b c → AppliesEntries (over f g) fault a c
+AppliesEntries-then f g fault a b c first later =
     let still : fault ≡ None → fault ≡ Some Cut → ⊥ = λ none cut. absurd (let it : None ≡ Some Cut = sym none ∙ cut in cc) in
     record {
       changes = Changes-then (Named (over f g)) fault a b c
@@ -84,8 +84,8 @@ Applies-then f g fault a b c first later =
     }
 
 -- a fault came before all was written
-pub Applies-failed : (f write : Write) (fault : HostFault) (s t : State) → ((k : ℕ) → IsNamed f k → IsNamed write k) → Changes (Named f) (Some fault) s t → Applies write (Some fault) s t
-Applies-failed f write fault s t wider changes =
+pub AppliesEntries-failed : (f write : Write) (fault : HostFault) (s t : State) → ((k : ℕ) → IsNamed f k → IsNamed write k) → Changes (Named f) (Some fault) s t → AppliesEntries write (Some fault) s t
+AppliesEntries-failed f write fault s t wider changes =
     record {
       changes = Changes-wider (Named f) (Named write) (Some fault) s t (λ k v named. wider k named) changes;
       newest = λ e. absurd (let it : None ≡ Some fault = sym e in cc);
@@ -93,28 +93,28 @@ Applies-failed f write fault s t wider changes =
     }
 
 -- the first part of what is written alone, and not wholly
-pub Applies-failed_first : (f g : Write) (fault : HostFault) (s t : State) → Applies f (Some fault) s t → Applies (over f g) (Some fault) s t
-Applies-failed_first f g fault s t a = Applies-failed f (over f g) fault s t (λ k named. named_first f g k (g k) refl named) a.changes
+pub AppliesEntries-failed_first : (f g : Write) (fault : HostFault) (s t : State) → AppliesEntries f (Some fault) s t → AppliesEntries (over f g) (Some fault) s t
+AppliesEntries-failed_first f g fault s t a = AppliesEntries-failed f (over f g) fault s t (λ k named. named_first f g k (g k) refl named) a.changes
 
 -- nothing was written yet
-pub Applies-failed_still : (write : Write) (fault : HostFault) (s t : State) → Changes (Named write) (Some fault) s t → Applies write (Some fault) s t
-Applies-failed_still write fault s t changes = Applies-failed write write fault s t (λ k named. named) changes
+pub AppliesEntries-failed_still : (write : Write) (fault : HostFault) (s t : State) → Changes (Named write) (Some fault) s t → AppliesEntries write (Some fault) s t
+AppliesEntries-failed_still write fault s t changes = AppliesEntries-failed write write fault s t (λ k named. named) changes
 
 -- behind a call that changed nothing
-pub Applies-behind : (write : Write) (fault : Option HostFault) (s t u : State) → t ≡ s → Applies write fault t u → Applies write fault s u
-Applies-behind write fault s t u same a = subst (λ (x : State). Applies write fault x u) same a
+pub AppliesEntries-behind : (write : Write) (fault : Option HostFault) (s t u : State) → t ≡ s → AppliesEntries write fault t u → AppliesEntries write fault s u
+AppliesEntries-behind write fault s t u same a = subst (λ (x : State). AppliesEntries write fault x u) same a
 
 -- ---- behind a call that changed nothing, words and then others
 
 -- both were written
-pub Applies-joined : (f g both : Write) (fault : Option HostFault) (s t mid end : State) → t ≡ s → ((w : ℕ) → both w ≡ over f g w) → Applies f None t mid → Applies g fault mid end → Applies both fault s end
-Applies-joined f g both fault s t mid end same gives first later =
-    Applies-same (over f g) both fault s end gives (Applies-then f g fault s mid end (Applies-behind f None s t mid same first) later)
+pub AppliesEntries-joined : (f g both : Write) (fault : Option HostFault) (s t mid end : State) → t ≡ s → ((w : ℕ) → both w ≡ over f g w) → AppliesEntries f None t mid → AppliesEntries g fault mid end → AppliesEntries both fault s end
+AppliesEntries-joined f g both fault s t mid end same gives first later =
+    AppliesEntries-same (over f g) both fault s end gives (AppliesEntries-then f g fault s mid end (AppliesEntries-behind f None s t mid same first) later)
 
 -- a fault came while the first were
-pub Applies-cut_short : (f g both : Write) (fault : HostFault) (s t end : State) → t ≡ s → ((w : ℕ) → both w ≡ over f g w) → Applies f (Some fault) t end → Applies both (Some fault) s end
-Applies-cut_short f g both fault s t end same gives first =
-    Applies-same (over f g) both (Some fault) s end gives (Applies-failed_first f g fault s end (Applies-behind f (Some fault) s t end same first))
+pub AppliesEntries-cut_short : (f g both : Write) (fault : HostFault) (s t end : State) → t ≡ s → ((w : ℕ) → both w ≡ over f g w) → AppliesEntries f (Some fault) t end → AppliesEntries both (Some fault) s end
+AppliesEntries-cut_short f g both fault s t end same gives first =
+    AppliesEntries-same (over f g) both (Some fault) s end gives (AppliesEntries-failed_first f g fault s end (AppliesEntries-behind f (Some fault) s t end same first))
 
 -- the size of the device stays
 pub size_then : (size : ℕ) (old new : Counts) → size ≡ old.size → new ≡ old → size ≡ new.size

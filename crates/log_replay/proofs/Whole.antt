@@ -17,7 +17,7 @@ use Rattle.pud_defs.specs.Replay.{AddressMap, new_value, overwritten, IsInLog}
 use Rattle.pud_defs.proofs.Entries.{log_of-same, used_within}
 use Rattle.pud_defs.proofs.Replay.{overwritten-again, new_value-of}
 use Rattle.log_replay.specs.declared.Target.{Target}
-use Rattle.log_replay.specs.Replaying.{address_map_of, IsPlacing, IsReplayable, HasDurableLog, AreApart, new_values, Named, Applies, ReplaysSame, Replays, ReplaysAgain}
+use Rattle.log_replay.specs.Replaying.{address_map_of, IsPlacing, IsReplayable, HasDurableLog, AreApart, new_values, Named, AppliesEntries, ReplaysSame, Replays, ReplaysAgain}
 use Rattle.log_replay.proofs.Places.{places_same}
 use Rattle.log_replay.proofs.Left.{undo_value-apart, redo_value-apart, undone-unplaced, redone-unplaced}
 
@@ -144,7 +144,7 @@ module _ (to : Target) (size at : ℕ) (es : List Entry) (fault : Option HostFau
 fence_keeps : (s t : State) (fault : Option HostFault) → Steps after_fence fault s t → fault ≡ None → reads t.now.words ≡ reads s.now.words
 fence_keeps s t fault step none = ap (λ (x : State). reads x.now.words) (step.done none)
 
-pub Replays-failed : (to : Target) (at : ℕ) (fault : HostFault) (s t : State) → Applies (new_values to at (reads s.now.words)) (Some fault) s t → Replays to at (Some fault) s t
+pub Replays-failed : (to : Target) (at : ℕ) (fault : HostFault) (s t : State) → AppliesEntries (new_values to at (reads s.now.words)) (Some fault) s t → Replays to at (Some fault) s t
 Replays-failed to at fault s t a =
     record {
       changes = a.changes;
@@ -156,7 +156,7 @@ reads_one : (image was : ℕ) (o : Option ℕ) → ((v : ℕ) → o ≡ Some v �
 reads_one image was None some none = none refl
 reads_one image was (Some v) some none = some v refl
 
-pub Replays-fence : (to : Target) (at : ℕ) (fault : Option HostFault) (s t u : State) → Applies (new_values to at (reads s.now.words)) None s t → Steps after_fence fault t u → Replays to at fault s u
+pub Replays-fence : (to : Target) (at : ℕ) (fault : Option HostFault) (s t u : State) → AppliesEntries (new_values to at (reads s.now.words)) None s t → Steps after_fence fault t u → Replays to at fault s u
 Replays-fence to at fault s t u a step =
     let write = new_values to at (reads s.now.words) in
     record {

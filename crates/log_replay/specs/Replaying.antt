@@ -96,7 +96,7 @@ abbrev pub Named : Write → Footprint
 Named write k v = IsNamed write k
 
 -- These words are overwritten, and no other: at Ok each has its value as the newest, and marked.
-pub record Applies (write : Write) (fault : Option HostFault) (old new : State) : Type 0 where
+pub record AppliesEntries (write : Write) (fault : Option HostFault) (old new : State) : Type 0 where
   pub changes : Changes (Named write) fault old new
   pub newest : fault ≡ None → (k v : ℕ) → write k ≡ Some v → (new.now.words k).newest ≡ v
   pub marked : fault ≡ None → (k v : ℕ) → write k ≡ Some v → (new.now.words k).kept ≡ []

@@ -14,15 +14,15 @@ use Rattle.pud_defs.specs.declared.layout.TheConstants.{DAEMON_LOG, SPACE_TABLE,
 use Rattle.pud_defs.specs.Image.{Image}
 use Rattle.pud_defs.specs.Entries.{Entry, Log, is_idle_gate}
 use Rattle.pud_defs.specs.Replay.{value_at, overwritten, settled_by}
-use Rattle.pud_defs.specs.Registry.{is_allowed}
+use Rattle.pud_defs.specs.Registry.{is_loggable}
 use Rattle.pud_defs.specs.Spaces.{space_record_at, owner_by, owner_of}
 use Rattle.pud_defs.specs.World.{StoredWorld, idle_world_of}
 use Rattle.pud_defs.proofs.Replay.{overwritten-stays, overwritten-there, value_at-there, value_at-apart, settled_by-idle, outside_log}
-use Rattle.pud_defs.proofs.Logged.{may_be_logged-table, is_allowed-there}
+use Rattle.pud_defs.proofs.Logged.{may_be_logged-table, is_loggable-there}
 use Rattle.pud_defs.proofs.Spaces.{are_legal_spaces-none, are_closed_logs-none}
 use Rattle.pud_defs.proofs.Parts.{StandsFor, standing_spaces}
 use Rattle.pud_defs.proofs.IdleWorlds.{standing_of_idle_world, idle_registry_standing}
-use Rattle.batch.specs.Batches.{batch_entry, words_of, batch_write, committed, IsBatched, Commits}
+use Rattle.batch.specs.Batches.{batch_entry, word_count_of, batch_write, committed, IsBatched, Commits}
 use Rattle.batch.specs.Worlds.{IsQuiescent, with_batch, MovesBy, IsBetween, Moves}
 use Rattle.batch.proofs.Writes.{batch_write-append, batch_write-single}
 use Rattle.batch.proofs.Worlds.{stands_still}
@@ -38,10 +38,10 @@ pub clearing-more : (n : ℕ) → clearing (n + 1) ≡ clearing n ++ batch_entry
 unfolding clearing
 clearing-more n = ap clearing (let e : n + 1 ≡ suc n = omega arith in e)
 
-pub words_of-clearing : (n : ℕ) → words_of (clearing n) ≡ 3 * n
+pub word_count_of-clearing : (n : ℕ) → word_count_of (clearing n) ≡ 3 * n
 unfolding clearing
-words_of-clearing zero = refl
-words_of-clearing (suc n) = let before = words_of-clearing n in omega (arith, sum_by-append (λ (e : Entry). length e.vals + 2) (clearing n) (batch_entry (space_record_at n) (0 ∷ []) ∷ []))
+word_count_of-clearing zero = refl
+word_count_of-clearing (suc n) = let before = word_count_of-clearing n in omega (arith, sum_by-append (λ (e : Entry). length e.vals + 2) (clearing n) (batch_entry (space_record_at n) (0 ∷ []) ∷ []))
 
 -- a word of another record is none of this one's first words
 one_apart : (at k : ℕ) → (k ≡ at → ⊥) → value_at at (0 ∷ []) k ≡ None
@@ -77,14 +77,14 @@ pub clearing-outside : (n k : ℕ) → n ≤ CLIENTS → (k < SPACE_TABLE) ⊎ (
 clearing-outside n k few (inl before) = clearing-elsewhere n k (λ c below here. absurd (omega arith))
 clearing-outside n k few (inr behind) = clearing-elsewhere n k (λ c below here. absurd (omega arith))
 
-pub clearing-allowed : (F n : ℕ) (log : Log) → n ≤ CLIENTS → list_all (is_allowed F log) (clearing n) ≡ true
+pub clearing-allowed : (F n : ℕ) (log : Log) → n ≤ CLIENTS → list_all (is_loggable F log) (clearing n) ≡ true
 unfolding clearing
 clearing-allowed F zero log few = refl
 clearing-allowed F (suc n) log few =
     let e = batch_entry (space_record_at n) (0 ∷ []) in
-    list_all-append (is_allowed F log) (clearing n) (e ∷ [])
-    ∙ and_from (list_all (is_allowed F log) (clearing n)) (list_all (is_allowed F log) (e ∷ [])) (clearing-allowed F n log (omega arith))
-    (and_from (is_allowed F log e) true (is_allowed-there F log e (may_be_logged-table F (space_record_at n) 1 (omega arith) (omega arith))) refl)
+    list_all-append (is_loggable F log) (clearing n) (e ∷ [])
+    ∙ and_from (list_all (is_loggable F log) (clearing n)) (list_all (is_loggable F log) (e ∷ [])) (clearing-allowed F n log (omega arith))
+    (and_from (is_loggable F log e) true (is_loggable-there F log e (may_be_logged-table F (space_record_at n) 1 (omega arith) (omega arith))) refl)
 
 -- ---- the table is emptied wholly or not at all
 

@@ -11,11 +11,11 @@ use Rattle.pud_defs.specs.declared.layout.TheConstants.{DAEMON_LOG, CLIENTS, SPA
 use Rattle.pud_defs.specs.Image.{Image}
 use Rattle.pud_defs.specs.Entries.{is_idle_gate}
 use Rattle.pud_defs.specs.Replay.{overwritten, settled_by}
-use Rattle.pud_defs.specs.Registry.{is_allowed}
+use Rattle.pud_defs.specs.Registry.{is_loggable}
 use Rattle.pud_defs.specs.Spaces.{Owner, space_record_at, owner_by, owner_of, is_space, is_legal_space, has_closed_logs, owner, with_owner}
 use Rattle.pud_defs.specs.World.{StoredWorld}
 use Rattle.pud_defs.proofs.Replay.{settled_by-idle, outside_log, overwritten-stays, overwritten-there, value_at-there, value_at-apart}
-use Rattle.pud_defs.proofs.Logged.{may_be_logged-table, is_allowed-there}
+use Rattle.pud_defs.proofs.Logged.{may_be_logged-table, is_loggable-there}
 use Rattle.pud_defs.proofs.Spaces.{owner_of-same, has_closed_logs-same}
 use Rattle.pud_defs.proofs.IdleWorlds.{standing_of_idle_world, idle_registry_standing}
 use Rattle.batch.specs.Batches.{batch_entry, batch_write, committed, ByBatch}
@@ -62,9 +62,9 @@ module _ (size : ℕ) (s : StoredWorld) (slot : ℕ) (now : Option Owner) (vals 
         let e = batch_entry (space_record_at slot) vals in
         let known = g.known in
         let few = g.few in
-        let allowed : is_allowed s.frames (committed (record_batch slot vals)) e ≡ true =
-        is_allowed-there s.frames (committed (record_batch slot vals)) e (may_be_logged-table s.frames (space_record_at slot) (length vals) (omega arith) (omega arith)) in
-        and_from (is_allowed s.frames (committed (record_batch slot vals)) e) true allowed refl;
+        let allowed : is_loggable s.frames (committed (record_batch slot vals)) e ≡ true =
+        is_loggable-there s.frames (committed (record_batch slot vals)) e (may_be_logged-table s.frames (space_record_at slot) (length vals) (omega arith) (omega arith)) in
+        and_from (is_loggable s.frames (committed (record_batch slot vals)) e) true allowed refl;
     stands = λ image picked.
         let old = settled_by DAEMON_LOG image in
         let was = standing_of_idle_world size image s (settled.stands image picked) in

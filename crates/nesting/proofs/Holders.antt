@@ -4,7 +4,7 @@ use Rattle.std.proofs.lemmas.List.{length-replicate}
 use Rattle.std.proofs.lemmas.Option.{none-some}
 use Rattle.pud_defs.specs.declared.records.TheConstants.{POOL_RECORDS}
 use Rattle.nesting.specs.declared.Session.{Session}
-use Rattle.nesting.specs.Sessions.{session_in, client_in, session_depth, holder_in, depth_in, count_of, IsSession, AreSessions}
+use Rattle.nesting.specs.Sessions.{session_in, session_client, session_depth, holder_in, depth_in, count_of, IsSession, AreSessions}
 
 -- ---- at the start
 
@@ -25,7 +25,7 @@ AreSessions-replicate = record {
 
 -- ---- told by the holder, or by the depth
 
-none_held : (o : Option Session) → option_map client_in o ≡ None → o ≡ None
+none_held : (o : Option Session) → option_map session_client o ≡ None → o ≡ None
 none_held None e = refl
 none_held (Some session) e = absurd (none-some session.client (sym e))
 

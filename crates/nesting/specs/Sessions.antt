@@ -12,12 +12,12 @@ session_in sessions pool = slice_index_or sessions pool None
 -- ---- one session
 
 -- whose it is
-abbrev pub client_in : Session → ℕ
-client_in session = session.client
+abbrev pub session_client : Session → ℕ
+session_client session = session.client
 
 -- the number of its log
-abbrev pub number_in : Session → ℕ
-number_in session = session.log_number
+abbrev pub session_log : Session → ℕ
+session_log session = session.log_number
 
 -- how often it was begun
 abbrev pub session_depth : Option Session → ℕ
@@ -25,9 +25,9 @@ session_depth None = 0
 session_depth (Some session) = session.depth
 
 -- it is this client's
-abbrev pub is_of : (client : ℕ) → Option Session → Bool
-is_of client None = false
-is_of client (Some session) = session.client == client
+abbrev pub is_of_client : (client : ℕ) → Option Session → Bool
+is_of_client client None = false
+is_of_client client (Some session) = session.client == client
 
 -- one less deep: none where it was begun once
 abbrev pub lowered_session : Option Session → Option Session
@@ -38,7 +38,7 @@ lowered_session (Some session) = cond (nat_le session.depth 1) None (Some (recor
 
 -- whose transaction is open on the pool
 abbrev pub holder_in : List (Option Session) → (pool : ℕ) → Option ℕ
-holder_in sessions pool = option_map client_in (session_in sessions pool)
+holder_in sessions pool = option_map session_client (session_in sessions pool)
 
 -- the number of the log of the client's own transaction on the pool, where it is open
 abbrev pub own_in : (client : ℕ) → Option Session → Option ℕ
@@ -51,7 +51,7 @@ depth_in sessions pool = session_depth (session_in sessions pool)
 
 -- on how many pools the client's transactions are open
 abbrev pub count_of : (client : ℕ) → List (Option Session) → ℕ
-count_of client sessions = count_by (is_of client) sessions
+count_of client sessions = count_by (is_of_client client) sessions
 
 -- the client's on the pool, with the log of this number, one deeper
 abbrev pub entered : (client pool number : ℕ) → List (Option Session) → List (Option Session)

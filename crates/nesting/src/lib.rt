@@ -8,7 +8,7 @@ ghost use Rattle.std.specs.Prelude.{◌≡◌, ◌+◌, ◌<◌, ◌≤◌, ◌�
 ghost use Rattle.pud_defs.specs.declared.layout.TheConstants.{CLIENTS, CLIENT_LOGS, MAX_DEPTH};
 ghost use Rattle.pud_defs.specs.declared.records.TheConstants.{POOL_RECORDS};
 ghost use Rattle.pud_defs.specs.Settled.{ALL_LOGS};
-ghost use Rattle.nesting.specs.Sessions.{session_in, holder_in, depth_in, is_of, count_of, entered, lowered_session, left, IsSession, AreSessions};
+ghost use Rattle.nesting.specs.Sessions.{session_in, holder_in, depth_in, is_of_client, count_of, entered, lowered_session, left, IsSession, AreSessions};
 
 use pud_defs::layout::{CLIENT_LOGS, MAX_DEPTH};
 use pud_defs::records::POOL_RECORDS;
@@ -56,7 +56,7 @@ impl Model for Sessions {
 
 /// Whether the session is this client's.
 fn is_of(client: u8, session: Option<Session>) -> bool
-    ensures { result ≡ is_of client session }
+    ensures { result ≡ is_of_client client session }
 {
     session.is_some_and(|session| session.client == client)
 }

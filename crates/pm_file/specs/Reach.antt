@@ -10,7 +10,7 @@ pub record KeepsWords (old new : DeviceRows) : Type 0 where
   pub newest : AreSame new.newest.items old.newest.items
 
 -- The rows have room for so many lines.
-pub record HasRoom (lines : ℕ) (rows : DeviceRows) : Type 0 where
+pub record HasRowRoom (lines : ℕ) (rows : DeviceRows) : Type 0 where
   pub durable : 8 * lines ≤ vec_capacity rows.durable
   pub marked : 8 * lines ≤ vec_capacity rows.marked
   pub newest : 8 * lines ≤ vec_capacity rows.newest

@@ -1,7 +1,7 @@
 //! The words of the device, of which those are kept that reach as far as a word was stored; the others are zero.
 ghost use Rattle.std.specs.Prelude.{◌≡◌, ◌+◌, ◌-◌, ◌*◌, ◌<◌, ◌≤◌, ◌^◌, ◌++◌, false, replicate, slice_index, vec_len, vec_capacity, IfOk, OnOk, OnErr};
 ghost use Rattle.pm_rows.specs.Rows.{AreSame, TakesLine};
-ghost use Rattle.pm_file.specs.Reach.{KeepsWords, HasRoom, TakesWord};
+ghost use Rattle.pm_file.specs.Reach.{KeepsWords, HasRowRoom, TakesWord};
 
 use pm_rows::{DeviceRows, LINE_WORDS};
 use std::alloc::{AllocError, Global};
@@ -126,7 +126,7 @@ impl DeviceWords {
 
 // Takes the room of so many lines in all, which touches none of it.
 fn make_room(rows: &mut DeviceRows, lines: u32) -> Result<(), AllocError>
-    ensures room { OnOk result (HasRoom lines rows.new) }
+    ensures room { OnOk result (HasRowRoom lines rows.new) }
     ensures durable { rows.new.durable.items ≡ rows.old.durable.items }
     ensures marked { rows.new.marked.items ≡ rows.old.marked.items }
     ensures newest { rows.new.newest.items ≡ rows.old.newest.items }
@@ -154,7 +154,7 @@ fn reserve_to<T>(row: &mut Vec<T>, length: usize) -> Result<(), AllocError>
 fn lengthen(rows: &mut DeviceRows, lines: u32)
     requires few { lines < 2 ^ 29 }
     requires longer { rows.old.lines ≤ lines }
-    requires room { HasRoom lines rows.old }
+    requires room { HasRowRoom lines rows.old }
     ensures size { rows.new.lines ≡ lines }
     ensures kept { KeepsWords rows.old rows.new }
 {

@@ -7,7 +7,7 @@ use Rattle.pm_model.specs.Words.{Cell, last_or, durable, single, stored, marked,
 use Rattle.pm_model.specs.Moments.{State}
 use Rattle.pm_mem.specs.declared.event.Event.{Event}
 use Rattle.pm_model.specs.Picking.{keeps_newest}
-use Rattle.pm_mem.specs.Events.{image_of, words_from, fresh, told_events}
+use Rattle.pm_mem.specs.Events.{image_picked, words_of_list, fresh_state, told_events}
 use Rattle.pm_mem.proofs.Events.{told_events-none}
 use Rattle.pm_mem.specs.Rows.{marked_value, AreOf, AreSingle}
 use Rattle.pm_rows.specs.Rows.{TakesLine, AreSame, Loses}
@@ -51,13 +51,13 @@ AreOf-fence newest marks durables new_durables words same rows = record {
 }
 
 lost_values : (newest left marks durables : List ℕ) (words : Words) (pick : ℕ) → Loses pick durables newest left
-    → AreOf newest marks durables words → (k : ℕ) → get_or left k 0 ≡ image_of pick words k
+    → AreOf newest marks durables words → (k : ℕ) → get_or left k 0 ≡ image_picked pick words k
 lost_values newest left marks durables words pick is rows k =
     is.each k ∙ ap (λ (x : ℕ). cond (keeps_newest pick k) x (get_or durables k 0)) (rows.newest k) ∙ ap (λ (x : ℕ). cond (keeps_newest pick k) ((words k).newest) x) (rows.durables k)
 
 pub AreOf-lost : (newest marks durables new_newest new_marks new_durables : List ℕ) (words : Words) (pick : ℕ)
     → Loses pick durables newest new_newest → Loses pick durables newest new_marks → AreSame new_durables new_marks
-    → AreOf newest marks durables words → AreOf new_newest new_marks new_durables (after_loss (image_of pick words) words)
+    → AreOf newest marks durables words → AreOf new_newest new_marks new_durables (after_loss (image_picked pick words) words)
 AreOf-lost newest marks durables new_newest new_marks new_durables words pick newest_is marks_is same rows = record {
   newest = lost_values newest new_newest marks durables words pick newest_is rows;
   marked = lost_values newest new_marks marks durables words pick marks_is rows;
@@ -71,7 +71,7 @@ pub AreOf-start : (initial newest marks durables : List ℕ) (events : List Even
     → ((k : ℕ) → get_or initial k 0 ≡ 0) → ((k : ℕ) → get_or durables k 0 ≡ 0) → newest ≡ durables → marks ≡ durables
     → AreOf newest marks durables (told_events initial events).now.words
 AreOf-start initial newest marks durables events none i d n m =
-    let start : AreOf durables durables durables (words_from initial) = record { newest = λ k. d k ∙ sym (i k); marked = λ k. d k ∙ sym (i k); durables = λ k. d k ∙ sym (i k) } in
+    let start : AreOf durables durables durables (words_of_list initial) = record { newest = λ k. d k ∙ sym (i k); marked = λ k. d k ∙ sym (i k); durables = λ k. d k ∙ sym (i k) } in
     let told : AreOf durables durables durables (told_events initial events).now.words = subst (λ (s : State). AreOf durables durables durables s.now.words) (sym (ap (told_events initial) none ∙ told_events-none initial)) start in
     subst (λ (row : List ℕ). AreOf row marks durables (told_events initial events).now.words) (sym n)
     (subst (λ (row : List ℕ). AreOf durables row durables (told_events initial events).now.words) (sym m) told)
@@ -83,7 +83,7 @@ AreSingle-start initial events none =
 pub said-start : (initial : List ℕ) (events : List Event) → events ≡ [] → (told_events initial events).now.said ≡ []
 said-start initial events none = ap (λ (s : State). s.now.said) (ap (told_events initial) none ∙ told_events-none initial)
 
-pub fresh-start : (initial : List ℕ) (events : List Event) → events ≡ [] → ((k : ℕ) → get_or initial k 0 ≡ 0) → told_events initial events ≡ fresh []
-fresh-start initial events none zero =
-    let same : words_from initial ≡ (λ k. single 0) = λ i k. (ap single (zero k)) i in
-    ap (told_events initial) none ∙ told_events-none initial ∙ ap (λ (words : Words). record (fresh []) { now = record { said = []; words = words } }) same
+pub fresh_state-start : (initial : List ℕ) (events : List Event) → events ≡ [] → ((k : ℕ) → get_or initial k 0 ≡ 0) → told_events initial events ≡ fresh_state []
+fresh_state-start initial events none zero =
+    let same : words_of_list initial ≡ (λ k. single 0) = λ i k. (ap single (zero k)) i in
+    ap (told_events initial) none ∙ told_events-none initial ∙ ap (λ (words : Words). record (fresh_state []) { now = record { said = []; words = words } }) same

@@ -8,7 +8,7 @@ use Rattle.pm_model.specs.Calls.{LosesPower, Steps}
 use Rattle.pm_mem.specs.declared.turns.Turn.{Turn}
 use Rattle.pm_mem.specs.declared.turns.Turn.TheVariants.{Done, Failed, Cut}
 use Rattle.pm_model.specs.Picking.{keeps_newest}
-use Rattle.pm_mem.specs.Events.{image_of, after_pick}
+use Rattle.pm_mem.specs.Events.{image_picked, after_pick}
 use Rattle.pm_mem.specs.Turns.{turn_fault, before_step}
 
 Has-last : (x : ℕ) (xs : List ℕ) → Has (x ∷ xs) (last_or x xs)
@@ -19,11 +19,11 @@ Has-either : (b : Bool) (c : Cell) → Has (values c) (cond b c.newest (durable 
 Has-either true c = inl refl
 Has-either false c = Has-last c.newest (c.kept ++ c.passed)
 
-pub Picks-image_of : (pick : ℕ) (words : Words) → Picks words (image_of pick words)
-Picks-image_of pick words = record { each = λ k. Has-either (keeps_newest pick k) (words k) }
+pub Picks-image_picked : (pick : ℕ) (words : Words) → Picks words (image_picked pick words)
+Picks-image_picked pick words = record { each = λ k. Has-either (keeps_newest pick k) (words k) }
 
 pub LosesPower-pick : (pick : ℕ) (old new : State) → new ≡ after_pick pick old → LosesPower old new
-LosesPower-pick pick old new is = record { image = image_of pick old.now.words; picked = Picks-image_of pick old.now.words; is = is }
+LosesPower-pick pick old new is = record { image = image_picked pick old.now.words; picked = Picks-image_picked pick old.now.words; is = is }
 
 -- a step that is not carried out
 pub Steps-err : (f : Words → Words) (turn : Turn) (x : HostFault) (fault : Option HostFault) (old new : State)

@@ -8,7 +8,7 @@ use Rattle.pm_model.specs.Moments.{State, stepped}
 use Rattle.pm_mem.specs.declared.event.Event.{Event}
 use Rattle.pm_mem.specs.declared.event.Event.TheVariants.{Store, Flush, Fence, Lost, Said, Blank}
 use Rattle.pm_model.specs.Picking.{keeps_newest}
-use Rattle.pm_mem.specs.Events.{image_of, words_from, nothing, after, replayed, start, told_events, blanked, with_value, always}
+use Rattle.pm_mem.specs.Events.{image_picked, words_of_list, no_change, after_event, after_events, start, told_events, blanked, with_value, always}
 use Rattle.pm_mem.specs.Rows.{marked_value, AreOf, AreSingle}
 use Rattle.pm_mem.proofs.Followed.{get_or-set, at_choice}
 
@@ -57,41 +57,41 @@ store_beside w word v x words other k = elim (cases_eq k w) [
   | inr there ↦ let a : eqb k w ≡ false = grind (arith, nat_tests) in rw a
 ]
 
-pub after-blanked : (w v : ℕ) (event : Event) (s : State) → after (blanked w event) (always w v s) ≡ always w v (after event s)
-after-blanked w v (Store word x) s = elim (cases_eq word w) [
+pub after_event-blanked : (w v : ℕ) (event : Event) (s : State) → after_event (blanked w event) (always w v s) ≡ always w v (after_event event s)
+after_event-blanked w v (Store word x) s = elim (cases_eq word w) [
   | inl same ↦ let a : eqb word w ≡ true = grind (arith, nat_tests) in
-      ap (λ (b : Bool). after (cond b Blank (Store word x)) (always w v s)) a
-      ∙ stepped_always nothing (after_store w x) w v s (λ i k. (store_hidden w v x s.now.words k) i)
+      ap (λ (b : Bool). after_event (cond b Blank (Store word x)) (always w v s)) a
+      ∙ stepped_always no_change (after_store w x) w v s (λ i k. (store_hidden w v x s.now.words k) i)
       ∙ ap (λ (n : ℕ). always w v (stepped (after_store n x) s)) (sym same)
   | inr other ↦ let a : eqb word w ≡ false = grind (arith, nat_tests) in
-      ap (λ (b : Bool). after (cond b Blank (Store word x)) (always w v s)) a
+      ap (λ (b : Bool). after_event (cond b Blank (Store word x)) (always w v s)) a
       ∙ stepped_always (after_store word x) (after_store word x) w v s (λ i k. (store_beside w word v x s.now.words other k) i)
 ]
-after-blanked w v (Flush line) s = stepped_always (after_flush line) (after_flush line) w v s (λ i k. (flush_choice (eqb (k / 8) line) (eqb k w) v (s.now.words k)) i)
-after-blanked w v Fence s = stepped_always after_fence after_fence w v s (λ i k. (fence_choice (eqb k w) v (s.now.words k)) i)
-after-blanked w v (Lost pick) s =
-    stepped_always (after_loss (image_of pick (with_value w v s.now.words))) (after_loss (image_of pick s.now.words)) w v s
+after_event-blanked w v (Flush line) s = stepped_always (after_flush line) (after_flush line) w v s (λ i k. (flush_choice (eqb (k / 8) line) (eqb k w) v (s.now.words k)) i)
+after_event-blanked w v Fence s = stepped_always after_fence after_fence w v s (λ i k. (fence_choice (eqb k w) v (s.now.words k)) i)
+after_event-blanked w v (Lost pick) s =
+    stepped_always (after_loss (image_picked pick (with_value w v s.now.words))) (after_loss (image_picked pick s.now.words)) w v s
     (λ i k. (loss_choice (keeps_newest pick k) (eqb k w) v (s.now.words k)) i)
-after-blanked w v (Said byte) s = refl
-after-blanked w v Blank s = refl
+after_event-blanked w v (Said byte) s = refl
+after_event-blanked w v Blank s = refl
 
-pub replayed-blanked : (w v : ℕ) (events : List Event) (s : State) → replayed (map (blanked w) events) (always w v s) ≡ always w v (replayed events s)
-unfolding replayed
-replayed-blanked w v [] s = refl
-replayed-blanked w v (e ∷ events) s = ap (replayed (map (blanked w) events)) (after-blanked w v e s) ∙ replayed-blanked w v events (after e s)
+pub after_events-blanked : (w v : ℕ) (events : List Event) (s : State) → after_events (map (blanked w) events) (always w v s) ≡ always w v (after_events events s)
+unfolding after_events
+after_events-blanked w v [] s = refl
+after_events-blanked w v (e ∷ events) s = ap (after_events (map (blanked w) events)) (after_event-blanked w v e s) ∙ after_events-blanked w v events (after_event e s)
 
 start-set : (initial : List ℕ) (w v : ℕ) → w < length initial → start (set initial w v) ≡ always w v (start initial)
 start-set initial w v within =
-    let each : (k : ℕ) → words_from (set initial w v) k ≡ with_value w v (words_from initial) k =
+    let each : (k : ℕ) → words_of_list (set initial w v) k ≡ with_value w v (words_of_list initial) k =
     λ k. ap single (get_or-set initial w v k within) ∙ at_choice single (eqb k w) v (get_or initial k 0) in
-    let same : words_from (set initial w v) ≡ with_value w v (words_from initial) = λ i k. (each k) i in
+    let same : words_of_list (set initial w v) ≡ with_value w v (words_of_list initial) = λ i k. (each k) i in
     ap (λ (words : Words). record (start initial) { now = record { said = []; words = words } }) same
 
 pub told_events-blanked : (initial : List ℕ) (events new : List Event) (w v : ℕ) → w < length initial → new ≡ map (blanked w) events
     → told_events (set initial w v) new ≡ always w v (told_events initial events)
 unfolding told_events
 told_events-blanked initial events new w v within is =
-    ap (told_events (set initial w v)) is ∙ ap (replayed (map (blanked w) events)) (start-set initial w v within) ∙ replayed-blanked w v events (start initial)
+    ap (told_events (set initial w v)) is ∙ ap (after_events (map (blanked w) events)) (start-set initial w v within) ∙ after_events-blanked w v events (start initial)
 
 pub AreOf-poked : (newest marks durables : List ℕ) (words : Words) (w v : ℕ) → w < length newest → w < length marks → w < length durables
     → AreOf newest marks durables words → AreOf (set newest w v) (set marks w v) (set durables w v) (with_value w v words)

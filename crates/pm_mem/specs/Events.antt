@@ -7,42 +7,42 @@ use Rattle.pm_mem.specs.declared.event.Event.{Event}
 use Rattle.pm_mem.specs.declared.event.Event.TheVariants.{Store, Flush, Fence, Lost, Said, Blank}
 
 -- what a power loss with that pick leaves: of each word the newest value or the durable one
-abbrev pub image_of : ℕ → Words → Image
-image_of pick words k = cond (keeps_newest pick k) (words k).newest (durable (words k))
+abbrev pub image_picked : ℕ → Words → Image
+image_picked pick words k = cond (keeps_newest pick k) (words k).newest (durable (words k))
 
 -- each word has its value at the start and no other
-abbrev pub words_from : List ℕ → Words
-words_from initial k = single (slice_index initial k)
+abbrev pub words_of_list : List ℕ → Words
+words_of_list initial k = single (slice_index initial k)
 
-abbrev pub nothing : Words → Words
-nothing words = words
+abbrev pub no_change : Words → Words
+no_change words = words
 
 -- power is lost with that pick
 abbrev pub after_pick : ℕ → State → State
-after_pick pick s = stepped (after_loss (image_of pick s.now.words)) s
+after_pick pick s = stepped (after_loss (image_picked pick s.now.words)) s
 
-abbrev pub after : Event → State → State
-after (Store w v) s = stepped (after_store w v) s
-after (Flush line) s = stepped (after_flush line) s
-after Fence s = stepped after_fence s
-after (Lost pick) s = after_pick pick s
-after (Said byte) s = one_said byte s
-after Blank s = stepped nothing s
+abbrev pub after_event : Event → State → State
+after_event (Store w v) s = stepped (after_store w v) s
+after_event (Flush line) s = stepped (after_flush line) s
+after_event Fence s = stepped after_fence s
+after_event (Lost pick) s = after_pick pick s
+after_event (Said byte) s = one_said byte s
+after_event Blank s = stepped no_change s
 
-unfoldable pub replayed : List Event → State → State
-replayed [] s = s
-replayed (event ∷ events) s = replayed events (after event s)
+unfoldable pub after_events : List Event → State → State
+after_events [] s = s
+after_events (event ∷ events) s = after_events events (after_event event s)
 
 -- nothing was said, and there is nothing to read and no file
 abbrev pub start : List ℕ → State
-start initial = record { now = record { said = []; words = words_from initial }; past = []; script = []; shelf = λ name. None }
+start initial = record { now = record { said = []; words = words_of_list initial }; past = []; script = []; shelf = λ name. None }
 
 -- all words are zero and durable, nothing happened yet, and there is this to read
-abbrev pub fresh : List ℕ → State
-fresh script = record { now = record { said = []; words = λ k. single 0 }; past = []; script = script; shelf = λ name. None }
+abbrev pub fresh_state : List ℕ → State
+fresh_state script = record { now = record { said = []; words = λ k. single 0 }; past = []; script = script; shelf = λ name. None }
 
 unfoldable pub told_events : List ℕ → List Event → State
-told_events initial events = replayed events (start initial)
+told_events initial events = after_events events (start initial)
 
 -- a store to word w is as if it had not been
 abbrev pub blanked : ℕ → Event → Event

@@ -3,7 +3,7 @@ use Rattle.std.specs.Prelude.{◌≡◌, true, false, [], ◌∷◌, Some, refl}
 use Rattle.pm_model.specs.Words.{Cell, durable, single, stored, marked, fenced}
 use Rattle.pm_mem.specs.declared.event.Event.TheVariants.{Store, Blank}
 use Rattle.pm_model.specs.Picking.{keeps_newest}
-use Rattle.pm_mem.specs.Events.{image_of, blanked}
+use Rattle.pm_mem.specs.Events.{image_picked, blanked}
 use Rattle.pm_mem.specs.Rows.{marked_value}
 use Rattle.pm_mem.specs.Turns.{is_listed, planned}
 
@@ -33,10 +33,10 @@ whole = refl
 abbrev used : Cell
 used = stored 9 (marked (stored 7 (single 4)))
 
-left_at_pick_0 : image_of 0 (λ k. used) 3 ≡ 4
+left_at_pick_0 : image_picked 0 (λ k. used) 3 ≡ 4
 left_at_pick_0 = refl
 
-left_at_pick_1 : image_of 1 (λ k. used) 3 ≡ 9
+left_at_pick_1 : image_picked 1 (λ k. used) 3 ≡ 9
 left_at_pick_1 = refl
 
 fenced_value : durable (fenced used) ≡ 7

@@ -37,8 +37,8 @@ abbrev pub mem_watch : MemHost → Watch
 mem_watch m = m.watch
 
 -- what a call answers that fails by the plan or gives this
-abbrev pub answer : {T : Type 0} → Bool → T → Result T HostFault
-answer fails value = cond fails (Err faults.Failed) (Ok value)
+abbrev pub call_result : {T : Type 0} → Bool → T → Result T HostFault
+call_result fails value = cond fails (Err faults.Failed) (Ok value)
 
 -- the next byte to read
 abbrev pub next_byte : List ℕ → Option ℕ

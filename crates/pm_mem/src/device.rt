@@ -29,7 +29,7 @@ impl Device {
     ghost use Rattle.std.specs.Prelude.{[], length};
     ghost use Rattle.pm_model.specs.Words.{after_store, after_flush, after_fence};
     ghost use Rattle.pm_model.specs.Moments.{stepped, one_said, all_said};
-    ghost use Rattle.pm_mem.specs.Events.{after_pick, always, fresh};
+    ghost use Rattle.pm_mem.specs.Events.{after_pick, always, fresh_state};
     ghost use Rattle.pm_mem.specs.Device.{device_state, GoesTo};
 
     /// A device of zero words with room for so many moments and so many said bytes.
@@ -41,7 +41,7 @@ impl Device {
     ) -> Result<Device, AllocError>
         requires { words % 8 ≡ 0 }
         ensures words { IfOk result (λ device. device.words ≡ words) }
-        ensures state { IfOk result (λ device. device_state device ≡ fresh []) }
+        ensures state { IfOk result (λ device. device_state device ≡ fresh_state []) }
         ensures events { IfOk result (λ device. vec_len device.events ≡ 0) }
         ensures said { IfOk result (λ device. vec_len device.said ≡ 0) }
         ensures moment_room { IfOk result (λ device. vec_capacity device.events ≡ moments) }

@@ -37,9 +37,9 @@ impl MemHost {
     ghost use Rattle.std.specs.Prelude.{None, IfOk, slice_index};
     ghost use Rattle.pm_model.specs.Moments.{with_script, with_shelf};
     ghost use Rattle.pm_model.specs.Counts.{fresh_counts, after_fault, fault_of};
-    ghost use Rattle.pm_mem.specs.Events.{fresh, always};
+    ghost use Rattle.pm_mem.specs.Events.{fresh_state, always};
     ghost use Rattle.pm_mem.specs.Turns.{call_fails, after_call, turn_of, turn_fault, after_step, before_step};
-    ghost use Rattle.pm_mem.specs.MemHost.{mem_state, mem_counts, mem_turns, mem_watch, answer, KeepsCounts, HasStepRoom};
+    ghost use Rattle.pm_mem.specs.MemHost.{mem_state, mem_counts, mem_turns, mem_watch, call_result, KeepsCounts, HasStepRoom};
 
     /// A host with a device of zero words, all of them durable, and with that script to read. There is room for
     /// `steps` device steps and `room` said bytes; what goes beyond either fails.
@@ -52,7 +52,7 @@ impl MemHost {
         plan: Plan,
     ) -> Result<MemHost, AllocError>
         requires { words % 8 ≡ 0 }
-        ensures state { IfOk result (λ host. mem_state host ≡ fresh script.now) }
+        ensures state { IfOk result (λ host. mem_state host ≡ fresh_state script.now) }
         ensures turns { IfOk result (λ host. mem_turns host ≡ record { plan = plan; calls = 0; steps = 0; limit = steps; room = room; armed = None }) }
         ensures watch { IfOk result (λ host. mem_watch host ≡ record { word = None; count = 0 }) }
         ensures counts { IfOk result (λ host. mem_counts host ≡ fresh_counts words) }
@@ -136,7 +136,7 @@ impl MemHost {
 
     // Counts a call that is no device step, and fails where the plan lists it.
     fn call(&mut self) -> Result<(), HostFault>
-        ensures answer { result ≡ answer (call_fails (mem_turns self.old)) tt }
+        ensures answer { result ≡ call_result (call_fails (mem_turns self.old)) tt }
         ensures turns { mem_turns self.new ≡ after_call (mem_turns self.old) }
         ensures state { mem_state self.new ≡ mem_state self.old }
         ensures watch { mem_watch self.new ≡ mem_watch self.old }
@@ -177,10 +177,10 @@ impl Host for MemHost {
     ghost use Rattle.pm_model.specs.Counts.{after_fault, after_arm, after_loss_of, fault_of, file_fault_of};
     ghost use Rattle.pm_model.specs.Reads.{OnlyReads};
     ghost use Rattle.pm_model.specs.Calls.{Steps, CountsDown, LosesAtOnce, TakesByte, Says, LeavesFile};
-    ghost use Rattle.pm_mem.specs.Events.{image_of};
+    ghost use Rattle.pm_mem.specs.Events.{image_picked};
     ghost use Rattle.pm_mem.specs.Turns.{call_fails, after_call, call_fault, turn_of, turn_fault, after_step, after_turn, say_fails, after_say};
     ghost use Rattle.pm_mem.specs.Watches.{after_load};
-    ghost use Rattle.pm_mem.specs.MemHost.{mem_tells, mem_state, mem_counts, mem_turns, mem_armed, mem_watch, answer, next_byte, after_byte};
+    ghost use Rattle.pm_mem.specs.MemHost.{mem_tells, mem_state, mem_counts, mem_turns, mem_armed, mem_watch, call_result, next_byte, after_byte};
 
     ghost tells = { mem_tells };
 
@@ -201,7 +201,7 @@ impl Host for MemHost {
         ensures armed { mem_tells → mem_armed self.new ≡ mem_armed self.old }
 
         // It fails exactly where the plan says so, and only a load that is done is watched.
-        ensures answer { result ≡ answer (call_fails (mem_turns self.old)) ((mem_state self.old).now.words w).newest }
+        ensures answer { result ≡ call_result (call_fails (mem_turns self.old)) ((mem_state self.old).now.words w).newest }
         ensures turns { mem_turns self.new ≡ after_call (mem_turns self.old) }
         ensures watch { mem_watch self.new ≡ cond (call_fails (mem_turns self.old)) (mem_watch self.old) (after_load w (mem_watch self.old)) }
     {
@@ -264,7 +264,7 @@ impl Host for MemHost {
         ensures counted { mem_counts self.new ≡ after_loss_of pick (mem_counts self.old) }
 
         // After a cut with no step since, that image is what the words hold, so another changes none.
-        ensures left { (mem_state self.new).now.words ≡ after_loss (image_of pick (mem_state self.old).now.words) (mem_state self.old).now.words }
+        ensures left { (mem_state self.new).now.words ≡ after_loss (image_picked pick (mem_state self.old).now.words) (mem_state self.old).now.words }
         ensures turns { mem_turns self.new ≡ mem_turns self.old }
         ensures watch { mem_watch self.new ≡ mem_watch self.old }
     {
@@ -294,7 +294,7 @@ impl Host for MemHost {
         ensures cause { mem_counts self.new ≡ after_fault (fault_of result) (mem_counts self.old) }
         ensures never_cut { fault_of result ≢ Some faults.Cut }
 
-        ensures answer { result ≡ answer (call_fails (mem_turns self.old)) (next_byte (mem_state self.old).script) }
+        ensures answer { result ≡ call_result (call_fails (mem_turns self.old)) (next_byte (mem_state self.old).script) }
         ensures left { mem_state self.new ≡ cond (call_fails (mem_turns self.old)) (mem_state self.old) (with_script (after_byte (mem_state self.old).script) (mem_state self.old)) }
         ensures turns { mem_turns self.new ≡ after_call (mem_turns self.old) }
         ensures watch { mem_watch self.new ≡ mem_watch self.old }
@@ -316,7 +316,7 @@ impl Host for MemHost {
         ensures cause { mem_counts self.new ≡ after_fault (fault_of result) (mem_counts self.old) }
         ensures never_cut { fault_of result ≢ Some faults.Cut }
 
-        ensures answer { result ≡ answer (say_fails (length bytes.now) (mem_turns self.old)) tt }
+        ensures answer { result ≡ call_result (say_fails (length bytes.now) (mem_turns self.old)) tt }
         ensures left { mem_state self.new ≡ cond (say_fails (length bytes.now) (mem_turns self.old)) (mem_state self.old) (all_said bytes.now (mem_state self.old)) }
         ensures turns { mem_turns self.new ≡ after_say (length bytes.now) (mem_turns self.old) }
         ensures watch { mem_watch self.new ≡ mem_watch self.old }

@@ -36,9 +36,9 @@ IsInTable (places.Free slot) = slot < POOL_RECORDS
 IsInTable places.Full = Unit {0}
 
 -- the same of what was found
-abbrev pub IsKnown : Option (ℕ × PoolRecord) → Type 0
-IsKnown None = Unit {0}
-IsKnown (Some found) = found.0 < POOL_RECORDS
+abbrev pub IsFoundInTable : Option (ℕ × PoolRecord) → Type 0
+IsFoundInTable None = Unit {0}
+IsFoundInTable (Some found) = found.0 < POOL_RECORDS
 
 -- which slot a new pool takes, by the place of its name
 abbrev pub slot_by_lookup : Lookup → Result ℕ PoolFault
@@ -51,17 +51,17 @@ abbrev pub slot_for : Tables → List ℕ → Result ℕ PoolFault
 slot_for t name = slot_by_lookup (lookup_of t name)
 
 -- what adding a record answers at its place
-abbrev pub added_at : Lookup → PoolRecord → Result Put PoolFault
-added_at (places.Used slot rec) r = Err faults.Exists
-added_at (places.Free slot) r = Ok (pool_put slot r)
-added_at places.Full r = Err faults.Full
+abbrev pub pool_added_at : Lookup → PoolRecord → Result Put PoolFault
+pool_added_at (places.Used slot rec) r = Err faults.Exists
+pool_added_at (places.Free slot) r = Ok (pool_put slot r)
+pool_added_at places.Full r = Err faults.Full
 
 -- What adding a record answers: the name is there, or the words of the lowest free slot, or none is free.
-abbrev pub added : Tables → PoolRecord → Result Put PoolFault
-added t r = added_at (lookup_of t r.name) r
+abbrev pub pool_added : Tables → PoolRecord → Result Put PoolFault
+pool_added t r = pool_added_at (lookup_of t r.name) r
 
 -- A record is added in the lowest free slot to tables that have none of its name.
-pub record Adds (r : PoolRecord) (t u : Tables) : Type 0 where
+pub record AddsPool (r : PoolRecord) (t u : Tables) : Type 0 where
   pub slot : ℕ
   pub lowest : first_free t.pools 0 POOL_RECORDS ≡ Some slot
   pub absent : pool_in t r.name ≡ None

@@ -35,7 +35,7 @@ use Rattle.pud_defs.proofs.TablesOf.{tables_of-same}
 use Rattle.log_store.specs.Store.{OpenLog}
 use Rattle.nesting.specs.Sessions.{session_depth, depth_in}
 use Rattle.word_transaction.specs.Running.{ByTransaction, HasPlaces, HasOneTable, CanRedo}
-use Rattle.hybrid_tx.specs.PoolScopes.{pool_has_word, pool_scope, IsPlaced, finished_of}
+use Rattle.hybrid_tx.specs.PoolScopes.{pool_has_word, pool_scope, ArePlacedPuddles, finished_of}
 use Rattle.hybrid_tx.specs.Open.Masks.{OpenPool, is_open_record, open_mask}
 use Rattle.hybrid_tx.specs.Open.ManyOpen.{open_masks}
 use Rattle.hybrid_tx.specs.Objects.Transactions.{IsOpenOn, AbortsOnPool, CommitsOnPool}
@@ -85,13 +85,13 @@ mask_agrees F p after before k same q = cond (is_in_log (log_number_at F p.log_n
 -- on so many frames of a device of so many words, with this log
 abbrev pub Undoes : (F sz : ℕ) → OpenLog → Option HostFault → State → State → Type 0
 Undoes F sz log fault old new =
-    (pool : List (ℕ × Puddle)) (types : List (ℕ × ℕ)) (before : Image) (graph_before : Graph) (seen : Graph) (deferred : List DeferredValue) → IsPlaced F pool → device_words F ≤ sz → log.gate_at + LOG_WORDS ≤ frames_at F
+    (pool : List (ℕ × Puddle)) (types : List (ℕ × ℕ)) (before : Image) (graph_before : Graph) (seen : Graph) (deferred : List DeferredValue) → ArePlacedPuddles F pool → device_words F ≤ sz → log.gate_at + LOG_WORDS ≤ frames_at F
     → IsOpenOn F pool types log before graph_before seen deferred old.now.words → HasPlaces (pool_scope F (finished_of pool)) (puddle_word (tables_of F (reads old.now.words))) → HasOneTable F old.now.words
     → AbortsOnPool F pool types log.gate_at before graph_before fault old new
 
 abbrev pub Commits : (F sz : ℕ) → OpenLog → Option HostFault → State → State → Type 0
 Commits F sz log fault old new =
-    (pool : List (ℕ × Puddle)) (types : List (ℕ × ℕ)) (before : Image) (graph_before : Graph) (seen : Graph) (deferred : List DeferredValue) → IsPlaced F pool → device_words F ≤ sz → log.gate_at + LOG_WORDS ≤ frames_at F
+    (pool : List (ℕ × Puddle)) (types : List (ℕ × ℕ)) (before : Image) (graph_before : Graph) (seen : Graph) (deferred : List DeferredValue) → ArePlacedPuddles F pool → device_words F ≤ sz → log.gate_at + LOG_WORDS ≤ frames_at F
     → IsOpenOn F pool types log before graph_before seen deferred old.now.words → (deferred ≢ [] → CanRedo (pool_scope F (finished_of pool)) F log.gate_at old.now.words)
     → CommitsOnPool F pool types log.gate_at before graph_before (with_deferred_set deferred seen) fault old new
 
@@ -115,7 +115,7 @@ module _ (size : ℕ) (w : World) (memory : Memory) (number : ℕ) (active : Act
   abbrev now : Image
   now = reads old.now.words
 
-  placed : IsPlaced n is.puddles
+  placed : ArePlacedPuddles n is.puddles
   placed = active_placed size w memory active old number there ready
 
   active_places : HasPlaces (pool_scope n (finished_of is.puddles)) (puddle_word (tables_of n now))

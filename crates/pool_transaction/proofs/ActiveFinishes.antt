@@ -29,7 +29,7 @@ use Rattle.lazy_rewrite.specs.Frontiers.{frontiers_of}
 use Rattle.lazy_rewrite.specs.Batches.{Rewrites}
 use Rattle.lazy_rewrite.proofs.Gathered.{frame_below}
 use Rattle.lazy_rewrite.proofs.Spared.{AreFrames, SparesObjects, Rewrites-spare}
-use Rattle.hybrid_tx.specs.PoolScopes.{IsPlaced, IsRewrittenAt}
+use Rattle.hybrid_tx.specs.PoolScopes.{ArePlacedPuddles, IsRewrittenAt}
 use Rattle.ready_daemon.specs.Memory.{ActiveTransaction, Memory, active_under}
 use Rattle.ready_daemon.specs.ActiveTransactions.{IsActive}
 use Rattle.known_pool.specs.Known.{by_puddles}
@@ -73,7 +73,7 @@ low_base v legal =
     omega arith
 
 -- legal bases are low
-pub low_of_placed : (F : ℕ) (at : List (ℕ × Puddle)) → IsPlaced F at → HasLowBases at
+pub low_of_placed : (F : ℕ) (at : List (ℕ × Puddle)) → ArePlacedPuddles F at → HasLowBases at
 low_of_placed F at placed = record { low = All-weaker (λ (e : ℕ × Puddle). is_legal_base e.1.base ≡ true) (λ (e : ℕ × Puddle). e.1.base + RANGE_BYTES ≤ 2 ^ 64) (λ e. low_base e.1.base) at placed.legal }
 
 -- ---- a daemon that is ready, and holds it
@@ -92,8 +92,8 @@ module _ (size : ℕ) (w : World) (memory : Memory) (active : ActiveTransaction)
   pub its_puddles : at ≡ is.puddles
   its_puddles = sym (active_known size w memory old ready number active there at (ap puddles_known known))
 
-  pub its_placed : IsPlaced F at
-  its_placed = subst (IsPlaced F) (sym its_puddles) (subst (λ (n : ℕ). IsPlaced n is.puddles) (sym same) (active_placed size w memory active old number there ready))
+  pub its_placed : ArePlacedPuddles F at
+  its_placed = subst (ArePlacedPuddles F) (sym its_puddles) (subst (λ (n : ℕ). ArePlacedPuddles n is.puddles) (sym same) (active_placed size w memory active old number there ready))
 
   its_frames : AreFrames F at
   its_frames = record { distinct = its_placed.frames; below = λ o e here. frame_below F at o e its_placed.on_device here }

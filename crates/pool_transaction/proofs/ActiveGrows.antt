@@ -64,7 +64,7 @@ use Rattle.ready_daemon.specs.KnownPools.{KnowsPools}
 use Rattle.known_pool.specs.Known.{by_puddles}
 use Rattle.known_pool.proofs.KnownKept.{IsKnown-puddles}
 use Rattle.ready_daemon.specs.PoolKnowledge.{puddles_known, KnowsAlone}
-use Rattle.pool_transaction.specs.Changing.{with_opened, GrowsBy, with_more}
+use Rattle.pool_transaction.specs.Changing.{with_opened, GrowsBy, with_puddle_added}
 use Rattle.ready_daemon.specs.Moves.{Stays, LeavesPuddles}
 use Rattle.ready_daemon.specs.Ready.{IsReady, StandsBetween, AppliesMasked, Applies}
 use Rattle.ready_daemon.proofs.Beside.{KeepsOne, holds_still, durable_frames_still, moments_beside}
@@ -127,7 +127,7 @@ module _ (size : ℕ) (w : World) (memory : Memory) (active : ActiveTransaction)
 
   -- the world with the puddle
   abbrev next : World
-  next = with_more active.name w
+  next = with_puddle_added active.name w
 
   -- what the call owes that makes the pool grow, on so many frames
   abbrev pub OwesGrowth : ℕ → Option HostFault → State → Type 0

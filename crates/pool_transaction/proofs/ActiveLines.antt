@@ -21,7 +21,7 @@ use Rattle.ready_daemon.specs.PoolKnowledge.{puddles_known, KnowsAlone}
 use Rattle.ready_daemon.proofs.Known.{pool_kept}
 use Rattle.ready_daemon.specs.Memory.{ActiveTransaction, Memory, active_under, with_active}
 use Rattle.registry.specs.declared.adding.NewPuddle.{NewPuddle}
-use Rattle.pool_transaction.specs.Changing.{IsActiveIn, with_opened, refusal_by_tables, GrowsBy, refusal_by_world, with_more, with_made}
+use Rattle.pool_transaction.specs.Changing.{IsActiveIn, with_opened, refusal_by_tables, GrowsBy, refusal_by_world, with_puddle_added, with_made}
 use Rattle.ready_daemon.specs.Moves.{led_in}
 use Rattle.ready_daemon.specs.Ready.{IsReady, Applies}
 use Rattle.ready_daemon.proofs.Applying.{Applies-refused, Applies-stopped, Applies-closed}
@@ -135,7 +135,7 @@ module _ (size : ℕ) (w : World) (memory : Memory) (active : ActiveTransaction)
         free = by_tables ∙ sym may
 
         abbrev grown : World
-        grown = with_more active.name w
+        grown = with_puddle_added active.name w
 
         same_closed : closed grown ≡ closed given
         same_closed = sym (ap closed (world_more size w memory active old number there ready id free more))

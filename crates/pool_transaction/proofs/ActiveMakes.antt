@@ -21,7 +21,7 @@ use Rattle.pud_defs.specs.Transactions.{charged}
 use Rattle.pud_defs.specs.Types.{map_of}
 use Rattle.pud_defs.specs.World.{Transaction, World, open_on}
 use Rattle.graph_laws.specs.Slots.{AreAllLive}
-use Rattle.hybrid_tx.specs.PoolScopes.{IsPlaced}
+use Rattle.hybrid_tx.specs.PoolScopes.{ArePlacedPuddles}
 use Rattle.hybrid_tx.specs.Objects.Transactions.{OpenTx, IsOpenOn, KeepsOpenOn, MakesIn}
 use Rattle.ready_daemon.specs.PoolKnowledge.{KnowsAlone}
 use Rattle.ready_daemon.specs.Memory.{ActiveTransaction, Memory, active_under, with_active}
@@ -96,7 +96,7 @@ module _ (size : ℕ) (w : World) (memory : Memory) (active : ActiveTransaction)
     -- what a call owes that makes an object in a slot, on these puddles
     abbrev OwesMakes : (slot : Slot) (id : ℕ) → Option HostFault → State → List (ℕ × Puddle) → Type 0
     OwesMakes slot id fault new puddles =
-        IsPlaced F puddles → IsOpenOn F puddles w.stored.types active.tx.log is.before is.graph_before is.transaction.now is.transaction.deferred old.now.words → is.transaction.now.next_serial < NUMBER_LIMIT
+        ArePlacedPuddles F puddles → IsOpenOn F puddles w.stored.types active.tx.log is.before is.graph_before is.transaction.now is.transaction.deferred old.now.words → is.transaction.now.next_serial < NUMBER_LIMIT
         → MakesIn F puddles active.tx.log.gate_at slot id fault old new
 
     -- it makes it in this one
@@ -104,7 +104,7 @@ module _ (size : ℕ) (w : World) (memory : Memory) (active : ActiveTransaction)
     made_there id none fault new slot owes =
         let may = may_make (map_of id w.stored.types) active.tx.units (next_in (graph_seen (open_on active.name w) (pool_named active.name w.stored))) none in
         owes
-        (subst (IsPlaced F) (sym listed) (subst (λ (n : ℕ). IsPlaced n is.puddles) (sym same) (active_placed size w memory active old number there ready)))
+        (subst (ArePlacedPuddles F) (sym listed) (subst (λ (n : ℕ). ArePlacedPuddles n is.puddles) (sym same) (active_placed size w memory active old number there ready)))
         (subst (λ (puddles : List (ℕ × Puddle)). IsOpenOn F puddles w.stored.types active.tx.log is.before is.graph_before is.transaction.now is.transaction.deferred old.now.words) (sym listed)
         (subst (λ (n : ℕ). IsOpenOn n is.puddles w.stored.types active.tx.log is.before is.graph_before is.transaction.now is.transaction.deferred old.now.words) (sym same) is.running))
         (subst (λ (n : ℕ). n < NUMBER_LIMIT) next_serial may.left)

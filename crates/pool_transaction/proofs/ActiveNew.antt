@@ -31,11 +31,11 @@ use Rattle.pud_defs.proofs.Graphs.{graph_of-each}
 use Rattle.pud_defs.proofs.PoolRefusals.{space_by_table}
 use Rattle.pud_defs.proofs.Steps.{done_answer, done_world}
 use Rattle.pud_defs.proofs.TablesOf.{pools_beyond, frames_of_tables}
-use Rattle.registry.specs.Growth.{has_room}
+use Rattle.registry.specs.Growth.{has_room_to_grow}
 use Rattle.hybrid_tx.specs.Objects.Transactions.{OpenTx}
 use Rattle.ready_daemon.specs.Memory.{ActiveTransaction, Memory, active_under}
 use Rattle.ready_daemon.specs.ActiveTransactions.{IsActive}
-use Rattle.pool_transaction.specs.Changing.{refusal_to_make, refusal_by_tables, refusal_by_world, with_more, with_made}
+use Rattle.pool_transaction.specs.Changing.{refusal_to_make, refusal_by_tables, refusal_by_world, with_puddle_added, with_made}
 use Rattle.ready_daemon.specs.Ready.{IsReady}
 use Rattle.ready_daemon.proofs.TablesBeside.{header_read, types_read, pools_read, sound_read}
 use Rattle.pool_transaction.proofs.TransactionRefusals.{making_refusal, refusal_of-new, own_is_open}
@@ -53,7 +53,7 @@ most_objects objects puddles fit few less = elim (cases_lt objects (slots_among 
   | inr many ↦ absurd (let no : true ≡ false = sym (eq-eqb objects (slots_among puddles) (omega arith)) ∙ less in cc)
 ]
 
-full_or_room : (objects puddles number : ℕ) → objects ≡ slots_among puddles → (leb (slots_among MAX_PUDDLES) objects || lacks_a_number number) ≡ not (has_room puddles number)
+full_or_room : (objects puddles number : ℕ) → objects ≡ slots_among puddles → (leb (slots_among MAX_PUDDLES) objects || lacks_a_number number) ≡ not (has_room_to_grow puddles number)
 full_or_room objects puddles number all = elim (cases_lt puddles MAX_PUDDLES) [
   | inl below ↦ elim (cases_lt number NUMBER_LIMIT) [
     | inl left ↦
@@ -126,10 +126,10 @@ module _ (size : ℕ) (w : World) (memory : Memory) (active : ActiveTransaction)
   all_by : grows w active.name ≡ true → length is.transaction.now.objects ≡ slots_among (length is.puddles)
   all_by more = eqb-true (length is.transaction.now.objects) (slots_among (length is.puddles)) (sym (grows_by size w memory active s number there ready) ∙ more)
 
-  more_by : grows w active.name ≡ true → (many || lacks_a_number w.stored.next_number) ≡ not (has_room (length is.puddles) (image NEXT_NUMBER_WORD))
+  more_by : grows w active.name ≡ true → (many || lacks_a_number w.stored.next_number) ≡ not (has_room_to_grow (length is.puddles) (image NEXT_NUMBER_WORD))
   more_by more =
       full_or_room (length is.transaction.now.objects) (length is.puddles) w.stored.next_number (all_by more)
-      ∙ ap (λ (n : ℕ). not (has_room (length is.puddles) n)) (sym (header_read size w memory s ready).next_number)
+      ∙ ap (λ (n : ℕ). not (has_room_to_grow (length is.puddles) n)) (sym (header_read size w memory s ready).next_number)
 
   -- Its refusals are those that count whatever slots there are, and behind them, where each slot is live, those of a puddle more.
   pub refusal_new : refusal_of w line ≡ option_or (refusal_by_world w active id) (cond (grows w active.name) (refusal_by_tables F is.puddles image) None)
@@ -143,7 +143,7 @@ module _ (size : ℕ) (w : World) (memory : Memory) (active : ActiveTransaction)
       ∙ (λ p. cond (is_none (map_of id w.stored.types)) (Some refusals.NoType) (cond (ltb LOG_ENTRY_WORDS (units p + NEW_UNITS)) (Some refusals.TooBig)
       (cond (full p || (grows w active.name && lacks_a_number w.stored.next_number)) (Some refusals.Full) (cond (grows w active.name && lacks_frames w.stored 1) (Some refusals.Space) None))))
       ∙ joined (is_none (map_of id w.stored.types)) (ltb LOG_ENTRY_WORDS (active.tx.units + NEW_UNITS)) (leb NUMBER_LIMIT is.transaction.now.next_serial) many (lacks_a_number w.stored.next_number) (lacks_frames w.stored 1)
-      (grows w active.name) (has_room (length is.puddles) (image NEXT_NUMBER_WORD)) (is_none (first_free t.puddles 0 t.frames)) less_by more_by frames_lack
+      (grows w active.name) (has_room_to_grow (length is.puddles) (image NEXT_NUMBER_WORD)) (is_none (first_free t.puddles 0 t.frames)) less_by more_by frames_lack
       ∙ ap (λ (n : ℕ). option_or (refusal_to_make (map_of id w.stored.types) active.tx.units n) (cond (grows w active.name) (refusal_by_tables F is.puddles image) None)) (sym next)
 
   -- what is read gives those that count whatever slots there are
@@ -194,7 +194,7 @@ module _ (size : ℕ) (w : World) (memory : Memory) (active : ActiveTransaction)
   unfolding after
   world_less none less = done_world w line none ∙ ap given less
 
-  pub world_more : refusal_of w line ≡ None → grows w active.name ≡ true → world_by w (Some line) ≡ with_made active.name id (with_more active.name w)
+  pub world_more : refusal_of w line ≡ None → grows w active.name ≡ true → world_by w (Some line) ≡ with_made active.name id (with_puddle_added active.name w)
   unfolding after with_grown_pool
   world_more none more = done_world w line none ∙ ap given more
 
@@ -210,7 +210,7 @@ module _ (size : ℕ) (w : World) (memory : Memory) (active : ActiveTransaction)
   -- ---- the pool grew
 
   -- it has a free slot then
-  pub grown_less : grows w active.name ≡ true → grows (with_more active.name w) active.name ≡ false
+  pub grown_less : grows w active.name ≡ true → grows (with_puddle_added active.name w) active.name ≡ false
   grown_less more =
       let p = its_pool size w memory active s number there ready in
       let counted = puddles_counted size w memory active s number there ready in
@@ -219,7 +219,7 @@ module _ (size : ℕ) (w : World) (memory : Memory) (active : ActiveTransaction)
       ∙ ne_eqb (length is.transaction.now.objects) (slots_among (p.pool.puddles + 1)) (λ same. absurd (omega (arith, same, counted, all)))
 
   -- and the same is refused whatever slots there are
-  pub grown_refusal : (now : ActiveTransaction) → now.name ≡ active.name → now.tx ≡ active.tx → refusal_by_world w active id ≡ None → refusal_by_world (with_more active.name w) now id ≡ None
+  pub grown_refusal : (now : ActiveTransaction) → now.name ≡ active.name → now.tx ≡ active.tx → refusal_by_world w active id ≡ None → refusal_by_world (with_puddle_added active.name w) now id ≡ None
   unfolding with_grown_pool
   grown_refusal now name tx none =
       ap₂ (λ (n : List ℕ) (x : OpenTx). refusal_to_make (map_of id w.stored.types) x.units (next_in (graph_seen (open_on n w) (pool_named n (with_grown_pool active.name w.stored))))) name tx
@@ -227,7 +227,7 @@ module _ (size : ℕ) (w : World) (memory : Memory) (active : ActiveTransaction)
       ∙ sym (ap (λ (o : Option Transaction). refusal_to_make (map_of id w.stored.types) active.tx.units (next_in (graph_seen o (pool_named active.name w.stored)))) opened)
       ∙ none
 
-  pub grown_next : next_in (graph_seen (open_on active.name (with_more active.name w)) (pool_named active.name (with_more active.name w).stored)) ≡ next_in (graph_seen (open_on active.name w) (pool_named active.name w.stored))
+  pub grown_next : next_in (graph_seen (open_on active.name (with_puddle_added active.name w)) (pool_named active.name (with_puddle_added active.name w).stored)) ≡ next_in (graph_seen (open_on active.name w) (pool_named active.name w.stored))
   grown_next =
-      ap (λ (o : Option Transaction). next_in (graph_seen o (pool_named active.name (with_more active.name w).stored))) opened
+      ap (λ (o : Option Transaction). next_in (graph_seen o (pool_named active.name (with_puddle_added active.name w).stored))) opened
       ∙ sym (ap (λ (o : Option Transaction). next_in (graph_seen o (pool_named active.name w.stored))) opened)

@@ -18,7 +18,7 @@ use Rattle.pud_defs.proofs.PoolsCounted.{few_members, length_puddles}
 use Rattle.pud_defs.proofs.PuddlesListed.{puddles_in_turn-listed}
 use Rattle.graph_laws.specs.Slots.{AreAllLive}
 use Rattle.graph_laws.proofs.LiveSlots.{objects-most, objects-live}
-use Rattle.registry.specs.Growth.{puddle_count, HoldsGraph}
+use Rattle.registry.specs.Growth.{puddle_count, PoolHasGraph}
 use Rattle.registry.proofs.PuddlesCounted.{puddle_count_by_world}
 use Rattle.ready_daemon.specs.Memory.{ActiveTransaction, Memory, active_under}
 use Rattle.ready_daemon.specs.ActiveTransactions.{IsActive}
@@ -62,7 +62,7 @@ module _ (size : ℕ) (w : World) (memory : Memory) (active : ActiveTransaction)
   pub by_record : pool_named is.rec.name w.stored ≡ Some its_pool.pool
   by_record = ap (λ (name : List ℕ). pool_named name w.stored) is.name ∙ its_pool.there
 
-  pub its_graph : HoldsGraph is.rec.name w.stored is.graph_before
+  pub its_graph : PoolHasGraph is.rec.name w.stored is.graph_before
   its_graph = record { pool = its_pool.pool; there = by_record; holds = its_pool.holds }
 
   -- with as many puddles as the tables have

@@ -27,13 +27,13 @@ use Rattle.graph_read.specs.Reading.{table_in, place_in_pool, read_value, read_b
 use Rattle.ready_daemon.specs.Memory.{ActiveTransaction, Memory, active_under}
 use Rattle.ready_daemon.specs.ActiveTransactions.{IsActive}
 use Rattle.log_store.specs.Store.{OpenLog}
-use Rattle.hybrid_tx.specs.PoolScopes.{IsPlaced}
+use Rattle.hybrid_tx.specs.PoolScopes.{ArePlacedPuddles}
 use Rattle.hybrid_tx.specs.Objects.Stores.{address_at, word_for, IsPlaceAndWord, LacksPlaceOrWord}
 use Rattle.hybrid_tx.specs.Objects.Transactions.{IsOpenOn}
 use Rattle.hybrid_tx.proofs.Objects.FieldsSet.{object_by_place}
 use Rattle.pool_transaction.specs.declared.changing.Update.{Update}
 use Rattle.pool_transaction.specs.declared.changing.Update.TheVariants as changes
-use Rattle.pool_transaction.specs.Changing.{update_line}
+use Rattle.pool_transaction.specs.Changing.{command_of_update}
 use Rattle.pool_transaction.specs.Refusing.{room_refusal, field_refusal, refusal_to_free}
 use Rattle.ready_daemon.specs.Ready.{IsReady}
 use Rattle.ready_daemon.proofs.Beside.{active_is}
@@ -83,11 +83,11 @@ module _ (size : ℕ) (w : World) (memory : Memory) (s : State) (ready : IsReady
   graph_active frames on = (λ p. graph_of ((types_read size w memory s ready).types p) (stored_in (on p) is.puddles image)) ∙ is.running.is
 
   -- and lie as those of a ground
-  pub placed_at : (frames : ℕ) → frames ≡ w.stored.frames → IsPlaced frames is.puddles
-  placed_at frames on = subst (λ (n : ℕ). IsPlaced n is.puddles) (sym on) (active_placed size w memory active s number there ready)
+  pub placed_at : (frames : ℕ) → frames ≡ w.stored.frames → ArePlacedPuddles frames is.puddles
+  placed_at frames on = subst (λ (n : ℕ). ArePlacedPuddles n is.puddles) (sym on) (active_placed size w memory active s number there ready)
 
   -- a change of it is refused by its own causes alone
-  refused_by : (change : Update) → change_refusal change (Some is.transaction.now) is.transaction.deferred is.transaction.units ≡ refusal_of w (update_line change active.client active.name)
+  refused_by : (change : Update) → change_refusal change (Some is.transaction.now) is.transaction.deferred is.transaction.units ≡ refusal_of w (command_of_update change active.client active.name)
   refused_by change =
       ap (λ (o : Option Transaction). change_refusal change (graph_seen o (pool_named active.name w.stored)) (deferred_of o) (units_of o)) (sym is.is)
       ∙ ap (λ (r : Option Refusal). option_or r (change_refusal change (graph_seen (open_on active.name w) (pool_named active.name w.stored)) (deferred_of (open_on active.name w)) (units_of (open_on active.name w)))) (sym own_active)
@@ -116,10 +116,10 @@ module _ (size : ℕ) (w : World) (memory : Memory) (s : State) (ready : IsReady
         (λ p. by_places (sym (missed_is x) p) (sym (object_is serial) p) f x ((used ∙ sym is.units) p)) ∙ refused_by (changes.Set serial f x)
 
     abbrev Placed : Type 0
-    Placed = IsPlaced frames at
+    Placed = ArePlacedPuddles frames at
 
     placed : Placed
-    placed = subst (IsPlaced frames) (sym same) (placed_at frames on)
+    placed = subst (ArePlacedPuddles frames) (sym same) (placed_at frames on)
 
     -- one of the two is not there
     pub refused_unfound : (serial f : ℕ) (x : FieldValue) → (Placed → LacksPlaceOrWord frames at image serial x) → Some refusals.Object ≡ refusal_of w (Set active.client active.name serial f x)
@@ -167,18 +167,18 @@ module _ (size : ℕ) (w : World) (memory : Memory) (s : State) (ready : IsReady
 
   -- so it is by the types that are read, and its puddles lie as those of a ground
   open_read : (then : State) (frames : ℕ) (at : List (ℕ × Puddle)) (log : OpenLog) → then ≡ s → frames ≡ w.stored.frames → at ≡ is.puddles → log ≡ active.tx.log
-      → IsPlaced frames at × IsOpenIn then frames at (types_of image) log
+      → ArePlacedPuddles frames at × IsOpenIn then frames at (types_of image) log
   open_read then frames at log still on same logged =
       let typed = subst (λ (types : List (ℕ × ℕ)). IsOpenIn s w.stored.frames is.puddles types log) (sym (types_read size w memory s ready).types) (subst (IsOpenIn s w.stored.frames is.puddles w.stored.types) (sym logged) is.running) in
       let opened = subst (λ (x : State). IsOpenIn x w.stored.frames is.puddles (types_of image) log) (sym still) typed in
-      subst (λ (n : ℕ). IsPlaced n at × IsOpenIn then n at (types_of image) log) (sym on)
-      (subst (λ (puddles : List (ℕ × Puddle)). IsPlaced w.stored.frames puddles × IsOpenIn then w.stored.frames puddles (types_of image) log) (sym same) (active_placed size w memory active s number there ready, opened))
+      subst (λ (n : ℕ). ArePlacedPuddles n at × IsOpenIn then n at (types_of image) log) (sym on)
+      (subst (λ (puddles : List (ℕ × Puddle)). ArePlacedPuddles w.stored.frames puddles × IsOpenIn then w.stored.frames puddles (types_of image) log) (sym same) (active_placed size w memory active s number there ready, opened))
 
   -- or by what names one that is there
   pub refused_to_free : (then : State) (frames serial units place : ℕ) (at : List (ℕ × Puddle)) (log : OpenLog) (named asked : Bool) → then ≡ s → (on : frames ≡ w.stored.frames) (same : at ≡ is.puddles) → log ≡ active.tx.log
       → place_in_pool frames at image serial ≡ Some place
       → ((g : Graph) → graph_of (types_of image) (stored_in frames at image) ≡ Some g → named ≡ is_referenced serial g)
-      → (IsPlaced frames at → IsOpenIn then frames at (types_of image) log → asked ≡ deferred_set_names serial is.transaction.deferred) → units ≡ active.tx.units
+      → (ArePlacedPuddles frames at → IsOpenIn then frames at (types_of image) log → asked ≡ deferred_set_names serial is.transaction.deferred) → units ≡ active.tx.units
       → refusal_to_free named asked units ≡ refusal_of w (Free active.client active.name serial)
   refused_to_free then frames serial units place at log named asked still on same logged found names deferred used =
       let now : Graph = is.transaction.now in

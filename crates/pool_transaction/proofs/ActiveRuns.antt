@@ -22,7 +22,7 @@ use Rattle.pud_defs.proofs.Spaces.{owner_of-same}
 use Rattle.batch.specs.Worlds.{IsQuiescent}
 use Rattle.batch.proofs.Tables.{reads_kept, HasDurableTables-kept}
 use Rattle.word_transaction.specs.Running.{RecoversTo, ByTransaction}
-use Rattle.hybrid_tx.specs.PoolScopes.{pool_scope, IsPlaced, finished_of}
+use Rattle.hybrid_tx.specs.PoolScopes.{pool_scope, ArePlacedPuddles, finished_of}
 use Rattle.hybrid_tx.specs.Open.ManyOpen.{OpenTransaction, AreLeftOpen}
 use Rattle.hybrid_tx.specs.Open.Masks.{OpenPool, IsLeftOpen}
 use Rattle.hybrid_tx.specs.Objects.Transactions.{OpenTx, KeepsOpenOn}
@@ -74,7 +74,7 @@ module _ (size : ℕ) (w : World) (memory : Memory) (active : ActiveTransaction)
   now = reads old.now.words
 
   -- its puddles lie as those of a ground
-  pub active_placed : IsPlaced F is.puddles
+  pub active_placed : ArePlacedPuddles F is.puddles
   active_placed = placed_by_tables w.stored.next_number F now active.slot is.puddles (sound_read size w memory old ready) (active_in_turn size w memory old ready number active there)
 
   -- ---- what it may write

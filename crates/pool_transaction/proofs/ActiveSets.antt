@@ -12,11 +12,11 @@ use Rattle.pud_defs.specs.Step.{refusal_of, after}
 use Rattle.pud_defs.specs.Stored.{stored_in}
 use Rattle.pud_defs.specs.Transactions.{with_changed}
 use Rattle.pud_defs.specs.World.{Transaction, World, closed}
-use Rattle.hybrid_tx.specs.PoolScopes.{IsPlaced}
+use Rattle.hybrid_tx.specs.PoolScopes.{ArePlacedPuddles}
 use Rattle.hybrid_tx.specs.Objects.Transactions.{OpenTx, IsOpenOn, KeepsOpenOn}
 use Rattle.pool_transaction.specs.declared.changing.Update.{Update}
 use Rattle.pool_transaction.specs.declared.changing.Update.TheVariants.{Set, Later, Root, Free}
-use Rattle.pool_transaction.specs.Changing.{update_line, changed_by, MayChange}
+use Rattle.pool_transaction.specs.Changing.{command_of_update, changed_by, MayChange}
 use Rattle.ready_daemon.specs.PoolKnowledge.{KnowsAlone}
 use Rattle.ready_daemon.specs.Memory.{ActiveTransaction, Memory, active_under, with_active}
 use Rattle.ready_daemon.specs.ActiveTransactions.{IsActive}
@@ -31,7 +31,7 @@ used_more (Ok x) units now old told none = told
 used_more (Err fault) units now old told none = absurd (let no : Some fault ≡ None = none in cc)
 
 -- what a line makes of the world
-after_line : (w : World) (client : ℕ) (name : List ℕ) (change : Update) → after w (update_line change client name) ≡ record w { transactions = with_changed name (changed_by change) w.transactions }
+after_line : (w : World) (client : ℕ) (name : List ℕ) (change : Update) → after w (command_of_update change client name) ≡ record w { transactions = with_changed name (changed_by change) w.transactions }
 unfolding after
 after_line w client name (Set s f x) = refl
 after_line w client name (Later s f x) = refl
@@ -39,7 +39,7 @@ after_line w client name (Root s) = refl
 after_line w client name (Free s) = refl
 
 -- which stands for the same once power is lost
-pub same_stored : (w : World) (client : ℕ) (name : List ℕ) (change : Update) → closed w ≡ closed (after w (update_line change client name))
+pub same_stored : (w : World) (client : ℕ) (name : List ℕ) (change : Update) → closed w ≡ closed (after w (command_of_update change client name))
 same_stored w client name change = ap closed (sym (after_line w client name change))
 
 Charges-change : (change : Update) → Charges SET_UNITS (changed_by change)
@@ -56,13 +56,13 @@ module _ (size : ℕ) (w : World) (memory : Memory) (active : ActiveTransaction)
     -- what a call owes that changes the transaction so, on these puddles
     abbrev pub OwesRuns : ℕ → List (ℕ × Puddle) → (change : Transaction → Transaction) → Option HostFault → Type 0
     OwesRuns n puddles change fault =
-        IsPlaced n puddles → IsOpenOn n puddles w.stored.types active.tx.log is.before is.graph_before is.transaction.now is.transaction.deferred old.now.words
+        ArePlacedPuddles n puddles → IsOpenOn n puddles w.stored.types active.tx.log is.before is.graph_before is.transaction.now is.transaction.deferred old.now.words
         → KeepsOpenOn n puddles w.stored.types tx.log is.before is.graph_before (change is.transaction).now (change is.transaction).deferred fault old new
 
     -- and where it did not fail these units
     abbrev pub OwesUsed : ℕ → List (ℕ × Puddle) → {X : Type 0} → (units : ℕ) → Result X HostFault → Type 0
     OwesUsed n puddles units done =
-        IsPlaced n puddles → IsOpenOn n puddles w.stored.types active.tx.log is.before is.graph_before is.transaction.now is.transaction.deferred old.now.words → IfOk done (λ _. tx.units ≡ active.tx.units + units)
+        ArePlacedPuddles n puddles → IsOpenOn n puddles w.stored.types active.tx.log is.before is.graph_before is.transaction.now is.transaction.deferred old.now.words → IfOk done (λ _. tx.units ≡ active.tx.units + units)
 
     pub told : {X : Type 0} (units : ℕ) (done : Result X HostFault) → OwesUsed F at units done → IfOk done (λ _. tx.units ≡ active.tx.units + units)
     told units done used =
@@ -80,10 +80,10 @@ module _ (size : ℕ) (w : World) (memory : Memory) (active : ActiveTransaction)
         Applies-runs size w memory active old number there ready (subst (KnowsAlone memory.judged active.slot) listed known) tx units change charges (fault_of done) new gate (used_more done units tx.units active.tx.units (told units done used)) (owed change (fault_of done) runs)
 
     -- a line that is not refused is carried out by a call that makes its change, where it may be made
-    pub Applies-line : KnowsAlone memory.judged active.slot at → (change : Update) (done : Result Unit HostFault) → refusal_of w (update_line change active.client active.name) ≡ None
+    pub Applies-line : KnowsAlone memory.judged active.slot at → (change : Update) (done : Result Unit HostFault) → refusal_of w (command_of_update change active.client active.name) ≡ None
         → (MayChange w.stored.types is.transaction change → OwesRuns F at (changed_by change) (fault_of done))
         → OwesUsed F at SET_UNITS done
-        → Applies size w (after w (update_line change active.client active.name)) (with_active number (Some (with_tx tx active)) memory) (fault_of done) old new
+        → Applies size w (after w (command_of_update change active.client active.name)) (with_active number (Some (with_tx tx active)) memory) (fault_of done) old new
     Applies-line known change done free runs used =
         let may = may_change_unrefused w active.client active.name change (stored_in w.stored.frames is.puddles (reads old.now.words)) is.transaction is.is is.running.is free in
         subst (λ (v : World). Applies size w v (with_active number (Some (with_tx tx active)) memory) (fault_of done) old new) (sym (after_line w active.client active.name change))

@@ -36,7 +36,7 @@ use Rattle.lazy_rewrite.proofs.Turns.{ComesFrom, ComesFrom-steps}
 use Rattle.word_transaction.specs.Scope.{IsScope}
 use Rattle.word_transaction.proofs.Calls.{IsRunning-kept}
 use Rattle.word_transaction.proofs.Growing.{IsWider, IsRunning-values, IsRunning-wider}
-use Rattle.hybrid_tx.specs.PoolScopes.{pool_has_word, pool_scope, IsPlaced, is_finished, finished_of}
+use Rattle.hybrid_tx.specs.PoolScopes.{pool_has_word, pool_scope, ArePlacedPuddles, is_finished, finished_of}
 use Rattle.hybrid_tx.specs.Open.Masks.{OpenPool, open_mask}
 use Rattle.hybrid_tx.specs.Open.ManyOpen.{OpenTransaction}
 use Rattle.hybrid_tx.specs.Objects.Transactions.{IsOpenOn, RestsAs}
@@ -137,11 +137,11 @@ module _ (w : World) (active : ActiveTransaction) (mask : Write) (old new : Stat
       subst (λ (v : ℕ). HasOnly (new.now.words k) v) (sym (other_word k other)) one
 
   module _ (number : ℕ) (sound : HasSoundTables number (tables_of F now)) (same_pools : (tables_of F now).pools active.slot ≡ (tables_of F (reads old.now.words)).pools active.slot)
-      (owners : owner_of now active.client ≡ w.clients active.client) (placed_was : IsPlaced F is.puddles) (listed : puddles_in_turn (tables_of F now) active.slot ≡ at) where
-    placed : IsPlaced F at
+      (owners : owner_of now active.client ≡ w.clients active.client) (placed_was : ArePlacedPuddles F is.puddles) (listed : puddles_in_turn (tables_of F now) active.slot ≡ at) where
+    placed : ArePlacedPuddles F at
     placed = placed_by_tables number F now active.slot at sound listed
 
-    placed_before : IsPlaced F (finished_of is.puddles)
+    placed_before : ArePlacedPuddles F (finished_of is.puddles)
     placed_before = finished_placed F is.puddles placed_was
 
     frames : AreFrames F is.puddles

@@ -17,11 +17,11 @@ use Rattle.batch.specs.Batches.{HasIdleGate}
 use Rattle.lazy_rewrite.specs.Entries.{HasLowBases}
 use Rattle.lazy_rewrite.specs.Batches.{Rewrites}
 use Rattle.lazy_rewrite.specs.Frontiers.{finished_at, frontier_at}
-use Rattle.hybrid_tx.specs.PoolScopes.{IsPlaced, IsRewrittenAt}
+use Rattle.hybrid_tx.specs.PoolScopes.{ArePlacedPuddles, IsRewrittenAt}
 use Rattle.hybrid_tx.specs.Objects.Transactions.{OpenTx, IsOpenOn, KeepsOpenOn}
 use Rattle.pool_transaction.specs.declared.changing.FoundUpdate.{FoundUpdate}
 use Rattle.pool_transaction.specs.declared.changing.Update.{Update}
-use Rattle.pool_transaction.specs.Changing.{IsActiveIn, with_opened, update_line, changed_by, MayChange, IsFoundBy, ordinal_written}
+use Rattle.pool_transaction.specs.Changing.{IsActiveIn, with_opened, command_of_update, changed_by, MayChange, IsFoundBy, ordinal_written}
 use Rattle.ready_daemon.specs.PoolKnowledge.{puddles_known, KnowsAlone}
 use Rattle.ready_daemon.specs.Memory.{ActiveTransaction, Memory}
 use Rattle.ready_daemon.specs.ActiveTransactions.{IsActive}
@@ -44,7 +44,7 @@ use Rattle.pool_transaction.proofs.ActiveFinishes.{its_frontiers, Applies-unfini
 -- what the call owes that makes the update which was found
 abbrev pub CarriesOut : (F : ℕ) → List (ℕ × Puddle) → FoundUpdate → (log now : OpenLog) → Option HostFault → State → State → Type 0
 CarriesOut F at found log now fault old new =
-    (types : List (ℕ × ℕ)) (before : Image) (graph_before : Graph) (t : Transaction) (update : Update) → IsPlaced F at → IsRewrittenAt at (ordinal_written found)
+    (types : List (ℕ × ℕ)) (before : Image) (graph_before : Graph) (t : Transaction) (update : Update) → ArePlacedPuddles F at → IsRewrittenAt at (ordinal_written found)
     → IsOpenOn F at types log before graph_before t.now t.deferred old.now.words → MayChange types t update → IsFoundBy F at (reads old.now.words) update found
     → KeepsOpenOn F at types now before graph_before (changed_by update t).now (changed_by update t).deferred fault old new
 
@@ -67,7 +67,7 @@ module _ (size : ℕ) (w : World) (memory : Memory) (active : ActiveTransaction)
   goal = frontier_at o (finished_at o at)
 
   abbrev next : World
-  next = after w (update_line update active.client active.name)
+  next = after w (command_of_update update active.client active.name)
 
   abbrev then : Memory
   then = record memory { judged = set memory.judged active.slot (Some (by_puddles later)) }
@@ -105,7 +105,7 @@ module _ (size : ℕ) (w : World) (memory : Memory) (active : ActiveTransaction)
         let spares = spared_finished size w memory active old active.log_number its.there ready F on at its.known goal later mid finishes in
         subst (λ (ds : List (ℕ × Puddle)). IsFoundBy F ds (reads mid.now.words) update found) (sym same) (found_behind F at later (reads old.now.words) (reads mid.now.words) spares update found by)
 
-    pub Applies-update : (tx : OpenTx) (new : State) → tx.log.gate_at ≡ active.tx.log.gate_at → (done : Result Unit HostFault) → refusal_of w (update_line update active.client active.name) ≡ None
+    pub Applies-update : (tx : OpenTx) (new : State) → tx.log.gate_at ≡ active.tx.log.gate_at → (done : Result Unit HostFault) → refusal_of w (command_of_update update active.client active.name) ≡ None
         → IsFoundBy F at (reads old.now.words) update found → CarriesOut F lent found active.tx.log tx.log (fault_of done) mid new → CountsOut F lent active.tx tx done mid
         → AppliesTo (led_in active.slot (end_of (ordinal_written found))) size w next (with_opened active.log_number active.slot (with_tx tx active) later memory) (fault_of done) old new
     Applies-update tx new gate done free by runs counts =

@@ -43,7 +43,7 @@ use Rattle.batch.specs.Worlds.{IsQuiescent}
 use Rattle.batch.proofs.Tables.{HasDurableTables-kept, reads_kept}
 use Rattle.word_transaction.specs.Scope.{Scope, IsScope}
 use Rattle.word_transaction.specs.Running.{IsIdle, no_write, begun_log, RecoversTo, KeepsRunning}
-use Rattle.hybrid_tx.specs.PoolScopes.{pool_has_word, pool_scope, IsPlaced, finished_of}
+use Rattle.hybrid_tx.specs.PoolScopes.{pool_has_word, pool_scope, ArePlacedPuddles, finished_of}
 use Rattle.hybrid_tx.specs.Open.Masks.{OpenPool, is_open_record, open_mask, ArePuddlesOf, IsOpenPool}
 use Rattle.hybrid_tx.specs.Open.ManyOpen.{OpenTransaction, AreLeftOpen, AreOpenPools, HasRecords, IsOneMore, MasksAll, Opens, open_masks, with_transaction}
 use Rattle.hybrid_tx.proofs.Open.OpenIdle.{unnamed_idle}
@@ -144,7 +144,7 @@ module _ (size : ℕ) (w : World) (memory : Memory) (old : State) (ready : IsRea
   opened : IsOpenPool n p now
   opened = record { known = known; slot = within; used = may.used; puddles = puddles; owned = ap (owner_of now) vacant.whose ∙ may.owned; right = may.right }
 
-  placed : IsPlaced n at
+  placed : ArePlacedPuddles n at
   placed = placed_by_tables w.stored.next_number n now slot at (sound_read size w memory old ready) may.puddles
 
   on_device : IsOnDevice n (finished_of at)
@@ -510,7 +510,7 @@ module _ (size : ℕ) (w : World) (memory : Memory) (old : State) (ready : IsRea
 pub Applies-begins : (size : ℕ) (w : World) (memory : Memory) (F client : ℕ) (name : List ℕ) (slot number : ℕ) (fault : Option HostFault) (old new : State) → memory.frames ≡ F → slot < POOL_RECORDS → client < CLIENTS
     → IsLogOf client number → MayBeginIn memory (reads old.now.words) client name slot number → (fault ≡ None → number < length memory.active) → IsReady size w memory old
     → Persists (only (log_number_at F number) RUNNING_GATE) fault old new
-    → ((pool : List (ℕ × Puddle)) (before : Image) → IsPlaced F pool → IsIdle (pool_scope F pool) (log_number_at F number) before old.now.words
+    → ((pool : List (ℕ × Puddle)) (before : Image) → ArePlacedPuddles F pool → IsIdle (pool_scope F pool) (log_number_at F number) before old.now.words
     → KeepsRunning (pool_scope F (finished_of pool)) (begun_log (log_number_at F number)) [] before no_write fault old new)
     → Applies size w (after w (commands.Begin client name)) (with_begun (begins_as client name slot F number) memory) fault old new
 Applies-begins size w memory F client name slot number fault old new on below few of m place ready persists runs =
@@ -531,7 +531,7 @@ Applies-begins size w memory F client name slot number fault old new on below fe
     } in
     subst (λ (k : ℕ).
     Persists (only (log_number_at k number) RUNNING_GATE) fault old new
-    → ((pool : List (ℕ × Puddle)) (before : Image) → IsPlaced k pool → IsIdle (pool_scope k pool) (log_number_at k number) before old.now.words
+    → ((pool : List (ℕ × Puddle)) (before : Image) → ArePlacedPuddles k pool → IsIdle (pool_scope k pool) (log_number_at k number) before old.now.words
     → KeepsRunning (pool_scope k (finished_of pool)) (begun_log (log_number_at k number)) [] before no_write fault old new)
     → Applies size w (after w (commands.Begin client name)) (with_begun (begins_as client name slot k number) memory) fault old new) same
     (λ persists runs.

@@ -8,11 +8,11 @@ use Rattle.pud_defs.specs.Step.Answer.{of_reply}
 use Rattle.pud_defs.proofs.Steps.{answer_is_ok}
 use Rattle.pool_transaction.specs.declared.changing.Update.{Update}
 use Rattle.pool_transaction.specs.declared.changing.Update.TheVariants as changes
-use Rattle.pool_transaction.specs.Changing.{update_line}
+use Rattle.pool_transaction.specs.Changing.{command_of_update}
 
 module _ (client : ℕ) (name : List ℕ) where
   -- what a change is answered that is not refused
-  pub change_answer : (w : World) (change : Update) → refusal_of w (update_line change client name) ≡ None → of_reply replies.Ok ≡ answer_by w (Some (update_line change client name))
+  pub change_answer : (w : World) (change : Update) → refusal_of w (command_of_update change client name) ≡ None → of_reply replies.Ok ≡ answer_by w (Some (command_of_update change client name))
   change_answer w (changes.Set s f x) free = sym (answer_is_ok w (commands.Set client name s f x) refl refl free)
   change_answer w (changes.Later s f x) free = sym (answer_is_ok w (commands.Later client name s f x) refl refl free)
   change_answer w (changes.Root s) free = sym (answer_is_ok w (commands.Root client name s) refl refl free)

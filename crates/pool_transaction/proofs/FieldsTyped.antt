@@ -28,7 +28,7 @@ use Rattle.pud_defs.proofs.Graphs.{graph_of-each, under_serial-free, under_seria
 use Rattle.hybrid_tx.specs.Objects.Transactions.{MayHold, MaySet, MayFree}
 use Rattle.pool_transaction.specs.declared.changing.Update.{Update}
 use Rattle.pool_transaction.specs.declared.changing.Update.TheVariants.{Set, Later, Root, Free}
-use Rattle.pool_transaction.specs.Changing.{update_line, MayChange}
+use Rattle.pool_transaction.specs.Changing.{command_of_update, MayChange}
 use Rattle.pool_transaction.proofs.TransactionRefusals.{IsSettable, freeing_refusal, change_refusal, settable_by, change_parts, unless, some_there}
 
 -- ---- of which kind a field is
@@ -166,5 +166,5 @@ may_change types st t (Free s) is none = may_free t s none
 
 -- a line that is not refused changes what may be changed
 pub may_change_unrefused : (w : World) (client : ℕ) (name : List ℕ) (change : Update) (st : Stored) (t : Transaction) → open_on name w ≡ Some t → graph_of w.stored.types st ≡ Some t.now
-    → refusal_of w (update_line change client name) ≡ None → MayChange w.stored.types t change
+    → refusal_of w (command_of_update change client name) ≡ None → MayChange w.stored.types t change
 may_change_unrefused w client name change st t there is none = may_change w.stored.types st t change is (change_parts w client name t there change none)

@@ -10,7 +10,7 @@ use Rattle.pud_defs.specs.declared.records.Puddle.{Puddle}
 use Rattle.pud_defs.specs.Puddles.{Member}
 use Rattle.pud_defs.specs.Step.{refusal_of, after, world_by}
 use Rattle.pud_defs.specs.World.{World}
-use Rattle.hybrid_tx.specs.PoolScopes.{IsPlaced}
+use Rattle.hybrid_tx.specs.PoolScopes.{ArePlacedPuddles}
 use Rattle.known_pool.specs.Known.{Known, IsKnown, by_puddles}
 use Rattle.ready_daemon.specs.PoolKnowledge.{puddles_known}
 use Rattle.ready_daemon.specs.Memory.{ActiveTransaction, Memory}
@@ -21,7 +21,7 @@ use Rattle.ready_daemon.proofs.KnownOpen.{known_within}
 use Rattle.ready_daemon.proofs.Known.{known_kept_there}
 use Rattle.pool_transaction.specs.declared.changing.FoundUpdate.{FoundUpdate}
 use Rattle.pool_transaction.specs.declared.changing.Update.{Update}
-use Rattle.pool_transaction.specs.Changing.{IsActiveIn, IsActiveWith, with_known, with_opened, update_line, IsFoundBy, IsFoundWithin, ordinal_written}
+use Rattle.pool_transaction.specs.Changing.{IsActiveIn, IsActiveWith, with_known, with_opened, command_of_update, IsFoundBy, IsFoundWithin, ordinal_written}
 use Rattle.pool_transaction.specs.Finishing.{end_of, FinishesFor, FinishesUnless, AppliesTo, AppliesFinishing}
 use Rattle.pool_transaction.proofs.ActiveAlone.{memory_alone, active_alone, ready_alone, opened_alone}
 use Rattle.pool_transaction.proofs.ActiveFinishes.{its_placed}
@@ -30,12 +30,12 @@ use Rattle.pool_transaction.proofs.Leading.{AppliesTo-behind_reads, finishes_fou
 -- what the call owes that makes the update which was found, on the puddles that it is lent
 abbrev pub Updates : (F : ℕ) → (active now : ActiveTransaction) → (at later : List (ℕ × Puddle)) → Update → FoundUpdate → (size : ℕ) → World → Option HostFault → (old new : State) → Type 0
 Updates F active now at later update found size w fault old new =
-    (memory : Memory) → IsActiveIn F active at memory → IsReady size w memory old → refusal_of w (update_line update active.client active.name) ≡ None → IsFoundBy F at (reads old.now.words) update found
-    → AppliesTo (led_in active.slot (end_of (ordinal_written found))) size w (after w (update_line update active.client active.name)) (with_opened active.log_number active.slot now later memory) fault old new
+    (memory : Memory) → IsActiveIn F active at memory → IsReady size w memory old → refusal_of w (command_of_update update active.client active.name) ≡ None → IsFoundBy F at (reads old.now.words) update found
+    → AppliesTo (led_in active.slot (end_of (ordinal_written found))) size w (after w (command_of_update update active.client active.name)) (with_opened active.log_number active.slot now later memory) fault old new
 
 module _ (F : ℕ) (active : ActiveTransaction) (known : Known) (memory : Memory) (its : IsActiveWith F active known memory) (size : ℕ) (w : World) (old : State) (ready : IsReady size w memory old) where
   -- its puddles lie as those of a ground
-  pub placed_on : IsPlaced F known.puddles
+  pub placed_on : ArePlacedPuddles F known.puddles
   placed_on =
       let alone = active_alone F active known memory its in
       let then = ready_alone F active known memory its size w old ready in
@@ -70,9 +70,9 @@ module _ (F : ℕ) (active : ActiveTransaction) (known : Known) (memory : Memory
     }
 
   -- the line is carried out
-  module _ (update : Update) (found : FoundUpdate) (free : refusal_of w (update_line update active.client active.name) ≡ None) (within : IsFoundWithin known.puddles found) (by : IsFoundBy F known.puddles (reads old.now.words) update found) where
+  module _ (update : Update) (found : FoundUpdate) (free : refusal_of w (command_of_update update active.client active.name) ≡ None) (within : IsFoundWithin known.puddles found) (by : IsFoundBy F known.puddles (reads old.now.words) update found) where
     abbrev line : Command
-    line = update_line update active.client active.name
+    line = command_of_update update active.client active.name
 
     abbrev led : ℕ → ℕ
     led = end_of (ordinal_written found)

@@ -20,7 +20,7 @@ use Rattle.pud_defs.specs.World.{World}
 use Rattle.pud_defs.proofs.Spaces.{owner_of-same}
 use Rattle.pud_defs.proofs.TablesOf.{tables_of-same}
 use Rattle.word_transaction.proofs.Growing.{IsWider}
-use Rattle.hybrid_tx.specs.PoolScopes.{pool_has_word, pool_scope, IsPlaced, finished_of}
+use Rattle.hybrid_tx.specs.PoolScopes.{pool_has_word, pool_scope, ArePlacedPuddles, finished_of}
 use Rattle.hybrid_tx.specs.Open.Masks.{OpenPool, is_in_pool_record, is_in_space_record, is_in_puddle_record, is_open_record, open_mask, ArePuddlesOf, IsOpenPool}
 use Rattle.hybrid_tx.specs.Open.ManyOpen.{OpenTransaction}
 use Rattle.hybrid_tx.proofs.FinishedPuddles.{finished_puddles}
@@ -97,7 +97,7 @@ module _ (F : ℕ) (own at : List (ℕ × Puddle)) (later : FinishesMore own at)
       let to = later.each from.ordinal from.puddle from.there in
       pool_has_word-from F (finished_of at) k (record { ordinal = to.0; puddle = from.puddle; there = to.1; low = from.low; high = from.high })
 
-  pub wider_ground : IsPlaced F (finished_of own) → IsPlaced F (finished_of at) → IsWider (pool_scope F (finished_of own)) (pool_scope F (finished_of at))
+  pub wider_ground : ArePlacedPuddles F (finished_of own) → ArePlacedPuddles F (finished_of at) → IsWider (pool_scope F (finished_of own)) (pool_scope F (finished_of at))
   wider_ground was placed = record {
     may_name = λ address count may.
         let n = pool_may_name-named (finished_of own) address count may in

@@ -25,7 +25,7 @@ use Rattle.pud_defs.proofs.Replay.{outside_log}
 use Rattle.graph_laws.specs.Steps.{with_steps}
 use Rattle.lazy_rewrite.specs.Batches.{AreNextSteps, CommitsSteps, RewritesOnce, RewritesInTurn, Rewrites}
 use Rattle.lazy_rewrite.proofs.Stepped.{member_of_pool}
-use Rattle.hybrid_tx.specs.PoolScopes.{IsPlaced}
+use Rattle.hybrid_tx.specs.PoolScopes.{ArePlacedPuddles}
 use Rattle.hybrid_tx.specs.Open.Masks.{open_mask}
 use Rattle.hybrid_tx.specs.Open.ManyOpen.{with_transaction}
 use Rattle.hybrid_tx.specs.Objects.Transactions.{RestsAs}
@@ -178,7 +178,7 @@ module _ (size : ℕ) (w : World) (memory : Memory) (old new : State) (ready : I
     same_pools : (tables_of n (reads new.now.words)).pools active.slot ≡ (tables_of n (reads old.now.words)).pools active.slot
     same_pools = ap (λ (t : Tables). t.pools active.slot) (tables_then size w memory active.slot its.puddles old new ready known_its goal o m e next c)
 
-    placed_its : IsPlaced n its.puddles
+    placed_its : ArePlacedPuddles n its.puddles
     placed_its = known_placed size w memory active.slot its.puddles old ready known_its
 
     listed_its : puddles_in_turn (tables_of n (reads new.now.words)) active.slot ≡ stepped_its

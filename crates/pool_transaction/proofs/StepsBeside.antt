@@ -39,7 +39,7 @@ use Rattle.lazy_rewrite.proofs.Stepped.{member_of_pool, types_of-same}
 use Rattle.lazy_rewrite.proofs.Turns.{by_batch}
 use Rattle.lazy_rewrite.proofs.Worlds.{batch_keeps_world}
 use Rattle.lazy_rewrite.proofs.WorldTurns.{steps_masked}
-use Rattle.hybrid_tx.specs.PoolScopes.{pool_has_word, finished_of, IsPlaced}
+use Rattle.hybrid_tx.specs.PoolScopes.{pool_has_word, finished_of, ArePlacedPuddles}
 use Rattle.hybrid_tx.proofs.Objects.Opening.{stored_in-has_word}
 use Rattle.hybrid_tx.proofs.Open.OpenMasks.{mask_of_mine}
 use Rattle.hybrid_tx.proofs.Open.OpenPools.{placed_by_tables}
@@ -91,7 +91,7 @@ module _ (size : ℕ) (w : World) (memory : Memory) (slot : ℕ) (at : List (ℕ
   pub known_graph : HasGraphIn F slot image at
   known_graph = graph_parts F slot image at (ready.knows.judged.each slot at known)
 
-  pub known_placed : IsPlaced F at
+  pub known_placed : ArePlacedPuddles F at
   known_placed = placed_by_tables w.stored.next_number F image slot at (sound_read size w memory old ready) turn
 
   member : (o : ℕ) (e : ℕ × Puddle) → slice_get at o ≡ Some e → IsMemberOf t slot o e

@@ -24,7 +24,7 @@ use Rattle.pud_defs.specs.Transactions.{is_own, is_others, units_of, deferred_of
 use Rattle.pud_defs.specs.Step.{graph_in, graph_seen, object_of, field_of, is_dangling, differ_in_kind, is_referenced_in, grows, lacks_room, cause_holds, refusal_of}
 use Rattle.pool_transaction.specs.declared.changing.Update.{Update}
 use Rattle.pool_transaction.specs.declared.changing.Update.TheVariants as changes
-use Rattle.pool_transaction.specs.Changing.{update_line}
+use Rattle.pool_transaction.specs.Changing.{command_of_update}
 use Rattle.ready_daemon.specs.Memory.{ActiveTransaction}
 use Rattle.ready_daemon.specs.ActiveTransactions.{AreActive, IsActive, IsOwnTransaction}
 use Rattle.pool_transaction.specs.Refusing.{busy_unless}
@@ -118,14 +118,14 @@ module _ (w : World) (client : ℕ) (name : List ℕ) where
       ≡ option_or (own_refusal acts found client opened) rest
   behind_own rest = behind refusals.Client refusals.Pool refusals.Wild refusals.Busy refusals.Tx (not (is_some acts)) (is_none found) (is_none (graph_in found)) (is_others client opened) (not (is_own client opened)) rest
 
-  change_by : (change : Update) → refusal_of w (update_line change client name) ≡ option_or (own_refusal acts found client opened) (its_own change)
+  change_by : (change : Update) → refusal_of w (command_of_update change client name) ≡ option_or (own_refusal acts found client opened) (its_own change)
   unfolding refusal_of cause_holds
   change_by (changes.Set s f x) = behind_own (its_own (changes.Set s f x))
   change_by (changes.Later s f x) = behind_own (its_own (changes.Later s f x))
   change_by (changes.Root s) = behind_own (its_own (changes.Root s))
   change_by (changes.Free s) = behind_own (its_own (changes.Free s))
 
-  pub refusal_of-change : (change : Update) → refusal_of w (update_line change client name) ≡ option_or (refusal_of w (Commit client name)) (its_own change)
+  pub refusal_of-change : (change : Update) → refusal_of w (command_of_update change client name) ≡ option_or (refusal_of w (Commit client name)) (its_own change)
   refusal_of-change change = change_by change ∙ ap (λ (r : Option Refusal). option_or r (its_own change)) (sym refusal_of-commit)
 
   new_by : (t : ℕ) → refusal_of w (New client name t)
@@ -141,7 +141,7 @@ module _ (w : World) (client : ℕ) (name : List ℕ) where
 
   -- a line that is refused before what it asks is looked at
   module _ (r : Refusal) (refused : refusal_of w (Commit client name) ≡ Some r) where
-    pub refused_change : (change : Update) → refusal_of w (update_line change client name) ≡ Some r
+    pub refused_change : (change : Update) → refusal_of w (command_of_update change client name) ≡ Some r
     refused_change change = refusal_of-change change ∙ ap (λ (o : Option Refusal). option_or o (its_own change)) refused
 
     pub refused_new : (t : ℕ) → refusal_of w (New client name t) ≡ Some r
@@ -219,7 +219,7 @@ settable_by g units s f x none =
 
 module _ (w : World) (client : ℕ) (name : List ℕ) (t : Transaction) (open_there : open_on name w ≡ Some t) where
   -- nothing of its own refuses it
-  pub change_parts : (change : Update) → refusal_of w (update_line change client name) ≡ None → change_refusal change (Some t.now) t.deferred t.units ≡ None
+  pub change_parts : (change : Update) → refusal_of w (command_of_update change client name) ≡ None → change_refusal change (Some t.now) t.deferred t.units ≡ None
   change_parts change none =
       ap (λ (o : Option Transaction). change_refusal change (graph_seen o (pool_named name w.stored)) (deferred_of o) (units_of o)) (sym open_there)
       ∙ (neither (refusal_of w (Commit client name)) _ (sym (refusal_of-change w client name change) ∙ none)).1

@@ -31,7 +31,7 @@ use Rattle.batch.specs.Worlds.{IsQuiescent}
 use Rattle.graph_laws.proofs.Grown.{slice_get-front, slice_get-push}
 use Rattle.word_transaction.specs.Scope.{IsScope}
 use Rattle.word_transaction.proofs.Growing.{IsWider, IsRunning-values, IsRunning-wider}
-use Rattle.hybrid_tx.specs.PoolScopes.{is_in_frame, pool_has_word, pool_scope, IsPlaced, finished_of}
+use Rattle.hybrid_tx.specs.PoolScopes.{is_in_puddle, pool_has_word, pool_scope, ArePlacedPuddles, finished_of}
 use Rattle.hybrid_tx.specs.Open.Masks.{OpenPool, is_open_record, open_mask, IsOpenPool}
 use Rattle.hybrid_tx.specs.Open.ManyOpen.{OpenTransaction, Opens, with_transaction, MasksAll, AreOpenPools, IsOneMore}
 use Rattle.hybrid_tx.specs.Objects.Transactions.{IsOpenOn, RestsAs}
@@ -107,17 +107,17 @@ module _ (w : World) (active : ActiveTransaction) (mask : Write) (words : Words)
       ∙ slice_get-front (finished_of is.puddles) (e ∷ []) i (slice_get_within (finished_of is.puddles) i d there) ∙ there
 
   -- its own words, and those of this one's frame
-  mine_split : (own : List (ℕ × Puddle)) (k : ℕ) → pool_has_word F (own ++ e ∷ []) k ≡ (pool_has_word F own k || (is_in_frame F k e || false))
+  mine_split : (own : List (ℕ × Puddle)) (k : ℕ) → pool_has_word F (own ++ e ∷ []) k ≡ (pool_has_word F own k || (is_in_puddle F k e || false))
   unfolding pool_has_word
-  mine_split own k = list_any-append (is_in_frame F k) own (e ∷ [])
+  mine_split own k = list_any-append (is_in_puddle F k) own (e ∷ [])
 
   later : FinishesMore is.puddles at
   later = record { each = λ i d there. (i, finished_front i d there) }
 
-  in_frame : (k : ℕ) → pool_has_word F at k ≡ true → pool_has_word F is.puddles k ≡ false → is_in_frame F k e ≡ true
+  in_frame : (k : ℕ) → pool_has_word F at k ≡ true → pool_has_word F is.puddles k ≡ false → is_in_puddle F k e ≡ true
   in_frame k own other = elim (or_cases (pool_has_word F is.puddles k) _ (sym (mine_split is.puddles k) ∙ own)) [
     | inl was ↦ absurd (let no : true ≡ false = sym was ∙ other in cc)
-    | inr new ↦ elim (or_cases (is_in_frame F k e) false new) [ inl here ↦ here | inr never ↦ absurd (let it : false ≡ true = never in cc) ]
+    | inr new ↦ elim (or_cases (is_in_puddle F k e) false new) [ inl here ↦ here | inr never ↦ absurd (let it : false ≡ true = never in cc) ]
   ]
 
   -- what is new is its own
@@ -125,17 +125,17 @@ module _ (w : World) (active : ActiveTransaction) (mask : Write) (words : Words)
   fresh_own k own other =
       ap (λ (puddles : List (ℕ × Puddle)). pool_has_word F puddles k) (finished_last is.puddles e finished)
       ∙ mine_split (finished_of is.puddles) k
-      ∙ or_right (pool_has_word F (finished_of is.puddles) k) _ (or_left (is_in_frame F k e) false (in_frame k own other))
+      ∙ or_right (pool_has_word F (finished_of is.puddles) k) _ (or_left (is_in_puddle F k e) false (in_frame k own other))
 
   module _ (number : ℕ) (sound : HasSoundTables number (tables_of F now)) (owners : owner_of now active.client ≡ w.clients active.client)
       (listed : puddles_in_turn (tables_of F now) active.slot ≡ at) where
-    placed : IsPlaced F at
+    placed : ArePlacedPuddles F at
     placed = placed_by_tables number F now active.slot at sound listed
 
-    placed_before : IsPlaced F (finished_of is.puddles)
+    placed_before : ArePlacedPuddles F (finished_of is.puddles)
     placed_before =
         let frames = frames_of_tables F now in
-        subst (λ (n : ℕ). IsPlaced n (finished_of is.puddles)) frames
+        subst (λ (n : ℕ). ArePlacedPuddles n (finished_of is.puddles)) frames
         (placed_of_puddles number (tables_of F now) sound active.slot (finished_of is.puddles) (puddles_still w active mask words is))
 
     -- no word of its frame was the transaction's own

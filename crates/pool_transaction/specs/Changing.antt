@@ -63,11 +63,11 @@ with_opened number slot active at memory = with_known number slot active (by_pud
 -- ---- a line of three units
 
 -- the line of a client, on the pool of a name, that asks for the update
-abbrev pub update_line : Update → (client : ℕ) → List ℕ → Command
-update_line (Set s f x) client name = commands.Set client name s f x
-update_line (Later s f x) client name = commands.Later client name s f x
-update_line (Root s) client name = commands.Root client name s
-update_line (Free s) client name = commands.Free client name s
+abbrev pub command_of_update : Update → (client : ℕ) → List ℕ → Command
+command_of_update (Set s f x) client name = commands.Set client name s f x
+command_of_update (Later s f x) client name = commands.Later client name s f x
+command_of_update (Root s) client name = commands.Root client name s
+command_of_update (Free s) client name = commands.Free client name s
 
 -- a field is one that an object may have, and the serial of what is freed is not 0
 abbrev pub IsLegalUpdate : Update → Type 0
@@ -77,9 +77,9 @@ IsLegalUpdate (Root s) = Unit {0}
 IsLegalUpdate (Free s) = 1 ≤ s
 
 -- a line that makes an object, or updates one or the root
-abbrev pub line_of : Change → (client : ℕ) → List ℕ → Command
-line_of (changes.New t) client name = commands.New client name t
-line_of (changes.Update update) client name = update_line update client name
+abbrev pub command_of_change : Change → (client : ℕ) → List ℕ → Command
+command_of_change (changes.New t) client name = commands.New client name t
+command_of_change (changes.Update update) client name = command_of_update update client name
 
 abbrev pub IsLegalChange : Change → Type 0
 IsLegalChange (changes.New t) = Unit {0}
@@ -172,8 +172,8 @@ abbrev pub refusal_by_world : World → ActiveTransaction → ℕ → Option Ref
 refusal_by_world w active id = refusal_to_make (map_of id w.stored.types) active.tx.units (next_in (graph_seen (open_on active.name w) (pool_named active.name w.stored)))
 
 -- the world with a puddle more in the pool of the name
-abbrev pub with_more : List ℕ → World → World
-with_more name w = record w { stored = with_grown_pool name w.stored }
+abbrev pub with_puddle_added : List ℕ → World → World
+with_puddle_added name w = record w { stored = with_grown_pool name w.stored }
 
 -- the world with an object of this type more in the transaction on the pool of the name
 abbrev pub with_made : List ℕ → ℕ → World → World

@@ -24,13 +24,13 @@ ghost use Rattle.lazy_rewrite.specs.Entries.{HasLowBases};
 ghost use Rattle.lazy_rewrite.specs.Frontiers.{frontiers_of, finished_at};
 ghost use Rattle.lazy_rewrite.specs.Batches.{Rewrites};
 ghost use Rattle.word_transaction.specs.Running.{ByTransaction};
-ghost use Rattle.hybrid_tx.specs.PoolScopes.{pool_scope, IsPlaced, IsRewrittenAt};
+ghost use Rattle.hybrid_tx.specs.PoolScopes.{pool_scope, ArePlacedPuddles, IsRewrittenAt};
 ghost use Rattle.hybrid_tx.specs.Objects.Transactions.{IsOpenOn, KeepsOpenOn};
 ghost use Rattle.ready_daemon.specs.Memory.{Memory};
 ghost use Rattle.ready_daemon.specs.ActiveTransactions.{IsActiveWithin};
 ghost use Rattle.registry.specs.Adding.{IsAddedWithin};
 ghost use Rattle.registry.specs.Places.{refusal_in};
-ghost use Rattle.pool_transaction.specs.Changing.{IsActiveIn, IsActiveWith, with_opened, with_known, line_of, update_line, changed_by, IsLegalChange, IsLegalUpdate, ordinal_written, IsFoundWithin, IsFoundBy, MayChange, StaysOpen, refusal_to_make, refusal_by_tables, GrowsBy, refusal_by_world, with_more, with_made, both_finished, MakesBehind};
+ghost use Rattle.pool_transaction.specs.Changing.{IsActiveIn, IsActiveWith, with_opened, with_known, command_of_change, command_of_update, changed_by, IsLegalChange, IsLegalUpdate, ordinal_written, IsFoundWithin, IsFoundBy, MayChange, StaysOpen, refusal_to_make, refusal_by_tables, GrowsBy, refusal_by_world, with_puddle_added, with_made, both_finished, MakesBehind};
 ghost use Rattle.pool_transaction.specs.Finishing.{end_of, FinishesFor, FinishesLowest, FinishesTaken, Finishes, FinishesUnless, IsLonger, AppliesTo, AppliesFinishing};
 ghost use Rattle.ready_daemon.specs.Moves.{led_in};
 ghost use Rattle.ready_daemon.specs.Ready.{KeepsRest, IsReady, Applies};
@@ -150,7 +150,7 @@ fn carry_out<H: Host>(
     requires room { (tx.old).units + SET_UNITS ≤ LOG_ENTRY_WORDS }
     ensures at { (tx.new).log.gate_at ≡ (tx.old).log.gate_at }
     ensures changes { H.tells → Changes (ByTransaction (pool_scope frames pool.now) (tx.old).log.gate_at) (fault_of result) (H.state h.old) (H.state h.new) }
-    ensures runs { H.tells → (types : List (ℕ × ℕ)) (before : Image) (graph_before : Graph) (t : Transaction) (update : Update) → IsPlaced frames pool.now → IsRewrittenAt pool.now (ordinal_written found)
+    ensures runs { H.tells → (types : List (ℕ × ℕ)) (before : Image) (graph_before : Graph) (t : Transaction) (update : Update) → ArePlacedPuddles frames pool.now → IsRewrittenAt pool.now (ordinal_written found)
         → IsOpenOn frames pool.now types (tx.old).log before graph_before t.now t.deferred (H.state h.old).now.words → MayChange types t update
         → IsFoundBy frames pool.now (reads (H.state h.old).now.words) update found
         → KeepsOpenOn frames pool.now types (tx.new).log before graph_before (changed_by update t).now (changed_by update t).deferred (fault_of result) (H.state h.old) (H.state h.new) }
@@ -212,9 +212,9 @@ impl PoolTransaction {
         requires found { IsFoundWithin pool.old found }
         requires units { (self.old).tx.units + SET_UNITS ≤ LOG_ENTRY_WORDS }
         ensures applies { H.tells → (update : Update) → (size : ℕ) → size ≡ (H.counts h.old).size → (w : World) → (memory : Memory) → IsActiveIn frames self.old pool.old memory
-            → IsReady size w memory (H.state h.old) → refusal_of w (update_line update (self.old).client (self.old).name) ≡ Option.None
+            → IsReady size w memory (H.state h.old) → refusal_of w (command_of_update update (self.old).client (self.old).name) ≡ Option.None
             → IsFoundBy frames pool.old (reads (H.state h.old).now.words) update found
-            → AppliesTo (led_in (self.old).slot (end_of (ordinal_written found))) size w (after w (update_line update (self.old).client (self.old).name)) (with_opened (self.old).log_number (self.old).slot self.new pool.new memory) (fault_of result) (H.state h.old) (H.state h.new) }
+            → AppliesTo (led_in (self.old).slot (end_of (ordinal_written found))) size w (after w (command_of_update update (self.old).client (self.old).name)) (with_opened (self.old).log_number (self.old).slot self.new pool.new memory) (fault_of result) (H.state h.old) (H.state h.new) }
         ensures pool { IfOk result (λ _. pool.new ≡ finished_at (ordinal_written found) pool.old) }
         ensures within { IsActiveWithin frames self.new }
         ensures known { IsOnDevice frames pool.new }
@@ -247,9 +247,9 @@ impl PoolTransaction {
         requires known { IsOnDevice frames pool.old.puddles }
         requires legal { IsLegalUpdate update }
         ensures reply { H.tells → (size : ℕ) → (w : World) → (memory : Memory) → IsActiveWith frames self.old pool.old memory → IsReady size w memory (H.state h.old)
-            → IfOk result (λ reply. of_reply reply ≡ answer_by w (Option.Some (update_line update (self.old).client (self.old).name))) }
+            → IfOk result (λ reply. of_reply reply ≡ answer_by w (Option.Some (command_of_update update (self.old).client (self.old).name))) }
         ensures applies { H.tells → (size : ℕ) → size ≡ (H.counts h.old).size → (w : World) → (memory : Memory) → IsActiveWith frames self.old pool.old memory → IsReady size w memory (H.state h.old)
-            → AppliesFinishing (self.old).slot (FinishesUnless (refusal_of w (update_line update (self.old).client (self.old).name)) (FinishesFor frames pool.old.puddles (reads (H.state h.old).now.words) update)) size w (world_by w (Option.Some (update_line update (self.old).client (self.old).name))) (with_known (self.old).log_number (self.old).slot self.new pool.new memory)
+            → AppliesFinishing (self.old).slot (FinishesUnless (refusal_of w (command_of_update update (self.old).client (self.old).name)) (FinishesFor frames pool.old.puddles (reads (H.state h.old).now.words) update)) size w (world_by w (Option.Some (command_of_update update (self.old).client (self.old).name))) (with_known (self.old).log_number (self.old).slot self.new pool.new memory)
             (fault_of result) (H.state h.old) (H.state h.new) }
         ensures refused { IfOk result (λ reply. (why : Refusal) → reply ≡ Reply.No why → pool.new ≡ pool.old) }
         ensures within { IsActiveWithin frames self.new }
@@ -375,7 +375,7 @@ impl PoolTransaction {
         requires known { IsOnDevice frames pool.old }
         requires puddle { IsAddedWithin frames added }
         ensures grows { H.tells → (size : ℕ) → size ≡ (H.counts h.old).size → (w : World) → (memory : Memory) → IsActiveIn frames self.now pool.old memory → IsReady size w memory (H.state h.old) → GrowsBy frames (self.now).slot pool.old (reads (H.state h.old).now.words) added
-            → Applies size w (with_more (self.now).name w) (with_opened (self.now).log_number (self.now).slot self.now pool.new memory) (fault_of result) (H.state h.old) (H.state h.new) }
+            → Applies size w (with_puddle_added (self.now).name w) (with_opened (self.now).log_number (self.now).slot self.now pool.new memory) (fault_of result) (H.state h.old) (H.state h.new) }
         ensures longer { H.tells → (size : ℕ) → size ≡ (H.counts h.old).size → (w : World) → (memory : Memory) → IsActiveIn frames self.now pool.old memory → IsReady size w memory (H.state h.old) → GrowsBy frames (self.now).slot pool.old (reads (H.state h.old).now.words) added
             → IfOk result (λ _. IsLonger frames pool.old pool.new (reads (H.state h.old).now.words) (reads (H.state h.new).now.words)) }
         ensures known { IsOnDevice frames pool.new }
@@ -476,9 +476,9 @@ impl PoolTransaction {
         requires known { IsOnDevice frames pool.old.puddles }
         requires legal { IsLegalChange change }
         ensures reply { H.tells → (size : ℕ) → size ≡ (H.counts h.old).size → (w : World) → (memory : Memory) → IsActiveWith frames self.old pool.old memory → IsReady size w memory (H.state h.old)
-            → IfOk result (λ reply. of_reply reply ≡ answer_by w (Option.Some (line_of change (self.old).client (self.old).name))) }
+            → IfOk result (λ reply. of_reply reply ≡ answer_by w (Option.Some (command_of_change change (self.old).client (self.old).name))) }
         ensures applies { H.tells → (size : ℕ) → size ≡ (H.counts h.old).size → (w : World) → (memory : Memory) → IsActiveWith frames self.old pool.old memory → IsReady size w memory (H.state h.old)
-            → AppliesFinishing (self.old).slot (FinishesUnless (refusal_of w (line_of change (self.old).client (self.old).name)) (Finishes frames pool.old.puddles (reads (H.state h.old).now.words) change)) size w (world_by w (Option.Some (line_of change (self.old).client (self.old).name))) (with_known (self.old).log_number (self.old).slot self.new pool.new memory) (fault_of result)
+            → AppliesFinishing (self.old).slot (FinishesUnless (refusal_of w (command_of_change change (self.old).client (self.old).name)) (Finishes frames pool.old.puddles (reads (H.state h.old).now.words) change)) size w (world_by w (Option.Some (command_of_change change (self.old).client (self.old).name))) (with_known (self.old).log_number (self.old).slot self.new pool.new memory) (fault_of result)
             (H.state h.old) (H.state h.new) }
         ensures within { IsActiveWithin frames self.new }
         ensures known { IsOnDevice frames pool.new.puddles }

@@ -12,10 +12,10 @@ ghost use Rattle.pud_defs.specs.World.{World};
 ghost use Rattle.pud_defs.specs.Step.{differ_in_kind, refusal_of};
 ghost use Rattle.ready_daemon.specs.Memory.{Memory};
 ghost use Rattle.ready_daemon.specs.ActiveTransactions.{IsActiveWithin};
-ghost use Rattle.hybrid_tx.specs.PoolScopes.{IsPlaced};
+ghost use Rattle.hybrid_tx.specs.PoolScopes.{ArePlacedPuddles};
 ghost use Rattle.known_pool.specs.Known.{IsKnown};
 ghost use Rattle.registry.specs.Places.{refusal_in};
-ghost use Rattle.pool_transaction.specs.Changing.{IsActiveWith, update_line, field_change, IsLegalUpdate, IsFoundWithin, IsFoundBy};
+ghost use Rattle.pool_transaction.specs.Changing.{IsActiveWith, command_of_update, field_change, IsLegalUpdate, IsFoundWithin, IsFoundBy};
 ghost use Rattle.pool_transaction.specs.Refusing.{room_refusal, field_refusal, refusal_to_free};
 ghost use Rattle.ready_daemon.specs.Ready.{IsReady};
 
@@ -105,7 +105,7 @@ impl PoolTransaction {
         requires field { f < MAX_FIELDS }
         ensures refusal { H.tells → (size : ℕ) → (w : World) → (memory : Memory) → IsActiveWith frames self.now pool.now memory → IsReady size w memory (H.state h.old)
             → IfOk result (λ found. refusal_in found ≡ refusal_of w (commands.Set (self.now).client (self.now).name s f x)) }
-        ensures found { H.tells → (image : Image) → reads (H.state h.old).now.words ≡ image → IsKnown frames image pool.now → IsPlaced frames pool.now.puddles
+        ensures found { H.tells → (image : Image) → reads (H.state h.old).now.words ≡ image → IsKnown frames image pool.now → ArePlacedPuddles frames pool.now.puddles
             → IfOk result (λ found. IfOk found (IsFoundBy frames pool.now.puddles image (field_change later s f x))) }
         ensures within { IfOk result (λ found. IfOk found (IsFoundWithin pool.now.puddles)) }
         ensures room { IfOk result (λ found. IfOk found (λ _. (self.now).tx.units + SET_UNITS ≤ LOG_ENTRY_WORDS)) }
@@ -139,7 +139,7 @@ impl PoolTransaction {
         requires known { IsOnDevice frames pool.now.puddles }
         ensures refusal { H.tells → (size : ℕ) → (w : World) → (memory : Memory) → IsActiveWith frames self.now pool.now memory → IsReady size w memory (H.state h.old)
             → IfOk result (λ found. refusal_in found ≡ refusal_of w (commands.Root (self.now).client (self.now).name s)) }
-        ensures found { H.tells → (image : Image) → reads (H.state h.old).now.words ≡ image → IsKnown frames image pool.now → IsPlaced frames pool.now.puddles
+        ensures found { H.tells → (image : Image) → reads (H.state h.old).now.words ≡ image → IsKnown frames image pool.now → ArePlacedPuddles frames pool.now.puddles
             → IfOk result (λ found. IfOk found (IsFoundBy frames pool.now.puddles image (Update.Root s))) }
         ensures within { IfOk result (λ found. IfOk found (IsFoundWithin pool.now.puddles)) }
         ensures room { IfOk result (λ found. IfOk found (λ _. (self.now).tx.units + SET_UNITS ≤ LOG_ENTRY_WORDS)) }
@@ -172,7 +172,7 @@ impl PoolTransaction {
         requires serial { 1 ≤ s }
         ensures refusal { H.tells → (size : ℕ) → (w : World) → (memory : Memory) → IsActiveWith frames self.now pool.now memory → IsReady size w memory (H.state h.old)
             → IfOk result (λ found. refusal_in found ≡ refusal_of w (commands.Free (self.now).client (self.now).name s)) }
-        ensures found { H.tells → (image : Image) → reads (H.state h.old).now.words ≡ image → IsKnown frames image pool.now → IsPlaced frames pool.now.puddles
+        ensures found { H.tells → (image : Image) → reads (H.state h.old).now.words ≡ image → IsKnown frames image pool.now → ArePlacedPuddles frames pool.now.puddles
             → IfOk result (λ found. IfOk found (IsFoundBy frames pool.now.puddles image (Update.Free s))) }
         ensures within { IfOk result (λ found. IfOk found (IsFoundWithin pool.now.puddles)) }
         ensures room { IfOk result (λ found. IfOk found (λ _. (self.now).tx.units + SET_UNITS ≤ LOG_ENTRY_WORDS)) }
@@ -205,8 +205,8 @@ impl PoolTransaction {
         requires known { IsOnDevice frames pool.now.puddles }
         requires legal { IsLegalUpdate update }
         ensures refusal { H.tells → (size : ℕ) → (w : World) → (memory : Memory) → IsActiveWith frames self.now pool.now memory → IsReady size w memory (H.state h.old)
-            → IfOk result (λ found. refusal_in found ≡ refusal_of w (update_line update (self.now).client (self.now).name)) }
-        ensures found { H.tells → (image : Image) → reads (H.state h.old).now.words ≡ image → IsKnown frames image pool.now → IsPlaced frames pool.now.puddles
+            → IfOk result (λ found. refusal_in found ≡ refusal_of w (command_of_update update (self.now).client (self.now).name)) }
+        ensures found { H.tells → (image : Image) → reads (H.state h.old).now.words ≡ image → IsKnown frames image pool.now → ArePlacedPuddles frames pool.now.puddles
             → IfOk result (λ found. IfOk found (IsFoundBy frames pool.now.puddles image update)) }
         ensures within { IfOk result (λ found. IfOk found (IsFoundWithin pool.now.puddles)) }
         ensures room { IfOk result (λ found. IfOk found (λ _. (self.now).tx.units + SET_UNITS ≤ LOG_ENTRY_WORDS)) }

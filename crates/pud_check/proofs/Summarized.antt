@@ -17,27 +17,27 @@ use Rattle.pud_defs.specs.Tables.{Tables, Pool, Reader, tables_of, records_of, p
 use Rattle.pud_defs.specs.World.{pools_in, stored_by}
 use Rattle.pud_defs.proofs.PoolRefusals.{pool_by_record, pool_by_name, found_record}
 use Rattle.pud_defs.proofs.PuddlesListed.{puddles_in_turn-listed}
-use Rattle.pud_check.specs.Summary.{summed, summed_line, sum_line, gen_pool, copy_pool, refused_line, summary_text}
+use Rattle.pud_check.specs.Summary.{summed, summed_line, sum_line, gen_pool, copy_pool, refusals_line, summary_text}
 use Rattle.pud_check.specs.SummaryListed.{holding_listed, listed_sum, listed_summary}
 
 -- ---- as it is read
 
 module _ (F : ℕ) (image : Image) (lines refused : ℕ) where
   -- the fault comes in the first line
-  pub Says-no_sums : (fault : HostFault) (a b : State) → Says (refused_line lines refused) (Some fault) a b → Says (listed_summary F image lines refused) (Some fault) a b
+  pub Says-no_sums : (fault : HostFault) (a b : State) → Says (refusals_line lines refused) (Some fault) a b → Says (listed_summary F image lines refused) (Some fault) a b
   unfolding listed_summary
-  Says-no_sums fault a b first = Says-front (refused_line lines refused ++ listed_sum F image gen_pool) (listed_sum F image copy_pool) fault a b (Says-front (refused_line lines refused) (listed_sum F image gen_pool) fault a b first)
+  Says-no_sums fault a b first = Says-front (refusals_line lines refused ++ listed_sum F image gen_pool) (listed_sum F image copy_pool) fault a b (Says-front (refusals_line lines refused) (listed_sum F image gen_pool) fault a b first)
 
   -- the fault comes in the line of the first pool
-  pub Says-no_copy : (fault : HostFault) (a b c : State) → Says (refused_line lines refused) None a b → Says (listed_sum F image gen_pool) (Some fault) b c → Says (listed_summary F image lines refused) (Some fault) a c
+  pub Says-no_copy : (fault : HostFault) (a b c : State) → Says (refusals_line lines refused) None a b → Says (listed_sum F image gen_pool) (Some fault) b c → Says (listed_summary F image lines refused) (Some fault) a c
   unfolding listed_summary
-  Says-no_copy fault a b c first gen = Says-front (refused_line lines refused ++ listed_sum F image gen_pool) (listed_sum F image copy_pool) fault a c (Says-then (refused_line lines refused) (listed_sum F image gen_pool) (Some fault) a b c first gen)
+  Says-no_copy fault a b c first gen = Says-front (refusals_line lines refused ++ listed_sum F image gen_pool) (listed_sum F image copy_pool) fault a c (Says-then (refusals_line lines refused) (listed_sum F image gen_pool) (Some fault) a b c first gen)
 
-  pub Says-summary : (fault : Option HostFault) (a b c d : State) → Says (refused_line lines refused) None a b → Says (listed_sum F image gen_pool) None b c → Says (listed_sum F image copy_pool) fault c d
+  pub Says-summary : (fault : Option HostFault) (a b c d : State) → Says (refusals_line lines refused) None a b → Says (listed_sum F image gen_pool) None b c → Says (listed_sum F image copy_pool) fault c d
       → Says (listed_summary F image lines refused) fault a d
   unfolding listed_summary
   Says-summary fault a b c d first gen copy =
-      Says-then (refused_line lines refused ++ listed_sum F image gen_pool) (listed_sum F image copy_pool) fault a c d (Says-then (refused_line lines refused) (listed_sum F image gen_pool) None a b c first gen) copy
+      Says-then (refusals_line lines refused ++ listed_sum F image gen_pool) (listed_sum F image copy_pool) fault a c d (Says-then (refusals_line lines refused) (listed_sum F image gen_pool) None a b c first gen) copy
 
 -- ---- on sound tables
 
@@ -70,4 +70,4 @@ listed_sum-sound frames next image sound all name =
 pub listed_summary-sound : (frames next : ℕ) (image : Image) (lines refused : ℕ) → HasSoundTables next (tables_of frames image) → frames ≡ frames_of image → listed_summary frames image lines refused ≡ summary_text lines refused (stored_by image)
 unfolding listed_summary summary_text
 listed_summary-sound frames next image lines refused sound all =
-    ap₂ (λ (gen copy : List ℕ). refused_line lines refused ++ gen ++ copy) (listed_sum-sound frames next image sound all gen_pool) (listed_sum-sound frames next image sound all copy_pool)
+    ap₂ (λ (gen copy : List ℕ). refusals_line lines refused ++ gen ++ copy) (listed_sum-sound frames next image sound all gen_pool) (listed_sum-sound frames next image sound all copy_pool)

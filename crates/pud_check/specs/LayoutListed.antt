@@ -26,12 +26,12 @@ line_end id number = line_of (space ∷ uuid_text (puddle_uuid id number))
 -- ---- what is listed
 
 -- what a record says of its puddle
-abbrev pub puddle_of : PuddleRecord → Puddle
-puddle_of r = record { number = r.number; base = r.base; old_base = r.old_base; frontier = r.frontier }
+abbrev pub puddle_of_record : PuddleRecord → Puddle
+puddle_of_record r = record { number = r.number; base = r.base; old_base = r.old_base; frontier = r.frontier }
 
 -- the line of a record with its frame, of a machine with this id
 abbrev pub record_line : ℕ → ℕ × PuddleRecord → List ℕ
-record_line id (frame, r) = puddle_line id (r.ordinal, (frame, puddle_of r))
+record_line id (frame, r) = puddle_line id (r.ordinal, (frame, puddle_of_record r))
 
 -- the line of a record with its frame, where there is one
 abbrev pub line_found : ℕ → Option (ℕ × PuddleRecord) → List ℕ

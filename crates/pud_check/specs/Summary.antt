@@ -43,9 +43,9 @@ abbrev pub copy_pool : List ℕ
 copy_pool = codes "copy" ++ replicate 12 0
 
 -- `lines L refused R`
-abbrev pub refused_line : (lines refused : ℕ) → List ℕ
-refused_line lines refused = line_of (codes "lines " ++ decimal lines ++ codes " refused " ++ decimal refused)
+abbrev pub refusals_line : (lines refused : ℕ) → List ℕ
+refusals_line lines refused = line_of (codes "lines " ++ decimal lines ++ codes " refused " ++ decimal refused)
 
 -- what is said behind so many lines, of which so many were refused
 unfoldable pub summary_text : (lines refused : ℕ) → StoredWorld → List ℕ
-summary_text lines refused s = refused_line lines refused ++ sum_line gen_pool s ++ sum_line copy_pool s
+summary_text lines refused s = refusals_line lines refused ++ sum_line gen_pool s ++ sum_line copy_pool s

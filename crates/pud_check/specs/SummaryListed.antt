@@ -6,7 +6,7 @@ use Rattle.pud_defs.specs.Types.{types_of}
 use Rattle.pud_defs.specs.Holdings.{Holding, holding_in}
 use Rattle.pud_defs.specs.Tables.{tables_of, puddles_in_turn, pool_in}
 use Rattle.pud_check.specs.declared.sums.Summed.{Summed}
-use Rattle.pud_check.specs.Summary.{summed, summed_line, gen_pool, copy_pool, refused_line}
+use Rattle.pud_check.specs.Summary.{summed, summed_line, gen_pool, copy_pool, refusals_line}
 
 -- what the puddles hold of the pool of this slot and record
 abbrev pub holding_listed : ℕ → Image → ℕ × PoolRecord → Holding
@@ -22,4 +22,4 @@ listed_sum F image name = summed_line name (listed_summed F image name)
 
 -- what is said behind so many lines, of which so many were refused
 unfoldable pub listed_summary : ℕ → Image → (lines refused : ℕ) → List ℕ
-listed_summary F image lines refused = refused_line lines refused ++ listed_sum F image gen_pool ++ listed_sum F image copy_pool
+listed_summary F image lines refused = refusals_line lines refused ++ listed_sum F image gen_pool ++ listed_sum F image copy_pool

@@ -8,7 +8,7 @@ ghost use Rattle.pud_defs.specs.LayoutText.{address_text, frames_line, pool_line
 ghost use Rattle.pud_defs.specs.Listing.{space};
 ghost use Rattle.pud_check.specs.Checked.{objects_text, objects_line};
 ghost use Rattle.pud_check.specs.LayoutListed.{field_text, line_end, record_line};
-ghost use Rattle.pud_check.specs.Summary.{summed_text, summed_line, refused_line};
+ghost use Rattle.pud_check.specs.Summary.{summed_text, summed_line, refusals_line};
 
 use crate::sums::Summed;
 use pool_list::text::{Text, add, add_identifier, add_long, add_mode, add_name, add_number};
@@ -162,7 +162,7 @@ pub fn summed_line(name: &Name, summed: Summed) -> Text
 
 /// `lines L refused R`, at most 36 bytes.
 pub fn refused_line(lines: u32, refused: u32) -> Text
-    ensures { result.items ≡ refused_line lines refused }
+    ensures { result.items ≡ refusals_line lines refused }
 {
     let mut text = Text::new();
     add(&mut text, b"lines ");

@@ -17,7 +17,7 @@ use Rattle.pud_defs.specs.Modes.{is_legal_mode}
 use Rattle.pud_defs.specs.Names.{IsName, is_legal_name}
 use Rattle.pud_defs.proofs.NamesRead.{pool_name-legal, pool_mode-legal}
 use Rattle.pud_defs.specs.TypeMap.{map_fields, map_word, is_legal_map, is_legal_type_id}
-use Rattle.pud_defs.specs.Grammar.{split_at, number_of, in_range, number_within, fields_from, pointers_of, listed_map, Parser, taking, at_end, pool_name, pool_mode, object_serial, field_number, field_by, field_place, word_number, field_value, begin_by, commit_by, abort_by, new_by, set_by, later_by, root_by, free_by, get_by, dump_by, export_by, import_by, client_by, leave_by, define_by, pool_line_by, chmod_by, drop_by, rewrite_by, pools_by, cut_by, arm_by, transaction_lines, lines, command_among, command_with, command_by, command_of, IsLegalValue, IsLegalCommand}
+use Rattle.pud_defs.specs.Grammar.{split_at, decimal_of, in_range, number_within, fields_from, pointers_of, listed_map, Parser, taking, at_end, pool_name, pool_mode, object_serial, field_number, field_by, field_place, word_number, value_named, begin_by, commit_by, abort_by, new_by, set_by, later_by, root_by, free_by, get_by, dump_by, export_by, import_by, client_by, leave_by, define_by, pool_line_by, chmod_by, drop_by, rewrite_by, pools_by, cut_by, arm_by, transaction_lines, lines, command_among, command_with, command_by, command_of, IsLegalValue, IsLegalCommand}
 use Rattle.pud_defs.proofs.Keyed.{option_map_parts}
 
 -- a longer line is no command
@@ -52,7 +52,7 @@ and_then_parts f (Some x) y e = record { value = x; is = refl; gives = e }
 -- a number within a range lies there
 pub number_within-bounds : (least end : ℕ) (bytes : List ℕ) (n : ℕ) → number_within least end bytes ≡ Some n → (least ≤ n) × (n < end)
 number_within-bounds least end bytes n e =
-    let read = and_then_parts (in_range least end) (number_of bytes) n e in
+    let read = and_then_parts (in_range least end) (decimal_of bytes) n e in
     let parts = cond_some (leb least read.value && ltb read.value end) read.value n read.gives in
     let bounds = and_parts (leb least read.value) (ltb read.value end) parts.0 in
     (subst (λ m. least ≤ m) parts.1 (leb-true least read.value bounds.0), subst (λ m. m < end) parts.1 (ltb-true read.value end bounds.1))
@@ -174,14 +174,14 @@ field_taken next after = taken field_place IsFieldPlace next field_place-place a
 word_legal : (kind : ℕ → FieldValue) (bytes : List ℕ) (x : FieldValue) → ((n : ℕ) → n < 2 ^ 64 → IsLegalValue (kind n)) → option_map kind (word_number bytes) ≡ Some x → IsLegalValue x
 word_legal kind bytes x fits e = let m = option_map_parts kind (word_number bytes) x e in subst IsLegalValue m.gives (fits m.value (number_within-bounds 0 (2 ^ 64) bytes m.value m.is).1)
 
-field_value-legal : (bytes : List ℕ) (x : FieldValue) → field_value bytes ≡ Some x → IsLegalValue x
-unfolding field_value
-field_value-legal [] x e = absurd (none-some x e)
-field_value-legal (b ∷ bytes) x e =
+value_named-legal : (bytes : List ℕ) (x : FieldValue) → value_named bytes ≡ Some x → IsLegalValue x
+unfolding value_named
+value_named-legal [] x e = absurd (none-some x e)
+value_named-legal (b ∷ bytes) x e =
     chosen IsLegalValue (eqb b 64) (option_map Ref (word_number bytes)) (option_map Num (word_number (b ∷ bytes))) x (word_legal Ref bytes x (λ n below. below)) (word_legal Num (b ∷ bytes) x (λ n below. below)) e
 
-value_taken : (next : FieldValue → Parser) → ((x : FieldValue) → IsLegalValue x → IsLegalParser (next x)) → IsLegalParser (taking field_value next)
-value_taken next after = taken field_value IsLegalValue next field_value-legal after
+value_taken : (next : FieldValue → Parser) → ((x : FieldValue) → IsLegalValue x → IsLegalParser (next x)) → IsLegalParser (taking value_named next)
+value_taken next after = taken value_named IsLegalValue next value_named-legal after
 
 ended : (command : Command) → IsLegalCommand command → IsLegalParser (at_end command)
 unfolding at_end

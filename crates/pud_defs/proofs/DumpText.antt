@@ -9,7 +9,7 @@ use Rattle.pud_defs.specs.declared.objects.FieldValue.{FieldValue}
 use Rattle.pud_defs.specs.declared.objects.FieldValue.TheVariants.{Num, Ref}
 use Rattle.pud_defs.specs.Graph.{Object, Graph}
 use Rattle.pud_defs.specs.Texts.{in_one_line}
-use Rattle.pud_defs.specs.DumpText.{joined_behind, joined, pointer_text, field_text, object_text, dump_text}
+use Rattle.pud_defs.specs.DumpText.{joined_behind, joined, pointer_text, value_text, object_text, dump_text}
 
 -- ---- digits
 
@@ -58,7 +58,7 @@ pointer_in_line s = elim (eqb s 0) as (λ b. IsOneLine (cond b (codes "null") (c
   | false ↦ append_in_line (codes "\"@") (decimal s ++ codes "\"") refl (number_in_line s (codes "\"") refl)
 ]
 
-field_in_line : (v : FieldValue) → IsOneLine (field_text v)
+field_in_line : (v : FieldValue) → IsOneLine (value_text v)
 field_in_line (Num v) = digits_in_line (decimal v) (decimal-digits v)
 field_in_line (Ref s) = pointer_in_line s
 
@@ -76,9 +76,9 @@ object_in_line : (e : ℕ × Object) → IsOneLine (object_text e)
 object_in_line e =
     let type_id : List ℕ = decimal e.1.type_id ++ codes "}" in
     let serial : List ℕ = decimal e.0 ++ (codes ",\"type\":" ++ type_id) in
-    let fields : List ℕ = joined (map field_text e.1.fields) ++ (codes "],\"serial\":" ++ serial) in
+    let fields : List ℕ = joined (map value_text e.1.fields) ++ (codes "],\"serial\":" ++ serial) in
     append_in_line (codes "{\"fields\":[") fields refl
-    (append_in_line (joined (map field_text e.1.fields)) (codes "],\"serial\":" ++ serial) (joined_in_line field_text field_in_line e.1.fields)
+    (append_in_line (joined (map value_text e.1.fields)) (codes "],\"serial\":" ++ serial) (joined_in_line value_text field_in_line e.1.fields)
     (append_in_line (codes "],\"serial\":") serial refl
     (number_in_line e.0 (codes ",\"type\":" ++ type_id) (append_in_line (codes ",\"type\":") type_id refl (number_in_line e.1.type_id (codes "}") refl)))))
 

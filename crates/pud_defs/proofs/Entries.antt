@@ -7,7 +7,7 @@ use Rattle.std.proofs.Math.Seq.{take-length, drop-length, drop-append_seam}
 use Rattle.pud_defs.specs.declared.layout.TheConstants.{LOG_HEADER_WORDS, LOG_ENTRY_WORDS, MAX_ENTRY_VALUES}
 use Rattle.pud_defs.specs.declared.log_words.TheConstants.{REDO_ORDER}
 use Rattle.pud_defs.specs.Image.{Image}
-use Rattle.pud_defs.specs.Entries.{Entry, log_of, gate_lo, gate_hi, gate_used, gate_word, is_legal_gate, entry_n, entry_seq, entry_order, entry_word, is_legal_entry_word, spelled, entry_by, with_entry, IsLegalEntry, entries_in, first_entry, words_from, used_words, entries_of}
+use Rattle.pud_defs.specs.Entries.{Entry, log_of, gate_lo, gate_hi, gate_used, gate_word, is_legal_gate, entry_n, entry_seq, entry_order, entry_word, is_legal_entry_word, spelled, entry_by, entry_and_rest, IsLegalEntry, entries_in, first_entry, words_from, used_words, entries_of}
 
 -- ---- words of an image
 
@@ -180,7 +180,7 @@ record Fronts (address word : ℕ) (rest : List ℕ) (others : Option (List Entr
   others_are : others ≡ Some behind
   is : es ≡ entry_by address word rest ∷ behind
 
-fronts : (address word : ℕ) (rest : List ℕ) (others : Option (List Entry)) (es : List Entry) → with_entry address word rest others ≡ Some es → Fronts address word rest others es
+fronts : (address word : ℕ) (rest : List ℕ) (others : Option (List Entry)) (es : List Entry) → entry_and_rest address word rest others ≡ Some es → Fronts address word rest others es
 fronts address word rest None es some = elim (cases_Bool (is_legal_entry_word word)) [
   | inl holds_so ↦ absurd (let it : None ≡ Some es = sym (cond-true _ _ _ holds_so) ∙ some in cc)
   | inr fails ↦ absurd (let it : None ≡ Some es = sym (cond-false _ _ _ fails) ∙ some in cc)

@@ -2,7 +2,7 @@
 use Rattle.std.proofs.Common.{◌≡◌, ℕ, ◌+◌, List, [], ◌∷◌, replicate, codes, refl}
 use Rattle.pud_defs.specs.declared.space.TheConstants.{FRAME_MAGIC, FRAME_MAGIC_WORD, FRAME_NUMBER_WORD, FRAME_ORDINAL_WORD, NEXT_SERIAL_WORD, SLOT_SERIAL_WORD, SLOT_TYPE_WORD, SLOT_FIELDS_WORD}
 use Rattle.pud_defs.specs.declared.objects.FieldValue.TheVariants.{Num, Ref}
-use Rattle.pud_defs.specs.Image.{Image, written}
+use Rattle.pud_defs.specs.Image.{Image, image_with}
 use Rattle.pud_defs.specs.Spaces.{owner}
 use Rattle.pud_defs.specs.Bases.{base_at}
 use Rattle.pud_defs.specs.Geometry.{puddle_slot_at}
@@ -27,8 +27,8 @@ two_objects = record {
 -- the frame of a puddle with one object in slot 0, of type 2, whose first two fields hold 10 and 0
 abbrev pub frame : Image
 frame =
-    written (puddle_slot_at 0 + SLOT_FIELDS_WORD) 10 (written (puddle_slot_at 0 + SLOT_TYPE_WORD) 2 (written (puddle_slot_at 0 + SLOT_SERIAL_WORD) 1
-    (written NEXT_SERIAL_WORD 2 (written FRAME_ORDINAL_WORD 0 (written FRAME_NUMBER_WORD 4 (written FRAME_MAGIC_WORD FRAME_MAGIC (λ _. 0)))))))
+    image_with (puddle_slot_at 0 + SLOT_FIELDS_WORD) 10 (image_with (puddle_slot_at 0 + SLOT_TYPE_WORD) 2 (image_with (puddle_slot_at 0 + SLOT_SERIAL_WORD) 1
+    (image_with NEXT_SERIAL_WORD 2 (image_with FRAME_ORDINAL_WORD 0 (image_with FRAME_NUMBER_WORD 4 (image_with FRAME_MAGIC_WORD FRAME_MAGIC (λ _. 0)))))))
 
 -- what is stored in this frame
 abbrev pub one_object : Stored

@@ -3,7 +3,7 @@ use Rattle.std.proofs.Common.{◌≡◌, true, false, [], ◌∷◌, codes, Some
 use Rattle.pud_defs.specs.declared.machine.Command.TheVariants.{Dump, Export, Get}
 use Rattle.pud_defs.specs.World.{World}
 use Rattle.pud_defs.specs.PoolChanges.{pool_named}
-use Rattle.pud_defs.specs.Gives.{contents_held, may_lack_memory}
+use Rattle.pud_defs.specs.Gives.{contents_of_pool, may_lack_memory}
 use Rattle.pud_defs.proofs.Opened.{opened}
 use Rattle.pud_defs.proofs.ExamplesPools.{said, lines_said}
 use Rattle.pud_defs.proofs.ExamplesTransactions.{name_of, nodes, world_with}
@@ -43,7 +43,7 @@ denied_first = refl
 
 -- ---- what a file is to hold
 
-types_that_are_used : contents_held ((1, 8589934594) ∷ (2, 4294967296) ∷ []) (pool_named (name_of 97) start.stored)
+types_that_are_used : contents_of_pool ((1, 8589934594) ∷ (2, 4294967296) ∷ []) (pool_named (name_of 97) start.stored)
     ≡ Some (record { types = (1, 8589934594) ∷ []; puddles = 1; graph = nodes 1 10 1 })
 unfolding opened
 types_that_are_used = refl

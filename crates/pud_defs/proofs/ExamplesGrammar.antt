@@ -3,7 +3,7 @@ use Rattle.std.proofs.Common.{◌≡◌, true, [], ◌∷◌, ◌++◌, replicat
 use Rattle.pud_defs.specs.declared.machine.Command.TheVariants.{Client, Leave, Define, Begin, Commit, Abort, New, Set, Later, Root, Free, Get, Rewrite, Cut, Arm}
 use Rattle.pud_defs.specs.declared.objects.FieldValue.TheVariants.{Num, Ref}
 use Rattle.pud_defs.specs.TypeMap.{map_word, is_legal_map}
-use Rattle.pud_defs.specs.Grammar.{number_of, command_of}
+use Rattle.pud_defs.specs.Grammar.{decimal_of, command_of}
 use Rattle.pud_defs.proofs.Opened.{opened}
 
 -- two fields, of which field 1 is a pointer
@@ -133,11 +133,11 @@ arms : command_of (codes "arm 1000000 0") ≡ Some (Arm 1000000 0)
 unfolding opened
 arms = refl
 
-zero_is_a_number : number_of (codes "0") ≡ Some 0
+zero_is_a_number : decimal_of (codes "0") ≡ Some 0
 unfolding opened
 zero_is_a_number = refl
 
-large_numbers_stay_whole : number_of (codes "18446744073709551616") ≡ Some 18446744073709551616
+large_numbers_stay_whole : decimal_of (codes "18446744073709551616") ≡ Some 18446744073709551616
 unfolding opened
 large_numbers_stay_whole = refl
 

@@ -2,7 +2,7 @@
 use Rattle.std.proofs.Common.{◌≡◌, ℕ, ◌+◌, ◌^◌, ◌==◌, cond, true, false, List, [], ◌∷◌, Some, None, refl}
 use Rattle.pud_defs.specs.declared.space.TheConstants.{FRAME_MAGIC, FRAME_MAGIC_WORD, FRAME_NUMBER_WORD, FRAME_ORDINAL_WORD, NEXT_SERIAL_WORD, ROOT_WORD}
 use Rattle.pud_defs.specs.declared.objects.FieldValue.TheVariants.{Num, Ref}
-use Rattle.pud_defs.specs.Image.{Image, written}
+use Rattle.pud_defs.specs.Image.{Image, image_with}
 use Rattle.pud_defs.specs.TypeMap.{map_fields, is_pointer}
 use Rattle.pud_defs.specs.Bases.{base_at}
 use Rattle.pud_defs.specs.Geometry.{puddle_slot_at}
@@ -23,11 +23,11 @@ map_of_type_1 = (refl, refl, refl)
 
 -- the words of the frame of a new puddle
 abbrev pub fresh : (number ordinal : ℕ) → Image
-fresh number ordinal = written FRAME_MAGIC_WORD FRAME_MAGIC (written FRAME_NUMBER_WORD number (written FRAME_ORDINAL_WORD ordinal (written NEXT_SERIAL_WORD (first_serial ordinal) (λ _. 0))))
+fresh number ordinal = image_with FRAME_MAGIC_WORD FRAME_MAGIC (image_with FRAME_NUMBER_WORD number (image_with FRAME_ORDINAL_WORD ordinal (image_with NEXT_SERIAL_WORD (first_serial ordinal) (λ _. 0))))
 
 -- the frame with an object of type 1 in a slot
 abbrev pub with_slot : (slot serial value pointer : ℕ) → Image → Image
-with_slot slot serial value pointer frame = written (puddle_slot_at slot) serial (written (puddle_slot_at slot + 1) 1 (written (puddle_slot_at slot + 2) value (written (puddle_slot_at slot + 3) pointer frame)))
+with_slot slot serial value pointer frame = image_with (puddle_slot_at slot) serial (image_with (puddle_slot_at slot + 1) 1 (image_with (puddle_slot_at slot + 2) value (image_with (puddle_slot_at slot + 3) pointer frame)))
 
 -- a pool of one puddle, of number 7 in range 2
 abbrev pub alone : Image → Stored
@@ -53,7 +53,7 @@ nothing_yet = refl
 
 -- one object with this pointer, and this next serial
 abbrev one : (next pointer : ℕ) → Stored
-one next pointer = alone (written NEXT_SERIAL_WORD next (with_slot 0 1 10 pointer (fresh 7 0)))
+one next pointer = alone (image_with NEXT_SERIAL_WORD next (with_slot 0 1 10 pointer (fresh 7 0)))
 
 abbrev one_graph : (next serial : ℕ) → Graph
 one_graph next serial = record { next_serial = next; root = 0; objects = (1, object 10 serial) ∷ [] }
@@ -68,7 +68,7 @@ names_itself = refl
 
 -- two objects that name each other, the younger in the lower slot, and the root names this one
 abbrev ring : Stored
-ring = alone (written NEXT_SERIAL_WORD 3 (written ROOT_WORD (address 3) (with_slot 3 2 20 (address 5) (with_slot 5 1 10 (address 3) (fresh 7 0)))))
+ring = alone (image_with NEXT_SERIAL_WORD 3 (image_with ROOT_WORD (address 3) (with_slot 3 2 20 (address 5) (with_slot 5 1 10 (address 3) (fresh 7 0)))))
 
 abbrev ring_graph : Graph
 ring_graph = record { next_serial = 3; root = 2; objects = (1, object 10 2) ∷ (2, object 20 1) ∷ [] }
@@ -103,11 +103,11 @@ into_another_pool : graph_of types (one 2 (address_in_range 3 0)) ≡ None
 unfolding opened
 into_another_pool = refl
 
-root_is_wild : graph_of types (alone (written ROOT_WORD (address 0) (fresh 7 0))) ≡ None
+root_is_wild : graph_of types (alone (image_with ROOT_WORD (address 0) (fresh 7 0))) ≡ None
 unfolding opened
 root_is_wild = refl
 
-serial_twice : graph_of types (alone (written NEXT_SERIAL_WORD 3 (with_slot 0 2 10 0 (with_slot 61 2 20 0 (fresh 7 0))))) ≡ None
+serial_twice : graph_of types (alone (image_with NEXT_SERIAL_WORD 3 (with_slot 0 2 10 0 (with_slot 61 2 20 0 (fresh 7 0))))) ≡ None
 unfolding opened
 serial_twice = refl
 
@@ -119,7 +119,7 @@ next_serials : (graph_of types (one 0 0) ≡ None) × (graph_of types (one (2 ^ 
 unfolding opened
 next_serials = (refl, refl, refl)
 
-headers_of_others : (graph_of types (alone (fresh 8 0)) ≡ None) × (graph_of types (alone (written NEXT_SERIAL_WORD 1 (fresh 7 1))) ≡ None) × (graph_of types (alone (written FRAME_MAGIC_WORD 0 (fresh 7 0))) ≡ None)
+headers_of_others : (graph_of types (alone (fresh 8 0)) ≡ None) × (graph_of types (alone (image_with NEXT_SERIAL_WORD 1 (fresh 7 1))) ≡ None) × (graph_of types (alone (image_with FRAME_MAGIC_WORD 0 (fresh 7 0))) ≡ None)
 unfolding opened
 headers_of_others = (refl, refl, refl)
 
@@ -146,7 +146,7 @@ moved frontier root first second third = record {
   puddles =
       record { number = 7; base = base_at 1; old_base = base_at 0; frontier = frontier }
       ∷ record { number = 8; base = base_at 2; old_base = base_at 1; frontier = 0 } ∷ [];
-  word = λ o. cond (o == 0) (written NEXT_SERIAL_WORD 4 (written ROOT_WORD root (with_slot 0 1 10 first (with_slot 1 2 20 second (fresh 7 0))))) (with_slot 0 3 30 third (fresh 8 1));
+  word = λ o. cond (o == 0) (image_with NEXT_SERIAL_WORD 4 (image_with ROOT_WORD root (with_slot 0 1 10 first (with_slot 1 2 20 second (fresh 7 0))))) (with_slot 0 3 30 third (fresh 8 1));
 }
 
 abbrev moved_graph : (root first second third : ℕ) → Graph

@@ -1,7 +1,7 @@
 -- What the mode `layout` says of some devices.
 use Rattle.std.proofs.Common.{◌≡◌, ℕ, ◌-◌, ◌^◌, [], ◌∷◌, codes, refl}
 use Rattle.pud_defs.specs.declared.layout.TheConstants.{MACHINE_WORD, FRAMES_WORD, NEXT_NUMBER_WORD}
-use Rattle.pud_defs.specs.Image.{Image, written}
+use Rattle.pud_defs.specs.Image.{Image, image_with}
 use Rattle.pud_defs.specs.Identifiers.{hex_digits}
 use Rattle.pud_defs.specs.Bases.{base_at}
 use Rattle.pud_defs.specs.LayoutText.{address_text, layout_text}
@@ -11,7 +11,7 @@ use Rattle.pud_defs.proofs.ExamplesTables.{pool_there, puddle_there}
 
 -- the image of a device of so many frames, with this machine id and this next UUID number
 abbrev device : (frames machine next : ℕ) → Image → Image
-device frames machine next image = written FRAMES_WORD frames (written MACHINE_WORD machine (written NEXT_NUMBER_WORD next image))
+device frames machine next image = image_with FRAMES_WORD frames (image_with MACHINE_WORD machine (image_with NEXT_NUMBER_WORD next image))
 
 addresses : (address_text (2 ^ 44) ≡ codes "100000000000") × (address_text (base_at (2 ^ 26 - 1)) ≡ codes "10ffffffc000") × (address_text 0 ≡ codes "000000000000")
 unfolding hex_digits

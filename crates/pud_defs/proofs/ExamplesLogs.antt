@@ -1,6 +1,6 @@
 -- Logs, their entries, and what their replay makes of an image.
 use Rattle.std.proofs.Common.{◌≡◌, ℕ, ◌+◌, ◌^◌, false, List, [], ◌∷◌, Some, None, refl}
-use Rattle.pud_defs.specs.Image.{Image, written}
+use Rattle.pud_defs.specs.Image.{Image, image_with}
 use Rattle.pud_defs.specs.Entries.{Entry, gate_word, is_legal_gate, entry_word, is_legal_entry_word, entries_in, entries_of}
 use Rattle.pud_defs.specs.Replay.{device_word, replayed, settled_by}
 use Rattle.pud_defs.specs.Entries.{log_of}
@@ -48,10 +48,10 @@ word_left_over = refl
 -- a log at word 64 that holds these words behind its gate
 abbrev pub holding : ℕ → List ℕ → Image → Image
 holding at [] image = image
-holding at (w ∷ ws) image = holding (at + 1) ws (written at w image)
+holding at (w ∷ ws) image = holding (at + 1) ws (image_with at w image)
 
 abbrev pub logged : ℕ → List ℕ → Image
-logged gate ws = written 64 gate (holding 72 ws (λ _. 0))
+logged gate ws = image_with 64 gate (holding 72 ws (λ _. 0))
 
 upper_bits_of_the_gate : entries_of (logged (197120 + 2 ^ 32) (1100 ∷ 65537 ∷ 99 ∷ [])) 64 ≡ None
 unfolding opened
@@ -83,15 +83,15 @@ unfolding opened
 redo_behind_undo = refl
 
 -- a running log has its undo entries in range, a committing one its redo entries
-running : (let i = written 1100 5 (written 1101 6 (logged (gate_word 0 2 6) (1100 ∷ 65537 ∷ 10 ∷ 1101 ∷ 4295163905 ∷ 20 ∷ []))) in (replayed device_word (log_of i 64) i 1100 ≡ 10) × (replayed device_word (log_of i 64) i 1101 ≡ 6))
+running : (let i = image_with 1100 5 (image_with 1101 6 (logged (gate_word 0 2 6) (1100 ∷ 65537 ∷ 10 ∷ 1101 ∷ 4295163905 ∷ 20 ∷ []))) in (replayed device_word (log_of i 64) i 1100 ≡ 10) × (replayed device_word (log_of i 64) i 1101 ≡ 6))
 unfolding opened
 running = (refl, refl)
 
-committing : (let i = written 1100 5 (written 1101 6 (logged (gate_word 2 4 6) (1100 ∷ 65537 ∷ 10 ∷ 1101 ∷ 4295163905 ∷ 20 ∷ []))) in (replayed device_word (log_of i 64) i 1100 ≡ 5) × (replayed device_word (log_of i 64) i 1101 ≡ 20))
+committing : (let i = image_with 1100 5 (image_with 1101 6 (logged (gate_word 2 4 6) (1100 ∷ 65537 ∷ 10 ∷ 1101 ∷ 4295163905 ∷ 20 ∷ []))) in (replayed device_word (log_of i 64) i 1100 ≡ 5) × (replayed device_word (log_of i 64) i 1101 ≡ 20))
 unfolding opened
 committing = (refl, refl)
 
 -- with the log replayed its own words count no more
-settled : (let i = written 1100 5 (logged (gate_word 2 4 3) (1100 ∷ 4295163905 ∷ 20 ∷ [])) in (settled_by 64 i 1100 ≡ 20) × (settled_by 64 i 64 ≡ 0) × (settled_by 64 i 1088 ≡ 0))
+settled : (let i = image_with 1100 5 (logged (gate_word 2 4 3) (1100 ∷ 4295163905 ∷ 20 ∷ [])) in (settled_by 64 i 1100 ≡ 20) × (settled_by 64 i 64 ≡ 0) × (settled_by 64 i 1088 ≡ 0))
 unfolding opened
 settled = (refl, refl, refl)

@@ -1,7 +1,7 @@
 -- An open log on a device that is sound: replayed where it is registered, and judged behind the daemon log.
 use Rattle.std.proofs.Common.{ℕ, ◌≡◌, ◌+◌, ◌*◌, Bool, true, false, List, [], ◌∷◌, length, refl}
 use Rattle.pud_defs.specs.declared.layout.TheConstants.{DAEMON_LOG}
-use Rattle.pud_defs.specs.Image.{Image, written}
+use Rattle.pud_defs.specs.Image.{Image, image_with}
 use Rattle.pud_defs.specs.Bases.{base_at}
 use Rattle.pud_defs.specs.Frames.{frame_at}
 use Rattle.pud_defs.specs.Entries.{gate_word, entry_word}
@@ -15,11 +15,11 @@ use Rattle.pud_defs.proofs.Opened.{opened}
 
 -- two pools that their owner 5 and 5 alone may write, with one puddle each: the first in frame 0 at range 2, the second in frame 1 at range 3
 abbrev two_pools : Image
-two_pools = pool_there 0 97 384 1 (puddle_there 0 0 0 2 (base_at 2) (base_at 2) 63 (pool_there 1 98 384 3 (puddle_there 1 1 0 4 (base_at 3) (base_at 3) 63 (written 4 5 blank))))
+two_pools = pool_there 0 97 384 1 (puddle_there 0 0 0 2 (base_at 2) (base_at 2) 63 (pool_there 1 98 384 3 (puddle_there 1 1 0 4 (base_at 3) (base_at 3) 63 (image_with 4 5 blank))))
 
 -- client 0 is registered for this uid and gid, and its first log has this gate, and these words behind it
 abbrev with_log : (who gate : ℕ) → List ℕ → Image
-with_log who gate words = written 1472 1 (written 1473 who (written 1474 who (written 1568 gate (holding 1576 words two_pools))))
+with_log who gate words = image_with 1472 1 (image_with 1473 who (image_with 1474 who (image_with 1568 gate (holding 1576 words two_pools))))
 
 -- an open log of these words
 abbrev open_log : (who : ℕ) → List ℕ → Image
@@ -43,13 +43,13 @@ unfolding opened
 own_log = (refl, refl, refl)
 
 -- nor is one that is not registered
-free_record : (refused (written 1472 0 (open_log 5 (undo_of 2 100 9))) ≡ false) × (left (written 1472 0 (open_log 5 (undo_of 2 100 9))) ≡ 0)
+free_record : (refused (image_with 1472 0 (open_log 5 (undo_of 2 100 9))) ≡ false) × (left (image_with 1472 0 (open_log 5 (undo_of 2 100 9))) ≡ 0)
 unfolding opened
 free_record = (refl, refl)
 
 -- what a log may is told behind the daemon log: a batch under way lets others write the first pool
 abbrev with_batch : Image → Image
-with_batch image = written 64 (gate_word 2 4 3) (written 72 1219 (written 73 (entry_word 1 3 1) (written 74 390 image)))
+with_batch image = image_with 64 (gate_word 2 4 3) (image_with 72 1219 (image_with 73 (entry_word 1 3 1) (image_with 74 390 image)))
 
 behind_the_daemon_log : (refused (with_batch (open_log 6 (undo_of 2 100 9))) ≡ false) × (left (with_batch (open_log 6 (undo_of 2 100 9))) ≡ 9)
 unfolding opened

@@ -2,7 +2,7 @@
 -- from the third.
 use Rattle.std.proofs.Common.{◌≡◌, ℕ, ◌+◌, ◌-◌, true, false, [], ◌∷◌, Some, None, refl}
 use Rattle.pud_defs.specs.declared.space.TheConstants.{SPACE_START, FRAME_MAGIC}
-use Rattle.pud_defs.specs.Image.{Image, written}
+use Rattle.pud_defs.specs.Image.{Image, image_with}
 use Rattle.pud_defs.specs.Spaces.{all_below}
 use Rattle.pud_defs.specs.Bases.{base_at}
 use Rattle.pud_defs.specs.Frames.{frame_at}
@@ -14,7 +14,7 @@ use Rattle.pud_defs.specs.Places.{first_some, located, is_free_base}
 -- a used record with this base and old base
 abbrev with_puddle : (frame ordinal base old_base : ℕ) → Image → Image
 with_puddle frame ordinal base old_base image =
-    written (puddle_record_at frame) (member_word 1 ordinal) (written (puddle_record_at frame + 1) (frame + 7) (written (puddle_record_at frame + 2) base (written (puddle_record_at frame + 3) old_base image)))
+    image_with (puddle_record_at frame) (member_word 1 ordinal) (image_with (puddle_record_at frame + 1) (frame + 7) (image_with (puddle_record_at frame + 2) base (image_with (puddle_record_at frame + 3) old_base image)))
 
 abbrev device : Image
 device = with_puddle 1 0 (base_at 0) (base_at 0) (with_puddle 2 1 (base_at 1) (base_at 2) (λ _. 0))
@@ -53,7 +53,7 @@ taken_is_not = refl
 
 -- the header of frame 2, word by word
 abbrev with_header : (magic number ordinal : ℕ) → Image
-with_header magic number ordinal = written (frame_at 4 2) magic (written (frame_at 4 2 + 1) number (written (frame_at 4 2 + 2) ordinal device))
+with_header magic number ordinal = image_with (frame_at 4 2) magic (image_with (frame_at 4 2 + 1) number (image_with (frame_at 4 2 + 2) ordinal device))
 
 fitting : header_fits 4 2 (with_header FRAME_MAGIC 9 1) ≡ true
 unfolding puddle_at puddle_by

@@ -3,7 +3,7 @@
 -- the first object of both is 10.
 use Rattle.std.proofs.Common.{◌≡◌, ℕ, ◌+◌, ◌*◌, ◌^◌, true, false, List, [], ◌∷◌, ◌++◌, None, refl}
 use Rattle.std.specs.Prelude.{codes}
-use Rattle.pud_defs.specs.Image.{Image, written}
+use Rattle.pud_defs.specs.Image.{Image, image_with}
 use Rattle.pud_defs.specs.Bases.{base_at}
 use Rattle.pud_defs.specs.Frames.{frame_at}
 use Rattle.pud_defs.specs.Layout.{log_at}
@@ -42,12 +42,12 @@ client_there client id = holding (space_record_at client) (1 ∷ id ∷ id ∷ [
 -- pool a has this mode, and client 0 this user and group
 abbrev device : (mode id : ℕ) → Image
 device mode id =
-    written 3 4 (written (word_of 0) 10 (written (word_of 1) 10 (client_there 0 id (client_there 1 6 (puddle_there 0 (puddle_there 1
+    image_with 3 4 (image_with (word_of 0) 10 (image_with (word_of 1) 10 (client_there 0 id (client_there 1 6 (puddle_there 0 (puddle_there 1
     (pool_there 0 5 97 mode (pool_there 1 6 98 0x180 (λ _. 0)))))))))
 
 -- log 0 of client 0 has this gate, and these words behind it
 abbrev logged : (gate : ℕ) → List ℕ → Image
-logged gate ws = written (log_at 4 0 0) gate (holding (log_at 4 0 0 + 8) ws (device 0x180 5))
+logged gate ws = image_with (log_at 4 0 0) gate (holding (log_at 4 0 0 + 8) ws (device 0x180 5))
 
 -- ---- a log that names a foreign pool behind its own
 
@@ -147,7 +147,7 @@ nothing_counts = (refl, refl, refl)
 
 -- one entry, of pool a with this mode, in a log of this user and group
 abbrev with_rights : (mode id : ℕ) → Image
-with_rights mode id = written (log_at 4 0 0) 197120 (holding (log_at 4 0 0 + 8) (0x100000000210 ∷ 65537 ∷ 99 ∷ []) (device mode id))
+with_rights mode id = image_with (log_at 4 0 0) 197120 (holding (log_at 4 0 0 + 8) (0x100000000210 ∷ 65537 ∷ 99 ∷ []) (device mode id))
 
 -- the right to write is asked, and not that to read
 write_alone : (is_refused_log 4 (with_rights 0x80 5) 0 ≡ false) × (is_refused_log 4 (with_rights 0x100 5) 0 ≡ true)
@@ -171,7 +171,7 @@ no_pool = refl
 
 -- logs are judged by the tables as the daemon log makes them: it gives pool a to user 6
 abbrev given_away : Image
-given_away = written 64 (gate_word 2 4 3) (holding 72 ((pool_record_at 0 + 2) ∷ entry_word 1 3 1 ∷ owner_word 6 6 ∷ []) (with_rights 0x180 5))
+given_away = image_with 64 (gate_word 2 4 3) (holding 72 ((pool_record_at 0 + 2) ∷ entry_word 1 3 1 ∷ owner_word 6 6 ∷ []) (with_rights 0x180 5))
 
 judged_behind_the_daemon_log : (is_refused_log 4 given_away 0 ≡ false) × (start_text given_away ≡ line_of (codes "refused 0 0") ++ line_of (codes "ready"))
 unfolding opened_logs
@@ -180,11 +180,11 @@ judged_behind_the_daemon_log = (refl, refl)
 -- ---- which logs are judged
 
 -- log 3 of client 1 is log 7
-last_of_a_client : start_text (written (log_at 4 1 3) (2 ^ 32) (both 393728)) ≡ line_of (codes "refused 0 0") ++ line_of (codes "refused 1 3") ++ line_of (codes "ready")
+last_of_a_client : start_text (image_with (log_at 4 1 3) (2 ^ 32) (both 393728)) ≡ line_of (codes "refused 0 0") ++ line_of (codes "refused 1 3") ++ line_of (codes "ready")
 unfolding opened_logs
 last_of_a_client = refl
 
 -- client 2 is not registered
-not_registered : (is_refused_log 4 (written (log_at 4 2 0) (2 ^ 32) (device 0x180 5)) 8 ≡ false) × (start_text (written (log_at 4 2 0) (2 ^ 32) (device 0x180 5)) ≡ line_of (codes "ready"))
+not_registered : (is_refused_log 4 (image_with (log_at 4 2 0) (2 ^ 32) (device 0x180 5)) 8 ≡ false) × (start_text (image_with (log_at 4 2 0) (2 ^ 32) (device 0x180 5)) ≡ line_of (codes "ready"))
 unfolding opened_logs
 not_registered = (refl, refl)

@@ -1,6 +1,6 @@
 -- Pool tables and puddle tables, what they stand for, and which are sound.
 use Rattle.std.proofs.Common.{ℕ, ◌≡◌, ◌+◌, ◌-◌, ◌^◌, true, false, List, [], ◌∷◌, Some, None, replicate, refl}
-use Rattle.pud_defs.specs.Image.{Image, written}
+use Rattle.pud_defs.specs.Image.{Image, image_with}
 use Rattle.pud_defs.specs.Spaces.{owner, all_below}
 use Rattle.pud_defs.specs.Graph.{empty_graph}
 use Rattle.pud_defs.specs.Holdings.Holding.{Sound}
@@ -134,29 +134,29 @@ unfolding opened_tables
 pool_not_there = refl
 
 -- an ordinal, but no pool
-no_slot : has_legal_puddles 9 (tables_of 4 (written (puddle_record_at 0) (2 ^ 32) moved)) ≡ false
+no_slot : has_legal_puddles 9 (tables_of 4 (image_with (puddle_record_at 0) (2 ^ 32) moved)) ≡ false
 unfolding opened_tables
 no_slot = refl
 
-base_twice : has_distinct_bases (tables_of 4 (written (puddle_record_at 2 + 2) (base_at 1) moved)) ≡ false
+base_twice : has_distinct_bases (tables_of 4 (image_with (puddle_record_at 2 + 2) (base_at 1) moved)) ≡ false
 unfolding opened_tables
 base_twice = refl
 
 -- in one pool, but not in two
-old_base_twice : (has_distinct_old_bases (tables_of 4 (written (puddle_record_at 2 + 3) (base_at 0) moved)) ≡ false) × (has_distinct_old_bases (tables_of 4 moved) ≡ true)
+old_base_twice : (has_distinct_old_bases (tables_of 4 (image_with (puddle_record_at 2 + 3) (base_at 0) moved)) ≡ false) × (has_distinct_old_bases (tables_of 4 moved) ≡ true)
 unfolding opened_tables
 old_base_twice = (refl, refl)
 
-ordinal_twice : has_distinct_ordinals (tables_of 4 (written (puddle_record_at 2) (member_word 2 0) moved)) ≡ false
+ordinal_twice : has_distinct_ordinals (tables_of 4 (image_with (puddle_record_at 2) (member_word 2 0) moved)) ≡ false
 unfolding opened_tables
 ordinal_twice = refl
 
-ordinal_left_out : has_counted_puddles (tables_of 4 (written (puddle_record_at 2) (member_word 2 2) moved)) ≡ false
+ordinal_left_out : has_counted_puddles (tables_of 4 (image_with (puddle_record_at 2) (member_word 2 2) moved)) ≡ false
 unfolding opened_tables
 ordinal_left_out = refl
 
 -- a puddle of which no step is rewritten, or all but one, or more than all
-other_frontiers : (has_legal_puddles 9 (tables_of 4 (written (puddle_record_at 2 + 4) 0 moved)) ≡ true) × (has_legal_puddles 9 (tables_of 4 (written (puddle_record_at 2 + 4) 62 moved)) ≡ true)
-    × (has_legal_puddles 9 (tables_of 4 (written (puddle_record_at 2 + 4) 64 moved)) ≡ false) × (has_legal_puddles 9 (tables_of 4 (written (puddle_record_at 2 + 4) (2 ^ 32) moved)) ≡ false)
+other_frontiers : (has_legal_puddles 9 (tables_of 4 (image_with (puddle_record_at 2 + 4) 0 moved)) ≡ true) × (has_legal_puddles 9 (tables_of 4 (image_with (puddle_record_at 2 + 4) 62 moved)) ≡ true)
+    × (has_legal_puddles 9 (tables_of 4 (image_with (puddle_record_at 2 + 4) 64 moved)) ≡ false) × (has_legal_puddles 9 (tables_of 4 (image_with (puddle_record_at 2 + 4) (2 ^ 32) moved)) ≡ false)
 unfolding opened_tables
 other_frontiers = (refl, refl, refl, refl)

@@ -19,7 +19,7 @@ use Rattle.pud_defs.specs.Holdings.{Holding, holding_in, held_by, read_anew}
 use Rattle.pud_defs.specs.Types.{map_of, with_type}
 use Rattle.pud_defs.specs.Tables.{Tables, Pool, Reader, tables_of, member_of, members, puddles_of, listed, pool_of, entries, pools_of}
 use Rattle.pud_defs.specs.World.{pools_in}
-use Rattle.pud_defs.specs.PoolChanges.{read_by, pools_read}
+use Rattle.pud_defs.specs.PoolChanges.{reread_pool, reread_pools}
 use Rattle.pud_defs.proofs.Keyed.{keyed-same}
 use Rattle.pud_defs.proofs.KeyedEach.{each-keyed, each-weaker}
 use Rattle.pud_defs.proofs.KeyedMaps.{of_entry, keyed-mapped}
@@ -112,27 +112,27 @@ pools_in-same types F i j tables same =
 -- ---- one type more
 
 read_entry : (types : List (ℕ × ℕ)) (hold : Reader) (puddles : List (ℕ × (ℕ × Puddle))) (r : Option PoolRecord)
-    → pool_entry (λ at. read_anew types (hold at)) puddles r ≡ option_map (of_entry name_cmp (read_by types)) (pool_entry hold puddles r)
+    → pool_entry (λ at. read_anew types (hold at)) puddles r ≡ option_map (of_entry name_cmp (reread_pool types)) (pool_entry hold puddles r)
 unfolding pool_of
 read_entry types hold puddles None = refl
 read_entry types hold puddles (Some r) = refl
 
-pools_anew : (types : List (ℕ × ℕ)) (hold : Reader) (t : Tables) → pools_of (λ at. read_anew types (hold at)) t ≡ pools_read types (pools_of hold t)
+pools_anew : (types : List (ℕ × ℕ)) (hold : Reader) (t : Tables) → pools_of (λ at. read_anew types (hold at)) t ≡ reread_pools types (pools_of hold t)
 unfolding pools_of
 pools_anew types hold t =
-    keyed-same name_cmp (entries (λ at. read_anew types (hold at)) t) (λ slot. option_map (of_entry name_cmp (read_by types)) (entries hold t slot)) 0 POOL_RECORDS (λ slot low high. read_entry types hold (puddles_of t slot) (t.pools slot))
-    ∙ keyed-mapped name_cmp (read_by types) (entries hold t) 0 POOL_RECORDS
+    keyed-same name_cmp (entries (λ at. read_anew types (hold at)) t) (λ slot. option_map (of_entry name_cmp (reread_pool types)) (entries hold t slot)) 0 POOL_RECORDS (λ slot low high. read_entry types hold (puddles_of t slot) (t.pools slot))
+    ∙ keyed-mapped name_cmp (reread_pool types) (entries hold t) 0 POOL_RECORDS
 
 -- what pools hold is what they hold read anew, by a type more
 pub pools_in-more : (id map : ℕ) (types : List (ℕ × ℕ)) (F : ℕ) (image : Image) → map_of id types ≡ None
-    → pools_in (with_type id map types) F image ≡ pools_read (with_type id map types) (pools_in types F image)
+    → pools_in (with_type id map types) F image ≡ reread_pools (with_type id map types) (pools_in types F image)
 pools_in-more id map types F image none =
     let more = with_type id map types in
     let each : (at : List (ℕ × Puddle)) → holding_in more F image at ≡ read_anew more (holding_in types F image at) = λ at. held_by-more id map types (stored_in F at image) none in
     ap (λ (hold : Reader). pools_of hold (tables_of F image)) (λ p at. each at p) ∙ pools_anew more (holding_in types F image) (tables_of F image)
 
 -- by the same types it is as it was
-pub pools_in-anew : (types : List (ℕ × ℕ)) (F : ℕ) (image : Image) → pools_read types (pools_in types F image) ≡ pools_in types F image
+pub pools_in-anew : (types : List (ℕ × ℕ)) (F : ℕ) (image : Image) → reread_pools types (pools_in types F image) ≡ pools_in types F image
 pools_in-anew types F image =
     let each : (at : List (ℕ × Puddle)) → read_anew types (holding_in types F image at) ≡ holding_in types F image at = λ at. held_by-settled types (stored_in F at image) in
     sym (pools_anew types (holding_in types F image) (tables_of F image)) ∙ ap (λ (hold : Reader). pools_of hold (tables_of F image)) (λ p at. each at p)

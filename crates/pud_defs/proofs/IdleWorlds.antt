@@ -8,9 +8,9 @@ use Rattle.pud_defs.specs.declared.layout.TheConstants.{FRAMES_WORD, DAEMON_LOG,
 use Rattle.pud_defs.specs.Layout.{tables_end, frames_at, device_words}
 use Rattle.pud_defs.specs.Image.{Image, IsSameBelow}
 use Rattle.pud_defs.specs.Types.{type_at, types_of, free_type, used_types, map_of}
-use Rattle.pud_defs.specs.Registry.{frames_of, has_closed_logs, is_registry, is_idle_registry, has_legal_log, are_allowed}
+use Rattle.pud_defs.specs.Registry.{frames_of, has_all_logs_closed, is_registry, is_idle_registry, has_legal_log, are_loggable}
 use Rattle.pud_defs.specs.World.{StoredWorld, stored_by, idle_registry, idle_world_of}
-use Rattle.pud_defs.specs.PoolChanges.{pools_read}
+use Rattle.pud_defs.specs.PoolChanges.{reread_pools}
 use Rattle.pud_defs.proofs.Holdings.{pools_in-anew}
 use Rattle.pud_defs.specs.Entries.{is_idle_gate, log_of}
 use Rattle.pud_defs.specs.Replay.{settled_by, beside_log}
@@ -27,7 +27,7 @@ use Rattle.pud_defs.proofs.Worlds.{holds_sound, holds_stored, holding_by}
 sound_from : (size : ℕ) (image : Image) (s : StoredWorld) → StandsFor size image s → is_idle_registry size image ≡ true
 unfolding is_idle_registry
 sound_from size image s h =
-    and_from (is_registry size image) (has_closed_logs image) (holds_sound size image s (holds_standing size image s h)) (ap (are_closed_logs image) (h.holds Header).frames ∙ (h.holds Spaces).logs)
+    and_from (is_registry size image) (has_all_logs_closed image) (holds_sound size image s (holds_standing size image s h)) (ap (are_closed_logs image) (h.holds Header).frames ∙ (h.holds Spaces).logs)
 
 pub idle_registry_standing : (size : ℕ) (image : Image) (s : StoredWorld) → StandsFor size image s → idle_registry size image ≡ Some s
 unfolding idle_registry
@@ -37,7 +37,7 @@ idle_registry_standing size image s h =
 standing_by : (size : ℕ) (image : Image) → is_idle_registry size image ≡ true → StandsFor size image (stored_by image)
 unfolding is_idle_registry stored_by
 standing_by size image sound =
-    let parts = and_parts (is_registry size image) (has_closed_logs image) sound in
+    let parts = and_parts (is_registry size image) (has_all_logs_closed image) sound in
     standing_closed size image (stored_by image) (holding_by size image parts.0) parts.1
 
 pub standing_of_idle_registry : (size : ℕ) (image : Image) (s : StoredWorld) → idle_registry size image ≡ Some s → StandsFor size image s
@@ -86,7 +86,7 @@ idle_world_of-settled size i j legal_i legal_j same = idle_world_of_legal size j
 
 pub legal_log_idle : (image : Image) → is_idle_gate (image DAEMON_LOG) ≡ true → has_legal_log image ≡ true
 unfolding has_legal_log
-legal_log_idle image closed = ap (are_allowed (frames_of image) (log_of image DAEMON_LOG)) (entries_of-idle image DAEMON_LOG closed)
+legal_log_idle image closed = ap (are_loggable (frames_of image) (log_of image DAEMON_LOG)) (entries_of-idle image DAEMON_LOG closed)
 
 -- the image beside that log stands for the world
 pub idle_world_of-beside : (size : ℕ) (image : Image) → is_idle_gate (image DAEMON_LOG) ≡ true → idle_world_of size image ≡ idle_registry size (beside_log DAEMON_LOG image)
@@ -120,8 +120,8 @@ pub map_of_world : (size : ℕ) (image : Image) (s : StoredWorld) (id : ℕ) →
 map_of_world size image s id h = ap (map_of id) (h.holds Types).types
 
 -- what the pools hold is what they hold read anew by the world's types
-pub pools_settled : (size : ℕ) (image : Image) (s : StoredWorld) → StandsFor size image s → pools_read s.types s.pools ≡ s.pools
-pools_settled size image s h = let is = (h.holds Pools).pools in ap (pools_read s.types) (sym is) ∙ pools_in-anew s.types s.frames image ∙ is
+pub pools_settled : (size : ℕ) (image : Image) (s : StoredWorld) → StandsFor size image s → reread_pools s.types s.pools ≡ s.pools
+pools_settled size image s h = let is = (h.holds Pools).pools in ap (reread_pools s.types) (sym is) ∙ pools_in-anew s.types s.frames image ∙ is
 
 -- as many records are used as types are defined
 pub length_of_world : (size : ℕ) (image : Image) (s : StoredWorld) → StandsFor size image s → used_types image ≡ length s.types

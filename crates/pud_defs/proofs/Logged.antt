@@ -10,7 +10,7 @@ use Rattle.pud_defs.specs.Image.{Image}
 use Rattle.pud_defs.specs.Layout.{tables_end, frames_at, device_words}
 use Rattle.pud_defs.specs.Entries.{Entry, Log, log_of}
 use Rattle.pud_defs.specs.Replay.{device_word, is_in_range, given_by, undo_value, redo_value, new_value, is_in_log, settled_by}
-use Rattle.pud_defs.specs.Registry.{frames_of, may_be_logged, is_allowed, are_allowed, has_legal_log}
+use Rattle.pud_defs.specs.Registry.{frames_of, may_be_logged, is_loggable, are_loggable, has_legal_log}
 use Rattle.pud_defs.proofs.Replay.{value_at-apart, undo_value-first, redo_value-first, undo_value-none, redo_value-none, new_value-of, overwritten-stays, settled_by-outside, outside_log}
 
 -- ---- where the daemon log may write
@@ -56,11 +56,11 @@ lies_apart F size at n room may =
     ]
 
 -- an entry whose words lie there is allowed
-pub is_allowed-there : (F : ℕ) (log : Log) (e : Entry) → may_be_logged F e.address (length e.vals) ≡ true → is_allowed F log e ≡ true
-is_allowed-there F log e may = or_right (not (is_in_range log e)) (may_be_logged F e.address (length e.vals)) may
+pub is_loggable-there : (F : ℕ) (log : Log) (e : Entry) → may_be_logged F e.address (length e.vals) ≡ true → is_loggable F log e ≡ true
+is_loggable-there F log e may = or_right (not (is_in_range log e)) (may_be_logged F e.address (length e.vals)) may
 
 -- and the words of one that is allowed and in range do
-pub allowed_in_range : (F : ℕ) (log : Log) (e : Entry) → is_allowed F log e ≡ true → is_in_range log e ≡ true → may_be_logged F e.address (length e.vals) ≡ true
+pub allowed_in_range : (F : ℕ) (log : Log) (e : Entry) → is_loggable F log e ≡ true → is_in_range log e ≡ true → may_be_logged F e.address (length e.vals) ≡ true
 allowed_in_range F log e allowed within = sym (ap (λ (b : Bool). not b || may_be_logged F e.address (length e.vals)) within) ∙ allowed
 
 -- ---- where it may not
@@ -96,7 +96,7 @@ apart_from F w at n number tables frames may = elim (or_cases ((eqb at NEXT_NUMB
 pub unlogged : (F w : ℕ) → (w ≡ NEXT_NUMBER_WORD → ⊥) → (w < TYPE_TABLE) ⊎ (tables_end F ≤ w) → w < frames_at F → IsUnlogged F w
 unlogged F w number tables frames = record { apart = λ at n may. apart_from F w at n number tables frames may }
 
-not_given : (F order w : ℕ) (log : Log) (e : Entry) → is_allowed F log e ≡ true → IsUnlogged F w → given_by device_word log order e w ≡ None
+not_given : (F order w : ℕ) (log : Log) (e : Entry) → is_loggable F log e ≡ true → IsUnlogged F w → given_by device_word log order e w ≡ None
 not_given F order w log e allowed none = elim (cases_Bool (is_in_range log e && eqb e.order order)) [
   | inr other ↦ cond-false _ _ _ other
   | inl counts ↦
@@ -105,29 +105,29 @@ not_given F order w log e allowed none = elim (cases_Bool (is_in_range log e && 
       cond-true _ _ _ counts ∙ value_at-apart e.address w e.vals (none.apart e.address (length e.vals) may)
 ]
 
-not_undone : (F w : ℕ) (log : Log) (es : List Entry) → list_all (is_allowed F log) es ≡ true → IsUnlogged F w → undo_value device_word log es w ≡ None
+not_undone : (F w : ℕ) (log : Log) (es : List Entry) → list_all (is_loggable F log) es ≡ true → IsUnlogged F w → undo_value device_word log es w ≡ None
 not_undone F w log [] allowed none = undo_value-none device_word log w
 not_undone F w log (e ∷ es) allowed none =
-    let parts = and_parts (is_allowed F log e) (list_all (is_allowed F log) es) allowed in
+    let parts = and_parts (is_loggable F log e) (list_all (is_loggable F log) es) allowed in
     undo_value-first device_word log e es w ∙ ap₂ option_or (not_given F UNDO_ORDER w log e parts.0 none) (not_undone F w log es parts.1 none)
 
-not_redone : (F w : ℕ) (log : Log) (es : List Entry) → list_all (is_allowed F log) es ≡ true → IsUnlogged F w → redo_value device_word log es w ≡ None
+not_redone : (F w : ℕ) (log : Log) (es : List Entry) → list_all (is_loggable F log) es ≡ true → IsUnlogged F w → redo_value device_word log es w ≡ None
 not_redone F w log [] allowed none = redo_value-none device_word log w
 not_redone F w log (e ∷ es) allowed none =
-    let parts = and_parts (is_allowed F log e) (list_all (is_allowed F log) es) allowed in
+    let parts = and_parts (is_loggable F log e) (list_all (is_loggable F log) es) allowed in
     redo_value-first device_word log e es w ∙ ap₂ option_or (not_redone F w log es parts.1 none) (not_given F REDO_ORDER w log e parts.0 none)
 
 -- entries that are allowed give nothing to a word that may not be written
-pub new_value-allowed : (F w : ℕ) (log : Log) (es : List Entry) → log.entries ≡ Some es → list_all (is_allowed F log) es ≡ true → IsUnlogged F w → new_value device_word log w ≡ None
+pub new_value-allowed : (F w : ℕ) (log : Log) (es : List Entry) → log.entries ≡ Some es → list_all (is_loggable F log) es ≡ true → IsUnlogged F w → new_value device_word log w ≡ None
 new_value-allowed F w log es are allowed none = new_value-of device_word log es w are ∙ ap₂ option_or (not_redone F w log es allowed none) (not_undone F w log es allowed none)
 
 -- the entries of a legal daemon log
 pub record LegalEntries (image : Image) : Type 0 where
   pub entries : List Entry
   pub are : (log_of image DAEMON_LOG).entries ≡ Some entries
-  pub allowed : list_all (is_allowed (frames_of image) (log_of image DAEMON_LOG)) entries ≡ true
+  pub allowed : list_all (is_loggable (frames_of image) (log_of image DAEMON_LOG)) entries ≡ true
 
-allowed_entries : (image : Image) (o : Option (List Entry)) → (log_of image DAEMON_LOG).entries ≡ o → are_allowed (frames_of image) (log_of image DAEMON_LOG) o ≡ true → LegalEntries image
+allowed_entries : (image : Image) (o : Option (List Entry)) → (log_of image DAEMON_LOG).entries ≡ o → are_loggable (frames_of image) (log_of image DAEMON_LOG) o ≡ true → LegalEntries image
 allowed_entries image None are allowed = absurd (let it : false ≡ true = allowed in cc)
 allowed_entries image (Some es) are allowed = record { entries = es; are = are; allowed = allowed }
 
@@ -136,9 +136,9 @@ unfolding has_legal_log
 legal_entries image legal = allowed_entries image (log_of image DAEMON_LOG).entries refl legal
 
 -- with this log, on a device of so many frames, the daemon log is legal where its entries are allowed
-pub has_legal_log-of : (image : Image) (F : ℕ) (log : Log) → frames_of image ≡ F → log_of image DAEMON_LOG ≡ log → are_allowed F log log.entries ≡ true → has_legal_log image ≡ true
+pub has_legal_log-of : (image : Image) (F : ℕ) (log : Log) → frames_of image ≡ F → log_of image DAEMON_LOG ≡ log → are_loggable F log log.entries ≡ true → has_legal_log image ≡ true
 unfolding has_legal_log
-has_legal_log-of image F log frames is allowed = ap₂ (λ (n : ℕ) (l : Log). are_allowed n l l.entries) frames is ∙ allowed
+has_legal_log-of image F log frames is allowed = ap₂ (λ (n : ℕ) (l : Log). are_loggable n l l.entries) frames is ∙ allowed
 
 -- a legal daemon log gives nothing to a word outside it that it may not write
 pub new_value-apart : (image : Image) (w : ℕ) → has_legal_log image ≡ true → IsUnlogged (frames_of image) w → new_value device_word (log_of image DAEMON_LOG) w ≡ None

@@ -8,7 +8,7 @@ use Rattle.std.proofs.lemmas.List.{length-replicate}
 use Rattle.pud_defs.specs.declared.records.TheConstants.{NAME_BYTES, MAX_MODE}
 use Rattle.pud_defs.specs.Modes.{is_legal_mode}
 use Rattle.pud_defs.specs.Names.{IsName, is_name_byte, is_filled, is_legal_name}
-use Rattle.pud_defs.specs.Grammar.{pool_name, is_mode_digit, mode_by, pool_mode}
+use Rattle.pud_defs.specs.Grammar.{pool_name, is_mode_digit, mode_of_digits, pool_mode}
 
 -- ---- names
 
@@ -88,8 +88,8 @@ digits_legal a b c x y z =
     (eq-eqb (v / 8 % 2) 0 (omega arith)))
     (eq-eqb (v / 64 % 2) 0 (omega arith))
 
-mode_by-legal : (a b c mode : ℕ) → mode_by a b c ≡ Some mode → IsTrue (is_legal_mode mode)
-mode_by-legal a b c mode e =
+mode_of_digits-legal : (a b c mode : ℕ) → mode_of_digits a b c ≡ Some mode → IsTrue (is_legal_mode mode)
+mode_of_digits-legal a b c mode e =
     let parts = cond_some (is_mode_digit a && is_mode_digit b && is_mode_digit c) ((a - 48) * 64 + (b - 48) * 8 + (c - 48)) mode e in
     let two = and_parts (is_mode_digit a && is_mode_digit b) (is_mode_digit c) parts.0 in
     let one = and_parts (is_mode_digit a) (is_mode_digit b) two.0 in
@@ -101,5 +101,5 @@ unfolding pool_mode
 pool_mode-legal [] mode e = absurd (none-some mode e)
 pool_mode-legal (a ∷ []) mode e = absurd (none-some mode e)
 pool_mode-legal (a ∷ b ∷ []) mode e = absurd (none-some mode e)
-pool_mode-legal (a ∷ b ∷ c ∷ []) mode e = mode_by-legal a b c mode e
+pool_mode-legal (a ∷ b ∷ c ∷ []) mode e = mode_of_digits-legal a b c mode e
 pool_mode-legal (a ∷ b ∷ c ∷ d ∷ bytes) mode e = absurd (none-some mode e)

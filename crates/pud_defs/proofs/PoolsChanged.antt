@@ -111,7 +111,7 @@ module _ (t : Tables) (slot : ℕ) (r : PoolRecord) (distinct : HasDistinctKeys 
 -- ---- a pool is made
 
 -- the record of a free slot and that of a free frame are filled, for a pool of a name that is not there
-pub record IsMade (t : Tables) (slot frame : ℕ) (r : PoolRecord) (m : Member) : Type 0 where
+pub record IsPoolMade (t : Tables) (slot frame : ℕ) (r : PoolRecord) (m : Member) : Type 0 where
   pub slot_below : slot < POOL_RECORDS
   pub slot_free : t.pools slot ≡ None
   pub frame_below : frame < t.frames
@@ -123,7 +123,7 @@ pub record IsMade (t : Tables) (slot frame : ℕ) (r : PoolRecord) (m : Member) 
 abbrev pub made : (slot frame : ℕ) → PoolRecord → Member → Tables → Tables
 made slot frame r m t = with_puddle_at frame (Some m) (with_pool_at slot (Some r) t)
 
-module _ (t : Tables) (slot frame : ℕ) (r : PoolRecord) (m : Member) (h : IsMade t slot frame r m) where
+module _ (t : Tables) (slot frame : ℕ) (r : PoolRecord) (m : Member) (h : IsPoolMade t slot frame r m) where
   -- a pool beside it has the same puddles
   pub new_elsewhere : (s : ℕ) → (s ≡ slot → ⊥) → (f : ℕ) → members (made slot frame r m t) s f ≡ members t s f
   new_elsewhere s other f = elim (cases_eq f frame) [

@@ -30,7 +30,7 @@ use Rattle.pud_defs.specs.Placement.{has_another_base, IsBaseFor, ArePlacedFrom}
 use Rattle.pud_defs.specs.Pools.{is_legal_pool}
 use Rattle.pud_defs.proofs.Keyed.{under_tied, under_apart, first_free_some, first_from_none, distinct_keys}
 use Rattle.pud_defs.proofs.Spaces.{all_below-each}
-use Rattle.pud_defs.proofs.PoolsChanged.{IsMade, made, changed_here, changed_elsewhere, not_of, pools_made, puddles_of-made}
+use Rattle.pud_defs.proofs.PoolsChanged.{IsPoolMade, made, changed_here, changed_elsewhere, not_of, pools_made, puddles_of-made}
 use Rattle.pud_defs.proofs.SoundChanged.{IsAdded, sound_made}
 use Rattle.pud_defs.proofs.PuddleMore.{IsNextPuddle, puddles_of-more, sound_more, pools_more}
 
@@ -282,7 +282,7 @@ module _ (later : ℕ) (t : Tables) (slot : ℕ) (r : PoolRecord) (all : List �
 -- ---- from the first one on
 
 module _ (next later : ℕ) (more : next ≤ later) (t : Tables) (slot : ℕ) (r : PoolRecord) (all : List ℕ) (e : ℕ × Puddle) (sound : HasSoundTables next t)
-    (is_made : IsMade t slot e.0 r (member_for slot 0 e.1)) (is_added : IsAdded later t r (member_for slot 0 e.1)) (wanted : e.1.old_base ≡ get_or all 0 0) where
+    (is_made : IsPoolMade t slot e.0 r (member_for slot 0 e.1)) (is_added : IsAdded later t r (member_for slot 0 e.1)) (wanted : e.1.old_base ≡ get_or all 0 0) where
   abbrev first_member : Member
   first_member = member_for slot 0 e.1
 
@@ -337,7 +337,7 @@ all_placed next later more t slot r all distinct within sound new (base ∷ want
     let frame = first_free_some t.puddles 0 (t.frames - 0) e.0 placed.0 in
     let frame_high = frame.high in
     let no_base = base_given t [] base e.1.base placed.1 in
-    let is_made : IsMade t slot e.0 r (member_for slot 0 e.1) = record {
+    let is_made : IsPoolMade t slot e.0 r (member_for slot 0 e.1) = record {
       slot_below = new.slot_below;
       slot_free = new.slot_free;
       frame_below = omega arith;

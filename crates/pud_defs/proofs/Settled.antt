@@ -12,7 +12,7 @@ use Rattle.pud_defs.specs.Replay.{overwritten, value_from, value_in, new_value}
 use Rattle.pud_defs.specs.Spaces.{Owner, owner_of}
 use Rattle.pud_defs.specs.Tables.{Tables, tables_of}
 use Rattle.pud_defs.specs.Allowed.{puddle_word, is_allowed_log}
-use Rattle.pud_defs.specs.Settled.{gives_to, ALL_LOGS, client_of_log, log_number_at, given_by_log, given_in_turn, is_in_logs, beside_logs, settled_over, AreDisjoint, given_but, given_by_others, alone, IsApart, IsBeside}
+use Rattle.pud_defs.specs.Settled.{gives_to, ALL_LOGS, client_of_log, log_number_at, given_by_log, given_in_turn, is_in_logs, beside_logs, settled_over, AreDisjoint, given_but, given_by_others, log_alone, IsApart, IsBeside}
 use Rattle.pud_defs.proofs.Keyed.{or_none}
 use Rattle.pud_defs.proofs.Spaces.{log_of-within}
 use Rattle.pud_defs.proofs.Replay.{value_at-apart, new_value-closed, new_value-nowhere, overwritten-nothing}
@@ -150,18 +150,18 @@ module _ (F number : ℕ) (image : Image) (below : number < ALL_LOGS) (apart : I
   only_it w none = given_in_turn-one given 0 ALL_LOGS number w (omega arith) (omega arith)
       (λ j low high other. sym (but_other number given j w other) ∙ given_in_turn-none_each (given_but number given) 0 ALL_LOGS w none j low high)
 
-  each_word : (w : ℕ) → overwritten (given_in_turn given 0 ALL_LOGS) image w ≡ overwritten (given_by_others F image number) (alone F number image) w
+  each_word : (w : ℕ) → overwritten (given_in_turn given 0 ALL_LOGS) image w ≡ overwritten (given_by_others F image number) (log_alone F number image) w
   each_word w = elim (apart.each w) [
     | inl none ↦
         ap (λ o. unwrap_or o (image w)) (without_it w none)
         ∙ ap (λ (v : ℕ). unwrap_or (given_by_others F image number w) v) (sym (ap (λ o. unwrap_or o (image w)) none))
     | inr none ↦
         ap (λ o. unwrap_or o (image w)) (only_it w none)
-        ∙ sym (ap (λ o. unwrap_or o (alone F number image w)) none)
+        ∙ sym (ap (λ o. unwrap_or o (log_alone F number image w)) none)
   ]
 
   -- what the others give is written over what it leaves alone
-  pub settled_over-alone : settled_over F image ≡ beside_logs F (overwritten (given_by_others F image number) (alone F number image))
+  pub settled_over-alone : settled_over F image ≡ beside_logs F (overwritten (given_by_others F image number) (log_alone F number image))
   unfolding settled_over
   settled_over-alone = λ p w. beside_logs F (λ k. each_word k p) w
 

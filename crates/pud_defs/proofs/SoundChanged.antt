@@ -17,7 +17,7 @@ use Rattle.pud_defs.specs.SoundTables.{is_sound_pool, has_legal_pools, has_disti
 use Rattle.pud_defs.specs.Puts.{changed_at, with_pool_at, is_of_pool, without_pool_at}
 use Rattle.pud_defs.proofs.Spaces.{all_below-from, all_below-each}
 use Rattle.pud_defs.proofs.Keyed.{HasDistinctKeys, HasDistinctKeys-keys, HasDistinctKeys-fewer, HasDistinctKeys-set, HasDistinctKeys-one, distinct_keys, are_distinct_keys, is_free_for, first_from_none_each}
-use Rattle.pud_defs.proofs.PoolsChanged.{changed_here, changed_elsewhere, IsMade, made, puddles_of-pool, puddles_of-dropped, puddles_of-made, puddles_elsewhere, new_elsewhere, not_of}
+use Rattle.pud_defs.proofs.PoolsChanged.{changed_here, changed_elsewhere, IsPoolMade, made, puddles_of-pool, puddles_of-dropped, puddles_of-made, puddles_elsewhere, new_elsewhere, not_of}
 
 -- ---- the test and its parts
 
@@ -243,7 +243,7 @@ pub record IsAdded (later : ℕ) (t : Tables) (r : PoolRecord) (m : Member) : Ty
   pub first : m.ordinal ≡ 0
   pub new_base : first_from nat_cmp m.puddle.base (bases t) 0 t.frames ≡ None
 
-module _ (next later : ℕ) (more : next ≤ later) (t : Tables) (slot frame : ℕ) (r : PoolRecord) (m : Member) (sound : HasSoundTables next t) (h : IsMade t slot frame r m) (added : IsAdded later t r m) where
+module _ (next later : ℕ) (more : next ≤ later) (t : Tables) (slot frame : ℕ) (r : PoolRecord) (m : Member) (sound : HasSoundTables next t) (h : IsPoolMade t slot frame r m) (added : IsAdded later t r m) where
   legal_made : (s : ℕ) → s < POOL_RECORDS → is_sound_pool later (changed_at slot (Some r) t.pools s) ≡ true
   legal_made s below = elim (cases_eq s slot) [
     | inl e ↦ ap (is_sound_pool later) (cond-true (eqb s slot) (Some r) (t.pools s) (eq-eqb s slot e)) ∙ added.pool

@@ -11,7 +11,7 @@ use Rattle.pud_defs.specs.declared.machine.Refusal.TheVariants as refusals
 use Rattle.pud_defs.specs.Types.{map_of}
 use Rattle.pud_defs.specs.Spaces.{Owner}
 use Rattle.pud_defs.specs.World.{World}
-use Rattle.pud_defs.specs.PoolChanges.{pools_read, with_type_defined}
+use Rattle.pud_defs.specs.PoolChanges.{reread_pools, with_type_defined}
 use Rattle.pud_defs.specs.declared.objects.FieldValue.{FieldValue}
 use Rattle.pud_defs.specs.declared.objects.FieldValue.TheVariants.{Num, Ref}
 use Rattle.pud_defs.specs.Step.{Answer, is_other, is_clash, is_full, cause_holds, refusal_of, after, text_for, value_for, value_or_ok, text_or, answer, answer_unless, answer_by, world_by, unless_refused}
@@ -48,10 +48,10 @@ pub define-new : (w : World) (id map : ℕ) → map_of id w.stored.types ≡ Non
 define-new w id map e h = refused_by w id map None false e (lt-leb TYPE_RECORDS _ h)
 
 -- a definition that stands leaves the world
-pub after-same : (w : World) (id map : ℕ) → T (is_sorted nat_cmp w.stored.types) → pools_read w.stored.types w.stored.pools ≡ w.stored.pools → map_of id w.stored.types ≡ Some map → after w (Define id map) ≡ w
+pub after-same : (w : World) (id map : ℕ) → T (is_sorted nat_cmp w.stored.types) → reread_pools w.stored.types w.stored.pools ≡ w.stored.pools → map_of id w.stored.types ≡ Some map → after w (Define id map) ≡ w
 unfolding after with_type_defined
 after-same w id map sorted read e =
-    ap (λ types. record w { stored = record w.stored { types = types; pools = pools_read types w.stored.pools } }) (with_type-same id map w.stored.types sorted e)
+    ap (λ types. record w { stored = record w.stored { types = types; pools = reread_pools types w.stored.pools } }) (with_type-same id map w.stored.types sorted e)
     ∙ ap (λ pools. record w { stored = record w.stored { pools = pools } }) read
 
 -- ---- clients

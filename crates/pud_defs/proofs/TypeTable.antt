@@ -4,7 +4,7 @@ use Rattle.std.proofs.lemmas.Bool.{cases_eq, cond-true, cond-false, and_parts, a
 use Rattle.std.proofs.lemmas.Cmp.{nat_cmp_total}
 use Rattle.std.proofs.lemmas.Option.{none-some}
 use Rattle.pud_defs.specs.declared.layout.TheConstants.{TYPE_RECORDS}
-use Rattle.pud_defs.specs.Image.{Image, written}
+use Rattle.pud_defs.specs.Image.{Image, image_with}
 use Rattle.pud_defs.specs.TypeMap.{is_legal_map, is_legal_type_id}
 use Rattle.pud_defs.specs.Spaces.{all_below}
 use Rattle.pud_defs.specs.Keyed.{under, are_distinct}
@@ -71,26 +71,26 @@ type_at-same i j n id map = ap₂ type_by id map
 -- ---- writing a free record
 
 -- a word of record r changes no other record
-pub type_at-other : (image : Image) (r w v n : ℕ) → type_record_at r ≤ w → w < type_record_at (r + 1) → (n ≡ r → ⊥) → type_at (written w v image) n ≡ type_at image n
+pub type_at-other : (image : Image) (r w v n : ℕ) → type_record_at r ≤ w → w < type_record_at (r + 1) → (n ≡ r → ⊥) → type_at (image_with w v image) n ≡ type_at image n
 type_at-other image r w v n low high other =
-    type_at-same image (written w v image) n
+    type_at-same image (image_with w v image) n
     (written_other w v image (type_record_at n) (λ e. other (omega arith)))
     (written_other w v image (type_record_at n + 1) (λ e. other (omega arith)))
 
 -- the map word of a free record is not read
-pub type_at-map_written : (image : Image) (r v n : ℕ) → image (type_record_at r) ≡ 0 → type_at (written (type_record_at r + 1) v image) n ≡ type_at image n
+pub type_at-map_written : (image : Image) (r v n : ℕ) → image (type_record_at r) ≡ 0 → type_at (image_with (type_record_at r + 1) v image) n ≡ type_at image n
 type_at-map_written image r v n free =
     let w = type_record_at r + 1 in
     ⊎_elim
-    (λ here. let still : written w v image (type_record_at n) ≡ 0 = written_other w v image (type_record_at n) (λ e. absurd (omega arith)) ∙ ap (λ k. image (type_record_at k)) here ∙ free in
-    type_at-free (written w v image) n still ∙ sym (type_at-free image n (ap (λ k. image (type_record_at k)) here ∙ free)))
+    (λ here. let still : image_with w v image (type_record_at n) ≡ 0 = written_other w v image (type_record_at n) (λ e. absurd (omega arith)) ∙ ap (λ k. image (type_record_at k)) here ∙ free in
+    type_at-free (image_with w v image) n still ∙ sym (type_at-free image n (ap (λ k. image (type_record_at k)) here ∙ free)))
     (λ other. type_at-other image r w v n (omega arith) (omega arith) other)
     (cases_eq n r)
 
 -- its id word puts the type in its place, where no record has the id
 module _ (image : Image) (r id map : ℕ) (within : r < TYPE_RECORDS) (above : 0 < id) (free : image (type_record_at r) ≡ 0) (there : image (type_record_at r + 1) ≡ map) (missing : map_of id (types_of image) ≡ None) where
   abbrev now : Image
-  now = written (type_record_at r) id image
+  now = image_with (type_record_at r) id image
 
   type_now : type_at now r ≡ Some (id, map)
   type_now =

@@ -8,7 +8,7 @@ use Rattle.std.proofs.lemmas.Bool.{cases_eq, cond-true, cond-false, and_parts}
 use Rattle.std.proofs.lemmas.Bool.Decides.{nat_tests}
 use Rattle.std.proofs.lemmas.Cmp.{nat_cmp_total}
 use Rattle.pud_defs.specs.declared.layout.TheConstants.{TYPE_RECORDS}
-use Rattle.pud_defs.specs.Image.{Image, written}
+use Rattle.pud_defs.specs.Image.{Image, image_with}
 use Rattle.pud_defs.specs.TypeMap.{is_legal_map, is_legal_type_id}
 use Rattle.pud_defs.specs.Keyed.{first_free}
 use Rattle.pud_defs.specs.Types.{type_record_at, type_at, map_of, with_type, is_sound_type}
@@ -27,20 +27,20 @@ use Rattle.pud_defs.proofs.Definitions.{standing-map_written, standing-id_writte
 
 -- ---- the record of a type
 
-put_word : (n id map : ℕ) (image : Image) (k : ℕ) → with_put (type_put n id map) image k ≡ written (type_record_at n) id (written (type_record_at n + 1) map image) k
+put_word : (n id map : ℕ) (image : Image) (k : ℕ) → with_put (type_put n id map) image k ≡ image_with (type_record_at n) id (image_with (type_record_at n + 1) map image) k
 put_word n id map image k =
     let at = type_record_at n in
     elim (cases_eq k at) [
       | inl first ↦
           with_put-inside (type_put n id map) image k 0 (omega arith) (omega arith)
-          ∙ sym (cond-true (eqb k at) id (written (at + 1) map image k) (eq-eqb k at first))
+          ∙ sym (cond-true (eqb k at) id (image_with (at + 1) map image k) (eq-eqb k at first))
       | inr not_first ↦ elim (cases_eq k (at + 1)) [
         | inl second ↦
             with_put-inside (type_put n id map) image k 1 second (omega arith)
-            ∙ sym (written_other at id (written (at + 1) map image) k not_first ∙ cond-true (eqb k (at + 1)) map (image k) (eq-eqb k (at + 1) second))
+            ∙ sym (written_other at id (image_with (at + 1) map image) k not_first ∙ cond-true (eqb k (at + 1)) map (image k) (eq-eqb k (at + 1) second))
         | inr other ↦
             with_put-outside (type_put n id map) image k (λ low high. absurd (between k at low high not_first other))
-            ∙ sym (written_other at id (written (at + 1) map image) k not_first ∙ written_other (at + 1) map image k other)
+            ∙ sym (written_other at id (image_with (at + 1) map image) k not_first ∙ written_other (at + 1) map image k other)
       ]
     ]
   where
@@ -48,7 +48,7 @@ put_word n id map image k =
     between k at low high first second = elim (cases_eq k at) [ inl same ↦ first same | inr other ↦ second (omega arith) ]
 
 -- its two words are written, the map first
-pub type_put_made : (n id map : ℕ) (image : Image) → with_put (type_put n id map) image ≡ written (type_record_at n) id (written (type_record_at n + 1) map image)
+pub type_put_made : (n id map : ℕ) (image : Image) → with_put (type_put n id map) image ≡ image_with (type_record_at n) id (image_with (type_record_at n + 1) map image)
 type_put_made n id map image = λ p k. put_word n id map image k p
 
 -- in a free record it defines the type
@@ -58,7 +58,7 @@ standing-type_put size image s n id map stands within none legal_id legal_map mi
     let free = free_word image n none in
     let at = type_record_at n in
     subst (λ (i : Image). StandsFor size i (with_type_defined id map s)) (sym (type_put_made n id map image))
-    (standing-id_written size (written (at + 1) map image) s n id map (standing-map_written size image s n map stands within free) within
+    (standing-id_written size (image_with (at + 1) map image) s n id map (standing-map_written size image s n map stands within free) within
     (written_other (at + 1) map image at (λ e. absurd (omega arith)) ∙ free) (written_there (at + 1) map image) legal_id legal_map missing)
 
 -- ---- types that are new

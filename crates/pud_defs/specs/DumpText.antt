@@ -18,14 +18,14 @@ joined (text ∷ texts) = text ++ joined_behind texts
 abbrev pub pointer_text : (serial : ℕ) → List ℕ
 pointer_text s = cond (s == 0) (codes "null") (codes "\"@" ++ (decimal s ++ codes "\""))
 
-abbrev pub field_text : FieldValue → List ℕ
-field_text (Num v) = decimal v
-field_text (Ref s) = pointer_text s
+abbrev pub value_text : FieldValue → List ℕ
+value_text (Num v) = decimal v
+value_text (Ref s) = pointer_text s
 
 -- an object under its serial: `{"fields":[..],"serial":s,"type":t}`
 abbrev pub object_text : ℕ × Object → List ℕ
 object_text e =
-    codes "{\"fields\":[" ++ (joined (map field_text e.1.fields)
+    codes "{\"fields\":[" ++ (joined (map value_text e.1.fields)
     ++ (codes "],\"serial\":" ++ (decimal e.0 ++ (codes ",\"type\":" ++ (decimal e.1.type_id ++ codes "}")))))
 
 -- `{"next":n,"objects":[..],"root":r}`, the objects by ascending serials

@@ -64,8 +64,8 @@ abbrev pub entry_by : ℕ → ℕ → List ℕ → Entry
 entry_by address word rest = record { address = address; seq = entry_seq word; order = entry_order word; vals = take (entry_n word) rest }
 
 -- an entry in front of others, where its second word is legal
-abbrev pub with_entry : ℕ → ℕ → List ℕ → Option (List Entry) → Option (List Entry)
-with_entry address word rest others = cond (is_legal_entry_word word) (option_map (λ es. entry_by address word rest ∷ es) others) None
+abbrev pub entry_and_rest : ℕ → ℕ → List ℕ → Option (List Entry) → Option (List Entry)
+entry_and_rest address word rest others = cond (is_legal_entry_word word) (option_map (λ es. entry_by address word rest ∷ es) others) None
 
 -- the entries that words spell wholly, behind so many values that are still to be passed over
 unfoldable pub entries_in : ℕ → List ℕ → Option (List Entry)
@@ -73,7 +73,7 @@ entries_in zero [] = Some []
 entries_in (suc n) [] = None
 entries_in (suc n) (w ∷ ws) = entries_in n ws
 entries_in zero (address ∷ []) = None
-entries_in zero (address ∷ word ∷ rest) = with_entry address word rest (entries_in (entry_n word) rest)
+entries_in zero (address ∷ word ∷ rest) = entry_and_rest address word rest (entries_in (entry_n word) rest)
 
 -- the entry at the front of words, where they begin with one
 unfoldable pub first_entry : List ℕ → Option Entry

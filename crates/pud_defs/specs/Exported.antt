@@ -51,9 +51,9 @@ exported_slot types st p =
 
 -- ---- frames
 
-abbrev pub number_in : Option Puddle → ℕ
-number_in None = 0
-number_in (Some d) = d.number
+abbrev pub uuid_number_of : Option Puddle → ℕ
+uuid_number_of None = 0
+uuid_number_of (Some d) = d.number
 
 -- a word that ordinal 0 alone has
 abbrev pub for_pool : (ordinal v : ℕ) → ℕ
@@ -61,7 +61,7 @@ for_pool o v = cond (o == 0) v 0
 
 unfoldable pub exported_header : Stored → (ordinal : ℕ) → List ℕ
 exported_header st o =
-    FRAME_MAGIC ∷ number_in (slice_get st.puddles o) ∷ o ∷ for_pool o (next_serial_of st) ∷ for_pool o (address_of st.puddles (root_of st))
+    FRAME_MAGIC ∷ uuid_number_of (slice_get st.puddles o) ∷ o ∷ for_pool o (next_serial_of st) ∷ for_pool o (address_of st.puddles (root_of st))
     ∷ replicate (FRAME_HEADER_WORDS - 5) 0
 
 unfoldable pub exported_frame : List (ℕ × ℕ) → Stored → (ordinal : ℕ) → List ℕ

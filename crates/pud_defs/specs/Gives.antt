@@ -31,14 +31,14 @@ abbrev pub contents_for : List (ℕ × ℕ) → (puddles : ℕ) → Graph → Fi
 contents_for types puddles g = record { types = types_used types g; puddles = puddles; graph = g }
 
 -- the same of a pool that is there and not wild
-abbrev pub contents_held : List (ℕ × ℕ) → Option Pool → Option FileContents
-contents_held types None = None
-contents_held types (Some pool) = option_map (contents_for types pool.puddles) (graph_held pool.holding)
+abbrev pub contents_of_pool : List (ℕ × ℕ) → Option Pool → Option FileContents
+contents_of_pool types None = None
+contents_of_pool types (Some pool) = option_map (contents_for types pool.puddles) (graph_held pool.holding)
 
 -- The file of this name was replaced by one that holds the pool of the other name: any bytes that do.
 pub record Exports (w : World) (name file : List ℕ) (shelf : Shelf) : Type 0 where
   pub contents : FileContents
-  pub held : contents_held w.stored.types (pool_named name w.stored) ≡ Some contents
+  pub held : contents_of_pool w.stored.types (pool_named name w.stored) ≡ Some contents
   pub bytes : List ℕ
   pub holds : file_graph bytes ≡ Some contents
   pub given : shelf ≡ with_file file bytes w.shelf

@@ -31,8 +31,8 @@ abbrev pub value_behind : ℕ → List ℕ → ℕ
 value_behind above bytes = fold (λ v b. v * 10 + (b - 48)) above bytes
 
 -- a number: decimal digits, no sign, no leading zero but `0` itself
-unfoldable pub number_of : List ℕ → Option ℕ
-number_of bytes = cond (begins_as_number bytes && list_all is_digit bytes) (Some (value_behind 0 bytes)) None
+unfoldable pub decimal_of : List ℕ → Option ℕ
+decimal_of bytes = cond (begins_as_number bytes && list_all is_digit bytes) (Some (value_behind 0 bytes)) None
 
 -- the number, where it lies from `least` to below `end`
 abbrev pub in_range : ℕ → ℕ → ℕ → Option ℕ
@@ -40,7 +40,7 @@ in_range least end n = cond (nat_le least n && nat_lt n end) (Some n) None
 
 -- the number that the bytes are, where it lies from `least` to below `end`
 abbrev pub number_within : ℕ → ℕ → List ℕ → Option ℕ
-number_within least end bytes = option_and_then (in_range least end) (number_of bytes)
+number_within least end bytes = option_and_then (in_range least end) (decimal_of bytes)
 
 -- field numbers from `least` to below n, strictly ascending
 unfoldable pub fields_from : ℕ → ℕ → List (List ℕ) → Option (List ℕ)
@@ -63,8 +63,8 @@ owner_id bytes = number_within 0 (MAX_OWNER_ID + 1) bytes
 abbrev pub type_id : List ℕ → Option ℕ
 type_id bytes = number_within 1 (MAX_TYPE_ID + 1) bytes
 
-abbrev pub field_count : List ℕ → Option ℕ
-field_count bytes = number_within 1 (MAX_FIELDS + 1) bytes
+abbrev pub field_total : List ℕ → Option ℕ
+field_total bytes = number_within 1 (MAX_FIELDS + 1) bytes
 
 -- the map word of a type of n fields, by the list of its pointers
 abbrev pub listed_map : ℕ → List ℕ → Option ℕ
@@ -80,13 +80,13 @@ abbrev pub is_mode_digit : ℕ → Bool
 is_mode_digit b = nat_le 48 b && nat_le b 54 && (b % 2) == 0
 
 -- the mode of three such digits
-abbrev pub mode_by : (owner group others : ℕ) → Option ℕ
-mode_by owner group others =
+abbrev pub mode_of_digits : (owner group others : ℕ) → Option ℕ
+mode_of_digits owner group others =
     cond (is_mode_digit owner && is_mode_digit group && is_mode_digit others) (Some ((owner - 48) * 64 + (group - 48) * 8 + (others - 48))) None
 
 -- the mode of a pool: three digits, for the owner, the group and others
 unfoldable pub pool_mode : List ℕ → Option ℕ
-pool_mode (owner ∷ group ∷ others ∷ []) = mode_by owner group others
+pool_mode (owner ∷ group ∷ others ∷ []) = mode_of_digits owner group others
 pool_mode bytes = None
 
 -- how many rewriting steps: at most as many as a pool can have
@@ -120,9 +120,9 @@ unfoldable pub field_place : List ℕ → Option (ℕ × ℕ)
 field_place bytes = field_by (split_at 46 bytes)
 
 -- the value of a field: a number, or `@` and the serial of an object, 0 for null, each in 64 bits
-unfoldable pub field_value : List ℕ → Option FieldValue
-field_value [] = None
-field_value (b ∷ bytes) = cond (b == 64) (option_map Ref (word_number bytes)) (option_map Num (word_number (b ∷ bytes)))
+unfoldable pub value_named : List ℕ → Option FieldValue
+value_named [] = None
+value_named (b ∷ bytes) = cond (b == 64) (option_map Ref (word_number bytes)) (option_map Num (word_number (b ∷ bytes)))
 
 -- the command that the arguments of a line are
 abbrev pub Parser : Type 0
@@ -148,7 +148,7 @@ leave_by arguments = taking client_number (λ client. at_end (Leave client)) arg
 
 -- `type T n list`
 unfoldable pub define_by : Parser
-define_by arguments = taking type_id (λ id. taking field_count (λ n. taking (listed_map n) (λ map. at_end (Define id map)))) arguments
+define_by arguments = taking type_id (λ id. taking field_total (λ n. taking (listed_map n) (λ map. at_end (Define id map)))) arguments
 
 -- `pool C P mode`
 unfoldable pub pool_line_by : Parser
@@ -180,12 +180,12 @@ new_by arguments = taking client_number (λ client. taking pool_name (λ name. t
 
 -- `set C P o.f x`
 unfoldable pub set_by : Parser
-set_by arguments = taking client_number (λ client. taking pool_name (λ name. taking field_place (λ field. taking field_value (λ x. at_end (Set client name field.0 field.1 x))))) arguments
+set_by arguments = taking client_number (λ client. taking pool_name (λ name. taking field_place (λ field. taking value_named (λ x. at_end (Set client name field.0 field.1 x))))) arguments
 
 -- `later C P o.f x`
 unfoldable pub later_by : Parser
 later_by arguments =
-    taking client_number (λ client. taking pool_name (λ name. taking field_place (λ field. taking field_value (λ x. at_end (Later client name field.0 field.1 x))))) arguments
+    taking client_number (λ client. taking pool_name (λ name. taking field_place (λ field. taking value_named (λ x. at_end (Later client name field.0 field.1 x))))) arguments
 
 -- `root C P o`, where o may be 0
 unfoldable pub root_by : Parser

@@ -7,8 +7,8 @@ abbrev pub Image : Type 0
 Image = ℕ → ℕ
 
 -- the image with word w holding v
-abbrev pub written : ℕ → ℕ → Image → Image
-written w v image = λ k. cond (k == w) v (image k)
+abbrev pub image_with : ℕ → ℕ → Image → Image
+image_with w v image = λ k. cond (k == w) v (image k)
 
 -- the two images hold the same in each word below the end
 pub record IsSameBelow (end : ℕ) (i j : Image) : Type 0 where

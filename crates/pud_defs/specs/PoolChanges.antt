@@ -78,13 +78,13 @@ without_pool name s = record s { pools = without name_cmp name s.pools }
 -- ---- a type is defined
 
 -- the pool as these types read it
-abbrev pub read_by : List (ℕ × ℕ) → Pool → Pool
-read_by types p = record p { holding = read_anew types p.holding }
+abbrev pub reread_pool : List (ℕ × ℕ) → Pool → Pool
+reread_pool types p = record p { holding = read_anew types p.holding }
 
 -- the pools as these types read them
-abbrev pub pools_read : List (ℕ × ℕ) → List (List ℕ × Pool) → List (List ℕ × Pool)
-pools_read types pools = map (λ e. (e.0, read_by types e.1)) pools
+abbrev pub reread_pools : List (ℕ × ℕ) → List (List ℕ × Pool) → List (List ℕ × Pool)
+reread_pools types pools = map (λ e. (e.0, reread_pool types e.1)) pools
 
 -- the world with a type defined, which may make a graph of what a wild pool holds
 unfoldable pub with_type_defined : (id map : ℕ) → StoredWorld → StoredWorld
-with_type_defined id map s = let types = with_type id map s.types in record s { types = types; pools = pools_read types s.pools }
+with_type_defined id map s = let types = with_type id map s.types in record s { types = types; pools = reread_pools types s.pools }

@@ -40,8 +40,8 @@ abbrev pub has_legal_spaces : Image → Bool
 has_legal_spaces image = are_legal_spaces image
 
 -- each log of a registered log space is closed
-abbrev pub has_closed_logs : Image → Bool
-has_closed_logs image = are_closed_logs image (frames_of image)
+abbrev pub has_all_logs_closed : Image → Bool
+has_all_logs_closed image = are_closed_logs image (frames_of image)
 
 -- what an image with nothing to replay holds is a sound registry, on a device of so many words: the clients' logs play no part
 unfoldable pub is_registry : ℕ → Image → Bool
@@ -51,7 +51,7 @@ is_registry size image =
 
 -- the same, where each registered log is closed besides
 unfoldable pub is_idle_registry : ℕ → Image → Bool
-is_idle_registry size image = is_registry size image && has_closed_logs image
+is_idle_registry size image = is_registry size image && has_all_logs_closed image
 
 -- so many words from a word on lie wholly where the daemon log may write: the next number, the tables from that of the types on, the frames
 abbrev pub may_be_logged : ℕ → ℕ → ℕ → Bool
@@ -59,17 +59,17 @@ may_be_logged F at n =
     (at == NEXT_NUMBER_WORD && n == 1) || (nat_le TYPE_TABLE at && nat_le (at + n) (tables_end F)) || (nat_le (frames_at F) at && nat_le (at + n) (device_words F))
 
 -- the entry is out of range, or lies there
-abbrev pub is_allowed : ℕ → Log → Entry → Bool
-is_allowed F log e = not (is_in_range log e) || may_be_logged F e.address (length e.vals)
+abbrev pub is_loggable : ℕ → Log → Entry → Bool
+is_loggable F log e = not (is_in_range log e) || may_be_logged F e.address (length e.vals)
 
 -- all entries are there, and allowed
-abbrev pub are_allowed : ℕ → Log → Option (List Entry) → Bool
-are_allowed F log None = false
-are_allowed F log (Some es) = list_all (is_allowed F log) es
+abbrev pub are_loggable : ℕ → Log → Option (List Entry) → Bool
+are_loggable F log None = false
+are_loggable F log (Some es) = list_all (is_loggable F log) es
 
 -- the daemon log is well formed, and its entries in range lie where they may
 unfoldable pub has_legal_log : Image → Bool
-has_legal_log image = are_allowed (frames_of image) (log_of image DAEMON_LOG) (log_of image DAEMON_LOG).entries
+has_legal_log image = are_loggable (frames_of image) (log_of image DAEMON_LOG) (log_of image DAEMON_LOG).entries
 
 -- the image of a device of so many words is a sound registry, once the daemon log is replayed
 unfoldable pub is_sound : ℕ → Image → Bool

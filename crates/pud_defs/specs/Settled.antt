@@ -76,8 +76,8 @@ abbrev pub given_by_others : (F : ℕ) → Image → (number w : ℕ) → Option
 given_by_others F image number w = given_in_turn (given_but number (given_by_log F image)) 0 ALL_LOGS w
 
 -- the image with that one log replayed
-abbrev pub alone : (F number : ℕ) → Image → Image
-alone F number image = overwritten (given_by_log F image number) image
+abbrev pub log_alone : (F number : ℕ) → Image → Image
+log_alone F number image = overwritten (given_by_log F image number) image
 
 -- each word is given by this log not at all, or by no other
 pub record IsApart (F number : ℕ) (image : Image) : Type 0 where

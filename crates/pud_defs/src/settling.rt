@@ -9,7 +9,7 @@ ghost use Rattle.pud_defs.specs.Replay.{overwritten, settled_by};
 ghost use Rattle.pud_defs.specs.Spaces.{Owner, owner_of};
 ghost use Rattle.pud_defs.specs.Tables.{Tables};
 ghost use Rattle.pud_defs.specs.Allowed.{is_allowed_log};
-ghost use Rattle.pud_defs.specs.Settled.{gives_to, ALL_LOGS, given_by_log, given_by_others, alone, is_in_logs, beside_logs, settled_over, is_refused_log, AreDisjoint, IsApart, IsBeside};
+ghost use Rattle.pud_defs.specs.Settled.{gives_to, ALL_LOGS, given_by_log, given_by_others, log_alone, is_in_logs, beside_logs, settled_over, is_refused_log, AreDisjoint, IsApart, IsBeside};
 ghost use Rattle.pud_defs.specs.Registry.{frames_of, is_sound};
 ghost use Rattle.pud_defs.specs.World.{StoredWorld, world_of, idle_world_of};
 
@@ -38,7 +38,7 @@ pub fn word_of_no_log_keeps_its_value()
 /// What the others give is written over what one log leaves alone, where it gives no word that another gives.
 pub fn one_log_settles_beside_the_others()
     ensures { (F : ℕ) (number : ℕ) (image : Image) → number < ALL_LOGS → IsApart F number image
-        → settled_over F image ≡ beside_logs F (overwritten (given_by_others F image number) (alone F number image)) }
+        → settled_over F image ≡ beside_logs F (overwritten (given_by_others F image number) (log_alone F number image)) }
 {}
 
 /// Images that agree on the tables, and on all logs but one, have the same from these logs: they settle the same but for the

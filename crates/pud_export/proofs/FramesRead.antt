@@ -13,7 +13,7 @@ use Rattle.pud_defs.specs.Frames.{frame_word}
 use Rattle.pud_defs.specs.Graph.{pointee_at, next_serial_of, root_of}
 use Rattle.pud_defs.specs.Image.{Image}
 use Rattle.pud_defs.specs.Stored.{Stored, stored_in}
-use Rattle.pud_defs.specs.Exported.{address_of, number_in, exported_slot, exported_header, exported_frame}
+use Rattle.pud_defs.specs.Exported.{address_of, uuid_number_of, exported_slot, exported_header, exported_frame}
 use Rattle.puddle_header.proofs.Placed.{stored_word}
 use Rattle.graph_read.specs.Checking.{content_of}
 use Rattle.graph_read.specs.Reading.{pointee_of}
@@ -55,8 +55,8 @@ frames_more frame n before so_far now is step =
 -- ---- headers
 
 module _ (F : ℕ) (at : List (ℕ × Puddle)) (image : Image) (o : ℕ) (e : ℕ × Puddle) (within : o < length at) where
-  number_read : (get_or at o e).1.number ≡ number_in (slice_get (stored_in F at image).puddles o)
-  number_read = sym (ap number_in (slice_get-map (λ (e : ℕ × Puddle). e.1) at o ∙ ap (option_map (λ (e : ℕ × Puddle). e.1)) (slice_get-get_or at o e within)))
+  number_read : (get_or at o e).1.number ≡ uuid_number_of (slice_get (stored_in F at image).puddles o)
+  number_read = sym (ap uuid_number_of (slice_get-map (λ (e : ℕ × Puddle). e.1) at o ∙ ap (option_map (λ (e : ℕ × Puddle). e.1)) (slice_get-get_or at o e within)))
 
   -- a word of a header
   pub header_word : (k v : ℕ) → k < FRAME_WORDS → v ≡ frame_word F (get_or at o e).0 k image → v ≡ (stored_in F at image).word o k
@@ -69,7 +69,7 @@ module _ (F : ℕ) (at : List (ℕ × Puddle)) (image : Image) (o : ℕ) (e : �
       let st = stored_in F at image in
       let apart = sym (ne_eqb o 0 other) in
       ap (λ (number : ℕ). FRAME_MAGIC ∷ number ∷ o ∷ 0 ∷ 0 ∷ replicate (FRAME_HEADER_WORDS - 5) 0) number_read
-      ∙ ap (λ b. FRAME_MAGIC ∷ number_in (slice_get st.puddles o) ∷ o ∷ cond b (next_serial_of st) 0 ∷ cond b (address_of st.puddles (root_of st)) 0 ∷ replicate (FRAME_HEADER_WORDS - 5) 0) apart
+      ∙ ap (λ b. FRAME_MAGIC ∷ uuid_number_of (slice_get st.puddles o) ∷ o ∷ cond b (next_serial_of st) 0 ∷ cond b (address_of st.puddles (root_of st)) 0 ∷ replicate (FRAME_HEADER_WORDS - 5) 0) apart
 
 -- of ordinal 0
 pub header-first : (F : ℕ) (at : List (ℕ × Puddle)) (image : Image) (e : ℕ × Puddle) (next root : ℕ) → 0 < length at → next ≡ next_serial_of (stored_in F at image)
@@ -78,7 +78,7 @@ pub header-first : (F : ℕ) (at : List (ℕ × Puddle)) (image : Image) (e : �
 unfolding exported_header
 header-first F at image e next root some is_next is_root =
     ap (λ (number : ℕ). FRAME_MAGIC ∷ number ∷ 0 ∷ next ∷ root ∷ replicate (FRAME_HEADER_WORDS - 5) 0) (number_read F at image 0 e some)
-    ∙ ap₂ (λ (n r : ℕ). FRAME_MAGIC ∷ number_in (slice_get (stored_in F at image).puddles 0) ∷ 0 ∷ n ∷ r ∷ replicate (FRAME_HEADER_WORDS - 5) 0) is_next is_root
+    ∙ ap₂ (λ (n r : ℕ). FRAME_MAGIC ∷ uuid_number_of (slice_get (stored_in F at image).puddles 0) ∷ 0 ∷ n ∷ r ∷ replicate (FRAME_HEADER_WORDS - 5) 0) is_next is_root
 
 -- what was read of the root pointer
 pub root_read : (st : Stored) (v : ℕ) (pointee : Option Pointee) → v ≡ st.word 0 ROOT_WORD → pointee ≡ pointee_of (pointee_at st.puddles 0 0 v) → address_of st.puddles (content_of pointee) ≡ address_of st.puddles (root_of st)

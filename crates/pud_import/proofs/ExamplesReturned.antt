@@ -6,7 +6,7 @@ use Rattle.pud_defs.specs.Spaces.{owner}
 use Rattle.pud_defs.specs.World.{World, nothing_open, blank_world}
 use Rattle.pud_defs.specs.PoolChanges.{pool_named}
 use Rattle.pud_defs.specs.Step.{contents_named, refusal_of, after}
-use Rattle.pud_defs.specs.Gives.{contents_held}
+use Rattle.pud_defs.specs.Gives.{contents_of_pool}
 use Rattle.pud_defs.proofs.Opened.{opened}
 use Rattle.pud_defs.proofs.ExamplesTransactions.{name_of}
 use Rattle.pud_defs.proofs.ExamplesFiles.{contents, bytes}
@@ -30,6 +30,6 @@ unfolding opened
 taken = (refl, refl)
 
 -- type 9 stays, and is none of the pool's
-without_the_other : (rewritten.stored.types ≡ types) × (contents_held rewritten.stored.types (pool_named (name_of 98) rewritten.stored) ≡ Some contents)
+without_the_other : (rewritten.stored.types ≡ types) × (contents_of_pool rewritten.stored.types (pool_named (name_of 98) rewritten.stored) ≡ Some contents)
 unfolding opened
 without_the_other = (refl, refl)

@@ -14,12 +14,12 @@ use Rattle.pud_defs.specs.Graph.{Graph, graph_of}
 use Rattle.pud_defs.specs.ExportFile.{words_in, file_words, file_type, file_puddle, file_types, file_stored, has_file_header, are_file_types, are_file_bases, is_plain, is_file, is_type_used, contents_with, contents_of, file_graph}
 use Rattle.graph_laws.proofs.UsedTypes.{is_type_used-scanned}
 use Rattle.pud_import.proofs.Spelled.{length-words_in}
-use Rattle.pud_import.specs.Contents.{file_image, types_counted, puddles_counted, types_held, stored_held, contents_held, is_used_in, is_sized, is_sound}
+use Rattle.pud_import.specs.Contents.{file_image, type_count_read, puddle_count_read, types_held, stored_held, contents_read, is_used_in, is_sized, is_sound_file}
 
 -- ---- how many bytes there are
 
 -- bytes with a header, and as many as it says
-pub sized_whole : (bytes : List ℕ) (T K : ℕ) → T ≡ types_counted bytes → K ≡ puddles_counted bytes → length bytes ≡ 8 * file_words T K → has_file_header (file_image bytes) T K ≡ true → true ≡ is_sized bytes
+pub sized_whole : (bytes : List ℕ) (T K : ℕ) → T ≡ type_count_read bytes → K ≡ puddle_count_read bytes → length bytes ≡ 8 * file_words T K → has_file_header (file_image bytes) T K ≡ true → true ≡ is_sized bytes
 sized_whole bytes T K types puddles whole header =
     let spelled = length-words_in bytes in
     sym (and_from _ _ (eq-eqb _ _ (omega arith)) (and_from _ _ (sym (ap₂ (has_file_header (file_image bytes)) types puddles) ∙ header) (eq-eqb _ _ (omega arith))))
@@ -40,13 +40,13 @@ counts words T K header =
 -- bytes of a file's size
 record HasSize (bytes : List ℕ) : Type 0 where
   whole : length bytes ≡ 8 * length (words_in bytes)
-  header : has_file_header (file_image bytes) (types_counted bytes) (puddles_counted bytes) ≡ true
-  words : length (words_in bytes) ≡ file_words (types_counted bytes) (puddles_counted bytes)
+  header : has_file_header (file_image bytes) (type_count_read bytes) (puddle_count_read bytes) ≡ true
+  words : length (words_in bytes) ≡ file_words (type_count_read bytes) (puddle_count_read bytes)
 
 size_parts : (bytes : List ℕ) → is_sized bytes ≡ true → HasSize bytes
 size_parts bytes is =
     let parts = and_parts (eqb (length bytes) (8 * length (words_in bytes))) _ is in
-    let rest = and_parts (has_file_header (file_image bytes) (types_counted bytes) (puddles_counted bytes)) _ parts.1 in
+    let rest = and_parts (has_file_header (file_image bytes) (type_count_read bytes) (puddle_count_read bytes)) _ parts.1 in
     record { whole = eqb-true _ _ parts.0; header = rest.0; words = eqb-true _ _ rest.1 }
 
 -- ---- all of it
@@ -78,12 +78,12 @@ used_by_slots types listed st g is =
     ap (λ test. list_all test listed) each
 
 -- bytes of which the size and the rest are those of a file are one
-is_file-tested : (bytes : List ℕ) → is_some (file_graph bytes) ≡ (is_sized bytes && is_sound (file_image bytes) (types_counted bytes) (puddles_counted bytes))
+is_file-tested : (bytes : List ℕ) → is_some (file_graph bytes) ≡ (is_sized bytes && is_sound_file (file_image bytes) (type_count_read bytes) (puddle_count_read bytes))
 unfolding file_graph contents_of is_file
 is_file-tested bytes =
     let words = file_image bytes in
-    let T = types_counted bytes in
-    let K = puddles_counted bytes in
+    let T = type_count_read bytes in
+    let K = puddle_count_read bytes in
     let types = types_held bytes in
     let st = stored_held bytes in
     all_tests (eqb (length bytes) (8 * length (words_in bytes))) (has_file_header words T K) (eqb (length (words_in bytes)) (file_words T K)) (are_file_types types) (are_file_bases st.puddles) (is_plain types st)
@@ -101,15 +101,15 @@ joined t types b bases p plain g graph u used is_t is_b is_p is_g is_u =
 -- ---- what is read
 
 -- bytes of a file's size are one where the rest is that of a file
-pub file_judged : (bytes own : List ℕ) (T K : ℕ) (sound : Bool) → own ≡ bytes → T ≡ types_counted bytes → K ≡ puddles_counted bytes → is_sized bytes ≡ true → sound ≡ is_sound (file_image own) T K → is_some (file_graph bytes) ≡ sound
+pub file_judged : (bytes own : List ℕ) (T K : ℕ) (sound : Bool) → own ≡ bytes → T ≡ type_count_read bytes → K ≡ puddle_count_read bytes → is_sized bytes ≡ true → sound ≡ is_sound_file (file_image own) T K → is_some (file_graph bytes) ≡ sound
 file_judged bytes own T K sound same types puddles size is =
     is_file-tested bytes
-    ∙ ap (λ b. b && is_sound (file_image bytes) (types_counted bytes) (puddles_counted bytes)) size
-    ∙ sym (is ∙ (λ i. is_sound (file_image (same i)) (types i) (puddles i)))
+    ∙ ap (λ b. b && is_sound_file (file_image bytes) (type_count_read bytes) (puddle_count_read bytes)) size
+    ∙ sym (is ∙ (λ i. is_sound_file (file_image (same i)) (types i) (puddles i)))
 
 -- others are none
 pub file_refused : (bytes : List ℕ) → is_sized bytes ≡ false → is_some (file_graph bytes) ≡ false
-file_refused bytes size = is_file-tested bytes ∙ ap (λ b. b && is_sound (file_image bytes) (types_counted bytes) (puddles_counted bytes)) size
+file_refused bytes size = is_file-tested bytes ∙ ap (λ b. b && is_sound_file (file_image bytes) (type_count_read bytes) (puddle_count_read bytes)) size
 
 -- what stands behind the header of a file
 record HasSoundWords (words : Image) (T K : ℕ) : Type 0 where
@@ -118,7 +118,7 @@ record HasSoundWords (words : Image) (T K : ℕ) : Type 0 where
   plain : is_plain (file_types words T) (file_stored words T K) ≡ true
   used : list_all (λ t. is_used_in (file_stored words T K) t.0) (file_types words T) ≡ true
 
-sound_parts : (words : Image) (T K : ℕ) → is_sound words T K ≡ true → HasSoundWords words T K
+sound_parts : (words : Image) (T K : ℕ) → is_sound_file words T K ≡ true → HasSoundWords words T K
 sound_parts words T K is =
     let used = and_parts _ _ is in
     let graph = and_parts _ _ used.0 in
@@ -128,14 +128,14 @@ sound_parts words T K is =
 
 -- of a file
 module _ (bytes : List ℕ) (is : is_some (file_graph bytes) ≡ true) where
-  tests : (is_sized bytes ≡ true) × (is_sound (file_image bytes) (types_counted bytes) (puddles_counted bytes) ≡ true)
-  tests = and_parts (is_sized bytes) (is_sound (file_image bytes) (types_counted bytes) (puddles_counted bytes)) (sym (is_file-tested bytes) ∙ is)
+  tests : (is_sized bytes ≡ true) × (is_sound_file (file_image bytes) (type_count_read bytes) (puddle_count_read bytes) ≡ true)
+  tests = and_parts (is_sized bytes) (is_sound_file (file_image bytes) (type_count_read bytes) (puddle_count_read bytes)) (sym (is_file-tested bytes) ∙ is)
 
   sized : HasSize bytes
   sized = size_parts bytes tests.0
 
-  sound : HasSoundWords (file_image bytes) (types_counted bytes) (puddles_counted bytes)
-  sound = sound_parts (file_image bytes) (types_counted bytes) (puddles_counted bytes) tests.1
+  sound : HasSoundWords (file_image bytes) (type_count_read bytes) (puddle_count_read bytes)
+  sound = sound_parts (file_image bytes) (type_count_read bytes) (puddle_count_read bytes) tests.1
 
   pub types_legal : are_file_types (types_held bytes) ≡ true
   types_legal = sound.types
@@ -143,8 +143,8 @@ module _ (bytes : List ℕ) (is : is_some (file_graph bytes) ≡ true) where
   -- what is stored can be exported as it is
   pub exportable : IsExportable (types_held bytes) (stored_held bytes)
   exportable =
-      let T = types_counted bytes in
-      let K = puddles_counted bytes in
+      let T = type_count_read bytes in
+      let K = puddle_count_read bytes in
       let header = counts (file_image bytes) T K sized.header in
       let few_types = header.few_types in
       let some = header.some in
@@ -154,13 +154,13 @@ module _ (bytes : List ℕ) (is : is_some (file_graph bytes) ≡ true) where
       record { few_types = omega arith; legal_types = sound.types; some = omega arith; few = omega arith; legal_bases = sound.bases }
 
   -- what the file holds is the graph of its frames
-  pub contents_of_file : file_graph bytes ≡ option_map (contents_held bytes) (graph_of (types_held bytes) (stored_held bytes))
+  pub contents_of_file : file_graph bytes ≡ option_map (contents_read bytes) (graph_of (types_held bytes) (stored_held bytes))
   unfolding file_graph contents_of is_file
   contents_of_file =
       let types = types_held bytes in
       let st = stored_held bytes in
-      let K = puddles_counted bytes in
-      let file : is_file (file_image bytes) (length (words_in bytes)) (types_counted bytes) K ≡ true =
+      let K = puddle_count_read bytes in
+      let file : is_file (file_image bytes) (length (words_in bytes)) (type_count_read bytes) K ≡ true =
       and_from _ _ (and_from _ _ (and_from _ _ (and_from _ _ sized.header (eq-eqb _ _ sized.words)) sound.types) sound.bases) sound.plain in
       cond-true _ _ _ (eq-eqb _ _ sized.whole)
       ∙ cond-true _ _ _ file
@@ -176,8 +176,8 @@ none_when (Some x) e = cc
 none_by_size : (bytes : List ℕ) → ((T K : ℕ) → T ≤ TYPE_RECORDS → K ≤ MAX_PUDDLES → length bytes ≡ 8 * file_words T K → ⊥) → file_graph bytes ≡ None
 none_by_size bytes no_size = none_when (file_graph bytes) (false_from_ne_true (is_some (file_graph bytes)) (λ is.
     let size = sized bytes is in
-    let header = counts (file_image bytes) (types_counted bytes) (puddles_counted bytes) size.header in
-    no_size (types_counted bytes) (puddles_counted bytes) header.few_types header.few_puddles (omega (arith, size.whole, size.words))))
+    let header = counts (file_image bytes) (type_count_read bytes) (puddle_count_read bytes) size.header in
+    no_size (type_count_read bytes) (puddle_count_read bytes) header.few_types header.few_puddles (omega (arith, size.whole, size.words))))
 
 pub file_graph-limit : (bytes : List ℕ) → file_graph (take FILE_READ_LIMIT bytes) ≡ file_graph bytes
 file_graph-limit bytes = ⊎_elim

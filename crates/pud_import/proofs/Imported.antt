@@ -41,10 +41,10 @@ use Rattle.batch.proofs.Tables.{reads_kept}
 use Rattle.graph_laws.specs.Placed.{AreFrontiers}
 use Rattle.registry.specs.declared.adding.NewPuddle.{NewPuddle}
 use Rattle.registry.specs.declared.placing.NewType.{NewType}
-use Rattle.registry.specs.Placing.{puddle_of, IsPlacedFor, MayPlace}
+use Rattle.registry.specs.Placing.{puddle_of_added, IsPlacedFor, MayPlace}
 use Rattle.registry.specs.Pools.{new_record, ChangesPools, ChangesMasked}
 use Rattle.registry.proofs.Moved.{settled_frames}
-use Rattle.pud_import.specs.Contents.{file_image, types_counted, puddles_counted, types_held, stored_held, contents_held}
+use Rattle.pud_import.specs.Contents.{file_image, type_count_read, puddle_count_read, types_held, stored_held, contents_read}
 use Rattle.pud_import.specs.Filling.{IsFrameWord, ByFrames, AreFilled, filled_value}
 use Rattle.pud_import.specs.declared.placing.PlaceFault.TheVariants as faults
 use Rattle.pud_import.specs.Places.{FramesRise}
@@ -71,30 +71,30 @@ pub record HoldsFile (file : FileContents) (stored : Stored) : Type 0 where
 pub file_held : (bytes : List ℕ) (file : FileContents) → file_graph bytes ≡ Some file → HoldsFile file (stored_held bytes)
 file_held bytes file is =
     let there : is_some (file_graph bytes) ≡ true = ap is_some is in
-    let parts = option_map_parts (contents_held bytes) (graph_of (types_held bytes) (stored_held bytes)) file (sym (contents_of_file bytes there) ∙ is) in
+    let parts = option_map_parts (contents_read bytes) (graph_of (types_held bytes) (stored_held bytes)) file (sym (contents_of_file bytes there) ∙ is) in
     let legal = exportable bytes there in
     let types : types_held bytes ≡ file.types = ap (λ (f : FileContents). f.types) parts.gives in
-    let K = puddles_counted bytes in
+    let K = puddle_count_read bytes in
     let words = file_image bytes in
     record {
       types = sym (ap are_file_types types) ∙ legal.legal_types;
       bases = legal.legal_bases;
-      count = length-map-range_with_len (file_puddle words (types_counted bytes) K) 0 K ∙ ap (λ (f : FileContents). f.puddles) parts.gives;
+      count = length-map-range_with_len (file_puddle words (type_count_read bytes) K) 0 K ∙ ap (λ (f : FileContents). f.puddles) parts.gives;
       some = legal.some;
       few = legal.few;
       ends = record {
         each = λ o d at.
-            let puddle = option_map_parts (file_puddle words (types_counted bytes) K) (slice_get (range_with_len 0 K) o) d (sym (slice_get-map (file_puddle words (types_counted bytes) K) (range_with_len 0 K) o) ∙ at) in
+            let puddle = option_map_parts (file_puddle words (type_count_read bytes) K) (slice_get (range_with_len 0 K) o) d (sym (slice_get-map (file_puddle words (type_count_read bytes) K) (range_with_len 0 K) o) ∙ at) in
             ap (λ (d : Puddle). d.frontier) (sym puddle.gives);
       };
       graph = ap (λ (ts : List (ℕ × ℕ)). graph_of ts (stored_held bytes)) (sym types) ∙ parts.is ∙ ap (λ (f : FileContents). Some f.graph) parts.gives;
     }
 
 -- what is listed for a file's types is listed for its contents
-pub types_of_file : (bytes : List ℕ) (file : FileContents) → file_graph bytes ≡ Some file → (types_held bytes ≡ file.types) × (puddles_counted bytes ≡ file.puddles)
+pub types_of_file : (bytes : List ℕ) (file : FileContents) → file_graph bytes ≡ Some file → (types_held bytes ≡ file.types) × (puddle_count_read bytes ≡ file.puddles)
 types_of_file bytes file is =
     let there : is_some (file_graph bytes) ≡ true = ap is_some is in
-    let parts = option_map_parts (contents_held bytes) (graph_of (types_held bytes) (stored_held bytes)) file (sym (contents_of_file bytes there) ∙ is) in
+    let parts = option_map_parts (contents_read bytes) (graph_of (types_held bytes) (stored_held bytes)) file (sym (contents_of_file bytes there) ∙ is) in
     (ap (λ (f : FileContents). f.types) parts.gives, ap (λ (f : FileContents). f.puddles) parts.gives)
 
 -- ---- free frames
@@ -111,9 +111,9 @@ free_placed t frame taken (base ∷ wanted) (x ∷ at) placed zero e is =
     subst (λ (e : ℕ × Puddle). (e.0 < t.frames) × (t.puddles e.0 ≡ None)) same (omega arith, lowest.free)
 free_placed t frame taken (base ∷ wanted) (x ∷ at) placed (suc o) e is = free_placed t (x.0 + 1) (taken ++ x.1.base ∷ []) wanted at placed.3 o e is
 
-pub are_free : (F : ℕ) (t : Tables) (wanted : List ℕ) (puddles : List NewPuddle) → t.frames ≡ F → ArePlacedFrom t 0 [] wanted (map puddle_of puddles) → AreFree F t puddles
+pub are_free : (F : ℕ) (t : Tables) (wanted : List ℕ) (puddles : List NewPuddle) → t.frames ≡ F → ArePlacedFrom t 0 [] wanted (map puddle_of_added puddles) → AreFree F t puddles
 are_free F t wanted puddles frames placed =
-    let one = λ (o : ℕ) (a : NewPuddle) (is : slice_get puddles o ≡ Some a). free_placed t 0 [] wanted (map puddle_of puddles) placed o (puddle_of a) (slice_get-map puddle_of puddles o ∙ ap (option_map puddle_of) is) in
+    let one = λ (o : ℕ) (a : NewPuddle) (is : slice_get puddles o ≡ Some a). free_placed t 0 [] wanted (map puddle_of_added puddles) placed o (puddle_of_added a) (slice_get-map puddle_of_added puddles o ∙ ap (option_map puddle_of_added) is) in
     record {
       within = λ o a is. let below = (one o a is).0 in omega arith;
       free = λ o a is. (one o a is).1;
@@ -218,10 +218,10 @@ module _ (size : ℕ) (s : StoredWorld) (name : List ℕ) (uid gid mode : ℕ) (
       }
 
       -- and the graph of the file, by the types that are defined then
-      holds_graph : (i : Image) → Picks b.now.words i → graph_of (with_types_defined (types_missing s.types file.types) s).types (stored_in F (map puddle_of p.puddles) (settled_by DAEMON_LOG i)) ≡ Some file.graph
+      holds_graph : (i : Image) → Picks b.now.words i → graph_of (with_types_defined (types_missing s.types file.types) s).types (stored_in F (map puddle_of_added p.puddles) (settled_by DAEMON_LOG i)) ≡ Some file.graph
       holds_graph i picked =
           let now = settled_by DAEMON_LOG i in
-          let later = stored_in F (map puddle_of p.puddles) now in
+          let later = stored_in F (map puddle_of_added p.puddles) now in
           let wide = (with_types_defined (types_missing s.types file.types) s).types in
           let none : clashes_with s.types file.types ≡ false = ap (λ (ts : List (ℕ × ℕ)). clashes_with ts file.types) (sym types_read) ∙ no_clash (clashes_with (types_of image) file.types) _ _ m.none in
           graph_of-wider file.types wide later file.graph (record { each = λ q k below live known. defined_then file.types s (place_word later q SLOT_TYPE_WORD) k h.types none known })
@@ -289,7 +289,7 @@ module _ (size : ℕ) (s : StoredWorld) (F slot : ℕ) (r : PoolRecord) (new : L
       subst (λ (n : ℕ). May n → Placed n drawn → Changes (ByFrames n puddles) (Some fault) old mid → Moves next (Some fault) old mid) (sym m.frames)
       (λ m is c. import_unfilled size s r.name r.uid r.gid r.mode file stored mask p old mid h m is next fault c) m (subst (Placed F) is_drawn is)
 
-  pub ChangesPools-filled_import : (next : StoredWorld) (fault : Option HostFault) (later : State) → May F → length puddles ≡ puddles_counted bytes → Changes (ByFrames F puddles) None old mid
+  pub ChangesPools-filled_import : (next : StoredWorld) (fault : Option HostFault) (later : State) → May F → length puddles ≡ puddle_count_read bytes → Changes (ByFrames F puddles) None old mid
       → (FramesRise puddles → ◌≡◌ {A = Option HostFault} None None → AreFilled F stored puddles mid.now.words) → (Then F r → Moves next fault mid later) → Moves next fault old later
   ChangesPools-filled_import next fault later m count c filled places =
       subst

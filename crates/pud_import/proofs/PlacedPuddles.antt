@@ -16,7 +16,7 @@ use Rattle.pud_defs.proofs.Keyed.{IsMapped, option_map_parts, first_free_some}
 use Rattle.registry.specs.declared.adding.NewPuddle.{NewPuddle}
 use Rattle.registry.specs.declared.placing.NewType.{NewType}
 use Rattle.registry.specs.Adding.{IsAddedWithin}
-use Rattle.registry.specs.Placing.{puddle_of, IsPlacedFor}
+use Rattle.registry.specs.Placing.{puddle_of_added, IsPlacedFor}
 use Rattle.pud_import.specs.Places.{at_frontier, IsPuddleAt, AreMembers, FramesRise}
 
 abbrev pub base_of : NewPuddle → ℕ
@@ -34,8 +34,8 @@ next_from-more from (b ∷ puddles) a = next_from-more (b.frame + 1) puddles a
 
 module _ (t : Tables) where
   -- one puddle more
-  placed_more : (from : ℕ) (taken wanted : List ℕ) (puddles : List NewPuddle) (a : NewPuddle) → ArePlacedFrom t from taken wanted (map puddle_of puddles) → first_free t.puddles (next_from from puddles) (t.frames - next_from from puddles) ≡ Some a.frame
-      → IsBaseFor t (taken ++ map base_of puddles) a.puddle.old_base a.puddle.base → ArePlacedFrom t from taken (wanted ++ a.puddle.old_base ∷ []) (map puddle_of (puddles ++ a ∷ []))
+  placed_more : (from : ℕ) (taken wanted : List ℕ) (puddles : List NewPuddle) (a : NewPuddle) → ArePlacedFrom t from taken wanted (map puddle_of_added puddles) → first_free t.puddles (next_from from puddles) (t.frames - next_from from puddles) ≡ Some a.frame
+      → IsBaseFor t (taken ++ map base_of puddles) a.puddle.old_base a.puddle.base → ArePlacedFrom t from taken (wanted ++ a.puddle.old_base ∷ []) (map puddle_of_added (puddles ++ a ∷ []))
   unfolding next_from
   placed_more from taken [] [] a placed frame base = (frame, subst (λ (l : List ℕ). IsBaseFor t l a.puddle.old_base a.puddle.base) (append-nil taken) base, refl, placed)
   placed_more from taken [] (b ∷ puddles) a placed frame base = absurd placed
@@ -49,7 +49,7 @@ module _ (t : Tables) where
   )
 
   -- each frame lies behind those before
-  behind_from : (from : ℕ) (taken wanted : List ℕ) (puddles : List NewPuddle) → ArePlacedFrom t from taken wanted (map puddle_of puddles) → (j : ℕ) (a : NewPuddle) → slice_get puddles j ≡ Some a → from ≤ a.frame
+  behind_from : (from : ℕ) (taken wanted : List ℕ) (puddles : List NewPuddle) → ArePlacedFrom t from taken wanted (map puddle_of_added puddles) → (j : ℕ) (a : NewPuddle) → slice_get puddles j ≡ Some a → from ≤ a.frame
   behind_from from taken [] [] placed j a is = absurd (none-some a is)
   behind_from from taken (w ∷ wanted) [] placed j a is = absurd placed
   behind_from from taken [] (x ∷ puddles) placed j a is = absurd placed
@@ -62,7 +62,7 @@ module _ (t : Tables) where
       let later = behind_from (x.frame + 1) (taken ++ x.puddle.base ∷ []) wanted puddles placed.3 j a is in
       omega arith
 
-  rise : (from : ℕ) (taken wanted : List ℕ) (puddles : List NewPuddle) → ArePlacedFrom t from taken wanted (map puddle_of puddles) → (i j : ℕ) (a b : NewPuddle) → i < j → slice_get puddles i ≡ Some a → slice_get puddles j ≡ Some b → a.frame < b.frame
+  rise : (from : ℕ) (taken wanted : List ℕ) (puddles : List NewPuddle) → ArePlacedFrom t from taken wanted (map puddle_of_added puddles) → (i j : ℕ) (a b : NewPuddle) → i < j → slice_get puddles i ≡ Some a → slice_get puddles j ≡ Some b → a.frame < b.frame
   rise from taken [] [] placed i j a b less is_a is_b = absurd (none-some a is_a)
   rise from taken (w ∷ wanted) [] placed i j a b less is_a is_b = absurd placed
   rise from taken [] (x ∷ puddles) placed i j a b less is_a is_b = absurd placed
@@ -119,8 +119,8 @@ module _ (F slot next o from : ℕ) (bases : List ℕ) (puddles : List NewPuddle
     within = All-push (IsAddedWithin F) puddles a h.within within;
   }
 
-  pub placed_next : (t : Tables) (wanted : List ℕ) → t.frames ≡ F → ArePlacedFrom t 0 [] wanted (map puddle_of puddles) → first_free t.puddles from (F - from) ≡ Some a.frame → IsBaseFor t bases a.puddle.old_base a.puddle.base
-      → ArePlacedFrom t 0 [] (wanted ++ a.puddle.old_base ∷ []) (map puddle_of (puddles ++ a ∷ []))
+  pub placed_next : (t : Tables) (wanted : List ℕ) → t.frames ≡ F → ArePlacedFrom t 0 [] wanted (map puddle_of_added puddles) → first_free t.puddles from (F - from) ≡ Some a.frame → IsBaseFor t bases a.puddle.old_base a.puddle.base
+      → ArePlacedFrom t 0 [] (wanted ++ a.puddle.old_base ∷ []) (map puddle_of_added (puddles ++ a ∷ []))
   placed_next t wanted frames placed frame base =
       placed_more t 0 [] wanted puddles a placed (subst (λ (n : ℕ). first_free t.puddles n (t.frames - n) ≡ Some a.frame) (sym h.goes_on) (ap (λ (n : ℕ). first_free t.puddles from (n - from)) frames ∙ frame))
       (subst (λ (l : List ℕ). IsBaseFor t l a.puddle.old_base a.puddle.base) h.are_bases base)
@@ -128,11 +128,11 @@ module _ (F slot next o from : ℕ) (bases : List ℕ) (puddles : List NewPuddle
 -- ---- with a frontier
 
 module _ (f : ℕ) where
-  at_bases : (puddles : List NewPuddle) → map (λ (e : ℕ × Puddle). e.1.base) (map puddle_of (map (at_frontier f) puddles)) ≡ map (λ (e : ℕ × Puddle). e.1.base) (map puddle_of puddles)
+  at_bases : (puddles : List NewPuddle) → map (λ (e : ℕ × Puddle). e.1.base) (map puddle_of_added (map (at_frontier f) puddles)) ≡ map (λ (e : ℕ × Puddle). e.1.base) (map puddle_of_added puddles)
   at_bases [] = refl
   at_bases (a ∷ puddles) = ap (λ (bases : List ℕ). a.puddle.base ∷ bases) (at_bases puddles)
 
-  placed_at : (t : Tables) (from : ℕ) (taken wanted : List ℕ) (puddles : List NewPuddle) → ArePlacedFrom t from taken wanted (map puddle_of puddles) → ArePlacedFrom t from taken wanted (map puddle_of (map (at_frontier f) puddles))
+  placed_at : (t : Tables) (from : ℕ) (taken wanted : List ℕ) (puddles : List NewPuddle) → ArePlacedFrom t from taken wanted (map puddle_of_added puddles) → ArePlacedFrom t from taken wanted (map puddle_of_added (map (at_frontier f) puddles))
   placed_at t from taken [] [] placed = placed
   placed_at t from taken [] (a ∷ puddles) placed = absurd placed
   placed_at t from taken (w ∷ wanted) [] placed = absurd placed
@@ -154,27 +154,27 @@ module _ (f : ℕ) where
   within_at F puddles within = All-map (IsAddedWithin F) (at_frontier f) puddles (λ k d below. let w = within k d below in record { frame = w.frame; slot = w.slot; number = w.number })
 
 -- each kept its base where those that they have are those that are wanted
-kept_wanted : (t : Tables) (from : ℕ) (taken wanted : List ℕ) (puddles : List NewPuddle) → ArePlacedFrom t from taken wanted (map puddle_of puddles)
-    → list_all (λ (a : NewPuddle). eqb a.puddle.base a.puddle.old_base) puddles ≡ bytes_eq (map (λ (e : ℕ × Puddle). e.1.base) (map puddle_of puddles)) wanted
+kept_wanted : (t : Tables) (from : ℕ) (taken wanted : List ℕ) (puddles : List NewPuddle) → ArePlacedFrom t from taken wanted (map puddle_of_added puddles)
+    → list_all (λ (a : NewPuddle). eqb a.puddle.base a.puddle.old_base) puddles ≡ bytes_eq (map (λ (e : ℕ × Puddle). e.1.base) (map puddle_of_added puddles)) wanted
 kept_wanted t from taken [] [] placed = refl
 kept_wanted t from taken [] (a ∷ puddles) placed = absurd placed
 kept_wanted t from taken (w ∷ wanted) [] placed = absurd placed
 kept_wanted t from taken (w ∷ wanted) (a ∷ puddles) placed =
     ap₂ (λ (n : ℕ) (b : Bool). eqb a.puddle.base n && b) placed.2 (kept_wanted t (a.frame + 1) (taken ++ a.puddle.base ∷ []) wanted puddles placed.3)
 
-pub placed_whole : (t : Tables) (slot next : ℕ) (wanted : List ℕ) (puddles : List NewPuddle) → AreMembers slot next puddles → ArePlacedFrom t 0 [] wanted (map puddle_of puddles)
-    → ArePlaced t next wanted (map puddle_of (map (at_frontier (cond (list_all (λ (a : NewPuddle). eqb a.puddle.base a.puddle.old_base) puddles) LAST_FRONTIER 0)) puddles))
+pub placed_whole : (t : Tables) (slot next : ℕ) (wanted : List ℕ) (puddles : List NewPuddle) → AreMembers slot next puddles → ArePlacedFrom t 0 [] wanted (map puddle_of_added puddles)
+    → ArePlaced t next wanted (map puddle_of_added (map (at_frontier (cond (list_all (λ (a : NewPuddle). eqb a.puddle.base a.puddle.old_base) puddles) LAST_FRONTIER 0)) puddles))
 placed_whole t slot next wanted puddles members placed =
     let f = cond (list_all (λ (a : NewPuddle). eqb a.puddle.base a.puddle.old_base) puddles) LAST_FRONTIER 0 in
     let new = map (at_frontier f) puddles in
     record {
       turn = placed_at f t 0 [] wanted puddles placed;
       frontier = λ o e is.
-          let a = option_map_parts puddle_of (slice_get new o) e (sym (slice_get-map puddle_of new o) ∙ is) in
+          let a = option_map_parts puddle_of_added (slice_get new o) e (sym (slice_get-map puddle_of_added new o) ∙ is) in
           let b = one_of f puddles o a.value a.is in
           sym (ap (λ (a : NewPuddle). a.puddle.frontier) b.gives ∙ ap (λ (e : ℕ × Puddle). e.1.frontier) a.gives)
           ∙ ap (λ (b : Bool). cond b LAST_FRONTIER 0) (kept_wanted t 0 [] wanted puddles placed ∙ ap (λ (l : List ℕ). bytes_eq l wanted) (sym (at_bases f puddles)));
       number = λ o e is.
-          let a = option_map_parts puddle_of (slice_get new o) e (sym (slice_get-map puddle_of new o) ∙ is) in
+          let a = option_map_parts puddle_of_added (slice_get new o) e (sym (slice_get-map puddle_of_added new o) ∙ is) in
           sym (ap (λ (e : ℕ × Puddle). e.1.number) a.gives) ∙ ((members_at f slot next puddles members).each o a.value a.is).number;
     }

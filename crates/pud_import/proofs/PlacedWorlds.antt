@@ -28,7 +28,7 @@ use Rattle.graph_laws.proofs.Pointers.{there_is_puddle}
 use Rattle.graph_laws.proofs.Placed.{pointers-kept, pointers-moved, graph_of-placed}
 use Rattle.registry.specs.declared.adding.NewPuddle.{NewPuddle}
 use Rattle.registry.specs.declared.placing.NewType.{NewType}
-use Rattle.registry.specs.Placing.{puddle_of, HasFreeRecords, IsPlacedFor}
+use Rattle.registry.specs.Placing.{puddle_of_added, HasFreeRecords, IsPlacedFor}
 use Rattle.pud_import.specs.Filling.{filled_value}
 
 -- ---- the same read of another image
@@ -56,7 +56,7 @@ module _ (F : ℕ) (i j : Image) (tables : tables_of F j ≡ tables_of F i) (num
     enough = is.enough;
     types_are = is.types_are ∙ ap (λ (ts : List (ℕ × ℕ)). types_missing ts file) (sym same_types);
     records = free_records_alike (type_at i) (type_at j) types 0 new is.records;
-    placed = subst (λ (t : Tables). ArePlaced t r.number wanted (map puddle_of puddles)) (sym tables) is.placed;
+    placed = subst (λ (t : Tables). ArePlaced t r.number wanted (map puddle_of_added puddles)) (sym tables) is.placed;
     members = is.members;
   }
 
@@ -110,14 +110,14 @@ pub record HoldFile (F : ℕ) (file : Stored) (puddles : List NewPuddle) (image 
 
 module _ (F : ℕ) (file : Stored) (puddles : List NewPuddle) (image : Image) (count : length puddles ≡ length file.puddles) (hold : HoldFile F file puddles image) where
   abbrev later : Stored
-  later = stored_in F (map puddle_of puddles) image
+  later = stored_in F (map puddle_of_added puddles) image
 
   length-later : length later.puddles ≡ length file.puddles
-  length-later = length-map (map puddle_of puddles) (λ (e : ℕ × Puddle). e.1) ∙ length-map puddles puddle_of ∙ count
+  length-later = length-map (map puddle_of_added puddles) (λ (e : ℕ × Puddle). e.1) ∙ length-map puddles puddle_of_added ∙ count
 
   word_there : (o k : ℕ) (a : NewPuddle) → slice_get puddles o ≡ Some a → k < FRAME_WORDS → later.word o k ≡ filled_value file o a.puddle.number k
   word_there o k a there few =
-      ap (word_in_frame F image k) (slice_get-map puddle_of puddles o ∙ ap (option_map puddle_of) there)
+      ap (word_in_frame F image k) (slice_get-map puddle_of_added puddles o ∙ ap (option_map puddle_of_added) there)
       ∙ cond-true (ltb k FRAME_WORDS) (frame_word F a.frame k image) 0 (lt-ltb k FRAME_WORDS few)
       ∙ hold.each o k a there few
 
@@ -147,7 +147,7 @@ module _ (F : ℕ) (file : Stored) (puddles : List NewPuddle) (image : Image) (c
           let was = sym (ap (has_header o (file.word o)) d.1) ∙ all_below-each (length file.puddles) (λ o. has_header o (file.word o) (slice_get file.puddles o)) fit o below in
           let parts = and_parts _ (eqb (file.word o FRAME_ORDINAL_WORD) o) was in
           let first = and_parts (eqb (file.word o FRAME_MAGIC_WORD) FRAME_MAGIC) _ parts.0 in
-          ap (has_header o (later.word o)) (slice_get-map (λ (e : ℕ × Puddle). e.1) (map puddle_of puddles) o ∙ ap (option_map (λ (e : ℕ × Puddle). e.1)) (slice_get-map puddle_of puddles o ∙ ap (option_map puddle_of) a.1))
+          ap (has_header o (later.word o)) (slice_get-map (λ (e : ℕ × Puddle). e.1) (map puddle_of_added puddles) o ∙ ap (option_map (λ (e : ℕ × Puddle). e.1)) (slice_get-map puddle_of_added puddles o ∙ ap (option_map puddle_of_added) a.1))
           ∙ and_from _ _
           (and_from _ _
           (eq-eqb (later.word o FRAME_MAGIC_WORD) FRAME_MAGIC (words_there o FRAME_MAGIC_WORD below (omega arith) (λ e. absurd (omega arith)) ∙ eqb-true _ _ first.0))
@@ -155,11 +155,11 @@ module _ (F : ℕ) (file : Stored) (puddles : List NewPuddle) (image : Image) (c
           (eq-eqb (later.word o FRAME_ORDINAL_WORD) o (words_there o FRAME_ORDINAL_WORD below (omega arith) (λ e. absurd (omega arith)) ∙ eqb-true _ _ parts.1))
 
   -- the pool has the graph of the file
-  pub graph_of-filled : (t : Tables) (next : ℕ) (types : List (ℕ × ℕ)) (g : Graph) → 1 ≤ length file.puddles → AreFrontiers LAST_FRONTIER file.puddles → ArePlaced t next (map (λ d. d.base) file.puddles) (map puddle_of puddles)
+  pub graph_of-filled : (t : Tables) (next : ℕ) (types : List (ℕ × ℕ)) (g : Graph) → 1 ≤ length file.puddles → AreFrontiers LAST_FRONTIER file.puddles → ArePlaced t next (map (λ d. d.base) file.puddles) (map puddle_of_added puddles)
       → graph_of types file ≡ Some g → graph_of types later ≡ Some g
   graph_of-filled t next types g some ends placed is = graph_of-placed types file later g (record {
     count = length-later;
     headers = headers_there (graph_of-each types file g is).headers;
     words = words_there;
-    pointers = pointers-placed t next file.puddles (map puddle_of puddles) ends placed;
+    pointers = pointers-placed t next file.puddles (map puddle_of_added puddles) ends placed;
   }) some is

@@ -30,7 +30,7 @@ use Rattle.pud_defs.specs.PoolChanges.{pool_named}
 use Rattle.pud_defs.specs.Imports.{types_missing, with_types_defined, is_full_for_file, lacks_frames_for_file, imported_pool, with_imported_pool, with_pool_of}
 use Rattle.pud_defs.specs.Listing.{name_text}
 use Rattle.pud_defs.specs.Step.{contents_in, contents_named, of_contents, clashes_with, refusal_of, owner_acting, after, world_by}
-use Rattle.pud_defs.specs.Gives.{Shelf, Exports, contents_held}
+use Rattle.pud_defs.specs.Gives.{Shelf, Exports, contents_of_pool}
 use Rattle.pud_defs.proofs.Keyed.{is_sorted-keyed}
 use Rattle.pud_defs.proofs.TypeLists.{true_when}
 use Rattle.pud_defs.proofs.PoolRefusals.{importing_refusal, refusal_of-import}
@@ -99,13 +99,13 @@ taken who found bytes types contents full lacks none =
 
 -- it holds what the file does
 held_of : (name : List ℕ) (owner : Owner) (mode : ℕ) (s : StoredWorld) (contents : FileContents) → T (is_sorted nat_cmp (with_imported_pool name owner mode contents s).types) → clashes_with s.types contents.types ≡ false → IsStored contents
-    → contents_held (with_imported_pool name owner mode contents s).types (pool_named name (with_imported_pool name owner mode contents s)) ≡ Some contents
+    → contents_of_pool (with_imported_pool name owner mode contents s).types (pool_named name (with_imported_pool name owner mode contents s)) ≡ Some contents
 unfolding with_imported_pool
 held_of name owner mode s contents order apart is =
     let typed = with_types_defined (types_missing s.types contents.types) s in
     let pool = imported_pool owner mode s.next_number contents in
     let sorted = and_parts _ (is_sorted nat_cmp contents.types) is.legal in
-    ap (contents_held typed.types) (find-put name_cmp nat_list_cmp_total name name pool typed.pools ∙ cond-true _ _ _ (ap is_eq (tied_itself nat_list_cmp_total name)))
+    ap (contents_of_pool typed.types) (find-put name_cmp nat_list_cmp_total name name pool typed.pools ∙ cond-true _ _ _ (ap is_eq (tied_itself nat_list_cmp_total name)))
     ∙ ap (λ (types : List (ℕ × ℕ)). Some (record contents { types = types })) (types_used-later s contents.types contents.graph is.stored order sorted.1 apart is.graph is.used)
 
 -- lines that rewrite it leave the world
@@ -119,7 +119,7 @@ rewrites_leave name [] w = refl
 rewrites_leave name (n ∷ steps) w = rewrites_leave name steps (world_by w (Some (Rewrite name n))) ∙ rewrite_leaves name n w (refusal_of w (Rewrite name n)) refl
 
 -- the file into which a pool is exported holds what the pool does
-exported_file : (w : World) (name file : List ℕ) (shelf : Shelf) → Exports w name file shelf → contents_in (shelf file) ≡ contents_held w.stored.types (pool_named name w.stored)
+exported_file : (w : World) (name file : List ℕ) (shelf : Shelf) → Exports w name file shelf → contents_in (shelf file) ≡ contents_of_pool w.stored.types (pool_named name w.stored)
 exported_file w name file shelf e =
     ap (λ (other : Shelf). contents_in (other file)) e.given ∙ ap contents_in (cond-true (bytes_eq file file) (Some e.bytes) (w.shelf file) ((bytes_eq-Decides file file).1 refl)) ∙ e.holds ∙ sym e.held
 
@@ -156,15 +156,15 @@ module _ (w : World) (client mode : ℕ) (name file : List ℕ) (free : refusal_
   is_read = not-false (is_some held) is_taken.read
 
   by_contents : (o : Option FileContents) → held ≡ o → IsTaken w.stored.types o
-      → let s = with_pool_of o name (owner_acting w.clients client) mode w.stored in T (is_sorted nat_cmp s.types) → contents_held s.types (pool_named name s) ≡ o
+      → let s = with_pool_of o name (owner_acting w.clients client) mode w.stored in T (is_sorted nat_cmp s.types) → contents_of_pool s.types (pool_named name s) ≡ o
   by_contents None is none order = absurd (let no : true ≡ false = none.read in cc)
   by_contents (Some contents) is none order = held_of name (owner_acting w.clients client) mode w.stored contents order none.apart (stored_in (w.shelf (name_text file)) contents is)
 
-  pub is_held : is_sorted nat_cmp w.stored.types ≡ true → contents_held (after w asked).stored.types (pool_named name (after w asked).stored) ≡ held
+  pub is_held : is_sorted nat_cmp w.stored.types ≡ true → contents_of_pool (after w asked).stored.types (pool_named name (after w asked).stored) ≡ held
   unfolding after
   is_held sorted = by_contents held refl is_taken (is_sorted-after w asked (subst T (sym sorted) tt))
 
   pub is_exported : is_sorted nat_cmp w.stored.types ≡ true → (steps again : List ℕ) (shelf : Shelf) → Exports (behind_rewrites name steps (after w asked)) name again shelf → contents_in (shelf again) ≡ held
   is_exported sorted steps again shelf e =
       exported_file (behind_rewrites name steps (after w asked)) name again shelf e
-      ∙ ap (λ (v : World). contents_held v.stored.types (pool_named name v.stored)) (rewrites_leave name steps (after w asked)) ∙ is_held sorted
+      ∙ ap (λ (v : World). contents_of_pool v.stored.types (pool_named name v.stored)) (rewrites_leave name steps (after w asked)) ∙ is_held sorted

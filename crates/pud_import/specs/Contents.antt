@@ -13,23 +13,23 @@ abbrev pub file_image : (bytes : List ℕ) → Image
 file_image bytes = slice_index (words_in bytes)
 
 -- how many types the header says there are, and how many puddles
-abbrev pub types_counted : (bytes : List ℕ) → ℕ
-types_counted bytes = file_image bytes FILE_TYPES_WORD
+abbrev pub type_count_read : (bytes : List ℕ) → ℕ
+type_count_read bytes = file_image bytes FILE_TYPES_WORD
 
-abbrev pub puddles_counted : (bytes : List ℕ) → ℕ
-puddles_counted bytes = file_image bytes FILE_PUDDLES_WORD
+abbrev pub puddle_count_read : (bytes : List ℕ) → ℕ
+puddle_count_read bytes = file_image bytes FILE_PUDDLES_WORD
 
 -- the types
 abbrev pub types_held : (bytes : List ℕ) → List (ℕ × ℕ)
-types_held bytes = file_types (file_image bytes) (types_counted bytes)
+types_held bytes = file_types (file_image bytes) (type_count_read bytes)
 
 -- the records of the puddles, and their frames
 abbrev pub stored_held : (bytes : List ℕ) → Stored
-stored_held bytes = file_stored (file_image bytes) (types_counted bytes) (puddles_counted bytes)
+stored_held bytes = file_stored (file_image bytes) (type_count_read bytes) (puddle_count_read bytes)
 
 -- what they hold with this graph
-abbrev pub contents_held : (bytes : List ℕ) → Graph → FileContents
-contents_held bytes g = record { types = types_held bytes; puddles = puddles_counted bytes; graph = g }
+abbrev pub contents_read : (bytes : List ℕ) → Graph → FileContents
+contents_read bytes g = record { types = types_held bytes; puddles = puddle_count_read bytes; graph = g }
 
 -- an object of the type lives in some slot
 abbrev pub is_used_in : Stored → (id : ℕ) → Bool
@@ -41,12 +41,12 @@ is_used_in st id = list_any (is_of_type st id) (range_with_len 0 (places_of st))
 abbrev pub is_sized : (bytes : List ℕ) → Bool
 is_sized bytes =
     length bytes == 8 * length (words_in bytes)
-    && (has_file_header (file_image bytes) (types_counted bytes) (puddles_counted bytes) && length (words_in bytes) == file_words (types_counted bytes) (puddles_counted bytes))
+    && (has_file_header (file_image bytes) (type_count_read bytes) (puddle_count_read bytes) && length (words_in bytes) == file_words (type_count_read bytes) (puddle_count_read bytes))
 
 -- what stands behind the header of so many types and puddles is that of a file: the types are legal, the bases are, each word that is not
 -- read is 0, the frames store a graph, and of each type an object lives in some slot
-abbrev pub is_sound : Image → (T K : ℕ) → Bool
-is_sound words T K =
+abbrev pub is_sound_file : Image → (T K : ℕ) → Bool
+is_sound_file words T K =
     let types = file_types words T in
     let st = file_stored words T K in
     are_file_types types && are_file_bases st.puddles && is_plain types st && is_some (graph_of types st) && list_all (λ t. is_used_in st t.0) types

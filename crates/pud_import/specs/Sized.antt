@@ -6,13 +6,13 @@ use Rattle.pud_defs.specs.ExportFile.{words_in, file_types, file_stored}
 use Rattle.pud_import.specs.declared.sized_file.SizedFile.{SizedFile}
 
 -- its words
-abbrev pub words_of : SizedFile → Image
-words_of f = slice_index (words_in f.bytes.now)
+abbrev pub image_of_file : SizedFile → Image
+image_of_file f = slice_index (words_in f.bytes.now)
 
 -- its types
 abbrev pub types_in : SizedFile → List (ℕ × ℕ)
-types_in f = file_types (words_of f) f.types
+types_in f = file_types (image_of_file f) f.types
 
 -- the records of its puddles, and their frames
 abbrev pub stored_of : SizedFile → Stored
-stored_of f = file_stored (words_of f) f.types f.puddles
+stored_of f = file_stored (image_of_file f) f.types f.puddles

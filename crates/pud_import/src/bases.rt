@@ -7,7 +7,7 @@ ghost use Rattle.pud_defs.specs.Bases.{is_legal_base};
 ghost use Rattle.pud_defs.specs.ExportFile.{file_puddle, under_base, are_file_bases};
 ghost use Rattle.pud_defs.specs.Keyed.{are_distinct};
 ghost use Rattle.pud_import.specs.Answers.{file_pool};
-ghost use Rattle.pud_import.specs.Sized.{words_of};
+ghost use Rattle.pud_import.specs.Sized.{image_of_file};
 
 use crate::sized_file::SizedFile;
 use pud_defs::records::{MAX_PUDDLES, Puddle};
@@ -36,7 +36,7 @@ impl<'a> SizedFile<'a> {
     /// The puddle of an ordinal. Its base is its old base, and it is rewritten whole.
     fn puddle(&self, ordinal: u32) -> Puddle
         requires { ordinal < self.now.puddles }
-        ensures { result ≡ file_puddle (words_of self.now) self.now.types self.now.puddles ordinal }
+        ensures { result ≡ file_puddle (image_of_file self.now) self.now.types self.now.puddles ordinal }
     {
         let base = self.base(ordinal);
         Puddle {
@@ -49,7 +49,7 @@ impl<'a> SizedFile<'a> {
 
     /// The puddles, each in the frame of its ordinal.
     pub(crate) fn pool(&self) -> Pool
-        ensures { take self.now.puddles result ≡ file_pool (words_of self.now) self.now.types self.now.puddles }
+        ensures { take self.now.puddles result ≡ file_pool (image_of_file self.now) self.now.types self.now.puddles }
     {
         let mut pool = [no_puddle(); PUDDLES];
         for ordinal in 0..self.puddles {

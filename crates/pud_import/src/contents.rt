@@ -3,7 +3,7 @@
 ghost use Rattle.std.specs.Prelude.{◌≡◌, ◌+◌, ◌<◌};
 ghost use Rattle.pud_defs.specs.declared.layout.TheConstants.{FRAME_WORDS};
 ghost use Rattle.pud_defs.specs.ExportFile.{file_words, file_type, file_bases_at};
-ghost use Rattle.pud_import.specs.Sized.{words_of, stored_of};
+ghost use Rattle.pud_import.specs.Sized.{image_of_file, stored_of};
 
 use crate::sized_file::SizedFile;
 use crate::words::word_at;
@@ -14,7 +14,7 @@ impl<'a> SizedFile<'a> {
     /// Word `k` of the file.
     pub(crate) fn word(&self, k: u32) -> u64
         requires { k < file_words self.now.types self.now.puddles }
-        ensures { result ≡ words_of self.now k }
+        ensures { result ≡ image_of_file self.now k }
     {
         word_at(self.bytes, k)
     }
@@ -22,7 +22,7 @@ impl<'a> SizedFile<'a> {
     /// The id and the map of type `i`.
     pub(crate) fn type_at(&self, i: u32) -> (u64, u64)
         requires { i < self.now.types }
-        ensures { result ≡ file_type (words_of self.now) i }
+        ensures { result ≡ file_type (image_of_file self.now) i }
     {
         let at = file_type_at(i);
         (self.word(at), self.word(at + 1))
@@ -31,7 +31,7 @@ impl<'a> SizedFile<'a> {
     /// The base of the puddle of an ordinal.
     pub(crate) fn base(&self, ordinal: u32) -> u64
         requires { ordinal < self.now.puddles }
-        ensures { result ≡ words_of self.now (file_bases_at self.now.types + ordinal) }
+        ensures { result ≡ image_of_file self.now (file_bases_at self.now.types + ordinal) }
     {
         self.word(file_bases_at(self.types) + ordinal)
     }

@@ -3,7 +3,7 @@
 ghost use Rattle.std.specs.Prelude.{◌≡◌, ◌<◌};
 ghost use Rattle.pud_defs.specs.Layout.{device_words};
 ghost use Rattle.pud_import.specs.Answers.{as_device};
-ghost use Rattle.pud_import.specs.Sized.{words_of};
+ghost use Rattle.pud_import.specs.Sized.{image_of_file};
 
 use crate::sized_file::SizedFile;
 use pm_model::{HostFault, Loads};
@@ -15,7 +15,7 @@ impl<'a> SizedFile<'a> {
     /// and a frame for each puddle, and all its other words are 0.
     fn device_word(&self, w: u32) -> u64
         requires { w < device_words self.now.puddles }
-        ensures { result ≡ as_device (words_of self.now) self.now.types self.now.puddles w }
+        ensures { result ≡ as_device (image_of_file self.now) self.now.types self.now.puddles w }
     {
         let frames = frames_at(self.puddles);
         if w >= frames {

@@ -7,7 +7,7 @@ ghost use Rattle.pud_defs.specs.declared.records.TheConstants.{MAX_PUDDLES};
 ghost use Rattle.pud_defs.specs.ExportFile.{file_type, file_bases_at, file_graph};
 ghost use Rattle.pud_defs.specs.Exported.{IsExportable};
 ghost use Rattle.pud_defs.specs.Graph.{graph_of};
-ghost use Rattle.pud_import.specs.Contents.{file_image, types_counted, puddles_counted, types_held, stored_held, contents_held};
+ghost use Rattle.pud_import.specs.Contents.{file_image, type_count_read, puddle_count_read, types_held, stored_held, contents_read};
 
 use crate::header::sized;
 use crate::sized_file::SizedFile;
@@ -27,13 +27,13 @@ pub struct FileView<'a> {
 impl<'a> Model for FileView<'a> {
     ghost use Rattle.std.specs.Prelude.{◌≡◌, ℕ, true, List, is_some};
     ghost use Rattle.pud_defs.specs.ExportFile.{file_graph};
-    ghost use Rattle.pud_import.specs.Contents.{types_counted, puddles_counted};
+    ghost use Rattle.pud_import.specs.Contents.{type_count_read, puddle_count_read};
 
     ghost Value = { List ℕ };
 
     ghost view = { λ v. v.file.bytes.now };
 
-    ghost invariant = { λ v. (is_some (file_graph v.file.bytes.now) ≡ true) × (v.file.types ≡ types_counted v.file.bytes.now) × (v.file.puddles ≡ puddles_counted v.file.bytes.now) };
+    ghost invariant = { λ v. (is_some (file_graph v.file.bytes.now) ≡ true) × (v.file.types ≡ type_count_read v.file.bytes.now) × (v.file.puddles ≡ puddle_count_read v.file.bytes.now) };
 }
 
 /// The export file that the bytes are, or `BadFile` exactly where they are none, whatever they hold.
@@ -45,7 +45,7 @@ impl<'a> Model for FileView<'a> {
 pub fn read_file(bytes: &[u8]) -> Result<FileView<'_>, BadFile>
     ensures file { is_ok result ≡ is_some (file_graph bytes.now) }
     ensures view { IfOk result (λ view. view ≡ bytes.now) }
-    ensures contents { IfOk result (λ view. file_graph bytes.now ≡ option_map (contents_held view) (graph_of (types_held view) (stored_held view))) }
+    ensures contents { IfOk result (λ view. file_graph bytes.now ≡ option_map (contents_read view) (graph_of (types_held view) (stored_held view))) }
     ensures legal { IfOk result (λ view. IsExportable (types_held view) (stored_held view)) }
 {
     match sized(bytes) {
@@ -57,7 +57,7 @@ pub fn read_file(bytes: &[u8]) -> Result<FileView<'_>, BadFile>
 impl<'a> FileView<'a> {
     /// How many types the file lists, at most 64.
     pub fn types(&self) -> u32
-        ensures counted { result ≡ types_counted self.now }
+        ensures counted { result ≡ type_count_read self.now }
         ensures most { result ≤ TYPE_RECORDS }
     {
         self.file.types
@@ -65,7 +65,7 @@ impl<'a> FileView<'a> {
 
     /// The id and the map of type `i`, in the order of the ids.
     pub fn type_at(&self, i: u32) -> (u32, u64)
-        requires { i < types_counted self.now }
+        requires { i < type_count_read self.now }
         ensures { result ≡ file_type (file_image self.now) i }
     {
         let (id, map) = self.file.type_at(i);
@@ -74,7 +74,7 @@ impl<'a> FileView<'a> {
 
     /// How many puddles the file has, 1 to 16.
     pub fn puddles(&self) -> u32
-        ensures counted { result ≡ puddles_counted self.now }
+        ensures counted { result ≡ puddle_count_read self.now }
         ensures some { 1 ≤ result }
         ensures most { result ≤ MAX_PUDDLES }
     {
@@ -83,15 +83,15 @@ impl<'a> FileView<'a> {
 
     /// The base of the puddle of an ordinal, over which the file's pointers stand.
     pub fn base(&self, ordinal: u32) -> u64
-        requires { ordinal < puddles_counted self.now }
-        ensures { result ≡ file_image self.now (file_bases_at (types_counted self.now) + ordinal) }
+        requires { ordinal < puddle_count_read self.now }
+        ensures { result ≡ file_image self.now (file_bases_at (type_count_read self.now) + ordinal) }
     {
         self.file.base(ordinal)
     }
 
     /// Word `w` of the frame of an ordinal.
     pub fn frame_word(&self, ordinal: u32, w: u32) -> u64
-        requires known { ordinal < puddles_counted self.now }
+        requires known { ordinal < puddle_count_read self.now }
         requires within { w < FRAME_WORDS }
         ensures { result ≡ (stored_held self.now).word ordinal w }
     {

@@ -7,7 +7,7 @@ ghost use Rattle.pud_defs.specs.declared.layout.TheConstants.{FRAME_WORDS};
 ghost use Rattle.pud_defs.specs.declared.records.TheConstants.{MAX_PUDDLES};
 ghost use Rattle.pud_defs.specs.Layout.{device_words};
 ghost use Rattle.registry.specs.Adding.{IsAddedWithin};
-ghost use Rattle.pud_import.specs.Contents.{puddles_counted, stored_held};
+ghost use Rattle.pud_import.specs.Contents.{puddle_count_read, stored_held};
 ghost use Rattle.pud_import.specs.Filling.{filled_value, FillsFrame, ByFrames, AreFilled};
 ghost use Rattle.pud_import.specs.Places.{FramesRise};
 
@@ -21,7 +21,7 @@ use registry::NewPuddle;
 
 /// A word of the frame of a puddle: what the file has there, but for the puddle's UUID number.
 fn filled_word(view: &FileView<'_>, ordinal: u32, number: u64, w: u32) -> u64
-    requires known { ordinal < puddles_counted view.now }
+    requires known { ordinal < puddle_count_read view.now }
     requires within { w < FRAME_WORDS }
     ensures { result ≡ filled_value (stored_held view.now) ordinal number w }
 {
@@ -34,7 +34,7 @@ fn filled_word(view: &FileView<'_>, ordinal: u32, number: u64, w: u32) -> u64
 
 /// The words of the frame of a puddle.
 fn filled_words(view: &FileView<'_>, ordinal: u32, number: u64) -> [u64; FRAME_WORDS as usize]
-    requires { ordinal < puddles_counted view.now }
+    requires { ordinal < puddle_count_read view.now }
     ensures { (k : ℕ) → k < FRAME_WORDS → slice_index result k ≡ filled_value (stored_held view.now) ordinal number k }
 {
     let mut words = [0; FRAME_WORDS as usize];
@@ -55,7 +55,7 @@ fn fill_frame<H: Host>(
     requires few { frames ≤ MAX_FRAMES }
     requires room { device_words frames ≤ (H.counts h.old).size }
     requires frame { added.frame < frames }
-    requires known { ordinal < puddles_counted view.now }
+    requires known { ordinal < puddle_count_read view.now }
     ensures fills { H.tells → FillsFrame frames added.frame (filled_value (stored_held view.now) ordinal added.puddle.number) (fault_of result) (H.state h.old) (H.state h.new) }
     ensures cause { H.counts h.new ≡ after_fault (fault_of result) (H.counts h.old) }
 {
@@ -74,7 +74,7 @@ pub(crate) fn fill_frames<H: Host>(
 ) -> Result<(), HostFault>
     requires few { frames ≤ MAX_FRAMES }
     requires room { device_words frames ≤ (H.counts h.old).size }
-    requires count { length puddles.now ≤ puddles_counted view.now }
+    requires count { length puddles.now ≤ puddle_count_read view.now }
     requires few_puddles { length puddles.now ≤ MAX_PUDDLES }
     requires within { All (IsAddedWithin frames) puddles.now }
     ensures changes { H.tells → Changes (ByFrames frames puddles.now) (fault_of result) (H.state h.old) (H.state h.new) }

@@ -5,7 +5,7 @@ ghost use Rattle.pud_defs.specs.Graph.{graph_of};
 ghost use Rattle.pud_defs.specs.Stored.{IsOnDevice, stored_in};
 ghost use Rattle.pud_defs.specs.Types.{types_of};
 ghost use Rattle.pud_import.specs.Answers.{as_device};
-ghost use Rattle.pud_import.specs.Sized.{words_of};
+ghost use Rattle.pud_import.specs.Sized.{image_of_file};
 
 use crate::sized_file::SizedFile;
 use graph_read::pool_is_sound;
@@ -16,7 +16,7 @@ impl<'a> SizedFile<'a> {
     /// is.
     pub(crate) fn has_graph(&self, pool: &[(u32, Puddle)]) -> bool
         requires { IsOnDevice self.now.puddles pool.now }
-        ensures { let image = as_device (words_of self.now) self.now.types self.now.puddles in
+        ensures { let image = as_device (image_of_file self.now) self.now.types self.now.puddles in
             result ≡ is_some (graph_of (types_of image) (stored_in self.now.puddles pool.now image)) }
     {
         let mut words = *self;

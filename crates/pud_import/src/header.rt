@@ -2,7 +2,7 @@
 
 ghost use Rattle.std.specs.Prelude.{◌≡◌, ◌≤◌, ◌*◌, ◌&&◌, ◌==◌, nat_le, length, is_some, IfSome};
 ghost use Rattle.pud_defs.specs.ExportFile.{has_file_header};
-ghost use Rattle.pud_import.specs.Contents.{file_image, types_counted, puddles_counted, is_sized};
+ghost use Rattle.pud_import.specs.Contents.{file_image, type_count_read, puddle_count_read, is_sized};
 
 use crate::sized_file::SizedFile;
 use crate::words::{WORD, word_at};
@@ -47,8 +47,8 @@ fn has_header(bytes: &[u8], types: u64, puddles: u64) -> bool
 pub(crate) fn sized(bytes: &[u8]) -> Option<SizedFile<'_>>
     ensures sized { is_some result ≡ is_sized bytes.now }
     ensures bytes { IfSome result (λ file. file.bytes.now ≡ bytes.now) }
-    ensures types { IfSome result (λ file. file.types ≡ types_counted bytes.now) }
-    ensures puddles { IfSome result (λ file. file.puddles ≡ puddles_counted bytes.now) }
+    ensures types { IfSome result (λ file. file.types ≡ type_count_read bytes.now) }
+    ensures puddles { IfSome result (λ file. file.puddles ≡ puddle_count_read bytes.now) }
 {
     if bytes.len() < WORD * FILE_HEADER_WORDS as usize {
         return None;

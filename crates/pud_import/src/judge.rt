@@ -1,8 +1,8 @@
 //! Whether the words behind the header are those of a file.
 
 ghost use Rattle.std.specs.Prelude.{◌≡◌, ◌&&◌};
-ghost use Rattle.pud_import.specs.Contents.{is_sound};
-ghost use Rattle.pud_import.specs.Sized.{words_of};
+ghost use Rattle.pud_import.specs.Contents.{is_sound_file};
+ghost use Rattle.pud_import.specs.Sized.{image_of_file};
 
 use crate::bases::has_legal_bases;
 use crate::sized_file::SizedFile;
@@ -18,7 +18,7 @@ fn are_all(types: bool, bases: bool, plain: bool, graph: bool, used: bool) -> bo
 impl<'a> SizedFile<'a> {
     /// Whether the words behind the header are those of a file.
     pub(crate) fn is_sound(&self) -> bool
-        ensures { result ≡ is_sound (words_of self.now) self.now.types self.now.puddles }
+        ensures { result ≡ is_sound_file (image_of_file self.now) self.now.types self.now.puddles }
     {
         let types = self.has_legal_types();
         let pool = self.pool();

@@ -10,7 +10,7 @@ ghost use Rattle.pud_defs.specs.ExportFile.{file_graph};
 ghost use Rattle.pud_defs.specs.World.{StoredWorld, World, world_of};
 ghost use Rattle.pud_defs.specs.PoolChanges.{pool_named};
 ghost use Rattle.pud_defs.specs.Step.{contents_in, contents_named, refusal_of, after};
-ghost use Rattle.pud_defs.specs.Gives.{Shelf, Exports, contents_held};
+ghost use Rattle.pud_defs.specs.Gives.{Shelf, Exports, contents_of_pool};
 ghost use Rattle.pud_import.specs.Rewrites.{behind_rewrites};
 
 /// What a host gives of a file decides what the file holds: as many bytes from its front as a host reads at most are one more
@@ -25,7 +25,7 @@ pub fn front_of_a_file_decides()
 pub fn imported_pool_is_exported_as_its_file()
     ensures read { (w : World) (client : ℕ) (name : List ℕ) (file : List ℕ) (mode : ℕ) → let c = Import client name file mode in refusal_of w c ≡ Option.None → is_some (contents_named w c) ≡ true }
     ensures held { (w : World) (client : ℕ) (name : List ℕ) (file : List ℕ) (mode : ℕ) → let c = Import client name file mode in
-        is_sorted nat_cmp w.stored.types ≡ true → refusal_of w c ≡ Option.None → contents_held (after w c).stored.types (pool_named name (after w c).stored) ≡ contents_named w c }
+        is_sorted nat_cmp w.stored.types ≡ true → refusal_of w c ≡ Option.None → contents_of_pool (after w c).stored.types (pool_named name (after w c).stored) ≡ contents_named w c }
     ensures exported { (w : World) (client : ℕ) (name : List ℕ) (file : List ℕ) (mode : ℕ) → let c = Import client name file mode in
         is_sorted nat_cmp w.stored.types ≡ true → refusal_of w c ≡ Option.None
         → (steps : List ℕ) (again : List ℕ) (shelf : Shelf) → Exports (behind_rewrites name steps (after w c)) name again shelf → contents_in (shelf again) ≡ contents_named w c }

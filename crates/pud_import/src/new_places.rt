@@ -13,8 +13,8 @@ ghost use Rattle.pud_defs.specs.Layout.{tables_end};
 ghost use Rattle.pud_defs.specs.Placement.{is_taken_base, IsBaseFor, ArePlacedFrom};
 ghost use Rattle.pud_defs.specs.Tables.{tables_of};
 ghost use Rattle.registry.specs.Adding.{IsAddedWithin};
-ghost use Rattle.registry.specs.Placing.{puddle_of};
-ghost use Rattle.pud_import.specs.Contents.{puddles_counted, stored_held};
+ghost use Rattle.registry.specs.Placing.{puddle_of_added};
+ghost use Rattle.pud_import.specs.Contents.{puddle_count_read, stored_held};
 ghost use Rattle.pud_import.specs.Places.{AreMembers};
 ghost use Rattle.pud_import.specs.Placing.{place_fault, refusal_in, frames_refusal};
 
@@ -114,14 +114,14 @@ pub(crate) fn find_places<H: Host>(
     requires few { frames ≤ MAX_FRAMES }
     requires table { tables_end frames ≤ (H.counts h.old).size }
     requires slot { slot < POOL_RECORDS }
-    requires numbers { number + numbers_drawn (puddles_counted view.now) ≤ NUMBER_LIMIT }
+    requires numbers { number + numbers_drawn (puddle_count_read view.now) ≤ NUMBER_LIMIT }
     ensures refusal { H.tells → (image : Image) → reads (H.state h.old).now.words ≡ image → place_fault result ≡ Option.None
         → refusal_in result
-        ≡ cond (nat_lt frames (count_used (tables_of frames image).puddles 0 frames + puddles_counted view.now)) (Option.Some PlaceFault.NoSpace) Option.None }
+        ≡ cond (nat_lt frames (count_used (tables_of frames image).puddles 0 frames + puddle_count_read view.now)) (Option.Some PlaceFault.NoSpace) Option.None }
     ensures turn { H.tells → (image : Image) → reads (H.state h.old).now.words ≡ image
-        → IfOk result (λ puddles. ArePlacedFrom (tables_of frames image) 0 [] (map (λ d. d.base) (stored_held view.now).puddles) (map puddle_of puddles.items)) }
+        → IfOk result (λ puddles. ArePlacedFrom (tables_of frames image) 0 [] (map (λ d. d.base) (stored_held view.now).puddles) (map puddle_of_added puddles.items)) }
     ensures members { IfOk result (λ puddles. AreMembers slot number puddles.items) }
-    ensures count { IfOk result (λ puddles. length puddles.items ≡ puddles_counted view.now) }
+    ensures count { IfOk result (λ puddles. length puddles.items ≡ puddle_count_read view.now) }
     ensures within { IfOk result (λ puddles. All (IsAddedWithin frames) puddles.items) }
     ensures only_reads { OnlyReads H.tells H.state H.counts (place_fault result) h.old h.new }
 {

@@ -17,7 +17,7 @@ ghost use Rattle.batch.specs.Batches.{HasIdleGate};
 ghost use Rattle.registry.specs.Adding.{IsAddedWithin};
 ghost use Rattle.registry.specs.Placing.{IsPlacedFor};
 ghost use Rattle.registry.specs.Pools.{OrStill, ChangesMasked};
-ghost use Rattle.pud_import.specs.Contents.{puddles_counted, stored_held};
+ghost use Rattle.pud_import.specs.Contents.{puddle_count_read, stored_held};
 ghost use Rattle.pud_import.specs.Placing.{place_fault, refusal_in, refusal_by, PlacesSomewhere, MayImport};
 
 use crate::file_view::FileView;
@@ -72,7 +72,7 @@ fn fill_and_place<H: Host>(
     requires number { rec.number < NUMBER_LIMIT }
     requires types { length types.now ≤ TYPE_RECORDS }
     requires records { All (λ t. t.record_number < TYPE_RECORDS) types.now }
-    requires count { length puddles.now ≡ puddles_counted view.now }
+    requires count { length puddles.now ≡ puddle_count_read view.now }
     requires few_puddles { length puddles.now ≤ MAX_PUDDLES }
     requires within { All (IsAddedWithin frames) puddles.now }
     ensures commits { H.tells → (image : Image) (file : List (ℕ × ℕ)) → IsPlacedFor frames image file (map (λ d. d.base) (stored_held view.now).puddles) slot rec types.now puddles.now

@@ -14,9 +14,9 @@ ghost use Rattle.pud_defs.specs.Layout.{device_words, tables_end};
 ghost use Rattle.pud_defs.specs.Placement.{ArePlaced};
 ghost use Rattle.pud_defs.specs.Tables.{tables_of, pool_in};
 ghost use Rattle.registry.specs.Adding.{IsAddedWithin};
-ghost use Rattle.registry.specs.Placing.{puddle_of, IsPlacedFor};
+ghost use Rattle.registry.specs.Placing.{puddle_of_added, IsPlacedFor};
 ghost use Rattle.registry.specs.Pools.{new_record};
-ghost use Rattle.pud_import.specs.Contents.{puddles_counted, types_held, stored_held};
+ghost use Rattle.pud_import.specs.Contents.{puddle_count_read, types_held, stored_held};
 ghost use Rattle.pud_import.specs.Places.{at_frontier, AreMembers};
 ghost use Rattle.pud_import.specs.Placing.{place_fault, refusal_in, refusal_by};
 
@@ -132,14 +132,14 @@ fn find_puddles<H: Host>(
     requires few { frames ≤ MAX_FRAMES }
     requires table { tables_end frames ≤ (H.counts h.old).size }
     requires slot { slot < POOL_RECORDS }
-    requires numbers { number + numbers_drawn (puddles_counted view.now) ≤ NUMBER_LIMIT }
+    requires numbers { number + numbers_drawn (puddle_count_read view.now) ≤ NUMBER_LIMIT }
     ensures refusal { H.tells → (image : Image) → reads (H.state h.old).now.words ≡ image → place_fault result ≡ Option.None
         → refusal_in result
-        ≡ cond (nat_lt frames (count_used (tables_of frames image).puddles 0 frames + puddles_counted view.now)) (Option.Some PlaceFault.NoSpace) Option.None }
+        ≡ cond (nat_lt frames (count_used (tables_of frames image).puddles 0 frames + puddle_count_read view.now)) (Option.Some PlaceFault.NoSpace) Option.None }
     ensures placed { H.tells → (image : Image) → reads (H.state h.old).now.words ≡ image
-        → IfOk result (λ puddles. ArePlaced (tables_of frames image) number (map (λ d. d.base) (stored_held view.now).puddles) (map puddle_of puddles.items)) }
+        → IfOk result (λ puddles. ArePlaced (tables_of frames image) number (map (λ d. d.base) (stored_held view.now).puddles) (map puddle_of_added puddles.items)) }
     ensures members { IfOk result (λ puddles. AreMembers slot number puddles.items) }
-    ensures count { IfOk result (λ puddles. length puddles.items ≡ puddles_counted view.now) }
+    ensures count { IfOk result (λ puddles. length puddles.items ≡ puddle_count_read view.now) }
     ensures within { IfOk result (λ puddles. All (IsAddedWithin frames) puddles.items) }
     ensures only_reads { OnlyReads H.tells H.state H.counts (place_fault result) h.old h.new }
 {
@@ -167,7 +167,7 @@ pub(crate) fn find_plan<H: Host>(
     ensures slot { IfOk result (λ plan. plan.slot < POOL_RECORDS) }
     ensures left { IfOk result (λ plan. plan.number < NUMBER_LIMIT) }
     ensures records { IfOk result (λ plan. All (λ t. t.record_number < TYPE_RECORDS) plan.types.items) }
-    ensures count { IfOk result (λ plan. length plan.puddles.items ≡ puddles_counted view.now) }
+    ensures count { IfOk result (λ plan. length plan.puddles.items ≡ puddle_count_read view.now) }
     ensures within { IfOk result (λ plan. All (IsAddedWithin frames) plan.puddles.items) }
     ensures only_reads { OnlyReads H.tells H.state H.counts (place_fault result) h.old h.new }
 {

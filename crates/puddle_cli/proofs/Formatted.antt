@@ -20,7 +20,7 @@ use Rattle.pud_defs.specs.Texts.{formatted_text}
 use Rattle.pud_defs.proofs.Worlds.{world_of-no_magic}
 use Rattle.pud_defs.proofs.Blank.{world_of-blank}
 use Rattle.puddled.proofs.Lines.{SaysPart-says, SaysPart-nothing, words_said, script_said, shelf_said}
-use Rattle.puddle_cli.specs.Formatting.{is_refused, HasNoMagic, BelowFrames, IsLaidOut, HasFramesOf, KeepsFrames, LaysOut, Formats}
+use Rattle.puddle_cli.specs.Formatting.{is_format_refused, HasNoMagic, BelowFrames, IsLaidOut, HasFramesOf, KeepsFrames, LaysOut, Formats}
 
 -- each image left is not sound, or stands for the empty world
 abbrev IsBlankOrNone : (size F id : ℕ) → List ℕ → Image → Type 0
@@ -135,5 +135,5 @@ Formats-none size F id fault old new same =
     }
 
 -- what it says that formatting is not refused
-pub not_refused : (size F : ℕ) (image : Image) → is_refused size F image ≡ false → has_magic image ≡ false
+pub not_refused : (size F : ℕ) (image : Image) → is_format_refused size F image ≡ false → has_magic image ≡ false
 not_refused size F image e = (or_parts (ltb size (device_words F)) (has_magic image) e).1

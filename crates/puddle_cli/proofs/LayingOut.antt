@@ -13,7 +13,7 @@ use Rattle.pm_persist.specs.Ranges.{zeroed}
 use Rattle.pm_persist.proofs.Ranges.{zeroed_at, zeroed_within, placed_within}
 use Rattle.pud_defs.specs.declared.layout.TheConstants.{DEVICE_MAGIC, VERSION, MAGIC_WORD, VERSION_WORD, MACHINE_WORD, FRAMES_WORD, NEXT_NUMBER_WORD}
 use Rattle.pud_defs.specs.Layout.{frames_at}
-use Rattle.pud_defs.specs.Image.{Image, written}
+use Rattle.pud_defs.specs.Image.{Image, image_with}
 use Rattle.pud_defs.specs.Registry.{has_magic}
 use Rattle.pud_defs.specs.World.{IsBlank}
 use Rattle.pud_defs.proofs.Images.{written_there, written_other}
@@ -76,7 +76,7 @@ module _ (F id : ℕ) where
       }
 
   -- with the magic the device is blank
-  blank_with_magic : (words : Words) (before : Image) → IsLaidOut 0 F id words → Picks words before → IsBlank F id (written MAGIC_WORD DEVICE_MAGIC before)
+  blank_with_magic : (words : Words) (before : Image) → IsLaidOut 0 F id words → Picks words before → IsBlank F id (image_with MAGIC_WORD DEVICE_MAGIC before)
   blank_with_magic words before ready picked =
       record {
         magic = written_there MAGIC_WORD DEVICE_MAGIC before;

@@ -15,8 +15,8 @@ use Rattle.puddled.specs.Saying.{SaysPart}
 use Rattle.puddle_cli.specs.declared.format.TheConstants.{FIRST_NUMBER}
 
 -- formatting is refused: the device is formatted already, or has too few words
-abbrev pub is_refused : (size F : ℕ) → Image → Bool
-is_refused size F image = nat_lt size (device_words F) || has_magic image
+abbrev pub is_format_refused : (size F : ℕ) → Image → Bool
+is_format_refused size F image = nat_lt size (device_words F) || has_magic image
 
 -- no value of word 0 is the device magic
 pub record HasNoMagic (words : Words) : Type 0 where

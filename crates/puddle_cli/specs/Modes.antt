@@ -19,7 +19,7 @@ use Rattle.puddle_cli.specs.declared.status.TheConstants.{DONE, USAGE, NOT_USABL
 use Rattle.puddle_cli.specs.declared.show.View.TheVariants as views
 use Rattle.puddle_cli.specs.Status.{status_fault, run_fault_at, IsStatusOfMode}
 use Rattle.puddle_cli.specs.Views.{text_of}
-use Rattle.puddle_cli.specs.Formatting.{is_refused, Formats}
+use Rattle.puddle_cli.specs.Formatting.{is_format_refused, Formats}
 use Rattle.puddle_cli.specs.Serving.{KeepsScript, IsUnsoundBehindLoss}
 use Rattle.puddle_cli.specs.Replying.{RunSays}
 use Rattle.puddle_cli.specs.Headline.{TakesScript, Headline}
@@ -34,10 +34,10 @@ pub record NoneRose (before after : Counts) : Type 0 where
 -- fault comes between, at every moment of which the device is not sound or blank. Where the device may be formatted and neither count rose it is
 -- done.
 pub record FormatsDevice (F id status : ℕ) (before after : Counts) (old new : State) : Type 0 where
-  pub not_usable : status_fault status ≡ None → (status ≡ NOT_USABLE) ↔ IsTrue (is_refused before.size F (reads old.now.words))
+  pub not_usable : status_fault status ≡ None → (status ≡ NOT_USABLE) ↔ IsTrue (is_format_refused before.size F (reads old.now.words))
   pub stays : status ≡ NOT_USABLE → new ≡ old
   pub formats : status ≢ NOT_USABLE → Formats before.size F id (status_fault status) old new
-  pub completes : is_refused before.size F (reads old.now.words) ≡ false → NoneRose before after → status ≡ DONE
+  pub completes : is_format_refused before.size F (reads old.now.words) ≡ false → NoneRose before after → status ≡ DONE
 
 -- The mode `run`. Whatever the device holds, the start's text is said, and one answer for each line taken; it is refused only where what the
 -- device reads is not sound, or where power was lost meanwhile and what it then reads is not sound. On a device that was rested it is refused

@@ -5,7 +5,7 @@ ghost use Rattle.pm_model.specs.Counts.{after_fault, fault_of};
 ghost use Rattle.pm_model.specs.Reads.{OnlyReads};
 ghost use Rattle.pud_defs.specs.Layout.{device_words, is_legal_frame_count};
 ghost use Rattle.puddle_cli.specs.Status.{status_fault, IsStatusOfMode};
-ghost use Rattle.puddle_cli.specs.Formatting.{is_refused, LaysOut, Formats};
+ghost use Rattle.puddle_cli.specs.Formatting.{is_format_refused, LaysOut, Formats};
 
 use crate::status::{DONE, NOT_USABLE, TOO_LONG, status_of};
 use pm_model::{Host, HostFault};
@@ -37,7 +37,7 @@ fn lay_out<H: Host>(h: &mut H, frames: u32, id: u64) -> Result<(), HostFault>
 /// Whether the device may not be formatted: it is formatted already, or has too few words.
 fn is_refused<H: Host>(h: &mut H, frames: u32) -> Result<bool, HostFault>
     requires { frames ≤ MAX_FRAMES }
-    ensures refused { H.tells → IfOk result (λ refused. refused ≡ is_refused (H.counts h.old).size frames (reads (H.state h.old).now.words)) }
+    ensures refused { H.tells → IfOk result (λ refused. refused ≡ is_format_refused (H.counts h.old).size frames (reads (H.state h.old).now.words)) }
     ensures room { IfOk result (λ refused. refused ≡ false → device_words frames ≤ (H.counts h.old).size) }
     ensures only_reads { OnlyReads H.tells H.state H.counts (fault_of result) h.old h.new }
 {
@@ -50,7 +50,7 @@ fn is_refused<H: Host>(h: &mut H, frames: u32) -> Result<bool, HostFault>
 /// Formats the device and says so, where it may be formatted.
 fn try_format<H: Host>(h: &mut H, frames: u32, id: u64) -> Result<bool, HostFault>
     requires legal { IsTrue (is_legal_frame_count frames) }
-    ensures refused { H.tells → IfOk result (λ done. done ≡ not (is_refused (H.counts h.old).size frames (reads (H.state h.old).now.words))) }
+    ensures refused { H.tells → IfOk result (λ done. done ≡ not (is_format_refused (H.counts h.old).size frames (reads (H.state h.old).now.words))) }
     ensures unchanged { H.tells → IfOk result (λ done. done ≡ false → H.state h.new ≡ H.state h.old) }
     ensures formats { H.tells → MatchResult result
         (λ done. done ≡ true → Formats (H.counts h.old).size frames id Option.None (H.state h.old) (H.state h.new))
@@ -70,7 +70,7 @@ pub fn format<H: Host>(h: &mut H, frames: u32, id: u64) -> u8
     requires legal { IsTrue (is_legal_frame_count frames) }
     ensures status { IsStatusOfMode result }
     ensures not_usable { H.tells → status_fault result ≡ Option.None
-        → (result ≡ NOT_USABLE) ↔ IsTrue (is_refused (H.counts h.old).size frames (reads (H.state h.old).now.words)) }
+        → (result ≡ NOT_USABLE) ↔ IsTrue (is_format_refused (H.counts h.old).size frames (reads (H.state h.old).now.words)) }
     ensures unchanged { H.tells → result ≡ NOT_USABLE → H.state h.new ≡ H.state h.old }
     ensures formats { H.tells → result ≢ NOT_USABLE → Formats (H.counts h.old).size frames id (status_fault result) (H.state h.old) (H.state h.new) }
     ensures never_too_long { result ≢ TOO_LONG }

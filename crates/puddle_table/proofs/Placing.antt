@@ -15,7 +15,7 @@ use Rattle.pud_defs.specs.Tables.{tables_of, members, puddles_of, puddle_in}
 use Rattle.pud_defs.proofs.Keyed.{chosen_some, find-keyed, first_from_step, first_from_end, first_from_some, count_used_step}
 use Rattle.pud_defs.proofs.TablesOf.{puddles_below, puddle_at-free, frames_of_tables}
 use Rattle.puddle_table.specs.Records.{is_member, puddle_words_at}
-use Rattle.puddle_table.specs.Placed.{Placed, frame_at, AreFramesBelow, PutsMember, HoldsPlaces}
+use Rattle.puddle_table.specs.Placed.{Placed, frame_of_puddle, AreFramesBelow, PutsMember, HoldsPlaces}
 use Rattle.puddle_table.proofs.Search.{used_record, under_table}
 
 -- ---- no frame is put yet
@@ -30,7 +30,7 @@ none_put-below count = λ k d below. subst (λ (o : Option ℕ). IfSome o (λ fr
 -- the places hold what the frames from one on have
 pub record HoldsFrom (F : ℕ) (image : Image) (from : ℕ) (p : Placed) : Type 0 where
   pub used : p.used ≡ count_used (tables_of F image).puddles from (F - from)
-  pub each : (slot ordinal : ℕ) → slot < POOL_RECORDS → ordinal < MAX_PUDDLES → frame_at p.frames slot ordinal ≡ option_map (λ e. e.0) (first_from nat_cmp ordinal (members (tables_of F image) slot) from (F - from))
+  pub each : (slot ordinal : ℕ) → slot < POOL_RECORDS → ordinal < MAX_PUDDLES → frame_of_puddle p.frames slot ordinal ≡ option_map (λ e. e.0) (first_from nat_cmp ordinal (members (tables_of F image) slot) from (F - from))
 
 pub HoldsFrom-start : (F : ℕ) (image : Image) → HoldsFrom F image F (record { count = F; used = 0; frames = none_put })
 unfolding count_used
@@ -116,12 +116,12 @@ module _ (F : ℕ) (image : Image) where
       let place : first.0 ≡ frame = ap (λ (e : ℕ × Puddle). e.0) here ∙ same_Some x.0 frame is in
       ap Some (sym here ∙ ap (λ (i : ℕ). (i, puddle_words_at image i)) place)
 
-  pub puddle_found : (p : Placed) (slot ordinal frame : ℕ) → HoldsPlaces (tables_of F image) p → slot < POOL_RECORDS → ordinal < MAX_PUDDLES → frame_at p.frames slot ordinal ≡ Some frame
+  pub puddle_found : (p : Placed) (slot ordinal frame : ℕ) → HoldsPlaces (tables_of F image) p → slot < POOL_RECORDS → ordinal < MAX_PUDDLES → frame_of_puddle p.frames slot ordinal ≡ Some frame
       → find nat_cmp ordinal (puddles_of (tables_of F image) slot) ≡ Some (frame, puddle_words_at image frame)
   puddle_found p slot ordinal frame h known few is =
       found_there slot ordinal frame (find nat_cmp ordinal (puddles_of (tables_of F image) slot)) (sym (found_first slot ordinal)) (sym (h.each slot ordinal known few) ∙ is)
 
-  pub puddle_placed : (p : Placed) (slot ordinal frame : ℕ) → HoldsPlaces (tables_of F image) p → slot < POOL_RECORDS → ordinal < MAX_PUDDLES → frame_at p.frames slot ordinal ≡ Some frame
+  pub puddle_placed : (p : Placed) (slot ordinal frame : ℕ) → HoldsPlaces (tables_of F image) p → slot < POOL_RECORDS → ordinal < MAX_PUDDLES → frame_of_puddle p.frames slot ordinal ≡ Some frame
       → Some (frame, puddle_read slot ordinal (puddle_words_at image frame)) ≡ puddle_in (tables_of F image) slot ordinal
   puddle_placed p slot ordinal frame h known few is =
       sym (ap (option_map (λ (e : ℕ × Puddle). (e.0, puddle_read slot ordinal e.1))) (puddle_found p slot ordinal frame h known few is))

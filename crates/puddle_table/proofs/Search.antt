@@ -15,7 +15,7 @@ use Rattle.pud_defs.proofs.Keyed.{find-keyed, first_from_here, first_from_other,
 use Rattle.pud_defs.proofs.TablesOf.{puddles_below, frames_of_tables, puddle_at-free}
 use Rattle.puddle_table.specs.declared.PuddleFault.{PuddleFault}
 use Rattle.puddle_table.specs.declared.PuddleFault.TheVariants.{NoSpace}
-use Rattle.puddle_table.specs.Records.{frame_by, added_at, is_member, puddle_words_at}
+use Rattle.puddle_table.specs.Records.{frame_by, puddle_added_at, is_member, puddle_words_at}
 
 -- ---- free and used records
 
@@ -53,7 +53,7 @@ pub frame_found : (o : Option ℕ) (frame : ℕ) → Ok frame ≡ frame_by o →
 frame_found None frame e = absurd (let no : Ok frame ≡ Err NoSpace = e in cc)
 frame_found (Some at) frame e = let same : Ok frame ≡ Ok at = e in cc
 
-pub none_found : (o : Option ℕ) (fault : PuddleFault) (r : PuddleRecord) → Err fault ≡ frame_by o → Err fault ≡ added_at o r
+pub none_found : (o : Option ℕ) (fault : PuddleFault) (r : PuddleRecord) → Err fault ≡ frame_by o → Err fault ≡ puddle_added_at o r
 none_found None fault r e = let same : Err fault ≡ Err NoSpace = e in cc
 none_found (Some at) fault r e = absurd (let no : Err fault ≡ Ok at = e in cc)
 

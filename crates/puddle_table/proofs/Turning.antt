@@ -11,7 +11,7 @@ use Rattle.pud_defs.specs.Image.{Image}
 use Rattle.pud_defs.specs.Tables.{Tables, tables_of, puddles_of, in_turn, puddles_in_turn}
 use Rattle.pud_defs.proofs.PuddlesListed.{in_turn-found, in_turn-none, in_turn-end}
 use Rattle.puddle_table.specs.Records.{puddle_words_at}
-use Rattle.puddle_table.specs.Placed.{Placed, AreFramesBelow, frame_at, HoldsPlaces}
+use Rattle.puddle_table.specs.Placed.{Placed, AreFramesBelow, frame_of_puddle, HoldsPlaces}
 use Rattle.puddle_table.proofs.Placing.{puddle_found}
 
 -- the puddle of each ordinal
@@ -34,12 +34,12 @@ not_found f None is = refl
 not_found f (Some x) is = absurd (none-some (f x) is)
 
 module _ (F : ℕ) (image : Image) (p : Placed) (h : HoldsPlaces (tables_of F image) p) (slot ordinal : ℕ) (known : slot < POOL_RECORDS) (few : ordinal < MAX_PUDDLES) (puddles : List (ℕ × Puddle)) where
-  pub ReadsOn-none : frame_at p.frames slot ordinal ≡ None → ReadsOn (tables_of F image) slot ordinal puddles → puddles ≡ puddles_in_turn (tables_of F image) slot
+  pub ReadsOn-none : frame_of_puddle p.frames slot ordinal ≡ None → ReadsOn (tables_of F image) slot ordinal puddles → puddles ≡ puddles_in_turn (tables_of F image) slot
   ReadsOn-none is =
       all_read (tables_of F image) slot ordinal puddles
       (in_turn-none (by_ordinal (tables_of F image) slot) ordinal MAX_PUDDLES few (not_found (λ (e : ℕ × Puddle). e.0) _ (sym is ∙ h.each slot ordinal known few)))
 
-  pub ReadsOn-more : (frame : ℕ) (puddle : Puddle) → frame_at p.frames slot ordinal ≡ Some frame → puddle ≡ puddle_words_at image frame
+  pub ReadsOn-more : (frame : ℕ) (puddle : Puddle) → frame_of_puddle p.frames slot ordinal ≡ Some frame → puddle ≡ puddle_words_at image frame
       → ReadsOn (tables_of F image) slot ordinal puddles → ReadsOn (tables_of F image) slot (ordinal + 1) (puddles ++ (frame, puddle) ∷ [])
   ReadsOn-more frame puddle is read before = record {
     all =

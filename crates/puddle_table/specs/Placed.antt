@@ -14,8 +14,8 @@ pub record Placed : Type 0 where
   pub frames : List (Option ℕ)
 
 -- the frame at the place of this ordinal of the pool of this slot
-abbrev pub frame_at : List (Option ℕ) → (slot ordinal : ℕ) → Option ℕ
-frame_at frames slot ordinal = slice_index_or frames (MAX_PUDDLES * slot + ordinal) None
+abbrev pub frame_of_puddle : List (Option ℕ) → (slot ordinal : ℕ) → Option ℕ
+frame_of_puddle frames slot ordinal = slice_index_or frames (MAX_PUDDLES * slot + ordinal) None
 
 -- each frame that stands at a place is one of so many
 abbrev pub AreFramesBelow : ℕ → List (Option ℕ) → Type 0
@@ -23,7 +23,7 @@ AreFramesBelow count frames = All (λ found. IfSome found (λ frame. frame < cou
 
 -- the frame stands at the place that the member word names, where it names one, and at all others stands what stood there
 pub record PutsFrame (frame member : ℕ) (old new : List (Option ℕ)) : Type 0 where
-  pub each : (slot ordinal : ℕ) → slot < POOL_RECORDS → ordinal < MAX_PUDDLES → frame_at new slot ordinal ≡ cond (is_member member slot ordinal) (Some frame) (frame_at old slot ordinal)
+  pub each : (slot ordinal : ℕ) → slot < POOL_RECORDS → ordinal < MAX_PUDDLES → frame_of_puddle new slot ordinal ≡ cond (is_member member slot ordinal) (Some frame) (frame_of_puddle old slot ordinal)
 
 -- the same, and the frame is counted where its record is used, whatever it names
 pub record PutsMember (frame member : ℕ) (old new : Placed) : Type 0 where
@@ -34,4 +34,4 @@ pub record PutsMember (frame member : ℕ) (old new : Placed) : Type 0 where
 -- They are the places of these tables: so many records are used, and each puddle of a pool stands in this frame.
 pub record HoldsPlaces (t : Tables) (p : Placed) : Type 0 where
   pub used : p.used ≡ count_used t.puddles 0 t.frames
-  pub each : (slot ordinal : ℕ) → slot < POOL_RECORDS → ordinal < MAX_PUDDLES → frame_at p.frames slot ordinal ≡ option_map (λ e. e.0) (find nat_cmp ordinal (puddles_of t slot))
+  pub each : (slot ordinal : ℕ) → slot < POOL_RECORDS → ordinal < MAX_PUDDLES → frame_of_puddle p.frames slot ordinal ≡ option_map (λ e. e.0) (find nat_cmp ordinal (puddles_of t slot))

@@ -25,16 +25,16 @@ frame_by (Some frame) = Ok frame
 frame_by None = Err faults.NoSpace
 
 -- what adding a record answers at the lowest free frame
-abbrev pub added_at : Option ℕ → PuddleRecord → Result Put PuddleFault
-added_at (Some frame) r = Ok (puddle_put frame r)
-added_at None r = Err faults.NoSpace
+abbrev pub puddle_added_at : Option ℕ → PuddleRecord → Result Put PuddleFault
+puddle_added_at (Some frame) r = Ok (puddle_put frame r)
+puddle_added_at None r = Err faults.NoSpace
 
 -- What adding a record from a frame on answers: the words of the lowest free one there, or none is free.
-abbrev pub added : Tables → ℕ → PuddleRecord → Result Put PuddleFault
-added t from r = added_at (first_free t.puddles from (t.frames - from)) r
+abbrev pub puddle_added : Tables → ℕ → PuddleRecord → Result Put PuddleFault
+puddle_added t from r = puddle_added_at (first_free t.puddles from (t.frames - from)) r
 
 -- A record is added in the lowest free frame from one on.
-pub record Adds (r : PuddleRecord) (from : ℕ) (t u : Tables) : Type 0 where
+pub record AddsPuddle (r : PuddleRecord) (from : ℕ) (t u : Tables) : Type 0 where
   pub frame : ℕ
   pub lowest : first_free t.puddles from (t.frames - from) ≡ Some frame
   pub is : u ≡ with_puddle_at frame (Some (member_by r)) t

@@ -18,7 +18,7 @@ ghost use Rattle.pud_defs.specs.Keyed.{first_free};
 ghost use Rattle.pud_defs.specs.Puddles.{puddle_record_at, puddle_read};
 ghost use Rattle.pud_defs.specs.Tables.{tables_of, puddle_in};
 ghost use Rattle.pud_defs.specs.Puts.{puddle_put, free_puddle_put, with_put, with_puddle_at, member_by};
-ghost use Rattle.puddle_table.specs.Records.{fault_in, frame_by, added, Adds, CountsPools, CountsMember, is_member, puddle_words_at, frontier_of, IsFrame};
+ghost use Rattle.puddle_table.specs.Records.{fault_in, frame_by, puddle_added, AddsPuddle, CountsPools, CountsMember, is_member, puddle_words_at, frontier_of, IsFrame};
 
 pub use places::{Places, Puddles, find_places, find_puddles};
 use pm_model::{Host, HostFault};
@@ -113,9 +113,9 @@ pub fn add<H: Host>(h: &mut H, frames: u32, from: u32, rec: PuddleRecord) -> Res
     requires table { tables_end frames ≤ (H.counts h.old).size }
     requires known { rec.pool < POOL_RECORDS }
     ensures added { H.tells → (image : Image) → reads (H.state h.old).now.words ≡ image → fault_in result ≡ Option.None
-        → result ≡ added (tables_of frames image) from rec }
+        → result ≡ puddle_added (tables_of frames image) from rec }
     ensures changes { H.tells → (image : Image) → reads (H.state h.old).now.words ≡ image
-        → IfOk result (λ put. Adds rec from (tables_of frames image) (tables_of frames (with_put put image))) }
+        → IfOk result (λ put. AddsPuddle rec from (tables_of frames image) (tables_of frames (with_put put image))) }
     ensures only_reads { OnlyReads H.tells H.state H.counts (fault_in result) h.old h.new }
 {
     let frame = free_frame(h, frames, from)?;

@@ -20,7 +20,7 @@ use Rattle.pud_defs.specs.World.{World}
 use Rattle.nesting.specs.declared.Session.{Session}
 use Rattle.pool_transaction.specs.declared.changing.Change.{Change}
 use Rattle.pool_transaction.specs.declared.changing.Change.TheVariants as changes
-use Rattle.pool_transaction.specs.Changing.{IsActiveWith, with_known, line_of}
+use Rattle.pool_transaction.specs.Changing.{IsActiveWith, with_known, command_of_change}
 use Rattle.known_pool.specs.Known.{Known, IsKnown}
 use Rattle.ready_daemon.specs.PoolKnowledge.{puddles_known, known_pool_in, known_puddles_in, AreOnDevice, AreKnownPools}
 use Rattle.ready_daemon.proofs.KnownKept.{graph_parts}
@@ -28,7 +28,7 @@ use Rattle.ready_daemon.proofs.KnownOpen.{known_again}
 use Rattle.ready_daemon.proofs.Known.{AreKnownPools-set}
 use Rattle.ready_daemon.specs.Memory.{ActiveTransaction, Memory, active_under}
 use Rattle.ready_daemon.specs.OwnOnPool.{IsOwnTransactionOn}
-use Rattle.ready_daemon.specs.Owning.{IsSlotOf}
+use Rattle.ready_daemon.specs.Owning.{IsRecordSlot}
 use Rattle.ready_daemon.specs.Ready.{IsReady}
 use Rattle.ready_daemon.proofs.Beside.{active_is}
 use Rattle.ready_daemon.proofs.PoolsBeside.{used_still}
@@ -90,11 +90,11 @@ module _ (size : ℕ) (w : World) (F : ℕ) (all : List (Option ActiveTransactio
     active_in = record { frames = refl; there = ap (active_under all) number_is ∙ there; known = ap (known_pool_in judged) slot_is ∙ known }
 
     -- it is asked for by the client's line
-    pub asked : (change : Change) → line_of change mine.client mine.name ≡ line_of change client name
-    asked change = ap₂ (line_of change) (ap (λ (h : ActiveTransaction). h.client) same ∙ own.own.whose) (ap (λ (h : ActiveTransaction). h.name) same ∙ own.own.pool)
+    pub asked : (change : Change) → command_of_change change mine.client mine.name ≡ command_of_change change client name
+    asked change = ap₂ (command_of_change change) (ap (λ (h : ActiveTransaction). h.client) same ∙ own.own.whose) (ap (λ (h : ActiveTransaction). h.name) same ∙ own.own.pool)
 
     -- its pool is that of the name
-    at_slot : IsSlotOf w.stored.frames name (reads s.now.words) slot
+    at_slot : IsRecordSlot w.stored.frames name (reads s.now.words) slot
     at_slot =
         let is = active_is w memory.active ready.mask s.now.words ready.active number own.own.active own.own.is in
         record {
@@ -104,13 +104,13 @@ module _ (size : ℕ) (w : World) (F : ℕ) (all : List (Option ActiveTransactio
         }
 
     pub Applies-changed : (change : Change) (now : ActiveTransaction) (pool : Known) (fault : Option HostFault) (new : State)
-        → AppliesFinishing mine.slot (FinishesUnless (refusal_of w (line_of change mine.client mine.name)) (Finishes F at (reads s.now.words) change)) size w (world_by w (Some (line_of change mine.client mine.name)))
+        → AppliesFinishing mine.slot (FinishesUnless (refusal_of w (command_of_change change mine.client mine.name)) (Finishes F at (reads s.now.words) change)) size w (world_by w (Some (command_of_change change mine.client mine.name)))
         (with_known mine.log_number mine.slot now pool memory) fault s new
-        → AppliesAs size w (world_by w (Some (line_of change client name))) (Some (line_of change client name)) (record { frames = F; active = set all number (Some now); sessions = sessions; judged = set judged slot (Some pool) }) fault s new
+        → AppliesAs size w (world_by w (Some (command_of_change change client name))) (Some (command_of_change change client name)) (record { frames = F; active = set all number (Some now); sessions = sessions; judged = set judged slot (Some pool) }) fault s new
     Applies-changed change now pool fault new applies =
-        let line = line_of change mine.client mine.name in
+        let line = command_of_change change mine.client mine.name in
         let finishes : (ℕ → ℕ) → Type 0 = Finishes w.stored.frames (puddles_in_turn (tables_of w.stored.frames (reads s.now.words)) slot) (reads s.now.words) change in
-        AppliesAs-change size w (world_by w (Some (line_of change client name))) client name change (with_known number slot now pool memory) fault s new slot at_slot
+        AppliesAs-change size w (world_by w (Some (command_of_change change client name))) client name change (with_known number slot now pool memory) fault s new slot at_slot
         (subst (λ (c : Command). AppliesFinishing slot (FinishesUnless (refusal_of w c) finishes) size w (world_by w (Some c)) (with_known number slot now pool memory) fault s new) (asked change)
         (subst (λ (i : ℕ). AppliesFinishing i (FinishesUnless (refusal_of w line) finishes) size w (world_by w (Some line)) (with_known number i now pool memory) fault s new) slot_is
         (subst (λ (n : ℕ). AppliesFinishing mine.slot (FinishesUnless (refusal_of w line) finishes) size w (world_by w (Some line)) (with_known n mine.slot now pool memory) fault s new) number_is
@@ -120,6 +120,6 @@ module _ (size : ℕ) (w : World) (F : ℕ) (all : List (Option ActiveTransactio
         (with_known mine.log_number mine.slot now pool memory) fault s new) ready.frames applies)))))
 
 -- where a line on the client's own is refused before what it asks is looked at, so is the line of each change
-pub refused_line : (w : World) (client : ℕ) (name : List ℕ) (r : Refusal) → refusal_of w (Commit client name) ≡ Some r → (change : Change) → refusal_of w (line_of change client name) ≡ Some r
+pub refused_line : (w : World) (client : ℕ) (name : List ℕ) (r : Refusal) → refusal_of w (Commit client name) ≡ Some r → (change : Change) → refusal_of w (command_of_change change client name) ≡ Some r
 refused_line w client name r refused (changes.New t) = refused_new w client name r refused t
 refused_line w client name r refused (changes.Update update) = refused_change w client name r refused update

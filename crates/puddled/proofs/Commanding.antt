@@ -21,7 +21,7 @@ use Rattle.puddled.specs.LineAnswers.{as_line_answer}
 use Rattle.pool_transaction.specs.declared.changing.Change.{Change}
 use Rattle.pool_transaction.specs.declared.changing.Change.TheVariants as changes
 use Rattle.pool_transaction.specs.declared.changing.Update.TheVariants as updates
-use Rattle.pool_transaction.specs.Changing.{line_of}
+use Rattle.pool_transaction.specs.Changing.{command_of_change}
 use Rattle.ready_daemon.specs.Ready.{KeepsRest, IsReady, Applies}
 use Rattle.puddled.specs.Daemon.{CarriesOut}
 use Rattle.puddled.specs.Frontiers.{AppliesAs}
@@ -129,7 +129,7 @@ module _ (client : ℕ) (name : List ℕ) where
   new_is_plain : (t : ℕ) → IsPlain (New client name t)
   new_is_plain t = record { kind = refl; file = refl; stays = λ other is. cc }
 
-  pub change_is_plain : (change : Change) → IsPlain (line_of change client name)
+  pub change_is_plain : (change : Change) → IsPlain (command_of_change change client name)
   change_is_plain (changes.New t) = new_is_plain t
   change_is_plain (changes.Update (updates.Set s f x)) = record { kind = refl; file = refl; stays = λ other is. cc }
   change_is_plain (changes.Update (updates.Later s f x)) = record { kind = refl; file = refl; stays = λ other is. cc }

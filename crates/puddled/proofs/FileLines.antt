@@ -34,7 +34,7 @@ use Rattle.pud_defs.specs.Transactions.{is_own}
 use Rattle.pud_defs.specs.Listing.{name_text}
 use Rattle.pud_defs.specs.Step.{Answer, refusal_of, cause_holds, after, answer, world_by}
 use Rattle.pud_defs.specs.Step.Answer.{of_reply, of_text}
-use Rattle.pud_defs.specs.Gives.{with_file, contents_for, contents_held, Exports, GivesUnless, Gives, StepBy, may_lack_memory}
+use Rattle.pud_defs.specs.Gives.{with_file, contents_for, contents_of_pool, Exports, GivesUnless, Gives, StepBy, may_lack_memory}
 use Rattle.pud_defs.specs.Changing.{file_of, KeepsFiles}
 use Rattle.pud_defs.specs.Texts.{in_one_line}
 use Rattle.pud_defs.proofs.Changing.{Gives-plain, KeepsFiles-still}
@@ -51,7 +51,7 @@ use Rattle.puddled.specs.Faults.{Kind, kind_of, CountsCommand}
 use Rattle.puddled.specs.Faults.Kind.{ordinary}
 use Rattle.puddled.specs.declared.finding.Need.TheVariants as needs
 use Rattle.puddled.specs.Finding.{refusal_to}
-use Rattle.puddled.specs.Reading.{HoldsGraph}
+use Rattle.puddled.specs.Reading.{SeesGraph}
 use Rattle.puddled.specs.Daemon.{CarriesOut}
 use Rattle.puddled.specs.Files.{HoldsPool, IsStoredPool}
 use Rattle.ready_daemon.specs.Memory.{Memory}
@@ -186,7 +186,7 @@ dump_moves_none client name = record { none = λ F before. refl }
 pub export_moves_none : (client : ℕ) (name file : List ℕ) → MovesNone (Export client name file)
 export_moves_none client name file = record { none = λ F before. refl }
 
-module _ (w : World) (client : ℕ) (name : List ℕ) (F : ℕ) (image : Image) (puddles : List (ℕ × Puddle)) (cause_holds : HoldsGraph w F name image puddles) (free : refusal_to w needs.Read client name ≡ None) where
+module _ (w : World) (client : ℕ) (name : List ℕ) (F : ℕ) (image : Image) (puddles : List (ℕ × Puddle)) (cause_holds : SeesGraph w F name image puddles) (free : refusal_to w needs.Read client name ≡ None) where
   abbrev line : Command
   line = Dump client name
 
@@ -285,7 +285,7 @@ module _ (w : World) (client : ℕ) (name file : List ℕ) where
   unfolding after
   export_leaves free = done_world w exports free
 
-  pub exported_step : (contents : FileContents) (bytes : List ℕ) → refusal_of w exports ≡ None → contents_held w.stored.types (pool_named name w.stored) ≡ Some contents → file_graph bytes ≡ Some contents
+  pub exported_step : (contents : FileContents) (bytes : List ℕ) → refusal_of w exports ≡ None → contents_of_pool w.stored.types (pool_named name w.stored) ≡ Some contents → file_graph bytes ≡ Some contents
       → StepBy w (Some exports) (of_reply replies.Ok) (record w { shelf = with_file (name_text file) bytes w.shelf })
   exported_step contents bytes free active cause_holds =
       let shelf = with_file (name_text file) bytes w.shelf in
@@ -300,9 +300,9 @@ module _ (w : World) (client : ℕ) (name file : List ℕ) where
 
 -- what the file is to hold of a pool that is known
 pub contents_are : (w : World) (F : ℕ) (name : List ℕ) (image : Image) (number : ℕ) (puddles : List (ℕ × Puddle)) (p : IsStoredPool w F name image number puddles)
-    → contents_held w.stored.types (pool_named name w.stored) ≡ Some (contents_for w.stored.types p.pool.puddles p.graph)
+    → contents_of_pool w.stored.types (pool_named name w.stored) ≡ Some (contents_for w.stored.types p.pool.puddles p.graph)
 contents_are w F name image number puddles p =
-    ap (contents_held w.stored.types) p.there ∙ ap (λ (g : Option Graph). option_map (contents_for w.stored.types p.pool.puddles) g) p.holds
+    ap (contents_of_pool w.stored.types) p.there ∙ ap (λ (g : Option Graph). option_map (contents_for w.stored.types p.pool.puddles) g) p.holds
 
 -- the text of a graph is one line
 pub one_line_dump : (g : Graph) (text : List ℕ) → text ≡ dump_text g → IsOneLine (answers.Text text)

@@ -36,13 +36,13 @@ use Rattle.pud_defs.proofs.PoolRefusals.{pool_by_record, found_record}
 use Rattle.pud_defs.proofs.RecordsPlaced.{legal_mode, mode_read}
 use Rattle.pud_defs.proofs.SoundChanged.{legal_pool}
 use Rattle.nesting.specs.declared.Session.{Session}
-use Rattle.nesting.specs.Sessions.{client_in, session_in, session_depth, IsSession}
+use Rattle.nesting.specs.Sessions.{session_client, session_in, session_depth, IsSession}
 use Rattle.ready_daemon.specs.Memory.{Memory}
 use Rattle.ready_daemon.specs.ActiveTransactions.{IsActive}
 use Rattle.ready_daemon.specs.OwnOnPool.{IsOwnTransactionOn}
 use Rattle.known_pool.specs.Known.{Known}
 use Rattle.ready_daemon.specs.PoolKnowledge.{known_puddles_in, AreKnownPools, puddles_with_graph}
-use Rattle.ready_daemon.specs.Owning.{refusal_found, IsSlotOf}
+use Rattle.ready_daemon.specs.Owning.{refusal_found, IsRecordSlot}
 use Rattle.ready_daemon.specs.Beginning.{MayBegin}
 use Rattle.ready_daemon.specs.Ready.{IsReady}
 use Rattle.ready_daemon.proofs.Applying.{IsReady-beside}
@@ -60,7 +60,7 @@ use Rattle.puddled.specs.declared.finding.Need.TheVariants as needs
 use Rattle.puddled.specs.declared.finding.FoundPool.{FoundPool}
 use Rattle.puddled.specs.Files.{IsStoredPool}
 use Rattle.puddled.specs.Finding.{needs_graph, lacks_graph, has_right, right_by, need_refusal, refusal_to, found_unless_busy, session_found, IsRecordOf, IsFound}
-use Rattle.puddled.specs.Reading.{HoldsGraph}
+use Rattle.puddled.specs.Reading.{SeesGraph}
 use Rattle.pud_defs.proofs.DistinctKeys.{none_by_some}
 use Rattle.ready_daemon.proofs.GraphLonger.{graph_as}
 
@@ -211,7 +211,7 @@ module _ (size : ℕ) (w : World) (memory : Memory) (s : State) (ready : IsReady
     pub named : pool_named name w.stored ≡ Some (pool_by_record hold t (slot, found.r))
     named = there_by ∙ ap (option_map (pool_by_record hold t)) found.found
 
-    pub slot_is : IsSlotOf F name image slot
+    pub slot_is : IsRecordSlot F name image slot
     slot_is = let at = found_record t name slot found.r found.found in record { rec = found.r; used = at.used; name_is = at.name_is }
 
     -- its puddles as they are read one by one are those that it has
@@ -282,7 +282,7 @@ module _ (size : ℕ) (w : World) (memory : Memory) (s : State) (ready : IsReady
           ∙ ap (graph_of (types_of image)) stored_read
 
       holds_by : (had puddles : List (ℕ × Puddle)) (g : Option Graph) → graph_of (types_of image) (stored_in F had image) ≡ g → graph_in (pool_named name w.stored) ≡ g
-          → Some puddles ≡ option_map (λ graph. had) g → HoldsGraph w F name image puddles
+          → Some puddles ≡ option_map (λ graph. had) g → SeesGraph w F name image puddles
       holds_by had puddles None stored there some = absurd (none-some puddles (sym some))
       holds_by had puddles (Some graph) stored there some = record {
         graph = graph;
@@ -291,11 +291,11 @@ module _ (size : ℕ) (w : World) (memory : Memory) (s : State) (ready : IsReady
       }
 
       -- the puddles that were found with a graph hold that of the pool
-      pub holds_graph : (puddles : List (ℕ × Puddle)) → Some puddles ≡ puddles_with_graph F image slot → HoldsGraph w F name image puddles
+      pub holds_graph : (puddles : List (ℕ × Puddle)) → Some puddles ≡ puddles_with_graph F image slot → SeesGraph w F name image puddles
       unfolding puddles_with_graph
       holds_graph puddles some = holds_by (puddles_in_turn t slot) puddles _ refl graph_read some
 
-      had : (holds : HoldsGraph w F name image (puddles_in_turn t slot)) → graph_in (pool_named name w.stored) ≡ Some holds.graph
+      had : (holds : SeesGraph w F name image (puddles_in_turn t slot)) → graph_in (pool_named name w.stored) ≡ Some holds.graph
       had holds = sym (ap (λ (o : Option Transaction). graph_seen o (pool_named name w.stored)) shut) ∙ holds.is
 
       known_are : (puddles : List (ℕ × Puddle)) (g : Option Graph) → Some puddles ≡ option_map (λ graph. puddles_in_turn t slot) g → puddles_in_turn t slot ≡ puddles
@@ -308,7 +308,7 @@ module _ (size : ℕ) (w : World) (memory : Memory) (s : State) (ready : IsReady
       stored_pool puddles some =
           let at = found_record t name slot found.r found.found in
           let are : puddles_in_turn t slot ≡ puddles = known_are puddles _ some in
-          let holds = subst (λ (p : List (ℕ × Puddle)). HoldsGraph w F name image p) (sym are) (holds_graph puddles some) in
+          let holds = subst (λ (p : List (ℕ × Puddle)). SeesGraph w F name image p) (sym are) (holds_graph puddles some) in
           let types = types_read size w memory s ready in
           record {
             pool = pool_by_record hold t (slot, found.r);
@@ -335,7 +335,7 @@ module _ (size : ℕ) (w : World) (memory : Memory) (s : State) (ready : IsReady
       of_session = session_open size w memory s ready name slot slot_is session at
 
       pub its_client : of_session.transaction.client ≡ session.client
-      its_client = sym (ap client_in of_session.session_is)
+      its_client = sym (ap session_client of_session.session_is)
 
       abbrev pub its : IsActive w of_session.active ready.mask s.now.words
       its = active_is w memory.active ready.mask s.now.words ready.active session.log_number of_session.active of_session.is

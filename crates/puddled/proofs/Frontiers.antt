@@ -20,14 +20,14 @@ use Rattle.lazy_rewrite.specs.Frontiers.{steps_left, steps_from, frontier_in, fr
 use Rattle.pool_transaction.specs.declared.changing.Change.{Change}
 use Rattle.pool_transaction.specs.declared.changing.Change.TheVariants as changes
 use Rattle.pool_transaction.specs.declared.changing.Update.TheVariants as updates
-use Rattle.pool_transaction.specs.Changing.{line_of}
+use Rattle.pool_transaction.specs.Changing.{command_of_change}
 use Rattle.pool_transaction.specs.Finishing.{Finishes, FinishesUnless, IsAt, Arrives, UnlessFailed, AppliesFinishing}
 use Rattle.pool_transaction.proofs.Arriving.{HaveReached, became, AppliesTo-known}
 use Rattle.pool_transaction.proofs.Leading.{led_none, failed_alone}
 use Rattle.ready_daemon.specs.PoolKnowledge.{known_puddles_in}
 use Rattle.ready_daemon.specs.Memory.{Memory}
 use Rattle.ready_daemon.specs.Moves.{Stays, IsOnTheWay, MovesTo, still, freed_in, led_in}
-use Rattle.ready_daemon.specs.Owning.{IsSlotOf}
+use Rattle.ready_daemon.specs.Owning.{IsRecordSlot}
 use Rattle.ready_daemon.specs.Ready.{IsReady, AppliesBy, Applies}
 use Rattle.ready_daemon.proofs.Applying.{AppliesBy-weaker}
 use Rattle.ready_daemon.proofs.Goals.{stays_still, still_stays}
@@ -81,7 +81,7 @@ AppliesAs-failed size w next memory fault old new command never_cut a = AppliesA
 -- ---- a change of a transaction
 
 change_leads : (F : ℕ) (client : ℕ) (name : List ℕ) (before : Image) (goal : Member → Option ℕ) (change : Change) → LeadsPool F name before (λ at by. Finishes F at before change by) goal
-    → MovesFrontiers F (line_of change client name) before goal
+    → MovesFrontiers F (command_of_change change client name) before goal
 change_leads F client name before goal (changes.New t) of = of
 change_leads F client name before goal (changes.Update (updates.Set s f x)) of = of
 change_leads F client name before goal (changes.Update (updates.Later s f x)) of = of
@@ -89,9 +89,9 @@ change_leads F client name before goal (changes.Update (updates.Root s)) of = of
 change_leads F client name before goal (changes.Update (updates.Free s)) of = of
 
 module _ (size : ℕ) (w next : World) (client : ℕ) (name : List ℕ) (change : Change) (memory : Memory) (fault : Option HostFault) (old new : State) (slot : ℕ)
-    (at : IsSlotOf w.stored.frames name (reads old.now.words) slot) where
+    (at : IsRecordSlot w.stored.frames name (reads old.now.words) slot) where
   abbrev line : Command
-  line = line_of change client name
+  line = command_of_change change client name
 
   -- its goals, as the refusal says
   change_goals : (why : Option Refusal) (goal : ℕ → ℕ) → FinishesUnless why (Finishes w.stored.frames (puddles_in_turn (tables_of w.stored.frames (reads old.now.words)) slot) (reads old.now.words) change) goal
@@ -123,7 +123,7 @@ freed_then true m = tt
 freed_then false m = refl
 
 pub AppliesAs-drop : (size : ℕ) (w : World) (client : ℕ) (name : List ℕ) (behind : Memory) (fault : Option HostFault) (old new : State) (slot : ℕ) → refusal_of w (Drop client name) ≡ None
-    → IsSlotOf w.stored.frames name (reads old.now.words) slot → AppliesBy (MovesTo (freed_in slot)) size w (world_by w (Some (Drop client name))) behind fault old new
+    → IsRecordSlot w.stored.frames name (reads old.now.words) slot → AppliesBy (MovesTo (freed_in slot)) size w (world_by w (Some (Drop client name))) behind fault old new
     → AppliesAs size w (world_by w (Some (Drop client name))) (Some (Drop client name)) behind fault old new
 AppliesAs-drop size w client name behind fault old new slot free at a =
     let next = world_by w (Some (Drop client name)) in
@@ -157,7 +157,7 @@ reached_steps n at = record {
 }
 
 pub AppliesAs-rewrite : (size : ℕ) (w : World) (memory behind : Memory) (name : List ℕ) (n slot : ℕ) (at : List (ℕ × Puddle)) (fault : Option HostFault) (old new : State) → IsReady size w memory old → slot < POOL_RECORDS
-    → known_puddles_in memory.judged slot ≡ Some at → refusal_of w (Rewrite name n) ≡ None → world_by w (Some (Rewrite name n)) ≡ w → IsSlotOf w.stored.frames name (reads old.now.words) slot
+    → known_puddles_in memory.judged slot ≡ Some at → refusal_of w (Rewrite name n) ≡ None → world_by w (Some (Rewrite name n)) ≡ w → IsRecordSlot w.stored.frames name (reads old.now.words) slot
     → (fault ≡ None → known_puddles_in behind.judged slot ≡ Some (steps_from n at))
     → AppliesBy (MovesTo (led_in slot (frontiers_of (steps_from n at)))) size w (world_by w (Some (Rewrite name n))) behind fault old new
     → AppliesAs size w (world_by w (Some (Rewrite name n))) (Some (Rewrite name n)) behind fault old new

@@ -44,7 +44,7 @@ use Rattle.ready_daemon.proofs.Pooling.{ChangesBeside, absent_apart}
 use Rattle.ready_daemon.proofs.TablesBeside.{HasDurableTables-masked, sound_read}
 use Rattle.puddled.specs.LineAnswers.{as_line_answer}
 use Rattle.puddled.specs.Daemon.{CarriesOut}
-use Rattle.puddled.specs.Importing.{MayName, IsFrontOf, reply_of_placing}
+use Rattle.puddled.specs.Importing.{MayMakeNamed, IsFrontOf, reply_of_placing}
 use Rattle.puddled.proofs.Carrying.{ClosesLogs-other, CarriesOut-plain}
 use Rattle.puddled.proofs.Commanding.{IsPlain, CarriesOut-refused}
 use Rattle.puddled.proofs.FileLines.{CarriesOut-read, memory_step}
@@ -61,7 +61,7 @@ import_moves_none client name file mode = record { none = λ F before. refl }
 -- ---- the file is placed
 
 module _ (size : ℕ) (w : World) (memory : Memory) (old new : State) (ready : IsReady size w memory old) (client uid gid mode : ℕ) (name file : List ℕ) (legal : IsLegalCommand (Import client name file mode))
-    (may : MayName w client name uid gid) (bytes : List ℕ) (there : w.shelf (name_text file) ≡ Some bytes) (contents : FileContents) (active : file_graph bytes ≡ Some contents) (stored : Stored)
+    (may : MayMakeNamed w client name uid gid) (bytes : List ℕ) (there : w.shelf (name_text file) ≡ Some bytes) (contents : FileContents) (active : file_graph bytes ≡ Some contents) (stored : Stored)
     (done : Result (Unit {0}) PlaceFault) where
   abbrev line : Command
   line = Import client name file mode
@@ -167,7 +167,7 @@ CarriesOut-behind size w memory c r first mid last a b d same counted ready carr
     (subst (λ (s : State). CarriesOut size w memory (Some c) (as_line_answer r) mid last s d) same (carries (subst (λ (s : State). IsReady size w memory s) (sym same) ready)))
 
 -- memory was refused for the file
-pub CarriesOut-memory : (size : ℕ) (w : World) (memory : Memory) (s : State) → IsReady size w memory s → (client uid gid mode : ℕ) (name file bytes : List ℕ) → MayName w client name uid gid → w.shelf (name_text file) ≡ Some bytes
+pub CarriesOut-memory : (size : ℕ) (w : World) (memory : Memory) (s : State) → IsReady size w memory s → (client uid gid mode : ℕ) (name file bytes : List ℕ) → MayMakeNamed w client name uid gid → w.shelf (name_text file) ≡ Some bytes
     → (new : State) → new ≡ s → (first last : Counts) → last ≡ first → CarriesOut size w memory (Some (Import client name file mode)) (as_line_answer (Ok (replies.No refusals.Memory))) first last s new
 CarriesOut-memory size w memory s ready client uid gid mode name file bytes may there new same first last cause =
     CarriesOut-read size w memory (Import client name file mode) refl (import_is_plain client name file mode).stays (import_moves_none client name file mode) first last s new ready (of_reply (replies.No refusals.Memory))
@@ -175,7 +175,7 @@ CarriesOut-memory size w memory s ready client uid gid mode name file bytes may 
 
 -- ---- the bytes that were given of a file
 
-module _ (size : ℕ) (w : World) (memory : Memory) (old new : State) (ready : IsReady size w memory old) (client uid gid mode : ℕ) (name file : List ℕ) (may : MayName w client name uid gid)
+module _ (size : ℕ) (w : World) (memory : Memory) (old new : State) (ready : IsReady size w memory old) (client uid gid mode : ℕ) (name file : List ℕ) (may : MayMakeNamed w client name uid gid)
     (bytes : List ℕ) (given : IsFrontOf w file bytes) where
   abbrev defers : Command
   defers = Import client name file mode
@@ -229,7 +229,7 @@ stays_refused n at c old new (Err faults.NoSpace) told stays = λ other. stays (
 stays_refused n at c old new (Err (faults.Host fault)) told stays = tt
 
 -- on a device of so many frames that is ready
-pub stays_unplaced : (size : ℕ) (w : World) (memory : Memory) (old new : State) → IsReady size w memory old → (client uid gid : ℕ) (name : List ℕ) → MayName w client name uid gid → (view : List ℕ) → is_some (file_graph view) ≡ true
+pub stays_unplaced : (size : ℕ) (w : World) (memory : Memory) (old new : State) → IsReady size w memory old → (client uid gid : ℕ) (name : List ℕ) → MayMakeNamed w client name uid gid → (view : List ℕ) → is_some (file_graph view) ≡ true
     → (done : Result (Unit {0}) PlaceFault) (n : ℕ) → n ≡ w.stored.frames
     → ((c : FileContents) → file_graph view ≡ Some c → place_fault done ≡ None → pool_in (tables_of n (reads old.now.words)) name ≡ None → refusal_in done ≡ refusal_by n (reads old.now.words) c)
     → ((c : FileContents) → file_graph view ≡ Some c → pool_in (tables_of n (reads old.now.words)) name ≡ None → (refusal_by n (reads old.now.words) c ≡ None → ⊥) → new ≡ old)

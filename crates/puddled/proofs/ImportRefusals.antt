@@ -39,7 +39,7 @@ use Rattle.pud_import.specs.Placing.{place_fault, refusal_in, refusal_by}
 use Rattle.ready_daemon.specs.Memory.{Memory}
 use Rattle.ready_daemon.specs.Ready.{IsReady}
 use Rattle.ready_daemon.proofs.TablesBeside.{header_read, types_read, pools_read, sound_read}
-use Rattle.puddled.specs.Importing.{MayName, reply_of_placing}
+use Rattle.puddled.specs.Importing.{MayMakeNamed, reply_of_placing}
 
 -- ---- the line
 
@@ -69,7 +69,7 @@ module _ (w : World) (client mode : ℕ) (name file : List ℕ) where
   pub import_exists : (who : Owner) (found : Pool) → w.clients client ≡ Some who → pool_named name w.stored ≡ Some found → refusal_of w line ≡ Some refusals.Exists
   import_exists who found acts there = by_shelf ∙ (λ p. refused (acts p) (there p) (w.shelf (name_text file)) (contents_in (w.shelf (name_text file))))
 
-  module _ (uid gid : ℕ) (may : MayName w client name uid gid) where
+  module _ (uid gid : ℕ) (may : MayMakeNamed w client name uid gid) where
     by_file : (bytes : Option (List ℕ)) (contents : Option FileContents) → w.shelf (name_text file) ≡ bytes → contents_in bytes ≡ contents → refusal_of w line ≡ refused (Some (owner uid gid)) None bytes contents
     by_file bytes contents is active = refusal_of-import w client mode name file bytes contents is active ∙ (λ p. refused (may.acts p) (may.absent p) bytes contents)
 

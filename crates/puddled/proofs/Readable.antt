@@ -35,7 +35,7 @@ use Rattle.ready_daemon.proofs.TablesBeside.{types_read}
 use Rattle.puddled.specs.declared.finding.Need.TheVariants as needs
 use Rattle.puddled.specs.declared.finding.FoundPool.{FoundPool}
 use Rattle.puddled.specs.Finding.{refusal_to, IsFound}
-use Rattle.puddled.specs.Reading.{HoldsGraph, reply_of_read}
+use Rattle.puddled.specs.Reading.{SeesGraph, reply_of_read}
 use Rattle.puddled.proofs.Found.{holds_graph, judged_ready, judged_more}
 use Rattle.puddled.proofs.Needs.{refusal_of-get as refusal_by_need}
 
@@ -43,7 +43,7 @@ use Rattle.puddled.proofs.Needs.{refusal_of-get as refusal_by_need}
 
 module _ (size : ℕ) (w : World) (memory : Memory) (s : State) (ready : IsReady size w memory s) (client : ℕ) (name : List ℕ) where
   -- the client's own transaction has the graph that is read of the puddles that are known
-  holds_own : (slot number : ℕ) (at : List (ℕ × Puddle)) → at ≡ unwrap_or (known_puddles_in memory.judged slot) [] → IsOwnTransactionOn client name slot number memory.active → HoldsGraph w w.stored.frames name (reads s.now.words) at
+  holds_own : (slot number : ℕ) (at : List (ℕ × Puddle)) → at ≡ unwrap_or (known_puddles_in memory.judged slot) [] → IsOwnTransactionOn client name slot number memory.active → SeesGraph w w.stored.frames name (reads s.now.words) at
   holds_own slot number at is own =
       let mine = own.own.active in
       let here = open_here w memory.active ready.mask s.now.words name client number ready.active own.own in
@@ -57,12 +57,12 @@ module _ (size : ℕ) (w : World) (memory : Memory) (s : State) (ready : IsReady
 
   -- they hold the graph of the pool
   pub holds_found : (found : FoundPool) (at : List (ℕ × Puddle)) → IsFound w needs.Read client name (reads s.now.words) memory found → at ≡ unwrap_or (known_puddles_in memory.judged found.slot) []
-      → HoldsGraph w w.stored.frames name (reads s.now.words) at
+      → SeesGraph w w.stored.frames name (reads s.now.words) at
   holds_found found at is known = by_own found.own refl
     where
-      by_own : (o : Option ℕ) → found.own ≡ o → HoldsGraph w w.stored.frames name (reads s.now.words) at
+      by_own : (o : Option ℕ) → found.own ≡ o → SeesGraph w w.stored.frames name (reads s.now.words) at
       by_own (Some number) own = holds_own found.slot number at known (is.own number own)
-      by_own None shut = subst (HoldsGraph w w.stored.frames name (reads s.now.words)) (sym known) (holds_graph size w memory s ready client name found.slot is.rec is.is (is.none shut) _ (is.known refl))
+      by_own None shut = subst (SeesGraph w w.stored.frames name (reads s.now.words)) (sym known) (holds_graph size w memory s ready client name found.slot is.rec is.is (is.none shut) _ (is.known refl))
 
 -- ---- what is known of pools
 
@@ -127,7 +127,7 @@ module _ (w : World) (client : ℕ) (name : List ℕ) (serial f : ℕ) where
       reply_by (object_in serial g) (field_of f (object_in serial g)) read there (ap (field_of f) there) e refl free
 
   -- where the field was read over the puddles that have the graph
-  pub reply_when_read : (F : ℕ) (image : Image) (puddles slice : List (ℕ × Puddle)) (read : FieldRead) → HoldsGraph w F name image puddles → slice ≡ puddles
+  pub reply_when_read : (F : ℕ) (image : Image) (puddles slice : List (ℕ × Puddle)) (read : FieldRead) → SeesGraph w F name image puddles → slice ≡ puddles
       → ((graph : Graph) → graph_of (types_of image) (stored_in F slice image) ≡ Some graph → read ≡ read_by (object_in serial graph) f) → refusal_to w needs.Read client name ≡ None
       → of_reply (reply_of_read read) ≡ answer_by w (Some c)
   reply_when_read F image puddles slice read holds same told free =

@@ -25,7 +25,7 @@ use Rattle.ready_daemon.specs.PoolKnowledge.{puddles_known, known_pool_in, known
 use Rattle.ready_daemon.proofs.KnownOpen.{known_within}
 use Rattle.ready_daemon.proofs.Known.{known_kept_there}
 use Rattle.ready_daemon.specs.Memory.{ActiveTransaction, Memory}
-use Rattle.ready_daemon.specs.Owning.{IsSlotOf}
+use Rattle.ready_daemon.specs.Owning.{IsRecordSlot}
 use Rattle.ready_daemon.specs.Moves.{MovesTo, led_in}
 use Rattle.ready_daemon.specs.Ready.{IsReady, AppliesBy}
 use Rattle.ready_daemon.proofs.Applying.{AppliesBy-weaker}
@@ -116,7 +116,7 @@ module _ (size : ℕ) (w : World) (F : ℕ) (active : List (Option ActiveTransac
       (subst (λ (n : ℕ). Rewrites n goal at later fault old new) ready.frames (does (ready_gate size w memory old ready) (low_of_placed w.stored.frames at placed))))
 
   -- its puddles are those before them, moved
-  pub DoesSteps-stepped : (name : List ℕ) (n : ℕ) (now : List (Option Known)) (new : State) → IsSlotOf w.stored.frames name (reads old.now.words) slot → now ≡ set judged slot (Some (with_puddles (steps_from n at) kept))
+  pub DoesSteps-stepped : (name : List ℕ) (n : ℕ) (now : List (Option Known)) (new : State) → IsRecordSlot w.stored.frames name (reads old.now.words) slot → now ≡ set judged slot (Some (with_puddles (steps_from n at) kept))
       → IsReady size w (record { frames = F; active = active; sessions = sessions; judged = now }) new → DoesSteps w.stored.frames name n (reads old.now.words) (reads new.now.words)
   DoesSteps-stepped name n now new is moves then = record {
     slot = slot;

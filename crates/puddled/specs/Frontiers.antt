@@ -20,12 +20,12 @@ use Rattle.lazy_rewrite.specs.Frontiers.{steps_from, frontiers_of}
 use Rattle.pool_transaction.specs.Finishing.{end_of, FinishesObject, FinishesTaken, Arrives, UnlessFailed, AppliesTo}
 use Rattle.ready_daemon.specs.Memory.{Memory}
 use Rattle.ready_daemon.specs.Moves.{MovesTo, still, freed_in, led_in}
-use Rattle.ready_daemon.specs.Owning.{IsSlotOf}
+use Rattle.ready_daemon.specs.Owning.{IsRecordSlot}
 
 -- The pool of the name has a record, and by its puddles these are goals of its frontiers, by ordinals.
 pub record LeadsPool (F : ℕ) (name : List ℕ) (before : Image) (goals : List (ℕ × Puddle) → (ℕ → ℕ) → Type 0) (goal : Member → Option ℕ) : Type 0 where
   pub slot : ℕ
-  pub is : IsSlotOf F name before slot
+  pub is : IsRecordSlot F name before slot
   pub by : ℕ → ℕ
   pub goals_are : goals (puddles_in_turn (tables_of F before) slot) by
   pub goal_is : goal ≡ led_in slot by
@@ -33,7 +33,7 @@ pub record LeadsPool (F : ℕ) (name : List ℕ) (before : Image) (goals : List 
 -- The pool of the name has a record, and the records of its puddles may be freed.
 pub record FreesPool (F : ℕ) (name : List ℕ) (before : Image) (goal : Member → Option ℕ) : Type 0 where
   pub slot : ℕ
-  pub is : IsSlotOf F name before slot
+  pub is : IsRecordSlot F name before slot
   pub goal_is : goal ≡ freed_in slot
 
 -- The goals of a line that moves frontiers, all of the pool of its name: it does steps, finishes the puddles that it writes objects of, or drops the pool. No other line moves any.

@@ -14,7 +14,7 @@ use Rattle.pud_import.specs.declared.placing.PlaceFault.{PlaceFault}
 use Rattle.pud_import.specs.declared.placing.PlaceFault.TheVariants as faults
 
 -- the client acts as this owner, which is legal, and no pool has the name
-pub record MayName (w : World) (client : ℕ) (name : List ℕ) (uid gid : ℕ) : Type 0 where
+pub record MayMakeNamed (w : World) (client : ℕ) (name : List ℕ) (uid gid : ℕ) : Type 0 where
   pub acts : w.clients client ≡ Some (owner uid gid)
   pub uid_fits : uid ≤ MAX_OWNER_ID
   pub gid_fits : gid ≤ MAX_OWNER_ID

@@ -16,7 +16,7 @@ use Rattle.graph_read.specs.declared.fields.FieldRead.{FieldRead}
 use Rattle.graph_read.specs.declared.fields.FieldRead.TheVariants.{NoObject, NoField, Value}
 
 -- these puddles have a graph, and it is that of the world's pool of this name, as the transaction has it that is open on it
-pub record HoldsGraph (w : World) (F : ℕ) (name : List ℕ) (image : Image) (puddles : List (ℕ × Puddle)) : Type 0 where
+pub record SeesGraph (w : World) (F : ℕ) (name : List ℕ) (image : Image) (puddles : List (ℕ × Puddle)) : Type 0 where
   pub graph : Graph
   pub stored : graph_of (types_of image) (stored_in F puddles image) ≡ Some graph
   pub is : graph_seen (open_on name w) (pool_named name w.stored) ≡ Some graph

@@ -13,7 +13,7 @@ ghost use Rattle.pud_defs.specs.Step.Answer.{of_reply};
 ghost use Rattle.pud_defs.specs.World.{Transaction, World, open_on};
 ghost use Rattle.nesting.specs.declared.Session.{Session};
 ghost use Rattle.puddled.specs.LineAnswers.{as_line_answer};
-ghost use Rattle.pool_transaction.specs.Changing.{line_of, IsLegalChange};
+ghost use Rattle.pool_transaction.specs.Changing.{command_of_change, IsLegalChange};
 ghost use Rattle.ready_daemon.specs.ActiveTransactions.{AreActiveWithin};
 ghost use Rattle.ready_daemon.specs.OwnOnPool.{IsOwnTransactionOn};
 ghost use Rattle.ready_daemon.specs.PoolKnowledge.{AreOnDevice};
@@ -49,10 +49,10 @@ fn change_in<H: Host>(
     requires legal { IsLegalChange change }
     ensures reply { H.tells → (size : ℕ) → size ≡ (H.counts h.old).size → (w : World) → (sessions : List (Option Session)) → (client : ℕ) → (name : List ℕ)
         → IsReady size w (record { frames = frames; active = all.old; sessions = sessions; judged = judged.old }) (H.state h.old) → IsOwnTransactionOn client name own.slot own.log_number all.old
-        → IfOk result (λ reply. of_reply reply ≡ answer_by w (Option.Some (line_of change client name))) }
+        → IfOk result (λ reply. of_reply reply ≡ answer_by w (Option.Some (command_of_change change client name))) }
     ensures applies { H.tells → (size : ℕ) → size ≡ (H.counts h.old).size → (w : World) → (sessions : List (Option Session)) → (client : ℕ) → (name : List ℕ)
         → IsReady size w (record { frames = frames; active = all.old; sessions = sessions; judged = judged.old }) (H.state h.old) → IsOwnTransactionOn client name own.slot own.log_number all.old
-        → AppliesAs size w (world_by w (Option.Some (line_of change client name))) (Option.Some (line_of change client name)) (record { frames = frames; active = all.new; sessions = sessions; judged = judged.new }) (fault_of result)
+        → AppliesAs size w (world_by w (Option.Some (command_of_change change client name))) (Option.Some (command_of_change change client name)) (record { frames = frames; active = all.new; sessions = sessions; judged = judged.new }) (fault_of result)
         (H.state h.old) (H.state h.new) }
     ensures within { AreActiveWithin frames all.new }
     ensures known { AreOnDevice frames judged.new }
@@ -192,7 +192,7 @@ impl Daemon {
         requires legal { IsLegalChange change }
         requires room { device_words (self.old).frames ≤ (H.counts h.old).size }
         ensures carries { H.tells → (size : ℕ) → size ≡ (H.counts h.old).size → (w : World) → IsReady size w self.old (H.state h.old)
-            → CarriesOut size w self.new (Option.Some (line_of change client name)) (as_line_answer result) (H.counts h.old) (H.counts h.new) (H.state h.old) (H.state h.new) }
+            → CarriesOut size w self.new (Option.Some (command_of_change change client name)) (as_line_answer result) (H.counts h.old) (H.counts h.new) (H.state h.old) (H.state h.new) }
         ensures frames { (self.new).frames ≡ (self.old).frames }
         ensures rest { H.tells → KeepsRest (H.state h.old) (H.state h.new) }
         ensures rests { H.tells → fault_of result ≡ Option.Some HostFault.Cut → IsRested (H.state h.new).now.words }

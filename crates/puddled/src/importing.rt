@@ -17,7 +17,7 @@ ghost use Rattle.ready_daemon.specs.Memory.{Memory};
 ghost use Rattle.ready_daemon.specs.Ready.{KeepsRest, IsReady};
 ghost use Rattle.puddled.specs.LineAnswers.{as_line_answer};
 ghost use Rattle.puddled.specs.Daemon.{CarriesOut};
-ghost use Rattle.puddled.specs.Importing.{MayName, IsFrontOf, reply_of_placing};
+ghost use Rattle.puddled.specs.Importing.{MayMakeNamed, IsFrontOf, reply_of_placing};
 
 use log_space::owner;
 use pm_model::{FileFault, Host, HostFault};
@@ -73,10 +73,10 @@ fn place_bytes<H: Host>(
     requires few { frames ≤ MAX_FRAMES }
     requires room { device_words frames ≤ (H.counts h.old).size }
     ensures carries { H.tells → (size : ℕ) → size ≡ (H.counts h.old).size → (w : World) → (memory : Memory) → memory.frames ≡ frames → IsReady size w memory (H.state h.old)
-        → (client : ℕ) → (file : List ℕ) → IsLegalCommand (Import client name file mode) → MayName w client name uid gid → IsFrontOf w file bytes.now
+        → (client : ℕ) → (file : List ℕ) → IsLegalCommand (Import client name file mode) → MayMakeNamed w client name uid gid → IsFrontOf w file bytes.now
         → CarriesOut size w memory (Option.Some (Import client name file mode)) (as_line_answer result) (H.counts h.old) (H.counts h.new) (H.state h.old) (H.state h.new) }
     ensures unchanged { H.tells → (size : ℕ) → (w : World) → (memory : Memory) → memory.frames ≡ frames → IsReady size w memory (H.state h.old)
-        → (client : ℕ) → MayName w client name uid gid → IfOk result (λ reply. reply ≢ Reply.Ok → H.state h.new ≡ H.state h.old) }
+        → (client : ℕ) → MayMakeNamed w client name uid gid → IfOk result (λ reply. reply ≢ Reply.Ok → H.state h.new ≡ H.state h.old) }
     ensures rest { H.tells → KeepsRest (H.state h.old) (H.state h.new) }
     ensures rests { H.tells → fault_of result ≡ Option.Some HostFault.Cut → IsRested (H.state h.new).now.words }
     ensures cause { H.counts h.new ≡ after_fault (fault_of result) (H.counts h.old) }
@@ -102,10 +102,10 @@ fn place_file<H: Host>(
     requires room { device_words frames ≤ (H.counts h.old).size }
     requires name { IsTrue (is_legal_name file) }
     ensures carries { H.tells → (size : ℕ) → size ≡ (H.counts h.old).size → (w : World) → (memory : Memory) → memory.frames ≡ frames → IsReady size w memory (H.state h.old)
-        → (client : ℕ) → IsLegalCommand (Import client name file mode) → MayName w client name uid gid
+        → (client : ℕ) → IsLegalCommand (Import client name file mode) → MayMakeNamed w client name uid gid
         → CarriesOut size w memory (Option.Some (Import client name file mode)) (as_line_answer result) (H.counts h.old) (H.counts h.new) (H.state h.old) (H.state h.new) }
     ensures unchanged { H.tells → (size : ℕ) → (w : World) → (memory : Memory) → memory.frames ≡ frames → IsReady size w memory (H.state h.old)
-        → (client : ℕ) → MayName w client name uid gid → IfOk result (λ reply. reply ≢ Reply.Ok → H.state h.new ≡ H.state h.old) }
+        → (client : ℕ) → MayMakeNamed w client name uid gid → IfOk result (λ reply. reply ≢ Reply.Ok → H.state h.new ≡ H.state h.old) }
     ensures rest { H.tells → KeepsRest (H.state h.old) (H.state h.new) }
     ensures rests { H.tells → fault_of result ≡ Option.Some HostFault.Cut → IsRested (H.state h.new).now.words }
     ensures cause { H.counts h.new ≡ after_fault (fault_of result) (H.counts h.old) }
@@ -127,7 +127,7 @@ fn find_maker<H: Host>(
     requires known { client < CLIENTS }
     requires room { PUDDLE_TABLE ≤ (H.counts h.old).size }
     ensures maker { H.tells → (size : ℕ) → (w : World) → (memory : Memory) → IsReady size w memory (H.state h.old)
-        → IfOk result (λ found. IfOk found (λ who. MayName w client name who.uid who.gid)) }
+        → IfOk result (λ found. IfOk found (λ who. MayMakeNamed w client name who.uid who.gid)) }
     ensures refused { H.tells → (size : ℕ) → (w : World) → (memory : Memory) → IsReady size w memory (H.state h.old)
         → IfOk result (λ found. (refusal : Refusal) → found ≡ Result.Err refusal → (file : List ℕ) → (mode : ℕ) → refusal_of w (Import client name file mode) ≡ Option.Some refusal) }
     ensures only_reads { OnlyReads H.tells H.state H.counts (fault_of result) h.old h.new }

@@ -12,7 +12,7 @@ ghost use Rattle.pud_defs.specs.Grammar.{IsLegalCommand};
 ghost use Rattle.pud_defs.specs.Step.{refusal_of, answer_by, world_by};
 ghost use Rattle.pud_defs.specs.Step.Answer.{of_reply};
 ghost use Rattle.ready_daemon.specs.Memory.{Memory};
-ghost use Rattle.ready_daemon.specs.Owning.{reply_of_making, refusal_found, IsSlotOf};
+ghost use Rattle.ready_daemon.specs.Owning.{reply_of_making, refusal_found, IsRecordSlot};
 ghost use Rattle.ready_daemon.specs.PoolKnowledge.{ForgetsPool};
 ghost use Rattle.ready_daemon.specs.Ready.{KeepsRest, IsReady, Applies};
 ghost use Rattle.puddled.specs.Frontiers.{AppliesAs};
@@ -78,7 +78,7 @@ impl Daemon {
         ensures refusal { H.tells → (size : ℕ) → (w : World) → IsReady size w self.old (H.state h.old)
             → IfOk result (λ found. refusal_found found ≡ refusal_of w (commands.Drop client name)) }
         ensures slot { H.tells → (size : ℕ) → (w : World) → IsReady size w self.old (H.state h.old)
-            → IfOk result (λ found. IfOk found (IsSlotOf w.stored.frames name (reads (H.state h.old).now.words))) }
+            → IfOk result (λ found. IfOk found (IsRecordSlot w.stored.frames name (reads (H.state h.old).now.words))) }
         ensures within { IfOk result (λ found. IfOk found (λ slot. slot < POOL_RECORDS)) }
         ensures ready { H.tells → (size : ℕ) → (w : World) → IsReady size w self.old (H.state h.old) → IsReady size w self.new (H.state h.old) }
         ensures judged { (self.new).judged ≡ (self.old).judged }

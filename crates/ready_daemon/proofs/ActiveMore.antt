@@ -11,7 +11,7 @@ use Rattle.pud_defs.specs.Transactions.{with_open}
 use Rattle.pud_defs.specs.World.{Transaction, World, open_on}
 use Rattle.hybrid_tx.specs.Open.ManyOpen.{Opens, MasksAll, AreOpenPools}
 use Rattle.nesting.specs.declared.Session.{Session}
-use Rattle.nesting.specs.Sessions.{session_in, number_in, session_depth, entered}
+use Rattle.nesting.specs.Sessions.{session_in, session_log, session_depth, entered}
 use Rattle.ready_daemon.specs.Memory.{ActiveTransaction, active_under}
 use Rattle.ready_daemon.specs.ActiveTransactions.{IsActiveUnder, IsOpenUnder, AreActive, session_of, HasSessions}
 use Rattle.ready_daemon.proofs.Beside.{KeepsOne}
@@ -125,7 +125,7 @@ module _ (w : World) (active : List (Option ActiveTransaction)) (mask : Write) (
       only = λ slot s there. elim (cases_eq slot begun.slot) [
         | inl same ↦
             let one : its_session ≡ s = same_Some its_session s (sym session_here ∙ ap (session_in then_sessions) (sym same) ∙ there) in
-            record { active = begun; is = ap (active_under all) (sym (ap number_in one)) ∙ begun_there; slot_is = sym same }
+            record { active = begun; is = ap (active_under all) (sym (ap session_log one)) ∙ begun_there; slot_is = sym same }
         | inr apart ↦
             let on = has.only slot s (sym (session_elsewhere slot apart) ∙ there) in
             record { active = on.active; is = still_there s.log_number on.active on.is; slot_is = on.slot_is }

@@ -14,7 +14,7 @@ use Rattle.pud_defs.specs.Transactions.{with_open, open_after_begin}
 use Rattle.pud_defs.specs.World.{Transaction, World, open_on}
 use Rattle.hybrid_tx.specs.Objects.Transactions.{IsOpenOn}
 use Rattle.nesting.specs.declared.Session.{Session}
-use Rattle.nesting.specs.Sessions.{session_in, number_in, session_depth, entered}
+use Rattle.nesting.specs.Sessions.{session_in, session_log, session_depth, entered}
 use Rattle.ready_daemon.specs.Memory.{ActiveTransaction, Memory, active_under}
 use Rattle.ready_daemon.specs.ActiveTransactions.{IsActive, IsActiveUnder, IsOpenUnder, AreActive, session_of, HasSessions}
 use Rattle.ready_daemon.specs.OwnOnPool.{IsOwnTransactionOn}
@@ -128,7 +128,7 @@ module _ (size : ℕ) (w : World) (memory : Memory) (s : State) (ready : IsReady
         | inl same ↦
             let one : session_of number (record t { depth = depth }) ≡ session = same_Some (session_of number (record t { depth = depth })) session
             (sym (get_or-set_same memory.sessions active.slot (Some (session_of number (record t { depth = depth }))) None session_within) ∙ ap (session_in sessions_at) (sym same) ∙ is) in
-            record { active = active; is = ap (active_under memory.active) (sym (ap number_in one)) ∙ there; slot_is = sym same }
+            record { active = active; is = ap (active_under memory.active) (sym (ap session_log one)) ∙ there; slot_is = sym same }
         | inr apart ↦ ready.sessions.only slot session (sym (get_or-set_other memory.sessions active.slot slot (Some (session_of number (record t { depth = depth }))) None apart) ∙ is)
       ];
     }

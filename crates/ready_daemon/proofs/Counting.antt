@@ -34,7 +34,7 @@ use Rattle.hybrid_tx.proofs.Open.ManyMasks.{masks_beside_log}
 use Rattle.log_space.specs.FreeLogs.{first_from, first_closed, log_number, IsLogOf}
 use Rattle.log_space.proofs.FirstFrom.{first_from-found, first_from-each}
 use Rattle.nesting.specs.declared.Session.{Session}
-use Rattle.nesting.specs.Sessions.{client_in, session_in, is_of, count_of}
+use Rattle.nesting.specs.Sessions.{session_client, session_in, is_of_client, count_of}
 use Rattle.nesting.proofs.Counts.{count_of-set_fewer}
 use Rattle.ready_daemon.specs.Memory.{ActiveTransaction, Memory, active_under}
 use Rattle.ready_daemon.specs.Ready.{IsReady}
@@ -57,7 +57,7 @@ module _ {A : Type 0} (f : A → ℕ) (xs : List A) (d : A) where
 abbrev number_of : Bool → ℕ
 number_of b = cond b 1 0
 
-same_owner : (client : ℕ) (s : Option Session) (o : Option Transaction) → option_map client_in s ≡ option_map (λ (t : Transaction). t.client) o → is_of client s ≡ is_own client o
+same_owner : (client : ℕ) (s : Option Session) (o : Option Transaction) → option_map session_client s ≡ option_map (λ (t : Transaction). t.client) o → is_of_client client s ≡ is_own client o
 same_owner client None None e = refl
 same_owner client None (Some t) e = absurd (none-some t.client e)
 same_owner client (Some s) None e = absurd (none-some s.client (sym e))
@@ -86,14 +86,14 @@ module _ (size : ℕ) (w : World) (memory : Memory) (s : State) (ready : IsReady
   own_elsewhere other false e = refl
 
   -- a slot of no pool has no session
-  free_slot : (slot : ℕ) (o : Option Session) → t.pools slot ≡ None → session slot ≡ o → is_of client o ≡ false
+  free_slot : (slot : ℕ) (o : Option Session) → t.pools slot ≡ None → session slot ≡ o → is_of_client client o ≡ false
   free_slot slot None free e = refl
   free_slot slot (Some x) free e =
       let on = ready.sessions.only slot x e in
       let pool = active_pool w memory.active ready.mask s.now.words ready.active x.number on.active on.is in
       absurd (none-some pool.rec (sym free ∙ ap t.pools (sym on.slot_is) ∙ pool.used))
 
-  each_slot : (slot : ℕ) (r : Option PoolRecord) → t.pools slot ≡ r → worth name_cmp counts (entry_of hold (puddles_of t slot) r) ≡ number_of (is_of client (session slot))
+  each_slot : (slot : ℕ) (r : Option PoolRecord) → t.pools slot ≡ r → worth name_cmp counts (entry_of hold (puddles_of t slot) r) ≡ number_of (is_of_client client (session slot))
   each_slot slot None free = ap number_of (sym (free_slot slot (session slot) free refl))
   each_slot slot (Some r) used =
       let here = holder_is size w memory s ready r.name slot (record { rec = r; used = used; name_is = refl }) in
@@ -106,23 +106,23 @@ module _ (size : ℕ) (w : World) (memory : Memory) (s : State) (ready : IsReady
       let sound = sound_read size w memory s ready in
       ap (sum_by counts) (sym (pools_read size w memory s ready))
       ∙ sum-keyed name_cmp counts nat_list_cmp_total (entries hold t) 0 POOL_RECORDS (distinct_entries hold t (distinct_names w.stored.next_number t sound))
-      ∙ sum_places-same (λ j. worth name_cmp counts (entries hold t j)) (λ j. number_of (is_of client (session j))) 0 POOL_RECORDS (λ j low high. each_slot j (t.pools j) refl)
-      ∙ sym (sum_from (λ (o : Option Session). number_of (is_of client o)) memory.sessions None POOL_RECORDS 0 (sym slots))
+      ∙ sum_places-same (λ j. worth name_cmp counts (entries hold t j)) (λ j. number_of (is_of_client client (session j))) 0 POOL_RECORDS (λ j low high. each_slot j (t.pools j) refl)
+      ∙ sym (sum_from (λ (o : Option Session). number_of (is_of_client client o)) memory.sessions None POOL_RECORDS 0 (sym slots))
 
 -- ---- one in each log
 
 -- so many slots that have a session of the client
-each_counted : (client n : ℕ) (at : ℕ → ℕ) (sessions : List (Option Session)) → ((j : ℕ) → j < n → is_of client (session_in sessions (at j)) ≡ true)
+each_counted : (client n : ℕ) (at : ℕ → ℕ) (sessions : List (Option Session)) → ((j : ℕ) → j < n → is_of_client client (session_in sessions (at j)) ≡ true)
     → ((i j : ℕ) → i < n → j < n → at i ≡ at j → i ≡ j) → n ≤ count_of client sessions
 each_counted client zero at sessions own apart = omega arith
 each_counted client (suc n) at sessions own apart =
     let here = own n (omega arith) in
     let within : at n < length sessions = elim (cases_lt (at n) (length sessions)) [
       | inl low ↦ low
-      | inr past ↦ absurd (let it : true ≡ false = sym here ∙ ap (is_of client) (get_or_past sessions (at n) None past) in cc)
+      | inr past ↦ absurd (let it : true ≡ false = sym here ∙ ap (is_of_client client) (get_or_past sessions (at n) None past) in cc)
     ] in
     let rest = each_counted client n at (set sessions (at n) None)
-    (λ j low. ap (is_of client) (get_or-set_other sessions (at n) (at j) None None (λ same. let e = apart j n (omega arith) (omega arith) same in absurd (omega arith))) ∙ own j (omega arith))
+    (λ j low. ap (is_of_client client) (get_or-set_other sessions (at n) (at j) None None (λ same. let e = apart j n (omega arith) (omega arith) same in absurd (omega arith))) ∙ own j (omega arith))
     (λ i j low high same. apart i j (omega arith) (omega arith) same) in
     omega (arith, rest, count_of-set_fewer client sessions (at n) None within here refl)
 
@@ -167,13 +167,13 @@ module _ (size : ℕ) (w : World) (memory : Memory) (s : State) (ready : IsReady
       abbrev its_slot : ℕ → ℕ
       its_slot j = slot_of (active_under memory.active (CLIENT_LOGS * client + j))
 
-      its_session : (j : ℕ) → j < CLIENT_LOGS → is_of client (session_in memory.sessions (its_slot j)) ≡ true
+      its_session : (j : ℕ) → j < CLIENT_LOGS → is_of_client client (session_in memory.sessions (its_slot j)) ≡ true
       its_session j low =
           let one = each j low in
           let is = active_is w memory.active ready.mask words ready.active (CLIENT_LOGS * client + j) one.0 one.1 in
           let whose : client_of_log (CLIENT_LOGS * client + j) ≡ client = omega arith in
-          ap (λ (o : Option ActiveTransaction). is_of client (session_in memory.sessions (slot_of o))) one.1
-          ∙ ap (is_of client) (session_active w memory.active ready.mask words ready.active memory.sessions ready.sessions (CLIENT_LOGS * client + j) one.0 one.1)
+          ap (λ (o : Option ActiveTransaction). is_of_client client (session_in memory.sessions (slot_of o))) one.1
+          ∙ ap (is_of_client client) (session_active w memory.active ready.mask words ready.active memory.sessions ready.sessions (CLIENT_LOGS * client + j) one.0 one.1)
           ∙ eq-eqb is.transaction.client client (is.client ∙ sym is.owner ∙ ap client_of_log (ready.active.each (CLIENT_LOGS * client + j) one.0 one.1).number_is ∙ whose)
 
       its_own : (i j : ℕ) → i < CLIENT_LOGS → j < CLIENT_LOGS → its_slot i ≡ its_slot j → i ≡ j

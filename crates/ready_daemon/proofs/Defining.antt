@@ -17,7 +17,7 @@ use Rattle.pud_defs.specs.declared.machine.Command.TheVariants.{Define}
 use Rattle.pud_defs.specs.declared.machine.Refusal.{Refusal}
 use Rattle.pud_defs.specs.declared.machine.Refusal.TheVariants.{Clash, Full}
 use Rattle.pud_defs.specs.Image.{Image}
-use Rattle.pud_defs.specs.Image.{written as write_word}
+use Rattle.pud_defs.specs.Image.{image_with as write_word}
 use Rattle.pud_defs.specs.Keyed.{first_free}
 use Rattle.pud_defs.specs.Names.{name_cmp}
 use Rattle.pud_defs.specs.Spaces.{Owner, owner_of}
@@ -29,7 +29,7 @@ use Rattle.pud_defs.specs.Holdings.Holding.{Sound, Wild}
 use Rattle.pud_defs.specs.TypeMap.{is_legal_map, is_legal_type_id}
 use Rattle.pud_defs.specs.Types.{type_record_at, type_at, types_of, free_type, used_types, map_of, with_type}
 use Rattle.pud_defs.specs.Entries.{is_idle_gate}
-use Rattle.pud_defs.specs.PoolChanges.{pool_named, read_by, with_type_defined}
+use Rattle.pud_defs.specs.PoolChanges.{pool_named, reread_pool, with_type_defined}
 use Rattle.pud_defs.specs.World.{StoredWorld, World, idle_world_of, closed}
 use Rattle.pud_defs.specs.Step.{is_other, is_clash, graph_in, answer_by, refusal_of, after, unless_refused, world_by}
 use Rattle.pud_defs.proofs.Keyed.{IsLowestFree, first_free_some, keyed-same}
@@ -241,7 +241,7 @@ active_kept : (more : List (ℕ × ℕ)) (h : Holding) (g : Graph) → graph_hel
 active_kept more (Sound other) g is = is
 active_kept more (Wild st) g is = absurd (none-some g is)
 
-graph_kept : (more : List (ℕ × ℕ)) (o : Option Pool) (g : Graph) → graph_in o ≡ Some g → graph_in (option_map (read_by more) o) ≡ Some g
+graph_kept : (more : List (ℕ × ℕ)) (o : Option Pool) (g : Graph) → graph_in o ≡ Some g → graph_in (option_map (reread_pool more) o) ≡ Some g
 graph_kept more None g is = absurd (none-some g is)
 graph_kept more (Some p) g is = active_kept more p.holding g is
 
@@ -250,7 +250,7 @@ pub pool_kept : (id map : ℕ) (s : StoredWorld) (name : List ℕ) (g : Graph) �
 unfolding with_type_defined
 pool_kept id map s name g is =
     let more = with_type id map s.types in
-    ap graph_in (find-mapped name_cmp (read_by more) name s.pools) ∙ graph_kept more (pool_named name s) g is
+    ap graph_in (find-mapped name_cmp (reread_pool more) name s.pools) ∙ graph_kept more (pool_named name s) g is
 
 graphs_kept : (id map : ℕ) (s : StoredWorld) → map_of id s.types ≡ None → (st : Stored) (g : Graph) → graph_of s.types st ≡ Some g → graph_of (with_type_defined id map s).types st ≡ Some g
 unfolding with_type_defined

@@ -3,11 +3,11 @@ use Rattle.std.proofs.Common.{◌≡◌, ℕ, ◌+◌, ◌≤◌, Bool, true, fa
 use Rattle.std.specs.Prelude.{max}
 use Rattle.std.proofs.lemmas.Bool.{cond-true}
 use Rattle.pud_defs.specs.Puddles.{Member, member_moved}
-use Rattle.ready_daemon.specs.Moves.{Stays, IsBetween, MovesTo, still, led_to, led_in}
+use Rattle.ready_daemon.specs.Moves.{Stays, IsFrontierBetween, MovesTo, still, led_to, led_in}
 use Rattle.ready_daemon.proofs.PuddlesLeft.{GoesOn, Joins}
 
 -- a record that stays is on its way to any goal that is not behind it
-pub stays_between : (m : Member) (goal : ℕ) (now : Option Member) → m.puddle.frontier ≤ goal → Stays m now → IsBetween m goal now
+pub stays_between : (m : Member) (goal : ℕ) (now : Option Member) → m.puddle.frontier ≤ goal → Stays m now → IsFrontierBetween m goal now
 stays_between m goal now most is = record { frontier = m.puddle.frontier; least = omega arith; most = most; is = is }
 
 -- so it is where its goal is what it was

@@ -25,7 +25,7 @@ use Rattle.registry.specs.declared.adding.NewPuddle.{NewPuddle}
 use Rattle.registry.specs.declared.placing.NewType.{NewType}
 use Rattle.registry.specs.Puts.{puts_batch}
 use Rattle.registry.specs.Adding.{adding}
-use Rattle.registry.specs.Placing.{new_type_put, placing, puddle_of, HasFreeRecords, IsPlacedFor}
+use Rattle.registry.specs.Placing.{new_type_put, placing, puddle_of_added, HasFreeRecords, IsPlacedFor}
 use Rattle.registry.proofs.PutBatches.{either_some}
 use Rattle.pm_model.specs.Words.{Words, reads}
 use Rattle.pm_model.specs.Changes.{Write}
@@ -139,7 +139,7 @@ module _ (F : ℕ) (image : Image) (file : List (ℕ × ℕ)) (wanted : List ℕ
 
   -- each puddle stands in a frame that was free
   pub placed_frame : (o : ℕ) (a : NewPuddle) → slice_get puddles o ≡ Some a → IsFreeFrame t a.frame
-  placed_frame o a there = placed_free t 0 [] wanted (map puddle_of puddles) is.placed.turn o (puddle_of a) (slice_get-mapped puddle_of puddles o a there)
+  placed_frame o a there = placed_free t 0 [] wanted (map puddle_of_added puddles) is.placed.turn o (puddle_of_added a) (slice_get-mapped puddle_of_added puddles o a there)
 
   -- and the record of the pool was free
   pub placed_slot : (slot < POOL_RECORDS) × (t.pools slot ≡ None)

@@ -57,7 +57,7 @@ use Rattle.known_pool.specs.Known.{Known}
 use Rattle.ready_daemon.specs.Memory.{ActiveTransaction, Memory, active_under}
 use Rattle.ready_daemon.specs.ActiveTransactions.{AreActive, LeavesMasked}
 use Rattle.ready_daemon.specs.KnownPools.{KnowsPools}
-use Rattle.ready_daemon.specs.Owning.{reply_of_making, refusal_beside, IsSlotOf}
+use Rattle.ready_daemon.specs.Owning.{reply_of_making, refusal_beside, IsRecordSlot}
 use Rattle.ready_daemon.specs.Moves.{Stays, MovesTo, LeavesPuddles, freed_in}
 use Rattle.ready_daemon.specs.Ready.{IsReady, AppliesBy, Applies}
 use Rattle.ready_daemon.proofs.Applying.{Applies-still}
@@ -495,7 +495,7 @@ module _ (size : ℕ) (w : World) (memory : Memory) (s : State) (ready : IsReady
     pub refused_denied : eqb uid rec.uid ≡ false → refusal_of w asked ≡ Some refusals.Denied
     refused_denied other = by_uid ∙ ap (λ b. cond (not b) (Some refusals.Denied) beside_open) other
 
-    pub slot_is : IsSlotOf w.stored.frames name (reads s.now.words) slot
+    pub slot_is : IsRecordSlot w.stored.frames name (reads s.now.words) slot
     slot_is = let at = found_record found_tables name slot rec_of.r rec_of.found in record { rec = rec_of.r; used = at.used; name_is = at.name_is }
 
     -- the owner's own pool
@@ -507,7 +507,7 @@ module _ (size : ℕ) (w : World) (memory : Memory) (s : State) (ready : IsReady
 -- ---- a pool that was found is changed, or dropped
 
 module _ (size : ℕ) (w : World) (memory : Memory) (client slot : ℕ) (name : List ℕ) (fault : Option HostFault) (old new : State) (ready : IsReady size w memory old)
-    (free : refusal_of w (commands.Drop client name) ≡ None) (at : IsSlotOf w.stored.frames name (reads old.now.words) slot) where
+    (free : refusal_of w (commands.Drop client name) ≡ None) (at : IsRecordSlot w.stored.frames name (reads old.now.words) slot) where
   abbrev N : ℕ
   N = w.stored.frames
 

@@ -17,11 +17,11 @@ use Rattle.pud_defs.specs.World.{Transaction, World, open_on}
 use Rattle.pud_defs.proofs.Keyed.{HasDistinctKeys, distinct_keys, find-keyed_place}
 use Rattle.pud_defs.proofs.TablesOf.{pools_beyond}
 use Rattle.nesting.specs.declared.Session.{Session}
-use Rattle.nesting.specs.Sessions.{client_in, session_in, holder_in}
+use Rattle.nesting.specs.Sessions.{session_client, session_in, holder_in}
 use Rattle.ready_daemon.specs.Memory.{ActiveTransaction, Memory, active_under}
 use Rattle.ready_daemon.specs.ActiveTransactions.{AreActive, session_of, HasSessions}
 use Rattle.ready_daemon.specs.OwnOnPool.{IsOwnTransactionOn}
-use Rattle.ready_daemon.specs.Owning.{IsSlotOf}
+use Rattle.ready_daemon.specs.Owning.{IsRecordSlot}
 use Rattle.ready_daemon.specs.Ready.{IsReady}
 use Rattle.ready_daemon.proofs.Beside.{active_is}
 use Rattle.ready_daemon.proofs.PoolsBeside.{used_still}
@@ -42,7 +42,7 @@ pub record IsSessionOf (w : World) (active : List (Option ActiveTransaction)) (n
 pub own_on : (w : World) (active : List (Option ActiveTransaction)) (client : ℕ) (name : List ℕ) (slot : ℕ) (session : Session) (of : IsSessionOf w active name slot session) → session.client ≡ client
     → IsOwnTransactionOn client name slot session.log_number active
 own_on w active client name slot session of whose = record {
-  own = record { active = of.active; is = of.is; whose = sym of.client ∙ sym (ap client_in of.session_is) ∙ whose; pool = of.name_is };
+  own = record { active = of.active; is = of.is; whose = sym of.client ∙ sym (ap session_client of.session_is) ∙ whose; pool = of.name_is };
   slot_is = of.slot_is;
 }
 
@@ -128,7 +128,7 @@ module _ (w : World) (active : List (Option ActiveTransaction)) (mask : Write) (
 
 -- ---- a daemon that is ready
 
-module _ (size : ℕ) (w : World) (memory : Memory) (s : State) (ready : IsReady size w memory s) (name : List ℕ) (slot : ℕ) (at : IsSlotOf w.stored.frames name (reads s.now.words) slot) where
+module _ (size : ℕ) (w : World) (memory : Memory) (s : State) (ready : IsReady size w memory s) (name : List ℕ) (slot : ℕ) (at : IsRecordSlot w.stored.frames name (reads s.now.words) slot) where
   -- the session in the slot of the pool of the name is that of its transaction
   pub session_open : (session : Session) → session_in memory.sessions slot ≡ Some session → IsSessionOf w memory.active name slot session
   session_open session there = session_there w memory.active ready.mask s.now.words ready.active memory.sessions ready.sessions name slot at.rec session at.used at.name_is there
@@ -139,10 +139,10 @@ module _ (size : ℕ) (w : World) (memory : Memory) (s : State) (ready : IsReady
       no_session w memory.active ready.mask s.now.words ready.active memory.sessions ready.sessions w.stored.next_number (sound_read size w memory s ready) name slot at.rec at.used at.name_is none
 
   holder_by : (o : Option Session) → session_in memory.sessions slot ≡ o → holder_in memory.sessions slot ≡ option_map (λ t. t.client) (open_on name w)
-  holder_by None e = ap (option_map client_in) e ∙ ap (option_map (λ (t : Transaction). t.client)) (sym (session_shut e))
+  holder_by None e = ap (option_map session_client) e ∙ ap (option_map (λ (t : Transaction). t.client)) (sym (session_shut e))
   holder_by (Some session) e =
       let of = session_open session e in
-      ap (option_map client_in) e ∙ ap (λ (x : Session). Some x.client) of.session_is ∙ ap (option_map (λ (t : Transaction). t.client)) (sym of.there)
+      ap (option_map session_client) e ∙ ap (λ (x : Session). Some x.client) of.session_is ∙ ap (option_map (λ (t : Transaction). t.client)) (sym of.there)
 
   -- so it tells whose transaction is open on the pool
   pub holder_is : holder_in memory.sessions slot ≡ option_map (λ t. t.client) (open_on name w)

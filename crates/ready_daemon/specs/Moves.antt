@@ -13,7 +13,7 @@ abbrev pub Stays : Member → Option Member → Type 0
 Stays m now = now ≡ Some m
 
 -- The record is that of the same puddle, and its frontier lies between the one that it had and this one.
-pub record IsBetween (m : Member) (goal : ℕ) (now : Option Member) : Type 0 where
+pub record IsFrontierBetween (m : Member) (goal : ℕ) (now : Option Member) : Type 0 where
   pub frontier : ℕ
   pub least : m.puddle.frontier ≤ frontier
   pub most : frontier ≤ goal
@@ -22,7 +22,7 @@ pub record IsBetween (m : Member) (goal : ℕ) (now : Option Member) : Type 0 wh
 -- the same where there is such a goal; of a record without one nothing is said, since it may be freed
 abbrev pub IsOnTheWay : Option ℕ → Member → Option Member → Type 0
 IsOnTheWay None m now = Unit {0}
-IsOnTheWay (Some goal) m now = IsBetween m goal now
+IsOnTheWay (Some goal) m now = IsFrontierBetween m goal now
 
 -- each record is on its way to the goal that it has
 abbrev pub MovesTo : (Member → Option ℕ) → Member → Option Member → Type 0

@@ -30,7 +30,7 @@ refusal_beside None client = None
 refusal_beside (Some holder) client = cond (holder == client) (Some refusals.OpenHere) (Some refusals.Busy)
 
 -- the record of the slot is that of the pool of this name
-pub record IsSlotOf (F : ℕ) (name : List ℕ) (image : Image) (slot : ℕ) : Type 0 where
+pub record IsRecordSlot (F : ℕ) (name : List ℕ) (image : Image) (slot : ℕ) : Type 0 where
   pub rec : PoolRecord
   pub used : (tables_of F image).pools slot ≡ Some rec
   pub name_is : rec.name ≡ name

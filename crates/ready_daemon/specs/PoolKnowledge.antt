@@ -4,7 +4,7 @@ use Rattle.pud_defs.specs.declared.records.Puddle.{Puddle}
 use Rattle.pud_defs.specs.Image.{Image}
 use Rattle.pud_defs.specs.Stored.{IsOnDevice, stored_in}
 use Rattle.known_pool.specs.Known.{Known, IsKnown, by_puddles}
-use Rattle.ready_daemon.specs.Owning.{IsSlotOf}
+use Rattle.ready_daemon.specs.Owning.{IsRecordSlot}
 use Rattle.pud_defs.specs.Types.{types_of}
 use Rattle.pud_defs.specs.Graph.{graph_of}
 use Rattle.pud_defs.specs.Tables.{tables_of, puddles_in_turn}
@@ -47,5 +47,5 @@ pub record AreKnownPools (F : ℕ) (judged : List (Option Known)) (image : Image
 -- what is known of the pool of this name is forgotten, and of others all is known that was
 pub record ForgetsPool (F : ℕ) (name : List ℕ) (image : Image) (old new : List (Option Known)) : Type 0 where
   pub slot : ℕ
-  pub is : IsSlotOf F name image slot
+  pub is : IsRecordSlot F name image slot
   pub forgotten : new ≡ set old slot None

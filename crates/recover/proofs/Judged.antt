@@ -6,7 +6,7 @@ use Rattle.pud_defs.specs.Spaces.{Owner, owner_of}
 use Rattle.pud_defs.specs.Tables.{Tables, tables_of}
 use Rattle.pud_defs.specs.Replay.{AddressMap}
 use Rattle.pud_defs.specs.Settled.{client_of_log, log_number_at}
-use Rattle.log_entry.specs.Copying.{Copied, image_of, log_copied}
+use Rattle.log_entry.specs.Copying.{Copied, image_of_copy, log_copied}
 use Rattle.log_replay.specs.Placing.{placed_entry, placed_log}
 use Rattle.recover.specs.declared.judge.Mark.TheVariants.{Replayed, Refused}
 use Rattle.recover.specs.Verdicts.{mark_for, verdict_by, verdict_of}
@@ -26,7 +26,7 @@ verdict_of-registered F image number who registered = ap (λ (o : Option Owner).
 -- ---- a copy whose entries were given device words
 
 -- a log that is replayed is well formed, so a copy of it has each entry with its device word
-pub placed_replayed : (t : Tables) (who : Owner) (place : AddressMap) (old new : Copied) (o : Option (List Entry)) → (log_copied old).entries ≡ o → mark_for t who (log_copied old) ≡ Replayed → image_of new 0 ≡ image_of old 0
+pub placed_replayed : (t : Tables) (who : Owner) (place : AddressMap) (old new : Copied) (o : Option (List Entry)) → (log_copied old).entries ≡ o → mark_for t who (log_copied old) ≡ Replayed → image_of_copy new 0 ≡ image_of_copy old 0
     → ((es : List Entry) → (log_copied old).entries ≡ Some es → (log_copied new).entries ≡ Some (map (placed_entry place (log_copied old)) es)) → log_copied new ≡ placed_log place (log_copied old)
 placed_replayed t who place old new None are mark gate placed = absurd (let it : Refused ≡ Replayed = sym (mark_for-spoilt t who (log_copied old) are) ∙ mark in cc)
 placed_replayed t who place old new (Some es) are mark gate placed =

@@ -3,7 +3,7 @@ use Rattle.std.proofs.Common.{◌≡◌, inl, inr, ℕ, ◌-◌, arith, leb, sub
 use Rattle.std.specs.List.{list_all, list_any}
 use Rattle.std.proofs.lemmas.Bool.{cond-true, cond-false, cases_Bool}
 use Rattle.pud_defs.specs.declared.layout.TheConstants.{ENTRY_HEADER_WORDS}
-use Rattle.pud_defs.specs.Image.{Image, written}
+use Rattle.pud_defs.specs.Image.{Image, image_with}
 use Rattle.pud_defs.proofs.Images.{written_other}
 use Rattle.pud_defs.specs.Entries.{Entry, Log, gate_used, is_legal_gate, entries_of}
 use Rattle.pud_defs.specs.Spaces.{Owner}
@@ -133,7 +133,7 @@ mark_left-behind t who log mark image found old now at gate passed none passes b
 -- ---- an entry of a copy gets another address
 
 -- those behind it are left as they were
-pub left_set : (i j : Image) (e : Found) (old now : Reading) (address : ℕ) → PassesOne e old now → j ≡ written (e.at - ENTRY_HEADER_WORDS) address i → entries_left j now ≡ entries_left i now
+pub left_set : (i j : Image) (e : Found) (old now : Reading) (address : ℕ) → PassesOne e old now → j ≡ image_with (e.at - ENTRY_HEADER_WORDS) address i → entries_left j now ≡ entries_left i now
 left_set i j e old now address passes set =
     let at = passes.at in
     let same_log = passes.same_log in

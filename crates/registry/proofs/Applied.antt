@@ -18,7 +18,7 @@ use Rattle.pud_defs.specs.Image.{Image}
 use Rattle.pud_defs.specs.Layout.{device_words}
 use Rattle.pud_defs.specs.Entries.{Entry, log_of, is_idle_gate}
 use Rattle.pud_defs.specs.Replay.{device_word, new_value, is_in_log, settled_by}
-use Rattle.pud_defs.specs.Registry.{frames_of, is_allowed, are_allowed, has_legal_log, is_sound}
+use Rattle.pud_defs.specs.Registry.{frames_of, is_loggable, are_loggable, has_legal_log, is_sound}
 use Rattle.pud_defs.specs.Settled.{settled}
 use Rattle.pud_defs.specs.World.{StoredWorld, stored_by, world_of}
 use Rattle.pud_defs.proofs.Replay.{outside_log, settled_by-inside, settled_by-outside, settled_by-idle}
@@ -53,7 +53,7 @@ module _ (size : ℕ) (s : StoredWorld) (image : Image) (world : world_of size i
   unfolding entries
   spelled = (legal_entries image legal).are
 
-  allowed : list_all (is_allowed (frames_of image) (log_of image DAEMON_LOG)) entries ≡ true
+  allowed : list_all (is_loggable (frames_of image) (log_of image DAEMON_LOG)) entries ≡ true
   unfolding entries
   allowed = (legal_entries image legal).allowed
 
@@ -65,7 +65,7 @@ module _ (size : ℕ) (s : StoredWorld) (image : Image) (world : world_of size i
         spells = spelled;
         apart = λ k d below within.
             let e = get_or entries k d in
-            let passes : is_allowed F log e ≡ true = AllPass-from_list_all (is_allowed F log) entries allowed k d below in
+            let passes : is_loggable F log e ≡ true = AllPass-from_list_all (is_loggable F log) entries allowed k d below in
             names_apart F size e frames_fit (allowed_in_range F log e passes within);
       }
 
@@ -165,7 +165,7 @@ module _ (size : ℕ) (s : StoredWorld) (a : State) (rested : IsRested a.now.wor
       let frames : image FRAMES_WORD ≡ i FRAMES_WORD =
       p.outside FRAMES_WORD (outside_log DAEMON_LOG FRAMES_WORD (inl (omega arith))) (new_value-unlogged i FRAMES_WORD legal_log (omega arith)) ∙ ap (λ (x : Image). x FRAMES_WORD) before in
       let legal_now : has_legal_log image ≡ true = elim p.gate [
-        | inl same ↦ has_legal_log-of image (frames_of i) log frames same (ap (are_allowed (frames_of i) log) (spelled size s i world) ∙ allowed size s i world)
+        | inl same ↦ has_legal_log-of image (frames_of i) log frames same (ap (are_loggable (frames_of i) log) (spelled size s i world) ∙ allowed size s i world)
         | inr closed ↦ legal_log_idle image closed
       ] in
       let same : settled_by DAEMON_LOG image ≡ settled_by DAEMON_LOG i = p.same ∙ ap (settled_by DAEMON_LOG) before in

@@ -13,7 +13,7 @@ use Rattle.pud_defs.specs.Puddles.{Member, member_pool, puddle_record_at, puddle
 use Rattle.pud_defs.specs.Tables.{Tables, tables_of, member_of, members}
 use Rattle.pud_defs.specs.Puts.{free_pool_put, free_puddle_put, is_of_pool}
 use Rattle.pud_defs.proofs.TablesOf.{puddles_below}
-use Rattle.batch.specs.Batches.{words_of}
+use Rattle.batch.specs.Batches.{word_count_of}
 use Rattle.registry.specs.Puts.{put_entry, puts_batch}
 use Rattle.registry.specs.Pools.{put_if, freeing, dropping}
 
@@ -77,33 +77,33 @@ member_or_none slot frame (Some m) =
     let some : Option (ℕ × (ℕ × Puddle)) = Some (m.ordinal, (frame, m.puddle)) in
     elim (eqb m.pool (slot + 1)) as (λ b. is_none (cond b some None) ≡ not b) [ true ↦ refl | false ↦ refl ]
 
-words_if : (b : Bool) (put : Put) (puts : List Put) (count : ℕ) → words_of (put_entry put ∷ []) ≡ 3 → words_of (puts_batch puts) ≡ 3 * count → words_of (puts_batch (put_if b put puts)) ≡ 3 * cond (not b) count (count + 1)
+words_if : (b : Bool) (put : Put) (puts : List Put) (count : ℕ) → word_count_of (put_entry put ∷ []) ≡ 3 → word_count_of (puts_batch puts) ≡ 3 * count → word_count_of (puts_batch (put_if b put puts)) ≡ 3 * cond (not b) count (count + 1)
 words_if true put puts count three is = omega (arith, sum_by-append (λ (e : Entry). length e.vals + 2) (put_entry put ∷ []) (puts_batch puts), three, is)
 words_if false put puts count three is = is
 
-words_freeing : (t : Tables) (slot frame count : ℕ) → words_of (puts_batch (freeing t.puddles slot frame count)) ≡ 3 * count_used (members t slot) frame count
+words_freeing : (t : Tables) (slot frame count : ℕ) → word_count_of (puts_batch (freeing t.puddles slot frame count)) ≡ 3 * count_used (members t slot) frame count
 unfolding freeing count_used
 words_freeing t slot frame zero = refl
 words_freeing t slot frame (suc count) =
     words_if (is_of_pool slot (t.puddles frame)) (free_puddle_put frame) (freeing t.puddles slot (frame + 1) count) (count_used (members t slot) (frame + 1) count) refl (words_freeing t slot (frame + 1) count)
     ∙ ap (λ b. 3 * cond b (count_used (members t slot) (frame + 1) count) (count_used (members t slot) (frame + 1) count + 1)) (sym (member_or_none slot frame (t.puddles frame)))
 
-words_dropping : (t : Tables) (slot : ℕ) → words_of (puts_batch (dropping t slot)) ≡ 3 + 3 * count_used (members t slot) 0 t.frames
+words_dropping : (t : Tables) (slot : ℕ) → word_count_of (puts_batch (dropping t slot)) ≡ 3 + 3 * count_used (members t slot) 0 t.frames
 words_dropping t slot =
     omega (arith, sum_by-append (λ (e : Entry). length e.vals + 2) (put_entry (free_pool_put slot) ∷ []) (puts_batch (freeing t.puddles slot 0 t.frames)), words_freeing t slot 0 t.frames)
 
 -- one record more fits
-pub Gathers-room : (t : Tables) (slot frame : ℕ) (so_far : List Entry) → count_used (members t slot) 0 t.frames ≤ MAX_PUDDLES → Gathers t slot frame so_far → words_of so_far + (1 + 2) ≤ LOG_ENTRY_WORDS
+pub Gathers-room : (t : Tables) (slot frame : ℕ) (so_far : List Entry) → count_used (members t slot) 0 t.frames ≤ MAX_PUDDLES → Gathers t slot frame so_far → word_count_of so_far + (1 + 2) ≤ LOG_ENTRY_WORDS
 Gathers-room t slot frame so_far few g =
-    omega (arith, sum_by-append (λ (e : Entry). length e.vals + 2) so_far (puts_batch (freeing t.puddles slot frame (t.frames - frame))), ap words_of g.whole, words_dropping t slot)
+    omega (arith, sum_by-append (λ (e : Entry). length e.vals + 2) so_far (puts_batch (freeing t.puddles slot frame (t.frames - frame))), ap word_count_of g.whole, words_dropping t slot)
 
 -- ---- the batch that a change begins
 
-pub first_put : (old new : List Entry) (put want : Put) → old ≡ [] → put ≡ want → want.n ≤ 8 → (words_of old + (put.n + 2) ≤ LOG_ENTRY_WORDS → new ≡ old ++ put_entry put ∷ []) → new ≡ put_entry want ∷ []
+pub first_put : (old new : List Entry) (put want : Put) → old ≡ [] → put ≡ want → want.n ≤ 8 → (word_count_of old + (put.n + 2) ≤ LOG_ENTRY_WORDS → new ≡ old ++ put_entry put ∷ []) → new ≡ put_entry want ∷ []
 first_put old new put want none is few added =
-    added (omega (arith, ap words_of none, ap (λ (p : Put). p.n) is)) ∙ ap₂ (λ es p. es ++ put_entry p ∷ []) none is
+    added (omega (arith, ap word_count_of none, ap (λ (p : Put). p.n) is)) ∙ ap₂ (λ es p. es ++ put_entry p ∷ []) none is
 
-pub next_put : (old new : List Entry) (put want : Put) → put ≡ want → words_of old + (want.n + 2) ≤ LOG_ENTRY_WORDS → (words_of old + (put.n + 2) ≤ LOG_ENTRY_WORDS → new ≡ old ++ put_entry put ∷ [])
+pub next_put : (old new : List Entry) (put want : Put) → put ≡ want → word_count_of old + (want.n + 2) ≤ LOG_ENTRY_WORDS → (word_count_of old + (put.n + 2) ≤ LOG_ENTRY_WORDS → new ≡ old ++ put_entry put ∷ [])
     → new ≡ old ++ put_entry want ∷ []
 next_put old new put want is room added = added (omega (arith, ap (λ (p : Put). p.n) is)) ∙ ap (λ p. old ++ put_entry p ∷ []) is
 

@@ -34,7 +34,7 @@ use Rattle.graph_laws.proofs.Grown.{slice_get-front, slice_get-push, graph_of-gr
 use Rattle.graph_laws.proofs.StaysWild.{graph_of-wild}
 use Rattle.registry.specs.declared.adding.NewPuddle.{NewPuddle}
 use Rattle.registry.specs.Adding.{IsFilled, MakesPools, pools_next}
-use Rattle.registry.specs.Growth.{puddle_count, growing, IsGrowthFor, HoldsGraph, HoldsNoGraph, added_puddle, kept_longer, with_kept_longer, with_wild_grown}
+use Rattle.registry.specs.Growth.{puddle_count, growing, IsGrowthFor, PoolHasGraph, PoolHasNoGraph, added_puddle, kept_longer, with_kept_longer, with_wild_grown}
 use Rattle.registry.proofs.Moved.{ReadsWorld}
 use Rattle.registry.proofs.Changed.{found_pool, changed_there}
 use Rattle.registry.proofs.NewPuddles.{other_base, other_old_base, others_bases, legal_new, adding_of, adding_next, adding_tables}
@@ -230,7 +230,7 @@ module _ (s : StoredWorld) (image : Image) (a : NewPuddle) (r : PoolRecord) (wor
         ∙ sym (changed_there r.name change s.pools (pool_of hold r before) found)
 
     -- with a graph it holds that still
-    module _ (g : Graph) (holds : HoldsGraph r.name s g) where
+    module _ (g : Graph) (holds : PoolHasGraph r.name s g) where
       held : hold (listed before) ≡ Sound g
       held = held_as_found holds.pool holds.there ∙ holds.holds
 
@@ -242,7 +242,7 @@ module _ (s : StoredWorld) (image : Image) (a : NewPuddle) (r : PoolRecord) (wor
           λ k. record { owner = owner r.uid r.gid; mode = r.mode; number = r.number; puddles = count k; holding = same k }
 
     -- without one it keeps the puddle's words too
-    module _ (kept : Stored) (holds : HoldsNoGraph r.name s kept) where
+    module _ (kept : Stored) (holds : PoolHasNoGraph r.name s kept) where
       wild : hold (listed before) ≡ Wild kept
       wild = held_as_found holds.pool holds.there ∙ holds.holds
 
@@ -269,10 +269,10 @@ module _ (s : StoredWorld) (image : Image) (a : NewPuddle) (r : PoolRecord) (wor
         sound = sound_more s.next_number (s.next_number + 1) (omega arith) t slot a.frame r m world.sound next_puddle;
       }
 
-  pub MakesPools-grown : (g : Graph) → HoldsGraph r.name s g
+  pub MakesPools-grown : (g : Graph) → PoolHasGraph r.name s g
       → MakesPools s (s.next_number + 1) (changed_pool r.name with_puddle_more s.pools) (growing a) (IsFilled s.frames a) t
   MakesPools-grown g holds = MakesPools-by with_puddle_more (λ i fresh pools. pool_grown i fresh pools g holds)
 
-  pub MakesPools-wild : (kept : Stored) → HoldsNoGraph r.name s kept
+  pub MakesPools-wild : (kept : Stored) → PoolHasNoGraph r.name s kept
       → MakesPools s (s.next_number + 1) (changed_pool r.name (with_kept_longer (added_puddle a) kept) s.pools) (growing a) (IsFilled s.frames a) t
   MakesPools-wild kept holds = MakesPools-by (with_kept_longer (added_puddle a) kept) (λ i fresh pools. pool_wild i fresh pools kept holds)

@@ -27,7 +27,7 @@ use Rattle.pud_defs.proofs.FreshGraph.{graph_of-fresh}
 use Rattle.pud_defs.specs.World.{StoredWorld}
 use Rattle.pud_defs.proofs.Keyed.{first_free_some, first_from_none, find-keyed}
 use Rattle.pud_defs.proofs.PutsMade.{pool_put_made}
-use Rattle.pud_defs.proofs.PoolsChanged.{IsMade, made, pools_made}
+use Rattle.pud_defs.proofs.PoolsChanged.{IsPoolMade, made, pools_made}
 use Rattle.pud_defs.proofs.PoolsCounted.{no_member}
 use Rattle.pud_defs.proofs.SoundChanged.{IsAdded, sound_made}
 use Rattle.registry.specs.declared.adding.NewPuddle.{NewPuddle}
@@ -104,7 +104,7 @@ module _ (s : StoredWorld) (image : Image) (a : NewPuddle) (r : PoolRecord) (wor
   drawn : a.puddle.number ≡ s.next_number + 1
   drawn = place.puddle.number_is
 
-  is_made : IsMade t slot a.frame r m
+  is_made : IsPoolMade t slot a.frame r m
   is_made = record {
     slot_below = slot_below;
     slot_free = slot_free;

@@ -17,7 +17,7 @@ use Rattle.puddle_table.specs.Records.{fault_in, frame_by}
 use Rattle.registry.specs.declared.adding.NewPuddle.{NewPuddle}
 use Rattle.registry.specs.declared.making.MakeFault.TheVariants as faults
 use Rattle.registry.specs.Adding.{IsNewPuddle}
-use Rattle.registry.specs.Growth.{has_room, grow_refusal}
+use Rattle.registry.specs.Growth.{has_room_to_grow, grow_refusal}
 use Rattle.registry.specs.Places.{make_fault, of_puddle_fault, make_refusal, IsFirstFor}
 
 -- ---- a frame
@@ -33,13 +33,13 @@ no_frame_found (Some frame) f is none = absurd (let no : Err f ≡ Ok frame = no
 -- ---- a pool that grows
 
 module _ (t : Tables) (next puddles number : ℕ) (read : number ≡ next) where
-  by_number : grow_refusal t next puddles ≡ cond (not (has_room puddles number)) (Some refusals.Full) (cond (is_none (first_free t.puddles 0 t.frames)) (Some refusals.Space) None)
+  by_number : grow_refusal t next puddles ≡ cond (not (has_room_to_grow puddles number)) (Some refusals.Full) (cond (is_none (first_free t.puddles 0 t.frames)) (Some refusals.Space) None)
   by_number = ap (grow_refusal t next) refl ∙ ap (λ (n : ℕ). grow_refusal t n puddles) (sym read)
 
-  pub refused_full : has_room puddles number ≡ false → Some refusals.Full ≡ grow_refusal t next puddles
+  pub refused_full : has_room_to_grow puddles number ≡ false → Some refusals.Full ≡ grow_refusal t next puddles
   refused_full full = sym (by_number ∙ ap (λ (b : Bool). cond (not b) (Some refusals.Full) (cond (is_none (first_free t.puddles 0 t.frames)) (Some refusals.Space) None)) full)
 
-  module _ (room : has_room puddles number ≡ true) where
+  module _ (room : has_room_to_grow puddles number ≡ true) where
     by_frame : (o : Option ℕ) → first_free t.puddles 0 t.frames ≡ o → grow_refusal t next puddles ≡ cond (is_none o) (Some refusals.Space) None
     by_frame o is = by_number ∙ (λ p. cond (not (room p)) (Some refusals.Full) (cond (is_none (is p)) (Some refusals.Space) None))
 

@@ -57,7 +57,7 @@ use Rattle.registry.specs.declared.adding.NewPuddle.{NewPuddle}
 use Rattle.registry.specs.declared.placing.NewType.{NewType}
 use Rattle.registry.specs.Puts.{puts_batch, with_puts, AreOfPools, AreOfTables}
 use Rattle.registry.specs.Adding.{adding, IsAddedWithin, MakesPools, pools_next}
-use Rattle.registry.specs.Placing.{new_type_put, placing, type_of, puddle_of, IsPlacedFor, MayPlace}
+use Rattle.registry.specs.Placing.{new_type_put, placing, type_of, puddle_of_added, IsPlacedFor, MayPlace}
 use Rattle.registry.specs.Pools.{IsLegalPool, CommitsPuts, ChangesMasked}
 use Rattle.registry.proofs.Made.{no_name, none_of}
 use Rattle.registry.proofs.Moved.{ReadsWorld, reads_world, settled_word, settled_tables, standing_with_puts, ChangesPools-moves}
@@ -96,23 +96,23 @@ Commits-placed F size slot r types puddles es fault a b room below records withi
 
 -- the puddles are added in turn
 added_in_turn : (slot : ℕ) (puddles : List NewPuddle) (o : ℕ) (t : Tables) → ((i : ℕ) (a : NewPuddle) → slice_get puddles i ≡ Some a → (a.puddle.pool ≡ slot) × (a.puddle.ordinal ≡ o + i))
-    → with_added puddles t ≡ with_puddles_at slot o (map puddle_of puddles) t
+    → with_added puddles t ≡ with_puddles_at slot o (map puddle_of_added puddles) t
 added_in_turn slot [] o t members = refl
 added_in_turn slot (a ∷ puddles) o t members =
     let of = members 0 a refl in
     let last : a.puddle.ordinal ≡ o = let is = of.1 in omega arith in
-    let same : member_by a.puddle ≡ member_for slot o (puddle_of a).1 = let pool = of.0 in λ p. record { pool = pool p + 1; ordinal = last p; puddle = (member_by a.puddle).puddle } in
+    let same : member_by a.puddle ≡ member_for slot o (puddle_of_added a).1 = let pool = of.0 in λ p. record { pool = pool p + 1; ordinal = last p; puddle = (member_by a.puddle).puddle } in
     ap (λ (m : Member). with_added puddles (with_puddle_at a.frame (Some m) t)) same
-    ∙ added_in_turn slot puddles (o + 1) (with_puddle_at a.frame (Some (member_for slot o (puddle_of a).1)) t) (λ i b there. let later = members (suc i) b there in (later.0, (let is = later.1 in omega arith)))
+    ∙ added_in_turn slot puddles (o + 1) (with_puddle_at a.frame (Some (member_for slot o (puddle_of_added a).1)) t) (λ i b there. let later = members (suc i) b there in (later.0, (let is = later.1 in omega arith)))
 
 -- each stands in a frame of the device, in a pool of the table
 added_within : (F slot : ℕ) (puddles : List NewPuddle) → slot < POOL_RECORDS → ((i : ℕ) (a : NewPuddle) → slice_get puddles i ≡ Some a → (a.frame < F) × (a.puddle.pool ≡ slot)) → AreWithin F puddles
 added_within F slot [] below each = tt
 added_within F slot (a ∷ puddles) below each = let first = each 0 a refl in (first.0, (let pool = first.1 in omega arith), added_within F slot puddles below (λ i b there. each (suc i) b there))
 
-puddle_there : (puddles : List NewPuddle) (i : ℕ) (a : NewPuddle) → slice_get puddles i ≡ Some a → slice_get (map puddle_of puddles) i ≡ Some (puddle_of a)
+puddle_there : (puddles : List NewPuddle) (i : ℕ) (a : NewPuddle) → slice_get puddles i ≡ Some a → slice_get (map puddle_of_added puddles) i ≡ Some (puddle_of_added a)
 puddle_there [] i a there = absurd (let no : None ≡ Some a = there in cc)
-puddle_there (b ∷ puddles) zero a there = let same : b ≡ a = cc in ap (λ (x : NewPuddle). Some (puddle_of x)) same
+puddle_there (b ∷ puddles) zero a there = let same : b ≡ a = cc in ap (λ (x : NewPuddle). Some (puddle_of_added x)) same
 puddle_there (b ∷ puddles) (suc i) a there = puddle_there puddles i a there
 
 frontier_within : (wanted : List ℕ) (at : List (ℕ × Puddle)) → placed_frontier wanted at ≤ LAST_FRONTIER
@@ -125,7 +125,7 @@ module _ (s : StoredWorld) (image : Image) (file : FileContents) (wanted : List 
   t = tables_of s.frames image
 
   abbrev at : List (ℕ × Puddle)
-  at = map puddle_of puddles
+  at = map puddle_of_added puddles
 
   -- the next number behind it
   abbrev later : ℕ
@@ -135,7 +135,7 @@ module _ (s : StoredWorld) (image : Image) (file : FileContents) (wanted : List 
   drawn = place.number ∙ world.number
 
   as_many : length at ≡ length puddles
-  as_many = length-map puddles puddle_of
+  as_many = length-map puddles puddle_of_added
 
   pub slot_within : slot < POOL_RECORDS
   slot_within = let high = (first_free_some t.pools 0 POOL_RECORDS slot place.slot_is).high in omega arith
@@ -182,7 +182,7 @@ module _ (s : StoredWorld) (image : Image) (file : FileContents) (wanted : List 
 
   pub puddles_within : AreWithin s.frames puddles
   puddles_within = added_within s.frames slot puddles slot_within (λ i a there.
-      let one = (each_placed i (puddle_of a) (puddle_there puddles i a there)).frame in
+      let one = (each_placed i (puddle_of_added a) (puddle_there puddles i a there)).frame in
       (omega (arith, one, frames_of_tables s.frames image), (place.members i a there).0))
 
   is_held : IsEncodable r
@@ -312,9 +312,9 @@ module _ (size : ℕ) (s : StoredWorld) (file : FileContents) (wanted : List ℕ
     tables_typed : tables_of s.frames typed_image ≡ tables_of s.frames read
     tables_typed = types_keep_tables s.frames types i are_records ∙ settled_tables size s held image may.settled may.tables picked
 
-    holds_typed : graph_of (typed missing s).types (stored_in s.frames (map puddle_of puddles) typed_image) ≡ Some file.graph
+    holds_typed : graph_of (typed missing s).types (stored_in s.frames (map puddle_of_added puddles) typed_image) ≡ Some file.graph
     holds_typed =
-        ap (graph_of (typed missing s).types) (stored_in-same s.frames i typed_image (map puddle_of puddles) (all_frames s.frames i typed_image (map puddle_of puddles) (λ k low. types_stay types i k are_records (λ from to. omega arith))))
+        ap (graph_of (typed missing s).types) (stored_in-same s.frames i typed_image (map puddle_of_added puddles) (all_frames s.frames i typed_image (map puddle_of_added puddles) (λ k low. types_stay types i k are_records (λ from to. omega arith))))
         ∙ may.holds image picked
 
     stands_placed : StandsFor size (with_puts (placing slot r types puddles) i) (with_imported_pool r.name (owner r.uid r.gid) r.mode file s)

@@ -14,10 +14,10 @@ use Rattle.pud_defs.specs.Layout.{IsWithin, tables_end}
 use Rattle.pud_defs.specs.Entries.{Entry}
 use Rattle.pud_defs.specs.Replay.{value_at, overwritten}
 use Rattle.pud_defs.specs.Puts.{with_put}
-use Rattle.pud_defs.specs.Registry.{may_be_logged, is_allowed}
+use Rattle.pud_defs.specs.Registry.{may_be_logged, is_loggable}
 use Rattle.pud_defs.proofs.Replay.{overwritten-then, value_at-there, value_at-apart}
 use Rattle.pud_defs.proofs.PutsMade.{with_put-outside, with_put-inside}
-use Rattle.pud_defs.proofs.Logged.{may_be_logged-table, is_allowed-there}
+use Rattle.pud_defs.proofs.Logged.{may_be_logged-table, is_loggable-there}
 use Rattle.pm_model.specs.Words.{Words}
 use Rattle.pud_defs.specs.Replay.{device_word}
 use Rattle.batch.specs.Batches.{batch_write, committed, IsBatchEntry, AreBatched, HasIdleGate, IsFree, ByBatch}
@@ -164,9 +164,9 @@ may_be_table_put F put (inr of) =
     let low = of.low in let high = of.high in
     may_be_logged-table F put.w (length (take put.n put.vals)) (omega arith) (omega (arith, length-take-le put.n put.vals of.fits))
 
-pub puts_allowed : (F : ℕ) (all : List Entry) (puts : List Put) → AreOfTables F puts → list_all (is_allowed F (committed all)) (puts_batch puts) ≡ true
+pub puts_allowed : (F : ℕ) (all : List Entry) (puts : List Put) → AreOfTables F puts → list_all (is_loggable F (committed all)) (puts_batch puts) ≡ true
 puts_allowed F all [] of = refl
-puts_allowed F all (put ∷ puts) of = and_from _ _ (is_allowed-there F (committed all) (put_entry put) (may_be_table_put F put of.0)) (puts_allowed F all puts of.1)
+puts_allowed F all (put ∷ puts) of = and_from _ _ (is_loggable-there F (committed all) (put_entry put) (may_be_table_put F put of.0)) (puts_allowed F all puts of.1)
 
 pub puts_batched : (puts : List Put) → AreBatched (puts_batch puts)
 puts_batched [] = All-nil IsBatchEntry

@@ -32,17 +32,17 @@ abbrev pub puddle_count : Tables → ℕ → ℕ
 puddle_count t slot = count_used (members t slot) 0 t.frames
 
 -- a pool of so many puddles may have one more, and a UUID number is left
-abbrev pub has_room : (puddles next : ℕ) → Bool
-has_room puddles next = nat_lt puddles MAX_PUDDLES && nat_lt next NUMBER_LIMIT
+abbrev pub has_room_to_grow : (puddles next : ℕ) → Bool
+has_room_to_grow puddles next = nat_lt puddles MAX_PUDDLES && nat_lt next NUMBER_LIMIT
 
 -- why a pool of so many puddles does not grow where this UUID number is the next: it may not have one more, or no number is left; no frame is free
 abbrev pub grow_refusal : Tables → (next puddles : ℕ) → Option Refusal
-grow_refusal t next puddles = cond (not (has_room puddles next)) (Some refusals.Full) (cond (is_none (first_free t.puddles 0 t.frames)) (Some refusals.Space) None)
+grow_refusal t next puddles = cond (not (has_room_to_grow puddles next)) (Some refusals.Full) (cond (is_none (first_free t.puddles 0 t.frames)) (Some refusals.Space) None)
 
 -- The puddle is the new one of the next UUID number, the next of the pool of a slot that has so many, which may have it.
 pub record IsGrowthFor (t : Tables) (next slot puddles : ℕ) (a : NewPuddle) : Type 0 where
   pub puddle : IsNewPuddle t slot puddles next a
-  pub room : has_room puddles next ≡ true
+  pub room : has_room_to_grow puddles next ≡ true
 
 -- ---- what its batch writes
 
@@ -53,7 +53,7 @@ growing a = adding (a.puddle.number + 1) (a ∷ [])
 -- ---- worlds
 
 -- the world has a pool of the name, and it holds this graph
-pub record HoldsGraph (name : List ℕ) (s : StoredWorld) (g : Graph) : Type 0 where
+pub record PoolHasGraph (name : List ℕ) (s : StoredWorld) (g : Graph) : Type 0 where
   pub pool : Pool
   pub there : pool_named name s ≡ Some pool
   pub holds : pool.holding ≡ Sound g
@@ -61,7 +61,7 @@ pub record HoldsGraph (name : List ℕ) (s : StoredWorld) (g : Graph) : Type 0 w
 -- ---- a pool that holds no graph
 
 -- the world has a pool of the name, which holds no graph, and this is what it keeps
-pub record HoldsNoGraph (name : List ℕ) (s : StoredWorld) (kept : Stored) : Type 0 where
+pub record PoolHasNoGraph (name : List ℕ) (s : StoredWorld) (kept : Stored) : Type 0 where
   pub pool : Pool
   pub there : pool_named name s ≡ Some pool
   pub holds : pool.holding ≡ Wild kept
@@ -86,7 +86,7 @@ with_wild_grown name d kept s = record s { next_number = s.next_number + 1; pool
 -- puddle too.
 abbrev pub IsGrownBy : List ℕ → StoredWorld → Puddle → StoredWorld → Type 0
 IsGrownBy name s d next =
-    ((g : Graph) × HoldsGraph name s g × (next ≡ with_grown_pool name s)) ⊎ ((kept : Stored) × HoldsNoGraph name s kept × (next ≡ with_wild_grown name d kept s))
+    ((g : Graph) × PoolHasGraph name s g × (next ≡ with_grown_pool name s)) ⊎ ((kept : Stored) × PoolHasNoGraph name s kept × (next ≡ with_wild_grown name d kept s))
 
 -- With words masked that the puddle does not take, each image stands for a world, the tables are durable, and the puddle is the one by which a pool
 -- grows that is there; with it more in that pool the world is the next.

@@ -46,8 +46,8 @@ abbrev pub type_of : NewType → ℕ × ℕ
 type_of t = (t.id, t.map)
 
 -- the puddle, with its frame
-abbrev pub puddle_of : NewPuddle → ℕ × Puddle
-puddle_of a = (a.frame, (member_by a.puddle).puddle)
+abbrev pub puddle_of_added : NewPuddle → ℕ × Puddle
+puddle_of_added a = (a.frame, (member_by a.puddle).puddle)
 
 -- Each type has the lowest free record from one on, behind that of the type before.
 abbrev pub HasFreeRecords : (ℕ → Option (ℕ × ℕ)) → (from : ℕ) → List NewType → Type 0
@@ -63,7 +63,7 @@ pub record IsPlacedFor (F : ℕ) (image : Image) (file : List (ℕ × ℕ)) (wan
   pub enough : r.number + numbers_drawn (length puddles) ≤ NUMBER_LIMIT
   pub types_are : map type_of types ≡ types_missing (types_of image) file
   pub records : HasFreeRecords (type_at image) 0 types
-  pub placed : ArePlaced (tables_of F image) r.number wanted (map puddle_of puddles)
+  pub placed : ArePlaced (tables_of F image) r.number wanted (map puddle_of_added puddles)
   pub members : (o : ℕ) (a : NewPuddle) → slice_get puddles o ≡ Some a → (a.puddle.pool ≡ slot) × (a.puddle.ordinal ≡ o)
 
 -- ---- worlds
@@ -86,4 +86,4 @@ pub record MayPlace (size : ℕ) (s : StoredWorld) (F : ℕ) (file : FileContent
   pub few : length puddles ≤ MAX_PUDDLES
   pub is : IsPlacedFor F (reads (masked mask words)) file.types wanted slot r types puddles
   pub holds : (image : Image) → Picks (masked mask words) image
-      → graph_of (with_types_defined (types_missing s.types file.types) s).types (stored_in F (map puddle_of puddles) (settled_by DAEMON_LOG image)) ≡ Some file.graph
+      → graph_of (with_types_defined (types_missing s.types file.types) s).types (stored_in F (map puddle_of_added puddles) (settled_by DAEMON_LOG image)) ≡ Some file.graph

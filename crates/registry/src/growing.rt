@@ -16,7 +16,7 @@ ghost use Rattle.registry.specs.Puts.{puts_batch};
 ghost use Rattle.registry.specs.Adding.{filling, IsFilled, IsAddedWithin, PersistsThenCommits};
 ghost use Rattle.registry.specs.Places.{refusal_in};
 ghost use Rattle.registry.specs.Pools.{ChangesMasked};
-ghost use Rattle.registry.specs.Growth.{has_room, grow_refusal, IsGrowthFor, growing, GrowsAt};
+ghost use Rattle.registry.specs.Growth.{has_room_to_grow, grow_refusal, IsGrowthFor, growing, GrowsAt};
 
 use crate::adding::{NewPuddle, add_puddle, find_place};
 use crate::puts::{add_put, number_put};
@@ -29,7 +29,7 @@ use puddle_table::PuddleFault;
 
 /// Whether a pool of so many puddles may have one more, and this UUID number is left.
 fn has_room(puddles: u32, number: u64) -> bool
-    ensures { result ≡ has_room puddles number }
+    ensures { result ≡ has_room_to_grow puddles number }
 {
     puddles < MAX_PUDDLES && number < NUMBER_LIMIT
 }

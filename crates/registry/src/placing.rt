@@ -11,7 +11,7 @@ ghost use Rattle.pud_defs.specs.Imports.{with_imported_pool};
 ghost use Rattle.pud_defs.specs.Layout.{device_words};
 ghost use Rattle.pud_defs.specs.Spaces.{owner};
 ghost use Rattle.pud_defs.specs.World.{StoredWorld};
-ghost use Rattle.batch.specs.Batches.{HasIdleGate, words_of};
+ghost use Rattle.batch.specs.Batches.{HasIdleGate, word_count_of};
 ghost use Rattle.registry.specs.Puts.{puts_batch};
 ghost use Rattle.registry.specs.Adding.{IsAddedWithin, puddle_records};
 ghost use Rattle.registry.specs.Placing.{new_type_put, placing, MayPlace};
@@ -38,7 +38,7 @@ pub struct NewType {
 /// Adds the records of the types to the batch.
 fn add_types(batch: &mut Batch, types: &[NewType])
     requires records { All (λ t. t.record_number < TYPE_RECORDS) types.now }
-    ensures { words_of batch.old + words_of (puts_batch (map new_type_put types.now)) ≤ LOG_ENTRY_WORDS → batch.new ≡ batch.old ++ puts_batch (map new_type_put types.now) }
+    ensures { word_count_of batch.old + word_count_of (puts_batch (map new_type_put types.now)) ≤ LOG_ENTRY_WORDS → batch.new ≡ batch.old ++ puts_batch (map new_type_put types.now) }
 {
     for t in types {
         add_put(batch, &type_maps::record_put(t.record_number, t.id, t.map));
@@ -48,7 +48,7 @@ fn add_types(batch: &mut Batch, types: &[NewType])
 /// Adds the records of the puddles to the batch.
 fn add_puddles(batch: &mut Batch, puddles: &[NewPuddle])
     requires within { All (IsAddedWithin MAX_FRAMES) puddles.now }
-    ensures { words_of batch.old + words_of (puts_batch (puddle_records puddles.now)) ≤ LOG_ENTRY_WORDS → batch.new ≡ batch.old ++ puts_batch (puddle_records puddles.now) }
+    ensures { word_count_of batch.old + word_count_of (puts_batch (puddle_records puddles.now)) ≤ LOG_ENTRY_WORDS → batch.new ≡ batch.old ++ puts_batch (puddle_records puddles.now) }
 {
     for added in puddles {
         add_put(batch, &puddle_table::record_put(added.frame, added.puddle));

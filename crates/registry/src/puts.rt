@@ -2,7 +2,7 @@
 
 ghost use Rattle.std.specs.Prelude.{◌≡◌, ◌+◌, ◌≤◌, [], ◌∷◌, ◌++◌};
 ghost use Rattle.pud_defs.specs.declared.layout.TheConstants.{LOG_ENTRY_WORDS, ENTRY_HEADER_WORDS};
-ghost use Rattle.batch.specs.Batches.{words_of};
+ghost use Rattle.batch.specs.Batches.{word_count_of};
 ghost use Rattle.registry.specs.Puts.{put_entry, number_put};
 
 use batch::Batch;
@@ -16,7 +16,7 @@ const PUT_WORDS: usize = 8;
 pub(crate) fn add_put(batch: &mut Batch, put: &Put)
     requires some { 1 ≤ put.now.n }
     requires few { put.now.n ≤ PUT_WORDS }
-    ensures { words_of batch.old + (put.now.n + ENTRY_HEADER_WORDS) ≤ LOG_ENTRY_WORDS → batch.new ≡ batch.old ++ put_entry put.now ∷ [] }
+    ensures { word_count_of batch.old + (put.now.n + ENTRY_HEADER_WORDS) ≤ LOG_ENTRY_WORDS → batch.new ≡ batch.old ++ put_entry put.now ∷ [] }
 {
     let _fits = batch.add(put.w, &put.vals[..put.n]);
 }

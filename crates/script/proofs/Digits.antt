@@ -3,7 +3,7 @@ use Rattle.std.proofs.Common.{◌≡◌, ℕ, ◌+◌, ◌-◌, ◌*◌, ◌^◌
 use Rattle.std.proofs.lemmas.List.{drop_all}
 use Rattle.std.specs.List.{list_all}
 use Rattle.std.proofs.lemmas.Bool.Decides.{nat_tests}
-use Rattle.pud_defs.specs.Grammar.{begins_as_number, is_digit, value_behind, number_of, in_range}
+use Rattle.pud_defs.specs.Grammar.{begins_as_number, is_digit, value_behind, decimal_of, in_range}
 
 -- the number, where a word holds it
 abbrev pub word_of : Option ℕ → Option ℕ
@@ -92,13 +92,13 @@ not_begun_cases : (begins digits : Bool) (v : ℕ) → begins ≡ false → word
 not_begun_cases true digits v e = cc
 not_begun_cases false digits v e = refl
 
-pub number_of-begun : (digits : List ℕ) → begins_as_number digits ≡ true → number_behind 0 digits ≡ word_of (number_of digits)
-unfolding number_behind number_of
-number_of-begun digits e = sym (begun_cases (begins_as_number digits) (list_all is_digit digits) (value_behind 0 digits) e)
+pub decimal_of-begun : (digits : List ℕ) → begins_as_number digits ≡ true → number_behind 0 digits ≡ word_of (decimal_of digits)
+unfolding number_behind decimal_of
+decimal_of-begun digits e = sym (begun_cases (begins_as_number digits) (list_all is_digit digits) (value_behind 0 digits) e)
 
-pub number_of-not_begun : (digits : List ℕ) → begins_as_number digits ≡ false → word_of (number_of digits) ≡ None
-unfolding number_of
-number_of-not_begun digits e = not_begun_cases (begins_as_number digits) (list_all is_digit digits) (value_behind 0 digits) e
+pub decimal_of-not_begun : (digits : List ℕ) → begins_as_number digits ≡ false → word_of (decimal_of digits) ≡ None
+unfolding decimal_of
+decimal_of-not_begun digits e = not_begun_cases (begins_as_number digits) (list_all is_digit digits) (value_behind 0 digits) e
 
 -- what the loop over the digits rests on
-pub ruleset read = (next_value_fits, digit_taken, digit_refused, nothing_left, number_of-begun, number_of-not_begun)
+pub ruleset read = (next_value_fits, digit_taken, digit_refused, nothing_left, decimal_of-begun, decimal_of-not_begun)

@@ -1,7 +1,7 @@
 //! The arguments of a line, taken from the front one by one, each by its kind.
 
 ghost use Rattle.std.specs.Prelude.{◌≡◌, ◌≤◌, ℕ, List, IfSome};
-ghost use Rattle.pud_defs.specs.Grammar.{client_number, owner_id, type_id, field_count, listed_map, pool_name, pool_mode, word_number, object_serial, field_place, field_value, step_count, armed_step, loss_pick, at_end};
+ghost use Rattle.pud_defs.specs.Grammar.{client_number, owner_id, type_id, field_total, listed_map, pool_name, pool_mode, word_number, object_serial, field_place, value_named, step_count, armed_step, loss_pick, at_end};
 ghost use Rattle.script.specs.Pieces.{pieces_of, with_front};
 ghost use Rattle.script.specs.Taken.{IsTaken};
 
@@ -75,7 +75,7 @@ impl<'a> Arguments<'a> {
     /// The front argument as the number of fields of a type.
     #[tactic(auto, using(crate::proofs::Taken::taken))]
     pub(crate) fn fields(&mut self) -> Option<u32>
-        ensures taken { IsTaken field_count self.old result self.new }
+        ensures taken { IsTaken field_total self.old result self.new }
         ensures few { IfSome result (λ n. n ≤ MAX_FIELDS) }
     {
         read_within(self.front()?, 1, MAX_FIELDS + 1)
@@ -133,7 +133,7 @@ impl<'a> Arguments<'a> {
     /// The front argument as the value of a field.
     #[tactic(auto, using(crate::proofs::Taken::taken))]
     pub(crate) fn value(&mut self) -> Option<FieldValue>
-        ensures { IsTaken field_value self.old result self.new }
+        ensures { IsTaken value_named self.old result self.new }
     {
         read_value(self.front()?)
     }

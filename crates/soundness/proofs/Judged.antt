@@ -10,7 +10,7 @@ use Rattle.pud_defs.specs.Entries.{Entry, log_of, entries_of}
 use Rattle.pud_defs.specs.Layout.{device_words, is_legal_frame_count}
 use Rattle.pud_defs.specs.Replay.{settled_by}
 use Rattle.pud_defs.specs.Spaces.{are_legal_spaces}
-use Rattle.pud_defs.specs.Registry.{frames_of, has_magic, has_version, has_room, has_legal_number, has_legal_types, has_sound_tables, has_legal_spaces, is_registry, is_allowed, are_allowed, has_legal_log, is_sound}
+use Rattle.pud_defs.specs.Registry.{frames_of, has_magic, has_version, has_room, has_legal_number, has_legal_types, has_sound_tables, has_legal_spaces, is_registry, is_loggable, are_loggable, has_legal_log, is_sound}
 use Rattle.pud_defs.specs.Tables.{Tables}
 use Rattle.pud_defs.specs.SoundTables.{has_legal_pools, has_distinct_names, has_legal_puddles, has_distinct_bases, has_distinct_old_bases, has_distinct_ordinals, has_counted_puddles, are_sound_tables}
 use Rattle.pud_defs.proofs.Logged.{settled_by-unlogged}
@@ -30,19 +30,19 @@ none_of (Some es) e = absurd (let it : true ≡ false = e in cc)
 
 pub not_legal : (image : Image) → is_some (entries_of image DAEMON_LOG) ≡ false → has_legal_log image ≡ false
 unfolding has_legal_log
-not_legal image spoilt = ap (are_allowed (frames_of image) (log_of image DAEMON_LOG)) (none_of (entries_of image DAEMON_LOG) spoilt)
+not_legal image spoilt = ap (are_loggable (frames_of image) (log_of image DAEMON_LOG)) (none_of (entries_of image DAEMON_LOG) spoilt)
 
 -- a well formed log is legal where its entries are allowed
 pub record IsWellFormed (image : Image) : Type 0 where
   pub entries : List Entry
   pub are : entries_of image DAEMON_LOG ≡ Some entries
-  pub legal : list_all (is_allowed (frames_of image) (log_of image DAEMON_LOG)) entries ≡ has_legal_log image
+  pub legal : list_all (is_loggable (frames_of image) (log_of image DAEMON_LOG)) entries ≡ has_legal_log image
 
 pub is_well_formed : (image : Image) → is_some (entries_of image DAEMON_LOG) ≡ true → IsWellFormed image
 unfolding has_legal_log
 is_well_formed image some =
     let es = some_there (entries_of image DAEMON_LOG) some in
-    record { entries = es.0; are = es.1; legal = sym (ap (are_allowed (frames_of image) (log_of image DAEMON_LOG)) es.1) }
+    record { entries = es.0; are = es.1; legal = sym (ap (are_loggable (frames_of image) (log_of image DAEMON_LOG)) es.1) }
 
 pub is_overlay : (o : Overlay) (image : Image) → log_copied o.log ≡ log_of image DAEMON_LOG → has_legal_log image ≡ true → IsOverlay o image
 is_overlay o image log legal = elim (cases_Bool (is_some (entries_of image DAEMON_LOG))) [

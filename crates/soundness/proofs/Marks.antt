@@ -19,7 +19,7 @@ use Rattle.pud_defs.proofs.DistinctKeys.{some_or, some_under, none_by_some, IsTo
 use Rattle.soundness.specs.declared.distinct.Key.{Key}
 use Rattle.soundness.specs.declared.distinct.Key.TheVariants.{Base, OldBase}
 use Rattle.soundness.specs.declared.distinct.TheConstants.{OLD_BASES, PLACES}
-use Rattle.soundness.specs.Distinct.{joined, word_of, number_by, number_of, mark_index, by_number, has_distinct_numbers, is_apart_from, with_mark, MarksMore, IsMarked, AreMarked, mark_of, counts_up, is_counted_by}
+use Rattle.soundness.specs.Distinct.{joined_key, key_word, key_by, key_of, mark_index, by_key, has_distinct_numbers, is_apart_from, with_mark, MarksMore, IsMarked, AreMarked, is_marked_at, counts_up, is_counted_by}
 use Rattle.soundness.proofs.Numbers.{told_by_places, told_by_bases, place_below, numbers_from, all_numbers, decided_by_list}
 
 -- ---- one record
@@ -36,17 +36,17 @@ used_record : (F : ℕ) (image : Image) (frame : ℕ) → frame < F → (image (
 unfolding puddle_at puddle_by
 used_record F image frame below used = puddles_below F image frame below ∙ cond-false _ _ _ (ne_eqb (image (puddle_record_at frame)) 0 used)
 
-pub number_used : (key : Key) (F : ℕ) (image : Image) (frame member base : ℕ) → frame < F → member ≡ image (puddle_record_at frame) → (member ≡ 0 → ⊥) → base ≡ image (puddle_record_at frame + word_of key)
-    → Some (number_by key (member_pool member) base) ≡ option_map (number_of key) ((tables_of F image).puddles frame)
+pub number_used : (key : Key) (F : ℕ) (image : Image) (frame member base : ℕ) → frame < F → member ≡ image (puddle_record_at frame) → (member ≡ 0 → ⊥) → base ≡ image (puddle_record_at frame + key_word key)
+    → Some (key_by key (member_pool member) base) ≡ option_map (key_of key) ((tables_of F image).puddles frame)
 number_used Base F image frame member base below is used there =
-    ap Some there ∙ sym (ap (option_map (number_of Base)) (used_record F image frame below (λ e. used (is ∙ e))))
+    ap Some there ∙ sym (ap (option_map (key_of Base)) (used_record F image frame below (λ e. used (is ∙ e))))
 number_used OldBase F image frame member base below is used there =
-    ap₂ (λ (w v : ℕ). Some (joined OLD_BASES (member_pool w) v)) is there ∙ sym (ap (option_map (number_of OldBase)) (used_record F image frame below (λ e. used (is ∙ e))))
+    ap₂ (λ (w v : ℕ). Some (joined_key OLD_BASES (member_pool w) v)) is there ∙ sym (ap (option_map (key_of OldBase)) (used_record F image frame below (λ e. used (is ∙ e))))
 
 pub place_used : (F : ℕ) (image : Image) (frame member : ℕ) → frame < F → member ≡ image (puddle_record_at frame) → (member ≡ 0 → ⊥)
-    → Some (joined MAX_PUDDLES (member_pool member) (member_ordinal member)) ≡ option_map mark_index ((tables_of F image).puddles frame)
+    → Some (joined_key MAX_PUDDLES (member_pool member) (member_ordinal member)) ≡ option_map mark_index ((tables_of F image).puddles frame)
 place_used F image frame member below is used =
-    ap (λ (w : ℕ). Some (joined MAX_PUDDLES (member_pool w) (member_ordinal w))) is ∙ sym (ap (option_map mark_index) (used_record F image frame below (λ e. used (is ∙ e))))
+    ap (λ (w : ℕ). Some (joined_key MAX_PUDDLES (member_pool w) (member_ordinal w))) is ∙ sym (ap (option_map mark_index) (used_record F image frame below (λ e. used (is ∙ e))))
 
 pub free_pool : (F : ℕ) (image : Image) (slot : ℕ) → slot < POOL_RECORDS → image (pool_record_at slot) ≡ 0 → is_none ((tables_of F image).pools slot) ≡ true
 free_pool F image slot below free = ap is_none (pools_below F image slot below ∙ pool_at-free image slot free)
@@ -67,29 +67,29 @@ pub unmarked : (t : Tables) (from n : ℕ) → IsMarked t from 0 (replicate n fa
 unfolding first_from
 unmarked t from n = record { each = λ k below. blank k n }
 
-pub none_apart : (t : Tables) (from : ℕ) → are_distinct nat_cmp (by_number mark_index t) from 0 ≡ true
+pub none_apart : (t : Tables) (from : ℕ) → are_distinct nat_cmp (by_key mark_index t) from 0 ≡ true
 unfolding are_distinct
 none_apart t from = refl
 
 -- a place is marked where one of the records has it
 apart_by_marks : (t : Tables) (i from count : ℕ) (marks : List Bool) (o : Option Member) → IsMarked t from count marks
-    → is_apart nat_cmp (option_map (λ m. (mark_index m, i)) o) (by_number mark_index t) from count ≡ is_apart_from marks (option_map mark_index o)
+    → is_apart nat_cmp (option_map (λ m. (mark_index m, i)) o) (by_key mark_index t) from count ≡ is_apart_from marks (option_map mark_index o)
 apart_by_marks t i from count marks None marked = refl
 apart_by_marks t i from count marks (Some m) marked =
-    none_by_some (first_from nat_cmp (mark_index m) (by_number mark_index t) from count) ∙ ap not (sym (marked.each (mark_index m) (place_below m)))
+    none_by_some (first_from nat_cmp (mark_index m) (by_key mark_index t) from count) ∙ ap not (sym (marked.each (mark_index m) (place_below m)))
 
 mark_here : (t : Tables) (i from count : ℕ) (marks : List Bool) (o : Option Member) → length marks ≡ PLACES → IsMarked t from count marks
-    → (n : ℕ) → n < PLACES → get_or (with_mark marks (option_map mark_index o)) n false ≡ (is_some (under nat_cmp n (option_map (λ m. (mark_index m, i)) o)) || is_some (first_from nat_cmp n (by_number mark_index t) from count))
+    → (n : ℕ) → n < PLACES → get_or (with_mark marks (option_map mark_index o)) n false ≡ (is_some (under nat_cmp n (option_map (λ m. (mark_index m, i)) o)) || is_some (first_from nat_cmp n (by_key mark_index t) from count))
 mark_here t i from count marks None size marked n below = marked.each n below
 mark_here t i from count marks (Some m) size marked n below = elim (cases_eq n (mark_index m)) [
   | inl here ↦
       ap (λ (k : ℕ). get_or (slice_set marks (mark_index m) true) k false) here
       ∙ get_or-set_same marks (mark_index m) true false (omega (arith, place_below m))
-      ∙ sym (or_left (is_some (under nat_cmp n (Some (mark_index m, i)))) (is_some (first_from nat_cmp n (by_number mark_index t) from count)) (some_under n (mark_index m) i ∙ eq-eqb n (mark_index m) here))
+      ∙ sym (or_left (is_some (under nat_cmp n (Some (mark_index m, i)))) (is_some (first_from nat_cmp n (by_key mark_index t) from count)) (some_under n (mark_index m) i ∙ eq-eqb n (mark_index m) here))
   | inr other ↦
       get_or-set_other marks (mark_index m) n true false other
       ∙ marked.each n below
-      ∙ ap (λ (b : Bool). b || is_some (first_from nat_cmp n (by_number mark_index t) from count)) (sym (some_under n (mark_index m) i ∙ ne_eqb n (mark_index m) other))
+      ∙ ap (λ (b : Bool). b || is_some (first_from nat_cmp n (by_key mark_index t) from count)) (sym (some_under n (mark_index m) i ∙ ne_eqb n (mark_index m) other))
 ]
 
 -- one record further in front, whose place was not marked
@@ -100,22 +100,22 @@ marked_more t i j count before after answer next size marked more apart = record
   each = λ n below.
       ap (λ (marks : List Bool). get_or marks n false) (more.marks apart)
       ∙ mark_here t i j count before (t.puddles i) size marked n below
-      ∙ ap (λ (k : ℕ). is_some (under nat_cmp n (by_number mark_index t i)) || is_some (first_from nat_cmp n (by_number mark_index t) k count)) next
-      ∙ sym (some_or (under nat_cmp n (by_number mark_index t i)) (first_from nat_cmp n (by_number mark_index t) (i + 1) count))
-      ∙ ap (λ (k : ℕ). is_some (first_from nat_cmp n (by_number mark_index t) i k)) (sym (add-one count));
+      ∙ ap (λ (k : ℕ). is_some (under nat_cmp n (by_key mark_index t i)) || is_some (first_from nat_cmp n (by_key mark_index t) k count)) next
+      ∙ sym (some_or (under nat_cmp n (by_key mark_index t i)) (first_from nat_cmp n (by_key mark_index t) (i + 1) count))
+      ∙ ap (λ (k : ℕ). is_some (first_from nat_cmp n (by_key mark_index t) i k)) (sym (add-one count));
 }
 
 apart_more : (t : Tables) (i j count : ℕ) (before after : List Bool) (answer : Bool) → j ≡ i + 1 → IsMarked t j count before → MarksMore before (option_map mark_index (t.puddles i)) answer after
-    → are_distinct nat_cmp (by_number mark_index t) i (count + 1) ≡ (answer && are_distinct nat_cmp (by_number mark_index t) j count)
+    → are_distinct nat_cmp (by_key mark_index t) i (count + 1) ≡ (answer && are_distinct nat_cmp (by_key mark_index t) j count)
 unfolding are_distinct
 apart_more t i j count before after answer next marked more =
-    ap (are_distinct nat_cmp (by_number mark_index t) i) (add-one count)
-    ∙ ap (λ (k : ℕ). is_apart nat_cmp (by_number mark_index t i) (by_number mark_index t) k count && are_distinct nat_cmp (by_number mark_index t) k count) (sym next)
-    ∙ ap (λ (b : Bool). b && are_distinct nat_cmp (by_number mark_index t) j count) (apart_by_marks t i j count before (t.puddles i) marked ∙ sym more.apart)
+    ap (are_distinct nat_cmp (by_key mark_index t) i) (add-one count)
+    ∙ ap (λ (k : ℕ). is_apart nat_cmp (by_key mark_index t i) (by_key mark_index t) k count && are_distinct nat_cmp (by_key mark_index t) k count) (sym next)
+    ∙ ap (λ (b : Bool). b && are_distinct nat_cmp (by_key mark_index t) j count) (apart_by_marks t i j count before (t.puddles i) marked ∙ sym more.apart)
 
 pub distinct_more : (t : Tables) (i j count : ℕ) (before after : List Bool) (answer : Bool) → j ≡ i + 1 → IsMarked t j count before → MarksMore before (option_map mark_index (t.puddles i)) answer after
-    → answer ≡ true → are_distinct nat_cmp (by_number mark_index t) j count ≡ true → are_distinct nat_cmp (by_number mark_index t) i (count + 1) ≡ true
-distinct_more t i j count before after answer next marked more apart rest = apart_more t i j count before after answer next marked more ∙ and_from answer (are_distinct nat_cmp (by_number mark_index t) j count) apart rest
+    → answer ≡ true → are_distinct nat_cmp (by_key mark_index t) j count ≡ true → are_distinct nat_cmp (by_key mark_index t) i (count + 1) ≡ true
+distinct_more t i j count before after answer next marked more apart rest = apart_more t i j count before after answer next marked more ∙ and_from answer (are_distinct nat_cmp (by_key mark_index t) j count) apart rest
 
 -- records that are not distinct are not with more in front
 not_with_more : (at : ℕ → Option (ℕ × ℕ)) (more from count : ℕ) → are_distinct nat_cmp at (from + more) count ≡ false → are_distinct nat_cmp at from (more + count) ≡ false
@@ -128,15 +128,15 @@ not_with_more at (suc more) from count h =
     ∙ and_right (is_apart nat_cmp (at from) at (from + 1) (more + count)) (are_distinct nat_cmp at (from + 1) (more + count)) (not_with_more at more (from + 1) count (ap (λ (k : ℕ). are_distinct nat_cmp at k count) a ∙ h))
 
 pub not_distinct : (t : Tables) (end done : ℕ) (before after : List Bool) (answer : Bool) → done < end → IsMarked t (end - done) done before
-    → MarksMore before (option_map mark_index (t.puddles (end - 1 - done))) answer after → answer ≡ false → are_distinct nat_cmp (by_number mark_index t) 0 end ≡ false
+    → MarksMore before (option_map mark_index (t.puddles (end - 1 - done))) answer after → answer ≡ false → are_distinct nat_cmp (by_key mark_index t) 0 end ≡ false
 not_distinct t end done before after answer below marked more again =
     let i = end - 1 - done in
     let next : end - done ≡ i + 1 = omega arith in
     let all : i + (done + 1) ≡ end = omega arith in
     let from : 0 + i ≡ i = omega arith in
-    let later = apart_more t i (end - done) done before after answer next marked more ∙ and_left answer (are_distinct nat_cmp (by_number mark_index t) (end - done) done) again in
-    ap (are_distinct nat_cmp (by_number mark_index t) 0) (sym all)
-    ∙ not_with_more (by_number mark_index t) i 0 (done + 1) (ap (λ (k : ℕ). are_distinct nat_cmp (by_number mark_index t) k (done + 1)) from ∙ later)
+    let later = apart_more t i (end - done) done before after answer next marked more ∙ and_left answer (are_distinct nat_cmp (by_key mark_index t) (end - done) done) again in
+    ap (are_distinct nat_cmp (by_key mark_index t) 0) (sym all)
+    ∙ not_with_more (by_key mark_index t) i 0 (done + 1) (ap (λ (k : ℕ). are_distinct nat_cmp (by_key mark_index t) k (done + 1)) from ∙ later)
 
 -- ---- the same at a loop's numbers
 
@@ -149,25 +149,25 @@ marked_step t end done before after answer below size marked more apart =
     subst (λ (k : ℕ). IsMarked t k (done + 1) after) same (marked_more t i (end - done) done before after answer next size marked more apart)
 
 pub distinct_step : (t : Tables) (end done : ℕ) (before after : List Bool) (answer : Bool) → done < end → IsMarked t (end - done) done before
-    → MarksMore before (option_map mark_index (t.puddles (end - 1 - done))) answer after → answer ≡ true → are_distinct nat_cmp (by_number mark_index t) (end - done) done ≡ true
-    → are_distinct nat_cmp (by_number mark_index t) (end - (done + 1)) (done + 1) ≡ true
+    → MarksMore before (option_map mark_index (t.puddles (end - 1 - done))) answer after → answer ≡ true → are_distinct nat_cmp (by_key mark_index t) (end - done) done ≡ true
+    → are_distinct nat_cmp (by_key mark_index t) (end - (done + 1)) (done + 1) ≡ true
 distinct_step t end done before after answer below marked more apart rest =
     let i = end - 1 - done in
     let next : end - done ≡ i + 1 = omega arith in
     let same : end - (done + 1) ≡ i = omega arith in
-    ap (λ (k : ℕ). are_distinct nat_cmp (by_number mark_index t) k (done + 1)) same ∙ distinct_more t i (end - done) done before after answer next marked more apart rest
+    ap (λ (k : ℕ). are_distinct nat_cmp (by_key mark_index t) k (done + 1)) same ∙ distinct_more t i (end - done) done before after answer next marked more apart rest
 
-pub are_marked : (F : ℕ) (image : Image) (done : ℕ) (marks : List Bool) → F ≤ done → done ≤ F → are_distinct nat_cmp (by_number mark_index (tables_of F image)) (F - done) done ≡ true
+pub are_marked : (F : ℕ) (image : Image) (done : ℕ) (marks : List Bool) → F ≤ done → done ≤ F → are_distinct nat_cmp (by_key mark_index (tables_of F image)) (F - done) done ≡ true
     → IsMarked (tables_of F image) (F - done) done marks → AreMarked (tables_of F image) (Some marks)
 unfolding tables_of
 are_marked F image done marks low high apart marked =
     let from : F - done ≡ 0 = omega arith in
     let count : done ≡ F = omega arith in (
-      sym (ap₂ (are_distinct nat_cmp (by_number mark_index (tables_of F image))) from count) ∙ apart,
+      sym (ap₂ (are_distinct nat_cmp (by_key mark_index (tables_of F image))) from count) ∙ apart,
       subst (λ (n : ℕ). IsMarked (tables_of F image) 0 n marks) count (subst (λ (k : ℕ). IsMarked (tables_of F image) k done marks) from marked),
     )
 
-pub not_marked : (F : ℕ) (image : Image) → are_distinct nat_cmp (by_number mark_index (tables_of F image)) 0 F ≡ false → AreMarked (tables_of F image) None
+pub not_marked : (F : ℕ) (image : Image) → are_distinct nat_cmp (by_key mark_index (tables_of F image)) 0 F ≡ false → AreMarked (tables_of F image) None
 unfolding tables_of
 not_marked F image same = same
 
@@ -181,19 +181,19 @@ decided number F image answer xs done low high are decides =
 -- ---- the marks of one pool
 
 follows : (marks : List Bool) (slot k a b : ℕ) (answer : Bool) → a ≡ (slot + 1) * 16 + k → b ≡ (slot + 1) * 16 + (k + 1) → answer ≡ (get_or marks a false || not (get_or marks b false))
-    → answer ≡ (mark_of marks slot k || not (mark_of marks slot (k + 1)))
+    → answer ≡ (is_marked_at marks slot k || not (is_marked_at marks slot (k + 1)))
 follows marks slot k a b answer here next is = is ∙ ap₂ (λ (i j : ℕ). get_or marks i false || not (get_or marks j false)) here next
 
 pub counts_stop : (marks : List Bool) (slot k a b : ℕ) (answer : Bool) → k < 15 → a ≡ (slot + 1) * 16 + k → b ≡ (slot + 1) * 16 + (k + 1) → answer ≡ (get_or marks a false || not (get_or marks b false))
-    → answer ≡ false → false ≡ counts_up (mark_of marks slot)
+    → answer ≡ false → false ≡ counts_up (is_marked_at marks slot)
 counts_stop marks slot k a b answer below here next is stops =
-    sym (and_left (all_below 15 (λ j. mark_of marks slot j || not (mark_of marks slot (j + 1)))) (mark_of marks slot 0)
-    (all_below-fails 15 k (λ j. mark_of marks slot j || not (mark_of marks slot (j + 1))) below (sym (follows marks slot k a b answer here next is) ∙ stops)))
+    sym (and_left (all_below 15 (λ j. is_marked_at marks slot j || not (is_marked_at marks slot (j + 1)))) (is_marked_at marks slot 0)
+    (all_below-fails 15 k (λ j. is_marked_at marks slot j || not (is_marked_at marks slot (j + 1))) below (sym (follows marks slot k a b answer here next is) ∙ stops)))
 
 pub counts_more : (marks : List Bool) (slot k a b : ℕ) (answer : Bool) → a ≡ (slot + 1) * 16 + k → b ≡ (slot + 1) * 16 + (k + 1) → answer ≡ (get_or marks a false || not (get_or marks b false)) → answer ≡ true
-    → all_below k (λ j. mark_of marks slot j || not (mark_of marks slot (j + 1))) ≡ true → all_below (k + 1) (λ j. mark_of marks slot j || not (mark_of marks slot (j + 1))) ≡ true
+    → all_below k (λ j. is_marked_at marks slot j || not (is_marked_at marks slot (j + 1))) ≡ true → all_below (k + 1) (λ j. is_marked_at marks slot j || not (is_marked_at marks slot (j + 1))) ≡ true
 counts_more marks slot k a b answer here next is goes before =
-    all_below-more k (λ j. mark_of marks slot j || not (mark_of marks slot (j + 1))) before (sym (follows marks slot k a b answer here next is) ∙ goes)
+    all_below-more k (λ j. is_marked_at marks slot j || not (is_marked_at marks slot (j + 1))) before (sym (follows marks slot k a b answer here next is) ∙ goes)
 
 -- ---- legal records
 
@@ -201,7 +201,7 @@ module _ (F : ℕ) (image : Image) (next : ℕ) (legal : has_legal_puddles next 
   small : (j : ℕ) (m : Member) → (tables_of F image).puddles j ≡ Some m → IsSmall m
   small = small_in_tables F image next legal
 
-  old_base_told : (j : ℕ) (m : Member) → (tables_of F image).puddles j ≡ Some m → IsTold {X = ℕ} (tables_of F image).puddles (λ m. m.puddle.old_base) (number_of OldBase) (λ j m. j) m
+  old_base_told : (j : ℕ) (m : Member) → (tables_of F image).puddles j ≡ Some m → IsTold {X = ℕ} (tables_of F image).puddles (λ m. m.puddle.old_base) (key_of OldBase) (λ j m. j) m
   old_base_told j m is =
       let s = small j m is in
       let low = s.low in
@@ -233,19 +233,19 @@ module _ (F : ℕ) (image : Image) (next : ℕ) (legal : has_legal_puddles next 
             told_by_places m.pool other.pool m.ordinal other.ordinal (omega arith) (omega arith) own its;
       }
 
-  pub old_bases_by_numbers : has_distinct_numbers (number_of OldBase) (tables_of F image) ≡ has_distinct_old_bases (tables_of F image)
-  old_bases_by_numbers = sym (distinct_old_bases (tables_of F image) (number_of OldBase) old_base_told)
+  pub old_bases_by_numbers : has_distinct_numbers (key_of OldBase) (tables_of F image) ≡ has_distinct_old_bases (tables_of F image)
+  old_bases_by_numbers = sym (distinct_old_bases (tables_of F image) (key_of OldBase) old_base_told)
 
   pub ordinals_by_places : has_distinct_numbers mark_index (tables_of F image) ≡ has_distinct_ordinals (tables_of F image)
   ordinals_by_places = sym (distinct_ordinals (tables_of F image) mark_index ordinal_told)
 
   -- the marks of a pool are those of its ordinals
   marks_of_pool : (marks : List Bool) (slot : ℕ) → slot < POOL_RECORDS → IsMarked (tables_of F image) 0 (tables_of F image).frames marks
-      → AreKeys (mark_of marks slot) (λ k. is_some (first_from nat_cmp k (members (tables_of F image) slot) 0 (tables_of F image).frames))
+      → AreKeys (is_marked_at marks slot) (λ k. is_some (first_from nat_cmp k (members (tables_of F image) slot) 0 (tables_of F image).frames))
   marks_of_pool marks slot below marked = record {
     same = λ k low.
         let p = (slot + 1) * MAX_PUDDLES + k in
-        let place : joined 16 (slot + 1) k ≡ p = omega arith in
+        let place : joined_key 16 (slot + 1) k ≡ p = omega arith in
         let inside : p < PLACES = omega arith in
         found_ordinal (tables_of F image) mark_index slot k p
         (record { same = λ j m is. let s = small j m is in let most = s.high in let its = s.ordinal in told_by_places (slot + 1) m.pool k m.ordinal (omega arith) (omega arith) low its ∙ ap (λ (n : ℕ). eqb n (mark_index m)) place })
@@ -263,9 +263,9 @@ module _ (F : ℕ) (image : Image) (next : ℕ) (legal : has_legal_puddles next 
   unfolding has_counted_puddles
   counted_by_places marks marked =
       all_below-same POOL_RECORDS (is_counted_by marks (tables_of F image)) (λ slot. is_none ((tables_of F image).pools slot) || are_counted (puddles_of (tables_of F image) slot))
-      (λ slot below. ap (λ (b : Bool). is_none ((tables_of F image).pools slot) || b) (sym (counted_by_marks (tables_of F image) slot (mark_of marks slot) (marks_of_pool marks slot below marked))))
+      (λ slot below. ap (λ (b : Bool). is_none ((tables_of F image).pools slot) || b) (sym (counted_by_marks (tables_of F image) slot (is_marked_at marks slot) (marks_of_pool marks slot below marked))))
 
-pub bases_by_numbers : (t : Tables) → has_distinct_numbers (number_of Base) t ≡ has_distinct_bases t
+pub bases_by_numbers : (t : Tables) → has_distinct_numbers (key_of Base) t ≡ has_distinct_bases t
 unfolding has_distinct_bases
 bases_by_numbers t = refl
 

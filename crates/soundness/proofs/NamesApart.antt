@@ -20,7 +20,7 @@ use Rattle.pud_defs.specs.Tables.{tables_of, named}
 use Rattle.pud_defs.specs.SoundTables.{has_distinct_names}
 use Rattle.soundness.specs.declared.names.NameWords.{NameWords}
 use Rattle.soundness.specs.Tables.{record_words, pool_by_words}
-use Rattle.soundness.specs.Named.{is_name, are_apart, IsNameOf, HoldsNames, no_name}
+use Rattle.soundness.specs.Named.{is_same_name, are_apart, IsNameOf, HoldsNames, no_name}
 use Rattle.soundness.proofs.Tabled.{pool_here}
 
 -- ---- two words that are one name
@@ -51,7 +51,7 @@ high_tied n m fn fm tied =
     let same = tells_apart exact_bytes (spelled n) (spelled m) tied in
     sym (name_high m.low m.high fm.high) ∙ ap (λ (bytes : List ℕ). from_le_bytes w64 (drop 8 bytes)) (sym same) ∙ name_high n.low n.high fn.high
 
-tied_by : (n m : NameWords) → Fits n → Fits m → eq_by_cmp name_cmp (spelled n) (spelled m) ≡ is_name n m
+tied_by : (n m : NameWords) → Fits n → Fits m → eq_by_cmp name_cmp (spelled n) (spelled m) ≡ is_same_name n m
 tied_by n m fn fm = elim (cases_eq m.low n.low) [
   | inl low ↦ elim (cases_eq m.high n.high) [
     | inl high ↦
@@ -111,17 +111,17 @@ module _ (F : ℕ) (image : Image) where
 
   -- a name is one of those behind exactly where a record of theirs has it
   found_by : (q n : NameWords) (slot : ℕ) (later : Option (ℕ × PoolRecord)) → Fits q → IsNameOf image slot n → (q.low ≡ 0 → ⊥) → (free : Bool) → eqb n.low 0 ≡ free
-      → is_none (option_or (under name_cmp (spelled q) (cond free None (Some (spelled n, (slot, pool slot n))))) later) ≡ not (is_name q n || not (is_none later))
+      → is_none (option_or (under name_cmp (spelled q) (cond free None (Some (spelled n, (slot, pool slot n))))) later) ≡ not (is_same_name q n || not (is_none later))
   found_by q n slot later fq is used true tested =
       let other : eqb n.low q.low ≡ false = ne_eqb n.low q.low (λ same. used (sym same ∙ eqb-true n.low 0 tested)) in
       sym (ap (λ (b : Bool). not ((b && eqb n.high q.high) || not (is_none later))) other ∙ elim (is_none later) as (λ b. not (not b) ≡ b) [ true ↦ refl | false ↦ refl ])
   found_by q n slot later fq is used false tested =
       ap (λ (b : Bool). is_none (option_or (cond b (Some (slot, pool slot n)) None) later)) (tied_by q n fq (fits_of slot n is))
-      ∙ elim (is_name q n) as (λ b. is_none (option_or (cond b (Some (slot, pool slot n)) None) later) ≡ not (b || not (is_none later)))
+      ∙ elim (is_same_name q n) as (λ b. is_none (option_or (cond b (Some (slot, pool slot n)) None) later) ≡ not (b || not (is_none later)))
       [ true ↦ refl | false ↦ elim (is_none later) as (λ b. b ≡ not (not b)) [ true ↦ refl | false ↦ refl ] ]
 
   found : (q : NameWords) (ns : List NameWords) (from : ℕ) → from + length ns ≤ POOL_RECORDS → Fits q → (q.low ≡ 0 → ⊥) → Holds from ns
-      → is_none (first_from name_cmp (spelled q) (named (tables_of F image)) from (length ns)) ≡ not (list_any (is_name q) ns)
+      → is_none (first_from name_cmp (spelled q) (named (tables_of F image)) from (length ns)) ≡ not (list_any (is_same_name q) ns)
   unfolding first_from
   found q [] from few fq used holds = refl
   found q (n ∷ ns) from few fq used holds =
@@ -130,11 +130,11 @@ module _ (F : ℕ) (image : Image) where
       let behind = found q ns (from + 1) (omega arith) fq used (tail_of from n ns holds) in
       ap (λ (o : Option (List ℕ × (ℕ × PoolRecord))). is_none (option_or (under name_cmp (spelled q) o) later)) (entry_by from n (omega arith) is (eqb n.low 0) refl)
       ∙ found_by q n from later fq is used (eqb n.low 0) refl
-      ∙ ap (λ (b : Bool). not (is_name q n || not b)) behind
-      ∙ ap (λ (b : Bool). not (is_name q n || b)) (elim (list_any (is_name q) ns) as (λ b. not (not b) ≡ b) [ true ↦ refl | false ↦ refl ])
+      ∙ ap (λ (b : Bool). not (is_same_name q n || not b)) behind
+      ∙ ap (λ (b : Bool). not (is_same_name q n || b)) (elim (list_any (is_same_name q) ns) as (λ b. not (not b) ≡ b) [ true ↦ refl | false ↦ refl ])
 
   apart_by : (n : NameWords) (ns : List NameWords) (from : ℕ) → from + length (n ∷ ns) ≤ POOL_RECORDS → IsNameOf image from n → Holds (from + 1) ns → (free : Bool) → eqb n.low 0 ≡ free
-      → is_apart name_cmp (cond free None (Some (spelled n, (from, pool from n)))) (named (tables_of F image)) (from + 1) (length ns) ≡ (free || not (list_any (is_name n) ns))
+      → is_apart name_cmp (cond free None (Some (spelled n, (from, pool from n)))) (named (tables_of F image)) (from + 1) (length ns) ≡ (free || not (list_any (is_same_name n) ns))
   apart_by n ns from few is holds true tested = refl
   apart_by n ns from few is holds false tested = found n ns (from + 1) (omega arith) (fits_of from n is) (eqb-false n.low 0 tested) holds
 
@@ -145,7 +145,7 @@ module _ (F : ℕ) (image : Image) where
       let is = head_of from n ns holds in
       let tail = tail_of from n ns holds in
       let rest = are_distinct name_cmp (named (tables_of F image)) (from + 1) (length ns) in
-      ap (λ (b : Bool). (eqb n.low 0 || not (list_any (is_name n) ns)) && b) (distinct_from ns (from + 1) (omega arith) tail)
+      ap (λ (b : Bool). (eqb n.low 0 || not (list_any (is_same_name n) ns)) && b) (distinct_from ns (from + 1) (omega arith) tail)
       ∙ sym (ap (λ (o : Option (List ℕ × (ℕ × PoolRecord))). is_apart name_cmp o (named (tables_of F image)) (from + 1) (length ns) && rest) (entry_by from n (omega arith) is (eqb n.low 0) refl)
       ∙ ap (λ (b : Bool). b && rest) (apart_by n ns from few is tail (eqb n.low 0) refl))
 

@@ -14,29 +14,29 @@ use Rattle.pud_defs.specs.Keyed.{under, first_from, is_apart, are_distinct}
 use Rattle.pud_defs.specs.Puddles.{Member}
 use Rattle.pud_defs.proofs.DistinctKeys.{same_tests, none_by_some, some_or, some_under, eqb_turned}
 use Rattle.soundness.specs.declared.distinct.TheConstants.{POOL_NUMBERS, OLD_BASES, PLACES}
-use Rattle.soundness.specs.Distinct.{joined, mark_index, with_number}
+use Rattle.soundness.specs.Distinct.{joined_key, mark_index, with_number}
 
 -- ---- two numbers in one
 
-joined_same : (n a b x y : ℕ) → a < POOL_NUMBERS → b < POOL_NUMBERS → x < n → y < n → joined n a x ≡ joined n b y → a * n + x ≡ b * n + y
+joined_same : (n a b x y : ℕ) → a < POOL_NUMBERS → b < POOL_NUMBERS → x < n → y < n → joined_key n a x ≡ joined_key n b y → a * n + x ≡ b * n + y
 joined_same n a b x y pool_a pool_b low_a low_b same =
     sym (ap₂ (λ (p q : ℕ). p * n + q) (mod-eq_of_lt pool_a) (mod-eq_of_lt low_a)) ∙ same ∙ ap₂ (λ (p q : ℕ). p * n + q) (mod-eq_of_lt pool_b) (mod-eq_of_lt low_b)
 
 -- pools below 64 and other numbers below 16, or below 2^45, are told apart
-pub told_by_places : (a b x y : ℕ) → a < POOL_NUMBERS → b < POOL_NUMBERS → x < 16 → y < 16 → (eqb b a && eqb x y) ≡ eqb (joined 16 a x) (joined 16 b y)
-told_by_places a b x y pool_a pool_b low_a low_b = same_tests (eqb b a && eqb x y) (eqb (joined 16 a x) (joined 16 b y))
+pub told_by_places : (a b x y : ℕ) → a < POOL_NUMBERS → b < POOL_NUMBERS → x < 16 → y < 16 → (eqb b a && eqb x y) ≡ eqb (joined_key 16 a x) (joined_key 16 b y)
+told_by_places a b x y pool_a pool_b low_a low_b = same_tests (eqb b a && eqb x y) (eqb (joined_key 16 a x) (joined_key 16 b y))
     (λ h. let parts = and_parts (eqb b a) (eqb x y) h in
-    eq-eqb (joined 16 a x) (joined 16 b y) (ap₂ (λ (p q : ℕ). joined 16 p q) (sym (eqb-true b a parts.0)) (eqb-true x y parts.1)))
+    eq-eqb (joined_key 16 a x) (joined_key 16 b y) (ap₂ (λ (p q : ℕ). joined_key 16 p q) (sym (eqb-true b a parts.0)) (eqb-true x y parts.1)))
     (λ h.
-    let e : a * 16 + x ≡ b * 16 + y = joined_same 16 a b x y pool_a pool_b low_a low_b (eqb-true (joined 16 a x) (joined 16 b y) h) in
+    let e : a * 16 + x ≡ b * 16 + y = joined_same 16 a b x y pool_a pool_b low_a low_b (eqb-true (joined_key 16 a x) (joined_key 16 b y) h) in
     and_from (eqb b a) (eqb x y) (eq-eqb b a (omega arith)) (eq-eqb x y (omega arith)))
 
-pub told_by_bases : (a b x y : ℕ) → a < POOL_NUMBERS → b < POOL_NUMBERS → x < OLD_BASES → y < OLD_BASES → (eqb b a && eqb x y) ≡ eqb (joined OLD_BASES a x) (joined OLD_BASES b y)
-told_by_bases a b x y pool_a pool_b low_a low_b = same_tests (eqb b a && eqb x y) (eqb (joined OLD_BASES a x) (joined OLD_BASES b y))
+pub told_by_bases : (a b x y : ℕ) → a < POOL_NUMBERS → b < POOL_NUMBERS → x < OLD_BASES → y < OLD_BASES → (eqb b a && eqb x y) ≡ eqb (joined_key OLD_BASES a x) (joined_key OLD_BASES b y)
+told_by_bases a b x y pool_a pool_b low_a low_b = same_tests (eqb b a && eqb x y) (eqb (joined_key OLD_BASES a x) (joined_key OLD_BASES b y))
     (λ h. let parts = and_parts (eqb b a) (eqb x y) h in
-    eq-eqb (joined OLD_BASES a x) (joined OLD_BASES b y) (ap₂ (λ (p q : ℕ). joined OLD_BASES p q) (sym (eqb-true b a parts.0)) (eqb-true x y parts.1)))
+    eq-eqb (joined_key OLD_BASES a x) (joined_key OLD_BASES b y) (ap₂ (λ (p q : ℕ). joined_key OLD_BASES p q) (sym (eqb-true b a parts.0)) (eqb-true x y parts.1)))
     (λ h.
-    let e : a * OLD_BASES + x ≡ b * OLD_BASES + y = joined_same OLD_BASES a b x y pool_a pool_b low_a low_b (eqb-true (joined OLD_BASES a x) (joined OLD_BASES b y) h) in
+    let e : a * OLD_BASES + x ≡ b * OLD_BASES + y = joined_same OLD_BASES a b x y pool_a pool_b low_a low_b (eqb-true (joined_key OLD_BASES a x) (joined_key OLD_BASES b y) h) in
     and_from (eqb b a) (eqb x y) (eq-eqb b a (omega arith)) (eq-eqb x y (omega arith)))
 
 pub place_below : (m : Member) → mark_index m < PLACES

@@ -18,7 +18,7 @@ use Rattle.log_entry.specs.Ranges.{HasRange}
 use Rattle.log_entry.specs.Reading.{entry_from}
 use Rattle.soundness.specs.declared.overlay.Overlay.{Overlay}
 use Rattle.soundness.specs.declared.overlay.Given.{Given}
-use Rattle.soundness.specs.Overlaying.{IsOverlay, GivesMore, Gives}
+use Rattle.soundness.specs.Overlaying.{IsOverlay, GivesWordMore, GivesWord}
 
 -- ---- what one entry gives
 
@@ -50,7 +50,7 @@ not_named image e w apart = elim (cases_Bool (leb e.addr w)) [
 
 -- an entry that does not count, or does not name the word, gives nothing
 pub gives_nothing : (log : Log) (image : Image) (e : Found) (w : ℕ) (given : Given) → (is_in_range log (entry_from image e) ≡ false) ⊎ ((leb e.addr w && ltb w (e.addr + e.n)) ≡ false)
-    → GivesMore log (entry_from image e) w given given
+    → GivesWordMore log (entry_from image e) w given given
 gives_nothing log image e w given which =
     let none : (order : ℕ) → given_by device_word log order (entry_from image e) w ≡ None = λ order. elim which [
       | inl out ↦ given_by-out device_word log order (entry_from image e) w out
@@ -74,7 +74,7 @@ given_there log image e w v order counts low high read = elim (cases_Bool (eqb e
 
 pub gives_more : (log : Log) (image : Image) (e : Found) (w v : ℕ) (given after : Given) → is_in_range log (entry_from image e) ≡ true → e.addr ≤ w → w < e.addr + e.n
     → v ≡ image (e.at + (w - e.addr)) → after.undo ≡ option_or given.undo (cond (eqb e.order UNDO_ORDER) (Some v) None) → after.redo ≡ option_or (cond (eqb e.order REDO_ORDER) (Some v) None) given.redo
-    → GivesMore log (entry_from image e) w given after
+    → GivesWordMore log (entry_from image e) w given after
 gives_more log image e w v given after counts low high read undo redo = record {
   undo = undo ∙ ap (option_or given.undo) (given_there log image e w v UNDO_ORDER counts low high read);
   redo = redo ∙ ap (λ (x : Option ℕ). option_or x given.redo) (given_there log image e w v REDO_ORDER counts low high read);
@@ -87,7 +87,7 @@ abbrev pub given_then : Log → ℕ → Given → List Entry → Given
 given_then log w given es = record { undo = option_or given.undo (undo_value device_word log es w); redo = option_or (redo_value device_word log es w) given.redo }
 
 -- one entry further
-pub given_then-more : (log : Log) (e : Entry) (w : ℕ) (before after : Given) → GivesMore log e w before after → (es : List Entry) → given_then log w after es ≡ given_then log w before (e ∷ es)
+pub given_then-more : (log : Log) (e : Entry) (w : ℕ) (before after : Given) → GivesWordMore log e w before after → (es : List Entry) → given_then log w after es ≡ given_then log w before (e ∷ es)
 given_then-more log e w before after more es =
     let undo : option_or after.undo (undo_value device_word log es w) ≡ option_or before.undo (undo_value device_word log (e ∷ es) w) =
     ap (λ (x : Option ℕ). option_or x (undo_value device_word log es w)) more.undo
@@ -100,7 +100,7 @@ given_then-more log e w before after more es =
     λ p. record { undo = undo p; redo = redo p }
 
 -- all is given
-pub gives_all : (log : Log) (w : ℕ) (es : List Entry) (given : Given) → given_then log w given [] ≡ given_then log w (record { undo = None; redo = None }) es → Gives log es w given
+pub gives_all : (log : Log) (w : ℕ) (es : List Entry) (given : Given) → given_then log w given [] ≡ given_then log w (record { undo = None; redo = None }) es → GivesWord log es w given
 gives_all log w es given same = record {
   undo = or_none given.undo ∙ ap (option_or given.undo) (sym (undo_value-none device_word log w)) ∙ ap (λ (x : Given). x.undo) same;
   redo = ap (λ (x : Option ℕ). option_or x given.redo) (sym (redo_value-none device_word log w)) ∙ ap (λ (x : Given). x.redo) same ∙ sym (or_none (redo_value device_word log es w));
@@ -116,7 +116,7 @@ word_uncounted range image w v of_log outside closed read =
     sym (settled_by-outside DAEMON_LOG image w outside ∙ ap (λ (i : Image). i w) (replayed-none device_word (log_of image DAEMON_LOG) image (omega arith)) ∙ sym read)
 
 pub word_given : (o : Overlay) (image : Image) (w before v : ℕ) (given : Given) (over : IsOverlay o image) → is_in_log DAEMON_LOG w ≡ false → before ≡ image w
-    → Gives (log_of image DAEMON_LOG) over.entries w given → v ≡ unwrap_or (option_or given.redo given.undo) before → v ≡ settled_by DAEMON_LOG image w
+    → GivesWord (log_of image DAEMON_LOG) over.entries w given → v ≡ unwrap_or (option_or given.redo given.undo) before → v ≡ settled_by DAEMON_LOG image w
 word_given o image w before v given over outside read gives is =
     is
     ∙ ap₂ (λ (x : Option ℕ) (b : ℕ). unwrap_or x b)

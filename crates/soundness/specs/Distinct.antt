@@ -12,35 +12,35 @@ use Rattle.soundness.specs.declared.distinct.TheConstants.{POOL_NUMBERS, OLD_BAS
 use Rattle.pud_defs.specs.declared.records.TheConstants.{MAX_PUDDLES, PUDDLE_BASE_WORD, PUDDLE_OLD_BASE_WORD}
 
 -- one number of a pool and of a number below n, told apart where the pool is below 64
-abbrev pub joined : (n pool low : ℕ) → ℕ
-joined n pool low = pool % POOL_NUMBERS * n + low % n
+abbrev pub joined_key : (n pool low : ℕ) → ℕ
+joined_key n pool low = pool % POOL_NUMBERS * n + low % n
 
 -- the word of a record that holds the base or the old base
-abbrev pub word_of : Key → ℕ
-word_of Base = PUDDLE_BASE_WORD
-word_of OldBase = PUDDLE_OLD_BASE_WORD
+abbrev pub key_word : Key → ℕ
+key_word Base = PUDDLE_BASE_WORD
+key_word OldBase = PUDDLE_OLD_BASE_WORD
 
 -- what a puddle of a pool is told apart by: its base, or its pool and its old base
-abbrev pub number_by : Key → (pool base : ℕ) → ℕ
-number_by Base pool base = base
-number_by OldBase pool base = joined OLD_BASES pool base
+abbrev pub key_by : Key → (pool base : ℕ) → ℕ
+key_by Base pool base = base
+key_by OldBase pool base = joined_key OLD_BASES pool base
 
 -- the same of a record
-abbrev pub number_of : Key → Member → ℕ
-number_of Base m = number_by Base m.pool m.puddle.base
-number_of OldBase m = number_by OldBase m.pool m.puddle.old_base
+abbrev pub key_of : Key → Member → ℕ
+key_of Base m = key_by Base m.pool m.puddle.base
+key_of OldBase m = key_by OldBase m.pool m.puddle.old_base
 
 -- the number of a record's pool and ordinal
 abbrev pub mark_index : Member → ℕ
-mark_index m = joined MAX_PUDDLES m.pool m.ordinal
+mark_index m = joined_key MAX_PUDDLES m.pool m.ordinal
 
 -- the frame of a used record, under a number of the record
-abbrev pub by_number : (Member → ℕ) → Tables → ℕ → Option (ℕ × ℕ)
-by_number number t frame = option_map (λ m. (number m, frame)) (t.puddles frame)
+abbrev pub by_key : (Member → ℕ) → Tables → ℕ → Option (ℕ × ℕ)
+by_key number t frame = option_map (λ m. (number m, frame)) (t.puddles frame)
 
 -- no two used records have one number
 abbrev pub has_distinct_numbers : (Member → ℕ) → Tables → Bool
-has_distinct_numbers number t = are_distinct nat_cmp (by_number number t) 0 t.frames
+has_distinct_numbers number t = are_distinct nat_cmp (by_key number t) 0 t.frames
 
 -- a list with the number of a place, where it is used
 abbrev pub with_number : Option ℕ → List ℕ → List ℕ
@@ -65,7 +65,7 @@ pub record MarksMore (before : List Bool) (place : Option ℕ) (answer : Bool) (
 
 -- the marks of the places that the used records have, among so many from a frame on
 pub record IsMarked (t : Tables) (from count : ℕ) (marks : List Bool) : Type 0 where
-  pub each : (n : ℕ) → n < PLACES → slice_index_or marks n false ≡ is_some (first_from nat_cmp n (by_number mark_index t) from count)
+  pub each : (n : ℕ) → n < PLACES → slice_index_or marks n false ≡ is_some (first_from nat_cmp n (by_key mark_index t) from count)
 
 -- the marks are there where no two records have one place
 abbrev pub AreMarked : Tables → Option (List Bool) → Type 0
@@ -73,8 +73,8 @@ AreMarked t None = has_distinct_numbers mark_index t ≡ false
 AreMarked t (Some marks) = (has_distinct_numbers mark_index t ≡ true) × IsMarked t 0 t.frames marks
 
 -- the mark of an ordinal of a slot's pool
-abbrev pub mark_of : List Bool → (slot ordinal : ℕ) → Bool
-mark_of marks slot ordinal = slice_index_or marks ((slot + 1) * MAX_PUDDLES + ordinal) false
+abbrev pub is_marked_at : List Bool → (slot ordinal : ℕ) → Bool
+is_marked_at marks slot ordinal = slice_index_or marks ((slot + 1) * MAX_PUDDLES + ordinal) false
 
 -- ordinal 0 is marked, and each other one that is marked stands behind one that is
 abbrev pub counts_up : (ℕ → Bool) → Bool
@@ -82,7 +82,7 @@ counts_up mark = all_below 15 (λ k. mark k || not (mark (k + 1))) && mark 0
 
 -- the slot is free, or its pool's ordinals are counted from 0 on by their marks
 abbrev pub is_counted_by : List Bool → Tables → ℕ → Bool
-is_counted_by marks t slot = is_none (t.pools slot) || counts_up (mark_of marks slot)
+is_counted_by marks t slot = is_none (t.pools slot) || counts_up (is_marked_at marks slot)
 
 -- ---- the whole
 

@@ -7,13 +7,13 @@ use Rattle.pud_defs.specs.Pools.{pool_record_at}
 use Rattle.soundness.specs.declared.names.NameWords.{NameWords}
 
 -- the other is the same name
-abbrev pub is_name : NameWords → NameWords → Bool
-is_name n other = other.low == n.low && other.high == n.high
+abbrev pub is_same_name : NameWords → NameWords → Bool
+is_same_name n other = other.low == n.low && other.high == n.high
 
 -- no name comes twice, but where its first word is 0
 abbrev pub are_apart : List NameWords → Bool
 are_apart [] = true
-are_apart (n ∷ ns) = (n.low == 0 || not (list_any (is_name n) ns)) && are_apart ns
+are_apart (n ∷ ns) = (n.low == 0 || not (list_any (is_same_name n) ns)) && are_apart ns
 
 -- the words are those of the record of a slot
 pub record IsNameOf (image : Image) (slot : ℕ) (n : NameWords) : Type 0 where

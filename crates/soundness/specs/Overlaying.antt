@@ -17,11 +17,11 @@ pub record IsOverlay (o : Overlay) (image : Image) : Type 0 where
   pub are : entries_of image DAEMON_LOG ≡ Some entries
 
 -- one entry more: an undo entry gives where none before it did, a redo entry in any case
-pub record GivesMore (log : Log) (e : Entry) (w : ℕ) (before after : Given) : Type 0 where
+pub record GivesWordMore (log : Log) (e : Entry) (w : ℕ) (before after : Given) : Type 0 where
   pub undo : after.undo ≡ option_or before.undo (given_by device_word log UNDO_ORDER e w)
   pub redo : after.redo ≡ option_or (given_by device_word log REDO_ORDER e w) before.redo
 
 -- this is what the entries of a log give to a word
-pub record Gives (log : Log) (es : List Entry) (w : ℕ) (given : Given) : Type 0 where
+pub record GivesWord (log : Log) (es : List Entry) (w : ℕ) (given : Given) : Type 0 where
   pub undo : given.undo ≡ undo_value device_word log es w
   pub redo : given.redo ≡ redo_value device_word log es w

@@ -12,7 +12,7 @@ ghost use Rattle.pud_defs.specs.Spaces.{all_below};
 ghost use Rattle.pud_defs.specs.Tables.{tables_of};
 ghost use Rattle.pud_defs.specs.SoundTables.{has_legal_puddles};
 ghost use Rattle.soundness.specs.Overlaying.{IsOverlay};
-ghost use Rattle.soundness.specs.Distinct.{joined, word_of, number_by, number_of, mark_index, with_number, has_distinct_numbers, MarksMore, AreMarked, counts_up, mark_of, is_counted_by, has_counted_ordinals, are_distinct_puddles};
+ghost use Rattle.soundness.specs.Distinct.{joined_key, key_word, key_by, key_of, mark_index, with_number, has_distinct_numbers, MarksMore, AreMarked, counts_up, is_marked_at, is_counted_by, has_counted_ordinals, are_distinct_puddles};
 
 use crate::overlay::Overlay;
 use pm_model::{Host, HostFault};
@@ -40,7 +40,7 @@ const PLACES: usize = (POOL_NUMBERS * ORDINALS) as usize;
 fn joined(n: u64, pool: u32, low: u64) -> u64
     requires some { 0 < n }
     requires fits { n ≤ OLD_BASES }
-    ensures number { result ≡ joined n pool low }
+    ensures number { result ≡ joined_key n pool low }
     ensures below { result < POOL_NUMBERS * n }
 {
     u64::from(pool) % POOL_NUMBERS * n + low % n
@@ -58,7 +58,7 @@ enum Key {
 impl Key {
     /// The word of a puddle record that holds the base or the old base.
     fn word(self) -> u32
-        ensures { result ≡ word_of self }
+        ensures { result ≡ key_word self }
     {
         match self {
             Key::Base => PUDDLE_BASE_WORD,
@@ -68,7 +68,7 @@ impl Key {
 
     /// The number that tells the puddle of this pool with this base or old base apart.
     fn number(self, pool: u32, base: u64) -> u64
-        ensures { result ≡ number_by self pool base }
+        ensures { result ≡ key_by self pool base }
     {
         match self {
             Key::Base => base,
@@ -87,7 +87,7 @@ fn number_at<H: Host>(
     requires few { frame < MAX_FRAMES }
     requires room { device_words (frame + 1) ≤ (H.counts h.old).size }
     ensures number { H.tells → (image : Image) → reads (H.state h.old).now.words ≡ image → IsOverlay overlay.now image → (frames : ℕ) → frame < frames
-        → IfOk result (λ number. number ≡ option_map (number_of key) ((tables_of frames (settled_by DAEMON_LOG image)).puddles frame)) }
+        → IfOk result (λ number. number ≡ option_map (key_of key) ((tables_of frames (settled_by DAEMON_LOG image)).puddles frame)) }
     ensures only_reads { OnlyReads H.tells H.state H.counts (fault_of result) h.old h.new }
 {
     let at = PUDDLE_TABLE + PUDDLE_RECORD_WORDS * frame;
@@ -137,7 +137,7 @@ fn has_distinct_numbers<H: Host>(
     requires few { frames ≤ MAX_FRAMES }
     requires room { device_words frames ≤ (H.counts h.old).size }
     ensures distinct { H.tells → (image : Image) → reads (H.state h.old).now.words ≡ image → IsOverlay overlay.now image
-        → IfOk result (λ distinct. distinct ≡ has_distinct_numbers (number_of key) (tables_of frames (settled_by DAEMON_LOG image))) }
+        → IfOk result (λ distinct. distinct ≡ has_distinct_numbers (key_of key) (tables_of frames (settled_by DAEMON_LOG image))) }
     ensures only_reads { OnlyReads H.tells H.state H.counts (fault_of result) h.old h.new }
 {
     let mut numbers = [0u64; MAX_FRAMES as usize];
@@ -220,7 +220,7 @@ fn follows(before: bool, mark: bool) -> bool
 fn counts_up(marks: &[bool], slot: u32) -> bool
     requires known { slot < POOL_RECORDS }
     requires all { PLACES ≤ length marks.now }
-    ensures { result ≡ counts_up (mark_of marks.now slot) }
+    ensures { result ≡ counts_up (is_marked_at marks.now slot) }
 {
     let first = (slot as usize + 1) * MAX_PUDDLES as usize;
     for k in 0..MAX_PUDDLES as usize - 1 {

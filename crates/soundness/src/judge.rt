@@ -13,10 +13,10 @@ ghost use Rattle.pud_defs.specs.Replay.{settled_by};
 ghost use Rattle.pud_defs.specs.Spaces.{is_space, is_legal_space, are_legal_spaces};
 ghost use Rattle.pud_defs.specs.Tables.{tables_of};
 ghost use Rattle.pud_defs.specs.SoundTables.{are_sound_tables};
-ghost use Rattle.pud_defs.specs.Registry.{frames_of, has_legal_types, may_be_logged, is_allowed, has_legal_log, is_registry, is_sound};
+ghost use Rattle.pud_defs.specs.Registry.{frames_of, has_legal_types, may_be_logged, is_loggable, has_legal_log, is_registry, is_sound};
 ghost use Rattle.pud_defs.specs.Identifiers.{is_number};
 ghost use Rattle.log_entry.specs.Reading.{entry_from};
-ghost use Rattle.log_entry.specs.Copying.{image_of, log_copied};
+ghost use Rattle.log_entry.specs.Copying.{image_of_copy, log_copied};
 ghost use Rattle.soundness.specs.Overlaying.{IsOverlay};
 ghost use Rattle.soundness.specs.Judging.{IsRoomFor, frames_by, frames_described, with_one_more, has_sound_records};
 
@@ -88,7 +88,7 @@ fn may_be_logged(frames: u32, at: u64, n: u32) -> bool
 /// Whether an entry of the daemon log is out of range, or lies where that log may write.
 fn is_allowed(overlay: &Overlay, frames: u32, entry: &Entry) -> bool
     requires { frames ≤ MAX_FRAMES }
-    ensures { result ≡ is_allowed frames (log_copied overlay.now.log) (entry_from (image_of overlay.now.log) entry.now) }
+    ensures { result ≡ is_loggable frames (log_copied overlay.now.log) (entry_from (image_of_copy overlay.now.log) entry.now) }
 {
     !overlay.log.range().counts(entry) || may_be_logged(frames, entry.addr, entry.n)
 }
@@ -96,7 +96,7 @@ fn is_allowed(overlay: &Overlay, frames: u32, entry: &Entry) -> bool
 /// Whether each entry of the daemon log is.
 fn are_allowed(overlay: &Overlay, frames: u32) -> bool
     requires { frames ≤ MAX_FRAMES }
-    ensures { (es : List LoggedEntry) → (log_copied overlay.now.log).entries ≡ Option.Some es → result ≡ list_all (is_allowed frames (log_copied overlay.now.log)) es }
+    ensures { (es : List LoggedEntry) → (log_copied overlay.now.log).entries ≡ Option.Some es → result ≡ list_all (is_loggable frames (log_copied overlay.now.log)) es }
 {
     let mut reader = CopyReader::new();
     while let Some(entry) = reader.next(&overlay.log) {

@@ -10,7 +10,7 @@ ghost use Rattle.pud_defs.specs.Replay.{settled_by};
 ghost use Rattle.pud_defs.specs.Tables.{tables_of};
 ghost use Rattle.pud_defs.specs.SoundTables.{has_distinct_names};
 ghost use Rattle.soundness.specs.Overlaying.{IsOverlay};
-ghost use Rattle.soundness.specs.Named.{is_name, are_apart, HoldsNames};
+ghost use Rattle.soundness.specs.Named.{is_same_name, are_apart, HoldsNames};
 
 use crate::overlay::Overlay;
 use pm_model::{Host, HostFault};
@@ -26,7 +26,7 @@ struct NameWords {
 
 /// Whether the name is one of these.
 fn contains(names: &[NameWords], name: NameWords) -> bool
-    ensures { result ≡ list_any (is_name name) names.now }
+    ensures { result ≡ list_any (is_same_name name) names.now }
 {
     match names {
         [] => false,

@@ -11,8 +11,8 @@ ghost use Rattle.pud_defs.specs.Image.{Image};
 ghost use Rattle.pud_defs.specs.Entries.{Entry as LoggedEntry, log_of};
 ghost use Rattle.pud_defs.specs.Replay.{is_in_log, settled_by};
 ghost use Rattle.log_entry.specs.Reading.{entry_from};
-ghost use Rattle.log_entry.specs.Copying.{image_of, log_copied, IsOfCopy};
-ghost use Rattle.soundness.specs.Overlaying.{IsOverlay, GivesMore, Gives};
+ghost use Rattle.log_entry.specs.Copying.{image_of_copy, log_copied, IsOfCopy};
+ghost use Rattle.soundness.specs.Overlaying.{IsOverlay, GivesWordMore, GivesWord};
 
 use log_entry::{CopyReader, Entry, LogCopy};
 use pm_model::{Host, HostFault};
@@ -69,7 +69,7 @@ impl Overlay {
     /// Takes in what an entry gives to word `w`.
     fn add(&self, entry: &Entry, w: u32, given: Given) -> Given
         requires { IsOfCopy entry.now }
-        ensures { GivesMore (log_copied self.now.log) (entry_from (image_of self.now.log) entry.now) w given result }
+        ensures { GivesWordMore (log_copied self.now.log) (entry_from (image_of_copy self.now.log) entry.now) w given result }
     {
         if !self.log.range().counts(entry) || !names(entry, w) {
             return given;
@@ -80,7 +80,7 @@ impl Overlay {
 
     /// What the entries of the daemon log give to word `w`.
     fn given(&self, w: u32) -> Given
-        ensures { (es : List LoggedEntry) → (log_copied self.now.log).entries ≡ Option.Some es → Gives (log_copied self.now.log) es w result }
+        ensures { (es : List LoggedEntry) → (log_copied self.now.log).entries ≡ Option.Some es → GivesWord (log_copied self.now.log) es w result }
     {
         let mut given = Given {
             undo: None,

@@ -10,7 +10,7 @@ use Rattle.pm_model.specs.Words.{HasOnly}
 use Rattle.pm_model.proofs.Words.{only_at}
 use Rattle.pm_model.proofs.Changes.{Changes-still, Changes-wider, Changes-then, Changes-said, HasOnly-kept, Persists-failed}
 use Rattle.pm_model.proofs.Leaves.{Leaves-changes, Leaves-still, Leaves-then}
-use Rattle.pud_defs.specs.Image.{Image, written}
+use Rattle.pud_defs.specs.Image.{Image, image_with}
 use Rattle.pud_defs.specs.Types.{type_record_at}
 use Rattle.type_maps.specs.Define.{record_write, IsDefining, Defines}
 use Rattle.type_maps.proofs.OneWord.{image_of_one, image_after_one}
@@ -70,7 +70,7 @@ Defines-both r id map fault s t u first second =
       picked = w.picked;
       is = elim (image_of_one (type_record_at r) id half image from) [
         | inl same ↦ inr (inl (same ∙ w.is))
-        | inr new ↦ inr (inr (new ∙ ap (λ (f : Image). written (type_record_at r) id f) w.is))
+        | inr new ↦ inr (inr (new ∙ ap (λ (f : Image). image_with (type_record_at r) id f) w.is))
       ];
     }) second.changes in
     record {
@@ -84,7 +84,7 @@ Defines-both r id map fault s t u first second =
       done = λ none image picked.
           let w = image_after_one (type_record_at r) id t u image (subst (λ (f : Option HostFault). Persists (only (type_record_at r) id) f t u) none second) picked in
           let half = image_after_one (type_record_at r + 1) map s t w.before first w.picked in
-          record { before = half.before; picked = half.picked; is = w.is ∙ ap (λ (f : Image). written (type_record_at r) id f) half.is };
+          record { before = half.before; picked = half.picked; is = w.is ∙ ap (λ (f : Image). image_with (type_record_at r) id f) half.is };
     }
 
 -- nothing was written, for a fault came first

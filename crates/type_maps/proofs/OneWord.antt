@@ -4,10 +4,10 @@ use Rattle.pm_model.specs.Words.{Words, Picks}
 use Rattle.pm_model.specs.Moments.{State}
 use Rattle.pm_model.specs.Changes.{only, IsFrom, Persists, written as may_be_written}
 use Rattle.pm_model.proofs.OneWord.{one_word, one_word_after}
-use Rattle.pud_defs.specs.Image.{Image, written}
+use Rattle.pud_defs.specs.Image.{Image, image_with}
 use Rattle.pud_defs.proofs.Images.{written_is}
 
-pub image_of_one : (w v : ℕ) (before image : Image) → IsFrom (may_be_written (only w v)) before image → (image ≡ before) ⊎ (image ≡ written w v before)
+pub image_of_one : (w v : ℕ) (before image : Image) → IsFrom (may_be_written (only w v)) before image → (image ≡ before) ⊎ (image ≡ image_with w v before)
 image_of_one w v before image from = elim (one_word w v before image from) [
   | inl same ↦ inl same
   | inr new ↦ inr (written_is w v before image new.there new.others)
@@ -17,7 +17,7 @@ image_of_one w v before image from = elim (one_word w v before image from) [
 pub record IsWritten (words : Words) (w v : ℕ) (image : Image) : Type 0 where
   pub before : Image
   pub picked : Picks words before
-  pub is : image ≡ written w v before
+  pub is : image ≡ image_with w v before
 
 pub image_after_one : (w v : ℕ) (old new : State) (image : Image) → Persists (only w v) None old new → Picks new.now.words image → IsWritten old.now.words w v image
 image_after_one w v old new image p picked =

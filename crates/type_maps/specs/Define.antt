@@ -7,7 +7,7 @@ use Rattle.pm_model.specs.Changes.{Leaves, Silently, Write, Persists}
 use Rattle.pud_defs.specs.declared.layout.TheConstants.{TYPE_RECORDS}
 use Rattle.pud_defs.specs.declared.machine.Refusal.{Refusal}
 use Rattle.pud_defs.specs.declared.machine.Refusal.TheVariants as refusals
-use Rattle.pud_defs.specs.Image.{Image, written}
+use Rattle.pud_defs.specs.Image.{Image, image_with}
 use Rattle.pud_defs.specs.Types.{type_record_at, types_of, free_type, used_types, map_of}
 use Rattle.pud_defs.specs.Step.{is_clash}
 use Rattle.type_maps.specs.declared.TypeFault.{TypeFault}
@@ -62,11 +62,11 @@ record_write r id map k = cond (k == type_record_at r) (Some id) (cond (k == typ
 
 -- the image with the map word of record r written
 abbrev pub half_defined : ℕ → ℕ → Image → Image
-half_defined r map image = written (type_record_at r + 1) map image
+half_defined r map image = image_with (type_record_at r + 1) map image
 
 -- the image with record r written
 abbrev pub defined : ℕ → ℕ → ℕ → Image → Image
-defined r id map image = written (type_record_at r) id (half_defined r map image)
+defined r id map image = image_with (type_record_at r) id (half_defined r map image)
 
 -- an image of these words, or one with the map word of record r written, or with the whole record
 pub record IsDefining (words : Words) (r id map : ℕ) (image : Image) : Type 0 where

@@ -13,7 +13,7 @@ use Rattle.pud_defs.specs.Graph.{Graph, graph_of}
 use Rattle.pud_defs.specs.DeferredValues.{DeferredValue, with_deferred_value, with_deferred_set}
 use Rattle.graph_laws.proofs.Words.{few_fields}
 use Rattle.word_transaction.specs.Scope.{written_in_turn}
-use Rattle.hybrid_tx.specs.PoolScopes.{pool_place, finished_of, IsPlaced, IsRewrittenAt}
+use Rattle.hybrid_tx.specs.PoolScopes.{pool_place, finished_of, ArePlacedPuddles, IsRewrittenAt}
 use Rattle.hybrid_tx.specs.Objects.Stores.{field_word}
 use Rattle.hybrid_tx.specs.Objects.Transactions.{IsDeferredEntry, AreDeferredEntries}
 use Rattle.hybrid_tx.proofs.PoolScope.{place_of_word}
@@ -22,7 +22,7 @@ use Rattle.hybrid_tx.proofs.Objects.FieldsSet.{set_value}
 use Rattle.hybrid_tx.proofs.Objects.DeferredKept.{KeepsPlaces, AreDeferredEntries-kept}
 use Rattle.hybrid_tx.proofs.Objects.DeferredBehind.{KeepsObjects-field, KeepsPlaces-field}
 
-module _ (F : ℕ) (at : List (ℕ × Puddle)) (types : List (ℕ × ℕ)) (is_placed : IsPlaced F at) where
+module _ (F : ℕ) (at : List (ℕ × Puddle)) (types : List (ℕ × ℕ)) (is_placed : ArePlacedPuddles F at) where
   module _ (image : Image) (now : Graph) (l : DeferredValue) (e : Entry) (later : IsDeferredEntry F at types image now l e) where
     abbrev word : ℕ
     word = frame_at F later.slot.frame + field_word later.slot l.f

@@ -30,8 +30,8 @@ use Rattle.graph_laws.proofs.TableChanges.{under_other}
 use Rattle.graph_laws.proofs.Words.{with_word-other, place_of_serial-some}
 use Rattle.puddle_header.specs.Places.{places_in, place_of_slot, IsSlotOf}
 use Rattle.graph_read.specs.Reading.{place_in_pool}
-use Rattle.hybrid_tx.specs.PoolScopes.{IsPlaced}
-use Rattle.hybrid_tx.specs.Objects.Stores.{field_word, making}
+use Rattle.hybrid_tx.specs.PoolScopes.{ArePlacedPuddles}
+use Rattle.hybrid_tx.specs.Objects.Stores.{field_word, new_object_write}
 use Rattle.hybrid_tx.proofs.Objects.FieldsSet.{stored_in-one}
 use Rattle.hybrid_tx.proofs.Objects.ObjectsMade.{made}
 use Rattle.hybrid_tx.proofs.Objects.DeferredKept.{IsOfType, KeepsObjects, KeepsPlaces}
@@ -157,10 +157,10 @@ module _ (F : ℕ) (at : List (ℕ × Puddle)) (image later : Image) (p : ℕ) (
 
 -- ---- places, when a free slot is filled
 
-module _ (types : List (ℕ × ℕ)) (F : ℕ) (at : List (ℕ × Puddle)) (image : Image) (is_placed : IsPlaced F at) (first : ℕ × Puddle) (head : slice_get at 0 ≡ Some first) (slot : Slot) (of : IsSlotOf at slot)
+module _ (types : List (ℕ × ℕ)) (F : ℕ) (at : List (ℕ × Puddle)) (image : Image) (is_placed : ArePlacedPuddles F at) (first : ℕ × Puddle) (head : slice_get at 0 ≡ Some first) (slot : Slot) (of : IsSlotOf at slot)
     (serial type_id m : ℕ) (free : IsFreePlace (stored_in F at image) (place_of_slot slot)) (next : serial ≡ next_serial_of (stored_in F at image)) (defined : map_of type_id types ≡ Some m) where
   abbrev filled : Image
-  filled = overwritten (making F first.0 slot serial type_id) image
+  filled = overwritten (new_object_write F first.0 slot serial type_id) image
 
   -- the slots beside it have their serials
   other_serial : (q : ℕ) → (q ≡ place_of_slot slot → ⊥) → serial_at_place F at filled q ≡ serial_at_place F at image q

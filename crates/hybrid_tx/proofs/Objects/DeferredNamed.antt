@@ -30,7 +30,7 @@ use Rattle.graph_read.specs.Reading.{place_in_pool, table_in}
 use Rattle.puddle_header.proofs.Placed.{slot_at_place}
 use Rattle.log_store.specs.Store.{is_redo}
 use Rattle.word_transaction.specs.Scope.{redo_entry, deferred_entries}
-use Rattle.hybrid_tx.specs.PoolScopes.{IsPlaced}
+use Rattle.hybrid_tx.specs.PoolScopes.{ArePlacedPuddles}
 use Rattle.hybrid_tx.specs.Objects.FieldAddresses.{IsFieldAddress, IsFieldOf}
 use Rattle.hybrid_tx.specs.Objects.Stores.{address_at, word_for}
 use Rattle.hybrid_tx.specs.Objects.Transactions.{MayHold, IsDeferredEntry, AreDeferredEntries}
@@ -139,7 +139,7 @@ module _ (F : ℕ) (at : List (ℕ × Puddle)) (types : List (ℕ × ℕ)) (imag
       ∙ later.may.defined
 
   -- the object of a serial stands at this place
-  module _ (is_placed : IsPlaced F at) (s p : ℕ) (used : s ≡ 0 → ⊥) (place : place_in_pool F at image s ≡ Some p) where
+  module _ (is_placed : ArePlacedPuddles F at) (s p : ℕ) (used : s ≡ 0 → ⊥) (place : place_in_pool F at image s ≡ Some p) where
     named : IsLive (table_in F at image) (places_in at) s p
     named = place_of_serial-some (table_in F at image) (places_in at) s p place
 

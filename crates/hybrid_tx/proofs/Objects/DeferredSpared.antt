@@ -24,7 +24,7 @@ use Rattle.graph_laws.proofs.Words.{place_of_serial-some, slot_word-there, slot_
 use Rattle.puddle_header.specs.Places.{places_in, place_of_slot, IsSlotOf}
 use Rattle.graph_read.specs.Reading.{place_in_pool, table_in}
 use Rattle.object_alloc.specs.Alloc.{serial_word_at}
-use Rattle.hybrid_tx.specs.PoolScopes.{IsPlaced}
+use Rattle.hybrid_tx.specs.PoolScopes.{ArePlacedPuddles}
 use Rattle.hybrid_tx.specs.Objects.Transactions.{MayHold, IsDeferredEntry, AreDeferredEntries}
 use Rattle.hybrid_tx.proofs.Objects.ObjectsFreed.{stored_in-cleared}
 use Rattle.hybrid_tx.proofs.Objects.DeferredKept.{KeepsPlaces, KeepsObjects-same, AreDeferredEntries-kept}
@@ -89,7 +89,7 @@ module _ (F : ℕ) (at : List (ℕ × Puddle)) (types : List (ℕ × ℕ)) (imag
 
 -- ---- when the slot is freed
 
-module _ (types : List (ℕ × ℕ)) (F : ℕ) (at : List (ℕ × Puddle)) (image : Image) (now : Graph) (is : graph_of types (stored_in F at image) ≡ Some now) (is_placed : IsPlaced F at) (s : ℕ) (slot : Slot)
+module _ (types : List (ℕ × ℕ)) (F : ℕ) (at : List (ℕ × Puddle)) (image : Image) (now : Graph) (is : graph_of types (stored_in F at image) ≡ Some now) (is_placed : ArePlacedPuddles F at) (s : ℕ) (slot : Slot)
     (of : IsSlotOf at slot) (found : place_in_pool F at image s ≡ Some (place_of_slot slot)) where
   abbrev freed : Image
   freed = overwritten (placed (serial_word_at F slot) (0 ∷ [])) image

@@ -34,7 +34,7 @@ use Rattle.log_store.specs.Store.{OpenLog}
 use Rattle.word_transaction.specs.Scope.{redo_entry}
 use Rattle.word_transaction.specs.Running.{no_write}
 use Rattle.word_transaction.proofs.Calls.{KeepsRunning-stopped, some_fault}
-use Rattle.hybrid_tx.specs.PoolScopes.{pool_scope, finished_of, IsPlaced}
+use Rattle.hybrid_tx.specs.PoolScopes.{pool_scope, finished_of, ArePlacedPuddles}
 use Rattle.hybrid_tx.specs.Objects.Stores.{address_at, word_for, IsPlaceAndWord, LacksPlaceOrWord, field_word}
 use Rattle.hybrid_tx.specs.Objects.Transactions.{MaySet, IsRewrittenFor, IsDeferredEntry, AreDeferredEntries, IsSaving, IsOpenOn, KeepsSaving, KeepsOpenOn}
 use Rattle.hybrid_tx.proofs.PoolScope.{all_there}
@@ -91,7 +91,7 @@ module _ (F : ℕ) (at : List (ℕ × Puddle)) (types : List (ℕ × ℕ)) (log 
     pub lacks_none : LacksPlaceOrWord F at (reads old.now.words) s x → ⊥
     lacks_none lacks = elim lacks [ inl none ↦ no_place none | inr none ↦ no_value none ]
 
-    pub RunsOn-set : (size word : ℕ) (slot : Slot) (v : ℕ) (fault : Option HostFault) (mid new : State) → IsPlaced F at → IsRewrittenFor F at (reads old.now.words) s → device_words F ≤ size → log.gate_at + LOG_WORDS ≤ frames_at F
+    pub RunsOn-set : (size word : ℕ) (slot : Slot) (v : ℕ) (fault : Option HostFault) (mid new : State) → ArePlacedPuddles F at → IsRewrittenFor F at (reads old.now.words) s → device_words F ≤ size → log.gate_at + LOG_WORDS ≤ frames_at F
         → behind.gate_at ≡ log.gate_at → mid ≡ old → IsSlotOf at slot → place_in_pool F at (reads old.now.words) s ≡ Some (place_of_slot slot) → word_for F at (reads old.now.words) x ≡ Some v → word ≡ field_word slot f
         → ((e : ℕ × Puddle) → slice_get at slot.ordinal ≡ Some e → e.1.frontier ≡ steps_of e.1 → (b : Image) (redo : List Entry) → IsSaving F (finished_of at) log b redo mid.now.words
         → KeepsSaving F (finished_of at) behind b redo (placed (frame_at F e.0 + word) (v ∷ [])) fault mid new)
@@ -110,7 +110,7 @@ module _ (F : ℕ) (at : List (ℕ × Puddle)) (types : List (ℕ × ℕ)) (log 
         (KeepsPlaces-field F at image is_placed.frames slot of f v (omega arith) now) (KeepsObjects-field s f x now) deferred redo is_open.are)
 
     -- the value asked for
-    pub RunsOn-later : (size word : ℕ) (slot : Slot) (v : ℕ) (fault : Option HostFault) (mid new : State) → IsPlaced F at → IsRewrittenFor F at (reads old.now.words) s → device_words F ≤ size → log.gate_at + LOG_WORDS ≤ frames_at F
+    pub RunsOn-later : (size word : ℕ) (slot : Slot) (v : ℕ) (fault : Option HostFault) (mid new : State) → ArePlacedPuddles F at → IsRewrittenFor F at (reads old.now.words) s → device_words F ≤ size → log.gate_at + LOG_WORDS ≤ frames_at F
         → behind.gate_at ≡ log.gate_at → mid ≡ old → IsSlotOf at slot → place_in_pool F at (reads old.now.words) s ≡ Some (place_of_slot slot) → word_for F at (reads old.now.words) x ≡ Some v → word ≡ field_word slot f
         → ((e : ℕ × Puddle) → slice_get at slot.ordinal ≡ Some e → e.1.frontier ≡ steps_of e.1 → (b : Image) (redo : List Entry) → IsSaving F (finished_of at) log b redo mid.now.words
         → KeepsSaving F (finished_of at) behind b (redo ++ redo_entry (e.1.base + WORD_BYTES * word) (v ∷ []) ∷ []) no_write fault mid new)

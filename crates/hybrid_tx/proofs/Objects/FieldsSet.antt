@@ -13,7 +13,7 @@ use Rattle.pud_defs.specs.declared.objects.FieldValue.{FieldValue}
 use Rattle.pud_defs.specs.declared.objects.FieldValue.TheVariants.{Num, Ref}
 use Rattle.pud_defs.specs.Geometry.{steps_of, puddle_slot_at, ordinal_of, slot_of, places_among}
 use Rattle.pud_defs.specs.Types.{map_of}
-use Rattle.pud_defs.specs.Image.{Image, written}
+use Rattle.pud_defs.specs.Image.{Image, image_with}
 use Rattle.pud_defs.specs.Frames.{frame_at}
 use Rattle.pud_defs.specs.Replay.{overwritten}
 use Rattle.pud_defs.specs.Stored.{Stored, stored_in, places_of}
@@ -30,15 +30,15 @@ use Rattle.graph_laws.proofs.Words.{place_of_serial-some, few_fields}
 use Rattle.puddle_header.specs.Places.{place_of_slot, IsSlotOf}
 use Rattle.graph_read.specs.Reading.{place_in_pool}
 use Rattle.puddle_header.proofs.Placed.{place_ordinal, place_slot}
-use Rattle.hybrid_tx.specs.PoolScopes.{IsPlaced, IsRewrittenAt}
+use Rattle.hybrid_tx.specs.PoolScopes.{ArePlacedPuddles, IsRewrittenAt}
 use Rattle.hybrid_tx.specs.Objects.Stores.{address_at, word_for, field_word}
 use Rattle.hybrid_tx.specs.Objects.Transactions.{MayName, MayHold, MaySet}
 use Rattle.hybrid_tx.proofs.Objects.DeferredKept.{some_object}
 
 -- one word written over an image
-pub overwritten-one : (w v : ℕ) (image : Image) → overwritten (put_from w (v ∷ [])) image ≡ written w v image
+pub overwritten-one : (w v : ℕ) (image : Image) → overwritten (put_from w (v ∷ [])) image ≡ image_with w v image
 overwritten-one w v image =
-    let each : (k : ℕ) → overwritten (put_from w (v ∷ [])) image k ≡ written w v image k =
+    let each : (k : ℕ) → overwritten (put_from w (v ∷ [])) image k ≡ image_with w v image k =
     λ k. elim (cases_eq k w) [
       | inl here ↦ overwritten-there (put_from w (v ∷ [])) image k v (value_at-there w 0 k (v ∷ []) (omega arith)) ∙ sym (cond-true _ _ _ (eq-eqb k w here))
       | inr other ↦
@@ -115,7 +115,7 @@ module _ (types : List (ℕ × ℕ)) (F : ℕ) (at : List (ℕ × Puddle)) (imag
   -- ---- addresses
 
   -- the address of a place is one for a pointer at any step of any puddle
-  pub address_of_place : IsPlaced F at → (o step : ℕ) (e : ℕ × Puddle) → IsRewrittenAt at o → slice_get at o ≡ Some e → step < steps_of e.1 → (q v : ℕ) → q < places_of st → address_at at q ≡ v → IsAddress st.puddles o step q v
+  pub address_of_place : ArePlacedPuddles F at → (o step : ℕ) (e : ℕ × Puddle) → IsRewrittenAt at o → slice_get at o ≡ Some e → step < steps_of e.1 → (q v : ℕ) → q < places_of st → address_at at q ≡ v → IsAddress st.puddles o step q v
   address_of_place placed o step e rewritten here below q v within is =
       let last : e.1.frontier ≡ steps_of e.1 = rewritten.each e here in
       let there = slice_get-get_or st.puddles (ordinal_of q) e.1 (omega arith) in
@@ -131,7 +131,7 @@ module _ (types : List (ℕ × ℕ)) (F : ℕ) (at : List (ℕ × Puddle)) (imag
 
   -- ---- the field
 
-  module _ (placed : IsPlaced F at) (s f : ℕ) (slot : Slot) (rewritten : IsRewrittenAt at slot.ordinal) (of : IsSlotOf at slot) (found : place_in_pool F at image s ≡ Some (place_of_slot slot)) where
+  module _ (placed : ArePlacedPuddles F at) (s f : ℕ) (slot : Slot) (rewritten : IsRewrittenAt at slot.ordinal) (of : IsSlotOf at slot) (found : place_in_pool F at image s ≡ Some (place_of_slot slot)) where
     abbrev p : ℕ
     p = place_of_slot slot
 

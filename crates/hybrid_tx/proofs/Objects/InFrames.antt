@@ -22,7 +22,7 @@ use Rattle.word_transaction.specs.Scope.{Scope, IsScope, redo_entry}
 use Rattle.word_transaction.specs.Running.{IsRunning, ByTransaction, no_write, KeepsRunning, SavesAndWrites}
 use Rattle.word_transaction.proofs.Calls.{KeepsRunning-failed}
 use Rattle.word_transaction.proofs.Pending.{deferred_entries-redo}
-use Rattle.hybrid_tx.specs.PoolScopes.{pool_place, pool_may_name, pool_has_word, pool_scope, finished_of, IsPlaced}
+use Rattle.hybrid_tx.specs.PoolScopes.{pool_place, pool_may_name, pool_has_word, pool_scope, finished_of, ArePlacedPuddles}
 use Rattle.hybrid_tx.specs.Objects.Stores.{ByPut, ByPutBoth}
 use Rattle.hybrid_tx.specs.Objects.Transactions.{IsSaving, KeepsSaving}
 use Rattle.hybrid_tx.proofs.PoolScope.{all_there, base_below, pool_has_word-from, is_ground, place_of_word, may_name_words}
@@ -80,7 +80,7 @@ KeepsSaving-behind F at long now before redo write (Err fault) old new same is s
 -- ---- the words of frames
 
 -- so many words of a frame are named by the address of the first
-module _ (F : ℕ) (at : List (ℕ × Puddle)) (is_placed : IsPlaced F at) (o word : ℕ) (e : ℕ × Puddle) (count address : ℕ) (there : slice_get at o ≡ Some e) (some : 1 ≤ count) (few : word + count ≤ FRAME_WORDS)
+module _ (F : ℕ) (at : List (ℕ × Puddle)) (is_placed : ArePlacedPuddles F at) (o word : ℕ) (e : ℕ × Puddle) (count address : ℕ) (there : slice_get at o ≡ Some e) (some : 1 ≤ count) (few : word + count ≤ FRAME_WORDS)
     (is_address : address ≡ (e.1.base + WORD_BYTES * word) % 2 ^ 64) where
   named : address ≡ e.1.base + WORD_BYTES * word
   named = is_address ∙ no_wrap e.1.base word (all_there (λ d. is_legal_base d.1.base ≡ true) at o e is_placed.legal there) (omega arith)
@@ -92,7 +92,7 @@ module _ (F : ℕ) (at : List (ℕ × Puddle)) (is_placed : IsPlaced F at) (o wo
   place_named = ap (pool_place F at) named ∙ place_of_word F at is_placed o word e there (omega arith)
 
 module _ (F size : ℕ) (at : List (ℕ × Puddle)) (log now : OpenLog) (before : Image) (redo : List Entry) (fault : Option HostFault) (old new : State)
-    (is_placed : IsPlaced F at) (device : device_words F ≤ size) (apart : log.gate_at + LOG_WORDS ≤ frames_at F) (s : IsSaving F at log before redo old.now.words) where
+    (is_placed : ArePlacedPuddles F at) (device : device_words F ≤ size) (apart : log.gate_at + LOG_WORDS ≤ frames_at F) (s : IsSaving F at log before redo old.now.words) where
   abbrev g : Scope
   g = pool_scope F at
 
@@ -140,7 +140,7 @@ PutsAt F at o word vals log behind fault old new =
 
 -- by the log behind the call, which at Ok has one entry more
 pub KeepsSaving-asked : (F size : ℕ) (at : List (ℕ × Puddle)) (word : ℕ) (e : ℕ × Puddle) (o : ℕ) (log now : OpenLog) (before : Image) (redo : List Entry) (address value : ℕ) (result : Result (Unit {0}) HostFault) (old new : State)
-    → IsPlaced F at → device_words F ≤ size → log.gate_at + LOG_WORDS ≤ frames_at F → slice_get at o ≡ Some e → word < FRAME_WORDS → address ≡ (e.1.base + WORD_BYTES * word) % 2 ^ 64
+    → ArePlacedPuddles F at → device_words F ≤ size → log.gate_at + LOG_WORDS ≤ frames_at F → slice_get at o ≡ Some e → word < FRAME_WORDS → address ≡ (e.1.base + WORD_BYTES * word) % 2 ^ 64
     → IsSaving F at log before redo old.now.words → now.gate_at ≡ log.gate_at → IfOk result (λ _. now ≡ with_deferred_words SET_UNITS log)
     → ((es : List Entry) → IsScope size log.gate_at (pool_scope F at) → pool_may_name at address 1 ≡ true → IsRunning (pool_scope F at) log es before old.now.words
     → KeepsRunning (pool_scope F at) (with_deferred_words SET_UNITS log) (es ++ redo_entry address (value ∷ []) ∷ []) before no_write (fault_of result) old new)

@@ -28,8 +28,8 @@ use Rattle.puddle_header.proofs.Placed.{stored_word}
 use Rattle.log_store.specs.Store.{OpenLog}
 use Rattle.word_transaction.specs.Running.{ByTransaction}
 use Rattle.word_transaction.proofs.Calls.{some_fault}
-use Rattle.hybrid_tx.specs.PoolScopes.{pool_scope, IsPlaced, finished_of}
-use Rattle.hybrid_tx.specs.Objects.Stores.{new_words, making, ByPutBoth, ByMaking}
+use Rattle.hybrid_tx.specs.PoolScopes.{pool_scope, ArePlacedPuddles, finished_of}
+use Rattle.hybrid_tx.specs.Objects.Stores.{new_object_words, new_object_write, ByPutBoth, ByNewObject}
 use Rattle.hybrid_tx.specs.Objects.Transactions.{IsSaving, IsOpenOn, KeepsSaving, KeepsOpenOn, MakesIn}
 use Rattle.hybrid_tx.proofs.Objects.ObjectsMade.{new_stored}
 use Rattle.hybrid_tx.proofs.Objects.DeferredKept.{AreDeferredEntries-kept}
@@ -63,7 +63,7 @@ module _ (F : ℕ) (at : List (ℕ × Puddle)) (log_at : ℕ) (slot : Slot) (of 
   serial_now = next_serial_of (stored_in F at (reads old.now.words))
 
   abbrev by_making : Footprint
-  by_making = ByMaking F log_at first.0 slot serial_now type_id
+  by_making = ByNewObject F log_at first.0 slot serial_now type_id
 
   -- nothing was done
   pub MakesIn-stopped : (fault : HostFault) (new : State) → slice_get at 0 ≡ Some first → (Some fault ≡ Some Cut → ⊥) → new ≡ old → MakesIn F at log_at slot type_id (Some fault) old new
@@ -71,10 +71,10 @@ module _ (F : ℕ) (at : List (ℕ × Puddle)) (log_at : ℕ) (slot : Slot) (of 
       record { first = first; head = head; changes = Changes-still by_making (Some fault) old new kept stays; now = λ none. absurd (some_fault fault none) }
 
   -- what is put, told by the next serial
-  Changes-making : (serial bumped : ℕ) (words : List ℕ) (fault : Option HostFault) (mid new : State) → mid ≡ old → serial ≡ serial_now → words ≡ new_words serial type_id → bumped ≡ serial + 1
+  Changes-making : (serial bumped : ℕ) (words : List ℕ) (fault : Option HostFault) (mid new : State) → mid ≡ old → serial ≡ serial_now → words ≡ new_object_words serial type_id → bumped ≡ serial + 1
       → Changes (ByPutBoth log_at (frame_at F slot.frame + slot_begins slot) words (frame_at F first.0 + NEXT_SERIAL_WORD) bumped) fault mid new → Changes by_making fault old new
   Changes-making serial bumped words fault mid new stays is_next are_words bumps changes =
-      let its = are_words ∙ ap (λ (n : ℕ). new_words n type_id) is_next in
+      let its = are_words ∙ ap (λ (n : ℕ). new_object_words n type_id) is_next in
       let more = bumps ∙ ap (λ (n : ℕ). n + 1) is_next in
       subst (λ (s : State). Changes by_making fault s new) stays
       (subst (λ (ws : List ℕ). Changes (ByPutBoth log_at (frame_at F slot.frame + slot_begins slot) ws (frame_at F first.0 + NEXT_SERIAL_WORD) (serial_now + 1)) fault mid new) its
@@ -87,7 +87,7 @@ module _ (F : ℕ) (at : List (ℕ × Puddle)) (types : List (ℕ × ℕ)) (log 
   -- the words of the slot are put, and the next serial, behind a read
   module _ (behind : OpenLog) (first : ℕ × Puddle) (slot : Slot) (serial bumped type_id : ℕ) (words : List ℕ) (fault : Option HostFault) (mid new : State)
       (same : behind.gate_at ≡ log.gate_at) (stays : mid ≡ old) (head : slice_get at 0 ≡ Some first) (of : IsSlotOf at slot) (read : serial ≡ frame_word F first.0 NEXT_SERIAL_WORD (reads old.now.words))
-      (room : now.next_serial < NUMBER_LIMIT) (are_words : words ≡ new_words serial type_id) (is_bumped : bumped ≡ (serial + 1) % 2 ^ 64)
+      (room : now.next_serial < NUMBER_LIMIT) (are_words : words ≡ new_object_words serial type_id) (is_bumped : bumped ≡ (serial + 1) % 2 ^ 64)
       (put : (b : Image) (redo : List Entry) → IsSaving F (finished_of at) log b redo mid.now.words
       → KeepsSaving F (finished_of at) behind b redo (over (placed (frame_at F slot.frame + slot_begins slot) words) (placed (frame_at F first.0 + NEXT_SERIAL_WORD) (bumped ∷ []))) fault mid new) where
     abbrev image : Image
@@ -99,7 +99,7 @@ module _ (F : ℕ) (at : List (ℕ × Puddle)) (types : List (ℕ × ℕ)) (log 
     one_more : bumped ≡ serial + 1
     one_more = let is = is_serial in omega arith
 
-    Saves-making : IsSaving F (finished_of at) log before is_open.redo mid.now.words → KeepsSaving F (finished_of at) behind before is_open.redo (making F first.0 slot serial type_id) fault mid new
+    Saves-making : IsSaving F (finished_of at) log before is_open.redo mid.now.words → KeepsSaving F (finished_of at) behind before is_open.redo (new_object_write F first.0 slot serial type_id) fault mid new
     Saves-making saving =
         subst (λ (ws : List ℕ). KeepsSaving F (finished_of at) behind before is_open.redo
         (over (placed (frame_at F slot.frame + slot_begins slot) ws) (placed (frame_at F first.0 + NEXT_SERIAL_WORD) ((serial + 1) ∷ []))) fault mid new) are_words
@@ -111,7 +111,7 @@ module _ (F : ℕ) (at : List (ℕ × Puddle)) (types : List (ℕ × ℕ)) (log 
     pub MakesIn-new : Changes (ByPutBoth log.gate_at (frame_at F slot.frame + slot_begins slot) words (frame_at F first.0 + NEXT_SERIAL_WORD) bumped) fault mid new → MakesIn F at log.gate_at slot type_id fault old new
     MakesIn-new changes =
         let next_read = next_is F at types image first head serial read in
-        let saves = subst (λ (s : State). IsSaving F (finished_of at) log before is_open.redo s.now.words → KeepsSaving F (finished_of at) behind before is_open.redo (making F first.0 slot serial type_id) fault s new) stays
+        let saves = subst (λ (s : State). IsSaving F (finished_of at) log before is_open.redo s.now.words → KeepsSaving F (finished_of at) behind before is_open.redo (new_object_write F first.0 slot serial type_id) fault s new) stays
         Saves-making is_open.saving in
         record {
           first = first;
@@ -119,19 +119,19 @@ module _ (F : ℕ) (at : List (ℕ × Puddle)) (types : List (ℕ × ℕ)) (log 
           changes = Changes-making F at log.gate_at slot of first type_id old serial bumped words fault mid new stays next_read are_words one_more changes;
           now = λ none k out.
               saves.runs.now none k (subst (λ (l : ℕ). is_in_log l k ≡ false) (sym same) out)
-              ∙ ap (λ (n : ℕ). overwritten (making F first.0 slot n type_id) image k) next_read;
+              ∙ ap (λ (n : ℕ). overwritten (new_object_write F first.0 slot n type_id) image k) next_read;
         }
 
-    pub RunsOn-new : (size m : ℕ) → IsPlaced F at → device_words F ≤ size → log.gate_at + LOG_WORDS ≤ frames_at F
+    pub RunsOn-new : (size m : ℕ) → ArePlacedPuddles F at → device_words F ≤ size → log.gate_at + LOG_WORDS ≤ frames_at F
         → place_word (stored_in F at image) (place_of_slot slot) SLOT_SERIAL_WORD ≡ 0 → map_of type_id types ≡ Some m
         → KeepsOpenOn F at types behind before graph_before (with_new (blank_object type_id m) now) deferred fault old new
     RunsOn-new size m is_placed device apart free defined =
         let next = is_serial in
         let next_read = next_is F at types image first head serial read in
-        RunsOn-write F size at types before log behind graph_before now (with_new (blank_object type_id m) now) deferred deferred is_open.redo (making F first.0 slot serial type_id) fault old mid new
+        RunsOn-write F size at types before log behind graph_before now (with_new (blank_object type_id m) now) deferred deferred is_open.redo (new_object_write F first.0 slot serial type_id) fault old mid new
         is_placed device apart same stays is_open Saves-making
         (new_stored types F at image is_placed first head slot of serial type_id m free next_read defined now is_open.is room)
-        (AreDeferredEntries-kept F at types image (overwritten (making F first.0 slot serial type_id) image) now (with_new (blank_object type_id m) now)
+        (AreDeferredEntries-kept F at types image (overwritten (new_object_write F first.0 slot serial type_id) image) now (with_new (blank_object type_id m) now)
         (KeepsPlaces-new types F at image is_placed first head slot of serial type_id m free next_read defined now is_open.is)
         (KeepsObjects-new (blank_object type_id m) now
         (λ s o live same. let below = (serial_of_live types (stored_in F at image) now is_open.is s o live).below in absurd (omega arith))) deferred is_open.redo is_open.are)

@@ -18,7 +18,7 @@ use Rattle.puddle_header.specs.Places.{place_of_slot, IsSlotOf}
 use Rattle.graph_read.specs.Reading.{place_in_pool}
 use Rattle.puddle_header.proofs.Placed.{place_ordinal, place_slot}
 use Rattle.object_alloc.specs.Alloc.{serial_word_at}
-use Rattle.hybrid_tx.specs.PoolScopes.{IsPlaced}
+use Rattle.hybrid_tx.specs.PoolScopes.{ArePlacedPuddles}
 use Rattle.hybrid_tx.proofs.Objects.FieldsSet.{stored_in-one, place_is}
 
 -- what is stored is that with the serial cleared
@@ -32,7 +32,7 @@ stored_in-cleared F at image distinct slot of =
     ∙ ap₂ (λ (i j : ℕ). with_words (with_word i (puddle_slot_at j + SLOT_SERIAL_WORD) 0 st.word) st) (sym (place_ordinal slot.ordinal slot.slot of.below)) (sym (place_slot slot.ordinal slot.slot of.below))
 
 module _ (types : List (ℕ × ℕ)) (F : ℕ) (at : List (ℕ × Puddle)) (image : Image) (g : Graph) (is : graph_of types (stored_in F at image) ≡ Some g) where
-  pub free_stored : IsPlaced F at → (s : ℕ) (slot : Slot) → IsSlotOf at slot → place_in_pool F at image s ≡ Some (place_of_slot slot) → is_referenced s g ≡ false
+  pub free_stored : ArePlacedPuddles F at → (s : ℕ) (slot : Slot) → IsSlotOf at slot → place_in_pool F at image s ≡ Some (place_of_slot slot) → is_referenced s g ≡ false
       → graph_of types (stored_in F at (overwritten (placed (serial_word_at F slot) (0 ∷ [])) image)) ≡ Some (without_object s g)
   free_stored is_placed s slot of found spared =
       ap (graph_of types) (stored_in-cleared F at image is_placed.frames slot of)

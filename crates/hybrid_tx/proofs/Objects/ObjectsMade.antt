@@ -25,26 +25,26 @@ use Rattle.graph_laws.proofs.NewObjects.{graph_of-new}
 use Rattle.graph_laws.proofs.Words.{few_fields}
 use Rattle.puddle_header.specs.Places.{place_of_slot, IsSlotOf}
 use Rattle.puddle_header.proofs.Placed.{place_ordinal, place_slot, stored_word, stored_slot}
-use Rattle.hybrid_tx.specs.PoolScopes.{IsPlaced}
-use Rattle.hybrid_tx.specs.Objects.Stores.{new_words, making}
+use Rattle.hybrid_tx.specs.PoolScopes.{ArePlacedPuddles}
+use Rattle.hybrid_tx.specs.Objects.Stores.{new_object_words, new_object_write}
 
 -- ---- the words of a new object
 
-pub new_words-length : (serial type_id : ℕ) → length (new_words serial type_id) ≡ puddle_slot_words
-unfolding new_words
-new_words-length serial type_id = refl
+pub new_object_words-length : (serial type_id : ℕ) → length (new_object_words serial type_id) ≡ puddle_slot_words
+unfolding new_object_words
+new_object_words-length serial type_id = refl
 
-new_words-serial : (serial type_id : ℕ) → slice_get (new_words serial type_id) SLOT_SERIAL_WORD ≡ Some serial
-unfolding new_words
-new_words-serial serial type_id = refl
+new_object_words-serial : (serial type_id : ℕ) → slice_get (new_object_words serial type_id) SLOT_SERIAL_WORD ≡ Some serial
+unfolding new_object_words
+new_object_words-serial serial type_id = refl
 
-new_words-type : (serial type_id : ℕ) → slice_get (new_words serial type_id) SLOT_TYPE_WORD ≡ Some type_id
-unfolding new_words
-new_words-type serial type_id = refl
+new_object_words-type : (serial type_id : ℕ) → slice_get (new_object_words serial type_id) SLOT_TYPE_WORD ≡ Some type_id
+unfolding new_object_words
+new_object_words-type serial type_id = refl
 
-new_words-field : (serial type_id f : ℕ) → f < puddle_slot_words - SLOT_FIELDS_WORD → slice_get (new_words serial type_id) (SLOT_FIELDS_WORD + f) ≡ Some 0
-unfolding new_words
-new_words-field serial type_id f below =
+new_object_words-field : (serial type_id f : ℕ) → f < puddle_slot_words - SLOT_FIELDS_WORD → slice_get (new_object_words serial type_id) (SLOT_FIELDS_WORD + f) ≡ Some 0
+unfolding new_object_words
+new_object_words-field serial type_id f below =
     ap (slice_get (serial ∷ type_id ∷ replicate (puddle_slot_words - SLOT_FIELDS_WORD) 0)) (let e : SLOT_FIELDS_WORD + f ≡ suc (suc f) = omega arith in e)
     ∙ slice_get-get_or (replicate (puddle_slot_words - SLOT_FIELDS_WORD) 0) f 0 below
     ∙ ap (λ k. Some k) (get_or-replicate (puddle_slot_words - SLOT_FIELDS_WORD) f 0 0 below)
@@ -58,30 +58,30 @@ module _ (F first serial type_id : ℕ) (slot : Slot) where
   abbrev next_word : ℕ
   next_word = frame_at F first + NEXT_SERIAL_WORD
 
-  making-other : (k : ℕ) → (k < its_slot) ⊎ (its_slot + puddle_slot_words ≤ k) → (k ≡ next_word → ⊥) → making F first slot serial type_id k ≡ None
+  making-other : (k : ℕ) → (k < its_slot) ⊎ (its_slot + puddle_slot_words ≤ k) → (k ≡ next_word → ⊥) → new_object_write F first slot serial type_id k ≡ None
   making-other k apart other =
       ap₂ option_or
       (value_at-apart next_word k ((serial + 1) ∷ []) (elim (cases_lt k next_word) [ inl below ↦ inl below | inr above ↦ inr (omega arith) ]))
-      (value_at-apart its_slot k (new_words serial type_id) (elim apart [ inl below ↦ inl below | inr above ↦ inr (let size = new_words-length serial type_id in omega arith) ]))
+      (value_at-apart its_slot k (new_object_words serial type_id) (elim apart [ inl below ↦ inl below | inr above ↦ inr (let size = new_object_words-length serial type_id in omega arith) ]))
 
-  making-slot : (j : ℕ) → j < puddle_slot_words → (its_slot + j ≡ next_word → ⊥) → making F first slot serial type_id (its_slot + j) ≡ slice_get (new_words serial type_id) j
+  making-slot : (j : ℕ) → j < puddle_slot_words → (its_slot + j ≡ next_word → ⊥) → new_object_write F first slot serial type_id (its_slot + j) ≡ slice_get (new_object_words serial type_id) j
   making-slot j few other =
       ap₂ option_or
       (value_at-apart next_word (its_slot + j) ((serial + 1) ∷ []) (elim (cases_lt (its_slot + j) next_word) [ inl below ↦ inl below | inr above ↦ inr (omega arith) ]))
-      (value_at-there its_slot j (its_slot + j) (new_words serial type_id) refl)
+      (value_at-there its_slot j (its_slot + j) (new_object_words serial type_id) refl)
 
-  making-next : making F first slot serial type_id next_word ≡ Some (serial + 1)
-  making-next = ap (λ (o : Option ℕ). option_or o (placed its_slot (new_words serial type_id) next_word)) (value_at-there next_word 0 next_word ((serial + 1) ∷ []) (omega arith))
+  making-next : new_object_write F first slot serial type_id next_word ≡ Some (serial + 1)
+  making-next = ap (λ (o : Option ℕ). option_or o (placed its_slot (new_object_words serial type_id) next_word)) (value_at-there next_word 0 next_word ((serial + 1) ∷ []) (omega arith))
 
 -- ---- the graph
 
-module _ (types : List (ℕ × ℕ)) (F : ℕ) (at : List (ℕ × Puddle)) (image : Image) (is_placed : IsPlaced F at) (first : ℕ × Puddle) (head : slice_get at 0 ≡ Some first) (slot : Slot) (of : IsSlotOf at slot)
+module _ (types : List (ℕ × ℕ)) (F : ℕ) (at : List (ℕ × Puddle)) (image : Image) (is_placed : ArePlacedPuddles F at) (first : ℕ × Puddle) (head : slice_get at 0 ≡ Some first) (slot : Slot) (of : IsSlotOf at slot)
     (serial type_id m : ℕ) where
   abbrev st : Stored
   st = stored_in F at image
 
   abbrev after : Image
-  after = overwritten (making F first.0 slot serial type_id) image
+  after = overwritten (new_object_write F first.0 slot serial type_id) image
 
   abbrev later : ℕ → ℕ → ℕ
   later = (stored_in F at after).word
@@ -93,16 +93,16 @@ module _ (types : List (ℕ × ℕ)) (F : ℕ) (at : List (ℕ × Puddle)) (imag
   apart_from_next : (j : ℕ) → j < puddle_slot_words → (frame_at F slot.frame + slot_begins slot + j ≡ frame_at F first.0 + NEXT_SERIAL_WORD → ⊥)
   apart_from_next j few same = let slots = of.below in absurd (omega arith)
 
-  slot_after : (j v : ℕ) → j < puddle_slot_words → slice_get (new_words serial type_id) j ≡ Some v → place_word (stored_in F at after) p j ≡ v
+  slot_after : (j v : ℕ) → j < puddle_slot_words → slice_get (new_object_words serial type_id) j ≡ Some v → place_word (stored_in F at after) p j ≡ v
   slot_after j v few is =
       stored_slot F at after slot.ordinal slot.slot j (slot.frame, of.puddle) of.there of.below few
       ∙ ap after (let e : frame_at F slot.frame + (slot_begins slot + j) ≡ frame_at F slot.frame + slot_begins slot + j = omega arith in e)
-      ∙ overwritten-there (making F first.0 slot serial type_id) image (frame_at F slot.frame + slot_begins slot + j) v (making-slot F first.0 serial type_id slot j few (apart_from_next j few) ∙ is)
+      ∙ overwritten-there (new_object_write F first.0 slot serial type_id) image (frame_at F slot.frame + slot_begins slot + j) v (making-slot F first.0 serial type_id slot j few (apart_from_next j few) ∙ is)
 
   next_after : later 0 NEXT_SERIAL_WORD ≡ serial + 1
   next_after =
       stored_word F at after 0 NEXT_SERIAL_WORD first head (omega arith)
-      ∙ overwritten-there (making F first.0 slot serial type_id) image (frame_at F first.0 + NEXT_SERIAL_WORD) (serial + 1) (making-next F first.0 serial type_id slot)
+      ∙ overwritten-there (new_object_write F first.0 slot serial type_id) image (frame_at F first.0 + NEXT_SERIAL_WORD) (serial + 1) (making-next F first.0 serial type_id slot)
 
   frame_after : (o k : ℕ) (e : ℕ × Puddle) → slice_get at o ≡ Some e → k < FRAME_WORDS
       → (o ≡ ordinal_of p → place_begins (stored_in F at image) p ≤ k → k < place_begins (stored_in F at image) p + place_words (stored_in F at image) p → ⊥) → (o ≡ 0 → k ≡ NEXT_SERIAL_WORD → ⊥)
@@ -124,7 +124,7 @@ module _ (types : List (ℕ × ℕ)) (F : ℕ) (at : List (ℕ × Puddle)) (imag
               ]
             ]
       ] in
-      overwritten-stays (making F first.0 slot serial type_id) image (frame_at F e.0 + k)
+      overwritten-stays (new_object_write F first.0 slot serial type_id) image (frame_at F e.0 + k)
       (making-other F first.0 serial type_id slot (frame_at F e.0 + k) apart
       (λ same.
       let frame : e.0 ≡ first.0 = omega arith in
@@ -150,10 +150,10 @@ module _ (types : List (ℕ × ℕ)) (F : ℕ) (at : List (ℕ × Puddle)) (imag
         record {
           within = omega arith;
           free = free;
-          serial_word = slot_after SLOT_SERIAL_WORD serial (omega arith) (new_words-serial serial type_id) ∙ next;
-          type_word = slot_after SLOT_TYPE_WORD type_id (omega arith) (new_words-type serial type_id);
+          serial_word = slot_after SLOT_SERIAL_WORD serial (omega arith) (new_object_words-serial serial type_id) ∙ next;
+          type_word = slot_after SLOT_TYPE_WORD type_id (omega arith) (new_object_words-type serial type_id);
           defined = defined;
-          fields = λ f below. slot_after (SLOT_FIELDS_WORD + f) 0 (omega arith) (new_words-field serial type_id f (omega arith));
+          fields = λ f below. slot_after (SLOT_FIELDS_WORD + f) 0 (omega arith) (new_object_words-field serial type_id f (omega arith));
           next_word = next_after ∙ ap (λ k. k + 1) next;
           others = λ o k. others_by o k (slice_get at o) refl;
         }

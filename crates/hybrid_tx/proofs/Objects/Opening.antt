@@ -20,7 +20,7 @@ use Rattle.log_store.specs.Store.{OpenLog}
 use Rattle.word_transaction.specs.Scope.{IsScope}
 use Rattle.word_transaction.specs.Running.{IsIdle, ByTransaction, no_write, begun_log, KeepsRunning}
 use Rattle.word_transaction.proofs.Ended.{beside_transaction}
-use Rattle.hybrid_tx.specs.PoolScopes.{pool_has_word, pool_scope, finished_of, IsPlaced}
+use Rattle.hybrid_tx.specs.PoolScopes.{pool_has_word, pool_scope, finished_of, ArePlacedPuddles}
 use Rattle.hybrid_tx.specs.Objects.Transactions.{AreDeferredEntries, IsSaving, RestsAs, IsOpenOn, KeepsSaving, KeepsOpenOn}
 use Rattle.hybrid_tx.proofs.PoolScope.{pool_has_word-from, is_ground}
 use Rattle.hybrid_tx.proofs.FinishedPuddles.{mine_of_finished}
@@ -94,7 +94,7 @@ module _ (F size : ℕ) (at : List (ℕ × Puddle)) (types : List (ℕ × ℕ)) 
 
   -- what is saved and written, or asked for, behind calls that only read
   pub RunsOn-write : (log behind : OpenLog) (graph_before now next : Graph) (deferred more : List DeferredValue) (redo : List Entry) (write : Write) (fault : Option HostFault) (old mid new : State)
-      → IsPlaced F at → device_words F ≤ size → log.gate_at + LOG_WORDS ≤ frames_at F → behind.gate_at ≡ log.gate_at → mid ≡ old → (is_open : IsOpenOn F at types log before graph_before now deferred old.now.words)
+      → ArePlacedPuddles F at → device_words F ≤ size → log.gate_at + LOG_WORDS ≤ frames_at F → behind.gate_at ≡ log.gate_at → mid ≡ old → (is_open : IsOpenOn F at types log before graph_before now deferred old.now.words)
       → (IsSaving F (finished_of at) log before is_open.redo mid.now.words → KeepsSaving F (finished_of at) behind before redo write fault mid new)
       → graph_of types (stored_in F at (overwritten write (reads old.now.words))) ≡ Some next → AreDeferredEntries F at types (overwritten write (reads old.now.words)) next more redo
       → KeepsOpenOn F at types behind before graph_before next more fault old new

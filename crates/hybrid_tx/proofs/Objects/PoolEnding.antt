@@ -22,7 +22,7 @@ use Rattle.word_transaction.specs.Running.{IsRunning, IsIdle, RecoversTo, ByTran
 use Rattle.word_transaction.proofs.Saved.{pending_is_mine}
 use Rattle.word_transaction.proofs.Pending.{defers-none, pending-in_turn}
 use Rattle.word_transaction.proofs.Ended.{CommitsTransaction-idle, AbortsTransaction-idle}
-use Rattle.hybrid_tx.specs.PoolScopes.{pool_place, pool_has_word, pool_scope, finished_of, IsPlaced}
+use Rattle.hybrid_tx.specs.PoolScopes.{pool_place, pool_has_word, pool_scope, finished_of, ArePlacedPuddles}
 use Rattle.hybrid_tx.specs.Objects.Transactions.{RestsAs, IsOpenOn, IsAtRest, AbortsOnPool, CommitsOnPool}
 use Rattle.hybrid_tx.proofs.PoolScope.{is_ground}
 use Rattle.hybrid_tx.proofs.FinishedPuddles.{finished_placed}
@@ -37,7 +37,7 @@ off_own None mine own other w = refl
 off_own (Some v) mine own other w = absurd (let it : true ≡ false = sym (own v refl) ∙ other in cc)
 
 module _ (F size : ℕ) (at : List (ℕ × Puddle)) (types : List (ℕ × ℕ)) (log : OpenLog) (before : Image) (graph_before now : Graph) (deferred : List DeferredValue) (fault : Option HostFault) (old new : State)
-    (is_placed : IsPlaced F at) (device : device_words F ≤ size) (apart : log.gate_at + LOG_WORDS ≤ frames_at F) (is_open : IsOpenOn F at types log before graph_before now deferred old.now.words) where
+    (is_placed : ArePlacedPuddles F at) (device : device_words F ≤ size) (apart : log.gate_at + LOG_WORDS ≤ frames_at F) (is_open : IsOpenOn F at types log before graph_before now deferred old.now.words) where
   abbrev own : Scope
   own = pool_scope F (finished_of at)
 

@@ -17,7 +17,7 @@ use Rattle.pud_defs.specs.Graph.{Graph}
 use Rattle.pud_defs.specs.GraphChanges.{with_root}
 use Rattle.pud_defs.specs.DeferredValues.{DeferredValue}
 use Rattle.log_store.specs.Store.{OpenLog}
-use Rattle.hybrid_tx.specs.PoolScopes.{IsPlaced, IsRewrittenAt}
+use Rattle.hybrid_tx.specs.PoolScopes.{ArePlacedPuddles, IsRewrittenAt}
 use Rattle.hybrid_tx.specs.Objects.Stores.{word_for}
 use Rattle.hybrid_tx.specs.Objects.Transactions.{IsOpenOn, KeepsOpenOn}
 use Rattle.hybrid_tx.proofs.Objects.RootsSet.{root_set}
@@ -28,7 +28,7 @@ use Rattle.hybrid_tx.proofs.Objects.Opening.{RunsOn-write}
 
 module _ (F : ℕ) (at : List (ℕ × Puddle)) (types : List (ℕ × ℕ)) (log behind : OpenLog) (before : Image) (graph_before now : Graph) (deferred : List DeferredValue) (old : State)
     (is_open : IsOpenOn F at types log before graph_before now deferred old.now.words) where
-  pub RunsOn-root : (size s v : ℕ) (first : ℕ × Puddle) (fault : Option HostFault) (mid new : State) → slice_get at 0 ≡ Some first → IsPlaced F at → IsRewrittenAt at 0 → device_words F ≤ size → log.gate_at + LOG_WORDS ≤ frames_at F → behind.gate_at ≡ log.gate_at → mid ≡ old
+  pub RunsOn-root : (size s v : ℕ) (first : ℕ × Puddle) (fault : Option HostFault) (mid new : State) → slice_get at 0 ≡ Some first → ArePlacedPuddles F at → IsRewrittenAt at 0 → device_words F ≤ size → log.gate_at + LOG_WORDS ≤ frames_at F → behind.gate_at ≡ log.gate_at → mid ≡ old
       → word_for F at (reads old.now.words) (Ref s) ≡ Some v → PutsAt F at 0 ROOT_WORD (v ∷ []) log behind fault mid new
       → KeepsOpenOn F at types behind before graph_before (with_root s now) deferred fault old new
   RunsOn-root size s v first fault mid new head is_placed rewritten device apart same stays word put =

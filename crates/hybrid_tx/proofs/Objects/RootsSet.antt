@@ -14,7 +14,7 @@ use Rattle.pud_defs.specs.GraphChanges.{with_root}
 use Rattle.graph_laws.specs.Changes.{with_root_word}
 use Rattle.graph_laws.proofs.Roots.{graph_of-no_root, graph_of-root}
 use Rattle.graph_laws.proofs.Words.{place_of_serial-some}
-use Rattle.hybrid_tx.specs.PoolScopes.{IsPlaced, IsRewrittenAt}
+use Rattle.hybrid_tx.specs.PoolScopes.{ArePlacedPuddles, IsRewrittenAt}
 use Rattle.hybrid_tx.specs.Objects.Stores.{word_for}
 use Rattle.hybrid_tx.proofs.Objects.FieldsSet.{stored_in-one, place_is, address_of_place, word_of_reference}
 
@@ -22,7 +22,7 @@ module _ (types : List (ℕ × ℕ)) (F : ℕ) (at : List (ℕ × Puddle)) (imag
   abbrev st : Stored
   st = stored_in F at image
 
-  module _ (is_placed : IsPlaced F at) (rewritten : IsRewrittenAt at 0) (first : ℕ × Puddle) (head : slice_get at 0 ≡ Some first) (s v : ℕ) (word : word_for F at image (Ref s) ≡ Some v) where
+  module _ (is_placed : ArePlacedPuddles F at) (rewritten : IsRewrittenAt at 0) (first : ℕ × Puddle) (head : slice_get at 0 ≡ Some first) (s v : ℕ) (word : word_for F at image (Ref s) ≡ Some v) where
     with_root_stored : graph_of types (with_root_word v st) ≡ Some (with_root s g)
     with_root_stored = elim (word_of_reference F at image s v word) [
       | inl null ↦ ap (λ k. graph_of types (with_root_word k st)) null.1 ∙ graph_of-no_root types st g is ∙ ap (λ k. Some (with_root k g)) (sym null.0)

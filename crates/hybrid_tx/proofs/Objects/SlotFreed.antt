@@ -24,7 +24,7 @@ use Rattle.word_transaction.specs.Scope.{Scope, IsScope}
 use Rattle.word_transaction.specs.Running.{IsRunning, IsOneOf, ByTransaction, SavesWords, SavesAndWrites}
 use Rattle.word_transaction.proofs.Writing.{Runs-written}
 use Rattle.word_transaction.proofs.Kept.{WritesKept-placed, SavesAndWrites-unkept, SavesAndWrites-written}
-use Rattle.hybrid_tx.specs.PoolScopes.{pool_scope, finished_of, IsPlaced, IsRewrittenAt}
+use Rattle.hybrid_tx.specs.PoolScopes.{pool_scope, finished_of, ArePlacedPuddles, IsRewrittenAt}
 use Rattle.hybrid_tx.proofs.FinishedPuddles.{finished_placed, finished_there}
 use Rattle.hybrid_tx.specs.Objects.Stores.{address_at}
 use Rattle.hybrid_tx.specs.Objects.Transactions.{MayFree, IsSaving, IsOpenOn, KeepsSaving, KeepsOpenOn}
@@ -55,7 +55,7 @@ module _ (F : ℕ) (at : List (ℕ × Puddle)) (slot : Slot) (of : IsSlotOf at s
 -- ---- kept and cleared
 
 module _ (F size : ℕ) (at : List (ℕ × Puddle)) (slot : Slot) (of : IsSlotOf at slot) (log now : OpenLog) (before : Image) (redo : List Entry) (address first : ℕ) (a : State)
-    (is_placed : IsPlaced F at) (device : device_words F ≤ size) (apart : log.gate_at + LOG_WORDS ≤ frames_at F) (is_address : address ≡ address_at at (place_of_slot slot)) (is_first : first ≡ serial_word_at F slot)
+    (is_placed : ArePlacedPuddles F at) (device : device_words F ≤ size) (apart : log.gate_at + LOG_WORDS ≤ frames_at F) (is_address : address ≡ address_at at (place_of_slot slot)) (is_first : first ≡ serial_word_at F slot)
     (rewritten : IsRewrittenAt at slot.ordinal) (saving : IsSaving F (finished_of at) log before redo a.now.words) (same : now.gate_at ≡ log.gate_at) where
   abbrev g : Scope
   g = pool_scope F (finished_of at)
@@ -92,7 +92,7 @@ module _ (F size : ℕ) (at : List (ℕ × Puddle)) (slot : Slot) (of : IsSlotOf
 
 module _ (F : ℕ) (at : List (ℕ × Puddle)) (types : List (ℕ × ℕ)) (log behind : OpenLog) (before : Image) (graph_before now : Graph) (deferred : List DeferredValue) (old : State)
     (is_open : IsOpenOn F at types log before graph_before now deferred old.now.words) where
-  pub RunsOn-free : (size s : ℕ) (slot : Slot) (fault : Option HostFault) (mid new : State) → MayFree now s → deferred_set_names s deferred ≡ false → IsPlaced F at → device_words F ≤ size → log.gate_at + LOG_WORDS ≤ frames_at F
+  pub RunsOn-free : (size s : ℕ) (slot : Slot) (fault : Option HostFault) (mid new : State) → MayFree now s → deferred_set_names s deferred ≡ false → ArePlacedPuddles F at → device_words F ≤ size → log.gate_at + LOG_WORDS ≤ frames_at F
       → behind.gate_at ≡ log.gate_at → mid ≡ old → IsSlotOf at slot → place_in_pool F at (reads old.now.words) s ≡ Some (place_of_slot slot)
       → ((redo : List Entry) → IsSaving F (finished_of at) log before redo mid.now.words → KeepsSaving F (finished_of at) behind before redo (placed (serial_word_at F slot) (0 ∷ [])) fault mid new)
       → KeepsOpenOn F at types behind before graph_before (without_object s now) deferred fault old new

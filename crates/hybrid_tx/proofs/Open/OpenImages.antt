@@ -8,7 +8,7 @@ use Rattle.pud_defs.specs.declared.layout.TheConstants.{DAEMON_LOG, FRAMES_WORD,
 use Rattle.pud_defs.specs.Image.{Image}
 use Rattle.pud_defs.specs.Layout.{tables_end, frames_at}
 use Rattle.pud_defs.specs.Entries.{log_of}
-use Rattle.pud_defs.specs.Registry.{frames_of, has_legal_log, are_allowed}
+use Rattle.pud_defs.specs.Registry.{frames_of, has_legal_log, are_loggable}
 use Rattle.pud_defs.specs.Replay.{device_word, new_value, overwritten, is_in_log, settled_by}
 use Rattle.pud_defs.specs.Settled.{ALL_LOGS, is_refused_log, is_in_logs, settled}
 use Rattle.pud_defs.specs.Spaces.{are_closed_logs, are_legal_spaces}
@@ -53,7 +53,7 @@ module _ (mask : Write) (below : (k : ℕ) → k < POOL_TABLE → mask k ≡ Non
   unfolding has_legal_log
   same_legal =
       let log = log_of-masked DAEMON_LOG mask beside j in
-      λ q. are_allowed (same_frames q) (log q) (log q).entries
+      λ q. are_loggable (same_frames q) (log q) (log q).entries
 
   pub masked_settles : settled_by DAEMON_LOG (masked_image mask j) ≡ overwritten mask (settled_by DAEMON_LOG j)
   masked_settles = settled_by-masked DAEMON_LOG mask beside j unnamed

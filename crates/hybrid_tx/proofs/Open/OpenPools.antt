@@ -18,7 +18,7 @@ use Rattle.pud_defs.specs.Tables.{tables_of, puddles_in_turn}
 use Rattle.pud_defs.proofs.TablesOf.{pools_below, puddles_below, frames_of_tables, pool_at-same, puddle_at-same}
 use Rattle.word_transaction.specs.Scope.{IsScope}
 use Rattle.word_transaction.specs.Running.{RecoversTo, HasPlaces}
-use Rattle.hybrid_tx.specs.PoolScopes.{pool_scope, IsPlaced, finished_of}
+use Rattle.hybrid_tx.specs.PoolScopes.{pool_scope, ArePlacedPuddles, finished_of}
 use Rattle.hybrid_tx.specs.Open.Masks.{OpenPool, is_in_pool_record, is_in_space_record, is_in_puddle_record, is_open_record, ArePuddlesOf, IsOpenPool}
 use Rattle.hybrid_tx.proofs.Open.OpenSettled.{GivesOwn}
 use Rattle.hybrid_tx.proofs.Open.OwnEntries.{new_value_placed, new_value_own}
@@ -83,9 +83,9 @@ module _ (F : ℕ) (p : OpenPool) (before image : Image) (opened : IsOpenPool F 
 
   module _ (next : ℕ) (sound : HasSoundTables next (tables_of F image)) where
     -- the puddles lie as those of a ground
-    pub open_placed : IsPlaced F (finished_of p.puddles)
+    pub open_placed : ArePlacedPuddles F (finished_of p.puddles)
     open_placed =
-        subst (λ (n : ℕ). IsPlaced n (finished_of p.puddles)) (frames_of_tables F image)
+        subst (λ (n : ℕ). ArePlacedPuddles n (finished_of p.puddles)) (frames_of_tables F image)
         (placed_of_puddles next (tables_of F image) sound p.slot (finished_of p.puddles) open_puddles)
 
     -- whose places are those of the tables
@@ -110,7 +110,7 @@ module _ (F : ℕ) (p : OpenPool) (before image : Image) (opened : IsOpenPool F 
         }
 
 -- the puddles that sound tables have of a pool lie as those of a ground
-pub placed_by_tables : (next F : ℕ) (image : Image) (slot : ℕ) (at : List (ℕ × Puddle)) → HasSoundTables next (tables_of F image) → puddles_in_turn (tables_of F image) slot ≡ at → IsPlaced F at
+pub placed_by_tables : (next F : ℕ) (image : Image) (slot : ℕ) (at : List (ℕ × Puddle)) → HasSoundTables next (tables_of F image) → puddles_in_turn (tables_of F image) slot ≡ at → ArePlacedPuddles F at
 placed_by_tables next F image slot at sound is =
-    subst (λ puddles. IsPlaced F puddles) is
-    (subst (λ (n : ℕ). IsPlaced n (puddles_in_turn (tables_of F image) slot)) (frames_of_tables F image) (placed_in_turn next (tables_of F image) slot sound))
+    subst (λ puddles. ArePlacedPuddles F puddles) is
+    (subst (λ (n : ℕ). ArePlacedPuddles n (puddles_in_turn (tables_of F image) slot)) (frames_of_tables F image) (placed_in_turn next (tables_of F image) slot sound))

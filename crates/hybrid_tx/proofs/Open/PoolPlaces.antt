@@ -15,7 +15,7 @@ use Rattle.pud_defs.specs.Tables.{Tables, puddles_in_turn}
 use Rattle.pud_defs.proofs.PuddlesListed.{puddles_in_turn-on_device}
 use Rattle.graph_laws.specs.Changes.{AreBases}
 use Rattle.word_transaction.specs.Running.{HasPlaces}
-use Rattle.hybrid_tx.specs.PoolScopes.{pool_place, pool_has_word, pool_scope, IsPlaced}
+use Rattle.hybrid_tx.specs.PoolScopes.{pool_place, pool_has_word, pool_scope, ArePlacedPuddles}
 use Rattle.hybrid_tx.specs.Open.Masks.{IsPuddleOf, ArePuddlesOf}
 use Rattle.hybrid_tx.proofs.PoolScope.{IsNamed, pool_may_name-named, pool_place-there, pool_has_word-each}
 use Rattle.pud_defs.proofs.PoolMembers.{IsMemberOf, HasMembers, members_in_turn, multiple_of_legal, legal_of_member, one_ordinal, one_frame, puddle_word_of_member}
@@ -92,7 +92,7 @@ module _ (next : ℕ) (t : Tables) (sound : HasSoundTables next t) (slot : ℕ) 
     are_legal n d below = legal_of_puddle n (get_or at n d) (slice_get-get_or at n d below)
 
     -- so they lie as those of a ground
-    pub placed_of_puddles : IsPlaced t.frames at
+    pub placed_of_puddles : ArePlacedPuddles t.frames at
     placed_of_puddles = record { on_device = on_device_of_puddles t slot at are; frames = are.apart; legal = are_legal; bases = are_bases }
 
     -- what the ground may name lies where the tables have it
@@ -114,7 +114,7 @@ pub are_puddles_in_turn : (next : ℕ) (t : Tables) (slot : ℕ) → HasSoundTab
 are_puddles_in_turn next t slot sound = puddles_of_members next t sound slot (puddles_in_turn t slot) (members_in_turn t slot) (puddles_in_turn-on_device t slot).few
 
 -- so they are placed
-pub placed_in_turn : (next : ℕ) (t : Tables) (slot : ℕ) → HasSoundTables next t → IsPlaced t.frames (puddles_in_turn t slot)
+pub placed_in_turn : (next : ℕ) (t : Tables) (slot : ℕ) → HasSoundTables next t → ArePlacedPuddles t.frames (puddles_in_turn t slot)
 placed_in_turn next t slot sound = placed_of_puddles next t sound slot (puddles_in_turn t slot) (are_puddles_in_turn next t slot sound)
 
 -- ---- two pools

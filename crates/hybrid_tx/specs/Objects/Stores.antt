@@ -37,13 +37,13 @@ abbrev pub field_word : Slot → (f : ℕ) → ℕ
 field_word slot f = slot_begins slot + SLOT_FIELDS_WORD + f
 
 -- the words of a slot that holds a new object: its serial, its type, and 0 in each field
-unfoldable pub new_words : (serial type_id : ℕ) → List ℕ
-new_words serial type_id = serial ∷ type_id ∷ replicate (puddle_slot_words - SLOT_FIELDS_WORD) 0
+unfoldable pub new_object_words : (serial type_id : ℕ) → List ℕ
+new_object_words serial type_id = serial ∷ type_id ∷ replicate (puddle_slot_words - SLOT_FIELDS_WORD) 0
 
 -- what is written to make an object in a slot: the words of the slot, and the next serial, which stands in the frame of ordinal 0
-abbrev pub making : (F first : ℕ) → Slot → (serial type_id : ℕ) → Write
-making F first slot serial type_id =
-    over (placed (frame_at F slot.frame + slot_begins slot) (new_words serial type_id)) (placed (frame_at F first + NEXT_SERIAL_WORD) ((serial + 1) ∷ []))
+abbrev pub new_object_write : (F first : ℕ) → Slot → (serial type_id : ℕ) → Write
+new_object_write F first slot serial type_id =
+    over (placed (frame_at F slot.frame + slot_begins slot) (new_object_words serial type_id)) (placed (frame_at F first + NEXT_SERIAL_WORD) ((serial + 1) ∷ []))
 
 -- any value may come to the words of the log whose gate is this word, and these values to the words from another on
 abbrev pub ByPut : (at first : ℕ) → List ℕ → Footprint
@@ -55,5 +55,5 @@ ByPutBoth at first vals second value k v = IsInLog at k ⊎ (placed first vals k
 
 -- any value may come to the words of the log whose gate is this word, those of a new object to the words of the slot, and the serial behind its own to
 -- the word of the next serial
-abbrev pub ByMaking : (F at first : ℕ) → Slot → (serial type_id : ℕ) → Footprint
-ByMaking F at first slot serial type_id = ByPutBoth at (frame_at F slot.frame + slot_begins slot) (new_words serial type_id) (frame_at F first + NEXT_SERIAL_WORD) (serial + 1)
+abbrev pub ByNewObject : (F at first : ℕ) → Slot → (serial type_id : ℕ) → Footprint
+ByNewObject F at first slot serial type_id = ByPutBoth at (frame_at F slot.frame + slot_begins slot) (new_object_words serial type_id) (frame_at F first + NEXT_SERIAL_WORD) (serial + 1)

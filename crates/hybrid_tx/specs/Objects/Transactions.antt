@@ -26,7 +26,7 @@ use Rattle.log_store.specs.Store.{OpenLog}
 use Rattle.word_transaction.specs.Scope.{redo_entry, deferred_entries}
 use Rattle.word_transaction.specs.Running.{IsRunning, IsIdle, begun_log, KeepsRunning, AbortsTransaction, CommitsTransaction}
 use Rattle.hybrid_tx.specs.PoolScopes.{pool_has_word, pool_scope, finished_of, IsRewrittenAt}
-use Rattle.hybrid_tx.specs.Objects.Stores.{word_for, field_word, making, ByMaking}
+use Rattle.hybrid_tx.specs.Objects.Stores.{word_for, field_word, new_object_write, ByNewObject}
 
 -- ---- an open transaction
 
@@ -148,9 +148,9 @@ pub record KeepsOpenOn (F : ℕ) (at : List (ℕ × Puddle)) (types : List (ℕ 
 pub record MakesIn (F : ℕ) (at : List (ℕ × Puddle)) (log_at : ℕ) (slot : Slot) (type_id : ℕ) (fault : Option HostFault) (old new : State) : Type 0 where
   pub first : ℕ × Puddle
   pub head : slice_get at 0 ≡ Some first
-  pub changes : Changes (ByMaking F log_at first.0 slot (next_serial_of (stored_in F at (reads old.now.words))) type_id) fault old new
+  pub changes : Changes (ByNewObject F log_at first.0 slot (next_serial_of (stored_in F at (reads old.now.words))) type_id) fault old new
   pub now : fault ≡ None → (k : ℕ) → is_in_log log_at k ≡ false
-      → reads new.now.words k ≡ overwritten (making F first.0 slot (next_serial_of (stored_in F at (reads old.now.words))) type_id) (reads old.now.words) k
+      → reads new.now.words k ≡ overwritten (new_object_write F first.0 slot (next_serial_of (stored_in F at (reads old.now.words))) type_id) (reads old.now.words) k
 
 -- The transaction is undone, and its log, whose gate is this word, closed: each image settles to what the words held at the beginning.
 pub record AbortsOnPool (F : ℕ) (at : List (ℕ × Puddle)) (types : List (ℕ × ℕ)) (log_at : ℕ) (before : Image) (graph_before : Graph) (fault : Option HostFault) (old new : State) : Type 0 where

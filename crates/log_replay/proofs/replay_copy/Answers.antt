@@ -6,7 +6,7 @@ use Rattle.pm_model.proofs.Changes.{Changes-fence}
 use Rattle.pud_defs.specs.Replay.{device_word, new_value}
 use Rattle.log_entry.specs.Copying.{log_copied}
 use Rattle.log_replay.specs.Replaying.{Anything, new_values}
-use Rattle.log_replay.proofs.Applying.{Applies-same, any_then}
+use Rattle.log_replay.proofs.Applying.{AppliesEntries-same, any_then}
 use Rattle.log_replay.proofs.Placed.{replayable_copy}
 use Rattle.log_replay.proofs.Whole.{Replays-failed, Replays-fence, replays_again}
 use Rattle.log_replay.proofs.replay_copy.Goals as goal
@@ -17,21 +17,21 @@ returns-in_err-overwrite-clause-replays g c =
     rw (p.1, p.2) (λ t size same to at es r placed.
     let image = reads (g.H.Host.state c.args.h.now).now.words in
     let it = replayable_copy to size at es image c.args.copy.now r placed in
-    Replays-failed to at _ _ _ (Applies-same (new_value device_word (log_copied c.args.copy.now)) (new_values to at image) _ _ _ it.gives (c.in_err-overwrite.ensures.overwrites t size same _ refl it.es it.are it.within)))
+    Replays-failed to at _ _ _ (AppliesEntries-same (new_value device_word (log_copied c.args.copy.now)) (new_values to at image) _ _ _ it.gives (c.in_err-overwrite.ensures.overwrites t size same _ refl it.es it.are it.within)))
 
 pub returns-in_err-overwrite-clause-again : goal.returns-in_err-overwrite-clause-again
 returns-in_err-overwrite-clause-again g c = λ t size same to at es r placed d.
     let image = reads (g.H.Host.state c.args.h.now).now.words in
     let it = replayable_copy to size at es image c.args.copy.now r placed in
     replays_again to size at es (fault_of c.overwrite.result) _ _ r d
-    (Applies-same (new_value device_word (log_copied c.args.copy.now)) (new_values to at image) (fault_of c.overwrite.result) _ _ it.gives (c.overwrite.ensures.overwrites t size same _ refl it.es it.are it.within)).changes
+    (AppliesEntries-same (new_value device_word (log_copied c.args.copy.now)) (new_values to at image) (fault_of c.overwrite.result) _ _ it.gives (c.overwrite.ensures.overwrites t size same _ refl it.es it.are it.within)).changes
 
 pub returns-clause-replays : goal.returns-clause-replays
 returns-clause-replays g c = λ t size same to at es r placed.
     let image = reads (g.H.Host.state c.args.h.now).now.words in
     let it = replayable_copy to size at es image c.args.copy.now r placed in
     Replays-fence to at (fault_of c.fence.result) _ _ _
-    (Applies-same (new_value device_word (log_copied c.args.copy.now)) (new_values to at image) None _ _ it.gives (c.in_ok-overwrite.ensures.overwrites t size same _ refl it.es it.are it.within)) (c.fence.ensures.state t)
+    (AppliesEntries-same (new_value device_word (log_copied c.args.copy.now)) (new_values to at image) None _ _ it.gives (c.in_ok-overwrite.ensures.overwrites t size same _ refl it.es it.are it.within)) (c.fence.ensures.state t)
 
 pub returns-clause-again : goal.returns-clause-again
 returns-clause-again g c = λ t size same to at es r placed d. replays_again to size at es (fault_of c.fence.result) _ _ r d (returns-clause-replays g c t size same to at es r placed).changes

@@ -5,7 +5,7 @@ use Rattle.pm_model.specs.Moments.{State}
 use Rattle.pm_model.specs.Counts.{fault_of}
 use Rattle.pm_model.proofs.Reading.{Changes-read}
 use Rattle.log_replay.specs.Replaying.{address_map_of, new_values, IsPlacedCopy, IsReplayable, HasDurableLog, Replays, ReplaysAgain}
-use Rattle.log_replay.proofs.Applying.{Applies-failed_still, size_then}
+use Rattle.log_replay.proofs.Applying.{AppliesEntries-failed_still, size_then}
 use Rattle.log_replay.proofs.Whole.{Replays-failed, replays_again}
 use Rattle.log_replay.proofs.replay_range.Goals as goal
 
@@ -13,7 +13,7 @@ pub returns-in_err-copy-clause-replays : goal.returns-in_err-copy-clause-replays
 returns-in_err-copy-clause-replays g c =
     let p = err_from_is_err_and c.from_residual.result c.from_residual.ensures.1 in
     rw (p.1, p.2) (λ t size same es r.
-    Replays-failed c.args.to c.args.log_at _ _ _ (Applies-failed_still (new_values c.args.to c.args.log_at (reads (g.H.Host.state c.args.h.now).now.words)) _ _ _ (Changes-read c.in_err-copy.ensures.only_reads t)))
+    Replays-failed c.args.to c.args.log_at _ _ _ (AppliesEntries-failed_still (new_values c.args.to c.args.log_at (reads (g.H.Host.state c.args.h.now).now.words)) _ _ _ (Changes-read c.in_err-copy.ensures.only_reads t)))
 
 pub returns-in_err-copy-clause-again : goal.returns-in_err-copy-clause-again
 returns-in_err-copy-clause-again g c = λ t size same es r d.

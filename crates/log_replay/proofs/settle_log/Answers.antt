@@ -6,7 +6,7 @@ use Rattle.pm_model.specs.Changes.{Leaves, Silently}
 use Rattle.pm_model.specs.Counts.{fault_of}
 use Rattle.pm_model.proofs.Reading.{Changes-read}
 use Rattle.log_replay.specs.Replaying.{address_map_of, new_values, IsPlacedCopy, IsReplayable, HasDurableLog, IsSettling, SettlesLog}
-use Rattle.log_replay.proofs.Applying.{Applies-failed_still, size_then}
+use Rattle.log_replay.proofs.Applying.{AppliesEntries-failed_still, size_then}
 use Rattle.log_replay.proofs.Whole.{Replays-failed, replays_again}
 use Rattle.log_replay.proofs.Closing.{SettlesLog-replay, moments-replay, moments-same}
 use Rattle.log_replay.proofs.settle_log.Goals as goal
@@ -17,7 +17,7 @@ returns-in_err-copy-clause-settles g c =
     rw (p.1, p.2) (λ t size same es r.
     SettlesLog-replay c.args.to c.args.log_at _ _ _
     (Replays-failed c.args.to c.args.log_at _ _ _
-    (Applies-failed_still (new_values c.args.to c.args.log_at (reads (g.H.Host.state c.args.h.now).now.words)) _ _ _ (Changes-read c.in_err-copy.ensures.only_reads t))))
+    (AppliesEntries-failed_still (new_values c.args.to c.args.log_at (reads (g.H.Host.state c.args.h.now).now.words)) _ _ _ (Changes-read c.in_err-copy.ensures.only_reads t))))
 
 pub returns-in_err-copy-clause-moments : goal.returns-in_err-copy-clause-moments
 returns-in_err-copy-clause-moments g c = λ t size same es r d.

@@ -1,9 +1,9 @@
 use Rattle.std.proofs.Common.{◌≡◌, ◌*◌, List, [], ◌∷◌, ◌++◌, sym, ap, ◌∙◌, arith}
 use Rattle.pud_defs.specs.Entries.{Entry}
 use Rattle.pud_defs.specs.Spaces.{space_record_at}
-use Rattle.batch.specs.Batches.{batch_entry, words_of}
+use Rattle.batch.specs.Batches.{batch_entry, word_count_of}
 use Rattle.log_space.specs.Clearing.{clearing}
-use Rattle.log_space.proofs.Cleared.{clearing-none, clearing-more, words_of-clearing}
+use Rattle.log_space.proofs.Cleared.{clearing-none, clearing-more, word_count_of-clearing}
 use Rattle.log_space.proofs.clearing.Goals as goal
 
 pub loop-client-init : goal.loop-client-init
@@ -13,7 +13,7 @@ pub loop-client-preserved : goal.loop-client-preserved
 loop-client-preserved c =
     let n = c.loop-client.client in
     let before : c.loop-client.batch ≡ clearing n = c.loop-client.invariant in
-    let counted : words_of c.loop-client.batch ≡ 3 * n = ap words_of before ∙ words_of-clearing n in
+    let counted : word_count_of c.loop-client.batch ≡ 3 * n = ap word_count_of before ∙ word_count_of-clearing n in
     let below = c.loop-client-test.true in
     let few = c.requires in
     let added = c.add-fits.ensures.added (omega arith) in

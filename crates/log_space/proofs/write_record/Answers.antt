@@ -4,7 +4,7 @@ use Rattle.pud_defs.specs.declared.layout.TheConstants.{DAEMON_LOG, LOG_ENTRY_WO
 use Rattle.pud_defs.specs.Entries.{Entry}
 use Rattle.pud_defs.specs.Spaces.{space_record_at}
 use Rattle.pm_model.specs.Masks.{masked, masked_state, IsOff}
-use Rattle.batch.specs.Batches.{batch_entry, words_of, IsFree, ByBatch, Commits}
+use Rattle.batch.specs.Batches.{batch_entry, word_count_of, IsFree, ByBatch, Commits}
 use Rattle.batch.specs.Worlds.{MovesBy, Moves}
 use Rattle.log_space.specs.Records.{record_batch}
 use Rattle.log_space.proofs.Apart.{IsFree-record}
@@ -12,9 +12,9 @@ use Rattle.log_space.proofs.write_record.Goals as goal
 
 -- the batch that was empty and got the values holds them alone
 holds : (slot : ℕ) (vals : List ℕ) (empty added : List Entry) → empty ≡ [] → length vals ≤ SPACE_RECORD_WORDS
-    → (words_of empty + (length vals + ENTRY_HEADER_WORDS) ≤ LOG_ENTRY_WORDS → added ≡ empty ++ batch_entry (space_record_at slot) vals ∷ []) → added ≡ record_batch slot vals
+    → (word_count_of empty + (length vals + ENTRY_HEADER_WORDS) ≤ LOG_ENTRY_WORDS → added ≡ empty ++ batch_entry (space_record_at slot) vals ∷ []) → added ≡ record_batch slot vals
 holds slot vals empty added none few adds =
-    let nothing : words_of empty ≡ 0 = ap words_of none in
+    let nothing : word_count_of empty ≡ 0 = ap word_count_of none in
     adds (omega arith) ∙ ap (λ (es : List Entry). es ++ batch_entry (space_record_at slot) vals ∷ []) none
 
 pub returns-clause-commits : goal.returns-clause-commits

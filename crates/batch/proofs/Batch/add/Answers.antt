@@ -3,7 +3,7 @@ use Rattle.std.proofs.lemmas.Slice.{take-put_mid}
 use borrow.Rule.Slice.PartMut.{put_mid}
 use Rattle.pud_defs.specs.declared.layout.TheConstants.{MAX_ENTRY_VALUES, LOG_ENTRY_WORDS}
 use Rattle.pud_defs.specs.Entries.{Entry, spelled}
-use Rattle.batch.specs.Batches.{batch_entry, words_of, IsBuffer}
+use Rattle.batch.specs.Batches.{batch_entry, word_count_of, IsBuffer}
 use Rattle.batch.proofs.Buffers.{HasMore, has_more}
 use Rattle.batch.proofs.Batch.add.Goals as goal
 
@@ -28,7 +28,7 @@ invariant_of-self c =
 
 pub returns-then-self-more-gt-LOG_ENTRY_WORDS-clause-too_big : goal.returns-then-self-more-gt-LOG_ENTRY_WORDS-clause-too_big
 returns-then-self-more-gt-LOG_ENTRY_WORDS-clause-too_big c =
-    let used = c.self.invariant.count ∙ ap words_of c.self.view_is in
+    let used = c.self.invariant.count ∙ ap word_count_of c.self.view_is in
     (λ _. omega arith, λ _. refl)
 
 pub returns-clause-added : goal.returns-clause-added

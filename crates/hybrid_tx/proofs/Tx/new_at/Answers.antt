@@ -4,7 +4,7 @@ use Rattle.std.proofs.lemmas.Result.{err_from_is_err_and}
 use Rattle.pm_model.specs.Words.{reads}
 use Rattle.pm_model.proofs.Reading.{Changes-read}
 use Rattle.hybrid_tx.proofs.Objects.FieldPut.{RunsOn-stopped}
-use Rattle.hybrid_tx.proofs.Objects.ObjectsMade.{new_words-length}
+use Rattle.hybrid_tx.proofs.Objects.ObjectsMade.{new_object_words-length}
 use Rattle.hybrid_tx.proofs.Objects.ObjectPut.{serial_is_next, Changes-put, MakesIn-stopped, MakesIn-new, RunsOn-new}
 use Rattle.hybrid_tx.proofs.Tx.new_at.Goals as goal
 
@@ -24,7 +24,7 @@ returns-in_err-put_object-clause-changes g c =
     let p = err_from_is_err_and c.from_residual-in_err-put_object.result c.from_residual-in_err-put_object.ensures.1 in
     let some = slice_get_within c.args.pool.now c.args.at.now.ordinal (c.args.at.now.frame, c.requires.within.puddle) c.requires.within.there in
     let head = slice_get-get_or c.args.pool.now 0 (c.args.at.now.frame, c.requires.within.puddle) (omega (arith, some)) in
-    let whole = ap length c.new_words-words.ensures ∙ new_words-length c.in_ok-serial.serial c.args.t in
+    let whole = ap length c.new_object_words-words.ensures ∙ new_object_words-length c.in_ok-serial.serial c.args.t in
     rw (p.1, p.2) (λ t. Changes-put c.args.frames c.args.pool.now _ c.args.at.now c.requires.within _ _ _ _ _ _ _ whole head (c.in_ok-serial.ensures.only_reads.stays t) (c.in_err-put_object.ensures.changes t _ head))
 
 pub returns-in_err-put_object-clause-runs : goal.returns-in_err-put_object-clause-runs
@@ -35,14 +35,14 @@ returns-in_err-put_object-clause-runs g c =
     rw (p.1, p.2) (λ t types m before graph_before now deferred placed is_open defined room root rewritten free.
     RunsOn-new c.args.frames c.args.pool.now types c.args.self.now.log before graph_before now deferred (g.H.Host.state c.args.h.now) is_open
     _ _ c.args.at.now c.in_ok-serial.serial _ c.args.t _ _ _ _ c.in_err-put_object.ensures.at (c.in_ok-serial.ensures.only_reads.stays t) head c.requires.within
-    (c.in_ok-serial.ensures.word t (reads (g.H.Host.state c.args.h.now).now.words) refl) room c.new_words-words.ensures refl (c.in_err-put_object.ensures.saves t placed _ head root rewritten)
+    (c.in_ok-serial.ensures.word t (reads (g.H.Host.state c.args.h.now).now.words) refl) room c.new_object_words-words.ensures refl (c.in_err-put_object.ensures.saves t placed _ head root rewritten)
     _ m placed c.requires.device c.requires.place free defined)
 
 pub returns-clause-changes : goal.returns-clause-changes
 returns-clause-changes g c = λ t.
     let some = slice_get_within c.args.pool.now c.args.at.now.ordinal (c.args.at.now.frame, c.requires.within.puddle) c.requires.within.there in
     let head = slice_get-get_or c.args.pool.now 0 (c.args.at.now.frame, c.requires.within.puddle) (omega (arith, some)) in
-    let whole = ap length c.new_words-words.ensures ∙ new_words-length c.in_ok-serial.serial c.args.t in
+    let whole = ap length c.new_object_words-words.ensures ∙ new_object_words-length c.in_ok-serial.serial c.args.t in
     Changes-put c.args.frames c.args.pool.now _ c.args.at.now c.requires.within _ _ _ _ _ _ _ whole head (c.in_ok-serial.ensures.only_reads.stays t) (c.in_ok-put_object.ensures.changes t _ head)
 
 pub returns-clause-runs : goal.returns-clause-runs
@@ -51,7 +51,7 @@ returns-clause-runs g c = λ t types m before graph_before now deferred placed i
     let head = slice_get-get_or c.args.pool.now 0 _ (omega (arith, some)) in
     RunsOn-new c.args.frames c.args.pool.now types c.args.self.now.log before graph_before now deferred (g.H.Host.state c.args.h.now) is_open
     _ _ c.args.at.now c.in_ok-serial.serial _ c.args.t _ _ _ _ c.in_ok-put_object.ensures.at (c.in_ok-serial.ensures.only_reads.stays t) head c.requires.within
-    (c.in_ok-serial.ensures.word t (reads (g.H.Host.state c.args.h.now).now.words) refl) room c.new_words-words.ensures refl (c.in_ok-put_object.ensures.saves t placed _ head root rewritten)
+    (c.in_ok-serial.ensures.word t (reads (g.H.Host.state c.args.h.now).now.words) refl) room c.new_object_words-words.ensures refl (c.in_ok-put_object.ensures.saves t placed _ head root rewritten)
     _ m placed c.requires.device c.requires.place free defined
 
 pub returns-clause-serial : goal.returns-clause-serial
@@ -79,7 +79,7 @@ returns-in_err-put_object-clause-makes g c =
     rw (p.1, p.2) (λ t types before graph_before now deferred placed is_open room root rewritten.
     MakesIn-new c.args.frames c.args.pool.now types c.args.self.now.log before graph_before now deferred (g.H.Host.state c.args.h.now) is_open
     _ _ c.args.at.now c.in_ok-serial.serial _ c.args.t _ _ _ _ c.in_err-put_object.ensures.at (c.in_ok-serial.ensures.only_reads.stays t) head c.requires.within
-    (c.in_ok-serial.ensures.word t (reads (g.H.Host.state c.args.h.now).now.words) refl) room c.new_words-words.ensures refl (c.in_err-put_object.ensures.saves t placed _ head root rewritten)
+    (c.in_ok-serial.ensures.word t (reads (g.H.Host.state c.args.h.now).now.words) refl) room c.new_object_words-words.ensures refl (c.in_err-put_object.ensures.saves t placed _ head root rewritten)
     (c.in_err-put_object.ensures.changes t _ head))
 
 pub returns-clause-makes : goal.returns-clause-makes
@@ -88,5 +88,5 @@ returns-clause-makes g c = λ t types before graph_before now deferred placed is
     let head = slice_get-get_or c.args.pool.now 0 _ (omega (arith, some)) in
     MakesIn-new c.args.frames c.args.pool.now types c.args.self.now.log before graph_before now deferred (g.H.Host.state c.args.h.now) is_open
     _ _ c.args.at.now c.in_ok-serial.serial _ c.args.t _ _ _ _ c.in_ok-put_object.ensures.at (c.in_ok-serial.ensures.only_reads.stays t) head c.requires.within
-    (c.in_ok-serial.ensures.word t (reads (g.H.Host.state c.args.h.now).now.words) refl) room c.new_words-words.ensures refl (c.in_ok-put_object.ensures.saves t placed _ head root rewritten)
+    (c.in_ok-serial.ensures.word t (reads (g.H.Host.state c.args.h.now).now.words) refl) room c.new_object_words-words.ensures refl (c.in_ok-put_object.ensures.saves t placed _ head root rewritten)
     (c.in_ok-put_object.ensures.changes t _ head)

@@ -8,7 +8,7 @@ use Rattle.puddle_header.specs.Places.{place_of_slot}
 use Rattle.graph_read.specs.declared.index.Index.{Index}
 use Rattle.graph_read.specs.Indexed.{IsIndexOf}
 use Rattle.graph_read.specs.Reading.{place_in_pool}
-use Rattle.known_pool.specs.Known.{Known, entries_of}
+use Rattle.known_pool.specs.Known.{Known, index_entries}
 use Rattle.known_pool.specs.Indexes.{HasReleased}
 use Rattle.known_pool.proofs.Asking.{some_entries}
 use Rattle.known_pool.proofs.KnownKept.{same_kept}
@@ -20,15 +20,15 @@ returns-clause-lets_go g c = λ t image same graph stored there known.
     let F = c.args.frames in
     let puddles : c.as_slice.result.now ≡ c.args.self.now.puddles = c.as_slice.ensures.puddles ∙ ap (λ (k : Known). k.puddles) c.self.view_is in
     let lets = subst (λ (at : List (ℕ × Puddle)). graph_of (types_of image) (stored_in F at image) ≡ Some graph → (s : ℕ) → place_in_pool F at image s ≡ Some (place_of_slot c.args.at.now)
-    → ((x : Index) → c.self.inside.index ≡ Some x → IsIndexOf F at (types_of image) image x) → HasReleased (place_in_pool F at image) graph s (option_map entries_of c.release_fields.new.index))
-    puddles (c.in_ok-release_fields.ensures.lets_go t image same graph) stored c.args.s there (λ x is. known.indexed x (ap (λ (k : Known). k.index) (sym c.self.view_is) ∙ ap (option_map entries_of) is)) in
+    → ((x : Index) → c.self.inside.index ≡ Some x → IsIndexOf F at (types_of image) image x) → HasReleased (place_in_pool F at image) graph s (option_map index_entries c.release_fields.new.index))
+    puddles (c.in_ok-release_fields.ensures.lets_go t image same graph) stored c.args.s there (λ x is. known.indexed x (ap (λ (k : Known). k.index) (sym c.self.view_is) ∙ ap (option_map index_entries) is)) in
     elim c.match-self.branch [
       | in-Some w ↦
           rw w.self-inside-is (λ x kept.
           record {
             before = w.in-Some.index;
-            left = lets.each w.in-Some.index (ap (option_map entries_of) w.in-Some.is);
-            gone = λ q. same_kept w.remove.new.self x (sym (same_Some (entries_of w.remove.new.self) (entries_of x) kept)) q ∙ w.remove.ensures q;
+            left = lets.each w.in-Some.index (ap (option_map index_entries) w.in-Some.is);
+            gone = λ q. same_kept w.remove.new.self x (sym (same_Some (index_entries w.remove.new.self) (index_entries x) kept)) q ∙ w.remove.ensures q;
           })
       | in_default w ↦ rw w.self-inside-is (λ x kept. let it = some_entries c.release_fields.new.index x kept in absurd (w.in_default.not-Some it.0 it.1.0))
     ]

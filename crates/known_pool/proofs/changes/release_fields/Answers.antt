@@ -6,7 +6,7 @@ use Rattle.pud_defs.specs.Types.{types_of, map_of}
 use Rattle.puddle_header.specs.Places.{place_of_slot}
 use Rattle.puddle_header.proofs.Placed.{slot_at_place}
 use Rattle.graph_read.proofs.Passing.{field_count-least}
-use Rattle.known_pool.specs.Known.{entries_of}
+use Rattle.known_pool.specs.Known.{index_entries}
 use Rattle.known_pool.proofs.Releasing.{LetsFirst-start, LetsFirst-more, LetsFirst-end, lets_none}
 use Rattle.known_pool.proofs.changes.release_fields.Goals as goal
 
@@ -32,7 +32,7 @@ loop-f-preserved g c = record {
       let before = still_reads c.loop-f.invariant.only_reads t same in
       let count = field_count-least c.in-Some.map in
       let below : c.loop-f.f < field_count c.in-Some.map = omega arith in
-      LetsFirst-more c.args.frames c.args.pool.now image (place_of_slot c.args.at.now) c.in-Some.map c.loop-f.f c.in_ok-value.value (option_map entries_of c.loop-f.index) (option_map entries_of c.retarget.new.index) below
+      LetsFirst-more c.args.frames c.args.pool.now image (place_of_slot c.args.at.now) c.in-Some.map c.loop-f.f c.in_ok-value.value (option_map index_entries c.loop-f.index) (option_map index_entries c.retarget.new.index) below
       (c.in_ok-value.ensures.value t image before) c.retarget.ensures.follows (c.loop-f.invariant.lets t image same type is);
 }
 
@@ -46,4 +46,4 @@ returns-clause-lets_go g c = λ t image same graph stored s there is.
     let type = ap (λ i. map_of i (types_of image)) (sym id) ∙ sym (c.in_ok-map.ensures.map t image first) ∙ c.in-Some.is in
     let count = field_count-least c.in-Some.map in
     let past : field_count c.in-Some.map ≤ c.loop-f.f = omega arith in
-    LetsFirst-end c.args.frames pool image (place_of_slot at) c.in-Some.map c.loop-f.f (option_map entries_of c.loop-f.index) past (c.loop-f.invariant.lets t image second type is) graph s stored there
+    LetsFirst-end c.args.frames pool image (place_of_slot at) c.in-Some.map c.loop-f.f (option_map index_entries c.loop-f.index) past (c.loop-f.invariant.lets t image second type is) graph s stored there

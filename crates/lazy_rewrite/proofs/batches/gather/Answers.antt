@@ -11,8 +11,8 @@ use Rattle.pud_defs.specs.Types.{types_of}
 use Rattle.pud_defs.specs.Stored.{stored_in}
 use Rattle.graph_read.proofs.Pointed.{no_puddle}
 use Rattle.graph_laws.specs.Steps.{slot_pointer}
-use Rattle.batch.specs.Batches.{batch_entry, words_of}
-use Rattle.lazy_rewrite.specs.Entries.{words_batch, IsToRewrite, new_words}
+use Rattle.batch.specs.Batches.{batch_entry, word_count_of}
+use Rattle.lazy_rewrite.specs.Entries.{words_batch, IsToRewrite, rewritten_words}
 use Rattle.lazy_rewrite.proofs.Gathered.{HasGathered, HasGathered-start, HasGathered-more, HasGathered-room, HasGathered-end, before_slot, first_below}
 use Rattle.lazy_rewrite.proofs.batches.gather.Goals as goal
 
@@ -22,8 +22,8 @@ loop-slot-init g c = record {
   from = omega (arith, c.first_slot-slot.ensures);
   gathered = λ t image same h few e here.
       let F = c.args.frames in
-      let header = words_batch (frame_at F e.0) (new_words F c.args.pool.now image c.args.ordinal c.args.from c.args.to) 0 FRAME_HEADER_WORDS in
-      let added = c.in_ok-add_header.ensures.added t image same h (omega (arith, ap words_of c.new-batch.ensures)) e here c.args.to c.requires.some ∙ ap (λ es. es ++ header) c.new-batch.ensures in
+      let header = words_batch (frame_at F e.0) (rewritten_words F c.args.pool.now image c.args.ordinal c.args.from c.args.to) 0 FRAME_HEADER_WORDS in
+      let added = c.in_ok-add_header.ensures.added t image same h (omega (arith, ap word_count_of c.new-batch.ensures)) e here c.args.to c.requires.some ∙ ap (λ es. es ++ header) c.new-batch.ensures in
       subst (λ (slot : ℕ). HasGathered F c.args.pool.now image c.args.ordinal c.args.from c.args.to slot e c.add_header.new.batch) (sym c.first_slot-slot.ensures)
       (HasGathered-start F c.args.pool.now image c.args.ordinal c.args.from c.args.to e c.add_header.new.batch added);
 }

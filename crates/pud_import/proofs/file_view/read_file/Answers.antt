@@ -1,6 +1,6 @@
 use Rattle.std.proofs.Common.{◌≡◌, true, is_some, sym, ap, ◌∙◌}
 use Rattle.pud_defs.specs.ExportFile.{file_graph}
-use Rattle.pud_import.specs.Contents.{types_counted, puddles_counted}
+use Rattle.pud_import.specs.Contents.{type_count_read, puddle_count_read}
 use Rattle.pud_import.proofs.FileParts.{file_judged, file_refused, exportable, contents_of_file}
 use Rattle.pud_import.proofs.file_view.read_file.Goals as goal
 use Rattle.pud_import.proofs.file_view.read_file.Goals.{in_default-via-in-Some+else-is_sound, in_default-via-in_default}
@@ -17,7 +17,7 @@ kept c =
 pub invariant_of-result : goal.invariant_of-result
 invariant_of-result c =
     let own = sym c.in-Some.ensures.bytes in
-    (kept c, c.in-Some.ensures.types ∙ ap types_counted own, c.in-Some.ensures.puddles ∙ ap puddles_counted own)
+    (kept c, c.in-Some.ensures.types ∙ ap type_count_read own, c.in-Some.ensures.puddles ∙ ap puddle_count_read own)
 
 pub returns-in-Some-clause-file : goal.returns-in-Some-clause-file
 returns-in-Some-clause-file c = sym (ap (λ bs. is_some (file_graph bs)) (sym c.in-Some.ensures.bytes) ∙ kept c)

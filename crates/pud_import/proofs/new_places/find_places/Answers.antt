@@ -12,9 +12,9 @@ use Rattle.pud_defs.specs.Tables.{tables_of}
 use Rattle.pud_defs.proofs.TablesOf.{frames_of_tables}
 use Rattle.registry.specs.declared.adding.NewPuddle.{NewPuddle}
 use Rattle.registry.specs.Adding.{IsAddedWithin}
-use Rattle.registry.specs.Placing.{puddle_of}
+use Rattle.registry.specs.Placing.{puddle_of_added}
 use Rattle.pud_import.specs.declared.placing.PlaceFault.TheVariants as faults
-use Rattle.pud_import.specs.Contents.{file_image, types_counted, puddles_counted}
+use Rattle.pud_import.specs.Contents.{file_image, type_count_read, puddle_count_read}
 use Rattle.pud_import.specs.Places.{IsPuddleAt}
 use Rattle.pud_import.proofs.FreeFrames.{counted_none, counted_more, counted_end, counted_all}
 use Rattle.pud_import.proofs.PlacedPuddles.{AreFound, found_none, found_more, placed_next}
@@ -32,7 +32,7 @@ loop-ordinal-init g c =
       found = subst (λ (ps : List NewPuddle). AreFound F slot next 0 0 c.new-bases.result.items ps) (sym c.new-puddles.ensures) (subst (λ (bs : List ℕ). AreFound F slot next 0 0 bs []) (sym c.new-bases.ensures) (found_none F slot next));
       only_reads = OnlyReads-none;
       counted = λ t image same. counted_none (tables_of F image).puddles F;
-      turn = λ t image same. subst (λ (ps : List NewPuddle). ArePlacedFrom (tables_of F image) 0 [] [] (map puddle_of ps)) (sym c.new-puddles.ensures) tt;
+      turn = λ t image same. subst (λ (ps : List NewPuddle). ArePlacedFrom (tables_of F image) 0 [] [] (map puddle_of_added ps)) (sym c.new-puddles.ensures) tt;
     }
 
 pub returns-in_err-frame-clause-refusal : goal.returns-in_err-frame-clause-refusal
@@ -42,7 +42,7 @@ returns-in_err-frame-clause-refusal g c =
     let at = (tables_of c.args.frames image).puddles in
     let F = c.args.frames in
     let from = c.loop-ordinal.from in
-    let K = puddles_counted c.args.view.now in
+    let K = puddle_count_read c.args.view.now in
     refused_for_space (first_free at from (F - from)) c.in_err-frame.field-0.0 (ltb F (count_used at 0 F + K)) (c.in_err-frame.ensures.refusal t image (still_reads c.loop-ordinal.invariant.only_reads t same) none)
     (λ full. counted_end at F c.loop-ordinal.ordinal from K (omega (arith, c.loop-ordinal-test.true, c.puddles-ordinal-end.ensures.counted)) (c.loop-ordinal.invariant.counted t image same) full))
 
@@ -76,27 +76,27 @@ loop-ordinal-preserved g c =
       counted = λ t image same. counted_more (tables_of F image).puddles F o from frame (now.counted t image same) (c.in_ok-frame.ensures.frame t image (still_reads now.only_reads t same));
       turn = λ t image same.
           let tables = tables_of F image in
-          let puddle = file_puddle (file_image bytes) (types_counted bytes) (puddles_counted bytes) in
+          let puddle = file_puddle (file_image bytes) (type_count_read bytes) (puddle_count_read bytes) in
           let base = λ (d : Puddle). d.base in
           let wanted = map base (map puddle (range_with_len 0 o)) in
           let longer : map base (map puddle (range_with_len 0 (o + 1))) ≡ wanted ++ old_base ∷ [] =
           ap (map base) (map-range_with_len_more puddle 0 o o (omega arith)) ∙ map-append base (map puddle (range_with_len 0 o)) (puddle o ∷ []) ∙ ap (λ (b : ℕ). wanted ++ b ∷ []) (sym c.base-old_base.ensures) in
           let read = still_reads now.only_reads t same in
           let given = subst (λ (bs : List ℕ). IsBaseFor tables bs old_base a.puddle.base) c.as_slice.ensures.value (c.in_ok-base.ensures.base t image (still_reads {fault = None} c.in_ok-frame.ensures.only_reads t read)) in
-          subst (λ (ps : List NewPuddle). ArePlacedFrom tables 0 [] (map base (map puddle (range_with_len 0 (o + 1)))) (map puddle_of ps)) (sym c.push-in-loop-ordinal.ensures.items)
-          (subst (λ (w : List ℕ). ArePlacedFrom tables 0 [] w (map puddle_of (puddles ++ a ∷ []))) (sym longer)
+          subst (λ (ps : List NewPuddle). ArePlacedFrom tables 0 [] (map base (map puddle (range_with_len 0 (o + 1)))) (map puddle_of_added ps)) (sym c.push-in-loop-ordinal.ensures.items)
+          (subst (λ (w : List ℕ). ArePlacedFrom tables 0 [] w (map puddle_of_added (puddles ++ a ∷ []))) (sym longer)
           (placed_next F slot next o from bases puddles now.found a tables wanted (frames_of_tables F image) (now.turn t image same) (c.in_ok-frame.ensures.frame t image read) given));
     }
 
 pub returns-clause-refusal : goal.returns-clause-refusal
 returns-clause-refusal g c = λ t image same none.
-    let K = puddles_counted c.args.view.now in
+    let K = puddle_count_read c.args.view.now in
     let past : K ≤ c.loop-ordinal.ordinal = omega (arith, c.loop-ordinal-test.false, c.puddles-ordinal-end.ensures.counted) in
     sym (ap (λ (b : Bool). refused_if b faults.NoSpace) (counted_all (tables_of c.args.frames image).puddles c.args.frames c.loop-ordinal.ordinal c.loop-ordinal.from K past (c.loop-ordinal.invariant.counted t image same)))
 
 pub returns-clause-turn : goal.returns-clause-turn
 returns-clause-turn g c = λ t image same.
     let bytes = c.args.view.now in
-    let puddle = file_puddle (file_image bytes) (types_counted bytes) (puddles_counted bytes) in
-    let whole : c.loop-ordinal.ordinal ≡ puddles_counted bytes = omega (arith, c.puddles-ordinal-end.ensures.counted, c.loop-ordinal-test.false, c.loop-ordinal.auto.ordinal-end) in
-    subst (λ (n : ℕ). ArePlacedFrom (tables_of c.args.frames image) 0 [] (map (λ (d : Puddle). d.base) (map puddle (range_with_len 0 n))) (map puddle_of c.loop-ordinal.puddles.items)) whole (c.loop-ordinal.invariant.turn t image same)
+    let puddle = file_puddle (file_image bytes) (type_count_read bytes) (puddle_count_read bytes) in
+    let whole : c.loop-ordinal.ordinal ≡ puddle_count_read bytes = omega (arith, c.puddles-ordinal-end.ensures.counted, c.loop-ordinal-test.false, c.loop-ordinal.auto.ordinal-end) in
+    subst (λ (n : ℕ). ArePlacedFrom (tables_of c.args.frames image) 0 [] (map (λ (d : Puddle). d.base) (map puddle (range_with_len 0 n))) (map puddle_of_added c.loop-ordinal.puddles.items)) whole (c.loop-ordinal.invariant.turn t image same)

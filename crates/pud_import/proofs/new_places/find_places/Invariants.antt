@@ -6,8 +6,8 @@ use Rattle.pud_defs.specs.ExportFile.{file_puddle}
 use Rattle.pud_defs.specs.Image.{Image}
 use Rattle.pud_defs.specs.Placement.{ArePlacedFrom}
 use Rattle.pud_defs.specs.Tables.{tables_of}
-use Rattle.registry.specs.Placing.{puddle_of}
-use Rattle.pud_import.specs.Contents.{file_image, types_counted, puddles_counted}
+use Rattle.registry.specs.Placing.{puddle_of_added}
+use Rattle.pud_import.specs.Contents.{file_image, type_count_read, puddle_count_read}
 use Rattle.pud_import.proofs.FreeFrames.{HasCounted}
 use Rattle.pud_import.proofs.PlacedPuddles.{AreFound}
 use Rattle.pud_import.proofs.new_places.find_places.Given as goal
@@ -20,5 +20,5 @@ invariant-loop-ordinal g l = record {
   only_reads : OnlyReads g.H.Host.tells g.H.Host.state g.H.Host.counts None l.initial.h l.h;
   counted : g.H.Host.tells → (image : Image) → reads (g.H.Host.state l.initial.h).now.words ≡ image → HasCounted (tables_of l.frames image).puddles l.frames l.ordinal l.from;
   turn : g.H.Host.tells → (image : Image) → reads (g.H.Host.state l.initial.h).now.words ≡ image
-      → ArePlacedFrom (tables_of l.frames image) 0 [] (map (λ d. d.base) (map (file_puddle (file_image l.view) (types_counted l.view) (puddles_counted l.view)) (range_with_len 0 l.ordinal))) (map puddle_of l.puddles.items);
+      → ArePlacedFrom (tables_of l.frames image) 0 [] (map (λ d. d.base) (map (file_puddle (file_image l.view) (type_count_read l.view) (puddle_count_read l.view)) (range_with_len 0 l.ordinal))) (map puddle_of_added l.puddles.items);
 }

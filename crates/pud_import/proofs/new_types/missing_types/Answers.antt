@@ -5,7 +5,7 @@ use Rattle.pud_defs.specs.ExportFile.{file_types}
 use Rattle.pud_defs.specs.Imports.{types_missing}
 use Rattle.pud_defs.specs.Step.{is_clash, clashes_with}
 use Rattle.pud_defs.specs.Types.{map_of, types_of}
-use Rattle.pud_import.specs.Contents.{file_image, types_counted, types_held}
+use Rattle.pud_import.specs.Contents.{file_image, type_count_read, types_held}
 use Rattle.pud_import.specs.declared.placing.PlaceFault.TheVariants as faults
 use Rattle.pud_import.proofs.Refusals.{refused_if, refused_with, not_refused}
 use Rattle.pud_import.proofs.TypesMissing.{missing_more, missing_same, clashes_same, clash_there}
@@ -24,7 +24,7 @@ returns-in_err-is_missing-clause-refusal g c =
     let counted = c.types-i-end.ensures.counted in
     refused_with (is_clash types c.type_at-id.result.0 c.type_at-id.result.1) (clashes_with types (types_held bytes)) faults.Clash c.in_err-is_missing.field-0.0
     (c.in_err-is_missing.ensures.refusal t image (still_reads c.loop-i.invariant.only_reads t same) none)
-    (λ clash. clash_there types (file_image bytes) i (types_counted bytes) (omega (arith, below, counted)) (ap (λ (t : ℕ × ℕ). is_clash types t.0 t.1) (sym found) ∙ clash)))
+    (λ clash. clash_there types (file_image bytes) i (type_count_read bytes) (omega (arith, below, counted)) (ap (λ (t : ℕ × ℕ). is_clash types t.0 t.1) (sym found) ∙ clash)))
 
 pub loop-i-preserved : goal.loop-i-preserved
 loop-i-preserved g c =
@@ -57,10 +57,10 @@ loop-i-preserved g c =
 
 pub returns-clause-missing : goal.returns-clause-missing
 returns-clause-missing g c = λ t image same.
-    let whole : c.loop-i.i ≡ types_counted c.args.view.now = omega (arith, c.types-i-end.ensures.counted, c.loop-i-test.false, c.loop-i.auto.i-end) in
+    let whole : c.loop-i.i ≡ type_count_read c.args.view.now = omega (arith, c.types-i-end.ensures.counted, c.loop-i-test.false, c.loop-i.auto.i-end) in
     c.loop-i.invariant.missing t image same ∙ ap (λ (n : ℕ). types_missing (types_of image) (file_types (file_image c.args.view.now) n)) whole
 
 pub returns-clause-refusal : goal.returns-clause-refusal
 returns-clause-refusal g c = λ t image same none.
-    let whole : c.loop-i.i ≡ types_counted c.args.view.now = omega (arith, c.types-i-end.ensures.counted, c.loop-i-test.false, c.loop-i.auto.i-end) in
+    let whole : c.loop-i.i ≡ type_count_read c.args.view.now = omega (arith, c.types-i-end.ensures.counted, c.loop-i-test.false, c.loop-i.auto.i-end) in
     sym (ap (λ (b : Bool). refused_if b faults.Clash) (ap (λ (n : ℕ). clashes_with (types_of image) (file_types (file_image c.args.view.now) n)) (sym whole) ∙ c.loop-i.invariant.agree t image same))

@@ -5,7 +5,7 @@ use Rattle.pud_defs.specs.Placement.{ArePlacedFrom, ArePlaced}
 use Rattle.pud_defs.specs.Tables.{tables_of}
 use Rattle.registry.specs.declared.adding.NewPuddle.{NewPuddle}
 use Rattle.registry.specs.Adding.{IsAddedWithin}
-use Rattle.registry.specs.Placing.{puddle_of}
+use Rattle.registry.specs.Placing.{puddle_of_added}
 use Rattle.pud_import.specs.Contents.{stored_held}
 use Rattle.pud_import.specs.Places.{at_frontier, AreMembers}
 use Rattle.pud_import.proofs.PlacedPuddles.{placed_whole, members_at, within_at}
@@ -17,9 +17,9 @@ returns-clause-placed g c = λ t image same.
     let wanted = map (λ d. d.base) (stored_held c.args.view.now).puddles in
     let found = c.as_slice-puddles.result.now in
     let back = sym c.as_slice-puddles.ensures.value in
-    subst (λ (ps : List NewPuddle). ArePlaced tables c.args.number wanted (map puddle_of ps)) (sym (c.with_frontier.ensures ∙ ap (λ (f : ℕ). map (at_frontier f) found) c.frontier_for.ensures))
+    subst (λ (ps : List NewPuddle). ArePlaced tables c.args.number wanted (map puddle_of_added ps)) (sym (c.with_frontier.ensures ∙ ap (λ (f : ℕ). map (at_frontier f) found) c.frontier_for.ensures))
     (placed_whole tables c.args.slot c.args.number wanted found (subst (AreMembers c.args.slot c.args.number) back c.in_ok-found.ensures.members)
-    (subst (λ (ps : List NewPuddle). ArePlacedFrom tables 0 [] wanted (map puddle_of ps)) back (c.in_ok-found.ensures.turn t image same)))
+    (subst (λ (ps : List NewPuddle). ArePlacedFrom tables 0 [] wanted (map puddle_of_added ps)) back (c.in_ok-found.ensures.turn t image same)))
 
 pub returns-clause-members : goal.returns-clause-members
 returns-clause-members g c =

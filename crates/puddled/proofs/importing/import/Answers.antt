@@ -4,7 +4,7 @@ use Rattle.std.proofs.lemmas.Result.{err_from_is_err_and}
 use Rattle.pm_model.proofs.Reading.{still_size}
 use Rattle.pm_model.specs.Moments.{State}
 use Rattle.pud_defs.specs.declared.machine.Reply.TheVariants as replies
-use Rattle.puddled.specs.Importing.{MayName}
+use Rattle.puddled.specs.Importing.{MayMakeNamed}
 use Rattle.pud_defs.specs.declared.machine.Command.TheVariants.{Import}
 use Rattle.puddled.proofs.Commanding.{ready_read, CarriesOut-refused, CarriesOut-unread}
 use Rattle.puddled.proofs.ImportLines.{import_is_plain, CarriesOut-behind}
@@ -28,7 +28,7 @@ pub returns-clause-carries : goal.returns-clause-carries
 returns-clause-carries g c = λ t size e w memory frames ready legal.
     let k = c.in_ok-refusal.ensures in
     let found = k.maker t size w memory ready in
-    let may : MayName w c.args.client c.args.name c.in-Ok.who.uid c.in-Ok.who.gid = rw c.in-Ok.is at found in
+    let may : MayMakeNamed w c.args.client c.args.name c.in-Ok.who.uid c.in-Ok.who.gid = rw c.in-Ok.is at found in
     CarriesOut-behind size w memory (Import c.args.client c.args.name c.args.file c.args.mode) c.place_file.result _ _ _ _ _ _ (k.only_reads.stays t) k.only_reads.cause ready
     (λ then. c.place_file.ensures.carries t size (still_size k.only_reads e) w memory frames then c.args.client legal may)
 
@@ -37,6 +37,6 @@ returns-clause-unchanged g c = λ t size w memory frames ready.
     let k = c.in_ok-refusal.ensures in
     let same = k.only_reads.stays t in
     let found = k.maker t size w memory ready in
-    let may : MayName w c.args.client c.args.name c.in-Ok.who.uid c.in-Ok.who.gid = rw c.in-Ok.is at found in
+    let may : MayMakeNamed w c.args.client c.args.name c.in-Ok.who.uid c.in-Ok.who.gid = rw c.in-Ok.is at found in
     subst (λ (s : State). IfOk c.place_file.result (λ reply. reply ≢ replies.Ok → g.H.Host.state c.place_file.new.h ≡ s)) same
     (c.place_file.ensures.unchanged t size w memory frames (ready_read size w memory _ _ same ready) c.args.client may)

@@ -8,7 +8,7 @@ use Rattle.pud_defs.specs.Tables.{tables_of}
 use Rattle.pud_defs.specs.Allowed.{puddle_word}
 use Rattle.puddle_space.specs.Nearby.{IsNearby}
 use Rattle.log_entry.specs.Reading.{entries_left}
-use Rattle.log_entry.specs.Copying.{image_of, log_copied}
+use Rattle.log_entry.specs.Copying.{image_of_copy, log_copied}
 use Rattle.log_entry.proofs.Left.{IsReading}
 use Rattle.log_entry.proofs.Readdressed.{ReaddressesSoFar}
 use Rattle.log_replay.specs.Placing.{placed_entry}
@@ -20,14 +20,14 @@ abbrev pub invariant-loop-entry : goal.invariant-loop-entry
 invariant-loop-entry g l = record {
   reading : IsReading 0 l.reader;
   passed : l.passed ≡ l.reader.passed;
-  gate : image_of l.copy 0 ≡ image_of l.initial.copy 0;
+  gate : image_of_copy l.copy 0 ≡ image_of_copy l.initial.copy 0;
   only_reads : OnlyReads g.H.Host.tells g.H.Host.state g.H.Host.counts None l.initial.h l.h;
   nearby : g.H.Host.tells → (image : Image) → reads (g.H.Host.state l.initial.h).now.words ≡ image → IsNearby (tables_of l.frames image) l.nearby;
   marks : g.H.Host.tells → (image : Image) → reads (g.H.Host.state l.initial.h).now.words ≡ image
-      → mark_left (tables_of l.frames image) (owner_by_record l.who) (log_copied l.initial.copy) l.mark (entries_left (image_of l.copy) l.reader)
+      → mark_left (tables_of l.frames image) (owner_by_record l.who) (log_copied l.initial.copy) l.mark (entries_left (image_of_copy l.copy) l.reader)
       ≡ mark_for (tables_of l.frames image) (owner_by_record l.who) (log_copied l.initial.copy);
   so_far : g.H.Host.tells → (image : Image) → reads (g.H.Host.state l.initial.h).now.words ≡ image → (es : List Entry) → (log_copied l.initial.copy).entries ≡ Some es
-      → ReaddressesSoFar (placed_entry (puddle_word (tables_of l.frames image)) (log_copied l.initial.copy)) (image_of l.copy) l.reader es;
+      → ReaddressesSoFar (placed_entry (puddle_word (tables_of l.frames image)) (log_copied l.initial.copy)) (image_of_copy l.copy) l.reader es;
 }
 
 abbrev pub decreases-loop-entry : goal.decreases-loop-entry

@@ -3,7 +3,7 @@ use Rattle.pud_defs.specs.declared.layout.TheConstants.{NEXT_NUMBER_WORD}
 use Rattle.pud_defs.specs.Image.{Image}
 use Rattle.pud_defs.specs.Tables.{tables_of}
 use Rattle.registry.specs.Adding.{IsNewPuddle}
-use Rattle.registry.specs.Growth.{has_room}
+use Rattle.registry.specs.Growth.{has_room_to_grow}
 use Rattle.registry.proofs.Placed.{refused_full, refused_space, not_refused}
 use Rattle.pm_model.proofs.Reading.{still_reads}
 use Rattle.registry.proofs.growing.find_growth.Goals as goal
@@ -26,7 +26,7 @@ returns-in-Ok-clause-growth g c = λ t image same.
     let number = c.in_ok-number.ensures.value t ∙ ap (λ (i : Image). i NEXT_NUMBER_WORD) same in
     record {
       puddle = subst (λ (n : ℕ). IsNewPuddle (tables_of c.args.frames image) c.args.slot c.args.puddles n c.in-Ok.added) number (c.in-Ok.ensures.place t image read);
-      room = ap (has_room c.args.puddles) (sym number) ∙ sym c.if-not-has_room.ensures;
+      room = ap (has_room_to_grow c.args.puddles) (sym number) ∙ sym c.if-not-has_room.ensures;
     }
 
 pub returns-in-Err-NoSpace-clause-refusal : goal.returns-in-Err-NoSpace-clause-refusal

@@ -3,7 +3,7 @@ use Rattle.std.specs.Prelude.{option_map}
 use Rattle.pud_defs.specs.declared.layout.TheConstants.{DAEMON_LOG, MAX_FRAMES}
 use Rattle.pud_defs.specs.Replay.{settled_by}
 use Rattle.pud_defs.specs.Tables.{tables_of}
-use Rattle.soundness.specs.Distinct.{number_of, with_number}
+use Rattle.soundness.specs.Distinct.{key_of, with_number}
 use Rattle.soundness.proofs.Numbers.{no_numbers, more_numbers}
 use Rattle.soundness.proofs.Marks.{decided}
 use Rattle.pm_model.proofs.Reading.{OnlyReads-none, OnlyReads-then, still_reads}
@@ -29,11 +29,11 @@ loop-done-preserved g c = record {
       let number = c.in_ok-number.ensures.number t image before over c.args.frames (omega arith) in
       c.put-left.ensures.numbers
       ∙ ap₂ with_number number (c.loop-done.invariant.list t image same over)
-      ∙ more_numbers (λ frame. option_map (number_of c.args.key) ((tables_of c.args.frames (settled_by DAEMON_LOG image)).puddles frame)) c.args.frames c.loop-done.done (omega arith);
+      ∙ more_numbers (λ frame. option_map (key_of c.args.key) ((tables_of c.args.frames (settled_by DAEMON_LOG image)).puddles frame)) c.args.frames c.loop-done.done (omega arith);
 }
 
 pub returns-clause-distinct : goal.returns-clause-distinct
 returns-clause-distinct g c = λ t image same over.
     let rest : List ℕ = drop c.loop-done.left c.loop-done.numbers in
     let whole = take_all (MAX_FRAMES - c.loop-done.left) rest (omega (arith, length-drop c.loop-done.left c.loop-done.numbers)) in
-    decided (number_of c.args.key) c.args.frames (settled_by DAEMON_LOG image) c.are_distinct.result _ c.loop-done.done (omega arith) (omega arith) (whole ∙ c.loop-done.invariant.list t image same over) c.are_distinct.ensures
+    decided (key_of c.args.key) c.args.frames (settled_by DAEMON_LOG image) c.are_distinct.result _ c.loop-done.done (omega arith) (omega arith) (whole ∙ c.loop-done.invariant.list t image same over) c.are_distinct.ensures

@@ -6,7 +6,7 @@ use Rattle.pud_defs.specs.Image.{Image}
 use Rattle.pud_defs.specs.Replay.{settled_by}
 use Rattle.pud_defs.specs.Tables.{tables_of}
 use Rattle.soundness.specs.Overlaying.{IsOverlay}
-use Rattle.soundness.specs.Distinct.{number_of}
+use Rattle.soundness.specs.Distinct.{key_of}
 use Rattle.soundness.proofs.Numbers.{numbers_from}
 use Rattle.pm_model.specs.Reads.{OnlyReads}
 use Rattle.soundness.proofs.distinct.has_distinct_numbers.Given as goal
@@ -18,5 +18,5 @@ invariant-loop-done g l = record {
   room : MAX_FRAMES ≤ l.left + l.done;
   only_reads : OnlyReads g.H.Host.tells g.H.Host.state g.H.Host.counts None l.initial.h l.h;
   list : g.H.Host.tells → (image : Image) → reads (g.H.Host.state l.initial.h).now.words ≡ image → IsOverlay l.overlay image
-      → drop l.left l.numbers ≡ numbers_from (λ frame. option_map (number_of l.key) ((tables_of l.frames (settled_by DAEMON_LOG image)).puddles frame)) (l.frames - l.done) l.done;
+      → drop l.left l.numbers ≡ numbers_from (λ frame. option_map (key_of l.key) ((tables_of l.frames (settled_by DAEMON_LOG image)).puddles frame)) (l.frames - l.done) l.done;
 }

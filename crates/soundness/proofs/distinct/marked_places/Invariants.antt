@@ -8,7 +8,7 @@ use Rattle.pud_defs.specs.Replay.{settled_by}
 use Rattle.pud_defs.specs.Tables.{tables_of}
 use Rattle.soundness.specs.declared.distinct.TheConstants.{PLACES}
 use Rattle.soundness.specs.Overlaying.{IsOverlay}
-use Rattle.soundness.specs.Distinct.{mark_index, by_number, IsMarked}
+use Rattle.soundness.specs.Distinct.{mark_index, by_key, IsMarked}
 use Rattle.pm_model.specs.Reads.{OnlyReads}
 use Rattle.soundness.proofs.distinct.marked_places.Given as goal
 
@@ -19,5 +19,5 @@ invariant-loop-done g l = record {
   marked : g.H.Host.tells → (image : Image) → reads (g.H.Host.state l.initial.h).now.words ≡ image → IsOverlay l.overlay image
       → IsMarked (tables_of l.frames (settled_by DAEMON_LOG image)) (l.frames - l.done) l.done l.marks;
   apart : g.H.Host.tells → (image : Image) → reads (g.H.Host.state l.initial.h).now.words ≡ image → IsOverlay l.overlay image
-      → are_distinct nat_cmp (by_number mark_index (tables_of l.frames (settled_by DAEMON_LOG image))) (l.frames - l.done) l.done ≡ true;
+      → are_distinct nat_cmp (by_key mark_index (tables_of l.frames (settled_by DAEMON_LOG image))) (l.frames - l.done) l.done ≡ true;
 }

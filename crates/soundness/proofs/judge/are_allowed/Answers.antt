@@ -1,8 +1,8 @@
 use Rattle.std.proofs.Common.{◌&&◌, Bool, false, sym, ap, ◌∙◌}
 use Rattle.std.specs.List.{list_all}
 use Rattle.std.proofs.lemmas.Bool.{and_left}
-use Rattle.pud_defs.specs.Registry.{is_allowed}
-use Rattle.log_entry.specs.Copying.{image_of, log_copied}
+use Rattle.pud_defs.specs.Registry.{is_loggable}
+use Rattle.log_entry.specs.Copying.{image_of_copy, log_copied}
 use Rattle.log_entry.proofs.Left.{IsReading-start, IsReading-more, MakesWhole-start, MakesWhole-more, MakesWhole-decided, MakesWhole-end}
 use Rattle.soundness.proofs.judge.are_allowed.Goals as goal
 
@@ -10,29 +10,29 @@ pub loop-entry-init : goal.loop-entry-init
 loop-entry-init c = record {
   reading = IsReading-start 0 c.new-reader.result c.new-reader.ensures;
   allowed = λ es are.
-      MakesWhole-start {A = Unit {0}} (λ _. list_all (is_allowed c.args.frames (log_copied c.args.overlay.now.log))) (image_of c.args.overlay.now.log) 0 c.new-reader.result tt es c.new-reader.ensures are;
+      MakesWhole-start {A = Unit {0}} (λ _. list_all (is_loggable c.args.frames (log_copied c.args.overlay.now.log))) (image_of_copy c.args.overlay.now.log) 0 c.new-reader.result tt es c.new-reader.ensures are;
 }
 
 pub loop-entry-preserved : goal.loop-entry-preserved
 loop-entry-preserved c =
     let old = c.loop-entry.invariant in
-    let all = list_all (is_allowed c.args.frames (log_copied c.args.overlay.now.log)) in
+    let all = list_all (is_loggable c.args.frames (log_copied c.args.overlay.now.log)) in
     let here = sym c.is_allowed.ensures ∙ c.if-not-is_allowed.false in
     record {
       reading = IsReading-more 0 _ c.in-Some.entry _ _ old.reading c.in-Some.is c.next.ensures.passes;
       allowed = λ es are.
-          MakesWhole-more {A = Unit {0}} (λ _. all) (image_of c.args.overlay.now.log) _ c.in-Some.entry _ _ tt tt _ (old.allowed es are) c.in-Some.is c.next.ensures.left
+          MakesWhole-more {A = Unit {0}} (λ _. all) (image_of_copy c.args.overlay.now.log) _ c.in-Some.entry _ _ tt tt _ (old.allowed es are) c.in-Some.is c.next.ensures.left
           (λ behind. sym (ap (λ (b : Bool). b && all behind) here));
     }
 
 pub returns-then-not-is_allowed : goal.returns-then-not-is_allowed
 returns-then-not-is_allowed c = λ es are.
-    let all = list_all (is_allowed c.args.frames (log_copied c.args.overlay.now.log)) in
+    let all = list_all (is_loggable c.args.frames (log_copied c.args.overlay.now.log)) in
     let here = sym c.is_allowed.ensures ∙ c.if-not-is_allowed.true in
-    MakesWhole-decided {A = Unit {0}} (λ _. all) (image_of c.args.overlay.now.log) _ c.in-Some.entry _ _ tt _ false (c.loop-entry.invariant.allowed es are) c.in-Some.is c.next.ensures.left
+    MakesWhole-decided {A = Unit {0}} (λ _. all) (image_of_copy c.args.overlay.now.log) _ c.in-Some.entry _ _ tt _ false (c.loop-entry.invariant.allowed es are) c.in-Some.is c.next.ensures.left
     (λ behind. and_left _ (all behind) here)
 
 pub returns : goal.returns
 returns c = λ es are.
-    MakesWhole-end {A = Unit {0}} (λ _. list_all (is_allowed c.args.frames (log_copied c.args.overlay.now.log))) (image_of c.args.overlay.now.log) _ _ _ tt _ (c.loop-entry.invariant.allowed es are)
+    MakesWhole-end {A = Unit {0}} (λ _. list_all (is_loggable c.args.frames (log_copied c.args.overlay.now.log))) (image_of_copy c.args.overlay.now.log) _ _ _ tt _ (c.loop-entry.invariant.allowed es are)
     c.in_default.is c.next.ensures.left

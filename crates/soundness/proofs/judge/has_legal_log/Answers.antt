@@ -2,7 +2,7 @@ use Rattle.std.proofs.Common.{ℕ, sym, ap, ap₂, ◌∙◌}
 use Rattle.std.specs.Prelude.{is_some}
 use Rattle.std.specs.List.{list_all}
 use Rattle.pud_defs.specs.Entries.{Log}
-use Rattle.pud_defs.specs.Registry.{is_allowed}
+use Rattle.pud_defs.specs.Registry.{is_loggable}
 use Rattle.soundness.proofs.Judged.{not_legal, is_well_formed}
 use Rattle.soundness.proofs.judge.has_legal_log.Goals as goal
 
@@ -16,5 +16,5 @@ returns c = λ image same frames.
     let answer = c.is_well_formed.ensures ∙ ap (λ (l : Log). is_some l.entries) same in
     let formed = is_well_formed image (sym answer ∙ c.if-not-is_well_formed.false) in
     c.are_allowed.ensures formed.entries (ap (λ (l : Log). l.entries) same ∙ formed.are)
-    ∙ ap₂ (λ (F : ℕ) (log : Log). list_all (is_allowed F log) formed.entries) frames same
+    ∙ ap₂ (λ (F : ℕ) (log : Log). list_all (is_loggable F log) formed.entries) frames same
     ∙ formed.legal

@@ -1,7 +1,7 @@
 use Rattle.std.proofs.Common.{◌≡◌, ◌+◌, ◌-◌, sym, ap, ◌∙◌, arith}
 use borrow.Rule.Slice.PartMut.{mid_of}
 use Rattle.pud_defs.specs.Entries.{words_from}
-use Rattle.log_entry.specs.Copying.{Copied, image_of}
+use Rattle.log_entry.specs.Copying.{Copied, image_of_copy}
 use Rattle.log_entry.proofs.Copies.{copied_words}
 use Rattle.log_entry.proofs.copy.LogCopy.values.Goals as goal
 
@@ -14,4 +14,4 @@ returns c =
     let count : entry.at - 8 + entry.n - (entry.at - 8) ≡ entry.n = omega arith in
     ap (λ (n : _). mid_of (entry.at - 8) n copied.words) count
     ∙ sym (copied_words copied entry.at entry.n (omega arith) (omega (arith, c.self.invariant)))
-    ∙ ap (λ (x : Copied). words_from (image_of x) entry.at entry.n) c.self.view_is
+    ∙ ap (λ (x : Copied). words_from (image_of_copy x) entry.at entry.n) c.self.view_is

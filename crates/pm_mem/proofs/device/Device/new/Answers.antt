@@ -1,6 +1,6 @@
 use Rattle.std.proofs.Common.{◌∙◌, ℕ, Vec, sym, ap}
 use Rattle.std.specs.declared.alloc.Global.{Global}
-use Rattle.pm_mem.proofs.Followed.{AreOf-start, AreSingle-start, said-start, fresh-start}
+use Rattle.pm_mem.proofs.Followed.{AreOf-start, AreSingle-start, said-start, fresh_state-start}
 use Rattle.pm_mem.proofs.device.Device.new.Goals as goal
 
 pub invariant_of-result-clause-follows : goal.invariant_of-result-clause-follows
@@ -15,4 +15,4 @@ pub invariant_of-result-clause-single : goal.invariant_of-result-clause-single
 invariant_of-result-clause-single c = λ _. AreSingle-start _ _ c.in_ok-with_capacity-2.ensures.items
 
 pub returns-clause-state : goal.returns-clause-state
-returns-clause-state c = fresh-start _ _ c.in_ok-with_capacity-2.ensures.items c.in_ok-zeroes.ensures.zero
+returns-clause-state c = fresh_state-start _ _ c.in_ok-with_capacity-2.ensures.items c.in_ok-zeroes.ensures.zero

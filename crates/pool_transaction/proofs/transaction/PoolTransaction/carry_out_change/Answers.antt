@@ -8,7 +8,7 @@ use Rattle.pud_defs.specs.Step.Answer.{of_reply}
 use Rattle.known_pool.specs.Known.{Known, with_puddles}
 use Rattle.ready_daemon.specs.Memory.{Memory}
 use Rattle.pool_transaction.specs.declared.changing.Change.{Change}
-use Rattle.pool_transaction.specs.Changing.{IsActiveIn, with_known, with_opened, line_of}
+use Rattle.pool_transaction.specs.Changing.{IsActiveIn, with_known, with_opened, command_of_change}
 use Rattle.pool_transaction.specs.Finishing.{Finishes, FinishesTaken, FinishesUnless, AppliesFinishing}
 use Rattle.pool_transaction.proofs.ActiveAlone.{memory_alone, active_alone, ready_alone, opened_alone}
 use Rattle.pool_transaction.proofs.transaction.PoolTransaction.carry_out_change.Goals as goal
@@ -18,7 +18,7 @@ returns-in-New-clause-reply g c = λ t size e w memory its ready.
     let active = c.args.self.now in
     let known = c.args.pool.now in
     let puddles : c.pool.inside.puddles ≡ known.puddles = ap (λ (k : Known). k.puddles) (c.pool.view_is ∙ c.forget.ensures) in
-    subst (λ (change : Change). IfOk c.new_object.result (λ reply. of_reply reply ≡ answer_by w (Some (line_of change active.client active.name)))) (sym c.in-New.is)
+    subst (λ (change : Change). IfOk c.new_object.result (λ reply. of_reply reply ≡ answer_by w (Some (command_of_change change active.client active.name)))) (sym c.in-New.is)
     (c.new_object.ensures.reply t size e w (memory_alone active.slot known.puddles memory)
     (subst (λ (ps : List (ℕ × Puddle)). IsActiveIn c.args.frames active ps (memory_alone active.slot known.puddles memory)) (sym puddles) (active_alone c.args.frames active known memory its))
     (ready_alone c.args.frames active known memory its size w (g.H.Host.state c.args.h.now) ready))
@@ -39,21 +39,21 @@ returns-in-New-clause-applies g c = λ t size e w memory its ready.
     let made = c.new_object.ensures.applies t size e w behind alone (ready_alone c.args.frames active known memory its size w old ready) in
     let on = subst (λ (ps : List (ℕ × Puddle)). AppliesFinishing active.slot (FinishesUnless (refusal_of w line) (FinishesTaken c.args.frames ps (reads old.now.words))) size w (world_by w (Some line))
     (with_opened active.log_number active.slot now later behind) (fault_of c.new_object.result) old new) puddles made in
-    let asked = line_of c.args.change active.client active.name in
-    let by_change = subst (λ (change : Change). AppliesFinishing active.slot (FinishesUnless (refusal_of w (line_of change active.client active.name)) (Finishes c.args.frames known.puddles (reads old.now.words) change)) size w
-    (world_by w (Some (line_of change active.client active.name))) (with_opened active.log_number active.slot now later behind) (fault_of c.new_object.result) old new) (sym c.in-New.is) on in
+    let asked = command_of_change c.args.change active.client active.name in
+    let by_change = subst (λ (change : Change). AppliesFinishing active.slot (FinishesUnless (refusal_of w (command_of_change change active.client active.name)) (Finishes c.args.frames known.puddles (reads old.now.words) change)) size w
+    (world_by w (Some (command_of_change change active.client active.name))) (with_opened active.log_number active.slot now later behind) (fault_of c.new_object.result) old new) (sym c.in-New.is) on in
     subst (λ (m : Memory). AppliesFinishing active.slot (FinishesUnless (refusal_of w asked) (Finishes c.args.frames known.puddles (reads old.now.words) c.args.change)) size w (world_by w (Some asked)) m (fault_of c.new_object.result) old new)
     (opened_alone active.log_number active.slot now known.puddles later memory ∙ ap (λ (k : Known). with_known active.log_number active.slot now k memory) (sym (ap (with_puddles later) view))) by_change
 
 pub returns-in-Update-clause-reply : goal.returns-in-Update-clause-reply
 returns-in-Update-clause-reply g c = λ t size e w memory its ready.
-    subst (λ (change : Change). IfOk c.update_or_refuse.result (λ reply. of_reply reply ≡ answer_by w (Some (line_of change c.args.self.now.client c.args.self.now.name)))) (sym c.in-Update.is)
+    subst (λ (change : Change). IfOk c.update_or_refuse.result (λ reply. of_reply reply ≡ answer_by w (Some (command_of_change change c.args.self.now.client c.args.self.now.name)))) (sym c.in-Update.is)
     (c.update_or_refuse.ensures.reply t size w memory its ready)
 
 pub returns-in-Update-clause-applies : goal.returns-in-Update-clause-applies
 returns-in-Update-clause-applies g c = λ t size e w memory its ready.
     let active = c.args.self.now in
-    subst (λ (change : Change). AppliesFinishing active.slot (FinishesUnless (refusal_of w (line_of change active.client active.name)) (Finishes c.args.frames c.args.pool.now.puddles (reads (g.H.Host.state c.args.h.now).now.words) change)) size w
-    (world_by w (Some (line_of change active.client active.name))) (with_known active.log_number active.slot c.update_or_refuse.new.self c.update_or_refuse.new.pool memory)
+    subst (λ (change : Change). AppliesFinishing active.slot (FinishesUnless (refusal_of w (command_of_change change active.client active.name)) (Finishes c.args.frames c.args.pool.now.puddles (reads (g.H.Host.state c.args.h.now).now.words) change)) size w
+    (world_by w (Some (command_of_change change active.client active.name))) (with_known active.log_number active.slot c.update_or_refuse.new.self c.update_or_refuse.new.pool memory)
     (fault_of c.update_or_refuse.result) (g.H.Host.state c.args.h.now) (g.H.Host.state c.update_or_refuse.new.h)) (sym c.in-Update.is)
     (c.update_or_refuse.ensures.applies t size e w memory its ready)

@@ -2,7 +2,7 @@ use Rattle.std.proofs.Common.{ℕ, List, Option, IfSome, refl, sym, ap, subst, �
 use Rattle.pm_model.proofs.Reading.{still_reads}
 use Rattle.pud_defs.specs.declared.records.Puddle.{Puddle}
 use Rattle.pud_defs.specs.declared.records.Slot.{Slot}
-use Rattle.hybrid_tx.specs.PoolScopes.{IsPlaced}
+use Rattle.hybrid_tx.specs.PoolScopes.{ArePlacedPuddles}
 use Rattle.hybrid_tx.specs.Objects.Stores.{IsPlaceAndWord}
 use Rattle.ready_daemon.specs.Memory.{ActiveTransaction}
 use Rattle.ready_daemon.proofs.InTurn.{active_known}
@@ -34,7 +34,7 @@ returns-in-None-clause-refusal g c = λ t size w memory its ready.
 
 pub returns-in-None-clause-found : goal.returns-in-None-clause-found
 returns-in-None-clause-found g c = λ t image same known placed.
-    let lent = subst (IsPlaced c.args.frames) (sym c.as_slice-puddles.ensures.puddles) placed in
+    let lent = subst (ArePlacedPuddles c.args.frames) (sym c.as_slice-puddles.ensures.puddles) placed in
     record {
       s = c.args.s;
       x = c.args.x;

@@ -1,7 +1,7 @@
 use Rattle.std.proofs.Common.{◌≡◌, ℕ, List, Some, refl, sym, ap, subst, ◌∙◌}
 use Rattle.pud_defs.specs.declared.records.Puddle.{Puddle}
 use Rattle.pud_defs.specs.declared.objects.FieldValue.TheVariants.{Ref}
-use Rattle.hybrid_tx.specs.PoolScopes.{IsPlaced}
+use Rattle.hybrid_tx.specs.PoolScopes.{ArePlacedPuddles}
 use Rattle.hybrid_tx.specs.Objects.Stores.{word_for}
 use Rattle.ready_daemon.specs.Memory.{ActiveTransaction}
 use Rattle.ready_daemon.proofs.InTurn.{active_known}
@@ -31,7 +31,7 @@ returns-in-None-clause-refusal g c = λ t size w memory its ready.
 
 pub returns-in-None-clause-found : goal.returns-in-None-clause-found
 returns-in-None-clause-found g c = λ t image same known placed.
-    let lent = subst (IsPlaced c.args.frames) (sym c.as_slice.ensures.puddles) placed in
+    let lent = subst (ArePlacedPuddles c.args.frames) (sym c.as_slice.ensures.puddles) placed in
     record {
       s = c.args.s;
       is = refl;

@@ -2,13 +2,13 @@ use Rattle.std.proofs.Common.{◌≡◌, IfOk, sym, subst}
 use Rattle.pud_defs.specs.Step.{refusal_of}
 use Rattle.registry.specs.Places.{refusal_in}
 use Rattle.pool_transaction.specs.declared.changing.Update.{Update}
-use Rattle.pool_transaction.specs.Changing.{update_line, IsFoundBy}
+use Rattle.pool_transaction.specs.Changing.{command_of_update, IsFoundBy}
 use Rattle.pool_transaction.proofs.TransactionRefusals.{refusal_of-later}
 use Rattle.pool_transaction.proofs.transaction.PoolTransaction.find_update.Goals as goal
 
 pub returns-in-Set-clause-refusal : goal.returns-in-Set-clause-refusal
 returns-in-Set-clause-refusal g c = λ t size w memory its ready.
-    subst (λ (update : Update). IfOk c.find_field.result (λ found. refusal_in found ≡ refusal_of w (update_line update c.args.self.now.client c.args.self.now.name))) (sym c.in-Set.is)
+    subst (λ (update : Update). IfOk c.find_field.result (λ found. refusal_in found ≡ refusal_of w (command_of_update update c.args.self.now.client c.args.self.now.name))) (sym c.in-Set.is)
     (c.find_field.ensures.refusal t size w memory its ready)
 
 pub returns-in-Set-clause-found : goal.returns-in-Set-clause-found
@@ -17,7 +17,7 @@ returns-in-Set-clause-found g c = λ t image same known placed.
 
 pub returns-in-Later-clause-refusal : goal.returns-in-Later-clause-refusal
 returns-in-Later-clause-refusal g c = λ t size w memory its ready.
-    subst (λ (update : Update). IfOk c.find_field-in-Later.result (λ found. refusal_in found ≡ refusal_of w (update_line update c.args.self.now.client c.args.self.now.name))) (sym c.in-Later.is)
+    subst (λ (update : Update). IfOk c.find_field-in-Later.result (λ found. refusal_in found ≡ refusal_of w (command_of_update update c.args.self.now.client c.args.self.now.name))) (sym c.in-Later.is)
     (subst (λ q. IfOk c.find_field-in-Later.result (λ found. refusal_in found ≡ q)) (sym (refusal_of-later w c.args.self.now.client c.args.self.now.name c.in-Later.s c.in-Later.f c.in-Later.x))
     (c.find_field-in-Later.ensures.refusal t size w memory its ready))
 
@@ -27,7 +27,7 @@ returns-in-Later-clause-found g c = λ t image same known placed.
 
 pub returns-in-Root-clause-refusal : goal.returns-in-Root-clause-refusal
 returns-in-Root-clause-refusal g c = λ t size w memory its ready.
-    subst (λ (update : Update). IfOk c.find_root.result (λ found. refusal_in found ≡ refusal_of w (update_line update c.args.self.now.client c.args.self.now.name))) (sym c.in-Root.is)
+    subst (λ (update : Update). IfOk c.find_root.result (λ found. refusal_in found ≡ refusal_of w (command_of_update update c.args.self.now.client c.args.self.now.name))) (sym c.in-Root.is)
     (c.find_root.ensures.refusal t size w memory its ready)
 
 pub returns-in-Root-clause-found : goal.returns-in-Root-clause-found
@@ -36,7 +36,7 @@ returns-in-Root-clause-found g c = λ t image same known placed.
 
 pub returns-in-Free-clause-refusal : goal.returns-in-Free-clause-refusal
 returns-in-Free-clause-refusal g c = λ t size w memory its ready.
-    subst (λ (update : Update). IfOk c.find_free.result (λ found. refusal_in found ≡ refusal_of w (update_line update c.args.self.now.client c.args.self.now.name))) (sym c.in-Free.is)
+    subst (λ (update : Update). IfOk c.find_free.result (λ found. refusal_in found ≡ refusal_of w (command_of_update update c.args.self.now.client c.args.self.now.name))) (sym c.in-Free.is)
     (c.find_free.ensures.refusal t size w memory its ready)
 
 pub returns-in-Free-clause-found : goal.returns-in-Free-clause-found

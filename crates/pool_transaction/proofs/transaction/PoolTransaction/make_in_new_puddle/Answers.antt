@@ -4,7 +4,7 @@ use Rattle.std.proofs.Common.{◌≡◌, length, Some, None, IfOk, refl, sym, ap
 use Rattle.std.proofs.lemmas.Result.{err_from_is_err_and}
 use Rattle.pm_model.specs.Words.{reads}
 use Rattle.registry.specs.Places.{refusal_in}
-use Rattle.pool_transaction.specs.Changing.{refusal_by_tables, GrowsBy, with_more}
+use Rattle.pool_transaction.specs.Changing.{refusal_by_tables, GrowsBy, with_puddle_added}
 use Rattle.pool_transaction.proofs.ActiveLines.{memory_with, new_failed, new_refused, reply_refused, refused_by_tables, new_ungrown, active_then, with_frames, new_in_more, reply_in_more}
 use Rattle.pool_transaction.proofs.ActiveMakes.{units_fit}
 use Rattle.pool_transaction.proofs.transaction.PoolTransaction.make_in_new_puddle.Goals as goal
@@ -78,7 +78,7 @@ returns-in_err-serial-clause-applies g c =
     (FinishesLowest c.args.frames c.grow.new.pool (reads (g.H.Host.state c.grow.new.h).now.words)) (FinishesTaken c.args.frames c.args.pool.now (reads old.now.words))
     (finishes_grown c.args.frames c.args.pool.now c.grow.new.pool (reads old.now.words) (reads (g.H.Host.state c.grow.new.h).now.words) longer live)
     c.make_object.new.self c.make_object.new.pool (Some c.in_err-serial.field-0.0) _
-    (λ ready_grown refused less. c.in_err-serial.ensures.makes t size (with_more active.name w) (memory_with size w memory active old active.log_number its.there ready c.args.t active c.grow.new.pool) (with_frames its.frames then) ready_grown refused less))
+    (λ ready_grown refused less. c.in_err-serial.ensures.makes t size (with_puddle_added active.name w) (memory_with size w memory active old active.log_number its.there ready c.args.t active c.grow.new.pool) (with_frames its.frames then) ready_grown refused less))
 
 pub returns-clause-reply : goal.returns-clause-reply
 returns-clause-reply g c = λ t size e w memory its ready none more.
@@ -93,7 +93,7 @@ returns-clause-reply g c = λ t size e w memory its ready none more.
     reply_in_more size w memory active old active.log_number its.there ready c.args.t none more c.args.frames (sym its.frames ∙ ready.frames) c.args.pool.now its.known found c.in-Ok.added by c.grow.new.pool _ _ (c.in_ok-added.ensures.only_reads.stays t)
     (λ ready_then may. c.in_ok-grow.ensures.grows t size same w memory its ready_then may)
     c.in_ok-serial.serial
-    (λ ready_grown less. c.in_ok-serial.ensures.serial t size (with_more active.name w) (memory_with size w memory active old active.log_number its.there ready c.args.t active c.grow.new.pool) (with_frames its.frames then) ready_grown less)
+    (λ ready_grown less. c.in_ok-serial.ensures.serial t size (with_puddle_added active.name w) (memory_with size w memory active old active.log_number its.there ready c.args.t active c.grow.new.pool) (with_frames its.frames then) ready_grown less)
 
 pub returns-clause-applies : goal.returns-clause-applies
 returns-clause-applies g c = λ t size e w memory its ready none more.
@@ -116,4 +116,4 @@ returns-clause-applies g c = λ t size e w memory its ready none more.
     (FinishesLowest c.args.frames c.grow.new.pool (reads (g.H.Host.state c.grow.new.h).now.words)) (FinishesTaken c.args.frames c.args.pool.now (reads old.now.words))
     (finishes_grown c.args.frames c.args.pool.now c.grow.new.pool (reads old.now.words) (reads (g.H.Host.state c.grow.new.h).now.words) longer live)
     c.make_object.new.self c.make_object.new.pool None _
-    (λ ready_grown refused less. c.in_ok-serial.ensures.makes t size (with_more active.name w) (memory_with size w memory active old active.log_number its.there ready c.args.t active c.grow.new.pool) (with_frames its.frames then) ready_grown refused less)
+    (λ ready_grown refused less. c.in_ok-serial.ensures.makes t size (with_puddle_added active.name w) (memory_with size w memory active old active.log_number its.there ready c.args.t active c.grow.new.pool) (with_frames its.frames then) ready_grown refused less)

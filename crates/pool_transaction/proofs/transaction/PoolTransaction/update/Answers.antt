@@ -5,7 +5,7 @@ use Rattle.pud_defs.specs.declared.records.Puddle.{Puddle}
 use Rattle.pud_defs.specs.Stored.{IsOnDevice}
 use Rattle.pud_defs.specs.Step.{refusal_of, after}
 use Rattle.lazy_rewrite.proofs.Spared.{HaveMoved}
-use Rattle.pool_transaction.specs.Changing.{IsActiveIn, with_opened, update_line}
+use Rattle.pool_transaction.specs.Changing.{IsActiveIn, with_opened, command_of_update}
 use Rattle.ready_daemon.specs.Memory.{ActiveTransaction}
 use Rattle.ready_daemon.specs.ActiveTransactions.{IsActiveWithin}
 use Rattle.ready_daemon.proofs.Keeping.{KeepsRest-changes, KeepsRest-then}
@@ -47,8 +47,8 @@ returns-clause-applies g c = λ t update size e w memory its ready free found.
     let old = g.H.Host.state c.args.h.now in
     let new = g.H.Host.state c.carry_out-done.new.h in
     subst (λ (h : ActiveTransaction).
-    IsActiveIn c.args.frames h at memory → refusal_of w (update_line update h.client h.name) ≡ None
-    → AppliesTo (led_in h.slot (end_of (ordinal_written c.args.found))) size w (after w (update_line update h.client h.name)) (with_opened h.log_number h.slot (with_tx c.carry_out-done.new.tx active) later memory) (fault_of c.carry_out-done.result) old new)
+    IsActiveIn c.args.frames h at memory → refusal_of w (command_of_update update h.client h.name) ≡ None
+    → AppliesTo (led_in h.slot (end_of (ordinal_written c.args.found))) size w (after w (command_of_update update h.client h.name)) (with_opened h.log_number h.slot (with_tx c.carry_out-done.new.tx active) later memory) (fault_of c.carry_out-done.result) old new)
     c.self.view_is
     (λ its free.
     Applies-update size w memory active old c.args.frames at its ready update o later (g.H.Host.state c.finish.new.h) c.args.found c.ordinal_written.ensures c.in_ok-finish.ensures.pool (c.in_ok-finish.ensures.rewrites t size e)

@@ -9,7 +9,7 @@ use Rattle.pud_defs.proofs.Steps.{refused_answer}
 use Rattle.known_pool.specs.Known.{Known, IsKnown, with_puddles}
 use Rattle.known_pool.proofs.KnownKept.{IsKnown-puddles}
 use Rattle.registry.specs.Places.{refusal_in}
-use Rattle.pool_transaction.specs.Changing.{with_known, update_line, IsFoundWithin}
+use Rattle.pool_transaction.specs.Changing.{with_known, command_of_update, IsFoundWithin}
 use Rattle.ready_daemon.specs.Memory.{Memory}
 use Rattle.ready_daemon.specs.Ready.{IsReady}
 use Rattle.ready_daemon.proofs.Applying.{Applies-stopped, Applies-refused}
@@ -26,21 +26,21 @@ returns-in_err-found-clause-applies g c =
     rw (p.1, p.2) (λ t size e w memory its ready.
     let active = c.args.self.now in
     let k = c.in_err-found.ensures.only_reads in
-    finishing_failed active.slot (FinishesUnless (refusal_of w (update_line c.args.update active.client active.name)) (FinishesFor c.args.frames c.args.pool.now.puddles (reads (g.H.Host.state c.args.h.now).now.words) c.args.update)) size w _ _ _ _ _ k.never_cut
-    (Applies-stopped size w (world_by w (Some (update_line c.args.update active.client active.name))) memory (with_known active.log_number active.slot active c.args.pool.now memory) c.in_err-found.field-0.0 _ _
+    finishing_failed active.slot (FinishesUnless (refusal_of w (command_of_update c.args.update active.client active.name)) (FinishesFor c.args.frames c.args.pool.now.puddles (reads (g.H.Host.state c.args.h.now).now.words) c.args.update)) size w _ _ _ _ _ k.never_cut
+    (Applies-stopped size w (world_by w (Some (command_of_update c.args.update active.client active.name))) memory (with_known active.log_number active.slot active c.args.pool.now memory) c.in_err-found.field-0.0 _ _
     ready (k.stays t) (λ cut. absurd (k.never_cut cut))))
 
 pub returns-in-Err-clause-reply : goal.returns-in-Err-clause-reply
 returns-in-Err-clause-reply g c = λ t size w memory its ready.
     let active = c.args.self.now in
-    sym (refused_answer w (update_line c.args.update active.client active.name) c.in-Err.refusal (sym (c.in_ok-found.ensures.refusal t size w memory its ready) ∙ ap refusal_in c.in-Err.is))
+    sym (refused_answer w (command_of_update c.args.update active.client active.name) c.in-Err.refusal (sym (c.in_ok-found.ensures.refusal t size w memory its ready) ∙ ap refusal_in c.in-Err.is))
 
 pub returns-in-Err-clause-applies : goal.returns-in-Err-clause-applies
 returns-in-Err-clause-applies g c = λ t size e w memory its ready.
     let active = c.args.self.now in
     let refused = sym (c.in_ok-found.ensures.refusal t size w memory its ready) ∙ ap refusal_in c.in-Err.is in
-    finishing_refused active.slot (FinishesFor c.args.frames c.args.pool.now.puddles (reads (g.H.Host.state c.args.h.now).now.words) c.args.update) (refusal_of w (update_line c.args.update active.client active.name)) c.in-Err.refusal refused size w _ _ _ _ _
-    (Applies-refused size w (with_known active.log_number active.slot active c.args.pool.now memory) (update_line c.args.update active.client active.name) c.in-Err.refusal _ _
+    finishing_refused active.slot (FinishesFor c.args.frames c.args.pool.now.puddles (reads (g.H.Host.state c.args.h.now).now.words) c.args.update) (refusal_of w (command_of_update c.args.update active.client active.name)) c.in-Err.refusal refused size w _ _ _ _ _
+    (Applies-refused size w (with_known active.log_number active.slot active c.args.pool.now memory) (command_of_update c.args.update active.client active.name) c.in-Err.refusal _ _
     (subst (λ (m : Memory). IsReady size w m (g.H.Host.state c.args.h.now)) (sym (known_on c.args.frames active c.args.pool.now memory its)) ready)
     refused (c.in_ok-found.ensures.only_reads.stays t))
 

@@ -1,7 +1,7 @@
 use Rattle.std.proofs.Common.{not, sym, ap, ◌∙◌, arith}
 use Rattle.pud_defs.proofs.Spaces.{all_below-more, all_below-none}
 use Rattle.graph_laws.specs.Slots.{is_of_type}
-use Rattle.pud_import.specs.Sized.{words_of, stored_of}
+use Rattle.pud_import.specs.Sized.{image_of_file, stored_of}
 use Rattle.pud_import.proofs.UsedPlaces.{places-file, is_used-there, is_used-none}
 use Rattle.pud_import.proofs.sized_file.SizedFile.is_used.Goals as goal
 
@@ -11,7 +11,7 @@ loop-place-init c = all_below-none _
 pub returns-then-is_of_type : goal.returns-then-is_of_type
 returns-then-is_of_type c =
     let f = c.args.self.now in
-    is_used-there (stored_of f) c.args.id c.places_among-place-end.result c.loop-place.place (c.places_among-place-end.ensures ∙ places-file (words_of f) f.types f.puddles)
+    is_used-there (stored_of f) c.args.id c.places_among-place-end.result c.loop-place.place (c.places_among-place-end.ensures ∙ places-file (image_of_file f) f.types f.puddles)
     c.loop-place-test.true (sym c.is_of_type.ensures ∙ c.if-is_of_type.true)
 
 pub loop-place-preserved : goal.loop-place-preserved
@@ -21,4 +21,4 @@ pub returns : goal.returns
 returns c =
     let f = c.args.self.now in
     let past = c.loop-place-test.false in
-    is_used-none (stored_of f) c.args.id c.places_among-place-end.result c.loop-place.place (c.places_among-place-end.ensures ∙ places-file (words_of f) f.types f.puddles) (omega arith) c.loop-place.invariant
+    is_used-none (stored_of f) c.args.id c.places_among-place-end.result c.loop-place.place (c.places_among-place-end.ensures ∙ places-file (image_of_file f) f.types f.puddles) (omega arith) c.loop-place.invariant

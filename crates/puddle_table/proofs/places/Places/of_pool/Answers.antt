@@ -1,7 +1,7 @@
 use Rattle.std.proofs.Common.{◌≡◌, ℕ, ◌+◌, ◌<◌, ◌≤◌, List, All, Some, None, slice_index_or, length, sym, ap, ◌∙◌, subst}
 use Rattle.pud_defs.specs.declared.records.Puddle.{Puddle}
 use Rattle.pud_defs.specs.Tables.{tables_of}
-use Rattle.puddle_table.specs.Placed.{Placed, frame_at}
+use Rattle.puddle_table.specs.Placed.{Placed, frame_of_puddle}
 use Rattle.puddle_table.proofs.Turning.{ReadsOn, ReadsOn-none, ReadsOn-more, ReadsOn-end, frame_below, frames_more, one_more}
 use Rattle.pm_model.proofs.Reading.{OnlyReads-then, still_reads}
 use Rattle.puddle_table.proofs.places.Places.of_pool.Goals as goal
@@ -9,8 +9,8 @@ use Rattle.puddle_table.proofs.places.Places.of_pool.Goals as goal
 pub returns-in-None-clause-found : goal.returns-in-None-clause-found
 returns-in-None-clause-found g c = λ t image e holds.
     let ordinal = c.loop-ordinal.ordinal in
-    let here : frame_at c.args.self.now.frames c.args.pool ordinal ≡ None =
-    ap (λ (p : Placed). frame_at p.frames c.args.pool ordinal) (sym c.self.view_is) ∙ ap (λ (i : ℕ). slice_index_or c.self.inside.frames i None) (sym c.place.ensures.place) ∙ c.in-None.is in
+    let here : frame_of_puddle c.args.self.now.frames c.args.pool ordinal ≡ None =
+    ap (λ (p : Placed). frame_of_puddle p.frames c.args.pool ordinal) (sym c.self.view_is) ∙ ap (λ (i : ℕ). slice_index_or c.self.inside.frames i None) (sym c.place.ensures.place) ∙ c.in-None.is in
     ReadsOn-none c.args.self.now.count image c.args.self.now holds c.args.pool ordinal c.requires.pool c.loop-ordinal-test.true c.loop-ordinal.found here (c.loop-ordinal.invariant.found t image e holds)
 
 pub loop-ordinal-preserved : goal.loop-ordinal-preserved
@@ -25,8 +25,8 @@ loop-ordinal-preserved g c =
           (frames_more c.args.self.now.count frame c.in_ok-read_puddle-in-Some.field-0 c.loop-ordinal.found below c.loop-ordinal.invariant.frames);
       only_reads = OnlyReads-then c.loop-ordinal.invariant.only_reads c.in_ok-read_puddle-in-Some.ensures.only_reads;
       found = λ t image e holds.
-          let here : frame_at c.args.self.now.frames c.args.pool ordinal ≡ Some frame =
-          ap (λ (p : Placed). frame_at p.frames c.args.pool ordinal) (sym c.self.view_is) ∙ ap (λ (i : ℕ). slice_index_or c.self.inside.frames i None) (sym c.place.ensures.place) ∙ c.in-Some.is in
+          let here : frame_of_puddle c.args.self.now.frames c.args.pool ordinal ≡ Some frame =
+          ap (λ (p : Placed). frame_of_puddle p.frames c.args.pool ordinal) (sym c.self.view_is) ∙ ap (λ (i : ℕ). slice_index_or c.self.inside.frames i None) (sym c.place.ensures.place) ∙ c.in-Some.is in
           let read = c.in_ok-read_puddle-in-Some.ensures.puddle t image (still_reads c.loop-ordinal.invariant.only_reads t e) in
           subst (ReadsOn (tables_of c.args.self.now.count image) c.args.pool (ordinal + 1)) (sym c.push.ensures)
           (ReadsOn-more c.args.self.now.count image c.args.self.now holds c.args.pool ordinal c.requires.pool c.loop-ordinal-test.true c.loop-ordinal.found frame c.in_ok-read_puddle-in-Some.field-0 here read

@@ -1,7 +1,7 @@
 use Rattle.std.proofs.Common.{List, Option, sym, ap, subst, ◌∙◌}
 use Rattle.std.proofs.lemmas.Result.{err_from_is_err_and}
 use Rattle.pm_model.proofs.Reading.{still_size}
-use Rattle.pool_transaction.specs.Changing.{line_of}
+use Rattle.pool_transaction.specs.Changing.{command_of_change}
 use Rattle.ready_daemon.specs.OwnOnPool.{IsOwnTransactionOn}
 use Rattle.ready_daemon.specs.Memory.{ActiveTransaction, Memory}
 use Rattle.ready_daemon.specs.Owning.{refusal_found}
@@ -16,7 +16,7 @@ returns-in_err-refusal-clause-carries g c =
     rw (p.1, p.2) (λ t size e w ready.
     let k = c.in_err-refusal.ensures in
     let known = ready_read size w c.find_own.new.self _ _ (k.only_reads.stays t) (k.ready t size w ready) in
-    CarriesOut-unread size w c.find_own.new.self _ _ _ _ (line_of c.args.change c.args.client c.args.name) (change_is_plain c.args.client c.args.name c.args.change) (k.only_reads.stays t) known
+    CarriesOut-unread size w c.find_own.new.self _ _ _ _ (command_of_change c.args.change c.args.client c.args.name) (change_is_plain c.args.client c.args.name c.args.change) (k.only_reads.stays t) known
     c.in_err-refusal.field-0.0 k.only_reads.never_cut k.only_reads.cause)
 
 pub returns-in-Err-clause-carries : goal.returns-in-Err-clause-carries
@@ -24,7 +24,7 @@ returns-in-Err-clause-carries g c = λ t size e w ready.
     let k = c.in_ok-refusal.ensures in
     let known = ready_read size w c.find_own.new.self _ _ (k.only_reads.stays t) (k.ready t size w ready) in
     let refused = sym (k.refusal t size w ready) ∙ ap refusal_found c.in-Err.is in
-    CarriesOut-refused size w c.find_own.new.self _ _ _ _ (line_of c.args.change c.args.client c.args.name) (change_is_plain c.args.client c.args.name c.args.change) (k.only_reads.stays t) known
+    CarriesOut-refused size w c.find_own.new.self _ _ _ _ (command_of_change c.args.change c.args.client c.args.name) (change_is_plain c.args.client c.args.name c.args.change) (k.only_reads.stays t) known
     c.in-Err.refusal (refused_line w c.args.client c.args.name c.in-Err.refusal refused c.args.change) k.only_reads.cause
 
 pub invariant_of-self : goal.invariant_of-self
@@ -42,6 +42,6 @@ returns-clause-carries g c = λ t size e w ready.
     let own = subst (λ (active : List (Option ActiveTransaction)). IsOwnTransactionOn c.args.client c.args.name c.in-Ok.own.slot c.in-Ok.own.log_number active) (sym (ap (λ (m : Memory). m.active) c.self.view_is ∙ k.active)) found in
     let n = c.change_in.ensures in
     let same = still_size k.only_reads e in
-    CarriesOut-replied size w (record { frames = i.frames; active = c.change_in.new.all; sessions = i.sessions; judged = c.change_in.new.judged }) _ _ _ _ _ _ (line_of c.args.change c.args.client c.args.name)
+    CarriesOut-replied size w (record { frames = i.frames; active = c.change_in.new.all; sessions = i.sessions; judged = c.change_in.new.judged }) _ _ _ _ _ _ (command_of_change c.args.change c.args.client c.args.name)
     (change_is_plain c.args.client c.args.name c.args.change) (k.only_reads.stays t) k.only_reads.cause (n.rest t) c.change_in.result
     (n.reply t size same w i.sessions c.args.client c.args.name then own) (n.applies t size same w i.sessions c.args.client c.args.name then own) n.cause

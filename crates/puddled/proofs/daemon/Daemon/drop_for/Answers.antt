@@ -11,7 +11,7 @@ use Rattle.pud_defs.proofs.Steps.{refused_answer, answer_is_ok}
 use Rattle.known_pool.specs.Known.{Known}
 use Rattle.ready_daemon.specs.Memory.{Memory}
 use Rattle.ready_daemon.specs.PoolKnowledge.{AreOnDevice}
-use Rattle.ready_daemon.specs.Owning.{refusal_found, IsSlotOf}
+use Rattle.ready_daemon.specs.Owning.{refusal_found, IsRecordSlot}
 use Rattle.ready_daemon.specs.Moves.{MovesTo, freed_in}
 use Rattle.ready_daemon.specs.Ready.{IsReady, AppliesBy}
 use Rattle.puddled.proofs.Frontiers.{AppliesAs-failed, AppliesAs-refused, AppliesAs-drop}
@@ -60,14 +60,14 @@ returns-in_err-drop_pool-clause-applies g c =
     let there = subst (λ (m : Memory). IsReady size w m old) (sym c.self.view_is) (k.ready t size w ready) in
     let then = still_size k.only_reads e in
     let free = sym (k.refusal t size w ready) ∙ ap refusal_found c.in-Ok.is in
-    let at = subst (λ (r : Result ℕ Refusal). IfOk r (IsSlotOf w.stored.frames c.args.name (reads old.now.words))) c.in-Ok.is (k.slot t size w ready) in
+    let at = subst (λ (r : Result ℕ Refusal). IfOk r (IsRecordSlot w.stored.frames c.args.name (reads old.now.words))) c.in-Ok.is (k.slot t size w ready) in
     AppliesAs-drop size w c.args.client c.args.name (record now { judged = c.forget.new.self }) (Some c.in_err-drop_pool.field-0.0) old (g.H.Host.state c.drop_pool.new.h) c.in-Ok.slot free at
     (subst (λ (js : List (Option Known)). AppliesBy (MovesTo (freed_in c.in-Ok.slot)) size w (world_by w (Some (commands.Drop c.args.client c.args.name))) (record now { judged = js }) (Some c.in_err-drop_pool.field-0.0) old (g.H.Host.state c.drop_pool.new.h)) (sym c.forget.ensures)
     (Applies-behind size w (world_by w (Some (commands.Drop c.args.client c.args.name))) now (record now { judged = set now.judged c.in-Ok.slot None }) (Some c.in_err-drop_pool.field-0.0) old mid (g.H.Host.state c.drop_pool.new.h)
     (k.only_reads.stays t)
     (λ ready_then.
     Applies-drop size w now c.args.client c.in-Ok.slot c.args.name (Some c.in_err-drop_pool.field-0.0) mid (g.H.Host.state c.drop_pool.new.h) ready_then free
-    (subst (λ (s : State). IsSlotOf w.stored.frames c.args.name (reads s.now.words) c.in-Ok.slot) (sym (k.only_reads.stays t)) at) i.frames there.frames
+    (subst (λ (s : State). IsRecordSlot w.stored.frames c.args.name (reads s.now.words) c.in-Ok.slot) (sym (k.only_reads.stays t)) at) i.frames there.frames
     (n.any t).rests (λ idle few. n.commits t size then _ refl idle few) (λ keeps off settled r here. n.changes t size then w.stored there.frames ready_then.mask keeps off settled r here)) there)))
 
 pub returns-clause-applies : goal.returns-clause-applies
@@ -81,14 +81,14 @@ returns-clause-applies g c = λ t size e w ready.
     let there = subst (λ (m : Memory). IsReady size w m old) (sym c.self.view_is) (k.ready t size w ready) in
     let then = still_size k.only_reads e in
     let free = sym (k.refusal t size w ready) ∙ ap refusal_found c.in-Ok.is in
-    let at = subst (λ (r : Result ℕ Refusal). IfOk r (IsSlotOf w.stored.frames c.args.name (reads old.now.words))) c.in-Ok.is (k.slot t size w ready) in
+    let at = subst (λ (r : Result ℕ Refusal). IfOk r (IsRecordSlot w.stored.frames c.args.name (reads old.now.words))) c.in-Ok.is (k.slot t size w ready) in
     AppliesAs-drop size w c.args.client c.args.name (record now { judged = c.forget.new.self }) None old (g.H.Host.state c.drop_pool.new.h) c.in-Ok.slot free at
     (subst (λ (js : List (Option Known)). AppliesBy (MovesTo (freed_in c.in-Ok.slot)) size w (world_by w (Some (commands.Drop c.args.client c.args.name))) (record now { judged = js }) None old (g.H.Host.state c.drop_pool.new.h)) (sym c.forget.ensures)
     (Applies-behind size w (world_by w (Some (commands.Drop c.args.client c.args.name))) now (record now { judged = set now.judged c.in-Ok.slot None }) None old mid (g.H.Host.state c.drop_pool.new.h)
     (k.only_reads.stays t)
     (λ ready_then.
     Applies-drop size w now c.args.client c.in-Ok.slot c.args.name None mid (g.H.Host.state c.drop_pool.new.h) ready_then free
-    (subst (λ (s : State). IsSlotOf w.stored.frames c.args.name (reads s.now.words) c.in-Ok.slot) (sym (k.only_reads.stays t)) at) i.frames there.frames
+    (subst (λ (s : State). IsRecordSlot w.stored.frames c.args.name (reads s.now.words) c.in-Ok.slot) (sym (k.only_reads.stays t)) at) i.frames there.frames
     (n.any t).rests (λ idle few. n.commits t size then _ refl idle few) (λ keeps off settled r here. n.changes t size then w.stored there.frames ready_then.mask keeps off settled r here)) there))
 
 -- ---- what is known of pools
@@ -108,7 +108,7 @@ returns-clause-keeps g c = λ t size w ready refused.
 pub returns-clause-forgets : goal.returns-clause-forgets
 returns-clause-forgets g c = λ t size w ready free. record {
   slot = c.in-Ok.slot;
-  is = subst (λ (r : Result ℕ Refusal). IfOk r (IsSlotOf w.stored.frames c.args.name (reads (g.H.Host.state c.args.h.now).now.words))) c.in-Ok.is (c.in_ok-refusal.ensures.slot t size w ready);
+  is = subst (λ (r : Result ℕ Refusal). IfOk r (IsRecordSlot w.stored.frames c.args.name (reads (g.H.Host.state c.args.h.now).now.words))) c.in-Ok.is (c.in_ok-refusal.ensures.slot t size w ready);
   forgotten = c.forget.ensures ∙ ap (λ (m : Memory). set m.judged c.in-Ok.slot None) c.self.view_is ∙ ap (λ (js : List (Option Known)). set js c.in-Ok.slot None) c.in_ok-refusal.ensures.judged;
 }
 

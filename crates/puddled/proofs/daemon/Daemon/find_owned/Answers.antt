@@ -4,7 +4,7 @@ use Rattle.pm_model.specs.Moments.{State}
 use Rattle.pud_defs.specs.declared.machine.Refusal.TheVariants as refusals
 use Rattle.pud_defs.specs.Transactions.{is_own}
 use Rattle.pud_defs.specs.World.{Transaction}
-use Rattle.ready_daemon.specs.Owning.{refusal_found, IsSlotOf}
+use Rattle.ready_daemon.specs.Owning.{refusal_found, IsRecordSlot}
 use Rattle.puddled.specs.declared.finding.Need.TheVariants as needs
 use Rattle.puddled.proofs.ExportLines.{own_is_open}
 use Rattle.puddled.proofs.Found.{finds, slot_is, its_number, no_number}
@@ -34,5 +34,5 @@ pub returns-clause-slot : goal.returns-clause-slot
 returns-clause-slot g c = λ t size w ready.
     let k = c.in_ok-refusal.ensures in
     let here = finds size w needs.Owner c.args.client c.args.name c.args.self.now c.find_pool.new.self _ _ _ c.in-Ok.found c.in-Ok.is (k.only_reads.stays t) k.sessions (k.ready t size w ready) (k.refusal t size w ready) (k.found t size w ready) k.whose in
-    subst (λ (s : State). IsSlotOf w.stored.frames c.args.name (reads s.now.words) c.in-Ok.found.slot) (k.only_reads.stays t)
+    subst (λ (s : State). IsRecordSlot w.stored.frames c.args.name (reads s.now.words) c.in-Ok.found.slot) (k.only_reads.stays t)
     (slot_is size w c.find_pool.new.self _ here.ready c.args.client c.args.name c.in-Ok.found.slot here.is.rec here.is.is)

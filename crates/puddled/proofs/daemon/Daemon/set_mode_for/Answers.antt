@@ -8,7 +8,7 @@ use Rattle.pud_defs.specs.declared.machine.Refusal.{Refusal}
 use Rattle.pud_defs.specs.Step.{world_by}
 use Rattle.pud_defs.proofs.PoolRefusals.{refusal_of-owned}
 use Rattle.pud_defs.proofs.Steps.{refused_answer, answer_is_ok}
-use Rattle.ready_daemon.specs.Owning.{refusal_found, IsSlotOf}
+use Rattle.ready_daemon.specs.Owning.{refusal_found, IsRecordSlot}
 use Rattle.ready_daemon.proofs.Applying.{Applies-failed, Applies-refused}
 use Rattle.ready_daemon.proofs.Pooling.{Applies-behind, Applies-mode}
 use Rattle.ready_daemon.proofs.Keeping.{KeepsRest-changes, KeepsRest-still, KeepsRest-then}
@@ -48,13 +48,13 @@ returns-in_err-change_mode-clause-applies g c =
     let n = c.in_err-change_mode.ensures in
     let now = c.find_owned.new.self in
     let then = still_size k.only_reads e in
-    let at = subst (λ (r : Result ℕ Refusal). IfOk r (IsSlotOf w.stored.frames c.args.name (reads (g.H.Host.state c.args.h.now).now.words))) c.in-Ok.is (k.slot t size w ready) in
+    let at = subst (λ (r : Result ℕ Refusal). IfOk r (IsRecordSlot w.stored.frames c.args.name (reads (g.H.Host.state c.args.h.now).now.words))) c.in-Ok.is (k.slot t size w ready) in
     Applies-behind size w (world_by w (Some (Chmod c.args.client c.args.name c.args.mode))) now now (Some c.in_err-change_mode.field-0.0) (g.H.Host.state c.args.h.now) (g.H.Host.state c.find_owned.new.h) (g.H.Host.state c.change_mode.new.h)
     (k.only_reads.stays t)
     (λ ready_then.
     Applies-mode size w now c.args.client c.in-Ok.slot c.args.name (Some c.in_err-change_mode.field-0.0) (g.H.Host.state c.find_owned.new.h) (g.H.Host.state c.change_mode.new.h) ready_then
     (sym (k.refusal t size w ready) ∙ ap refusal_found c.in-Ok.is)
-    (subst (λ (s : State). IsSlotOf w.stored.frames c.args.name (reads s.now.words) c.in-Ok.slot) (sym (k.only_reads.stays t)) at) c.args.mode
+    (subst (λ (s : State). IsRecordSlot w.stored.frames c.args.name (reads s.now.words) c.in-Ok.slot) (sym (k.only_reads.stays t)) at) c.args.mode
     (n.any t).rests (λ idle. n.commits t size then idle) (λ off settled r at. n.changes t size then w.stored ready_then.mask off settled r at legal.3)) (k.ready t size w ready))
 
 pub returns-clause-applies : goal.returns-clause-applies
@@ -63,13 +63,13 @@ returns-clause-applies g c = λ t size e w ready legal.
     let n = c.in_ok-change_mode.ensures in
     let now = c.find_owned.new.self in
     let then = still_size k.only_reads e in
-    let at = subst (λ (r : Result ℕ Refusal). IfOk r (IsSlotOf w.stored.frames c.args.name (reads (g.H.Host.state c.args.h.now).now.words))) c.in-Ok.is (k.slot t size w ready) in
+    let at = subst (λ (r : Result ℕ Refusal). IfOk r (IsRecordSlot w.stored.frames c.args.name (reads (g.H.Host.state c.args.h.now).now.words))) c.in-Ok.is (k.slot t size w ready) in
     Applies-behind size w (world_by w (Some (Chmod c.args.client c.args.name c.args.mode))) now now None (g.H.Host.state c.args.h.now) (g.H.Host.state c.find_owned.new.h) (g.H.Host.state c.change_mode.new.h)
     (k.only_reads.stays t)
     (λ ready_then.
     Applies-mode size w now c.args.client c.in-Ok.slot c.args.name None (g.H.Host.state c.find_owned.new.h) (g.H.Host.state c.change_mode.new.h) ready_then
     (sym (k.refusal t size w ready) ∙ ap refusal_found c.in-Ok.is)
-    (subst (λ (s : State). IsSlotOf w.stored.frames c.args.name (reads s.now.words) c.in-Ok.slot) (sym (k.only_reads.stays t)) at) c.args.mode
+    (subst (λ (s : State). IsRecordSlot w.stored.frames c.args.name (reads s.now.words) c.in-Ok.slot) (sym (k.only_reads.stays t)) at) c.args.mode
     (n.any t).rests (λ idle. n.commits t size then idle) (λ off settled r at. n.changes t size then w.stored ready_then.mask off settled r at legal.3)) (k.ready t size w ready)
 
 pub returns-in_err-change_mode-clause-rest : goal.returns-in_err-change_mode-clause-rest
