@@ -3,9 +3,9 @@ use Rattle.std.proofs.Common.{◌≡◌, ℕ, zero, suc, ◌+◌, ◌≤◌, Lis
 use Rattle.std.proofs.lemmas.List.Sums.{sum_by-append}
 use Rattle.std.proofs.lemmas.List.Elements.{All-append}
 use Rattle.pud_defs.specs.declared.layout.TheConstants.{LOG_ENTRY_WORDS, ENTRY_HEADER_WORDS}
-use Rattle.pud_defs.specs.Entries.{Entry, IsLegalEntry, spelled, entries_in}
-use Rattle.pud_defs.specs.Replay.{entries_or_none}
-use Rattle.pud_defs.proofs.Entries.{entries_in-nothing, entries_in-one_more}
+use Rattle.pud_defs.specs.Logging.Entries.{Entry, IsLegalEntry, spelled, entries_in}
+use Rattle.pud_defs.specs.Logging.Replay.{entries_or_none}
+use Rattle.pud_defs.proofs.Logging.Entries.{entries_in-nothing, entries_in-one_more}
 use Rattle.batch.specs.Batches.{entries_spelled, word_count_of, IsBatchEntry, AreBatched, IsBuffer}
 
 pub nothing_spelled : (words : List ℕ) → entries_spelled 0 words ≡ []

@@ -7,11 +7,11 @@ use Rattle.pm_model.specs.Changes.{Write, Silently}
 use Rattle.pm_model.specs.Masks.{masked, masked_state, masked_image, no_mask, IsOff}
 use Rattle.pm_model.proofs.Leaves.{Leaves-weaker}
 use Rattle.pm_model.proofs.Masks.{IsOff-none, Picks-masked, masked-elsewhere, masked_image-elsewhere, HasOnly-masked, unmasked, Changes-masked, Leaves-masked}
-use Rattle.pud_defs.specs.Entries.{Entry, Log, log_of, is_idle_gate}
-use Rattle.pud_defs.specs.Replay.{device_word, new_value, overwritten, settled_by, IsInLog}
-use Rattle.pud_defs.proofs.Masked.{swapped, IsBesideLog, log_of-masked, settled_by-masked, settled_by-masked_idle}
+use Rattle.pud_defs.specs.Logging.Entries.{Entry, Log, log_of, is_idle_gate}
+use Rattle.pud_defs.specs.Logging.Replay.{device_word, new_value, overwritten, settled_by, IsInLog}
+use Rattle.pud_defs.proofs.Logging.Masked.{swapped, IsBesideLog, log_of-masked, settled_by-masked, settled_by-masked_idle}
 use Rattle.batch.specs.Batches.{batch_write, committed, AreBatched, IsFree, ByBatch, IsBatched, Commits}
-use Rattle.pud_defs.specs.World.{StoredWorld}
+use Rattle.pud_defs.specs.StateMachine.World.{StoredWorld}
 use Rattle.batch.specs.Worlds.{Moves}
 use Rattle.batch.proofs.Writes.{new_value-committed}
 

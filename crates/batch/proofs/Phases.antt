@@ -13,11 +13,11 @@ use Rattle.pm_model.proofs.OneWord.{one_word, one_word_after}
 use Rattle.pm_persist.proofs.Ranges.{placed_within, placed_at}
 use Rattle.pud_defs.specs.declared.layout.TheConstants.{LOG_HEADER_WORDS, LOG_ENTRY_WORDS}
 use Rattle.pud_defs.specs.declared.log_words.TheConstants.{COMMITTING_LO, COMMITTING_HI}
-use Rattle.pud_defs.specs.Image.{Image}
-use Rattle.pud_defs.specs.Entries.{Entry, Log, log_of, gate_lo, gate_hi, gate_used, gate_word, is_idle_gate, entries_in, entries_of, words_from}
-use Rattle.pud_defs.specs.Replay.{device_word, new_value, overwritten, IsInLog, is_in_log, settled_by}
-use Rattle.pud_defs.proofs.Entries.{words_from-holds, entries_of-is, gate_lo-of, gate_hi-of, gate_used-of, is_legal_gate-of}
-use Rattle.pud_defs.proofs.Replay.{not_inside}
+use Rattle.pud_defs.specs.Formats.Image.{Image}
+use Rattle.pud_defs.specs.Logging.Entries.{Entry, Log, log_of, gate_lo, gate_hi, gate_used, gate_word, is_idle_gate, entries_in, entries_of, words_from}
+use Rattle.pud_defs.specs.Logging.Replay.{device_word, new_value, overwritten, IsInLog, is_in_log, settled_by}
+use Rattle.pud_defs.proofs.Logging.Entries.{words_from-holds, entries_of-is, gate_lo-of, gate_hi-of, gate_used-of, is_legal_gate-of}
+use Rattle.pud_defs.proofs.Logging.Replay.{not_inside}
 use Rattle.log_replay.specs.declared.Target.TheVariants as targets
 use Rattle.log_replay.specs.Replaying.{ByLog, SettlesSame, SettlesLog}
 use Rattle.log_replay.proofs.Closing.{gate_apart}

@@ -8,10 +8,10 @@ use Rattle.pm_model.specs.Changes.{Footprint, Write, Changes, written, Persists}
 use Rattle.pm_model.proofs.Words.{HasOnly-own, HasOnly-newest}
 use Rattle.pm_model.proofs.Changes.{HasOnly-kept}
 use Rattle.pud_defs.specs.declared.layout.TheConstants.{DAEMON_LOG, TYPE_TABLE}
-use Rattle.pud_defs.specs.Layout.{tables_end}
-use Rattle.pud_defs.specs.Entries.{Entry}
-use Rattle.pud_defs.specs.Replay.{overwritten}
-use Rattle.pud_defs.proofs.Replay.{overwritten-there, overwritten-stays}
+use Rattle.pud_defs.specs.Formats.Layout.{tables_end}
+use Rattle.pud_defs.specs.Logging.Entries.{Entry}
+use Rattle.pud_defs.specs.Logging.Replay.{overwritten}
+use Rattle.pud_defs.proofs.Logging.Replay.{overwritten-there, overwritten-stays}
 use Rattle.batch.specs.Batches.{batch_write, ByBatch}
 use Rattle.batch.specs.Tables.{HasDurableTables}
 

@@ -13,16 +13,16 @@ use Rattle.pm_model.proofs.Words.{Picks-reads}
 use Rattle.pm_model.proofs.Changes.{Changes-said}
 use Rattle.pm_model.proofs.Leaves.{Leaves-weaker, Leaves-now}
 use Rattle.pud_defs.specs.declared.layout.TheConstants.{DAEMON_LOG, FRAMES_WORD}
-use Rattle.pud_defs.specs.Image.{Image}
-use Rattle.pud_defs.specs.Layout.{device_words}
-use Rattle.pud_defs.specs.Entries.{Entry, is_idle_gate}
-use Rattle.pud_defs.specs.Replay.{device_word, overwritten, is_in_log, settled_by}
-use Rattle.pud_defs.specs.Registry.{frames_of, may_be_logged, is_loggable, has_legal_log}
-use Rattle.pud_defs.specs.World.{StoredWorld, idle_registry, idle_world_of}
-use Rattle.pud_defs.proofs.Replay.{overwritten-stays, overwritten-there, settled_by-idle, outside_log, within_log}
-use Rattle.pud_defs.proofs.Logged.{IsUnlogged, unlogged, lies_apart, allowed_in_range, new_value-allowed, has_legal_log-of}
-use Rattle.pud_defs.proofs.Parts.Part.{Header}
-use Rattle.pud_defs.proofs.IdleWorlds.{standing_of_idle_world, legal_log_of_idle_world, legal_log_idle, idle_world_of_legal, frames_of_idle_world}
+use Rattle.pud_defs.specs.Formats.Image.{Image}
+use Rattle.pud_defs.specs.Formats.Layout.{device_words}
+use Rattle.pud_defs.specs.Logging.Entries.{Entry, is_idle_gate}
+use Rattle.pud_defs.specs.Logging.Replay.{device_word, overwritten, is_in_log, settled_by}
+use Rattle.pud_defs.specs.RegistryTables.Registry.{frames_of, may_be_logged, is_loggable, has_legal_log}
+use Rattle.pud_defs.specs.StateMachine.World.{StoredWorld, idle_registry, idle_world_of}
+use Rattle.pud_defs.proofs.Logging.Replay.{overwritten-stays, overwritten-there, settled_by-idle, outside_log, within_log}
+use Rattle.pud_defs.proofs.Logging.Logged.{IsUnlogged, unlogged, lies_apart, allowed_in_range, new_value-allowed, has_legal_log-of}
+use Rattle.pud_defs.proofs.StateMachine.Parts.Part.{Header}
+use Rattle.pud_defs.proofs.StateMachine.IdleWorlds.{standing_of_idle_world, legal_log_of_idle_world, legal_log_idle, idle_world_of_legal, frames_of_idle_world}
 use Rattle.log_replay.specs.Replaying.{NamesApart}
 use Rattle.batch.specs.Batches.{batch_write, committed, IsBatchEntry, AreBatched, IsFree, ByBatch, IsBatched, Commits}
 use Rattle.batch.specs.Worlds.{IsQuiescent, with_batch, MovesBy, IsBetween, HasBatch, Moves}

@@ -5,10 +5,10 @@ use Rattle.std.specs.Option.{option_or}
 use Rattle.std.proofs.lemmas.Bool.{and_from, cond-true, cond-false, cases_Bool, eq-eqb}
 use Rattle.std.proofs.lemmas.List.Elements.{All-head, All-tail}
 use Rattle.pud_defs.specs.declared.log_words.TheConstants.{UNDO_ORDER, REDO_ORDER, COMMITTING_LO, COMMITTING_HI}
-use Rattle.pud_defs.specs.Image.{Image}
-use Rattle.pud_defs.specs.Entries.{Entry, Log, log_of, is_idle_gate}
-use Rattle.pud_defs.specs.Replay.{device_word, value_at, is_in_range, given_by, undo_value, redo_value, new_value, overwritten, replayed, IsInLog, is_in_log, settled_by}
-use Rattle.pud_defs.proofs.Replay.{or_none, or_assoc, undo_value-first, redo_value-first, undo_value-none, redo_value-none, new_value-of, settled_by-inside, settled_by-outside, settled_by-idle, within_log}
+use Rattle.pud_defs.specs.Formats.Image.{Image}
+use Rattle.pud_defs.specs.Logging.Entries.{Entry, Log, log_of, is_idle_gate}
+use Rattle.pud_defs.specs.Logging.Replay.{device_word, value_at, is_in_range, given_by, undo_value, redo_value, new_value, overwritten, replayed, IsInLog, is_in_log, settled_by}
+use Rattle.pud_defs.proofs.Logging.Replay.{or_none, or_assoc, undo_value-first, redo_value-first, undo_value-none, redo_value-none, new_value-of, settled_by-inside, settled_by-outside, settled_by-idle, within_log}
 use Rattle.log_replay.specs.Replaying.{NamesApart}
 use Rattle.log_replay.proofs.Left.{value_from-apart}
 use Rattle.batch.specs.Batches.{batch_write, committed, IsBatchEntry, AreBatched}

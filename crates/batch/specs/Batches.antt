@@ -7,9 +7,9 @@ use Rattle.pm_model.specs.Moments.{State}
 use Rattle.pm_model.specs.Changes.{Footprint, Write, Changes, Leaves, Silently}
 use Rattle.pud_defs.specs.declared.layout.TheConstants.{LOG_ENTRY_WORDS, ENTRY_HEADER_WORDS}
 use Rattle.pud_defs.specs.declared.log_words.TheConstants.{REDO_SEQ, REDO_ORDER, COMMITTING_LO, COMMITTING_HI, CLOSED_GATE}
-use Rattle.pud_defs.specs.Image.{Image}
-use Rattle.pud_defs.specs.Entries.{Entry, Log, log_of, is_idle_gate, entries_in}
-use Rattle.pud_defs.specs.Replay.{device_word, value_at, entries_or_none, overwritten, IsInLog, is_in_log, settled_by}
+use Rattle.pud_defs.specs.Formats.Image.{Image}
+use Rattle.pud_defs.specs.Logging.Entries.{Entry, Log, log_of, is_idle_gate, entries_in}
+use Rattle.pud_defs.specs.Logging.Replay.{device_word, value_at, entries_or_none, overwritten, IsInLog, is_in_log, settled_by}
 use Rattle.log_replay.specs.declared.Target.TheVariants as targets
 use Rattle.log_replay.specs.Replaying.{NamesApart, IsNamed, IsReplayable, HasDurableLog}
 

@@ -2,7 +2,7 @@
 use Rattle.std.specs.Prelude.{◌⊎◌, ℕ, ◌<◌, ◌≤◌}
 use Rattle.pm_model.specs.Words.{Words, HasOnly}
 use Rattle.pud_defs.specs.declared.layout.TheConstants.{DAEMON_LOG, TYPE_TABLE}
-use Rattle.pud_defs.specs.Layout.{tables_end}
+use Rattle.pud_defs.specs.Formats.Layout.{tables_end}
 
 -- On a device of so many frames each word before the daemon log, and each word of the tables behind it, has one value.
 pub record HasDurableTables (F : ℕ) (words : Words) : Type 0 where

@@ -6,11 +6,11 @@ use Rattle.pm_model.specs.Words.{Has, values, Words, Picks}
 use Rattle.pm_model.specs.Moments.{State}
 use Rattle.pm_model.specs.Changes.{Leaves, Silently}
 use Rattle.pud_defs.specs.declared.layout.TheConstants.{DAEMON_LOG}
-use Rattle.pud_defs.specs.Image.{Image}
-use Rattle.pud_defs.specs.Entries.{Entry, is_idle_gate}
-use Rattle.pud_defs.specs.Replay.{overwritten, is_in_log, settled_by}
-use Rattle.pud_defs.specs.Registry.{is_loggable}
-use Rattle.pud_defs.specs.World.{StoredWorld, idle_registry, idle_world_of}
+use Rattle.pud_defs.specs.Formats.Image.{Image}
+use Rattle.pud_defs.specs.Logging.Entries.{Entry, is_idle_gate}
+use Rattle.pud_defs.specs.Logging.Replay.{overwritten, is_in_log, settled_by}
+use Rattle.pud_defs.specs.RegistryTables.Registry.{is_loggable}
+use Rattle.pud_defs.specs.StateMachine.World.{StoredWorld, idle_registry, idle_world_of}
 use Rattle.batch.specs.Batches.{batch_write, committed, IsBatched, Commits}
 
 -- Each image that may be left stands for this world, with each registered log closed, and the daemon log counts nothing in it.

@@ -11,8 +11,8 @@ ghost use Rattle.pm_model.specs.Changes.{Changes, Write};
 ghost use Rattle.pm_model.specs.Masks.{masked, masked_state, IsOff};
 ghost use Rattle.log_replay.specs.Replaying.{Anything};
 ghost use Rattle.pud_defs.specs.declared.layout.TheConstants.{DAEMON_LOG, LOG_WORDS, LOG_ENTRY_WORDS, ENTRY_HEADER_WORDS, MAX_ENTRY_VALUES};
-ghost use Rattle.pud_defs.specs.Entries.{Entry, entries_in};
-ghost use Rattle.pud_defs.specs.World.{StoredWorld};
+ghost use Rattle.pud_defs.specs.Logging.Entries.{Entry, entries_in};
+ghost use Rattle.pud_defs.specs.StateMachine.World.{StoredWorld};
 ghost use Rattle.batch.specs.Batches.{batch_entry, word_count_of, AreBatched, IsFree, ByBatch, Prepares, Commits};
 ghost use Rattle.batch.specs.Worlds.{IsQuiescent, MovesBy, Moves};
 
@@ -40,7 +40,7 @@ pub struct Batch {
 
 impl Model for Batch {
     ghost use Rattle.std.specs.Prelude.{List};
-    ghost use Rattle.pud_defs.specs.Entries.{Entry};
+    ghost use Rattle.pud_defs.specs.Logging.Entries.{Entry};
     ghost use Rattle.batch.specs.Batches.{entries_spelled, IsBuffer};
 
     ghost Value = { List Entry };

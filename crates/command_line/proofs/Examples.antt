@@ -1,6 +1,6 @@
 -- What words ask for, by computation.
 use Rattle.std.specs.Prelude.{◌≡◌, [], ◌∷◌, Some, None, codes, refl}
-use Rattle.pud_defs.specs.Grammar.{decimal_of}
+use Rattle.pud_defs.specs.StateMachine.Grammar.{decimal_of}
 use Rattle.command_line.specs.declared.modes.Mode.TheVariants.{Format, Run, Layout, Check, Gen}
 use Rattle.command_line.specs.CommandLine.{mode_of}
 

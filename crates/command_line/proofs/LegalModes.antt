@@ -2,8 +2,8 @@
 use Rattle.std.proofs.Common.{◌≡◌, ◌^◌, ◌+◌, ◌<◌, ◌≤◌, ℕ, Bool, cond, codes, true, false, refl, subst, List, [], ◌∷◌, Option, Some, None, Result, Ok, Err, IfOk, IfSome, arith}
 use Rattle.std.specs.Prelude.{bytes_eq, option_and_then, option_map}
 use Rattle.pud_defs.specs.declared.layout.TheConstants.{MIN_FRAMES, MAX_FRAMES}
-use Rattle.pud_defs.specs.Grammar.{number_within}
-use Rattle.pud_defs.proofs.Commands.{number_within-bounds}
+use Rattle.pud_defs.specs.StateMachine.Grammar.{number_within}
+use Rattle.pud_defs.proofs.StateMachine.Commands.{number_within-bounds}
 use Rattle.command_line.specs.declared.WordsFault.{WordsFault}
 use Rattle.command_line.specs.declared.modes.Mode.{Mode}
 use Rattle.command_line.specs.declared.modes.Mode.TheVariants.{Format, Run, Layout, Check, Gen}

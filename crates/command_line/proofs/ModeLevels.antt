@@ -2,7 +2,7 @@
 use Rattle.std.proofs.Common.{◌≡◌, ◌∙◌, ◌^◌, ◌+◌, ℕ, Bool, cond, ◌||◌, codes, true, false, refl, sym, ap, List, [], ◌∷◌, Option, Some, None}
 use Rattle.std.specs.Prelude.{bytes_eq, option_and_then, option_map}
 use Rattle.pud_defs.specs.declared.layout.TheConstants.{MIN_FRAMES, MAX_FRAMES}
-use Rattle.pud_defs.specs.Grammar.{number_within}
+use Rattle.pud_defs.specs.StateMachine.Grammar.{number_within}
 use Rattle.clap.specs.Walk.{Row, Rule, Text, Walk, after_step, used, value}
 use Rattle.clap.specs.Simple.{Shape, filled, new_shape, with_index}
 use Rattle.clap.specs.Faults.{defaults_fault, step_fault}

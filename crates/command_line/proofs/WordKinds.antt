@@ -9,7 +9,7 @@ use Rattle.clap.specs.Walk.{Held, Row, Rule, Text, after_flag, arg_by_long, arg_
 use Rattle.clap.specs.Faults.{bundle_fault, bundle_step_fault, flag_word_fault, flags_fault, long_fault, short_fault}
 use Rattle.clap.specs.declared.error.kind.ErrorKind.TheVariants.{UnknownArgument}
 use Rattle.clap.proofs.WalkLemmas.{bundle_ends}
-use Rattle.pud_defs.specs.Grammar.{decimal_of, number_within}
+use Rattle.pud_defs.specs.StateMachine.Grammar.{decimal_of, number_within}
 
 -- no argument is an option
 pub record HasNoOptions (rules : List Rule) : Type 0 where

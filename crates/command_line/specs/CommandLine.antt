@@ -1,7 +1,7 @@
 -- Which command lines ask for what.
 use Rattle.std.specs.Prelude.{ℕ, ◌+◌, ◌^◌, ◌<◌, ◌≤◌, cond, List, [], ◌∷◌, codes, bytes_eq, Option, Some, None, option_map, option_and_then}
 use Rattle.pud_defs.specs.declared.layout.TheConstants.{MIN_FRAMES, MAX_FRAMES}
-use Rattle.pud_defs.specs.Grammar.{number_within}
+use Rattle.pud_defs.specs.StateMachine.Grammar.{number_within}
 use Rattle.command_line.specs.declared.modes.Mode.{Mode}
 use Rattle.command_line.specs.declared.modes.Mode.TheVariants.{Format, Run, Layout, Check, Gen}
 use Rattle.command_line.specs.declared.modes.TheConstants.{MAX_SEED, MAX_OBJECTS}

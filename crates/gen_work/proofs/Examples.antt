@@ -2,8 +2,8 @@
 use Rattle.std.specs.Prelude.{◌≡◌, true, [], ◌∷◌, codes, is_some, length, refl}
 use Rattle.std.specs.Fmt.{digits}
 use Rattle.std.specs.List.{list_all}
-use Rattle.pud_defs.specs.Grammar.{command_of}
-use Rattle.pud_defs.proofs.Opened.{opened}
+use Rattle.pud_defs.specs.StateMachine.Grammar.{command_of}
+use Rattle.pud_defs.proofs.Examples.Opened.{opened}
 use Rattle.gen_work.specs.GenLines.{number_at, gen_lines, line_count}
 
 -- the numbers of the seed 1, and which object each first field names

@@ -3,13 +3,13 @@ use Rattle.std.proofs.Common.{◌≡◌, ℕ, List, ◌++◌, map, Some, nat_cmp
 use Rattle.std.specs.Prelude.{codes, decimal}
 use Rattle.std.proofs.lemmas.Simd.{map-map}
 use Rattle.pud_defs.specs.declared.records.Puddle.{Puddle}
-use Rattle.pud_defs.specs.Image.{Image}
-use Rattle.pud_defs.specs.Types.{types_of}
-use Rattle.pud_defs.specs.Stored.{stored_in, places_of}
-use Rattle.pud_defs.specs.Keyed.{keyed}
-use Rattle.pud_defs.specs.Graph.{Graph, Table, graph_of, live, serial_and_place, object_at, named_by, next_serial_of, root_of}
-use Rattle.pud_defs.specs.DumpText.{dump_text, joined, object_text, pointer_text}
-use Rattle.pud_defs.proofs.KeyedMaps.{of_entry}
+use Rattle.pud_defs.specs.Formats.Image.{Image}
+use Rattle.pud_defs.specs.RegistryTables.Types.{types_of}
+use Rattle.pud_defs.specs.PoolGraphs.Stored.{stored_in, places_of}
+use Rattle.pud_defs.specs.RegistryTables.Keyed.{keyed}
+use Rattle.pud_defs.specs.PoolGraphs.Graph.{Graph, Table, graph_of, live, serial_and_place, object_at, named_by, next_serial_of, root_of}
+use Rattle.pud_defs.specs.Output.DumpText.{dump_text, joined, object_text, pointer_text}
+use Rattle.pud_defs.proofs.KeyedTables.KeyedMaps.{of_entry}
 use Rattle.graph_laws.proofs.Places.{objects-placed}
 use Rattle.puddle_header.specs.Places.{places_in}
 use Rattle.graph_read.specs.Reading.{table_in}

@@ -1,7 +1,7 @@
 -- Texts put one behind the other, with commas between them.
 use Rattle.std.proofs.Common.{◌≡◌, ℕ, Bool, true, false, List, ◌∷◌, ◌++◌, sym, ap, ◌∙◌, append_assoc}
 use Rattle.std.specs.Prelude.{codes}
-use Rattle.pud_defs.specs.DumpText.{joined_behind, joined}
+use Rattle.pud_defs.specs.Output.DumpText.{joined_behind, joined}
 use Rattle.graph_dump.specs.Spelled.{separator}
 
 -- texts that are still to come

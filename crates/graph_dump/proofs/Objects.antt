@@ -7,10 +7,10 @@ use Rattle.std.proofs.lemmas.List.FromFn.{map-range_with_len_more}
 use Rattle.pud_defs.specs.declared.space.TheConstants.{SLOT_TYPE_WORD, SLOT_FIELDS_WORD}
 use Rattle.pud_defs.specs.declared.records.Puddle.{Puddle}
 use Rattle.pud_defs.specs.declared.objects.FieldValue.{FieldValue}
-use Rattle.pud_defs.specs.Image.{Image}
-use Rattle.pud_defs.specs.Types.{types_of, map_of}
-use Rattle.pud_defs.specs.Stored.{stored_in, place_word}
-use Rattle.pud_defs.specs.Graph.{Object, object_at, value_of, contents_or_none, slot_contents, content, field_count}
+use Rattle.pud_defs.specs.Formats.Image.{Image}
+use Rattle.pud_defs.specs.RegistryTables.Types.{types_of, map_of}
+use Rattle.pud_defs.specs.PoolGraphs.Stored.{stored_in, place_word}
+use Rattle.pud_defs.specs.PoolGraphs.Graph.{Object, object_at, value_of, contents_or_none, slot_contents, content, field_count}
 use Rattle.graph_read.specs.Reading.{table_in}
 use Rattle.graph_dump.specs.Read.{field_values}
 

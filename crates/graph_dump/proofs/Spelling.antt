@@ -11,9 +11,9 @@ use Rattle.serde_json.specs.Written.{has_float, items_have_float, compact_text, 
 use Rattle.serde_json.specs.declared.value.Value.{Value, the_lemmas}
 use Rattle.serde_json.specs.declared.value.Value as value
 use Rattle.serde_json.proofs.OnLiterals.{serde_json_on_literals}
-use Rattle.pud_defs.specs.Graph.{Object}
-use Rattle.pud_defs.specs.DumpText.{joined_behind, joined, pointer_text, value_text, object_text}
-use Rattle.pud_defs.proofs.DumpText.{IsDigit, decimal-digits}
+use Rattle.pud_defs.specs.PoolGraphs.Graph.{Object}
+use Rattle.pud_defs.specs.Output.DumpText.{joined_behind, joined, pointer_text, value_text, object_text}
+use Rattle.pud_defs.proofs.Output.DumpText.{IsDigit, decimal-digits}
 use Rattle.graph_dump.specs.Spelled.{Spells, SpellsEach}
 
 -- ---- pointers

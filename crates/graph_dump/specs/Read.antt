@@ -4,10 +4,10 @@ use Rattle.std.specs.List.{range_with_len}
 use Rattle.pud_defs.specs.declared.space.TheConstants.{SLOT_FIELDS_WORD}
 use Rattle.pud_defs.specs.declared.records.Puddle.{Puddle}
 use Rattle.pud_defs.specs.declared.objects.FieldValue.{FieldValue}
-use Rattle.pud_defs.specs.Image.{Image}
-use Rattle.pud_defs.specs.Stored.{stored_in, place_word}
-use Rattle.pud_defs.specs.Graph.{value_of, content, field_count, under_serial, object_at}
-use Rattle.pud_defs.specs.DumpText.{object_text}
+use Rattle.pud_defs.specs.Formats.Image.{Image}
+use Rattle.pud_defs.specs.PoolGraphs.Stored.{stored_in, place_word}
+use Rattle.pud_defs.specs.PoolGraphs.Graph.{value_of, content, field_count, under_serial, object_at}
+use Rattle.pud_defs.specs.Output.DumpText.{object_text}
 use Rattle.graph_read.specs.Reading.{table_in}
 
 -- what field f at a place holds by the map of a type

@@ -4,11 +4,11 @@ ghost use Rattle.std.specs.Prelude.{◌≡◌, ◌++◌, ◌≤◌, ◌<◌, Opt
 ghost use Rattle.std.specs.BTreeMap.{values};
 ghost use Rattle.pm_model.specs.Words.{Image, reads};
 ghost use Rattle.pm_model.specs.Reads.{OnlyReads};
-ghost use Rattle.pud_defs.specs.Layout.{device_words};
-ghost use Rattle.pud_defs.specs.Types.{types_of};
-ghost use Rattle.pud_defs.specs.Stored.{IsOnDevice, stored_in};
-ghost use Rattle.pud_defs.specs.Graph.{Graph, graph_of};
-ghost use Rattle.pud_defs.specs.DumpText.{dump_text, pointer_text, joined};
+ghost use Rattle.pud_defs.specs.Formats.Layout.{device_words};
+ghost use Rattle.pud_defs.specs.RegistryTables.Types.{types_of};
+ghost use Rattle.pud_defs.specs.PoolGraphs.Stored.{IsOnDevice, stored_in};
+ghost use Rattle.pud_defs.specs.PoolGraphs.Graph.{Graph, graph_of};
+ghost use Rattle.pud_defs.specs.Output.DumpText.{dump_text, pointer_text, joined};
 ghost use Rattle.puddle_header.specs.Places.{places_in};
 ghost use Rattle.graph_dump.specs.Faults.{fault_in};
 ghost use Rattle.graph_dump.specs.Read.{entry_text};

@@ -2,7 +2,7 @@
 
 ghost use Rattle.std.specs.Prelude.{◌≡◌, ◌≤◌, take};
 ghost use Rattle.pud_defs.specs.declared.layout.TheConstants.{MAX_FIELDS};
-ghost use Rattle.pud_defs.specs.Graph.{Object};
+ghost use Rattle.pud_defs.specs.PoolGraphs.Graph.{Object};
 
 use pud_defs::layout::MAX_FIELDS;
 use pud_defs::objects::FieldValue;

@@ -1,7 +1,7 @@
 //! Parts of a graph as JSON values, and their text.
 
 ghost use Rattle.std.specs.Prelude.{◌≡◌, ◌++◌, map, IfOk, OnOk};
-ghost use Rattle.pud_defs.specs.DumpText.{pointer_text, value_text, object_text};
+ghost use Rattle.pud_defs.specs.Output.DumpText.{pointer_text, value_text, object_text};
 ghost use Rattle.graph_dump.specs.Spelled.{Spells, SpellsEach, separator};
 
 use crate::object::ObjectRead;

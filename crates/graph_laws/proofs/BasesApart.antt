@@ -8,12 +8,12 @@ use Rattle.std.proofs.lemmas.List.Sums.{AllPass-from_list_all}
 use Rattle.std.proofs.lemmas.Option.{slice_get-map, slice_get_within, get_or_from_slice_get}
 use Rattle.pud_defs.specs.declared.space.TheConstants.{RANGE_BYTES}
 use Rattle.pud_defs.specs.declared.records.Puddle.{Puddle}
-use Rattle.pud_defs.specs.Bases.{is_legal_base}
-use Rattle.pud_defs.specs.Keyed.{under}
-use Rattle.pud_defs.specs.ExportFile.{under_base, are_file_bases}
-use Rattle.pud_defs.proofs.TypeLists.{same_test}
-use Rattle.pud_defs.proofs.Keyed.{IsMapped, option_map_parts, HasDistinctKeys, distinct_keys, under_none}
-use Rattle.pud_defs.proofs.PoolMembers.{multiple_of_legal}
+use Rattle.pud_defs.specs.Formats.Bases.{is_legal_base}
+use Rattle.pud_defs.specs.RegistryTables.Keyed.{under}
+use Rattle.pud_defs.specs.PoolGraphs.ExportFile.{under_base, are_file_bases}
+use Rattle.pud_defs.proofs.RegistryTables.TypeLists.{same_test}
+use Rattle.pud_defs.proofs.KeyedTables.Keyed.{IsMapped, option_map_parts, HasDistinctKeys, distinct_keys, under_none}
+use Rattle.pud_defs.proofs.RegistryTables.PoolMembers.{multiple_of_legal}
 use Rattle.graph_laws.specs.Changes.{AreBases}
 
 module _ (puddles : List Puddle) (legal : are_file_bases puddles ≡ true) where

@@ -2,8 +2,8 @@
 use Rattle.std.proofs.Common.{◌≡◌, ℕ, zero, suc, Bool, true, false, not, eqb, List, [], ◌∷◌, map, set, Option, Some, None, refl, ap, ◌∙◌, eq-eqb, ne_eqb}
 use Rattle.std.specs.List.{list_any, list_all}
 use Rattle.std.proofs.lemmas.Bool.{and_parts, and_from, or_parts, not-true, both_ways}
-use Rattle.pud_defs.specs.Graph.{Content, Number, Null, At, Nowhere, named_by, value_of, stands, all_stand, names_serial}
-use Rattle.pud_defs.proofs.Contents.{names_only, name_only}
+use Rattle.pud_defs.specs.PoolGraphs.Graph.{Content, Number, Null, At, Nowhere, named_by, value_of, stands, all_stand, names_serial}
+use Rattle.pud_defs.proofs.PoolGraphs.Contents.{names_only, name_only}
 
 -- ---- what names other places only
 

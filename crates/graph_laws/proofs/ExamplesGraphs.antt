@@ -3,12 +3,12 @@ use Rattle.std.proofs.Common.{◌≡◌, ℕ, ◌+◌, ◌*◌, ◌^◌, false, 
 use Rattle.pud_defs.specs.declared.space.TheConstants.{FRAME_MAGIC}
 use Rattle.pud_defs.specs.declared.records.Puddle.{Puddle}
 use Rattle.pud_defs.specs.declared.objects.FieldValue.TheVariants.{Num, Ref}
-use Rattle.pud_defs.specs.TypeMap.{map_word}
-use Rattle.pud_defs.specs.Spaces.{all_below}
-use Rattle.pud_defs.specs.Keyed.{keyed, first_from, are_distinct}
-use Rattle.pud_defs.specs.Stored.{Stored}
-use Rattle.pud_defs.specs.Graph.{place_in, target, is_graph, headers_fit, graph_of, is_referenced, Graph}
-use Rattle.pud_defs.specs.GraphChanges.{with_field, with_root, without_object, with_new, blank_object}
+use Rattle.pud_defs.specs.Formats.TypeMap.{map_word}
+use Rattle.pud_defs.specs.RegistryTables.Spaces.{all_below}
+use Rattle.pud_defs.specs.RegistryTables.Keyed.{keyed, first_from, are_distinct}
+use Rattle.pud_defs.specs.PoolGraphs.Stored.{Stored}
+use Rattle.pud_defs.specs.PoolGraphs.Graph.{place_in, target, is_graph, headers_fit, graph_of, is_referenced, Graph}
+use Rattle.pud_defs.specs.PoolGraphs.GraphChanges.{with_field, with_root, without_object, with_new, blank_object}
 use Rattle.graph_laws.specs.Changes.{with_field_word, with_serial_word, with_root_word}
 use Rattle.graph_laws.specs.Rewriting.{rewritten}
 

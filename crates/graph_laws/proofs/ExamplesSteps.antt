@@ -3,13 +3,13 @@ use Rattle.std.proofs.Common.{◌≡◌, ℕ, ◌+◌, ◌^◌, true, false, con
 use Rattle.pud_defs.specs.declared.space.TheConstants.{FRAME_MAGIC}
 use Rattle.pud_defs.specs.declared.records.Puddle.{Puddle}
 use Rattle.pud_defs.specs.declared.objects.FieldValue.TheVariants.{Num, Ref}
-use Rattle.pud_defs.specs.TypeMap.{map_word}
-use Rattle.pud_defs.specs.Spaces.{all_below}
-use Rattle.pud_defs.specs.Keyed.{keyed, first_from, are_distinct}
-use Rattle.pud_defs.specs.Stored.{Stored}
-use Rattle.pud_defs.specs.Graph.{At, over_old, place_in, target, is_graph, headers_fit, graph_of, Graph}
-use Rattle.pud_defs.specs.Frames.{frame_at}
-use Rattle.pud_defs.specs.Puddles.{moved_to, frontier_word}
+use Rattle.pud_defs.specs.Formats.TypeMap.{map_word}
+use Rattle.pud_defs.specs.RegistryTables.Spaces.{all_below}
+use Rattle.pud_defs.specs.RegistryTables.Keyed.{keyed, first_from, are_distinct}
+use Rattle.pud_defs.specs.PoolGraphs.Stored.{Stored}
+use Rattle.pud_defs.specs.PoolGraphs.Graph.{At, over_old, place_in, target, is_graph, headers_fit, graph_of, Graph}
+use Rattle.pud_defs.specs.Formats.Frames.{frame_at}
+use Rattle.pud_defs.specs.RegistryTables.Puddles.{moved_to, frontier_word}
 use Rattle.graph_laws.specs.Rewriting.{rewritten, is_passed, passes_root, advanced}
 use Rattle.graph_laws.specs.Steps.{passed_word, with_passed, steps_write, with_steps}
 

@@ -9,13 +9,13 @@ use Rattle.pud_defs.specs.declared.space.TheConstants.{FRAME_HEADER_WORDS, SLOT_
 use Rattle.pud_defs.specs.declared.records.Puddle.{Puddle}
 use Rattle.pud_defs.specs.declared.objects.FieldValue.{FieldValue}
 use Rattle.pud_defs.specs.declared.objects.FieldValue.TheVariants.{Num, Ref}
-use Rattle.pud_defs.specs.TypeMap.{is_pointer}
-use Rattle.pud_defs.specs.Geometry.{ordinal_of, slot_of}
-use Rattle.pud_defs.specs.Types.{map_of}
-use Rattle.pud_defs.specs.Stored.{Stored, places_of, place_word, place_begins, place_words}
-use Rattle.pud_defs.specs.Graph.{Content, Number, Table, table_of, slot_contents, contents_or_none, content, field_count, pointee_at, place_of_serial, object_at, named_by, value_of, stands, all_stand, Object, Graph, next_serial_of, root_of, graph_stored, graph_of}
-use Rattle.pud_defs.proofs.Graphs.{HasGraph, graph_of-each}
-use Rattle.pud_defs.specs.GraphChanges.{object_with, with_some_object, with_field}
+use Rattle.pud_defs.specs.Formats.TypeMap.{is_pointer}
+use Rattle.pud_defs.specs.Formats.Geometry.{ordinal_of, slot_of}
+use Rattle.pud_defs.specs.RegistryTables.Types.{map_of}
+use Rattle.pud_defs.specs.PoolGraphs.Stored.{Stored, places_of, place_word, place_begins, place_words}
+use Rattle.pud_defs.specs.PoolGraphs.Graph.{Content, Number, Table, table_of, slot_contents, contents_or_none, content, field_count, pointee_at, place_of_serial, object_at, named_by, value_of, stands, all_stand, Object, Graph, next_serial_of, root_of, graph_stored, graph_of}
+use Rattle.pud_defs.proofs.PoolGraphs.Graphs.{HasGraph, graph_of-each}
+use Rattle.pud_defs.specs.PoolGraphs.GraphChanges.{object_with, with_some_object, with_field}
 use Rattle.graph_laws.specs.Changes.{IsAddress, IsField, with_field_word, with_word, with_words}
 use Rattle.graph_laws.proofs.ContentLists.{list_all-set}
 use Rattle.graph_laws.proofs.TableChanges.{IsSameBut, find-live, serials_still, IsGraph-in_place, objects-in_place}

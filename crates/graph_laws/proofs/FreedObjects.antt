@@ -6,11 +6,11 @@ use Rattle.std.specs.FinMap.Entries.{find}
 use Rattle.std.proofs.lemmas.Bool.{cases_Bool, cond-true, cond-false, or_parts}
 use Rattle.std.proofs.lemmas.Option.{none-some, same_Some}
 use Rattle.pud_defs.specs.declared.space.TheConstants.{FRAME_HEADER_WORDS, SLOT_SERIAL_WORD}
-use Rattle.pud_defs.specs.Geometry.{ordinal_of}
-use Rattle.pud_defs.specs.Stored.{Stored, places_of, place_begins}
-use Rattle.pud_defs.specs.Graph.{Table, table_of, contents_or_none, pointee_at, place_of_serial, object_at, names_serial, Object, Graph, next_serial_of, root_of, graph_stored, graph_of, is_referenced}
-use Rattle.pud_defs.proofs.Graphs.{IsGraph, HasGraph, graph_of-each}
-use Rattle.pud_defs.specs.GraphChanges.{without_object}
+use Rattle.pud_defs.specs.Formats.Geometry.{ordinal_of}
+use Rattle.pud_defs.specs.PoolGraphs.Stored.{Stored, places_of, place_begins}
+use Rattle.pud_defs.specs.PoolGraphs.Graph.{Table, table_of, contents_or_none, pointee_at, place_of_serial, object_at, names_serial, Object, Graph, next_serial_of, root_of, graph_stored, graph_of, is_referenced}
+use Rattle.pud_defs.proofs.PoolGraphs.Graphs.{IsGraph, HasGraph, graph_of-each}
+use Rattle.pud_defs.specs.PoolGraphs.GraphChanges.{without_object}
 use Rattle.graph_laws.specs.Changes.{with_word, with_words, with_serial_word}
 use Rattle.graph_laws.proofs.ContentLists.{name_no_serial, names_no_root}
 use Rattle.graph_laws.proofs.TableChanges.{IsUnnamed, find-live, root-unnamed, IsGraph-unnamed, distinct-freed, objects-freed}

@@ -7,16 +7,16 @@ use Rattle.std.proofs.lemmas.List.{length_push, map-append}
 use Rattle.std.proofs.lemmas.Option.{none-some}
 use Rattle.pud_defs.specs.declared.space.TheConstants.{SLOT_TYPE_WORD, SLOT_FIELDS_WORD, NEXT_SERIAL_WORD, ROOT_WORD}
 use Rattle.pud_defs.specs.declared.records.Puddle.{Puddle}
-use Rattle.pud_defs.specs.TypeMap.{is_pointer}
-use Rattle.pud_defs.specs.Geometry.{ordinal_of, slot_of, places_among}
-use Rattle.pud_defs.specs.Types.{map_of}
-use Rattle.pud_defs.specs.Keyed.{put_entry, keyed, under}
-use Rattle.pud_defs.specs.Stored.{Stored, places_of, place_word}
-use Rattle.pud_defs.specs.Graph.{Content, Number, Null, Table, table_of, slot_contents, slot_in, place_in, at_place, target, over_old, puddles_by, pointee_at, content, live, object_at, named_by, stands, has_header, headers_fit, Graph, next_serial_of, root_of, graph_by, graph_of}
-use Rattle.pud_defs.proofs.Spaces.{all_below-each, all_below-from}
-use Rattle.pud_defs.proofs.Keyed.{keyed-none}
-use Rattle.pud_defs.proofs.Contents.{pointee_at_within, contents_by_within}
-use Rattle.pud_defs.proofs.Graphs.{under_serial-free, IsGraph, IsSameTable, IsGraph-same, graph_by-same, graph_of-each, graph_of-from}
+use Rattle.pud_defs.specs.Formats.TypeMap.{is_pointer}
+use Rattle.pud_defs.specs.Formats.Geometry.{ordinal_of, slot_of, places_among}
+use Rattle.pud_defs.specs.RegistryTables.Types.{map_of}
+use Rattle.pud_defs.specs.RegistryTables.Keyed.{put_entry, keyed, under}
+use Rattle.pud_defs.specs.PoolGraphs.Stored.{Stored, places_of, place_word}
+use Rattle.pud_defs.specs.PoolGraphs.Graph.{Content, Number, Null, Table, table_of, slot_contents, slot_in, place_in, at_place, target, over_old, puddles_by, pointee_at, content, live, object_at, named_by, stands, has_header, headers_fit, Graph, next_serial_of, root_of, graph_by, graph_of}
+use Rattle.pud_defs.proofs.RegistryTables.Spaces.{all_below-each, all_below-from}
+use Rattle.pud_defs.proofs.KeyedTables.Keyed.{keyed-none}
+use Rattle.pud_defs.proofs.PoolGraphs.Contents.{pointee_at_within, contents_by_within}
+use Rattle.pud_defs.proofs.PoolGraphs.Graphs.{under_serial-free, IsGraph, IsSameTable, IsGraph-same, graph_by-same, graph_of-each, graph_of-from}
 use Rattle.graph_laws.specs.Reads.{with_puddle, IsGrown}
 use Rattle.graph_laws.specs.Changes.{with_words}
 use Rattle.graph_laws.proofs.Words.{has_header-same}

@@ -7,8 +7,8 @@ use Rattle.std.proofs.lemmas.Bool.{cases_eq, cond-true, cond-false}
 use Rattle.std.proofs.lemmas.Cmp.{nat_cmp_total}
 use Rattle.std.proofs.lemmas.Option.{none-some}
 use Rattle.std.proofs.lemmas.List.Sums.{sum_by-cons}
-use Rattle.pud_defs.specs.Keyed.{without}
-use Rattle.pud_defs.proofs.TypeLists.{same_test, same_number}
+use Rattle.pud_defs.specs.RegistryTables.Keyed.{without}
+use Rattle.pud_defs.proofs.RegistryTables.TypeLists.{same_test, same_number}
 
 -- ---- the list without a key
 

@@ -8,12 +8,12 @@ use Rattle.std.proofs.lemmas.Option.{slice_get-map}
 use Rattle.pud_defs.specs.declared.layout.TheConstants.{TYPE_RECORDS}
 use Rattle.pud_defs.specs.declared.records.TheConstants.{MAX_PUDDLES}
 use Rattle.pud_defs.specs.declared.records.Puddle.{Puddle}
-use Rattle.pud_defs.specs.Bases.{is_legal_base}
-use Rattle.pud_defs.specs.Keyed.{are_distinct}
-use Rattle.pud_defs.specs.Stored.{Stored}
-use Rattle.pud_defs.specs.Graph.{Graph, graph_of}
-use Rattle.pud_defs.specs.ExportFile.{words_in, file_words, file_types, file_stored, has_file_header, are_file_types, under_base, are_file_bases, is_plain, is_file, types_used, FileContents, contents_with, contents_by, contents_of, file_graph}
-use Rattle.pud_defs.specs.Exported.{exported_words, IsExportable}
+use Rattle.pud_defs.specs.Formats.Bases.{is_legal_base}
+use Rattle.pud_defs.specs.RegistryTables.Keyed.{are_distinct}
+use Rattle.pud_defs.specs.PoolGraphs.Stored.{Stored}
+use Rattle.pud_defs.specs.PoolGraphs.Graph.{Graph, graph_of}
+use Rattle.pud_defs.specs.PoolGraphs.ExportFile.{words_in, file_words, file_types, file_stored, has_file_header, are_file_types, under_base, are_file_bases, is_plain, is_file, types_used, FileContents, contents_with, contents_by, contents_of, file_graph}
+use Rattle.pud_defs.specs.PoolGraphs.Exported.{exported_words, IsExportable}
 use Rattle.graph_laws.specs.Changes.{AreBases}
 use Rattle.graph_laws.proofs.Pieces.{at_rest, IsExported, length-words, types_read, is_exported}
 use Rattle.graph_laws.proofs.BasesApart.{are_bases}

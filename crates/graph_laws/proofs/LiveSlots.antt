@@ -1,10 +1,10 @@
 -- How many objects there are where each slot is live, and where one is free.
 use Rattle.std.proofs.Common.{◌≡◌, ◌↔◌, ℕ, ◌≤◌, List, length, Option, Some, None, refl, sym, ap, ◌∙◌, arith}
-use Rattle.pud_defs.specs.Keyed.{count_used, first_free}
-use Rattle.pud_defs.specs.Stored.{Stored, places_of}
-use Rattle.pud_defs.specs.Graph.{Graph, Table, table_of, serial_and_place, graph_of}
-use Rattle.pud_defs.proofs.Keyed.{first_free_some, count_used_most, count_used_full, count_used_room}
-use Rattle.pud_defs.proofs.Graphs.{under_serial-free, under_serial-used, graph_of-each, length-live}
+use Rattle.pud_defs.specs.RegistryTables.Keyed.{count_used, first_free}
+use Rattle.pud_defs.specs.PoolGraphs.Stored.{Stored, places_of}
+use Rattle.pud_defs.specs.PoolGraphs.Graph.{Graph, Table, table_of, serial_and_place, graph_of}
+use Rattle.pud_defs.proofs.KeyedTables.Keyed.{first_free_some, count_used_most, count_used_full, count_used_room}
+use Rattle.pud_defs.proofs.PoolGraphs.Graphs.{under_serial-free, under_serial-used, graph_of-each, length-live}
 use Rattle.graph_laws.specs.Slots.{AreAllLive}
 
 module _ (types : List (ℕ × ℕ)) (st : Stored) (g : Graph) (is : graph_of types st ≡ Some g) where

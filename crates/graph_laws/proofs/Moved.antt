@@ -7,17 +7,17 @@ use Rattle.std.proofs.lemmas.List.{length-map}
 use Rattle.std.proofs.lemmas.Option.{slice_get-map}
 use Rattle.pud_defs.specs.declared.space.TheConstants.{FRAME_MAGIC, FRAME_HEADER_WORDS, NEXT_SERIAL_WORD, ROOT_WORD, SLOT_SERIAL_WORD, SLOT_TYPE_WORD, SLOT_FIELDS_WORD, LAST_FRONTIER}
 use Rattle.pud_defs.specs.declared.records.Puddle.{Puddle}
-use Rattle.pud_defs.specs.TypeMap.{is_pointer}
-use Rattle.pud_defs.specs.Geometry.{ordinal_of, slot_of, places_among}
-use Rattle.pud_defs.specs.Types.{map_of}
-use Rattle.pud_defs.specs.Spaces.{all_below}
-use Rattle.pud_defs.specs.Stored.{Stored, places_of, place_words, place_word, IsLivePlace}
-use Rattle.pud_defs.specs.Graph.{Number, Null, Table, table_of, slot_contents, slot_in, place_in, at_place, target, puddles_by, pointee_at, content, field_count, stands, has_header, headers_fit, Graph, next_serial_of, root_of, graph_of}
-use Rattle.pud_defs.specs.Exported.{address_of, exported_field, exported_object, uuid_number_of, exported_header}
-use Rattle.pud_defs.proofs.Spaces.{all_below-from}
-use Rattle.pud_defs.proofs.Contents.{few_puddles}
-use Rattle.pud_defs.proofs.TypeMore.{defined_there}
-use Rattle.pud_defs.proofs.Graphs.{IsGraph, HasGraph, graph_of-each}
+use Rattle.pud_defs.specs.Formats.TypeMap.{is_pointer}
+use Rattle.pud_defs.specs.Formats.Geometry.{ordinal_of, slot_of, places_among}
+use Rattle.pud_defs.specs.RegistryTables.Types.{map_of}
+use Rattle.pud_defs.specs.RegistryTables.Spaces.{all_below}
+use Rattle.pud_defs.specs.PoolGraphs.Stored.{Stored, places_of, place_words, place_word, IsLivePlace}
+use Rattle.pud_defs.specs.PoolGraphs.Graph.{Number, Null, Table, table_of, slot_contents, slot_in, place_in, at_place, target, puddles_by, pointee_at, content, field_count, stands, has_header, headers_fit, Graph, next_serial_of, root_of, graph_of}
+use Rattle.pud_defs.specs.PoolGraphs.Exported.{address_of, exported_field, exported_object, uuid_number_of, exported_header}
+use Rattle.pud_defs.proofs.RegistryTables.Spaces.{all_below-from}
+use Rattle.pud_defs.proofs.PoolGraphs.Contents.{few_puddles}
+use Rattle.pud_defs.proofs.PoolGraphs.TypeMore.{defined_there}
+use Rattle.pud_defs.proofs.PoolGraphs.Graphs.{IsGraph, HasGraph, graph_of-each}
 use Rattle.graph_laws.specs.Changes.{AreBases}
 use Rattle.graph_laws.proofs.Words.{few_fields}
 use Rattle.graph_laws.proofs.Pointers.{there_is_puddle, target-address}

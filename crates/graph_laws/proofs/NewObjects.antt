@@ -5,14 +5,14 @@ use Rattle.std.specs.FinMap.Entries.{put}
 use Rattle.std.proofs.lemmas.Bool.{cases_Bool, cond-true, cond-false, and_parts, and_from, leb-true, le-leb}
 use Rattle.pud_defs.specs.declared.layout.TheConstants.{NUMBER_LIMIT}
 use Rattle.pud_defs.specs.declared.records.Puddle.{Puddle}
-use Rattle.pud_defs.specs.TypeMap.{is_pointer}
-use Rattle.pud_defs.specs.Geometry.{ordinal_of, slot_of}
-use Rattle.pud_defs.specs.Types.{map_of}
-use Rattle.pud_defs.specs.Stored.{Stored, places_of, place_begins}
-use Rattle.pud_defs.specs.Graph.{Content, Table, table_of, slot_contents, contents_or_none, content, field_count, pointee_at, object_at, value_of, stands, all_stand, is_next_serial, Object, Graph, next_serial_of, root_of, graph_stored, graph_of}
-use Rattle.pud_defs.proofs.Contents.{list_all-range}
-use Rattle.pud_defs.proofs.Graphs.{HasGraph, graph_of-each}
-use Rattle.pud_defs.specs.GraphChanges.{blank_value, blank_object, with_new}
+use Rattle.pud_defs.specs.Formats.TypeMap.{is_pointer}
+use Rattle.pud_defs.specs.Formats.Geometry.{ordinal_of, slot_of}
+use Rattle.pud_defs.specs.RegistryTables.Types.{map_of}
+use Rattle.pud_defs.specs.PoolGraphs.Stored.{Stored, places_of, place_begins}
+use Rattle.pud_defs.specs.PoolGraphs.Graph.{Content, Table, table_of, slot_contents, contents_or_none, content, field_count, pointee_at, object_at, value_of, stands, all_stand, is_next_serial, Object, Graph, next_serial_of, root_of, graph_stored, graph_of}
+use Rattle.pud_defs.proofs.PoolGraphs.Contents.{list_all-range}
+use Rattle.pud_defs.proofs.PoolGraphs.Graphs.{HasGraph, graph_of-each}
+use Rattle.pud_defs.specs.PoolGraphs.GraphChanges.{blank_value, blank_object, with_new}
 use Rattle.graph_laws.specs.Changes.{with_words, IsMade}
 use Rattle.graph_laws.proofs.ContentLists.{names_no_free, name_no_free}
 use Rattle.graph_laws.proofs.TableChanges.{IsSameBut, IsUnnamed, root-unnamed, IsGraph-unnamed, distinct-new, objects-new}

@@ -4,11 +4,11 @@ use Rattle.std.specs.Prelude.{unwrap_or}
 use Rattle.std.proofs.lemmas.Bool.{cases_eq, cases_Bool, cond-true, cond-false, and_parts, and_from, and_left, lt-ltb, le-ltb, le-leb, leb-true, eqb-true}
 use Rattle.pud_defs.specs.declared.space.TheConstants.{FRAME_HEADER_WORDS, ROOT_WORD, SLOT_TYPE_WORD, SLOT_FIELDS_WORD}
 use Rattle.pud_defs.specs.declared.records.Puddle.{Puddle}
-use Rattle.pud_defs.specs.TypeMap.{is_pointer}
-use Rattle.pud_defs.specs.Geometry.{puddle_slot_words, puddle_slot_at, ordinal_of, slot_of}
-use Rattle.pud_defs.specs.Types.{map_of}
-use Rattle.pud_defs.specs.Stored.{Stored, place_word, place_begins, slot_state}
-use Rattle.pud_defs.specs.Graph.{field_count}
+use Rattle.pud_defs.specs.Formats.TypeMap.{is_pointer}
+use Rattle.pud_defs.specs.Formats.Geometry.{puddle_slot_words, puddle_slot_at, ordinal_of, slot_of}
+use Rattle.pud_defs.specs.RegistryTables.Types.{map_of}
+use Rattle.pud_defs.specs.PoolGraphs.Stored.{Stored, place_word, place_begins, slot_state}
+use Rattle.pud_defs.specs.PoolGraphs.Graph.{field_count}
 use Rattle.graph_laws.specs.Changes.{with_words}
 use Rattle.graph_laws.specs.Rewriting.{rewritten, rewritten_field, passes_slot, is_passed, passes_root, RewritesSteps}
 use Rattle.graph_laws.specs.Steps.{pointer_by, slot_pointer, header_pointer, passed_word, with_passed}

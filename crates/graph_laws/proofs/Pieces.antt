@@ -11,12 +11,12 @@ use Rattle.pud_defs.specs.declared.layout.TheConstants.{FRAME_WORDS}
 use Rattle.pud_defs.specs.declared.space.TheConstants.{FRAME_HEADER_WORDS, FRAME_NUMBER_WORD, SLOT_SERIAL_WORD, SLOT_TYPE_WORD, SLOT_FIELDS_WORD, LAST_FRONTIER}
 use Rattle.pud_defs.specs.declared.records.Puddle.{Puddle}
 use Rattle.pud_defs.specs.declared.files.TheConstants.{FILE_MAGIC, FILE_VERSION}
-use Rattle.pud_defs.specs.Geometry.{puddle_slots, puddle_slot_words, ordinal_of, slot_of, place_at}
-use Rattle.pud_defs.specs.Stored.{Stored, places_of, place_words, place_word, place_begins, IsFreePlace, IsLivePlace}
-use Rattle.pud_defs.specs.Types.{map_of}
-use Rattle.pud_defs.specs.Graph.{field_count}
-use Rattle.pud_defs.specs.ExportFile.{file_type_at, file_bases_at, file_frame_at, file_words, file_type, file_types, file_puddle, file_stored}
-use Rattle.pud_defs.specs.Exported.{exported_field, exported_object, exported_slot, uuid_number_of, exported_header, exported_frame, type_words, exported_words}
+use Rattle.pud_defs.specs.Formats.Geometry.{puddle_slots, puddle_slot_words, ordinal_of, slot_of, place_at}
+use Rattle.pud_defs.specs.PoolGraphs.Stored.{Stored, places_of, place_words, place_word, place_begins, IsFreePlace, IsLivePlace}
+use Rattle.pud_defs.specs.RegistryTables.Types.{map_of}
+use Rattle.pud_defs.specs.PoolGraphs.Graph.{field_count}
+use Rattle.pud_defs.specs.PoolGraphs.ExportFile.{file_type_at, file_bases_at, file_frame_at, file_words, file_type, file_types, file_puddle, file_stored}
+use Rattle.pud_defs.specs.PoolGraphs.Exported.{exported_field, exported_object, exported_slot, uuid_number_of, exported_header, exported_frame, type_words, exported_words}
 use Rattle.graph_laws.proofs.Words.{few_fields}
 use Rattle.graph_laws.proofs.Chunks.{length-chunks, chunk, chunk-range, zeroes}
 

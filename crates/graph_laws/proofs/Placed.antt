@@ -5,12 +5,12 @@ use Rattle.std.proofs.lemmas.Bool.{cond-true, cond-false, lt-ltb, le-ltb}
 use Rattle.std.proofs.lemmas.List.{length-map}
 use Rattle.pud_defs.specs.declared.space.TheConstants.{NEXT_SERIAL_WORD, ROOT_WORD, SLOT_SERIAL_WORD, SLOT_TYPE_WORD, SLOT_FIELDS_WORD, LAST_FRONTIER}
 use Rattle.pud_defs.specs.declared.records.Puddle.{Puddle}
-use Rattle.pud_defs.specs.TypeMap.{is_pointer}
-use Rattle.pud_defs.specs.Geometry.{ordinal_of, slot_of, places_among}
-use Rattle.pud_defs.specs.Types.{map_of}
-use Rattle.pud_defs.specs.Stored.{Stored, places_of, place_begins, place_word}
-use Rattle.pud_defs.specs.Graph.{Content, Number, Null, slot_contents, slot_in, place_in, at_place, target, over_old, puddles_by, pointee_at, content, field_count, Graph, graph_of}
-use Rattle.pud_defs.proofs.Graphs.{graph_of-each}
+use Rattle.pud_defs.specs.Formats.TypeMap.{is_pointer}
+use Rattle.pud_defs.specs.Formats.Geometry.{ordinal_of, slot_of, places_among}
+use Rattle.pud_defs.specs.RegistryTables.Types.{map_of}
+use Rattle.pud_defs.specs.PoolGraphs.Stored.{Stored, places_of, place_begins, place_word}
+use Rattle.pud_defs.specs.PoolGraphs.Graph.{Content, Number, Null, slot_contents, slot_in, place_in, at_place, target, over_old, puddles_by, pointee_at, content, field_count, Graph, graph_of}
+use Rattle.pud_defs.proofs.PoolGraphs.Graphs.{graph_of-each}
 use Rattle.graph_laws.specs.Placed.{ArePlacedFrames, AreFrontiers, KeepsBases, MovesBases}
 use Rattle.graph_laws.proofs.Words.{few_fields, map-range_same}
 use Rattle.graph_laws.proofs.Pointers.{there_is_puddle}

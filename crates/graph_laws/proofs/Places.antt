@@ -3,12 +3,12 @@ use Rattle.std.proofs.Common.{◌≡◌, ℕ, List, map, Some, nat_cmp, option_m
 use Rattle.std.specs.FinMap.Entries.{find}
 use Rattle.std.proofs.lemmas.Bool.{cases_eq}
 use Rattle.std.proofs.lemmas.Cmp.{nat_cmp_total}
-use Rattle.pud_defs.specs.Keyed.{keyed}
-use Rattle.pud_defs.specs.Stored.{Stored, places_of}
-use Rattle.pud_defs.specs.Graph.{Table, table_of, serial_and_place, place_of_serial, live, object_at, object_in, Graph, graph_of}
-use Rattle.pud_defs.proofs.Keyed.{keyed-same, find-keyed}
-use Rattle.pud_defs.proofs.KeyedMaps.{of_entry, keyed-mapped, find-mapped}
-use Rattle.pud_defs.proofs.Graphs.{under_serial-free, under_serial-used, graph_of-each}
+use Rattle.pud_defs.specs.RegistryTables.Keyed.{keyed}
+use Rattle.pud_defs.specs.PoolGraphs.Stored.{Stored, places_of}
+use Rattle.pud_defs.specs.PoolGraphs.Graph.{Table, table_of, serial_and_place, place_of_serial, live, object_at, object_in, Graph, graph_of}
+use Rattle.pud_defs.proofs.KeyedTables.Keyed.{keyed-same, find-keyed}
+use Rattle.pud_defs.proofs.KeyedTables.KeyedMaps.{of_entry, keyed-mapped, find-mapped}
+use Rattle.pud_defs.proofs.PoolGraphs.Graphs.{under_serial-free, under_serial-used, graph_of-each}
 
 module _ (t : Table) where
   live-placed : (p : ℕ) → live t p ≡ option_map (of_entry nat_cmp (object_at t)) (serial_and_place t p)

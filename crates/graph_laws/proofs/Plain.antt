@@ -4,13 +4,13 @@ use Rattle.std.specs.Prelude.{slice_get}
 use Rattle.std.proofs.lemmas.Bool.{cases_eq, cond-false, and_from}
 use Rattle.std.proofs.lemmas.List.{get_or-append-add, length-map}
 use Rattle.pud_defs.specs.declared.space.TheConstants.{FRAME_MAGIC, FRAME_HEADER_WORDS, NEXT_SERIAL_WORD, ROOT_WORD, SLOT_SERIAL_WORD, SLOT_FIELDS_WORD}
-use Rattle.pud_defs.specs.Types.{map_of}
-use Rattle.pud_defs.specs.Stored.{Stored, places_of, place_words, place_word}
-use Rattle.pud_defs.specs.Graph.{field_count, Graph, next_serial_of, root_of, graph_of}
-use Rattle.pud_defs.specs.ExportFile.{types_used, is_zero, header_words_read, object_words_read, slot_words_read, is_plain}
-use Rattle.pud_defs.specs.Exported.{address_of, uuid_number_of, for_pool, exported_object, exported_header}
-use Rattle.pud_defs.proofs.Spaces.{all_below-from}
-use Rattle.pud_defs.proofs.Graphs.{graph_of-each}
+use Rattle.pud_defs.specs.RegistryTables.Types.{map_of}
+use Rattle.pud_defs.specs.PoolGraphs.Stored.{Stored, places_of, place_words, place_word}
+use Rattle.pud_defs.specs.PoolGraphs.Graph.{field_count, Graph, next_serial_of, root_of, graph_of}
+use Rattle.pud_defs.specs.PoolGraphs.ExportFile.{types_used, is_zero, header_words_read, object_words_read, slot_words_read, is_plain}
+use Rattle.pud_defs.specs.PoolGraphs.Exported.{address_of, uuid_number_of, for_pool, exported_object, exported_header}
+use Rattle.pud_defs.proofs.RegistryTables.Spaces.{all_below-from}
+use Rattle.pud_defs.proofs.PoolGraphs.Graphs.{graph_of-each}
 use Rattle.graph_laws.specs.Changes.{AreBases}
 use Rattle.graph_laws.proofs.Chunks.{zeroes}
 use Rattle.graph_laws.proofs.Pieces.{at_rest, IsExported, slot-free, slot-live, object_rest}

@@ -6,10 +6,10 @@ use Rattle.std.proofs.lemmas.Bool.{cond-true, cond-false, cases_Bool, and_parts,
 use Rattle.std.proofs.lemmas.Option.{none-some, same_Some, slice_get-map}
 use Rattle.pud_defs.specs.declared.space.TheConstants.{RANGE_BYTES, WORD_BYTES}
 use Rattle.pud_defs.specs.declared.records.Puddle.{Puddle}
-use Rattle.pud_defs.specs.Geometry.{slots_of, slot_words_of, ordinal_of, slot_of, place_at, places_among}
-use Rattle.pud_defs.specs.Graph.{Content, Null, At, slot_address, slot_in, place_in, at_place, target, puddles_by, pointee_at, stands}
-use Rattle.pud_defs.specs.Exported.{address_in, address_of}
-use Rattle.pud_defs.proofs.Contents.{target-null, place_in_within}
+use Rattle.pud_defs.specs.Formats.Geometry.{slots_of, slot_words_of, ordinal_of, slot_of, place_at, places_among}
+use Rattle.pud_defs.specs.PoolGraphs.Graph.{Content, Null, At, slot_address, slot_in, place_in, at_place, target, puddles_by, pointee_at, stands}
+use Rattle.pud_defs.specs.PoolGraphs.Exported.{address_in, address_of}
+use Rattle.pud_defs.proofs.PoolGraphs.Contents.{target-null, place_in_within}
 use Rattle.graph_laws.specs.Changes.{AreBases, IsAddress}
 
 -- ---- one puddle

@@ -9,12 +9,12 @@ use Rattle.std.proofs.lemmas.List.Sums.{sum_by-cons}
 use Rattle.std.proofs.lemmas.Option.{none-some, same_Some}
 use Rattle.pud_defs.specs.declared.objects.FieldValue.{FieldValue}
 use Rattle.pud_defs.specs.declared.objects.FieldValue.TheVariants.{Num, Ref}
-use Rattle.pud_defs.specs.TypeMap.{is_pointer}
-use Rattle.pud_defs.specs.Stored.{Stored, places_of}
-use Rattle.pud_defs.specs.Graph.{Object, Graph, table_of, place_of_serial, object_at, live, field_count, names_serial, object_in, is_referenced, next_serial_of, graph_of}
-use Rattle.pud_defs.specs.GraphChanges.{blank_value, blank_object, object_with, with_object, with_some_object, with_field, with_new, without_object, with_root}
-use Rattle.pud_defs.proofs.Keyed.{is_sorted-keyed}
-use Rattle.pud_defs.proofs.Graphs.{graph_of-each}
+use Rattle.pud_defs.specs.Formats.TypeMap.{is_pointer}
+use Rattle.pud_defs.specs.PoolGraphs.Stored.{Stored, places_of}
+use Rattle.pud_defs.specs.PoolGraphs.Graph.{Object, Graph, table_of, place_of_serial, object_at, live, field_count, names_serial, object_in, is_referenced, next_serial_of, graph_of}
+use Rattle.pud_defs.specs.PoolGraphs.GraphChanges.{blank_value, blank_object, object_with, with_object, with_some_object, with_field, with_new, without_object, with_root}
+use Rattle.pud_defs.proofs.KeyedTables.Keyed.{is_sorted-keyed}
+use Rattle.pud_defs.proofs.PoolGraphs.Graphs.{graph_of-each}
 use Rattle.graph_laws.specs.ReferenceCounts.{times_named_by, pointers_to, reference_count}
 use Rattle.graph_laws.proofs.KeyedSums.{sum-put_new, sum-without, sum-put_there}
 use Rattle.graph_laws.proofs.Places.{object_in-place}

@@ -1,13 +1,13 @@
 -- The root pointer is stored: the graph has another root.
 use Rattle.std.proofs.Common.{◌≡◌, ℕ, ◌+◌, true, not, ltb, List, Some, refl, sym, ap, ◌∙◌, arith, ne_eqb}
 use Rattle.pud_defs.specs.declared.space.TheConstants.{ROOT_WORD}
-use Rattle.pud_defs.specs.Geometry.{ordinal_of}
-use Rattle.pud_defs.specs.Types.{map_of}
-use Rattle.pud_defs.specs.Stored.{Stored, places_of, place_word, place_begins}
-use Rattle.pud_defs.specs.Graph.{Content, table_of, slot_contents, pointee_at, place_of_serial, named_by, stands, Graph, next_serial_of, graph_stored, graph_of}
-use Rattle.pud_defs.proofs.Contents.{names_only, pointee_at_within, contents_by_within}
-use Rattle.pud_defs.proofs.Graphs.{IsGraph, HasGraph, IsSameTable, IsGraph-same, graph_by-same, graph_of-each}
-use Rattle.pud_defs.specs.GraphChanges.{with_root}
+use Rattle.pud_defs.specs.Formats.Geometry.{ordinal_of}
+use Rattle.pud_defs.specs.RegistryTables.Types.{map_of}
+use Rattle.pud_defs.specs.PoolGraphs.Stored.{Stored, places_of, place_word, place_begins}
+use Rattle.pud_defs.specs.PoolGraphs.Graph.{Content, table_of, slot_contents, pointee_at, place_of_serial, named_by, stands, Graph, next_serial_of, graph_stored, graph_of}
+use Rattle.pud_defs.proofs.PoolGraphs.Contents.{names_only, pointee_at_within, contents_by_within}
+use Rattle.pud_defs.proofs.PoolGraphs.Graphs.{IsGraph, HasGraph, IsSameTable, IsGraph-same, graph_by-same, graph_of-each}
+use Rattle.pud_defs.specs.PoolGraphs.GraphChanges.{with_root}
 use Rattle.graph_laws.specs.Changes.{IsAddress, with_word, with_words, with_root_word}
 use Rattle.graph_laws.proofs.Words.{with_word-there, with_word-other, slot_contents-same, place_of_serial-some, graph_of-words}
 use Rattle.graph_laws.proofs.Pointers.{pointee_at-null, pointee_at-address}

@@ -3,12 +3,12 @@ use Rattle.std.proofs.Common.{◌≡◌, ℕ, zero, suc, ◌+◌, ◌<◌, ◌�
 use Rattle.std.specs.List.{range_with_len, list_all}
 use Rattle.std.proofs.lemmas.Bool.{cases_eq, and_parts}
 use Rattle.pud_defs.specs.declared.space.TheConstants.{SLOT_TYPE_WORD, SLOT_FIELDS_WORD, ROOT_WORD}
-use Rattle.pud_defs.specs.Geometry.{places_among}
-use Rattle.pud_defs.specs.Types.{map_of}
-use Rattle.pud_defs.specs.Stored.{Stored, places_of, place_word}
-use Rattle.pud_defs.specs.Graph.{Content, table_of, slot_contents, content, field_count, stands, all_stand, headers_fit, Graph, next_serial_of, root_of, graph_by, graph_of}
-use Rattle.pud_defs.proofs.Contents.{pointee_at_within, contents_by_within}
-use Rattle.pud_defs.proofs.Graphs.{IsGraph, IsSameTable, IsGraph-same, graph_by-same, graph_of-each, graph_of-from}
+use Rattle.pud_defs.specs.Formats.Geometry.{places_among}
+use Rattle.pud_defs.specs.RegistryTables.Types.{map_of}
+use Rattle.pud_defs.specs.PoolGraphs.Stored.{Stored, places_of, place_word}
+use Rattle.pud_defs.specs.PoolGraphs.Graph.{Content, table_of, slot_contents, content, field_count, stands, all_stand, headers_fit, Graph, next_serial_of, root_of, graph_by, graph_of}
+use Rattle.pud_defs.proofs.PoolGraphs.Contents.{pointee_at_within, contents_by_within}
+use Rattle.pud_defs.proofs.PoolGraphs.Graphs.{IsGraph, IsSameTable, IsGraph-same, graph_by-same, graph_of-each, graph_of-from}
 use Rattle.graph_laws.proofs.Words.{map-range_same}
 
 -- ---- fields that stand

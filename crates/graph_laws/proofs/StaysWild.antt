@@ -7,14 +7,14 @@ use Rattle.std.proofs.lemmas.List.{length_push, length-map, map-append}
 use Rattle.std.proofs.lemmas.Option.{none-some, same_Some, slice_get-get_or}
 use Rattle.pud_defs.specs.declared.space.TheConstants.{SLOT_TYPE_WORD, SLOT_FIELDS_WORD, NEXT_SERIAL_WORD, ROOT_WORD}
 use Rattle.pud_defs.specs.declared.records.Puddle.{Puddle}
-use Rattle.pud_defs.specs.TypeMap.{is_pointer}
-use Rattle.pud_defs.specs.Geometry.{ordinal_of, slot_of, places_among}
-use Rattle.pud_defs.specs.Types.{map_of}
-use Rattle.pud_defs.specs.Stored.{Stored, places_of, place_word}
-use Rattle.pud_defs.specs.Graph.{Content, Number, Null, Table, table_of, slot_contents, slot_in, place_in, at_place, target, over_old, puddles_by, pointee_at, content, stands, has_header, headers_fit, Graph, next_serial_of, root_of, graph_stored, graph_of}
-use Rattle.pud_defs.proofs.Spaces.{all_below-each, all_below-from}
-use Rattle.pud_defs.proofs.Contents.{name_only, names_only, place_in_within, pointee_at_within, contents_by_within}
-use Rattle.pud_defs.proofs.Graphs.{IsGraph, IsSameTable, IsGraph-same, graph_of-each, graph_of-from}
+use Rattle.pud_defs.specs.Formats.TypeMap.{is_pointer}
+use Rattle.pud_defs.specs.Formats.Geometry.{ordinal_of, slot_of, places_among}
+use Rattle.pud_defs.specs.RegistryTables.Types.{map_of}
+use Rattle.pud_defs.specs.PoolGraphs.Stored.{Stored, places_of, place_word}
+use Rattle.pud_defs.specs.PoolGraphs.Graph.{Content, Number, Null, Table, table_of, slot_contents, slot_in, place_in, at_place, target, over_old, puddles_by, pointee_at, content, stands, has_header, headers_fit, Graph, next_serial_of, root_of, graph_stored, graph_of}
+use Rattle.pud_defs.proofs.RegistryTables.Spaces.{all_below-each, all_below-from}
+use Rattle.pud_defs.proofs.PoolGraphs.Contents.{name_only, names_only, place_in_within, pointee_at_within, contents_by_within}
+use Rattle.pud_defs.proofs.PoolGraphs.Graphs.{IsGraph, IsSameTable, IsGraph-same, graph_of-each, graph_of-from}
 use Rattle.graph_laws.specs.Reads.{with_puddle, IsGrown}
 use Rattle.graph_laws.proofs.Words.{has_header-same}
 use Rattle.graph_laws.proofs.Same.{slot_contents-stands}

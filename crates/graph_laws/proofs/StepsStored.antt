@@ -6,15 +6,15 @@ use Rattle.std.proofs.lemmas.Option.{slice_get-map, slice_get_within, same_Some}
 use Rattle.pud_defs.specs.declared.layout.TheConstants.{FRAME_WORDS}
 use Rattle.pud_defs.specs.declared.space.TheConstants.{FRAME_HEADER_WORDS}
 use Rattle.pud_defs.specs.declared.records.Puddle.{Puddle}
-use Rattle.pud_defs.specs.Geometry.{puddle_slot_words, puddle_slot_at}
-use Rattle.pud_defs.specs.Image.{Image}
-use Rattle.pud_defs.specs.Frames.{frame_at, frame_word}
-use Rattle.pud_defs.specs.Replay.{overwritten}
-use Rattle.pud_defs.specs.Stored.{Stored, stored_in, word_in_frame}
-use Rattle.pud_defs.specs.Graph.{Graph, graph_of}
+use Rattle.pud_defs.specs.Formats.Geometry.{puddle_slot_words, puddle_slot_at}
+use Rattle.pud_defs.specs.Formats.Image.{Image}
+use Rattle.pud_defs.specs.Formats.Frames.{frame_at, frame_word}
+use Rattle.pud_defs.specs.Logging.Replay.{overwritten}
+use Rattle.pud_defs.specs.PoolGraphs.Stored.{Stored, stored_in, word_in_frame}
+use Rattle.pud_defs.specs.PoolGraphs.Graph.{Graph, graph_of}
 use Rattle.graph_laws.specs.Changes.{AreBases}
 use Rattle.graph_laws.specs.Reads.{HasDistinctFrames}
-use Rattle.pud_defs.specs.Puddles.{moved_to, frontier_word}
+use Rattle.pud_defs.specs.RegistryTables.Puddles.{moved_to, frontier_word}
 use Rattle.graph_laws.specs.Rewriting.{with_some_puddle, with_frontier, advanced, passes_slot, LeadSomewhere}
 use Rattle.graph_laws.specs.Steps.{passed_word, with_passed, is_in_frame, steps_write, steps_in, with_steps}
 use Rattle.graph_laws.proofs.Rewritten.{slice_get-set_there, slice_get-set_other, map-set, LeadSomewhere-graph, graph_of-steps_any}

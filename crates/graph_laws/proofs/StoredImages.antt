@@ -4,10 +4,10 @@ use Rattle.std.specs.Prelude.{slice_get}
 use Rattle.std.proofs.lemmas.Bool.{cases_eq, cases_lt, cond-true, cond-false, lt-ltb, le-ltb}
 use Rattle.pud_defs.specs.declared.layout.TheConstants.{FRAME_WORDS}
 use Rattle.pud_defs.specs.declared.records.Puddle.{Puddle}
-use Rattle.pud_defs.specs.Image.{Image, image_with}
-use Rattle.pud_defs.specs.Frames.{frame_at, frame_word}
-use Rattle.pud_defs.specs.Stored.{stored_in, word_in_frame}
-use Rattle.pud_defs.proofs.Images.{written_there, written_other}
+use Rattle.pud_defs.specs.Formats.Image.{Image, image_with}
+use Rattle.pud_defs.specs.Formats.Frames.{frame_at, frame_word}
+use Rattle.pud_defs.specs.PoolGraphs.Stored.{stored_in, word_in_frame}
+use Rattle.pud_defs.proofs.Formats.Images.{written_there, written_other}
 use Rattle.graph_laws.specs.Changes.{with_word, with_words}
 use Rattle.graph_laws.specs.Reads.{AgreeOnFrames, HasDistinctFrames}
 use Rattle.graph_laws.proofs.Words.{with_word-there, with_word-other}

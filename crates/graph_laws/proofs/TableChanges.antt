@@ -3,13 +3,13 @@ use Rattle.std.proofs.Common.{◌≡◌, ℕ, ◌<◌, ◌≤◌, true, cond, eq
 use Rattle.std.specs.FinMap.Entries.{put, find}
 use Rattle.std.proofs.lemmas.Bool.{cases_eq, cond-true, cond-false, not-true, eqb-false}
 use Rattle.std.proofs.lemmas.Cmp.{nat_cmp_total}
-use Rattle.pud_defs.specs.Keyed.{keyed, under, without}
-use Rattle.pud_defs.specs.Graph.{Content, Table, under_serial, serial_and_place, object_at, live, named_by, value_of, stands, all_stand, contents_or_none, is_next_serial}
-use Rattle.pud_defs.proofs.TypeLists.{same_test, same_number}
-use Rattle.pud_defs.proofs.Keyed.{HasDistinctKeys, IsSetAt, is_free_for, under_apart, under_none, alone_there, keyed-same, keyed-put, keyed-without, HasDistinctKeys-set, find-keyed_place}
-use Rattle.pud_defs.proofs.Graphs.{IsSoundPlace, IsGraph, under_serial-free, under_serial-used, distinct_live, live-alike}
-use Rattle.pud_defs.proofs.Contents.{names_only, name_only, stands-same, named_by-same, all_stand-same, values-same}
-use Rattle.pud_defs.specs.Stored.{slot_state}
+use Rattle.pud_defs.specs.RegistryTables.Keyed.{keyed, under, without}
+use Rattle.pud_defs.specs.PoolGraphs.Graph.{Content, Table, under_serial, serial_and_place, object_at, live, named_by, value_of, stands, all_stand, contents_or_none, is_next_serial}
+use Rattle.pud_defs.proofs.RegistryTables.TypeLists.{same_test, same_number}
+use Rattle.pud_defs.proofs.KeyedTables.Keyed.{HasDistinctKeys, IsSetAt, is_free_for, under_apart, under_none, alone_there, keyed-same, keyed-put, keyed-without, HasDistinctKeys-set, find-keyed_place}
+use Rattle.pud_defs.proofs.PoolGraphs.Graphs.{IsSoundPlace, IsGraph, under_serial-free, under_serial-used, distinct_live, live-alike}
+use Rattle.pud_defs.proofs.PoolGraphs.Contents.{names_only, name_only, stands-same, named_by-same, all_stand-same, values-same}
+use Rattle.pud_defs.specs.PoolGraphs.Stored.{slot_state}
 use Rattle.graph_laws.proofs.ContentLists.{is_other}
 
 -- ---- a keyed list of which one record is changed, by what stands below its end

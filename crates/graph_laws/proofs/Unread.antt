@@ -2,10 +2,10 @@
 use Rattle.std.proofs.Common.{◌≡◌, ℕ, ◌+◌, ◌<◌, ◌≤◌, List, Some, refl, sym, ap, ◌∙◌, arith}
 use Rattle.std.proofs.lemmas.Option.{same_Some}
 use Rattle.pud_defs.specs.declared.space.TheConstants.{FRAME_HEADER_WORDS, FRAME_ORDINAL_WORD, ROOT_WORD, SLOT_SERIAL_WORD, SLOT_TYPE_WORD, SLOT_FIELDS_WORD}
-use Rattle.pud_defs.specs.Geometry.{ordinal_of}
-use Rattle.pud_defs.specs.Types.{map_of}
-use Rattle.pud_defs.specs.Stored.{Stored, places_of, place_word, place_begins, place_words, IsFreePlace, IsLivePlace}
-use Rattle.pud_defs.specs.Graph.{slot_contents, field_count, pointee_at, graph_of}
+use Rattle.pud_defs.specs.Formats.Geometry.{ordinal_of}
+use Rattle.pud_defs.specs.RegistryTables.Types.{map_of}
+use Rattle.pud_defs.specs.PoolGraphs.Stored.{Stored, places_of, place_word, place_begins, place_words, IsFreePlace, IsLivePlace}
+use Rattle.pud_defs.specs.PoolGraphs.Graph.{slot_contents, field_count, pointee_at, graph_of}
 use Rattle.graph_laws.specs.Changes.{with_word, with_words, with_slot_word}
 use Rattle.graph_laws.specs.Reads.{ReadsSame}
 use Rattle.graph_laws.proofs.Words.{with_word-other, slot_word-header, slot_word-other, headers_fit-same, slot_contents-same, few_fields}

@@ -9,14 +9,14 @@ use Rattle.std.proofs.lemmas.List.Sums.{AllPass-from_list_all, list_all-from_All
 use Rattle.std.proofs.lemmas.List.Folds.{list_any_at}
 use Rattle.std.proofs.lemmas.List.FromFn.{length-range_with_len, get_or-range_with_len}
 use Rattle.pud_defs.specs.declared.space.TheConstants.{SLOT_SERIAL_WORD, SLOT_TYPE_WORD}
-use Rattle.pud_defs.specs.Types.{map_of, is_sound_type}
-use Rattle.pud_defs.specs.Stored.{Stored, places_of, place_word, IsLivePlace}
-use Rattle.pud_defs.specs.Graph.{Object, Graph, table_of, live, object_at, graph_of}
-use Rattle.pud_defs.specs.ExportFile.{is_type_used, types_used, are_file_types}
-use Rattle.pud_defs.proofs.TypeLists.{same_number, true_when}
-use Rattle.pud_defs.proofs.TypeMore.{graph_of-wider}
-use Rattle.pud_defs.proofs.KeyedEach.{passes_there, any-keyed}
-use Rattle.pud_defs.proofs.Graphs.{graph_of-each, distinct_live}
+use Rattle.pud_defs.specs.RegistryTables.Types.{map_of, is_sound_type}
+use Rattle.pud_defs.specs.PoolGraphs.Stored.{Stored, places_of, place_word, IsLivePlace}
+use Rattle.pud_defs.specs.PoolGraphs.Graph.{Object, Graph, table_of, live, object_at, graph_of}
+use Rattle.pud_defs.specs.PoolGraphs.ExportFile.{is_type_used, types_used, are_file_types}
+use Rattle.pud_defs.proofs.RegistryTables.TypeLists.{same_number, true_when}
+use Rattle.pud_defs.proofs.PoolGraphs.TypeMore.{graph_of-wider}
+use Rattle.pud_defs.proofs.KeyedTables.KeyedEach.{passes_there, any-keyed}
+use Rattle.pud_defs.proofs.PoolGraphs.Graphs.{graph_of-each, distinct_live}
 use Rattle.graph_laws.specs.Slots.{is_of_type}
 
 -- ---- by places

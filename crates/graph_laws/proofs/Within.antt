@@ -1,9 +1,9 @@
 -- Words that are the same in each frame have the same graph, or none either.
 use Rattle.std.proofs.Common.{◌≡◌, ℕ, ◌+◌, ◌<◌, List, length, arith}
 use Rattle.pud_defs.specs.declared.layout.TheConstants.{FRAME_WORDS}
-use Rattle.pud_defs.specs.Geometry.{ordinal_of}
-use Rattle.pud_defs.specs.Stored.{Stored, place_begins}
-use Rattle.pud_defs.specs.Graph.{graph_of}
+use Rattle.pud_defs.specs.Formats.Geometry.{ordinal_of}
+use Rattle.pud_defs.specs.PoolGraphs.Stored.{Stored, place_begins}
+use Rattle.pud_defs.specs.PoolGraphs.Graph.{graph_of}
 use Rattle.graph_laws.specs.Changes.{with_words}
 use Rattle.graph_laws.proofs.Words.{few_fields}
 use Rattle.graph_laws.proofs.Unread.{graph_of-read}

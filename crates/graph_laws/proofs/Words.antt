@@ -9,17 +9,17 @@ use Rattle.std.proofs.lemmas.Option.{none-some, cond_some}
 use Rattle.pud_defs.specs.declared.layout.TheConstants.{MAX_FIELDS}
 use Rattle.pud_defs.specs.declared.space.TheConstants.{FRAME_HEADER_WORDS, SLOT_FIELDS_WORD, NEXT_SERIAL_WORD, ROOT_WORD}
 use Rattle.pud_defs.specs.declared.records.Puddle.{Puddle}
-use Rattle.pud_defs.specs.TypeMap.{map_fields}
-use Rattle.pud_defs.specs.Geometry.{ordinal_of}
-use Rattle.pud_defs.specs.Types.{map_of}
-use Rattle.pud_defs.specs.Keyed.{under}
-use Rattle.pud_defs.specs.Headers.{is_header}
-use Rattle.pud_defs.specs.Stored.{Stored, places_of, place_word, place_begins, place_words}
-use Rattle.pud_defs.specs.Graph.{Content, Table, table_of, slot_contents, content, field_count, pointee_at, serial_and_place, place_of_serial, has_header, headers_fit, Graph, graph_by, graph_of}
-use Rattle.pud_defs.proofs.Spaces.{all_below-same}
-use Rattle.pud_defs.proofs.TypeLists.{same_test}
-use Rattle.pud_defs.proofs.Keyed.{first_from_some}
-use Rattle.pud_defs.proofs.Graphs.{under_serial-free, under_serial-used, IsGraph, graph_of-from}
+use Rattle.pud_defs.specs.Formats.TypeMap.{map_fields}
+use Rattle.pud_defs.specs.Formats.Geometry.{ordinal_of}
+use Rattle.pud_defs.specs.RegistryTables.Types.{map_of}
+use Rattle.pud_defs.specs.RegistryTables.Keyed.{under}
+use Rattle.pud_defs.specs.Formats.Headers.{is_header}
+use Rattle.pud_defs.specs.PoolGraphs.Stored.{Stored, places_of, place_word, place_begins, place_words}
+use Rattle.pud_defs.specs.PoolGraphs.Graph.{Content, Table, table_of, slot_contents, content, field_count, pointee_at, serial_and_place, place_of_serial, has_header, headers_fit, Graph, graph_by, graph_of}
+use Rattle.pud_defs.proofs.RegistryTables.Spaces.{all_below-same}
+use Rattle.pud_defs.proofs.RegistryTables.TypeLists.{same_test}
+use Rattle.pud_defs.proofs.KeyedTables.Keyed.{first_from_some}
+use Rattle.pud_defs.proofs.PoolGraphs.Graphs.{under_serial-free, under_serial-used, IsGraph, graph_of-from}
 use Rattle.graph_laws.specs.Changes.{with_word, with_words, with_slot_word}
 use Rattle.graph_laws.proofs.TableChanges.{IsSameBut}
 

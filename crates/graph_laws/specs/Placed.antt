@@ -3,8 +3,8 @@ use Rattle.std.specs.Prelude.{◌≡◌, ℕ, ◌<◌, true, List, length, map, 
 use Rattle.pud_defs.specs.declared.layout.TheConstants.{FRAME_WORDS}
 use Rattle.pud_defs.specs.declared.records.Puddle.{Puddle}
 use Rattle.pud_defs.specs.declared.space.TheConstants.{FRAME_NUMBER_WORD, LAST_FRONTIER}
-use Rattle.pud_defs.specs.Stored.{Stored}
-use Rattle.pud_defs.specs.Graph.{pointee_at, headers_fit}
+use Rattle.pud_defs.specs.PoolGraphs.Stored.{Stored}
+use Rattle.pud_defs.specs.PoolGraphs.Graph.{pointee_at, headers_fit}
 
 -- The second pool has as many puddles, and their frames hold the same words, but for the numbers, which are those of its own puddles; and a pointer at
 -- any step stands for the same in both.

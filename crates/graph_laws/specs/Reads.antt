@@ -3,13 +3,13 @@ use Rattle.std.specs.Prelude.{◌≡◌, ℕ, ◌+◌, ◌<◌, ◌≤◌, true,
 use Rattle.pud_defs.specs.declared.layout.TheConstants.{FRAME_WORDS}
 use Rattle.pud_defs.specs.declared.space.TheConstants.{FRAME_MAGIC_WORD, FRAME_NUMBER_WORD, FRAME_ORDINAL_WORD, NEXT_SERIAL_WORD, ROOT_WORD, SLOT_SERIAL_WORD, SLOT_TYPE_WORD, SLOT_FIELDS_WORD}
 use Rattle.pud_defs.specs.declared.records.Puddle.{Puddle}
-use Rattle.pud_defs.specs.Geometry.{places_among}
-use Rattle.pud_defs.specs.Image.{Image}
-use Rattle.pud_defs.specs.Frames.{frame_word}
-use Rattle.pud_defs.specs.Types.{map_of}
-use Rattle.pud_defs.specs.Headers.{is_header}
-use Rattle.pud_defs.specs.Stored.{Stored, places_of, place_word, IsFreePlace, IsLivePlace}
-use Rattle.pud_defs.specs.Graph.{field_count}
+use Rattle.pud_defs.specs.Formats.Geometry.{places_among}
+use Rattle.pud_defs.specs.Formats.Image.{Image}
+use Rattle.pud_defs.specs.Formats.Frames.{frame_word}
+use Rattle.pud_defs.specs.RegistryTables.Types.{map_of}
+use Rattle.pud_defs.specs.Formats.Headers.{is_header}
+use Rattle.pud_defs.specs.PoolGraphs.Stored.{Stored, places_of, place_word, IsFreePlace, IsLivePlace}
+use Rattle.pud_defs.specs.PoolGraphs.Graph.{field_count}
 use Rattle.graph_laws.specs.Changes.{with_words}
 
 -- These words are as those that are stored wherever a place says what stands there: its serial, and where it is live its type and its fields.

@@ -1,7 +1,7 @@
 -- How many hold an object: the pointers of objects and the root that name it.
 use Rattle.std.specs.Prelude.{ℕ, ◌+◌, ◌==◌, cond, count_by, sum_by}
 use Rattle.pud_defs.specs.declared.objects.FieldValue.{FieldValue}
-use Rattle.pud_defs.specs.Graph.{Object, Graph, names_serial}
+use Rattle.pud_defs.specs.PoolGraphs.Graph.{Object, Graph, names_serial}
 
 -- how often a value names the serial, once or not at all
 abbrev pub times_named_by : ℕ → FieldValue → ℕ

@@ -2,13 +2,13 @@
 use Rattle.std.specs.Prelude.{◌≡◌, ℕ, ◌+◌, ◌<◌, Bool, true, ◌&&◌, nat_le, nat_lt, ◌==◌, cond, List, map, set, slice_get, Option, Some, None, option_map}
 use Rattle.pud_defs.specs.declared.space.TheConstants.{FRAME_HEADER_WORDS, ROOT_WORD, SLOT_SERIAL_WORD, SLOT_TYPE_WORD, SLOT_FIELDS_WORD}
 use Rattle.pud_defs.specs.declared.records.Puddle.{Puddle}
-use Rattle.pud_defs.specs.TypeMap.{is_pointer}
-use Rattle.pud_defs.specs.Geometry.{ordinal_of, slot_of}
-use Rattle.pud_defs.specs.Types.{map_of}
-use Rattle.pud_defs.specs.Puddles.{moved_to}
-use Rattle.pud_defs.specs.Stored.{Stored, places_of, place_word, IsLivePlace}
-use Rattle.pud_defs.specs.Graph.{target, over_old, content, field_count, stands, root_of}
-use Rattle.pud_defs.specs.Exported.{address_of}
+use Rattle.pud_defs.specs.Formats.TypeMap.{is_pointer}
+use Rattle.pud_defs.specs.Formats.Geometry.{ordinal_of, slot_of}
+use Rattle.pud_defs.specs.RegistryTables.Types.{map_of}
+use Rattle.pud_defs.specs.RegistryTables.Puddles.{moved_to}
+use Rattle.pud_defs.specs.PoolGraphs.Stored.{Stored, places_of, place_word, IsLivePlace}
+use Rattle.pud_defs.specs.PoolGraphs.Graph.{target, over_old, content, field_count, stands, root_of}
+use Rattle.pud_defs.specs.PoolGraphs.Exported.{address_of}
 use Rattle.graph_laws.specs.Changes.{with_words}
 
 -- ---- pointers

@@ -1,7 +1,7 @@
 -- Which slots of a pool are free, and which hold objects of a type.
 use Rattle.std.specs.Prelude.{ℕ, ◌<◌, Bool, ◌&&◌, ◌==◌}
 use Rattle.pud_defs.specs.declared.space.TheConstants.{SLOT_SERIAL_WORD, SLOT_TYPE_WORD}
-use Rattle.pud_defs.specs.Stored.{Stored, places_of, place_word, slot_state, IsFreePlace, IsLivePlace}
+use Rattle.pud_defs.specs.PoolGraphs.Stored.{Stored, places_of, place_word, slot_state, IsFreePlace, IsLivePlace}
 
 -- each slot is live
 pub record AreAllLive (st : Stored) : Type 0 where

@@ -2,11 +2,11 @@
 use Rattle.std.proofs.Common.{◌≡◌, ◌≢◌, ℕ, ◌+◌, ◌-◌, ◌%◌, ◌^◌, ◌<◌, ◌≤◌, Bool, List, length, Option, Some, None, is_some, is_none, option_map, refl, sym, ap, ap₂, ◌∙◌, arith}
 use Rattle.std.specs.Bool.{then_some}
 use Rattle.std.proofs.lemmas.Bool.{cond-true, cond-false}
-use Rattle.pud_defs.specs.Graph.{Graph, under_serial, table_of, graph_of}
-use Rattle.pud_defs.specs.Keyed.{count_used}
-use Rattle.pud_defs.specs.Stored.{Stored, places_of}
-use Rattle.pud_defs.proofs.Keyed.{count_used_step}
-use Rattle.pud_defs.proofs.Graphs.{under_serial-free, under_serial-used, graph_of-each, length-live}
+use Rattle.pud_defs.specs.PoolGraphs.Graph.{Graph, under_serial, table_of, graph_of}
+use Rattle.pud_defs.specs.RegistryTables.Keyed.{count_used}
+use Rattle.pud_defs.specs.PoolGraphs.Stored.{Stored, places_of}
+use Rattle.pud_defs.proofs.KeyedTables.Keyed.{count_used_step}
+use Rattle.pud_defs.proofs.PoolGraphs.Graphs.{under_serial-free, under_serial-used, graph_of-each, length-live}
 use Rattle.graph_read.specs.declared.judge.Totals.{Totals}
 use Rattle.graph_read.specs.Checking.{serials_in, with_serials}
 use Rattle.graph_read.specs.Numbers.{numbers_below, totals_of}

@@ -1,7 +1,7 @@
 -- The totals of small graphs.
 use Rattle.std.proofs.Common.{◌≡◌, ◌-◌, ◌^◌, [], ◌∷◌, refl}
 use Rattle.pud_defs.specs.declared.objects.FieldValue.TheVariants.{Num, Ref}
-use Rattle.pud_defs.specs.Graph.{Graph, empty_graph}
+use Rattle.pud_defs.specs.PoolGraphs.Graph.{Graph, empty_graph}
 use Rattle.graph_read.specs.Numbers.{number_sum, totals_of}
 
 -- two objects that name each other, with numbers that come to 2^64 + 2

@@ -12,13 +12,13 @@ use Rattle.pud_defs.specs.declared.objects.FieldValue.TheVariants.{Num, Ref}
 use Rattle.pud_defs.specs.declared.objects.Pointee.TheVariants as pointees
 use Rattle.pud_defs.specs.declared.records.Puddle.{Puddle}
 use Rattle.pud_defs.specs.declared.records.Slot.{Slot}
-use Rattle.pud_defs.specs.Geometry.{puddle_slots, ordinal_of, slot_of, place_at}
-use Rattle.pud_defs.specs.Image.{Image}
-use Rattle.pud_defs.specs.TypeMap.{map_fields, is_pointer}
-use Rattle.pud_defs.specs.Types.{types_of, map_of}
-use Rattle.pud_defs.specs.Stored.{Stored, stored_in, place_word}
-use Rattle.pud_defs.specs.Graph.{Content, target, at_place, pointee_at, content, field_count, slot_contents, contents_or_none, named_by, value_of, object_at}
-use Rattle.pud_defs.specs.Graph.Content.{Number, Null, At, Nowhere}
+use Rattle.pud_defs.specs.Formats.Geometry.{puddle_slots, ordinal_of, slot_of, place_at}
+use Rattle.pud_defs.specs.Formats.Image.{Image}
+use Rattle.pud_defs.specs.Formats.TypeMap.{map_fields, is_pointer}
+use Rattle.pud_defs.specs.RegistryTables.Types.{types_of, map_of}
+use Rattle.pud_defs.specs.PoolGraphs.Stored.{Stored, stored_in, place_word}
+use Rattle.pud_defs.specs.PoolGraphs.Graph.{Content, target, at_place, pointee_at, content, field_count, slot_contents, contents_or_none, named_by, value_of, object_at}
+use Rattle.pud_defs.specs.PoolGraphs.Graph.Content.{Number, Null, At, Nowhere}
 use Rattle.graph_read.specs.declared.fields.FieldRead.{FieldRead}
 use Rattle.graph_read.specs.declared.fields.FieldRead.TheVariants.{NoField, Value}
 use Rattle.puddle_header.specs.Places.{place_of_slot}

@@ -7,15 +7,15 @@ use Rattle.std.proofs.lemmas.Cmp.{nat_cmp_total}
 use Rattle.std.proofs.lemmas.List.{length-map}
 use Rattle.std.proofs.lemmas.Option.{cond_some}
 use Rattle.pud_defs.specs.declared.records.Puddle.{Puddle}
-use Rattle.pud_defs.specs.Geometry.{places_among}
-use Rattle.pud_defs.specs.Image.{Image}
-use Rattle.pud_defs.specs.Keyed.{first_from, under}
-use Rattle.pud_defs.specs.Types.{types_of}
-use Rattle.pud_defs.specs.Stored.{Stored, stored_in, places_of}
-use Rattle.pud_defs.specs.Graph.{Table, under_serial, serial_and_place, place_of_serial, object_at, live, Graph, has_graph, graph_stored, graph_of, object_in}
-use Rattle.pud_defs.proofs.Keyed.{find-keyed, first_from_here, first_from_other, first_from_end, first_from_none}
-use Rattle.pud_defs.proofs.TypeLists.{same_test}
-use Rattle.pud_defs.proofs.Graphs.{under_serial-free, under_serial-used}
+use Rattle.pud_defs.specs.Formats.Geometry.{places_among}
+use Rattle.pud_defs.specs.Formats.Image.{Image}
+use Rattle.pud_defs.specs.RegistryTables.Keyed.{first_from, under}
+use Rattle.pud_defs.specs.RegistryTables.Types.{types_of}
+use Rattle.pud_defs.specs.PoolGraphs.Stored.{Stored, stored_in, places_of}
+use Rattle.pud_defs.specs.PoolGraphs.Graph.{Table, under_serial, serial_and_place, place_of_serial, object_at, live, Graph, has_graph, graph_stored, graph_of, object_in}
+use Rattle.pud_defs.proofs.KeyedTables.Keyed.{find-keyed, first_from_here, first_from_other, first_from_end, first_from_none}
+use Rattle.pud_defs.proofs.RegistryTables.TypeLists.{same_test}
+use Rattle.pud_defs.proofs.PoolGraphs.Graphs.{under_serial-free, under_serial-used}
 use Rattle.graph_read.specs.Reading.{table_in, place_in_pool}
 
 -- ---- place by place

@@ -12,14 +12,14 @@ use Rattle.std.proofs.lemmas.List.Sums.{sum_by-cons}
 use Rattle.pud_defs.specs.declared.records.Puddle.{Puddle}
 use Rattle.pud_defs.specs.declared.objects.FieldValue.{FieldValue}
 use Rattle.pud_defs.specs.declared.objects.FieldValue.TheVariants.{Num, Ref}
-use Rattle.pud_defs.specs.Image.{Image}
-use Rattle.pud_defs.specs.Graph.{Content, Number, Null, At, Nowhere, Table, Object, Graph, under_serial, table_of, contents_or_none, object_at, live, value_of, named_by, names_serial, root_of, graph_of}
-use Rattle.pud_defs.specs.Keyed.{under, first_from}
-use Rattle.pud_defs.specs.Stored.{Stored, stored_in, places_of}
-use Rattle.pud_defs.proofs.Keyed.{first_from_step}
-use Rattle.pud_defs.proofs.TypeLists.{same_test}
-use Rattle.pud_defs.proofs.Graphs.{under_serial-free, under_serial-used, graph_of-each, distinct_live}
-use Rattle.pud_defs.proofs.PoolsCounted.{sum_places-same, worth, sum-keyed}
+use Rattle.pud_defs.specs.Formats.Image.{Image}
+use Rattle.pud_defs.specs.PoolGraphs.Graph.{Content, Number, Null, At, Nowhere, Table, Object, Graph, under_serial, table_of, contents_or_none, object_at, live, value_of, named_by, names_serial, root_of, graph_of}
+use Rattle.pud_defs.specs.RegistryTables.Keyed.{under, first_from}
+use Rattle.pud_defs.specs.PoolGraphs.Stored.{Stored, stored_in, places_of}
+use Rattle.pud_defs.proofs.KeyedTables.Keyed.{first_from_step}
+use Rattle.pud_defs.proofs.RegistryTables.TypeLists.{same_test}
+use Rattle.pud_defs.proofs.PoolGraphs.Graphs.{under_serial-free, under_serial-used, graph_of-each, distinct_live}
+use Rattle.pud_defs.proofs.RegistryTables.PoolsCounted.{sum_places-same, worth, sum-keyed}
 use Rattle.graph_laws.specs.ReferenceCounts.{times_named_by, pointers_to, reference_count}
 use Rattle.graph_laws.proofs.Words.{place_of_serial-some}
 use Rattle.puddle_header.specs.Places.{places_in}

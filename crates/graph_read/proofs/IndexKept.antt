@@ -7,10 +7,10 @@ use Rattle.std.proofs.lemmas.Option.{same_Some}
 use Rattle.pud_defs.specs.declared.records.Puddle.{Puddle}
 use Rattle.pud_defs.specs.declared.objects.FieldValue.{FieldValue}
 use Rattle.pud_defs.specs.declared.objects.FieldValue.TheVariants.{Num, Ref}
-use Rattle.pud_defs.specs.Image.{Image}
-use Rattle.pud_defs.specs.Stored.{stored_in}
-use Rattle.pud_defs.specs.Graph.{Object, Graph, object_in, is_referenced, graph_of}
-use Rattle.pud_defs.specs.GraphChanges.{blank_object, with_field, with_new, without_object, with_root}
+use Rattle.pud_defs.specs.Formats.Image.{Image}
+use Rattle.pud_defs.specs.PoolGraphs.Stored.{stored_in}
+use Rattle.pud_defs.specs.PoolGraphs.Graph.{Object, Graph, object_in, is_referenced, graph_of}
+use Rattle.pud_defs.specs.PoolGraphs.GraphChanges.{blank_object, with_field, with_new, without_object, with_root}
 use Rattle.graph_laws.specs.ReferenceCounts.{times_named_by, reference_count}
 use Rattle.graph_laws.proofs.ReferenceCounts.{objects_sorted, next_unused, reference_count-field, reference_count-root, reference_count-new, reference_count-freed, held-reference_count}
 use Rattle.graph_read.specs.declared.index.Index.{Index}

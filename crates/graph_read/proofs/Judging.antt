@@ -9,18 +9,18 @@ use Rattle.puddle_header.proofs.Placed.{stored_word}
 use Rattle.pud_defs.specs.declared.layout.TheConstants.{FRAME_WORDS}
 use Rattle.pud_defs.specs.declared.space.TheConstants.{FRAME_MAGIC_WORD, FRAME_NUMBER_WORD, FRAME_ORDINAL_WORD, ROOT_WORD}
 use Rattle.pud_defs.specs.declared.records.Puddle.{Puddle}
-use Rattle.pud_defs.specs.Geometry.{places_among}
-use Rattle.pud_defs.specs.Image.{Image}
-use Rattle.pud_defs.specs.Frames.{frame_word}
-use Rattle.pud_defs.specs.Headers.{is_header}
-use Rattle.pud_defs.specs.Graph.{Content, Table, has_header, headers_fit, is_graph, is_next_serial, stands, all_stand, is_sound_place, has_graph, graph_stored, graph_of, under_serial, table_of, next_serial_of, root_of, pointee_at}
+use Rattle.pud_defs.specs.Formats.Geometry.{places_among}
+use Rattle.pud_defs.specs.Formats.Image.{Image}
+use Rattle.pud_defs.specs.Formats.Frames.{frame_word}
+use Rattle.pud_defs.specs.Formats.Headers.{is_header}
+use Rattle.pud_defs.specs.PoolGraphs.Graph.{Content, Table, has_header, headers_fit, is_graph, is_next_serial, stands, all_stand, is_sound_place, has_graph, graph_stored, graph_of, under_serial, table_of, next_serial_of, root_of, pointee_at}
 use Rattle.graph_read.specs.Reading.{pointee_of}
 use Rattle.graph_read.proofs.Pointed.{no_puddle}
 use Rattle.graph_read.proofs.Passing.{pointee_read}
-use Rattle.pud_defs.proofs.Spaces.{all_below-same}
-use Rattle.pud_defs.specs.Keyed.{are_distinct}
-use Rattle.pud_defs.specs.Spaces.{all_below}
-use Rattle.pud_defs.specs.Stored.{Stored, stored_in, places_of}
+use Rattle.pud_defs.proofs.RegistryTables.Spaces.{all_below-same}
+use Rattle.pud_defs.specs.RegistryTables.Keyed.{are_distinct}
+use Rattle.pud_defs.specs.RegistryTables.Spaces.{all_below}
+use Rattle.pud_defs.specs.PoolGraphs.Stored.{Stored, stored_in, places_of}
 use Rattle.graph_read.specs.declared.checking.SlotCheck.TheVariants.{IsSound}
 use Rattle.graph_read.specs.Checking.{content_of, serials_in, with_serials, contents_pass, place_passes}
 

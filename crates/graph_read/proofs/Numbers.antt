@@ -11,13 +11,13 @@ use Rattle.std.proofs.lemmas.List.FromFn.{sum_by-map-range_with_len_more}
 use Rattle.std.proofs.lemmas.List.Sums.{sum_by-cons}
 use Rattle.pud_defs.specs.declared.space.TheConstants.{SLOT_FIELDS_WORD}
 use Rattle.pud_defs.specs.declared.records.Puddle.{Puddle}
-use Rattle.pud_defs.specs.TypeMap.{is_pointer}
-use Rattle.pud_defs.specs.Stored.{Stored, places_of, place_word}
-use Rattle.pud_defs.specs.Graph.{Content, Number, Null, At, Nowhere, Object, Table, Graph, at_place, place_in, target, content, contents_or_none, table_of, value_of, object_at, live, graph_of}
-use Rattle.pud_defs.proofs.Graphs.{under_serial-free, under_serial-used, graph_of-each, distinct_live}
-use Rattle.pud_defs.specs.Spaces.{all_below}
-use Rattle.pud_defs.proofs.Spaces.{all_below-fails}
-use Rattle.pud_defs.proofs.PoolsCounted.{sum_places, sum_places-same, worth, sum-keyed}
+use Rattle.pud_defs.specs.Formats.TypeMap.{is_pointer}
+use Rattle.pud_defs.specs.PoolGraphs.Stored.{Stored, places_of, place_word}
+use Rattle.pud_defs.specs.PoolGraphs.Graph.{Content, Number, Null, At, Nowhere, Object, Table, Graph, at_place, place_in, target, content, contents_or_none, table_of, value_of, object_at, live, graph_of}
+use Rattle.pud_defs.proofs.PoolGraphs.Graphs.{under_serial-free, under_serial-used, graph_of-each, distinct_live}
+use Rattle.pud_defs.specs.RegistryTables.Spaces.{all_below}
+use Rattle.pud_defs.proofs.RegistryTables.Spaces.{all_below-fails}
+use Rattle.pud_defs.proofs.RegistryTables.PoolsCounted.{sum_places, sum_places-same, worth, sum-keyed}
 use Rattle.graph_read.specs.declared.checking.SlotCheck.{SlotCheck}
 use Rattle.graph_read.specs.Numbers.{number_in_value, numbers_of, number_sum, number_in_content, contents_sum, numbers_under, numbers_at, numbers_below, value_number, fields_sum, place_sum, places_sum}
 use Rattle.graph_read.specs.Checking.{serial_passes, place_passes}

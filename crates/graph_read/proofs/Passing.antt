@@ -2,17 +2,17 @@
 use Rattle.std.proofs.Common.{◌≡◌, ◌≢◌, ℕ, ◌+◌, Bool, true, false, ◌&&◌, ◌||◌, List, Option, Some, None, cond, eqb, min, slice_get, refl, ap, ap₂, ◌∙◌, arith, eq-eqb, ne_eqb}
 use Rattle.pud_defs.specs.declared.space.TheConstants.{SLOT_FIELDS_WORD}
 use Rattle.pud_defs.specs.declared.records.Puddle.{Puddle}
-use Rattle.pud_defs.specs.Geometry.{ordinal_of, slot_of, place_at}
-use Rattle.pud_defs.specs.Graph.{Null, At, Nowhere, Table, content, slot_contents, field_count, target, place_in, at_place, puddles_by, pointee_at}
-use Rattle.pud_defs.specs.TypeMap.{map_fields}
+use Rattle.pud_defs.specs.Formats.Geometry.{ordinal_of, slot_of, place_at}
+use Rattle.pud_defs.specs.PoolGraphs.Graph.{Null, At, Nowhere, Table, content, slot_contents, field_count, target, place_in, at_place, puddles_by, pointee_at}
+use Rattle.pud_defs.specs.Formats.TypeMap.{map_fields}
 use Rattle.std.proofs.lemmas.Bool.Decides.{nat_tests}
 use Rattle.pud_defs.specs.declared.layout.TheConstants.{MAX_FIELDS}
-use Rattle.pud_defs.specs.Spaces.{all_below}
-use Rattle.pud_defs.specs.Stored.{Stored, place_word}
+use Rattle.pud_defs.specs.RegistryTables.Spaces.{all_below}
+use Rattle.pud_defs.specs.PoolGraphs.Stored.{Stored, place_word}
 use Rattle.graph_read.specs.declared.checking.SlotCheck.{SlotCheck}
 use Rattle.graph_read.specs.Reading.{pointee_of}
 use Rattle.graph_read.specs.Checking.{content_of, passes, serial_passes, contents_pass, place_passes}
-use Rattle.pud_defs.proofs.Spaces.{list_all-below}
+use Rattle.pud_defs.proofs.RegistryTables.Spaces.{list_all-below}
 
 -- a field of the slot at a place passes
 abbrev pub field_passes : SlotCheck → (ℕ → ℕ) → Stored → (place type_map f : ℕ) → Bool

@@ -9,9 +9,9 @@ use Rattle.std.specs.Option.{option_or}
 use Rattle.std.proofs.lemmas.Bool.{cond-true, cond-false}
 use Rattle.pud_defs.specs.declared.records.Puddle.{Puddle}
 use Rattle.pud_defs.specs.declared.objects.Pointee.TheVariants as pointees
-use Rattle.pud_defs.specs.Geometry.{puddle_slots, place_at, places_among}
-use Rattle.pud_defs.specs.Graph.{Content, slot_in, place_in, at_place, target, over_old, puddles_by, pointee_at}
-use Rattle.pud_defs.specs.Graph.Content.{Null, At, Nowhere}
+use Rattle.pud_defs.specs.Formats.Geometry.{puddle_slots, place_at, places_among}
+use Rattle.pud_defs.specs.PoolGraphs.Graph.{Content, slot_in, place_in, at_place, target, over_old, puddles_by, pointee_at}
+use Rattle.pud_defs.specs.PoolGraphs.Graph.Content.{Null, At, Nowhere}
 use Rattle.graph_read.specs.Reading.{pointee_of}
 use Rattle.puddle_header.proofs.Placed.{place_ordinal, place_slot}
 use Rattle.std.proofs.lemmas.Simd.{map-map}

@@ -4,19 +4,19 @@ use Rattle.std.specs.List.{list_any, list_all}
 use Rattle.std.proofs.lemmas.Bool.{and_parts}
 use Rattle.std.proofs.lemmas.Cmp.{nat_cmp_total}
 use Rattle.std.proofs.lemmas.Option.{cond_some, none-some}
-use Rattle.pud_defs.specs.Graph.{Content, Table, Object, Graph, stands, names_serial, named_by, value_of, contents_or_none, object_at, live, serial_and_place, headers_fit, is_graph, is_next_serial, is_sound_place, graph_of, graph_stored, has_graph, is_referenced, table_of, next_serial_of, root_of}
-use Rattle.pud_defs.specs.Keyed.{keyed, are_distinct}
-use Rattle.pud_defs.specs.Spaces.{all_below}
-use Rattle.pud_defs.specs.Stored.{Stored, stored_in, places_of}
-use Rattle.pud_defs.proofs.Keyed.{distinct_keys}
-use Rattle.pud_defs.proofs.KeyedEach.{passes_there, any-keyed}
-use Rattle.pud_defs.proofs.Spaces.{all_below-same, any-range}
+use Rattle.pud_defs.specs.PoolGraphs.Graph.{Content, Table, Object, Graph, stands, names_serial, named_by, value_of, contents_or_none, object_at, live, serial_and_place, headers_fit, is_graph, is_next_serial, is_sound_place, graph_of, graph_stored, has_graph, is_referenced, table_of, next_serial_of, root_of}
+use Rattle.pud_defs.specs.RegistryTables.Keyed.{keyed, are_distinct}
+use Rattle.pud_defs.specs.RegistryTables.Spaces.{all_below}
+use Rattle.pud_defs.specs.PoolGraphs.Stored.{Stored, stored_in, places_of}
+use Rattle.pud_defs.proofs.KeyedTables.Keyed.{distinct_keys}
+use Rattle.pud_defs.proofs.KeyedTables.KeyedEach.{passes_there, any-keyed}
+use Rattle.pud_defs.proofs.RegistryTables.Spaces.{all_below-same, any-range}
 use Rattle.graph_read.specs.declared.checking.SlotCheck.TheVariants.{LacksPointerTo}
 use Rattle.graph_read.specs.Checking.{contents_pass, place_passes, serials_in, with_serials}
 use Rattle.graph_read.proofs.Judging.{none_without_puddles}
 use Rattle.pud_defs.specs.declared.records.Puddle.{Puddle}
-use Rattle.pud_defs.specs.Image.{Image}
-use Rattle.pud_defs.proofs.Graphs.{distinct_live}
+use Rattle.pud_defs.specs.Formats.Image.{Image}
+use Rattle.pud_defs.proofs.PoolGraphs.Graphs.{distinct_live}
 
 -- ---- who names a serial
 

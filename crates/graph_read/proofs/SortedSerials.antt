@@ -9,10 +9,10 @@ use Rattle.std.proofs.lemmas.List.{get_or-take, length-take-le}
 use Rattle.std.proofs.lemmas.List.Sorted.{IsNonDecreasingBy-from_sort, IsPermutation-sym}
 use Rattle.std.proofs.lemmas.Map.Keys.{IsDistinct-from_apart, IsDistinct-IsPermutation, apart_from_distinct}
 use Rattle.std.proofs.lemmas.Option.{none-some}
-use Rattle.pud_defs.specs.Graph.{under_serial}
-use Rattle.pud_defs.specs.Keyed.{are_distinct, under}
-use Rattle.pud_defs.proofs.DistinctKeys.{same_tests, some_under, eqb_turned}
-use Rattle.pud_defs.proofs.Keyed.{are_distinct_keys, distinct_keys}
+use Rattle.pud_defs.specs.PoolGraphs.Graph.{under_serial}
+use Rattle.pud_defs.specs.RegistryTables.Keyed.{are_distinct, under}
+use Rattle.pud_defs.proofs.KeyedTables.DistinctKeys.{same_tests, some_under, eqb_turned}
+use Rattle.pud_defs.proofs.KeyedTables.Keyed.{are_distinct_keys, distinct_keys}
 
 -- two places have one serial, and are live
 abbrev pub is_shared : ℕ → ℕ → Bool

@@ -4,9 +4,9 @@ use Rattle.std.specs.List.{list_all}
 use Rattle.pud_defs.specs.declared.space.TheConstants.{SLOT_SERIAL_WORD}
 use Rattle.pud_defs.specs.declared.objects.Pointee.{Pointee}
 use Rattle.pud_defs.specs.declared.objects.Pointee.TheVariants as pointees
-use Rattle.pud_defs.specs.Geometry.{place_at}
-use Rattle.pud_defs.specs.Graph.{Content, Null, At, Nowhere, Table, value_of, stands, names_serial}
-use Rattle.pud_defs.specs.Stored.{Stored, place_word, slot_state}
+use Rattle.pud_defs.specs.Formats.Geometry.{place_at}
+use Rattle.pud_defs.specs.PoolGraphs.Graph.{Content, Null, At, Nowhere, Table, value_of, stands, names_serial}
+use Rattle.pud_defs.specs.PoolGraphs.Stored.{Stored, place_word, slot_state}
 use Rattle.graph_read.specs.declared.checking.SlotCheck.{SlotCheck}
 use Rattle.graph_read.specs.declared.checking.SlotCheck.TheVariants.{IsSound, LacksPointerTo}
 

@@ -4,11 +4,11 @@ use Rattle.std.specs.List.{range_with_len}
 use Rattle.pud_defs.specs.declared.records.Puddle.{Puddle}
 use Rattle.pud_defs.specs.declared.objects.FieldValue.{FieldValue}
 use Rattle.pud_defs.specs.declared.objects.FieldValue.TheVariants.{Num, Ref}
-use Rattle.pud_defs.specs.Geometry.{ordinal_of, slot_of}
-use Rattle.pud_defs.specs.Image.{Image}
-use Rattle.pud_defs.specs.Stored.{stored_in}
-use Rattle.pud_defs.specs.Graph.{Content, Table, Graph, named_by, names_serial, graph_of}
-use Rattle.pud_defs.specs.GraphChanges.{without_object}
+use Rattle.pud_defs.specs.Formats.Geometry.{ordinal_of, slot_of}
+use Rattle.pud_defs.specs.Formats.Image.{Image}
+use Rattle.pud_defs.specs.PoolGraphs.Stored.{stored_in}
+use Rattle.pud_defs.specs.PoolGraphs.Graph.{Content, Table, Graph, named_by, names_serial, graph_of}
+use Rattle.pud_defs.specs.PoolGraphs.GraphChanges.{without_object}
 use Rattle.graph_laws.specs.ReferenceCounts.{reference_count}
 use Rattle.graph_read.specs.declared.index.Kept.{Kept}
 use Rattle.graph_read.specs.declared.index.Index.{Index}

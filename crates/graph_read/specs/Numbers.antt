@@ -4,9 +4,9 @@ use Rattle.std.specs.Bool.{then_some}
 use Rattle.std.specs.List.{range_with_len}
 use Rattle.pud_defs.specs.declared.objects.FieldValue.{FieldValue}
 use Rattle.pud_defs.specs.declared.objects.FieldValue.TheVariants.{Num, Ref}
-use Rattle.pud_defs.specs.Graph.{Content, Object, Table, Graph, live}
-use Rattle.pud_defs.specs.Graph.Content.{Number, Null, At, Nowhere}
-use Rattle.pud_defs.specs.Spaces.{all_below}
+use Rattle.pud_defs.specs.PoolGraphs.Graph.{Content, Object, Table, Graph, live}
+use Rattle.pud_defs.specs.PoolGraphs.Graph.Content.{Number, Null, At, Nowhere}
+use Rattle.pud_defs.specs.RegistryTables.Spaces.{all_below}
 use Rattle.graph_read.specs.declared.checking.SlotCheck.{SlotCheck}
 use Rattle.graph_read.specs.declared.judge.Totals.{Totals}
 use Rattle.graph_read.specs.Checking.{passes, contents_pass, place_passes}

@@ -4,10 +4,10 @@ ghost use Rattle.std.specs.Prelude.{◌≡◌, ◌+◌, ◌<◌, ◌≤◌, leng
 ghost use Rattle.pm_model.specs.Words.{reads};
 ghost use Rattle.pm_model.specs.Counts.{fault_of};
 ghost use Rattle.pm_model.specs.Reads.{OnlyReads};
-ghost use Rattle.pud_defs.specs.Graph.{content, slot_contents};
-ghost use Rattle.pud_defs.specs.Image.{Image};
-ghost use Rattle.pud_defs.specs.Layout.{device_words};
-ghost use Rattle.pud_defs.specs.Stored.{IsOnDevice, stored_in, place_word};
+ghost use Rattle.pud_defs.specs.PoolGraphs.Graph.{content, slot_contents};
+ghost use Rattle.pud_defs.specs.Formats.Image.{Image};
+ghost use Rattle.pud_defs.specs.Formats.Layout.{device_words};
+ghost use Rattle.pud_defs.specs.PoolGraphs.Stored.{IsOnDevice, stored_in, place_word};
 ghost use Rattle.graph_read.specs.Checking.{content_of, passes, serial_passes, unknown_passes, with_serials};
 ghost use Rattle.graph_read.specs.Numbers.{value_number, fields_sum, place_sum, places_sum};
 ghost use Rattle.puddle_header.specs.Places.{places_in};

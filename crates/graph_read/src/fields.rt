@@ -5,10 +5,10 @@ ghost use Rattle.pm_model.specs.Words.{Image, reads};
 ghost use Rattle.pm_model.specs.Counts.{fault_of};
 ghost use Rattle.pm_model.specs.Reads.{OnlyReads};
 ghost use Rattle.pud_defs.specs.declared.space.TheConstants.{SLOT_FIELDS_WORD};
-ghost use Rattle.pud_defs.specs.Layout.{device_words};
-ghost use Rattle.pud_defs.specs.Types.{types_of};
-ghost use Rattle.pud_defs.specs.Stored.{IsOnDevice, stored_in, place_word};
-ghost use Rattle.pud_defs.specs.Graph.{Graph, pointee_at, content, named_by, value_of, object_at, graph_of, object_in};
+ghost use Rattle.pud_defs.specs.Formats.Layout.{device_words};
+ghost use Rattle.pud_defs.specs.RegistryTables.Types.{types_of};
+ghost use Rattle.pud_defs.specs.PoolGraphs.Stored.{IsOnDevice, stored_in, place_word};
+ghost use Rattle.pud_defs.specs.PoolGraphs.Graph.{Graph, pointee_at, content, named_by, value_of, object_at, graph_of, object_in};
 ghost use Rattle.puddle_header.specs.Places.{place_of_slot, IsSlotOf};
 ghost use Rattle.graph_read.specs.Reading.{table_in, read_by, field_in};
 

@@ -7,10 +7,10 @@ ghost use Rattle.pm_model.specs.Words.{Image, reads};
 ghost use Rattle.pm_model.specs.Counts.{fault_of};
 ghost use Rattle.pm_model.specs.Reads.{OnlyReads};
 ghost use Rattle.pud_defs.specs.declared.records.Slot.{Slot};
-ghost use Rattle.pud_defs.specs.Layout.{device_words};
-ghost use Rattle.pud_defs.specs.Types.{types_of};
-ghost use Rattle.pud_defs.specs.Stored.{IsOnDevice, stored_in};
-ghost use Rattle.pud_defs.specs.Graph.{Graph, graph_of, object_in};
+ghost use Rattle.pud_defs.specs.Formats.Layout.{device_words};
+ghost use Rattle.pud_defs.specs.RegistryTables.Types.{types_of};
+ghost use Rattle.pud_defs.specs.PoolGraphs.Stored.{IsOnDevice, stored_in};
+ghost use Rattle.pud_defs.specs.PoolGraphs.Graph.{Graph, graph_of, object_in};
 ghost use Rattle.puddle_header.specs.Places.{places_in, place_of_slot, IsSlotOf};
 ghost use Rattle.graph_read.specs.Reading.{place_in_pool};
 

@@ -1,8 +1,8 @@
 //! Where a stored pointer leads: to nothing, to a slot of its pool, or nowhere.
 
 ghost use Rattle.std.specs.Prelude.{◌≡◌, ◌<◌, ◌≤◌, cond, length, map, IfSome};
-ghost use Rattle.pud_defs.specs.Geometry.{slots_of};
-ghost use Rattle.pud_defs.specs.Graph.{slot_in, over_old, pointee_at};
+ghost use Rattle.pud_defs.specs.Formats.Geometry.{slots_of};
+ghost use Rattle.pud_defs.specs.PoolGraphs.Graph.{slot_in, over_old, pointee_at};
 ghost use Rattle.graph_read.specs.Reading.{pointee_of, LeadsWithin};
 
 use pud_defs::objects::Pointee;

@@ -4,11 +4,11 @@ ghost use Rattle.std.specs.Prelude.{◌≡◌, ◌≤◌, ◌==◌, ◌||◌, no
 ghost use Rattle.pm_model.specs.Words.{reads};
 ghost use Rattle.pm_model.specs.Counts.{fault_of};
 ghost use Rattle.pm_model.specs.Reads.{OnlyReads};
-ghost use Rattle.pud_defs.specs.Graph.{Graph, graph_of, is_referenced};
-ghost use Rattle.pud_defs.specs.Image.{Image};
-ghost use Rattle.pud_defs.specs.Layout.{device_words};
-ghost use Rattle.pud_defs.specs.Stored.{IsOnDevice, stored_in};
-ghost use Rattle.pud_defs.specs.Types.{types_of};
+ghost use Rattle.pud_defs.specs.PoolGraphs.Graph.{Graph, graph_of, is_referenced};
+ghost use Rattle.pud_defs.specs.Formats.Image.{Image};
+ghost use Rattle.pud_defs.specs.Formats.Layout.{device_words};
+ghost use Rattle.pud_defs.specs.PoolGraphs.Stored.{IsOnDevice, stored_in};
+ghost use Rattle.pud_defs.specs.RegistryTables.Types.{types_of};
 
 use crate::checking::{SlotCheck, places_sum};
 use crate::pointers::read_pointer;

@@ -1,6 +1,6 @@
 //! Pools as they are poked, what is asked of them, and what is answered.
 ghost use Rattle.std.specs.Prelude.{IsTrue};
-ghost use Rattle.pud_defs.specs.Stored.{IsOnDevice};
+ghost use Rattle.pud_defs.specs.PoolGraphs.Stored.{IsOnDevice};
 
 use graph_read::{FieldRead, Index, is_referenced, pool_is_sound, read_field};
 use pm_mem::{MemHost, Plan};

@@ -1,6 +1,6 @@
 -- The finished ones among the puddles of a pool: they lie as all do, and their words are among those of all.
 use Rattle.hybrid_tx.specs.Open.Masks.{ArePuddlesOf}
-use Rattle.pud_defs.specs.Tables.{Tables}
+use Rattle.pud_defs.specs.RegistryTables.Tables.{Tables}
 use Rattle.std.proofs.Common.{◌≡◌, inl, inr, ℕ, zero, suc, ◌<◌, ◌≤◌, Bool, true, false, List, [], ◌∷◌, length, All, Some, refl, sym, ap, subst, ◌∙◌, arith, eq-eqb, ◌++◌}
 use Rattle.std.specs.Prelude.{slice_get}
 use Rattle.std.specs.List.{filter}
@@ -8,8 +8,8 @@ use Rattle.std.proofs.lemmas.Bool.{cases_Bool, cond-true, cond-false}
 use Rattle.std.proofs.lemmas.Option.{none-some, same_Some}
 use Rattle.std.proofs.lemmas.List.Elements.{All-nil, All-cons, All-head, All-tail}
 use Rattle.pud_defs.specs.declared.records.Puddle.{Puddle}
-use Rattle.pud_defs.specs.Bases.{is_legal_base}
-use Rattle.pud_defs.specs.Geometry.{steps_of}
+use Rattle.pud_defs.specs.Formats.Bases.{is_legal_base}
+use Rattle.pud_defs.specs.Formats.Geometry.{steps_of}
 use Rattle.graph_laws.specs.Changes.{AreBases}
 use Rattle.hybrid_tx.specs.PoolScopes.{pool_has_word, is_finished, finished_of, ArePlacedPuddles}
 use Rattle.hybrid_tx.proofs.PoolScope.{base_there, bases_of, pool_has_word-each, pool_has_word-from}

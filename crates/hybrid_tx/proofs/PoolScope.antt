@@ -9,11 +9,11 @@ use Rattle.std.proofs.lemmas.List.Elements.{All-get_or}
 use Rattle.pud_defs.specs.declared.layout.TheConstants.{LOG_WORDS, FRAME_WORDS}
 use Rattle.pud_defs.specs.declared.space.TheConstants.{RANGE_BYTES, WORD_BYTES, SPACE_START, SPACE_BYTES}
 use Rattle.pud_defs.specs.declared.records.Puddle.{Puddle}
-use Rattle.pud_defs.specs.Layout.{frames_at, device_words}
-use Rattle.pud_defs.specs.Bases.{is_legal_base}
-use Rattle.pud_defs.specs.Frames.{frame_at}
-use Rattle.pud_defs.specs.Places.{word_in}
-use Rattle.pud_defs.specs.Replay.{is_in_log}
+use Rattle.pud_defs.specs.Formats.Layout.{frames_at, device_words}
+use Rattle.pud_defs.specs.Formats.Bases.{is_legal_base}
+use Rattle.pud_defs.specs.Formats.Frames.{frame_at}
+use Rattle.pud_defs.specs.RegistryTables.Places.{word_in}
+use Rattle.pud_defs.specs.Logging.Replay.{is_in_log}
 use Rattle.graph_laws.specs.Changes.{AreBases}
 use Rattle.graph_laws.proofs.Pointers.{behind}
 use Rattle.word_transaction.specs.Scope.{Spans, IsScope}

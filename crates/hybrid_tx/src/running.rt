@@ -9,19 +9,19 @@ ghost use Rattle.pud_defs.specs.declared.layout.TheConstants.{LOG_WORDS, LOG_ENT
 ghost use Rattle.pud_defs.specs.declared.log_words.TheConstants.{RUNNING_GATE};
 ghost use Rattle.pud_defs.specs.declared.space.TheConstants.{WORD_BYTES};
 ghost use Rattle.pud_defs.specs.declared.records.Puddle.{Puddle};
-ghost use Rattle.pud_defs.specs.Image.{Image};
-ghost use Rattle.pud_defs.specs.Layout.{device_words, frames_at};
-ghost use Rattle.pud_defs.specs.Frames.{frame_at};
-ghost use Rattle.pud_defs.specs.Entries.{Entry};
-ghost use Rattle.pud_defs.specs.Replay.{over};
-ghost use Rattle.pud_defs.specs.Settled.{ALL_LOGS, log_number_at};
-ghost use Rattle.pud_defs.specs.Stored.{IsOnDevice, stored_in};
-ghost use Rattle.pud_defs.specs.Graph.{Graph, graph_of};
+ghost use Rattle.pud_defs.specs.Formats.Image.{Image};
+ghost use Rattle.pud_defs.specs.Formats.Layout.{device_words, frames_at};
+ghost use Rattle.pud_defs.specs.Formats.Frames.{frame_at};
+ghost use Rattle.pud_defs.specs.Logging.Entries.{Entry};
+ghost use Rattle.pud_defs.specs.Logging.Replay.{over};
+ghost use Rattle.pud_defs.specs.Logging.Settled.{ALL_LOGS, log_number_at};
+ghost use Rattle.pud_defs.specs.PoolGraphs.Stored.{IsOnDevice, stored_in};
+ghost use Rattle.pud_defs.specs.PoolGraphs.Graph.{Graph, graph_of};
 ghost use Rattle.log_store.specs.Store.{InLog, with_deferred_words};
 ghost use Rattle.word_transaction.specs.Scope.{Scope, IsScope, redo_entry};
 ghost use Rattle.word_transaction.specs.Running.{IsRunning, IsIdle, no_write, begun_log, ByTransaction, KeepsRunning, SavesAndWrites};
 ghost use Rattle.hybrid_tx.specs.PoolScopes.{pool_scope, finished_of, ArePlacedPuddles};
-ghost use Rattle.pud_defs.specs.Geometry.{steps_of};
+ghost use Rattle.pud_defs.specs.Formats.Geometry.{steps_of};
 ghost use Rattle.hybrid_tx.specs.Objects.Stores.{ByPut, ByPutBoth};
 ghost use Rattle.hybrid_tx.specs.Objects.Transactions.{begun_tx, IsSaving, IsOpenOn, KeepsSaving};
 

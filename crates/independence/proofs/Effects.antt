@@ -5,17 +5,17 @@ use Rattle.pud_defs.specs.declared.layout.TheConstants.{SET_UNITS, NEW_UNITS}
 use Rattle.pud_defs.specs.declared.machine.Command.{Command}
 use Rattle.pud_defs.specs.declared.machine.Command.TheVariants.{Client, Leave, Define, Cut, Arm, Chmod, Begin, Commit, Abort, New, Set, Later, Root, Free, Dump, Export, Import, Rewrite, Get}
 use Rattle.pud_defs.specs.declared.machine.Command.TheVariants as commands
-use Rattle.pud_defs.specs.Types.{map_of, with_type}
-use Rattle.pud_defs.specs.Spaces.{Owner, owner, with_owner}
-use Rattle.pud_defs.specs.Graph.{Graph, empty_graph}
-use Rattle.pud_defs.specs.GraphChanges.{blank_object, with_field, with_root, without_object, with_new}
-use Rattle.pud_defs.specs.ExportFile.{FileContents}
-use Rattle.pud_defs.specs.Tables.{Pool}
-use Rattle.pud_defs.specs.World.{World, Transaction, open_on, no_clients}
-use Rattle.pud_defs.specs.PoolChanges.{pool_named, new_pool, reread_pool, with_puddle_more, with_new_pool, with_pool_mode, without_pool, with_type_defined}
-use Rattle.pud_defs.specs.Imports.{types_missing, with_types_defined, imported_pool, with_imported_pool, with_pool_of}
-use Rattle.pud_defs.specs.Transactions.{is_own, open_after_begin, charged, deferring, lowered}
-use Rattle.pud_defs.specs.Step.{name_in, graph_in, graph_seen, is_all_live, grows, contents_named, owner_acting, after}
+use Rattle.pud_defs.specs.RegistryTables.Types.{map_of, with_type}
+use Rattle.pud_defs.specs.RegistryTables.Spaces.{Owner, owner, with_owner}
+use Rattle.pud_defs.specs.PoolGraphs.Graph.{Graph, empty_graph}
+use Rattle.pud_defs.specs.PoolGraphs.GraphChanges.{blank_object, with_field, with_root, without_object, with_new}
+use Rattle.pud_defs.specs.PoolGraphs.ExportFile.{FileContents}
+use Rattle.pud_defs.specs.RegistryTables.Tables.{Pool}
+use Rattle.pud_defs.specs.StateMachine.World.{World, Transaction, open_on, no_clients}
+use Rattle.pud_defs.specs.StateMachine.PoolChanges.{pool_named, new_pool, reread_pool, with_puddle_more, with_new_pool, with_pool_mode, without_pool, with_type_defined}
+use Rattle.pud_defs.specs.StateMachine.Imports.{types_missing, with_types_defined, imported_pool, with_imported_pool, with_pool_of}
+use Rattle.pud_defs.specs.StateMachine.Transactions.{is_own, open_after_begin, charged, deferring, lowered}
+use Rattle.pud_defs.specs.StateMachine.Step.{name_in, graph_in, graph_seen, is_all_live, grows, contents_named, owner_acting, after}
 use Rattle.independence.specs.Shares.{unnumbered, seen, Share, share}
 use Rattle.independence.proofs.Shares.{kept, seen_put, seen_without, seen_changed, seen_kept, seen_changed_if, committed, seen_committed, seen_read, reread, types_with, seen_typed, types_typed}
 

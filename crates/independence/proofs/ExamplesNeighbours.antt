@@ -4,20 +4,20 @@ use Rattle.std.specs.List.{list_all}
 use Rattle.std.proofs.lemmas.Bool.{and_parts}
 use Rattle.pud_defs.specs.declared.machine.Reply.TheVariants as replies
 use Rattle.pud_defs.specs.declared.machine.Refusal.TheVariants as refusals
-use Rattle.pud_defs.specs.Tables.{Pool}
-use Rattle.pud_defs.specs.World.{World, no_clients, nothing_open, restart, blank_world}
-use Rattle.pud_defs.specs.PoolChanges.{pool_named}
-use Rattle.pud_defs.specs.Grammar.{command_of}
-use Rattle.pud_defs.specs.Step.{Answer, step_answer, step_world}
-use Rattle.pud_defs.specs.Step.Answer.{of_reply}
-use Rattle.pud_defs.specs.Gives.{with_file, contents_of_pool, Exports}
-use Rattle.pud_defs.specs.Changing.{file_in}
-use Rattle.pud_defs.specs.Run.{Turn, IsTurn, IsRun, last_world}
-use Rattle.pud_defs.proofs.Changing.{Gives-plain}
-use Rattle.pud_defs.proofs.Opened.{opened}
-use Rattle.pud_defs.proofs.ExamplesPools.{said, lines_said}
-use Rattle.pud_defs.proofs.ExamplesTransactions.{name_of}
-use Rattle.pud_defs.proofs.ExamplesFiles.{contents, bytes, of_its_bytes}
+use Rattle.pud_defs.specs.RegistryTables.Tables.{Pool}
+use Rattle.pud_defs.specs.StateMachine.World.{World, no_clients, nothing_open, restart, blank_world}
+use Rattle.pud_defs.specs.StateMachine.PoolChanges.{pool_named}
+use Rattle.pud_defs.specs.StateMachine.Grammar.{command_of}
+use Rattle.pud_defs.specs.StateMachine.Step.{Answer, step_answer, step_world}
+use Rattle.pud_defs.specs.StateMachine.Step.Answer.{of_reply}
+use Rattle.pud_defs.specs.StateMachine.Gives.{with_file, contents_of_pool, Exports}
+use Rattle.pud_defs.specs.StateMachine.Changing.{file_in}
+use Rattle.pud_defs.specs.StateMachine.Run.{Turn, IsTurn, IsRun, last_world}
+use Rattle.pud_defs.proofs.StateMachine.Changing.{Gives-plain}
+use Rattle.pud_defs.proofs.Examples.Opened.{opened}
+use Rattle.pud_defs.proofs.Examples.Pools.{said, lines_said}
+use Rattle.pud_defs.proofs.Examples.Transactions.{name_of}
+use Rattle.pud_defs.proofs.Examples.Files.{contents, bytes, of_its_bytes}
 use Rattle.independence.specs.Own.{Names, only_pool, lines_of_set, answers_to}
 use Rattle.independence.specs.Shares.{share}
 use Rattle.independence.specs.Limits.{meets_limit}

@@ -9,16 +9,16 @@ use Rattle.pud_defs.specs.declared.machine.Refusal.{Refusal}
 use Rattle.pud_defs.specs.declared.machine.Refusal.TheVariants as refusals
 use Rattle.pud_defs.specs.declared.objects.FieldValue.{FieldValue}
 use Rattle.pud_defs.specs.declared.objects.FieldValue.TheVariants.{Ref}
-use Rattle.pud_defs.specs.Types.{map_of}
-use Rattle.pud_defs.specs.Spaces.{Owner}
-use Rattle.pud_defs.specs.Graph.{Graph}
-use Rattle.pud_defs.specs.DeferredValues.{deferred_set_names}
-use Rattle.pud_defs.specs.DumpText.{dump_text}
-use Rattle.pud_defs.specs.ExportFile.{FileContents, file_graph}
-use Rattle.pud_defs.specs.Tables.{Pool}
-use Rattle.pud_defs.specs.World.{World, Transaction}
-use Rattle.pud_defs.specs.Transactions.{is_own, units_of, depth_of, deferred_of}
-use Rattle.pud_defs.specs.Step.{has_owner_right, has_read_right, has_write_right, causes, client_of, name_in, is_allowed, charge, is_present, acting, graph_in, graph_seen, object_of, field_of, object_named, field_named, pool_for, open_for, graph_for, has_own_open, has_other_open, is_deep, type_named, lacks_object, differ_in_kind, mixes_kinds, is_referenced_in, frees_referenced, is_full_graph, file_for, contents_in, contents_named, of_contents, is_clash, is_full, clashes_with, clashes, overfills, cause_holds, refusal_of, text_for, next_in, value_for, value_or_ok, text_or, answer}
+use Rattle.pud_defs.specs.RegistryTables.Types.{map_of}
+use Rattle.pud_defs.specs.RegistryTables.Spaces.{Owner}
+use Rattle.pud_defs.specs.PoolGraphs.Graph.{Graph}
+use Rattle.pud_defs.specs.PoolGraphs.DeferredValues.{deferred_set_names}
+use Rattle.pud_defs.specs.Output.DumpText.{dump_text}
+use Rattle.pud_defs.specs.PoolGraphs.ExportFile.{FileContents, file_graph}
+use Rattle.pud_defs.specs.RegistryTables.Tables.{Pool}
+use Rattle.pud_defs.specs.StateMachine.World.{World, Transaction}
+use Rattle.pud_defs.specs.StateMachine.Transactions.{is_own, units_of, depth_of, deferred_of}
+use Rattle.pud_defs.specs.StateMachine.Step.{has_owner_right, has_read_right, has_write_right, causes, client_of, name_in, is_allowed, charge, is_present, acting, graph_in, graph_seen, object_of, field_of, object_named, field_named, pool_for, open_for, graph_for, has_own_open, has_other_open, is_deep, type_named, lacks_object, differ_in_kind, mixes_kinds, is_referenced_in, frees_referenced, is_full_graph, file_for, contents_in, contents_named, of_contents, is_clash, is_full, clashes_with, clashes, overfills, cause_holds, refusal_of, text_for, next_in, value_for, value_or_ok, text_or, answer}
 use Rattle.independence.specs.Own.{Names, is_within}
 use Rattle.independence.specs.Shares.{seen}
 use Rattle.independence.specs.Limits.{is_full_by_itself}

@@ -3,11 +3,11 @@ use Rattle.std.proofs.Common.{◌≡◌, ℕ, Bool, true, false, cond, ◌&&◌,
 use Rattle.std.proofs.lemmas.Slice.Eq.{bytes_eq-Decides}
 use Rattle.pud_defs.specs.declared.machine.Command.{Command}
 use Rattle.pud_defs.specs.declared.machine.Command.TheVariants.{Import}
-use Rattle.pud_defs.specs.Grammar.{command_of}
-use Rattle.pud_defs.specs.World.{World}
-use Rattle.pud_defs.specs.Step.{Answer, name_in, answer_by}
-use Rattle.pud_defs.specs.Gives.{Gives}
-use Rattle.pud_defs.specs.Run.{Turn, IsTurn, is_cut, IsRun, last_world, lines_taken}
+use Rattle.pud_defs.specs.StateMachine.Grammar.{command_of}
+use Rattle.pud_defs.specs.StateMachine.World.{World}
+use Rattle.pud_defs.specs.StateMachine.Step.{Answer, name_in, answer_by}
+use Rattle.pud_defs.specs.StateMachine.Gives.{Gives}
+use Rattle.pud_defs.specs.StateMachine.Run.{Turn, IsTurn, is_cut, IsRun, last_world, lines_taken}
 use Rattle.independence.specs.Own.{Names, is_within, is_none_or_within, name_of_command, is_of, is_line_of_set, lines_of_set, answers_to}
 use Rattle.independence.specs.Limits.{is_at_limit, meets_limit, MeetNoLimit}
 use Rattle.independence.specs.Premises.{DefinesNone, LeavesFiles, OthersDefineNone, file_read, is_file_named, is_imported, OthersLeaveFiles}

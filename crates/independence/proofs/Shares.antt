@@ -5,18 +5,18 @@ use Rattle.std.specs.FinMap.Entries.{find, put, find-put, find-where_key}
 use Rattle.std.specs.Cmp.Lexicographic.{nat_list_cmp_total}
 use Rattle.std.proofs.lemmas.Slice.Eq.{bytes_eq-Decides}
 use Rattle.std.proofs.lemmas.Map.Text.{is_eq-slice_cmp}
-use Rattle.pud_defs.specs.Names.{name_cmp}
-use Rattle.pud_defs.specs.Keyed.{without}
-use Rattle.pud_defs.specs.Types.{with_type}
-use Rattle.pud_defs.specs.Tables.{Pool}
-use Rattle.pud_defs.specs.World.{StoredWorld, Transaction}
-use Rattle.pud_defs.specs.PoolChanges.{changed_pool, reread_pool, reread_pools, with_type_defined}
-use Rattle.pud_defs.specs.Imports.{with_types_defined}
-use Rattle.pud_defs.specs.Transactions.{holding_graph, committed_pools}
-use Rattle.pud_defs.specs.DeferredValues.{with_deferred_set}
-use Rattle.pud_defs.proofs.DistinctKeys.{same_tests}
-use Rattle.pud_defs.proofs.KeyedMaps.{find-mapped}
-use Rattle.pud_defs.proofs.PoolsChanged.{same_name}
+use Rattle.pud_defs.specs.Formats.Names.{name_cmp}
+use Rattle.pud_defs.specs.RegistryTables.Keyed.{without}
+use Rattle.pud_defs.specs.RegistryTables.Types.{with_type}
+use Rattle.pud_defs.specs.RegistryTables.Tables.{Pool}
+use Rattle.pud_defs.specs.StateMachine.World.{StoredWorld, Transaction}
+use Rattle.pud_defs.specs.StateMachine.PoolChanges.{changed_pool, reread_pool, reread_pools, with_type_defined}
+use Rattle.pud_defs.specs.StateMachine.Imports.{with_types_defined}
+use Rattle.pud_defs.specs.StateMachine.Transactions.{holding_graph, committed_pools}
+use Rattle.pud_defs.specs.PoolGraphs.DeferredValues.{with_deferred_set}
+use Rattle.pud_defs.proofs.KeyedTables.DistinctKeys.{same_tests}
+use Rattle.pud_defs.proofs.KeyedTables.KeyedMaps.{find-mapped}
+use Rattle.pud_defs.proofs.RegistryTables.PoolsChanged.{same_name}
 use Rattle.independence.specs.Shares.{unnumbered, seen}
 
 abbrev pub Pools : Type 0

@@ -11,20 +11,20 @@ use Rattle.pud_defs.specs.declared.machine.Command.TheVariants.{Client, Leave, D
 use Rattle.pud_defs.specs.declared.machine.Reply.TheVariants as replies
 use Rattle.pud_defs.specs.declared.machine.Refusal.{Refusal}
 use Rattle.pud_defs.specs.declared.machine.Refusal.TheVariants as refusals
-use Rattle.pud_defs.specs.Types.{map_of, with_type}
-use Rattle.pud_defs.specs.Spaces.{Owner}
-use Rattle.pud_defs.specs.ExportFile.{FileContents, file_graph}
-use Rattle.pud_defs.specs.Tables.{Pool}
-use Rattle.pud_defs.specs.World.{World}
-use Rattle.pud_defs.specs.PoolChanges.{pool_named}
-use Rattle.pud_defs.specs.Imports.{types_missing}
-use Rattle.pud_defs.specs.Listing.{name_text}
-use Rattle.pud_defs.specs.Grammar.{command_of}
-use Rattle.pud_defs.specs.Step.{Answer, name_in, pool_by_name, open_by_name, file_for, contents_named, refusal_of, after, answer, answer_unless, answer_by, unless_refused}
-use Rattle.pud_defs.specs.Step.Answer.{of_reply}
-use Rattle.pud_defs.specs.Gives.{Shelf, contents_of_pool, Exports, GivesShelf, GivesUnless, Gives}
-use Rattle.pud_defs.specs.Run.{Turn, IsTurn, is_cut}
-use Rattle.pud_defs.proofs.TypeLists.{same_number}
+use Rattle.pud_defs.specs.RegistryTables.Types.{map_of, with_type}
+use Rattle.pud_defs.specs.RegistryTables.Spaces.{Owner}
+use Rattle.pud_defs.specs.PoolGraphs.ExportFile.{FileContents, file_graph}
+use Rattle.pud_defs.specs.RegistryTables.Tables.{Pool}
+use Rattle.pud_defs.specs.StateMachine.World.{World}
+use Rattle.pud_defs.specs.StateMachine.PoolChanges.{pool_named}
+use Rattle.pud_defs.specs.StateMachine.Imports.{types_missing}
+use Rattle.pud_defs.specs.Output.Listing.{name_text}
+use Rattle.pud_defs.specs.StateMachine.Grammar.{command_of}
+use Rattle.pud_defs.specs.StateMachine.Step.{Answer, name_in, pool_by_name, open_by_name, file_for, contents_named, refusal_of, after, answer, answer_unless, answer_by, unless_refused}
+use Rattle.pud_defs.specs.StateMachine.Step.Answer.{of_reply}
+use Rattle.pud_defs.specs.StateMachine.Gives.{Shelf, contents_of_pool, Exports, GivesShelf, GivesUnless, Gives}
+use Rattle.pud_defs.specs.StateMachine.Run.{Turn, IsTurn, is_cut}
+use Rattle.pud_defs.proofs.RegistryTables.TypeLists.{same_number}
 use Rattle.independence.specs.Own.{Names, is_within, is_none_or_within, name_of_command, is_line_of_set}
 use Rattle.independence.specs.Shares.{seen, Share, share}
 use Rattle.independence.specs.Limits.{is_full_by_itself, is_limit, is_at_limit}

@@ -4,19 +4,19 @@ use Rattle.std.proofs.lemmas.Slice.Eq.{bytes_eq-Decides}
 use Rattle.pud_defs.specs.declared.machine.Command.{Command}
 use Rattle.pud_defs.specs.declared.machine.Command.TheVariants.{Export}
 use Rattle.pud_defs.specs.declared.machine.Reply.TheVariants as replies
-use Rattle.pud_defs.specs.Holdings.{graph_held}
-use Rattle.pud_defs.specs.Tables.{Pool}
-use Rattle.pud_defs.specs.World.{World}
-use Rattle.pud_defs.specs.PoolChanges.{pool_named}
-use Rattle.pud_defs.specs.Listing.{name_text}
-use Rattle.pud_defs.specs.Grammar.{command_of}
-use Rattle.pud_defs.specs.Step.{Answer, answer, answer_by}
-use Rattle.pud_defs.specs.Step.Answer.{of_reply, of_text}
-use Rattle.pud_defs.specs.Gives.{Shelf, GivesShelf, Gives}
-use Rattle.pud_defs.specs.Changing.{file_in}
-use Rattle.pud_defs.specs.Run.{Turn, IsTurn, is_cut, IsRun, last_world}
-use Rattle.pud_defs.specs.Texts.{reply_text, begins_with_ok}
-use Rattle.pud_defs.proofs.Steps.{done_answer}
+use Rattle.pud_defs.specs.PoolGraphs.Holdings.{graph_held}
+use Rattle.pud_defs.specs.RegistryTables.Tables.{Pool}
+use Rattle.pud_defs.specs.StateMachine.World.{World}
+use Rattle.pud_defs.specs.StateMachine.PoolChanges.{pool_named}
+use Rattle.pud_defs.specs.Output.Listing.{name_text}
+use Rattle.pud_defs.specs.StateMachine.Grammar.{command_of}
+use Rattle.pud_defs.specs.StateMachine.Step.{Answer, answer, answer_by}
+use Rattle.pud_defs.specs.StateMachine.Step.Answer.{of_reply, of_text}
+use Rattle.pud_defs.specs.StateMachine.Gives.{Shelf, GivesShelf, Gives}
+use Rattle.pud_defs.specs.StateMachine.Changing.{file_in}
+use Rattle.pud_defs.specs.StateMachine.Run.{Turn, IsTurn, is_cut, IsRun, last_world}
+use Rattle.pud_defs.specs.Output.Texts.{reply_text, begins_with_ok}
+use Rattle.pud_defs.proofs.StateMachine.Steps.{done_answer}
 use Rattle.independence.specs.Own.{Names, only_pool, is_line_of_set}
 use Rattle.independence.specs.Shares.{seen, Share, share, AreAlikeOrAbsent, IsSamePool}
 use Rattle.independence.specs.Limits.{is_full_by_itself, is_limit, is_at_limit, MeetNoLimit, MeetNoneAtAll}

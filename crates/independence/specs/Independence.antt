@@ -1,7 +1,7 @@
 -- Pools by themselves: what a pool is and what its lines are answered comes of its own lines, the types and the clients alone.
 use Rattle.std.specs.Prelude.{◌≡◌, ℕ, true, false, List, map}
-use Rattle.pud_defs.specs.World.{World}
-use Rattle.pud_defs.specs.Run.{Turn, is_cut, IsRun, last_world}
+use Rattle.pud_defs.specs.StateMachine.World.{World}
+use Rattle.pud_defs.specs.StateMachine.Run.{Turn, is_cut, IsRun, last_world}
 use Rattle.independence.specs.Own.{Names, only_pool, is_line_of_set, lines_of_set, answers_to}
 use Rattle.independence.specs.Shares.{share, IsSamePool}
 use Rattle.independence.specs.Limits.{MeetNoLimit, MeetNoneAtAll}

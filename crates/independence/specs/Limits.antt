@@ -4,11 +4,11 @@ use Rattle.pud_defs.specs.declared.machine.Command.{Command}
 use Rattle.pud_defs.specs.declared.machine.Command.TheVariants.{New}
 use Rattle.pud_defs.specs.declared.machine.Reply.TheVariants as replies
 use Rattle.pud_defs.specs.declared.machine.Refusal.TheVariants as refusals
-use Rattle.pud_defs.specs.World.{World}
-use Rattle.pud_defs.specs.Grammar.{command_of}
-use Rattle.pud_defs.specs.Step.{Answer, is_full_graph, graph_for}
-use Rattle.pud_defs.specs.Step.Answer.{of_reply, of_text}
-use Rattle.pud_defs.specs.Run.{Turn, is_cut}
+use Rattle.pud_defs.specs.StateMachine.World.{World}
+use Rattle.pud_defs.specs.StateMachine.Grammar.{command_of}
+use Rattle.pud_defs.specs.StateMachine.Step.{Answer, is_full_graph, graph_for}
+use Rattle.pud_defs.specs.StateMachine.Step.Answer.{of_reply, of_text}
+use Rattle.pud_defs.specs.StateMachine.Run.{Turn, is_cut}
 use Rattle.independence.specs.Own.{Names, is_line_of_set}
 
 -- a command makes an object in a pool that by itself can have no more: it has as many as a pool may have, or no serial is left

@@ -1,9 +1,9 @@
 -- Sets of pools, and which lines of a script are theirs.
 use Rattle.std.specs.Prelude.{ℕ, Bool, true, false, List, map, filter, bytes_eq, Option, Some, None}
 use Rattle.pud_defs.specs.declared.machine.Command.{Command}
-use Rattle.pud_defs.specs.Grammar.{command_of}
-use Rattle.pud_defs.specs.Step.{Answer, name_in}
-use Rattle.pud_defs.specs.Run.{Turn}
+use Rattle.pud_defs.specs.StateMachine.Grammar.{command_of}
+use Rattle.pud_defs.specs.StateMachine.Step.{Answer, name_in}
+use Rattle.pud_defs.specs.StateMachine.Run.{Turn}
 
 -- a set of pools, by their names
 abbrev pub Names : Type 0

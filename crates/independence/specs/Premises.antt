@@ -3,13 +3,13 @@ use Rattle.std.specs.Prelude.{◌≡◌, ℕ, Bool, true, false, ◌&&◌, cond,
 use Rattle.std.specs.List.{list_any}
 use Rattle.pud_defs.specs.declared.machine.Command.{Command}
 use Rattle.pud_defs.specs.declared.machine.Command.TheVariants.{Import}
-use Rattle.pud_defs.specs.Types.{map_of}
-use Rattle.pud_defs.specs.World.{World}
-use Rattle.pud_defs.specs.Listing.{name_text}
-use Rattle.pud_defs.specs.Grammar.{command_of}
-use Rattle.pud_defs.specs.Changing.{file_in}
-use Rattle.pud_defs.specs.Run.{Turn}
-use Rattle.pud_defs.specs.Texts.{begins_with_ok}
+use Rattle.pud_defs.specs.RegistryTables.Types.{map_of}
+use Rattle.pud_defs.specs.StateMachine.World.{World}
+use Rattle.pud_defs.specs.Output.Listing.{name_text}
+use Rattle.pud_defs.specs.StateMachine.Grammar.{command_of}
+use Rattle.pud_defs.specs.StateMachine.Changing.{file_in}
+use Rattle.pud_defs.specs.StateMachine.Run.{Turn}
+use Rattle.pud_defs.specs.Output.Texts.{begins_with_ok}
 use Rattle.independence.specs.Own.{Names, is_line_of_set, is_of}
 
 -- ---- types

@@ -1,9 +1,9 @@
 -- A pool's share of a world: all that a tenant sees of it.
 use Rattle.std.specs.Prelude.{◌≡◌, ℕ, List, Option, Some, None, option_map}
-use Rattle.pud_defs.specs.Holdings.{graph_held}
-use Rattle.pud_defs.specs.Tables.{Pool}
-use Rattle.pud_defs.specs.PoolChanges.{pool_named}
-use Rattle.pud_defs.specs.World.{Transaction, World, open_on}
+use Rattle.pud_defs.specs.PoolGraphs.Holdings.{graph_held}
+use Rattle.pud_defs.specs.RegistryTables.Tables.{Pool}
+use Rattle.pud_defs.specs.StateMachine.PoolChanges.{pool_named}
+use Rattle.pud_defs.specs.StateMachine.World.{Transaction, World, open_on}
 
 -- the pool but for its UUID number
 abbrev pub unnumbered : Pool → Pool

@@ -1,8 +1,8 @@
 //! The laws. Each function here does nothing; its contract is the law.
 
 ghost use Rattle.std.specs.Prelude.{List, map};
-ghost use Rattle.pud_defs.specs.World.{World};
-ghost use Rattle.pud_defs.specs.Run.{Turn, IsTurn, IsRun};
+ghost use Rattle.pud_defs.specs.StateMachine.World.{World};
+ghost use Rattle.pud_defs.specs.StateMachine.Run.{Turn, IsTurn, IsRun};
 ghost use Rattle.independence.specs.Independence.{LeavesOthers, AreIndependent, IsPoolByItself};
 
 /// A line that names a pool outside a set and defines no type leaves each pool of the set, with the transaction that is open on it.

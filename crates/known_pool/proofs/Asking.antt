@@ -2,10 +2,10 @@
 use Rattle.std.proofs.Common.{◌≡◌, ℕ, ◌<◌, true, true≢false, ltb, Option, Some, None, option_map, is_none, is_some, IfSome, refl, sym, ap, subst, ◌∙◌}
 use Rattle.std.proofs.lemmas.Option.{none-some, same_Some}
 use Rattle.pud_defs.specs.declared.objects.FieldValue.{FieldValue}
-use Rattle.pud_defs.specs.Image.{Image}
-use Rattle.pud_defs.specs.Stored.{stored_in}
-use Rattle.pud_defs.specs.Types.{types_of}
-use Rattle.pud_defs.specs.Graph.{Graph, graph_of, is_referenced}
+use Rattle.pud_defs.specs.Formats.Image.{Image}
+use Rattle.pud_defs.specs.PoolGraphs.Stored.{stored_in}
+use Rattle.pud_defs.specs.RegistryTables.Types.{types_of}
+use Rattle.pud_defs.specs.PoolGraphs.Graph.{Graph, graph_of, is_referenced}
 use Rattle.graph_laws.specs.ReferenceCounts.{reference_count}
 use Rattle.graph_laws.proofs.Words.{place_of_serial-some}
 use Rattle.puddle_header.specs.Places.{places_in}

@@ -9,16 +9,16 @@ use Rattle.std.proofs.lemmas.Option.{none-some, same_Some}
 use Rattle.pud_defs.specs.declared.records.Slot.{Slot}
 use Rattle.pud_defs.specs.declared.layout.TheConstants.{MAX_FIELDS}
 use Rattle.pud_defs.specs.declared.space.TheConstants.{SLOT_TYPE_WORD, SLOT_FIELDS_WORD, ROOT_WORD}
-use Rattle.pud_defs.specs.Geometry.{puddle_slots}
-use Rattle.pud_defs.specs.Keyed.{keyed}
-use Rattle.pud_defs.specs.Stored.{Stored, places_of, place_word, slot_state}
-use Rattle.pud_defs.specs.Types.{map_of}
-use Rattle.pud_defs.specs.Graph.{Content, content, Number, Null, At, Nowhere, table_of, slot_contents, contents_or_none, Object, object_at, live, serial_and_place, stands, all_stand, value_of, named_by, names_serial, Graph, graph_of, next_serial_of, root_of, field_count}
-use Rattle.pud_defs.proofs.Contents.{names_only, name_only, contents_by_within, pointee_at_within}
-use Rattle.pud_defs.proofs.Graphs.{graph_of-each, length-live}
-use Rattle.pud_defs.proofs.Keyed.{count_used_most}
-use Rattle.pud_defs.proofs.KeyedEach.{each-keyed}
-use Rattle.pud_defs.proofs.TypeLists.{same_number}
+use Rattle.pud_defs.specs.Formats.Geometry.{puddle_slots}
+use Rattle.pud_defs.specs.RegistryTables.Keyed.{keyed}
+use Rattle.pud_defs.specs.PoolGraphs.Stored.{Stored, places_of, place_word, slot_state}
+use Rattle.pud_defs.specs.RegistryTables.Types.{map_of}
+use Rattle.pud_defs.specs.PoolGraphs.Graph.{Content, content, Number, Null, At, Nowhere, table_of, slot_contents, contents_or_none, Object, object_at, live, serial_and_place, stands, all_stand, value_of, named_by, names_serial, Graph, graph_of, next_serial_of, root_of, field_count}
+use Rattle.pud_defs.proofs.PoolGraphs.Contents.{names_only, name_only, contents_by_within, pointee_at_within}
+use Rattle.pud_defs.proofs.PoolGraphs.Graphs.{graph_of-each, length-live}
+use Rattle.pud_defs.proofs.KeyedTables.Keyed.{count_used_most}
+use Rattle.pud_defs.proofs.KeyedTables.KeyedEach.{each-keyed}
+use Rattle.pud_defs.proofs.RegistryTables.TypeLists.{same_number}
 use Rattle.graph_laws.specs.ReferenceCounts.{times_named_by, pointers_to, reference_count}
 use Rattle.graph_laws.proofs.Words.{few_fields}
 use Rattle.puddle_header.specs.Places.{place_of_slot}

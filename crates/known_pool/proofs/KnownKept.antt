@@ -5,13 +5,13 @@ use Rattle.std.specs.Map.{lookup}
 use Rattle.std.proofs.lemmas.Option.{none-some}
 use Rattle.pud_defs.specs.declared.records.Puddle.{Puddle}
 use Rattle.pud_defs.specs.declared.space.TheConstants.{SLOT_SERIAL_WORD}
-use Rattle.pud_defs.specs.Geometry.{ordinal_of, places_among}
-use Rattle.pud_defs.specs.Image.{Image}
-use Rattle.pud_defs.specs.Keyed.{under, first_from}
-use Rattle.pud_defs.specs.Stored.{Stored, stored_in, place_word, place_begins, word_in_frame, slot_state, IsLivePlace}
-use Rattle.pud_defs.specs.Types.{types_of}
-use Rattle.pud_defs.specs.Graph.{Graph, under_serial, graph_of}
-use Rattle.pud_defs.proofs.Keyed.{first_from_same}
+use Rattle.pud_defs.specs.Formats.Geometry.{ordinal_of, places_among}
+use Rattle.pud_defs.specs.Formats.Image.{Image}
+use Rattle.pud_defs.specs.RegistryTables.Keyed.{under, first_from}
+use Rattle.pud_defs.specs.PoolGraphs.Stored.{Stored, stored_in, place_word, place_begins, word_in_frame, slot_state, IsLivePlace}
+use Rattle.pud_defs.specs.RegistryTables.Types.{types_of}
+use Rattle.pud_defs.specs.PoolGraphs.Graph.{Graph, under_serial, graph_of}
+use Rattle.pud_defs.proofs.KeyedTables.Keyed.{first_from_same}
 use Rattle.graph_laws.specs.ReferenceCounts.{reference_count}
 use Rattle.puddle_header.specs.Places.{places_in}
 use Rattle.graph_read.specs.Indexed.{IsIndexOf}

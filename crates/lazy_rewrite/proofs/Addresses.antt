@@ -6,9 +6,9 @@ use Rattle.std.proofs.lemmas.List.Elements.{All-get_or}
 use Rattle.std.proofs.lemmas.Option.{slice_get-map, slice_get-get_or}
 use Rattle.pud_defs.specs.declared.records.Puddle.{Puddle}
 use Rattle.pud_defs.specs.declared.space.TheConstants.{WORD_BYTES, RANGE_BYTES}
-use Rattle.pud_defs.specs.Geometry.{puddle_slots, slot_at, place_at}
-use Rattle.pud_defs.specs.Graph.{At, slot_address, pointee_at}
-use Rattle.pud_defs.specs.Exported.{address_in, address_of}
+use Rattle.pud_defs.specs.Formats.Geometry.{puddle_slots, slot_at, place_at}
+use Rattle.pud_defs.specs.PoolGraphs.Graph.{At, slot_address, pointee_at}
+use Rattle.pud_defs.specs.PoolGraphs.Exported.{address_in, address_of}
 use Rattle.puddle_header.proofs.Placed.{place_ordinal, place_slot}
 use Rattle.graph_read.specs.Checking.{content_of}
 use Rattle.graph_read.specs.Reading.{pointee_of}

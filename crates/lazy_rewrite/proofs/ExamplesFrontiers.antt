@@ -1,7 +1,7 @@
 -- How far frontiers move, and which entries a look-up makes, by computation.
 use Rattle.std.proofs.Common.{◌≡◌, ℕ, cond, eqb, List, [], ◌∷◌, Some, None, refl}
 use Rattle.pud_defs.specs.declared.records.Puddle.{Puddle}
-use Rattle.pud_defs.specs.Puddles.{moved_to}
+use Rattle.pud_defs.specs.RegistryTables.Puddles.{moved_to}
 use Rattle.batch.specs.Batches.{batch_entry}
 use Rattle.lazy_rewrite.specs.Entries.{words_batch, first_slot}
 use Rattle.lazy_rewrite.specs.Frontiers.{left_among, steps_from, stepped_at, finished_at, frontier_at}

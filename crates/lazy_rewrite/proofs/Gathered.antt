@@ -8,15 +8,15 @@ use Rattle.std.proofs.lemmas.Option.{slice_get_within, get_or_from_slice_get, sa
 use Rattle.pud_defs.specs.declared.layout.TheConstants.{MAX_FIELDS, LOG_ENTRY_WORDS}
 use Rattle.pud_defs.specs.declared.space.TheConstants.{FRAME_HEADER_WORDS, ROOT_WORD, SLOT_TYPE_WORD, SLOT_FIELDS_WORD}
 use Rattle.pud_defs.specs.declared.records.Puddle.{Puddle}
-use Rattle.pud_defs.specs.TypeMap.{is_pointer}
-use Rattle.pud_defs.specs.Geometry.{puddle_slot_words, puddle_slot_at}
-use Rattle.pud_defs.specs.Image.{Image}
-use Rattle.pud_defs.specs.Frames.{frame_at, frame_word}
-use Rattle.pud_defs.specs.Entries.{Entry}
-use Rattle.pud_defs.specs.Puddles.{frontier_word}
-use Rattle.pud_defs.specs.Types.{types_of, map_of}
-use Rattle.pud_defs.specs.Stored.{IsOnDevice, stored_in, slot_state}
-use Rattle.pud_defs.specs.Graph.{target, over_old, puddles_by, pointee_at, field_count}
+use Rattle.pud_defs.specs.Formats.TypeMap.{is_pointer}
+use Rattle.pud_defs.specs.Formats.Geometry.{puddle_slot_words, puddle_slot_at}
+use Rattle.pud_defs.specs.Formats.Image.{Image}
+use Rattle.pud_defs.specs.Formats.Frames.{frame_at, frame_word}
+use Rattle.pud_defs.specs.Logging.Entries.{Entry}
+use Rattle.pud_defs.specs.RegistryTables.Puddles.{frontier_word}
+use Rattle.pud_defs.specs.RegistryTables.Types.{types_of, map_of}
+use Rattle.pud_defs.specs.PoolGraphs.Stored.{IsOnDevice, stored_in, slot_state}
+use Rattle.pud_defs.specs.PoolGraphs.Graph.{target, over_old, puddles_by, pointee_at, field_count}
 use Rattle.puddle_header.proofs.Placed.{stored_word}
 use Rattle.graph_laws.specs.Rewriting.{rewritten, passes_slot, passes_root}
 use Rattle.graph_laws.specs.Steps.{pointer_by, slot_pointer, passed_word}

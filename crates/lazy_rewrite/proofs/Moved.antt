@@ -7,8 +7,8 @@ use Rattle.std.proofs.lemmas.List.Elements.{All-set, All-get_or}
 use Rattle.std.proofs.lemmas.Option.{none-some, same_Some, slice_get_within, get_or_from_slice_get}
 use Rattle.pud_defs.specs.declared.space.TheConstants.{RANGE_BYTES}
 use Rattle.pud_defs.specs.declared.records.Puddle.{Puddle}
-use Rattle.pud_defs.specs.Puddles.{moved_to}
-use Rattle.pud_defs.specs.Stored.{IsOnDevice}
+use Rattle.pud_defs.specs.RegistryTables.Puddles.{moved_to}
+use Rattle.pud_defs.specs.PoolGraphs.Stored.{IsOnDevice}
 use Rattle.graph_laws.specs.Steps.{with_steps}
 use Rattle.graph_laws.proofs.Rewritten.{slice_get-set_there}
 use Rattle.lazy_rewrite.specs.Entries.{HasLowBases}

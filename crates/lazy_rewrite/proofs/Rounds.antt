@@ -5,7 +5,7 @@ use Rattle.std.proofs.lemmas.List.{length-set}
 use Rattle.std.proofs.lemmas.Option.{slice_get_within, get_or_from_slice_get}
 use Rattle.pud_defs.specs.declared.space.TheConstants.{LAST_FRONTIER}
 use Rattle.pud_defs.specs.declared.records.Puddle.{Puddle}
-use Rattle.pud_defs.specs.Puddles.{moved_to}
+use Rattle.pud_defs.specs.RegistryTables.Puddles.{moved_to}
 use Rattle.graph_laws.specs.Steps.{with_steps}
 use Rattle.graph_read.proofs.Pointed.{no_puddle}
 use Rattle.lazy_rewrite.specs.declared.batches.TheConstants.{BATCH_STEPS}

@@ -8,15 +8,15 @@ use Rattle.pm_model.specs.Words.{reads}
 use Rattle.pm_model.specs.Moments.{State}
 use Rattle.pud_defs.specs.declared.space.TheConstants.{SLOT_SERIAL_WORD, NEXT_SERIAL_WORD}
 use Rattle.pud_defs.specs.declared.records.Puddle.{Puddle}
-use Rattle.pud_defs.specs.Image.{Image}
-use Rattle.pud_defs.specs.Frames.{frame_at}
-use Rattle.pud_defs.specs.Puddles.{moved_to}
-use Rattle.pud_defs.specs.Replay.{overwritten}
-use Rattle.pud_defs.specs.Types.{types_of}
-use Rattle.pud_defs.specs.Keyed.{first_from, under}
-use Rattle.pud_defs.specs.Stored.{Stored, stored_in, slot_state, place_word}
-use Rattle.pud_defs.specs.Graph.{under_serial, next_serial_of}
-use Rattle.pud_defs.proofs.Keyed.{first_from_same}
+use Rattle.pud_defs.specs.Formats.Image.{Image}
+use Rattle.pud_defs.specs.Formats.Frames.{frame_at}
+use Rattle.pud_defs.specs.RegistryTables.Puddles.{moved_to}
+use Rattle.pud_defs.specs.Logging.Replay.{overwritten}
+use Rattle.pud_defs.specs.RegistryTables.Types.{types_of}
+use Rattle.pud_defs.specs.RegistryTables.Keyed.{first_from, under}
+use Rattle.pud_defs.specs.PoolGraphs.Stored.{Stored, stored_in, slot_state, place_word}
+use Rattle.pud_defs.specs.PoolGraphs.Graph.{under_serial, next_serial_of}
+use Rattle.pud_defs.proofs.KeyedTables.Keyed.{first_from_same}
 use Rattle.puddle_header.specs.Places.{places_in}
 use Rattle.graph_laws.specs.Reads.{HasDistinctFrames}
 use Rattle.graph_laws.specs.Rewriting.{advanced}

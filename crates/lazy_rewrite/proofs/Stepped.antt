@@ -6,23 +6,23 @@ use Rattle.std.proofs.lemmas.Option.{same_Some}
 use Rattle.pud_defs.specs.declared.layout.TheConstants.{FRAME_WORDS, TYPE_TABLE, POOL_TABLE, TYPE_RECORDS}
 use Rattle.pud_defs.specs.declared.space.TheConstants.{ROOT_WORD, SLOT_TYPE_WORD, SLOT_FIELDS_WORD}
 use Rattle.pud_defs.specs.declared.records.Puddle.{Puddle}
-use Rattle.pud_defs.specs.Geometry.{ordinal_of}
-use Rattle.pud_defs.specs.Image.{Image}
-use Rattle.pud_defs.specs.Layout.{tables_end, frames_at}
-use Rattle.pud_defs.specs.Frames.{frame_at, frame_word}
-use Rattle.pud_defs.specs.Replay.{overwritten}
-use Rattle.pud_defs.specs.Puddles.{Member, frontier_word}
-use Rattle.pud_defs.specs.Puts.{with_frontier_at, moved_in}
-use Rattle.pud_defs.specs.Types.{type_record_at, type_at, types_of, map_of}
-use Rattle.pud_defs.specs.Tables.{Tables, tables_of, puddles_in_turn}
-use Rattle.pud_defs.specs.Stored.{Stored, stored_in, place_begins, word_in_frame}
-use Rattle.pud_defs.specs.Graph.{Graph, graph_of, stands, pointee_at, content}
-use Rattle.pud_defs.proofs.Keyed.{keyed-same}
-use Rattle.pud_defs.proofs.TypeTable.{type_at-same}
-use Rattle.pud_defs.proofs.TablesOf.{tables_of-same, frames_of_tables}
-use Rattle.pud_defs.proofs.PoolMembers.{IsMemberOf, members_in_turn}
-use Rattle.pud_defs.proofs.FrontiersMoved.{map-moved_there, tables_of-moved, puddles_in_turn-moved}
-use Rattle.pud_defs.proofs.Replay.{overwritten-stays, overwritten-there}
+use Rattle.pud_defs.specs.Formats.Geometry.{ordinal_of}
+use Rattle.pud_defs.specs.Formats.Image.{Image}
+use Rattle.pud_defs.specs.Formats.Layout.{tables_end, frames_at}
+use Rattle.pud_defs.specs.Formats.Frames.{frame_at, frame_word}
+use Rattle.pud_defs.specs.Logging.Replay.{overwritten}
+use Rattle.pud_defs.specs.RegistryTables.Puddles.{Member, frontier_word}
+use Rattle.pud_defs.specs.RegistryTables.Puts.{with_frontier_at, moved_in}
+use Rattle.pud_defs.specs.RegistryTables.Types.{type_record_at, type_at, types_of, map_of}
+use Rattle.pud_defs.specs.RegistryTables.Tables.{Tables, tables_of, puddles_in_turn}
+use Rattle.pud_defs.specs.PoolGraphs.Stored.{Stored, stored_in, place_begins, word_in_frame}
+use Rattle.pud_defs.specs.PoolGraphs.Graph.{Graph, graph_of, stands, pointee_at, content}
+use Rattle.pud_defs.proofs.KeyedTables.Keyed.{keyed-same}
+use Rattle.pud_defs.proofs.RegistryTables.TypeTable.{type_at-same}
+use Rattle.pud_defs.proofs.RegistryTables.TablesOf.{tables_of-same, frames_of_tables}
+use Rattle.pud_defs.proofs.RegistryTables.PoolMembers.{IsMemberOf, members_in_turn}
+use Rattle.pud_defs.proofs.RegistryTables.FrontiersMoved.{map-moved_there, tables_of-moved, puddles_in_turn-moved}
+use Rattle.pud_defs.proofs.Logging.Replay.{overwritten-stays, overwritten-there}
 use Rattle.graph_laws.specs.Changes.{AreBases, with_words}
 use Rattle.graph_laws.specs.Reads.{HasDistinctFrames}
 use Rattle.graph_laws.specs.Rewriting.{passes_slot, anywhere, LeadSomewhere}

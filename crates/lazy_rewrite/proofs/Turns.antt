@@ -11,11 +11,11 @@ use Rattle.pm_model.specs.Changes.{Changes}
 use Rattle.pm_model.proofs.Changes.{Changes-still, Changes-then, Changes-wider}
 use Rattle.pud_defs.specs.declared.layout.TheConstants.{DAEMON_LOG, FRAME_WORDS}
 use Rattle.pud_defs.specs.declared.records.Puddle.{Puddle}
-use Rattle.pud_defs.specs.Frames.{frame_at}
-use Rattle.pud_defs.specs.Entries.{is_idle_gate}
-use Rattle.pud_defs.specs.Puddles.{moved_to, frontier_word}
-use Rattle.pud_defs.specs.Types.{types_of}
-use Rattle.pud_defs.specs.Stored.{stored_in}
+use Rattle.pud_defs.specs.Formats.Frames.{frame_at}
+use Rattle.pud_defs.specs.Logging.Entries.{is_idle_gate}
+use Rattle.pud_defs.specs.RegistryTables.Puddles.{moved_to, frontier_word}
+use Rattle.pud_defs.specs.RegistryTables.Types.{types_of}
+use Rattle.pud_defs.specs.PoolGraphs.Stored.{stored_in}
 use Rattle.graph_laws.specs.Steps.{steps_write, with_steps}
 use Rattle.graph_laws.proofs.Rewritten.{slice_get-set_there, slice_get-set_other}
 use Rattle.graph_laws.proofs.StepsStored.{write-other}

@@ -10,13 +10,13 @@ use Rattle.pm_model.proofs.Leaves.{Leaves-still, Leaves-then}
 use Rattle.pm_model.proofs.Masks.{IsOff-none, masked-elsewhere, masked_image-elsewhere, reads-masked}
 use Rattle.pud_defs.specs.declared.layout.TheConstants.{DAEMON_LOG, FRAME_WORDS}
 use Rattle.pud_defs.specs.declared.records.Puddle.{Puddle}
-use Rattle.pud_defs.specs.Geometry.{is_legal_frontier}
-use Rattle.pud_defs.specs.Image.{Image}
-use Rattle.pud_defs.specs.Frames.{frame_at, frame_word}
-use Rattle.pud_defs.specs.Puddles.{moved_to}
-use Rattle.pud_defs.specs.Types.{types_of}
-use Rattle.pud_defs.specs.Graph.{Graph}
-use Rattle.pud_defs.specs.World.{StoredWorld, idle_world_of}
+use Rattle.pud_defs.specs.Formats.Geometry.{is_legal_frontier}
+use Rattle.pud_defs.specs.Formats.Image.{Image}
+use Rattle.pud_defs.specs.Formats.Frames.{frame_at, frame_word}
+use Rattle.pud_defs.specs.RegistryTables.Puddles.{moved_to}
+use Rattle.pud_defs.specs.RegistryTables.Types.{types_of}
+use Rattle.pud_defs.specs.PoolGraphs.Graph.{Graph}
+use Rattle.pud_defs.specs.StateMachine.World.{StoredWorld, idle_world_of}
 use Rattle.graph_laws.specs.Steps.{steps_in}
 use Rattle.graph_laws.proofs.StepsStored.{steps_in-same}
 use Rattle.batch.specs.Batches.{HasIdleGate, ByBatch}

@@ -13,30 +13,30 @@ use Rattle.pud_defs.specs.declared.layout.TheConstants.{DAEMON_LOG, NEXT_NUMBER_
 use Rattle.pud_defs.specs.declared.records.TheConstants.{POOL_RECORDS}
 use Rattle.pud_defs.specs.declared.records.PoolRecord.{PoolRecord}
 use Rattle.pud_defs.specs.declared.records.Puddle.{Puddle}
-use Rattle.pud_defs.specs.Geometry.{is_legal_frontier}
-use Rattle.pud_defs.specs.Image.{Image}
-use Rattle.pud_defs.specs.Layout.{tables_end, frames_at}
-use Rattle.pud_defs.specs.Frames.{frame_at, frame_word}
-use Rattle.pud_defs.specs.Replay.{overwritten, settled_by}
-use Rattle.pud_defs.specs.Puddles.{Member, moved_to}
-use Rattle.pud_defs.specs.Puts.{with_frontier_at, moved_in}
-use Rattle.pud_defs.specs.Types.{types_of}
-use Rattle.pud_defs.specs.Tables.{Tables, tables_of, puddles_of, puddles_in_turn, listed, pools_of}
-use Rattle.pud_defs.specs.Holdings.{held_as, held_by, holding_in}
-use Rattle.pud_defs.specs.SoundTables.{are_sound_tables, HasSoundTables}
-use Rattle.pud_defs.specs.Stored.{stored_in}
-use Rattle.pud_defs.specs.Graph.{Graph, graph_of}
-use Rattle.pud_defs.specs.World.{StoredWorld, pools_in, idle_registry, idle_world_of}
-use Rattle.pud_defs.proofs.SoundChanged.{sound_from, sound_test}
-use Rattle.pud_defs.proofs.Holdings.{IsFrameOf, HasSameFrame, frames_listed, stored_in-same}
-use Rattle.pud_defs.proofs.KeyedEach.{each-weaker}
-use Rattle.pud_defs.proofs.PuddlesListed.{puddles_in_turn-listed}
-use Rattle.pud_defs.proofs.PoolMembers.{IsMemberOf}
-use Rattle.pud_defs.proofs.FrontiersMoved.{map-moved_there, pools_of-moved, sound_moved}
-use Rattle.pud_defs.proofs.Replay.{overwritten-stays}
-use Rattle.pud_defs.proofs.Parts.{StandsFor, standing_with_pools}
-use Rattle.pud_defs.proofs.Parts.Part.{Header, Types, Pools}
-use Rattle.pud_defs.proofs.IdleWorlds.{standing_of_idle_world, idle_registry_standing}
+use Rattle.pud_defs.specs.Formats.Geometry.{is_legal_frontier}
+use Rattle.pud_defs.specs.Formats.Image.{Image}
+use Rattle.pud_defs.specs.Formats.Layout.{tables_end, frames_at}
+use Rattle.pud_defs.specs.Formats.Frames.{frame_at, frame_word}
+use Rattle.pud_defs.specs.Logging.Replay.{overwritten, settled_by}
+use Rattle.pud_defs.specs.RegistryTables.Puddles.{Member, moved_to}
+use Rattle.pud_defs.specs.RegistryTables.Puts.{with_frontier_at, moved_in}
+use Rattle.pud_defs.specs.RegistryTables.Types.{types_of}
+use Rattle.pud_defs.specs.RegistryTables.Tables.{Tables, tables_of, puddles_of, puddles_in_turn, listed, pools_of}
+use Rattle.pud_defs.specs.PoolGraphs.Holdings.{held_as, held_by, holding_in}
+use Rattle.pud_defs.specs.RegistryTables.SoundTables.{are_sound_tables, HasSoundTables}
+use Rattle.pud_defs.specs.PoolGraphs.Stored.{stored_in}
+use Rattle.pud_defs.specs.PoolGraphs.Graph.{Graph, graph_of}
+use Rattle.pud_defs.specs.StateMachine.World.{StoredWorld, pools_in, idle_registry, idle_world_of}
+use Rattle.pud_defs.proofs.RegistryTables.SoundChanged.{sound_from, sound_test}
+use Rattle.pud_defs.proofs.PoolGraphs.Holdings.{IsFrameOf, HasSameFrame, frames_listed, stored_in-same}
+use Rattle.pud_defs.proofs.KeyedTables.KeyedEach.{each-weaker}
+use Rattle.pud_defs.proofs.RegistryTables.PuddlesListed.{puddles_in_turn-listed}
+use Rattle.pud_defs.proofs.RegistryTables.PoolMembers.{IsMemberOf}
+use Rattle.pud_defs.proofs.RegistryTables.FrontiersMoved.{map-moved_there, pools_of-moved, sound_moved}
+use Rattle.pud_defs.proofs.Logging.Replay.{overwritten-stays}
+use Rattle.pud_defs.proofs.StateMachine.Parts.{StandsFor, standing_with_pools}
+use Rattle.pud_defs.proofs.StateMachine.Parts.Part.{Header, Types, Pools}
+use Rattle.pud_defs.proofs.StateMachine.IdleWorlds.{standing_of_idle_world, idle_registry_standing}
 use Rattle.graph_laws.specs.Steps.{with_steps}
 use Rattle.graph_laws.proofs.StoredImages as stored_images
 use Rattle.batch.specs.Worlds.{IsBetween, Moves}

@@ -12,17 +12,17 @@ use Rattle.pm_model.specs.Moments.{State}
 use Rattle.pud_defs.specs.declared.layout.TheConstants.{DAEMON_LOG, FRAME_WORDS, MAX_FIELDS}
 use Rattle.pud_defs.specs.declared.space.TheConstants.{FRAME_HEADER_WORDS}
 use Rattle.pud_defs.specs.declared.records.Puddle.{Puddle}
-use Rattle.pud_defs.specs.Geometry.{puddle_slot_words, puddle_slot_at, steps_of}
-use Rattle.pud_defs.specs.Layout.{device_words}
-use Rattle.pud_defs.specs.Frames.{frame_at}
-use Rattle.pud_defs.specs.Puddles.{frontier_word}
-use Rattle.pud_defs.specs.Entries.{Entry}
-use Rattle.pud_defs.specs.Replay.{device_word, value_at}
-use Rattle.pud_defs.specs.Registry.{may_be_logged, is_loggable}
-use Rattle.pud_defs.specs.Types.{types_of}
-use Rattle.pud_defs.specs.Stored.{stored_in}
-use Rattle.pud_defs.proofs.Replay.{or_none, value_at-there, value_at-apart}
-use Rattle.pud_defs.proofs.Logged.{may_be_logged-table, may_be_logged-frames, is_loggable-there}
+use Rattle.pud_defs.specs.Formats.Geometry.{puddle_slot_words, puddle_slot_at, steps_of}
+use Rattle.pud_defs.specs.Formats.Layout.{device_words}
+use Rattle.pud_defs.specs.Formats.Frames.{frame_at}
+use Rattle.pud_defs.specs.RegistryTables.Puddles.{frontier_word}
+use Rattle.pud_defs.specs.Logging.Entries.{Entry}
+use Rattle.pud_defs.specs.Logging.Replay.{device_word, value_at}
+use Rattle.pud_defs.specs.RegistryTables.Registry.{may_be_logged, is_loggable}
+use Rattle.pud_defs.specs.RegistryTables.Types.{types_of}
+use Rattle.pud_defs.specs.PoolGraphs.Stored.{stored_in}
+use Rattle.pud_defs.proofs.Logging.Replay.{or_none, value_at-there, value_at-apart}
+use Rattle.pud_defs.proofs.Logging.Logged.{may_be_logged-table, may_be_logged-frames, is_loggable-there}
 use Rattle.graph_laws.specs.Rewriting.{passes_slot, passes_root}
 use Rattle.graph_laws.specs.Steps.{passed_word, steps_write, with_steps}
 use Rattle.graph_laws.proofs.PassedWords.{passed-slot}

@@ -8,14 +8,14 @@ use Rattle.pm_model.specs.Moments.{State}
 use Rattle.pm_model.specs.Changes.{Footprint}
 use Rattle.pud_defs.specs.declared.layout.TheConstants.{DAEMON_LOG, FRAME_WORDS}
 use Rattle.pud_defs.specs.declared.records.Puddle.{Puddle}
-use Rattle.pud_defs.specs.Geometry.{steps_of}
-use Rattle.pud_defs.specs.Layout.{IsWithin}
-use Rattle.pud_defs.specs.Frames.{frame_at}
-use Rattle.pud_defs.specs.Puddles.{frontier_word}
-use Rattle.pud_defs.specs.Entries.{Entry}
-use Rattle.pud_defs.specs.Replay.{IsInLog}
-use Rattle.pud_defs.specs.Registry.{is_loggable}
-use Rattle.pud_defs.specs.Types.{types_of}
+use Rattle.pud_defs.specs.Formats.Geometry.{steps_of}
+use Rattle.pud_defs.specs.Formats.Layout.{IsWithin}
+use Rattle.pud_defs.specs.Formats.Frames.{frame_at}
+use Rattle.pud_defs.specs.RegistryTables.Puddles.{frontier_word}
+use Rattle.pud_defs.specs.Logging.Entries.{Entry}
+use Rattle.pud_defs.specs.Logging.Replay.{IsInLog}
+use Rattle.pud_defs.specs.RegistryTables.Registry.{is_loggable}
+use Rattle.pud_defs.specs.RegistryTables.Types.{types_of}
 use Rattle.graph_laws.specs.Steps.{steps_in, with_steps}
 use Rattle.batch.specs.Batches.{batch_write, word_count_of, committed, AreBatched, Commits}
 use Rattle.lazy_rewrite.specs.declared.batches.TheConstants.{BATCH_STEPS, STEPS_WORDS}

@@ -2,13 +2,13 @@
 use Rattle.std.specs.Prelude.{◌≡◌, ℕ, zero, suc, ◌+◌, ◌-◌, ◌*◌, ◌^◌, ◌≤◌, List, [], ◌∷◌, ◌++◌, map, slice_get, All, Option, Some, None}
 use Rattle.pud_defs.specs.declared.space.TheConstants.{RANGE_BYTES, FRAME_HEADER_WORDS}
 use Rattle.pud_defs.specs.declared.records.Puddle.{Puddle}
-use Rattle.pud_defs.specs.Geometry.{puddle_slot_words, puddle_slot_at}
-use Rattle.pud_defs.specs.Image.{Image}
-use Rattle.pud_defs.specs.Frames.{frame_at}
-use Rattle.pud_defs.specs.Puddles.{frontier_word}
-use Rattle.pud_defs.specs.Entries.{Entry}
-use Rattle.pud_defs.specs.Types.{types_of}
-use Rattle.pud_defs.specs.Stored.{stored_in}
+use Rattle.pud_defs.specs.Formats.Geometry.{puddle_slot_words, puddle_slot_at}
+use Rattle.pud_defs.specs.Formats.Image.{Image}
+use Rattle.pud_defs.specs.Formats.Frames.{frame_at}
+use Rattle.pud_defs.specs.RegistryTables.Puddles.{frontier_word}
+use Rattle.pud_defs.specs.Logging.Entries.{Entry}
+use Rattle.pud_defs.specs.RegistryTables.Types.{types_of}
+use Rattle.pud_defs.specs.PoolGraphs.Stored.{stored_in}
 use Rattle.graph_laws.specs.Steps.{passed_word}
 use Rattle.batch.specs.Batches.{batch_entry}
 

@@ -9,16 +9,16 @@ use Rattle.pud_defs.specs.declared.layout.TheConstants.{DAEMON_LOG, TYPE_TABLE, 
 use Rattle.pud_defs.specs.declared.records.TheConstants.{POOL_RECORDS}
 use Rattle.pud_defs.specs.declared.records.Puddle.{Puddle}
 use Rattle.pud_defs.specs.declared.records.PoolRecord.{PoolRecord}
-use Rattle.pud_defs.specs.Geometry.{steps_of, is_legal_frontier}
-use Rattle.pud_defs.specs.Image.{Image}
-use Rattle.pud_defs.specs.Frames.{frame_at}
-use Rattle.pud_defs.specs.Puddles.{moved_to}
-use Rattle.pud_defs.specs.Replay.{is_in_log, settled_by}
-use Rattle.pud_defs.specs.Types.{types_of}
-use Rattle.pud_defs.specs.Tables.{tables_of, puddles_in_turn}
-use Rattle.pud_defs.specs.Stored.{stored_in}
-use Rattle.pud_defs.specs.Graph.{Graph, graph_of}
-use Rattle.pud_defs.specs.World.{StoredWorld, idle_world_of}
+use Rattle.pud_defs.specs.Formats.Geometry.{steps_of, is_legal_frontier}
+use Rattle.pud_defs.specs.Formats.Image.{Image}
+use Rattle.pud_defs.specs.Formats.Frames.{frame_at}
+use Rattle.pud_defs.specs.RegistryTables.Puddles.{moved_to}
+use Rattle.pud_defs.specs.Logging.Replay.{is_in_log, settled_by}
+use Rattle.pud_defs.specs.RegistryTables.Types.{types_of}
+use Rattle.pud_defs.specs.RegistryTables.Tables.{tables_of, puddles_in_turn}
+use Rattle.pud_defs.specs.PoolGraphs.Stored.{stored_in}
+use Rattle.pud_defs.specs.PoolGraphs.Graph.{Graph, graph_of}
+use Rattle.pud_defs.specs.StateMachine.World.{StoredWorld, idle_world_of}
 use Rattle.graph_laws.specs.Changes.{AreBases}
 use Rattle.batch.specs.Batches.{HasIdleGate}
 use Rattle.batch.specs.Worlds.{IsQuiescent}

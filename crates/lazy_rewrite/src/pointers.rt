@@ -1,9 +1,9 @@
 //! Pointers of a pool as they are over its bases.
 
 ghost use Rattle.std.specs.Prelude.{◌≡◌, ◌<◌, ◌≤◌, length, map, Option, IfSome};
-ghost use Rattle.pud_defs.specs.Exported.{address_of};
-ghost use Rattle.pud_defs.specs.Geometry.{puddle_slots, place_at};
-ghost use Rattle.pud_defs.specs.Graph.{At};
+ghost use Rattle.pud_defs.specs.PoolGraphs.Exported.{address_of};
+ghost use Rattle.pud_defs.specs.Formats.Geometry.{puddle_slots, place_at};
+ghost use Rattle.pud_defs.specs.PoolGraphs.Graph.{At};
 ghost use Rattle.graph_laws.specs.Rewriting.{rewritten};
 ghost use Rattle.graph_read.specs.Checking.{content_of};
 ghost use Rattle.graph_read.specs.Reading.{LeadsWithin};

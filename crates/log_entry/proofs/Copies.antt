@@ -6,11 +6,11 @@ use Rattle.std.proofs.lemmas.List.{get_or-take, get_or-drop, length-take-le}
 use Rattle.std.proofs.Math.ListN.{length-drop}
 use borrow.Rule.Slice.PartMut.{mid_of}
 use Rattle.pud_defs.specs.declared.layout.TheConstants.{LOG_HEADER_WORDS, LOG_ENTRY_WORDS, ENTRY_HEADER_WORDS}
-use Rattle.pud_defs.specs.Image.{Image, image_with}
-use Rattle.pud_defs.proofs.Images.{written_other}
+use Rattle.pud_defs.specs.Formats.Image.{Image, image_with}
+use Rattle.pud_defs.proofs.Formats.Images.{written_other}
 use Rattle.log_entry.specs.declared.Entry.{Entry as Found}
-use Rattle.pud_defs.specs.Entries.{log_of, gate_lo, gate_hi, gate_used, is_legal_gate, entries_of, words_from}
-use Rattle.pud_defs.proofs.Entries.{words_from-holds, entries_of-is}
+use Rattle.pud_defs.specs.Logging.Entries.{log_of, gate_lo, gate_hi, gate_used, is_legal_gate, entries_of, words_from}
+use Rattle.pud_defs.proofs.Logging.Entries.{words_from-holds, entries_of-is}
 use Rattle.log_entry.specs.Copying.{Copied, image_of_copy, log_copied, IsOfCopy}
 use Rattle.log_entry.proofs.Left.{legal_within}
 

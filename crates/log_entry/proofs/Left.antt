@@ -3,9 +3,9 @@ use Rattle.std.proofs.Common.{◌≡◌, inl, inr, ℕ, ◌+◌, ◌-◌, ◌≤
 use Rattle.std.proofs.lemmas.Bool.{cond-true, cond-false, cases_Bool, and_left, and_parts, leb-true}
 use Rattle.std.proofs.lemmas.Bool.Decides.{leb_tells}
 use Rattle.pud_defs.specs.declared.layout.TheConstants.{LOG_HEADER_WORDS, LOG_ENTRY_WORDS}
-use Rattle.pud_defs.specs.Image.{Image}
-use Rattle.pud_defs.specs.Entries.{Entry, gate_used, is_legal_gate, words_from, first_entry, entries_in, entries_of}
-use Rattle.pud_defs.proofs.Entries.{words_from-length, words_from-none, words_from-same, words_from-drop, first_entry-fits, entries_in-first, entries_in-none, entries_in-nothing}
+use Rattle.pud_defs.specs.Formats.Image.{Image}
+use Rattle.pud_defs.specs.Logging.Entries.{Entry, gate_used, is_legal_gate, words_from, first_entry, entries_in, entries_of}
+use Rattle.pud_defs.proofs.Logging.Entries.{words_from-length, words_from-none, words_from-same, words_from-drop, first_entry-fits, entries_in-first, entries_in-none, entries_in-nothing}
 use Rattle.log_entry.specs.declared.Entry.{Entry as Found}
 use Rattle.log_entry.specs.Reading.{Reading, words_left, entry_next, entries_left, entry_from, PassesOne, Passes, left_before}
 use Rattle.log_entry.proofs.Readings.{next-by}

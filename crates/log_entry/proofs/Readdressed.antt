@@ -3,10 +3,10 @@ use Rattle.std.proofs.Common.{◌≡◌, inl, inr, ℕ, ◌+◌, ◌-◌, ◌≤
 use Rattle.std.proofs.lemmas.Bool.{cases_Bool, cond-true, cond-false, and_parts, leb-true}
 use Rattle.std.proofs.lemmas.List.{append_assoc, take-append-le, drop_all}
 use Rattle.pud_defs.specs.declared.layout.TheConstants.{LOG_HEADER_WORDS, ENTRY_HEADER_WORDS}
-use Rattle.pud_defs.specs.Image.{Image, image_with}
-use Rattle.pud_defs.proofs.Images.{written_there, written_other}
-use Rattle.pud_defs.specs.Entries.{Entry, gate_used, entry_n, is_legal_entry_word, entry_by, words_from, first_entry, entries_in, entries_of}
-use Rattle.pud_defs.proofs.Entries.{words_from-length, words_from-none, words_from-add, words_from-step, words_from-same, first_entry-fits, first_entry-is, length-entry_by, entries_in-first, entries_in-nothing, entries_in-append, entries_of-is}
+use Rattle.pud_defs.specs.Formats.Image.{Image, image_with}
+use Rattle.pud_defs.proofs.Formats.Images.{written_there, written_other}
+use Rattle.pud_defs.specs.Logging.Entries.{Entry, gate_used, entry_n, is_legal_entry_word, entry_by, words_from, first_entry, entries_in, entries_of}
+use Rattle.pud_defs.proofs.Logging.Entries.{words_from-length, words_from-none, words_from-add, words_from-step, words_from-same, first_entry-fits, first_entry-is, length-entry_by, entries_in-first, entries_in-nothing, entries_in-append, entries_of-is}
 use Rattle.log_entry.specs.declared.Entry.{Entry as Found}
 use Rattle.log_entry.specs.Reading.{Reading, words_left, entry_next, entries_left, entry_from, PassesOne, Passes, left_before}
 use Rattle.log_entry.specs.Copying.{with_address}

@@ -3,9 +3,9 @@ use Rattle.std.proofs.Common.{◌≡◌, inl, inr, ℕ, suc, ◌+◌, ◌-◌, �
 use Rattle.std.proofs.lemmas.Bool.{le-leb, lt-leb, leb-true, cond-true, cond-false, and_parts}
 use Rattle.std.proofs.lemmas.Bool.Decides.{leb_tells}
 use Rattle.pud_defs.specs.declared.layout.TheConstants.{LOG_HEADER_WORDS, LOG_ENTRY_WORDS, ENTRY_HEADER_WORDS}
-use Rattle.pud_defs.specs.Image.{Image}
-use Rattle.pud_defs.specs.Entries.{Entry, IsLegalEntry, gate_used, entry_n, entry_seq, entry_order, is_legal_entry_word, entry_by, first_entry, words_from}
-use Rattle.pud_defs.proofs.Entries.{words_from-length, words_from-step, words_from-add, words_from-take, first_entry-few, first_entry-spelled}
+use Rattle.pud_defs.specs.Formats.Image.{Image}
+use Rattle.pud_defs.specs.Logging.Entries.{Entry, IsLegalEntry, gate_used, entry_n, entry_seq, entry_order, is_legal_entry_word, entry_by, first_entry, words_from}
+use Rattle.pud_defs.proofs.Logging.Entries.{words_from-length, words_from-step, words_from-add, words_from-take, first_entry-few, first_entry-spelled}
 use Rattle.log_entry.specs.Reading.{Reading, words_left, entry_next, entry_from, StandsNext}
 
 -- the first two of so many words

@@ -1,8 +1,8 @@
 -- A log that was copied from a device, read as an image of its own.
 use Rattle.std.specs.Prelude.{ℕ, ◌+◌, ◌-◌, ◌≤◌, ◌==◌, nat_lt, cond, List, slice_index}
 use Rattle.pud_defs.specs.declared.layout.TheConstants.{LOG_WORDS, LOG_HEADER_WORDS, ENTRY_HEADER_WORDS}
-use Rattle.pud_defs.specs.Image.{Image}
-use Rattle.pud_defs.specs.Entries.{Entry, Log, log_of}
+use Rattle.pud_defs.specs.Formats.Image.{Image}
+use Rattle.pud_defs.specs.Logging.Entries.{Entry, Log, log_of}
 use Rattle.log_entry.specs.declared.Entry.{Entry as Found}
 
 -- the gate of a log, and its entry words from the first on

@@ -1,6 +1,6 @@
 -- Which range of a log was read.
 use Rattle.std.specs.Prelude.{◌≡◌}
-use Rattle.pud_defs.specs.Entries.{Log}
+use Rattle.pud_defs.specs.Logging.Entries.{Log}
 use Rattle.log_entry.specs.declared.LogRange.{LogRange}
 
 -- it is the range of this log

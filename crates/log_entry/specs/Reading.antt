@@ -1,8 +1,8 @@
 -- How far a log was read, which entry comes next, and what is left.
 use Rattle.std.specs.Prelude.{◌≡◌, ℕ, ◌+◌, ◌-◌, ◌≤◌, ◌&&◌, nat_le, cond, List, [], ◌∷◌, length, Option, Some, None, option_map}
 use Rattle.pud_defs.specs.declared.layout.TheConstants.{LOG_HEADER_WORDS, LOG_ENTRY_WORDS, ENTRY_HEADER_WORDS, MAX_ENTRY_VALUES}
-use Rattle.pud_defs.specs.Image.{Image}
-use Rattle.pud_defs.specs.Entries.{Entry, gate_used, is_legal_gate, spelled, words_from, first_entry, entries_in}
+use Rattle.pud_defs.specs.Formats.Image.{Image}
+use Rattle.pud_defs.specs.Logging.Entries.{Entry, gate_used, is_legal_gate, spelled, words_from, first_entry, entries_in}
 use Rattle.log_entry.specs.declared.Entry.{Entry as Found}
 
 -- the word of the log's gate, and how many entry words were read

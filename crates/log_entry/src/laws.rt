@@ -1,8 +1,8 @@
 //! The law by which `encode` and the reader agree. The function does nothing; its contract is the law.
 
 ghost use Rattle.std.specs.Prelude.{◌≡◌, Option};
-ghost use Rattle.pud_defs.specs.Image.{Image};
-ghost use Rattle.pud_defs.specs.Entries.{Entry, IsLegalEntry};
+ghost use Rattle.pud_defs.specs.Formats.Image.{Image};
+ghost use Rattle.pud_defs.specs.Logging.Entries.{Entry, IsLegalEntry};
 ghost use Rattle.log_entry.specs.Reading.{Reading, StandsNext, entry_next};
 
 /// What `encode` writes of an entry, `EntryReader::next` reads: where these words stand behind those that a reader has passed,

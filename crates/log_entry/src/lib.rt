@@ -10,9 +10,9 @@ ghost use Rattle.pm_model.specs.Words.{reads};
 ghost use Rattle.pm_model.specs.Counts.{fault_of};
 ghost use Rattle.pm_model.specs.Reads.{OnlyReads};
 ghost use Rattle.pud_defs.specs.declared.layout.TheConstants.{LOG_WORDS, LOG_ENTRY_WORDS, ENTRY_HEADER_WORDS, MAX_ENTRY_VALUES};
-ghost use Rattle.pud_defs.specs.Image.{Image};
-ghost use Rattle.pud_defs.specs.Entries.{entry_n, is_legal_entry_word, spelled, Log, log_of, entries_of};
-ghost use Rattle.pud_defs.specs.Replay.{is_in_range};
+ghost use Rattle.pud_defs.specs.Formats.Image.{Image};
+ghost use Rattle.pud_defs.specs.Logging.Entries.{entry_n, is_legal_entry_word, spelled, Log, log_of, entries_of};
+ghost use Rattle.pud_defs.specs.Logging.Replay.{is_in_range};
 ghost use Rattle.log_entry.specs.Reading.{Reading, entry_next, entries_left, entry_from, Passes, left_before};
 ghost use Rattle.log_entry.specs.Ranges.{HasRange};
 

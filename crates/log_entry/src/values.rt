@@ -4,7 +4,7 @@ ghost use Rattle.std.specs.Prelude.{◌≡◌, ◌+◌, ◌≤◌, IfOk, length,
 ghost use Rattle.pm_model.specs.Words.{reads};
 ghost use Rattle.pm_model.specs.Counts.{fault_of};
 ghost use Rattle.pm_model.specs.Reads.{OnlyReads};
-ghost use Rattle.pud_defs.specs.Entries.{words_from};
+ghost use Rattle.pud_defs.specs.Logging.Entries.{words_from};
 
 use pm_model::{Host, HostFault};
 use pud_defs::layout::MAX_ENTRY_VALUES;

@@ -8,8 +8,8 @@ use Rattle.pm_model.specs.Moments.{State}
 use Rattle.pm_model.specs.Counts.{Counts}
 use Rattle.pm_model.specs.Changes.{Footprint, Write, Writes, Changes, placed, written}
 use Rattle.pm_model.proofs.Changes.{Changes-still, Changes-wider, Changes-then}
-use Rattle.pud_defs.specs.Entries.{Entry, Log}
-use Rattle.pud_defs.specs.Replay.{AddressMap, is_in_range, given_by, value_from, over}
+use Rattle.pud_defs.specs.Logging.Entries.{Entry, Log}
+use Rattle.pud_defs.specs.Logging.Replay.{AddressMap, is_in_range, given_by, value_from, over}
 use Rattle.log_replay.specs.Replaying.{Anything, IsNamed, Named, AppliesEntries}
 
 -- nothing is written

@@ -14,11 +14,11 @@ use Rattle.pm_model.proofs.OneWord.{one_word}
 use Rattle.pm_model.proofs.Leaves.{Leaves-changes, Leaves-now, Leaves-then, Leaves-weaker}
 use Rattle.pud_defs.specs.declared.layout.TheConstants.{LOG_ENTRY_WORDS}
 use Rattle.pud_defs.specs.declared.log_words.TheConstants.{CLOSED_GATE}
-use Rattle.pud_defs.specs.Image.{Image}
-use Rattle.pud_defs.specs.Entries.{Entry, Log, log_of, gate_used, is_idle_gate}
-use Rattle.pud_defs.specs.Replay.{device_word, new_value, overwritten, replayed, IsInLog, is_in_log}
-use Rattle.pud_defs.proofs.Entries.{log_of-same, used_within}
-use Rattle.pud_defs.proofs.Replay.{overwritten-stays, overwritten-there, settled_by-outside, settled_by-same, settled_by-idle, not_inside}
+use Rattle.pud_defs.specs.Formats.Image.{Image}
+use Rattle.pud_defs.specs.Logging.Entries.{Entry, Log, log_of, gate_used, is_idle_gate}
+use Rattle.pud_defs.specs.Logging.Replay.{device_word, new_value, overwritten, replayed, IsInLog, is_in_log}
+use Rattle.pud_defs.proofs.Logging.Entries.{log_of-same, used_within}
+use Rattle.pud_defs.proofs.Logging.Replay.{overwritten-stays, overwritten-there, settled_by-outside, settled_by-same, settled_by-idle, not_inside}
 use Rattle.log_replay.specs.declared.Target.{Target}
 use Rattle.log_replay.specs.declared.Target.TheVariants as targets
 use Rattle.log_replay.specs.Replaying.{address_map_of, IsReplayable, HasDurableLog, new_values, Named, ReplaysSame, Replays, ReplaysAgain, ByLog, IsSettling, SettlesSame, SettlesLog}

@@ -5,10 +5,10 @@ use Rattle.std.specs.Option.{option_or}
 use Rattle.std.proofs.lemmas.Bool.{and_parts, cond-true, cond-false, cases_Bool}
 use Rattle.std.proofs.lemmas.List.Elements.{All-head, All-tail}
 use Rattle.pud_defs.specs.declared.log_words.TheConstants.{UNDO_ORDER, REDO_ORDER}
-use Rattle.pud_defs.specs.Image.{Image}
-use Rattle.pud_defs.specs.Entries.{Entry, Log}
-use Rattle.pud_defs.specs.Replay.{AddressMap, device_word, is_in_range, value_from, value_in, given_by, undo_value, redo_value, over, IsInLog}
-use Rattle.pud_defs.proofs.Replay.{value_at-apart, undo_value-first, undo_value-none, redo_value-first, redo_value-none}
+use Rattle.pud_defs.specs.Formats.Image.{Image}
+use Rattle.pud_defs.specs.Logging.Entries.{Entry, Log}
+use Rattle.pud_defs.specs.Logging.Replay.{AddressMap, device_word, is_in_range, value_from, value_in, given_by, undo_value, redo_value, over, IsInLog}
+use Rattle.pud_defs.proofs.Logging.Replay.{value_at-apart, undo_value-first, undo_value-none, redo_value-first, redo_value-none}
 use Rattle.log_entry.specs.declared.Entry.{Entry as Found}
 use Rattle.log_entry.specs.Reading.{Reading, entries_left, entry_from, left_before}
 use Rattle.log_entry.proofs.Left.{taken, none_left}

@@ -3,10 +3,10 @@ use Rattle.std.proofs.Common.{◌≡◌, inl, inr, ℕ, ◌&&◌, eqb, true, fal
 use Rattle.std.specs.Option.{option_or}
 use Rattle.std.proofs.lemmas.Bool.{cases_Bool, cond-true, cond-false}
 use Rattle.std.proofs.lemmas.List.Elements.{All-head, All-tail, All-nil, All-cons}
-use Rattle.pud_defs.specs.Image.{Image}
-use Rattle.pud_defs.specs.Entries.{Entry, Log, log_of}
-use Rattle.pud_defs.specs.Replay.{AddressMap, device_word, is_in_range, value_from, given_by, given, undo_value, redo_value, new_value}
-use Rattle.pud_defs.proofs.Replay.{given_by-out, undo_value-first, undo_value-none, redo_value-first, redo_value-none, new_value-of}
+use Rattle.pud_defs.specs.Formats.Image.{Image}
+use Rattle.pud_defs.specs.Logging.Entries.{Entry, Log, log_of}
+use Rattle.pud_defs.specs.Logging.Replay.{AddressMap, device_word, is_in_range, value_from, given_by, given, undo_value, redo_value, new_value}
+use Rattle.pud_defs.proofs.Logging.Replay.{given_by-out, undo_value-first, undo_value-none, redo_value-first, redo_value-none, new_value-of}
 use Rattle.log_entry.specs.Copying.{Copied, log_copied, with_address}
 use Rattle.log_replay.specs.declared.Target.{Target}
 use Rattle.log_replay.specs.declared.Target.TheVariants as targets

@@ -2,13 +2,13 @@
 use Rattle.std.proofs.Common.{◌≡◌, inl, inr, ℕ, ◌<◌, ◌≤◌, Option, Some, None, option_map, refl, sym, ap, ◌∙◌, arith}
 use Rattle.std.proofs.lemmas.Bool.{cases_lt}
 use Rattle.pud_defs.specs.declared.layout.TheConstants.{PUDDLE_TABLE}
-use Rattle.pud_defs.specs.Image.{Image}
-use Rattle.pud_defs.specs.Layout.{tables_end, frames_at, IsWithin}
-use Rattle.pud_defs.specs.Tables.{tables_of}
-use Rattle.pud_defs.specs.Places.{first_some, place_in_puddle, located}
-use Rattle.pud_defs.specs.Replay.{AddressMap}
-use Rattle.pud_defs.specs.Allowed.{puddle_word}
-use Rattle.pud_defs.proofs.TablesOf.{puddles_below, puddles_beyond, puddle_at-same}
+use Rattle.pud_defs.specs.Formats.Image.{Image}
+use Rattle.pud_defs.specs.Formats.Layout.{tables_end, frames_at, IsWithin}
+use Rattle.pud_defs.specs.RegistryTables.Tables.{tables_of}
+use Rattle.pud_defs.specs.RegistryTables.Places.{first_some, place_in_puddle, located}
+use Rattle.pud_defs.specs.Logging.Replay.{AddressMap}
+use Rattle.pud_defs.specs.Logging.Allowed.{puddle_word}
+use Rattle.pud_defs.proofs.RegistryTables.TablesOf.{puddles_below, puddles_beyond, puddle_at-same}
 use Rattle.log_replay.specs.declared.Target.{Target}
 use Rattle.log_replay.specs.declared.Target.TheVariants as targets
 use Rattle.log_replay.specs.Placing.{word_at}

@@ -11,11 +11,11 @@ use Rattle.pm_model.proofs.Words.{HasOnly-fenced, HasOnly-own}
 use Rattle.pm_model.proofs.Changes.{Changes-then, Changes-fence, HasOnly-kept}
 use Rattle.pm_model.proofs.Leaves.{Leaves-changes}
 use Rattle.pud_defs.specs.declared.layout.TheConstants.{LOG_HEADER_WORDS, LOG_ENTRY_WORDS}
-use Rattle.pud_defs.specs.Image.{Image}
-use Rattle.pud_defs.specs.Entries.{Entry, Log, log_of, gate_used, entries_of}
-use Rattle.pud_defs.specs.Replay.{AddressMap, new_value, overwritten, IsInLog}
-use Rattle.pud_defs.proofs.Entries.{log_of-same, used_within}
-use Rattle.pud_defs.proofs.Replay.{overwritten-again, new_value-of}
+use Rattle.pud_defs.specs.Formats.Image.{Image}
+use Rattle.pud_defs.specs.Logging.Entries.{Entry, Log, log_of, gate_used, entries_of}
+use Rattle.pud_defs.specs.Logging.Replay.{AddressMap, new_value, overwritten, IsInLog}
+use Rattle.pud_defs.proofs.Logging.Entries.{log_of-same, used_within}
+use Rattle.pud_defs.proofs.Logging.Replay.{overwritten-again, new_value-of}
 use Rattle.log_replay.specs.declared.Target.{Target}
 use Rattle.log_replay.specs.Replaying.{address_map_of, IsPlacing, IsReplayable, HasDurableLog, AreApart, new_values, Named, AppliesEntries, ReplaysSame, Replays, ReplaysAgain}
 use Rattle.log_replay.proofs.Places.{places_same}

@@ -1,8 +1,8 @@
 -- A log in which device words stand in the place of addresses.
 use Rattle.std.specs.Prelude.{ℕ, ◌+◌, ◌≤◌, cond, List, All, map, IsTrue, length, Option, option_map, unwrap_or}
-use Rattle.pud_defs.specs.Entries.{Entry, Log}
-use Rattle.pud_defs.specs.Frames.{frame_at}
-use Rattle.pud_defs.specs.Replay.{AddressMap, is_in_range}
+use Rattle.pud_defs.specs.Logging.Entries.{Entry, Log}
+use Rattle.pud_defs.specs.Formats.Frames.{frame_at}
+use Rattle.pud_defs.specs.Logging.Replay.{AddressMap, is_in_range}
 use Rattle.log_entry.specs.Copying.{with_address}
 use Rattle.log_replay.specs.declared.TheConstants.{NO_WORD}
 

@@ -6,12 +6,12 @@ use Rattle.pm_model.specs.Moments.{State}
 use Rattle.pm_model.specs.Changes.{Footprint, Write, Changes, Leaves, Silently}
 use Rattle.pud_defs.specs.declared.layout.TheConstants.{LOG_WORDS, LOG_HEADER_WORDS, MAX_FRAMES, PUDDLE_TABLE}
 use Rattle.pud_defs.specs.declared.log_words.TheConstants.{CLOSED_GATE}
-use Rattle.pud_defs.specs.Image.{Image}
-use Rattle.pud_defs.specs.Layout.{tables_end, IsWithin}
-use Rattle.pud_defs.specs.Entries.{Entry, Log, log_of, gate_used, is_idle_gate, entries_of}
-use Rattle.pud_defs.specs.Replay.{AddressMap, device_word, is_in_range, new_value, overwritten, is_in_log, settled_by}
-use Rattle.pud_defs.specs.Tables.{tables_of}
-use Rattle.pud_defs.specs.Allowed.{puddle_word}
+use Rattle.pud_defs.specs.Formats.Image.{Image}
+use Rattle.pud_defs.specs.Formats.Layout.{tables_end, IsWithin}
+use Rattle.pud_defs.specs.Logging.Entries.{Entry, Log, log_of, gate_used, is_idle_gate, entries_of}
+use Rattle.pud_defs.specs.Logging.Replay.{AddressMap, device_word, is_in_range, new_value, overwritten, is_in_log, settled_by}
+use Rattle.pud_defs.specs.RegistryTables.Tables.{tables_of}
+use Rattle.pud_defs.specs.Logging.Allowed.{puddle_word}
 use Rattle.log_entry.specs.Copying.{Copied, log_copied}
 use Rattle.log_replay.specs.Placing.{placed_log}
 use Rattle.log_replay.specs.declared.Target.{Target}

@@ -3,8 +3,8 @@ ghost use Rattle.std.specs.Prelude.{◌≡◌, ◌+◌, ◌≤◌, ℕ, List, le
 ghost use Rattle.pm_model.specs.Counts.{after_fault, fault_of};
 ghost use Rattle.pm_model.specs.Changes.{Changes};
 ghost use Rattle.pud_defs.specs.declared.log_words.TheConstants.{UNDO_ORDER, REDO_ORDER};
-ghost use Rattle.pud_defs.specs.Entries.{Entry as LoggedEntry, Log};
-ghost use Rattle.pud_defs.specs.Replay.{device_word, is_in_range, given_by, undo_value, redo_value, new_value};
+ghost use Rattle.pud_defs.specs.Logging.Entries.{Entry as LoggedEntry, Log};
+ghost use Rattle.pud_defs.specs.Logging.Replay.{device_word, is_in_range, given_by, undo_value, redo_value, new_value};
 ghost use Rattle.log_entry.specs.Reading.{entry_from, entries_left};
 ghost use Rattle.log_entry.specs.Copying.{image_of_copy, log_copied, IsOfCopy};
 ghost use Rattle.log_replay.specs.Placing.{IsWithinDevice, AreWithinDevice};

@@ -4,8 +4,8 @@ use Rattle.std.specs.Prelude.{All}
 use Rattle.std.proofs.lemmas.List.Elements.{All-nil, All-cons, All-append}
 use Rattle.pm_model.specs.Words.{Words}
 use Rattle.pud_defs.specs.declared.layout.TheConstants.{DAEMON_LOG, PUDDLE_TABLE, CLIENTS, SPACE_RECORD_WORDS}
-use Rattle.pud_defs.specs.Replay.{device_word}
-use Rattle.pud_defs.specs.Spaces.{space_record_at}
+use Rattle.pud_defs.specs.Logging.Replay.{device_word}
+use Rattle.pud_defs.specs.RegistryTables.Spaces.{space_record_at}
 use Rattle.log_replay.specs.Replaying.{NamesApart}
 use Rattle.batch.specs.Batches.{batch_entry, HasIdleGate, IsFree}
 use Rattle.log_space.specs.Records.{record_batch}

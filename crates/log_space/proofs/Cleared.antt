@@ -11,17 +11,17 @@ use Rattle.pm_model.specs.Moments.{State}
 use Rattle.pm_model.specs.Changes.{Silently}
 use Rattle.pm_model.proofs.Leaves.{Leaves-weaker}
 use Rattle.pud_defs.specs.declared.layout.TheConstants.{DAEMON_LOG, SPACE_TABLE, PUDDLE_TABLE, CLIENTS}
-use Rattle.pud_defs.specs.Image.{Image}
-use Rattle.pud_defs.specs.Entries.{Entry, Log, is_idle_gate}
-use Rattle.pud_defs.specs.Replay.{value_at, overwritten, settled_by}
-use Rattle.pud_defs.specs.Registry.{is_loggable}
-use Rattle.pud_defs.specs.Spaces.{space_record_at, owner_by, owner_of}
-use Rattle.pud_defs.specs.World.{StoredWorld, idle_world_of}
-use Rattle.pud_defs.proofs.Replay.{overwritten-stays, overwritten-there, value_at-there, value_at-apart, settled_by-idle, outside_log}
-use Rattle.pud_defs.proofs.Logged.{may_be_logged-table, is_loggable-there}
-use Rattle.pud_defs.proofs.Spaces.{are_legal_spaces-none, are_closed_logs-none}
-use Rattle.pud_defs.proofs.Parts.{StandsFor, standing_spaces}
-use Rattle.pud_defs.proofs.IdleWorlds.{standing_of_idle_world, idle_registry_standing}
+use Rattle.pud_defs.specs.Formats.Image.{Image}
+use Rattle.pud_defs.specs.Logging.Entries.{Entry, Log, is_idle_gate}
+use Rattle.pud_defs.specs.Logging.Replay.{value_at, overwritten, settled_by}
+use Rattle.pud_defs.specs.RegistryTables.Registry.{is_loggable}
+use Rattle.pud_defs.specs.RegistryTables.Spaces.{space_record_at, owner_by, owner_of}
+use Rattle.pud_defs.specs.StateMachine.World.{StoredWorld, idle_world_of}
+use Rattle.pud_defs.proofs.Logging.Replay.{overwritten-stays, overwritten-there, value_at-there, value_at-apart, settled_by-idle, outside_log}
+use Rattle.pud_defs.proofs.Logging.Logged.{may_be_logged-table, is_loggable-there}
+use Rattle.pud_defs.proofs.RegistryTables.Spaces.{are_legal_spaces-none, are_closed_logs-none}
+use Rattle.pud_defs.proofs.StateMachine.Parts.{StandsFor, standing_spaces}
+use Rattle.pud_defs.proofs.StateMachine.IdleWorlds.{standing_of_idle_world, idle_registry_standing}
 use Rattle.batch.specs.Batches.{batch_entry, word_count_of, batch_write, committed, IsBatched, Commits}
 use Rattle.batch.specs.Worlds.{IsQuiescent, with_batch, MovesBy, IsBetween, Moves}
 use Rattle.batch.proofs.Writes.{batch_write-append, batch_write-single}

@@ -16,10 +16,10 @@ use Rattle.pm_persist.proofs.Ranges.{placed_at, placed_within}
 use Rattle.pm_model.proofs.Leaves.{Leaves-changes, Leaves-now}
 use Rattle.pud_defs.specs.declared.layout.TheConstants.{CLIENTS, CLIENT_LOGS, DAEMON_LOG}
 use Rattle.pud_defs.specs.declared.log_words.TheConstants.{CLOSED_GATE}
-use Rattle.pud_defs.specs.Image.{Image}
-use Rattle.pud_defs.specs.Layout.{log_at}
-use Rattle.pud_defs.specs.World.{StoredWorld, idle_world_of}
-use Rattle.pud_defs.proofs.ClosedLogs.{IsClosedAnew, idle_world_of-anew, has_closed_logs-gates}
+use Rattle.pud_defs.specs.Formats.Image.{Image}
+use Rattle.pud_defs.specs.Formats.Layout.{log_at}
+use Rattle.pud_defs.specs.StateMachine.World.{StoredWorld, idle_world_of}
+use Rattle.pud_defs.proofs.Logging.ClosedLogs.{IsClosedAnew, idle_world_of-anew, has_closed_logs-gates}
 use Rattle.batch.specs.Worlds.{IsQuiescent}
 use Rattle.log_space.specs.Closed.{ByClosing, WritesGates, ClosesGates, ClosesClientLogs}
 

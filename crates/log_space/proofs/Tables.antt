@@ -2,12 +2,12 @@
 use Rattle.std.proofs.Common.{◌≡◌, ◌⊎◌, inl, inr, ℕ, ◌+◌, ◌<◌, ◌≤◌, Bool, true, ◌||◌, eqb, Option, sym, ap, ap₂, ◌∙◌, arith, eq-eqb, ne_eqb}
 use Rattle.std.proofs.lemmas.Bool.{cond-true, cond-false, cases_eq}
 use Rattle.pud_defs.specs.declared.layout.TheConstants.{CLIENTS, SPACE_RECORD_WORDS}
-use Rattle.pud_defs.specs.Image.{Image}
-use Rattle.pud_defs.specs.Spaces.{Owner, space_record_at, owner_by, owner_of, is_space, is_legal_space, has_closed_logs, are_legal_spaces, are_closed_logs, with_owner}
-use Rattle.pud_defs.specs.World.{StoredWorld}
-use Rattle.pud_defs.proofs.Spaces.{all_below-each, all_below-from, has_closed_logs-same}
-use Rattle.pud_defs.proofs.Parts.{StandsFor, standing_spaces}
-use Rattle.pud_defs.proofs.Parts.Part.{Spaces}
+use Rattle.pud_defs.specs.Formats.Image.{Image}
+use Rattle.pud_defs.specs.RegistryTables.Spaces.{Owner, space_record_at, owner_by, owner_of, is_space, is_legal_space, has_closed_logs, are_legal_spaces, are_closed_logs, with_owner}
+use Rattle.pud_defs.specs.StateMachine.World.{StoredWorld}
+use Rattle.pud_defs.proofs.RegistryTables.Spaces.{all_below-each, all_below-from, has_closed_logs-same}
+use Rattle.pud_defs.proofs.StateMachine.Parts.{StandsFor, standing_spaces}
+use Rattle.pud_defs.proofs.StateMachine.Parts.Part.{Spaces}
 
 -- the second image is the first one but in the client's record
 pub record IsBeside (slot : ℕ) (i j : Image) : Type 0 where

@@ -8,16 +8,16 @@ use Rattle.pm_model.specs.Moments.{State}
 use Rattle.pm_model.specs.Changes.{Changes, Silently}
 use Rattle.pm_model.proofs.Leaves.{Leaves-weaker}
 use Rattle.pud_defs.specs.declared.layout.TheConstants.{DAEMON_LOG, CLIENTS, SPACE_RECORD_WORDS, MAX_OWNER_ID}
-use Rattle.pud_defs.specs.Image.{Image}
-use Rattle.pud_defs.specs.Entries.{is_idle_gate}
-use Rattle.pud_defs.specs.Replay.{overwritten, settled_by}
-use Rattle.pud_defs.specs.Registry.{is_loggable}
-use Rattle.pud_defs.specs.Spaces.{Owner, space_record_at, owner_by, owner_of, is_space, is_legal_space, has_closed_logs, owner, with_owner}
-use Rattle.pud_defs.specs.World.{StoredWorld}
-use Rattle.pud_defs.proofs.Replay.{settled_by-idle, outside_log, overwritten-stays, overwritten-there, value_at-there, value_at-apart}
-use Rattle.pud_defs.proofs.Logged.{may_be_logged-table, is_loggable-there}
-use Rattle.pud_defs.proofs.Spaces.{owner_of-same, has_closed_logs-same}
-use Rattle.pud_defs.proofs.IdleWorlds.{standing_of_idle_world, idle_registry_standing}
+use Rattle.pud_defs.specs.Formats.Image.{Image}
+use Rattle.pud_defs.specs.Logging.Entries.{is_idle_gate}
+use Rattle.pud_defs.specs.Logging.Replay.{overwritten, settled_by}
+use Rattle.pud_defs.specs.RegistryTables.Registry.{is_loggable}
+use Rattle.pud_defs.specs.RegistryTables.Spaces.{Owner, space_record_at, owner_by, owner_of, is_space, is_legal_space, has_closed_logs, owner, with_owner}
+use Rattle.pud_defs.specs.StateMachine.World.{StoredWorld}
+use Rattle.pud_defs.proofs.Logging.Replay.{settled_by-idle, outside_log, overwritten-stays, overwritten-there, value_at-there, value_at-apart}
+use Rattle.pud_defs.proofs.Logging.Logged.{may_be_logged-table, is_loggable-there}
+use Rattle.pud_defs.proofs.RegistryTables.Spaces.{owner_of-same, has_closed_logs-same}
+use Rattle.pud_defs.proofs.StateMachine.IdleWorlds.{standing_of_idle_world, idle_registry_standing}
 use Rattle.batch.specs.Batches.{batch_entry, batch_write, committed, ByBatch}
 use Rattle.batch.specs.Worlds.{IsQuiescent, with_batch, MovesBy, IsBetween, Moves}
 use Rattle.batch.proofs.Writes.{batch_write-single}

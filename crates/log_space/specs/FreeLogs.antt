@@ -1,9 +1,9 @@
 -- The lowest closed log of a client.
 use Rattle.std.specs.Prelude.{ℕ, zero, suc, ◌+◌, ◌*◌, ◌<◌, ◌≤◌, Bool, cond, Option, Some, None, option_map}
 use Rattle.pud_defs.specs.declared.layout.TheConstants.{CLIENT_LOGS}
-use Rattle.pud_defs.specs.Image.{Image}
-use Rattle.pud_defs.specs.Layout.{log_at}
-use Rattle.pud_defs.specs.Spaces.{is_closed_log}
+use Rattle.pud_defs.specs.Formats.Image.{Image}
+use Rattle.pud_defs.specs.Formats.Layout.{log_at}
+use Rattle.pud_defs.specs.RegistryTables.Spaces.{is_closed_log}
 
 -- the first number that passes, of so many from one on
 unfoldable pub first_from : ℕ → ℕ → (ℕ → Bool) → Option ℕ

@@ -5,11 +5,11 @@ use Rattle.pm_model.specs.Words.{Words, Picks, HasOnly, reads}
 use Rattle.pm_model.specs.Moments.{State}
 use Rattle.pm_model.specs.Changes.{Changes, Leaves, Silently}
 use Rattle.pud_defs.specs.declared.layout.TheConstants.{DAEMON_LOG, PUDDLE_TABLE, CLIENTS}
-use Rattle.pud_defs.specs.Image.{Image}
-use Rattle.pud_defs.specs.Entries.{Entry}
-use Rattle.pud_defs.specs.Replay.{is_in_log, settled_by}
-use Rattle.pud_defs.specs.Spaces.{Owner, owner, with_owner, space_record_at, owner_of, has_closed_logs}
-use Rattle.pud_defs.specs.World.{StoredWorld, idle_world_of}
+use Rattle.pud_defs.specs.Formats.Image.{Image}
+use Rattle.pud_defs.specs.Logging.Entries.{Entry}
+use Rattle.pud_defs.specs.Logging.Replay.{is_in_log, settled_by}
+use Rattle.pud_defs.specs.RegistryTables.Spaces.{Owner, owner, with_owner, space_record_at, owner_of, has_closed_logs}
+use Rattle.pud_defs.specs.StateMachine.World.{StoredWorld, idle_world_of}
 use Rattle.batch.specs.Batches.{batch_entry, batch_write, ByBatch}
 use Rattle.batch.specs.Worlds.{IsQuiescent}
 

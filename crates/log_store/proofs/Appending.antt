@@ -12,9 +12,9 @@ use Rattle.pm_model.proofs.Changes.{Changes-wider, Changes-then, Changes-said, C
 use Rattle.pm_model.proofs.Leaves.{Leaves-changes, Leaves-then, origin}
 use Rattle.pm_persist.proofs.Ranges.{placed_at, placed_within}
 use Rattle.pud_defs.specs.declared.layout.TheConstants.{LOG_HEADER_WORDS, LOG_ENTRY_WORDS}
-use Rattle.pud_defs.specs.Image.{Image}
-use Rattle.pud_defs.specs.Entries.{Entry, IsLegalEntry, log_of, gate_word, spelled, words_from, entries_in}
-use Rattle.pud_defs.proofs.Entries.{words_from-add, words_from-same, words_from-holds, entries_in-spelled, entries_in-append}
+use Rattle.pud_defs.specs.Formats.Image.{Image}
+use Rattle.pud_defs.specs.Logging.Entries.{Entry, IsLegalEntry, log_of, gate_word, spelled, words_from, entries_in}
+use Rattle.pud_defs.proofs.Logging.Entries.{words_from-add, words_from-same, words_from-holds, entries_in-spelled, entries_in-append}
 use Rattle.log_store.specs.Store.{OpenLog, undo_entry, is_redo, defers, defers_with, with_entries, saying, InLog, IsOpen, spelled_all, words_write, with_last, HasGrown, Appends}
 use Rattle.log_store.specs.declared.AppendFault.TheVariants.{Host}
 use Rattle.log_store.proofs.Open.{IsCounted, log_of-is, IsOpen-fits, IsOpen-words, IsOpen-log, IsOpen-log_by, IsOpen-kept_by, only_here}

@@ -9,9 +9,9 @@ use Rattle.pm_model.proofs.Words.{HasOnly-newest, HasOnly-own, only_at}
 use Rattle.pm_model.proofs.Changes.{HasOnly-kept}
 use Rattle.pud_defs.specs.declared.layout.TheConstants.{LOG_HEADER_WORDS, LOG_ENTRY_WORDS}
 use Rattle.pud_defs.specs.declared.log_words.TheConstants.{RUNNING_LO, RUNNING_HI, RUNNING_GATE, COMMITTING_HI, CLOSED_GATE}
-use Rattle.pud_defs.specs.Image.{Image}
-use Rattle.pud_defs.specs.Entries.{Entry, Log, log_of, gate_lo, gate_hi, gate_used, gate_word, entries_in, words_from, entries_of}
-use Rattle.pud_defs.proofs.Entries.{gate_lo-of, gate_hi-of, gate_used-of, is_legal_gate-of, words_from-same, words_from-none, entries_of-is, spells}
+use Rattle.pud_defs.specs.Formats.Image.{Image}
+use Rattle.pud_defs.specs.Logging.Entries.{Entry, Log, log_of, gate_lo, gate_hi, gate_used, gate_word, entries_in, words_from, entries_of}
+use Rattle.pud_defs.proofs.Logging.Entries.{gate_lo-of, gate_hi-of, gate_used-of, is_legal_gate-of, words_from-same, words_from-none, entries_of-is, spells}
 use Rattle.log_store.specs.Store.{OpenLog, saying, InLog, IsOpen}
 use Rattle.pm_model.proofs.OneWord.{value_of_only}
 

@@ -7,9 +7,9 @@ use Rattle.pm_model.specs.Moments.{State}
 use Rattle.pm_model.specs.Changes.{Footprint, Changes, Leaves, Silently, Write, placed, written}
 use Rattle.pud_defs.specs.declared.layout.TheConstants.{LOG_HEADER_WORDS, ENTRY_HEADER_WORDS}
 use Rattle.pud_defs.specs.declared.log_words.TheConstants.{UNDO_SEQ, UNDO_ORDER, COMMITTING_LO, COMMITTING_HI, REDO_ORDER}
-use Rattle.pud_defs.specs.Image.{Image}
-use Rattle.pud_defs.specs.Entries.{Entry, Log, log_of, gate_word, spelled}
-use Rattle.pud_defs.specs.Replay.{IsInLog}
+use Rattle.pud_defs.specs.Formats.Image.{Image}
+use Rattle.pud_defs.specs.Logging.Entries.{Entry, Log, log_of, gate_word, spelled}
+use Rattle.pud_defs.specs.Logging.Replay.{IsInLog}
 use Rattle.log_store.specs.declared.AppendFault.{AppendFault}
 use Rattle.log_store.specs.declared.AppendFault.TheVariants as faults
 

@@ -9,7 +9,7 @@ ghost use Rattle.pm_model.specs.Counts.{after_fault, fault_of};
 ghost use Rattle.pm_model.specs.Changes.{only, placed, Changes, Leaves, Silently, Persists};
 ghost use Rattle.pud_defs.specs.declared.layout.TheConstants.{LOG_WORDS, LOG_ENTRY_WORDS, ENTRY_HEADER_WORDS, MAX_ENTRY_VALUES};
 ghost use Rattle.pud_defs.specs.declared.log_words.TheConstants.{RUNNING_LO, RUNNING_HI, RUNNING_GATE, COMMITTING_LO, COMMITTING_HI, CLOSED_GATE, REDO_ORDER};
-ghost use Rattle.pud_defs.specs.Entries.{Entry, gate_word, entries_in};
+ghost use Rattle.pud_defs.specs.Logging.Entries.{Entry, gate_word, entries_in};
 ghost use Rattle.log_store.specs.Store.{OpenLog, append_fault, InLog, IsOpen, spelled_all, words_write, HasGrown, Appends, committing, undo_entry, with_words, with_entry};
 
 use log_entry::encode;

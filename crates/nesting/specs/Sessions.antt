@@ -2,7 +2,7 @@
 use Rattle.std.specs.Prelude.{◌≡◌, ℕ, ◌+◌, ◌-◌, ◌<◌, ◌≤◌, Bool, false, ◌==◌, nat_le, cond, List, length, Option, Some, None, option_map, count_by, slice_index_or, set}
 use Rattle.pud_defs.specs.declared.layout.TheConstants.{CLIENTS, MAX_DEPTH}
 use Rattle.pud_defs.specs.declared.records.TheConstants.{POOL_RECORDS}
-use Rattle.pud_defs.specs.Settled.{ALL_LOGS}
+use Rattle.pud_defs.specs.Logging.Settled.{ALL_LOGS}
 use Rattle.nesting.specs.declared.Session.{Session}
 
 -- the session on the pool in this slot

@@ -7,7 +7,7 @@
 ghost use Rattle.std.specs.Prelude.{◌≡◌, ◌+◌, ◌<◌, ◌≤◌, ◌↔◌, replicate, set, Option, Result, IfOk, IfSome, OnErr};
 ghost use Rattle.pud_defs.specs.declared.layout.TheConstants.{CLIENTS, CLIENT_LOGS, MAX_DEPTH};
 ghost use Rattle.pud_defs.specs.declared.records.TheConstants.{POOL_RECORDS};
-ghost use Rattle.pud_defs.specs.Settled.{ALL_LOGS};
+ghost use Rattle.pud_defs.specs.Logging.Settled.{ALL_LOGS};
 ghost use Rattle.nesting.specs.Sessions.{session_in, holder_in, depth_in, is_of_client, count_of, entered, lowered_session, left, IsSession, AreSessions};
 
 use pud_defs::layout::{CLIENT_LOGS, MAX_DEPTH};

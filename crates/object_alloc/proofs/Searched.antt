@@ -4,9 +4,9 @@ use Rattle.std.proofs.lemmas.Bool.{cases_eq}
 use Rattle.std.proofs.lemmas.List.{length-map}
 use Rattle.pud_defs.specs.declared.space.TheConstants.{SLOT_SERIAL_WORD}
 use Rattle.pud_defs.specs.declared.records.Puddle.{Puddle}
-use Rattle.pud_defs.specs.Geometry.{places_among}
-use Rattle.pud_defs.specs.Image.{Image}
-use Rattle.pud_defs.specs.Stored.{Stored, stored_in, places_of, place_word, IsFreePlace, IsLivePlace}
+use Rattle.pud_defs.specs.Formats.Geometry.{places_among}
+use Rattle.pud_defs.specs.Formats.Image.{Image}
+use Rattle.pud_defs.specs.PoolGraphs.Stored.{Stored, stored_in, places_of, place_word, IsFreePlace, IsLivePlace}
 use Rattle.puddle_header.specs.Places.{places_in}
 use Rattle.graph_laws.specs.Slots.{AreAllLive, IsLowestFreeSlot}
 use Rattle.object_alloc.specs.Alloc.{AreLiveBefore}

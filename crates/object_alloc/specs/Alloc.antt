@@ -3,9 +3,9 @@ use Rattle.std.specs.Prelude.{ℕ, ◌+◌, ◌<◌, Option, Some, None, Result,
 use Rattle.pm_model.specs.declared.host.HostFault.{HostFault}
 use Rattle.pud_defs.specs.declared.space.TheConstants.{SLOT_SERIAL_WORD}
 use Rattle.pud_defs.specs.declared.records.Slot.{Slot}
-use Rattle.pud_defs.specs.Geometry.{slot_begins}
-use Rattle.pud_defs.specs.Frames.{frame_at}
-use Rattle.pud_defs.specs.Stored.{Stored, IsLivePlace}
+use Rattle.pud_defs.specs.Formats.Geometry.{slot_begins}
+use Rattle.pud_defs.specs.Formats.Frames.{frame_at}
+use Rattle.pud_defs.specs.PoolGraphs.Stored.{Stored, IsLivePlace}
 use Rattle.object_alloc.specs.declared.AllocFault.{AllocFault}
 use Rattle.object_alloc.specs.declared.AllocFault.TheVariants as faults
 

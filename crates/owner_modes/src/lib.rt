@@ -2,8 +2,8 @@
 #![tactic(auto)]
 
 ghost use Rattle.std.specs.Prelude.{◌≡◌};
-ghost use Rattle.pud_defs.specs.Spaces.{owner as owner_and};
-ghost use Rattle.pud_defs.specs.Rights.{digit_for, may_read, may_write};
+ghost use Rattle.pud_defs.specs.RegistryTables.Spaces.{owner as owner_and};
+ghost use Rattle.pud_defs.specs.Formats.Rights.{digit_for, may_read, may_write};
 
 /// The octal digit of `mode` that is for this user: the owner's where the users are equal, else the group's where the groups
 /// are, else that of the others.

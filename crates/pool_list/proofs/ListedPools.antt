@@ -3,22 +3,22 @@ use Rattle.std.proofs.Common.{◌≡◌, ℕ, List, ◌++◌, codes, sym, ap, ap
 use Rattle.std.specs.List.{flat_map}
 use Rattle.std.proofs.lemmas.List.Folds.{flat_map-map}
 use Rattle.pud_defs.specs.declared.records.PoolRecord.{PoolRecord}
-use Rattle.pud_defs.specs.Names.{name_cmp}
-use Rattle.pud_defs.specs.Pools.{pool_read}
-use Rattle.pud_defs.specs.Spaces.{owner}
-use Rattle.pud_defs.specs.Tables.{Tables, Pool, Reader, records_of, pool_of, pools_of}
-use Rattle.pud_defs.specs.SoundTables.{is_sound_pool, HasSoundTables}
-use Rattle.pud_defs.specs.World.{StoredWorld}
-use Rattle.pud_defs.specs.Step.Answer.{of_text}
-use Rattle.pud_defs.specs.Texts.{line_of, answer_text}
-use Rattle.pud_defs.specs.Listing.{described, pool_text, pools_text}
-use Rattle.pud_defs.proofs.KeyedEach.{flat_map-each, each-weaker}
-use Rattle.pud_defs.proofs.KeyedMaps.{of_entry}
-use Rattle.pud_defs.proofs.PoolRefusals.{pool_by_record, pools_by_records}
-use Rattle.pud_defs.proofs.Listing.{in_one_line-pools_text}
-use Rattle.pud_defs.proofs.PoolsCounted.{length_puddles}
-use Rattle.pud_defs.proofs.RecordsPlaced.{IsPlaced, each_placed, legal_mode, mode_read}
-use Rattle.pud_defs.proofs.SoundChanged.{legal_pool}
+use Rattle.pud_defs.specs.Formats.Names.{name_cmp}
+use Rattle.pud_defs.specs.RegistryTables.Pools.{pool_read}
+use Rattle.pud_defs.specs.RegistryTables.Spaces.{owner}
+use Rattle.pud_defs.specs.RegistryTables.Tables.{Tables, Pool, Reader, records_of, pool_of, pools_of}
+use Rattle.pud_defs.specs.RegistryTables.SoundTables.{is_sound_pool, HasSoundTables}
+use Rattle.pud_defs.specs.StateMachine.World.{StoredWorld}
+use Rattle.pud_defs.specs.StateMachine.Step.Answer.{of_text}
+use Rattle.pud_defs.specs.Output.Texts.{line_of, answer_text}
+use Rattle.pud_defs.specs.Output.Listing.{described, pool_text, pools_text}
+use Rattle.pud_defs.proofs.KeyedTables.KeyedEach.{flat_map-each, each-weaker}
+use Rattle.pud_defs.proofs.KeyedTables.KeyedMaps.{of_entry}
+use Rattle.pud_defs.proofs.StateMachine.PoolRefusals.{pool_by_record, pools_by_records}
+use Rattle.pud_defs.proofs.Output.Listing.{in_one_line-pools_text}
+use Rattle.pud_defs.proofs.RegistryTables.PoolsCounted.{length_puddles}
+use Rattle.pud_defs.proofs.RegistryTables.RecordsPlaced.{IsPlaced, each_placed, legal_mode, mode_read}
+use Rattle.pud_defs.proofs.RegistryTables.SoundChanged.{legal_pool}
 use Rattle.pool_table.specs.InOrder.{in_order}
 use Rattle.pool_list.specs.Listed.{record_text, puddles_counted, listed_text}
 

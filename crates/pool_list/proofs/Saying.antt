@@ -9,10 +9,10 @@ use Rattle.pm_model.specs.Calls.{Says}
 use Rattle.pm_model.proofs.Saying.{Says-then, Says-front}
 use Rattle.pud_defs.specs.declared.layout.TheConstants.{MACHINE_WORD}
 use Rattle.pud_defs.specs.declared.records.PoolRecord.{PoolRecord}
-use Rattle.pud_defs.specs.Image.{Image}
-use Rattle.pud_defs.specs.Tables.{tables_of}
-use Rattle.pud_defs.specs.Texts.{line_of}
-use Rattle.pud_defs.proofs.KeyedEach.{flat_map-each, each-weaker}
+use Rattle.pud_defs.specs.Formats.Image.{Image}
+use Rattle.pud_defs.specs.RegistryTables.Tables.{tables_of}
+use Rattle.pud_defs.specs.Output.Texts.{line_of}
+use Rattle.pud_defs.proofs.KeyedTables.KeyedEach.{flat_map-each, each-weaker}
 use Rattle.pool_table.specs.InOrder.{in_order, IsInSlot}
 use Rattle.puddle_table.specs.Records.{CountsPools}
 use Rattle.pool_list.specs.Listed.{record_text, records_text, puddles_counted, listed_text}

@@ -1,11 +1,11 @@
 -- The text of the pools that the tables of a device list, sound or not.
 use Rattle.std.specs.Prelude.{ℕ, List, ◌∷◌, ◌++◌, flat_map, decimal}
 use Rattle.pud_defs.specs.declared.records.PoolRecord.{PoolRecord}
-use Rattle.pud_defs.specs.Identifiers.{puddle_uuid, uuid_text}
-use Rattle.pud_defs.specs.Keyed.{count_used}
-use Rattle.pud_defs.specs.Spaces.{owner}
-use Rattle.pud_defs.specs.Listing.{mode_text, colon, described}
-use Rattle.pud_defs.specs.Tables.{Tables, members}
+use Rattle.pud_defs.specs.Formats.Identifiers.{puddle_uuid, uuid_text}
+use Rattle.pud_defs.specs.RegistryTables.Keyed.{count_used}
+use Rattle.pud_defs.specs.RegistryTables.Spaces.{owner}
+use Rattle.pud_defs.specs.Output.Listing.{mode_text, colon, described}
+use Rattle.pud_defs.specs.RegistryTables.Tables.{Tables, members}
 use Rattle.pool_table.specs.InOrder.{in_order}
 
 -- ---- the parts of a pool's text

@@ -1,12 +1,12 @@
 //! The law of the list. The function here does nothing; its contract is the law.
 
 ghost use Rattle.std.specs.Prelude.{◌≡◌, ◌++◌, ℕ, codes};
-ghost use Rattle.pud_defs.specs.SoundTables.{HasSoundTables};
-ghost use Rattle.pud_defs.specs.Step.Answer.{of_text};
-ghost use Rattle.pud_defs.specs.Tables.{Tables, Reader, pools_of};
-ghost use Rattle.pud_defs.specs.Texts.{line_of, answer_text};
-ghost use Rattle.pud_defs.specs.Listing.{pools_text};
-ghost use Rattle.pud_defs.specs.World.{StoredWorld};
+ghost use Rattle.pud_defs.specs.RegistryTables.SoundTables.{HasSoundTables};
+ghost use Rattle.pud_defs.specs.StateMachine.Step.Answer.{of_text};
+ghost use Rattle.pud_defs.specs.RegistryTables.Tables.{Tables, Reader, pools_of};
+ghost use Rattle.pud_defs.specs.Output.Texts.{line_of, answer_text};
+ghost use Rattle.pud_defs.specs.Output.Listing.{pools_text};
+ghost use Rattle.pud_defs.specs.StateMachine.World.{StoredWorld};
 ghost use Rattle.pool_list.specs.Listed.{listed_text};
 
 /// What is said of sound tables is the machine's answer to the command that lists the pools.

@@ -9,10 +9,10 @@ ghost use Rattle.pm_model.specs.Words.{reads};
 ghost use Rattle.pm_model.specs.Counts.{after_fault, fault_of};
 ghost use Rattle.pm_model.specs.Calls.{Says};
 ghost use Rattle.pud_defs.specs.declared.layout.TheConstants.{MAX_FRAMES, MACHINE_WORD};
-ghost use Rattle.pud_defs.specs.Image.{Image};
-ghost use Rattle.pud_defs.specs.Layout.{tables_end};
-ghost use Rattle.pud_defs.specs.Tables.{tables_of};
-ghost use Rattle.pud_defs.specs.Texts.{line_of};
+ghost use Rattle.pud_defs.specs.Formats.Image.{Image};
+ghost use Rattle.pud_defs.specs.Formats.Layout.{tables_end};
+ghost use Rattle.pud_defs.specs.RegistryTables.Tables.{tables_of};
+ghost use Rattle.pud_defs.specs.Output.Texts.{line_of};
 ghost use Rattle.pool_table.specs.InOrder.{IsInSlot};
 ghost use Rattle.pool_list.specs.Listed.{record_text, records_text, listed_text};
 

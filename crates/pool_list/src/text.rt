@@ -3,8 +3,8 @@
 ghost use Rattle.std.specs.Prelude.{◌≡◌, ◌+◌, ◌≤◌, ◌++◌, length, decimal};
 ghost use Rattle.arrayvec.specs.ArrayVec.{array_vec_len};
 ghost use Rattle.pud_defs.specs.declared.records.TheConstants.{NAME_BYTES};
-ghost use Rattle.pud_defs.specs.Identifiers.{puddle_uuid, uuid_text};
-ghost use Rattle.pud_defs.specs.Listing.{octal_digit, mode_text, name_text};
+ghost use Rattle.pud_defs.specs.Formats.Identifiers.{puddle_uuid, uuid_text};
+ghost use Rattle.pud_defs.specs.Output.Listing.{octal_digit, mode_text, name_text};
 ghost use Rattle.pool_list.specs.declared.text.TheConstants.{TEXT_LIMIT};
 ghost use Rattle.pool_list.specs.Listed.{field_text, rights_text, puddles_text, record_text};
 
@@ -123,7 +123,7 @@ fn add_puddles(text: &mut Text, id: u64, number: u64, puddles: u32)
 }
 
 /// The text of the pool of this record with so many puddles, on the machine of this id.
-#[tactic(auto, unfolding(pud_defs::specs::Listing::described))]
+#[tactic(auto, unfolding(pud_defs::specs::Output::Listing::described))]
 pub(crate) fn pool_text(id: u64, rec: &PoolRecord, puddles: u32) -> Text
     ensures { result.items ≡ record_text id rec.now puddles }
 {

@@ -4,9 +4,9 @@ use Rattle.pm_model.specs.declared.host.HostFault.{HostFault}
 use Rattle.pud_defs.specs.declared.records.TheConstants.{POOL_RECORDS}
 use Rattle.pud_defs.specs.declared.records.PoolRecord.{PoolRecord}
 use Rattle.pud_defs.specs.declared.records.Put.{Put}
-use Rattle.pud_defs.specs.Keyed.{first_free}
-use Rattle.pud_defs.specs.Tables.{Tables, pool_in}
-use Rattle.pud_defs.specs.Puts.{pool_put, with_pool_at}
+use Rattle.pud_defs.specs.RegistryTables.Keyed.{first_free}
+use Rattle.pud_defs.specs.RegistryTables.Tables.{Tables, pool_in}
+use Rattle.pud_defs.specs.RegistryTables.Puts.{pool_put, with_pool_at}
 use Rattle.pool_table.specs.declared.PoolFault.{PoolFault}
 use Rattle.pool_table.specs.declared.PoolFault.TheVariants as faults
 use Rattle.pool_table.specs.declared.Lookup.{Lookup}

@@ -4,7 +4,7 @@ use Rattle.std.proofs.lemmas.List.{set-set, set-get_or}
 use Rattle.pm_model.specs.Words.{reads}
 use Rattle.pm_model.specs.Moments.{State}
 use Rattle.pud_defs.specs.declared.records.Puddle.{Puddle}
-use Rattle.pud_defs.specs.World.{World}
+use Rattle.pud_defs.specs.StateMachine.World.{World}
 use Rattle.known_pool.specs.Known.{Known, IsKnown, by_puddles}
 use Rattle.known_pool.proofs.KnownKept.{IsKnown-puddles}
 use Rattle.ready_daemon.specs.PoolKnowledge.{known_puddles_in}

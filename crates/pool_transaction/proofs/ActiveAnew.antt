@@ -9,10 +9,10 @@ use Rattle.pm_model.specs.Changes.{Write, Changes}
 use Rattle.pm_model.specs.Masks.{masked}
 use Rattle.pud_defs.specs.declared.layout.TheConstants.{DAEMON_LOG}
 use Rattle.pud_defs.specs.declared.records.Puddle.{Puddle}
-use Rattle.pud_defs.specs.Image.{Image}
-use Rattle.pud_defs.specs.Layout.{log_at}
-use Rattle.pud_defs.specs.Spaces.{Owner}
-use Rattle.pud_defs.specs.World.{StoredWorld, World}
+use Rattle.pud_defs.specs.Formats.Image.{Image}
+use Rattle.pud_defs.specs.Formats.Layout.{log_at}
+use Rattle.pud_defs.specs.RegistryTables.Spaces.{Owner}
+use Rattle.pud_defs.specs.StateMachine.World.{StoredWorld, World}
 use Rattle.batch.specs.Worlds.{IsQuiescent}
 use Rattle.batch.proofs.Tables.{reads_kept}
 use Rattle.hybrid_tx.specs.Open.Masks.{is_open_record, open_mask}

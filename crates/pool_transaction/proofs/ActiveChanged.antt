@@ -5,7 +5,7 @@ use Rattle.std.proofs.lemmas.Bool.{cases_eq}
 use Rattle.std.proofs.lemmas.Option.{none-some, same_Some}
 use Rattle.pm_model.specs.Changes.{Write}
 use Rattle.pm_model.specs.Words.{Words}
-use Rattle.pud_defs.specs.World.{World}
+use Rattle.pud_defs.specs.StateMachine.World.{World}
 use Rattle.hybrid_tx.specs.Open.ManyOpen.{Opens, MasksAll, AreOpenPools}
 use Rattle.nesting.specs.declared.Session.{Session}
 use Rattle.nesting.specs.Sessions.{session_in}

@@ -15,23 +15,23 @@ use Rattle.pm_model.proofs.Masks.{masked_image-there, masked_image-elsewhere, Pi
 use Rattle.pud_defs.specs.declared.layout.TheConstants.{DAEMON_LOG, TYPE_TABLE, LOG_WORDS}
 use Rattle.pud_defs.specs.declared.machine.Command.TheVariants.{Commit, Abort}
 use Rattle.pud_defs.specs.declared.records.Puddle.{Puddle}
-use Rattle.pud_defs.specs.Allowed.{puddle_word}
-use Rattle.pud_defs.specs.Graph.{Graph, graph_of}
-use Rattle.pud_defs.specs.DeferredValues.{DeferredValue, with_deferred_set}
-use Rattle.pud_defs.specs.Image.{Image}
-use Rattle.pud_defs.specs.Layout.{tables_end, frames_at, device_words}
-use Rattle.pud_defs.specs.Entries.{is_idle_gate}
-use Rattle.pud_defs.specs.Names.{name_cmp}
-use Rattle.pud_defs.specs.PoolChanges.{pool_named, changed_pool}
-use Rattle.pud_defs.specs.Step.{after}
-use Rattle.pud_defs.specs.Stored.{stored_in}
-use Rattle.pud_defs.specs.Tables.{Tables, Pool, tables_of, puddles_in_turn}
-use Rattle.pud_defs.specs.Transactions.{with_open, lowered, holding_graph, committed_pools}
-use Rattle.pud_defs.specs.World.{Transaction, World, idle_world_of}
+use Rattle.pud_defs.specs.Logging.Allowed.{puddle_word}
+use Rattle.pud_defs.specs.PoolGraphs.Graph.{Graph, graph_of}
+use Rattle.pud_defs.specs.PoolGraphs.DeferredValues.{DeferredValue, with_deferred_set}
+use Rattle.pud_defs.specs.Formats.Image.{Image}
+use Rattle.pud_defs.specs.Formats.Layout.{tables_end, frames_at, device_words}
+use Rattle.pud_defs.specs.Logging.Entries.{is_idle_gate}
+use Rattle.pud_defs.specs.Formats.Names.{name_cmp}
+use Rattle.pud_defs.specs.StateMachine.PoolChanges.{pool_named, changed_pool}
+use Rattle.pud_defs.specs.StateMachine.Step.{after}
+use Rattle.pud_defs.specs.PoolGraphs.Stored.{stored_in}
+use Rattle.pud_defs.specs.RegistryTables.Tables.{Tables, Pool, tables_of, puddles_in_turn}
+use Rattle.pud_defs.specs.StateMachine.Transactions.{with_open, lowered, holding_graph, committed_pools}
+use Rattle.pud_defs.specs.StateMachine.World.{Transaction, World, idle_world_of}
 use Rattle.pud_defs.specs.declared.log_words.TheConstants.{CLOSED_GATE}
-use Rattle.pud_defs.specs.Replay.{is_in_log}
-use Rattle.pud_defs.specs.Settled.{log_number_at}
-use Rattle.pud_defs.proofs.TablesOf.{tables_of-same}
+use Rattle.pud_defs.specs.Logging.Replay.{is_in_log}
+use Rattle.pud_defs.specs.Logging.Settled.{log_number_at}
+use Rattle.pud_defs.proofs.RegistryTables.TablesOf.{tables_of-same}
 use Rattle.log_store.specs.Store.{OpenLog}
 use Rattle.nesting.specs.Sessions.{session_depth, depth_in}
 use Rattle.word_transaction.specs.Running.{ByTransaction, HasPlaces, HasOneTable, CanRedo}

@@ -11,16 +11,16 @@ use Rattle.pud_defs.specs.declared.layout.TheConstants.{DAEMON_LOG}
 use Rattle.pud_defs.specs.declared.space.TheConstants.{SPACE_START, SPACE_BYTES, RANGE_BYTES}
 use Rattle.pud_defs.specs.declared.records.Puddle.{Puddle}
 use Rattle.pud_defs.specs.declared.records.Slot.{Slot}
-use Rattle.pud_defs.specs.Bases.{is_legal_base}
-use Rattle.pud_defs.specs.Geometry.{steps_of, is_legal_frontier}
-use Rattle.pud_defs.specs.Image.{Image}
-use Rattle.pud_defs.specs.Puddles.{Member, is_legal_puddle}
-use Rattle.pud_defs.specs.SoundTables.{is_sound_puddle, is_legal_member, HasSoundTables}
-use Rattle.pud_defs.specs.Stored.{stored_in, IsFreePlace}
-use Rattle.pud_defs.specs.Tables.{Tables, tables_of}
-use Rattle.pud_defs.specs.World.{StoredWorld, World, closed}
-use Rattle.pud_defs.proofs.PoolMembers.{HasMembers, members_in_turn}
-use Rattle.pud_defs.proofs.SoundChanged.{legal_puddle}
+use Rattle.pud_defs.specs.Formats.Bases.{is_legal_base}
+use Rattle.pud_defs.specs.Formats.Geometry.{steps_of, is_legal_frontier}
+use Rattle.pud_defs.specs.Formats.Image.{Image}
+use Rattle.pud_defs.specs.RegistryTables.Puddles.{Member, is_legal_puddle}
+use Rattle.pud_defs.specs.RegistryTables.SoundTables.{is_sound_puddle, is_legal_member, HasSoundTables}
+use Rattle.pud_defs.specs.PoolGraphs.Stored.{stored_in, IsFreePlace}
+use Rattle.pud_defs.specs.RegistryTables.Tables.{Tables, tables_of}
+use Rattle.pud_defs.specs.StateMachine.World.{StoredWorld, World, closed}
+use Rattle.pud_defs.proofs.RegistryTables.PoolMembers.{HasMembers, members_in_turn}
+use Rattle.pud_defs.proofs.RegistryTables.SoundChanged.{legal_puddle}
 use Rattle.graph_laws.specs.Slots.{IsLowestFreeSlot}
 use Rattle.puddle_header.specs.Places.{place_of_slot}
 use Rattle.batch.specs.Batches.{HasIdleGate}

@@ -19,26 +19,26 @@ use Rattle.pm_model.proofs.Masks.{reads-masked}
 use Rattle.pm_model.proofs.Words.{Picks-reads}
 use Rattle.pud_defs.specs.declared.layout.TheConstants.{DAEMON_LOG, NEXT_NUMBER_WORD}
 use Rattle.pud_defs.specs.declared.records.Puddle.{Puddle}
-use Rattle.pud_defs.specs.Frames.{IsFreshFrame}
-use Rattle.pud_defs.specs.Graph.{graph_of}
-use Rattle.pud_defs.specs.Image.{Image}
-use Rattle.pud_defs.specs.Names.{name_cmp}
-use Rattle.pud_defs.specs.PoolChanges.{pool_named, with_puddle_more, with_grown_pool}
-use Rattle.pud_defs.specs.SoundTables.{HasSoundTables}
-use Rattle.pud_defs.specs.Spaces.{owner_of}
-use Rattle.pud_defs.specs.Step.{graph_in}
-use Rattle.pud_defs.specs.Tables.{Tables, Pool, tables_of, puddles_in_turn}
-use Rattle.pud_defs.specs.Stored.{Stored, stored_in, word_in_frame}
-use Rattle.pud_defs.specs.Types.{map_of, types_of}
-use Rattle.pud_defs.specs.World.{StoredWorld, World}
-use Rattle.pud_defs.proofs.PoolMembers.{IsMemberOf, HasMembers, members_in_turn}
-use Rattle.pud_defs.proofs.PoolsChanged.{changed_here, changed_elsewhere}
-use Rattle.pud_defs.proofs.PoolsCounted.{length_puddles}
-use Rattle.pud_defs.proofs.TablesOf.{frames_of_tables}
-use Rattle.pud_defs.proofs.IdleWorlds.{standing_beside, standing_idle}
-use Rattle.pud_defs.proofs.Keyed.{first_free_some}
-use Rattle.pud_defs.proofs.Parts.{Holds-same}
-use Rattle.pud_defs.proofs.Parts.Part.{Types}
+use Rattle.pud_defs.specs.Formats.Frames.{IsFreshFrame}
+use Rattle.pud_defs.specs.PoolGraphs.Graph.{graph_of}
+use Rattle.pud_defs.specs.Formats.Image.{Image}
+use Rattle.pud_defs.specs.Formats.Names.{name_cmp}
+use Rattle.pud_defs.specs.StateMachine.PoolChanges.{pool_named, with_puddle_more, with_grown_pool}
+use Rattle.pud_defs.specs.RegistryTables.SoundTables.{HasSoundTables}
+use Rattle.pud_defs.specs.RegistryTables.Spaces.{owner_of}
+use Rattle.pud_defs.specs.StateMachine.Step.{graph_in}
+use Rattle.pud_defs.specs.RegistryTables.Tables.{Tables, Pool, tables_of, puddles_in_turn}
+use Rattle.pud_defs.specs.PoolGraphs.Stored.{Stored, stored_in, word_in_frame}
+use Rattle.pud_defs.specs.RegistryTables.Types.{map_of, types_of}
+use Rattle.pud_defs.specs.StateMachine.World.{StoredWorld, World}
+use Rattle.pud_defs.proofs.RegistryTables.PoolMembers.{IsMemberOf, HasMembers, members_in_turn}
+use Rattle.pud_defs.proofs.RegistryTables.PoolsChanged.{changed_here, changed_elsewhere}
+use Rattle.pud_defs.proofs.RegistryTables.PoolsCounted.{length_puddles}
+use Rattle.pud_defs.proofs.RegistryTables.TablesOf.{frames_of_tables}
+use Rattle.pud_defs.proofs.StateMachine.IdleWorlds.{standing_beside, standing_idle}
+use Rattle.pud_defs.proofs.KeyedTables.Keyed.{first_free_some}
+use Rattle.pud_defs.proofs.StateMachine.Parts.{Holds-same}
+use Rattle.pud_defs.proofs.StateMachine.Parts.Part.{Types}
 use Rattle.graph_laws.proofs.Grown.{slice_get-front, slice_get-push}
 use Rattle.batch.specs.Batches.{HasIdleGate}
 use Rattle.registry.specs.declared.adding.NewPuddle.{NewPuddle}
@@ -52,8 +52,8 @@ use Rattle.registry.proofs.Moved.{ReadsWorld, reads_world}
 use Rattle.hybrid_tx.specs.Open.ManyOpen.{OpenTransaction, Opens, with_transaction, IsOneMore}
 use Rattle.hybrid_tx.proofs.Open.ManyIdle.{one_ended, one_put}
 use Rattle.pud_defs.specs.declared.space.TheConstants.{SLOT_SERIAL_WORD}
-use Rattle.pud_defs.specs.Frames.{frame_at}
-use Rattle.pud_defs.specs.Geometry.{steps_of, ordinal_of, slot_of, puddle_slot_at}
+use Rattle.pud_defs.specs.Formats.Frames.{frame_at}
+use Rattle.pud_defs.specs.Formats.Geometry.{steps_of, ordinal_of, slot_of, puddle_slot_at}
 use Rattle.graph_laws.proofs.StoredImages.{stored_in-same}
 use Rattle.hybrid_tx.proofs.PoolScope.{pool_has_word-from}
 use Rattle.pool_transaction.specs.Finishing.{IsLonger}
@@ -82,7 +82,7 @@ use Rattle.ready_daemon.proofs.KnownOpen.{IsShut, KnowsPools-grown}
 use Rattle.ready_daemon.proofs.KnownJudged.{KeepsPools-grow, words_grow}
 use Rattle.ready_daemon.proofs.PoolsGrown.{off_growing, grown_read}
 use Rattle.ready_daemon.proofs.KnownKept.{HasGraphIn, KeepsPools}
-use Rattle.pud_defs.specs.Puts.{member_by, with_puddle_at}
+use Rattle.pud_defs.specs.RegistryTables.Puts.{member_by, with_puddle_at}
 use Rattle.pud_defs.specs.declared.records.TheConstants.{POOL_RECORDS}
 use Rattle.pool_transaction.proofs.Widened.{GrowsHeld, opened_more, wide, holds_more, sessions_more, settled_more, rest_more, logs_more}
 

@@ -11,11 +11,11 @@ use Rattle.pud_defs.specs.declared.machine.Command.TheVariants.{New}
 use Rattle.pud_defs.specs.declared.machine.Reply.TheVariants as replies
 use Rattle.pud_defs.specs.declared.machine.Refusal.{Refusal}
 use Rattle.pud_defs.specs.declared.records.Puddle.{Puddle}
-use Rattle.pud_defs.specs.PoolChanges.{pool_named}
-use Rattle.pud_defs.specs.Step.{graph_seen, next_in, grows, refusal_of, answer_by, world_by}
-use Rattle.pud_defs.specs.Step.Answer.{of_reply}
-use Rattle.pud_defs.specs.World.{World, closed, open_on}
-use Rattle.pud_defs.proofs.Steps.{refused_answer}
+use Rattle.pud_defs.specs.StateMachine.PoolChanges.{pool_named}
+use Rattle.pud_defs.specs.StateMachine.Step.{graph_seen, next_in, grows, refusal_of, answer_by, world_by}
+use Rattle.pud_defs.specs.StateMachine.Step.Answer.{of_reply}
+use Rattle.pud_defs.specs.StateMachine.World.{World, closed, open_on}
+use Rattle.pud_defs.proofs.StateMachine.Steps.{refused_answer}
 use Rattle.known_pool.specs.Known.{Known, by_puddles}
 use Rattle.ready_daemon.specs.PoolKnowledge.{puddles_known, KnowsAlone}
 use Rattle.ready_daemon.proofs.Known.{pool_kept}

@@ -12,14 +12,14 @@ use Rattle.pud_defs.specs.declared.machine.Refusal.{Refusal}
 use Rattle.pud_defs.specs.declared.machine.Refusal.TheVariants as refusals
 use Rattle.pud_defs.specs.declared.records.Puddle.{Puddle}
 use Rattle.pud_defs.specs.declared.records.Slot.{Slot}
-use Rattle.pud_defs.specs.Graph.{Graph, graph_of}
-use Rattle.pud_defs.specs.GraphChanges.{with_new, blank_object}
-use Rattle.pud_defs.specs.PoolChanges.{pool_named}
-use Rattle.pud_defs.specs.Step.{graph_seen, next_in, grows, object_made}
-use Rattle.pud_defs.specs.Stored.{stored_in}
-use Rattle.pud_defs.specs.Transactions.{charged}
-use Rattle.pud_defs.specs.Types.{map_of}
-use Rattle.pud_defs.specs.World.{Transaction, World, open_on}
+use Rattle.pud_defs.specs.PoolGraphs.Graph.{Graph, graph_of}
+use Rattle.pud_defs.specs.PoolGraphs.GraphChanges.{with_new, blank_object}
+use Rattle.pud_defs.specs.StateMachine.PoolChanges.{pool_named}
+use Rattle.pud_defs.specs.StateMachine.Step.{graph_seen, next_in, grows, object_made}
+use Rattle.pud_defs.specs.PoolGraphs.Stored.{stored_in}
+use Rattle.pud_defs.specs.StateMachine.Transactions.{charged}
+use Rattle.pud_defs.specs.RegistryTables.Types.{map_of}
+use Rattle.pud_defs.specs.StateMachine.World.{Transaction, World, open_on}
 use Rattle.graph_laws.specs.Slots.{AreAllLive}
 use Rattle.hybrid_tx.specs.PoolScopes.{ArePlacedPuddles}
 use Rattle.hybrid_tx.specs.Objects.Transactions.{OpenTx, IsOpenOn, KeepsOpenOn, MakesIn}

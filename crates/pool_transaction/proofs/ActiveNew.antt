@@ -12,25 +12,25 @@ use Rattle.pud_defs.specs.declared.machine.Command.TheVariants.{Commit, New}
 use Rattle.pud_defs.specs.declared.machine.Reply.TheVariants as replies
 use Rattle.pud_defs.specs.declared.machine.Refusal.{Refusal}
 use Rattle.pud_defs.specs.declared.machine.Refusal.TheVariants as refusals
-use Rattle.pud_defs.specs.Geometry.{slots_among}
-use Rattle.pud_defs.specs.Graph.{Graph, next_serial_of}
-use Rattle.pud_defs.specs.Holdings.{holding_in}
-use Rattle.pud_defs.specs.Image.{Image}
-use Rattle.pud_defs.specs.Keyed.{first_free}
-use Rattle.pud_defs.specs.PoolChanges.{pool_named, lacks_frames, lacks_a_number, changed_pool, with_puddle_more, with_grown_pool}
-use Rattle.pud_defs.specs.Step.{graph_seen, next_in, is_full_graph, is_all_live, grows, lacks_room, refusal_of, answer, answer_by, after, world_by, object_made}
-use Rattle.pud_defs.specs.Step.Answer.{of_reply}
-use Rattle.pud_defs.specs.Stored.{stored_in}
-use Rattle.pud_defs.specs.Tables.{Tables, Pool, Reader, tables_of}
-use Rattle.pud_defs.specs.Transactions.{units_of, with_changed, charged}
+use Rattle.pud_defs.specs.Formats.Geometry.{slots_among}
+use Rattle.pud_defs.specs.PoolGraphs.Graph.{Graph, next_serial_of}
+use Rattle.pud_defs.specs.PoolGraphs.Holdings.{holding_in}
+use Rattle.pud_defs.specs.Formats.Image.{Image}
+use Rattle.pud_defs.specs.RegistryTables.Keyed.{first_free}
+use Rattle.pud_defs.specs.StateMachine.PoolChanges.{pool_named, lacks_frames, lacks_a_number, changed_pool, with_puddle_more, with_grown_pool}
+use Rattle.pud_defs.specs.StateMachine.Step.{graph_seen, next_in, is_full_graph, is_all_live, grows, lacks_room, refusal_of, answer, answer_by, after, world_by, object_made}
+use Rattle.pud_defs.specs.StateMachine.Step.Answer.{of_reply}
+use Rattle.pud_defs.specs.PoolGraphs.Stored.{stored_in}
+use Rattle.pud_defs.specs.RegistryTables.Tables.{Tables, Pool, Reader, tables_of}
+use Rattle.pud_defs.specs.StateMachine.Transactions.{units_of, with_changed, charged}
 use Rattle.pud_defs.specs.declared.records.Puddle.{Puddle}
-use Rattle.pud_defs.specs.GraphChanges.{with_new}
-use Rattle.pud_defs.specs.Types.{map_of, types_of}
-use Rattle.pud_defs.specs.World.{Transaction, World, open_on}
-use Rattle.pud_defs.proofs.Graphs.{graph_of-each}
-use Rattle.pud_defs.proofs.PoolRefusals.{space_by_table}
-use Rattle.pud_defs.proofs.Steps.{done_answer, done_world}
-use Rattle.pud_defs.proofs.TablesOf.{pools_beyond, frames_of_tables}
+use Rattle.pud_defs.specs.PoolGraphs.GraphChanges.{with_new}
+use Rattle.pud_defs.specs.RegistryTables.Types.{map_of, types_of}
+use Rattle.pud_defs.specs.StateMachine.World.{Transaction, World, open_on}
+use Rattle.pud_defs.proofs.PoolGraphs.Graphs.{graph_of-each}
+use Rattle.pud_defs.proofs.StateMachine.PoolRefusals.{space_by_table}
+use Rattle.pud_defs.proofs.StateMachine.Steps.{done_answer, done_world}
+use Rattle.pud_defs.proofs.RegistryTables.TablesOf.{pools_beyond, frames_of_tables}
 use Rattle.registry.specs.Growth.{has_room_to_grow}
 use Rattle.hybrid_tx.specs.Objects.Transactions.{OpenTx}
 use Rattle.ready_daemon.specs.Memory.{ActiveTransaction, Memory, active_under}

@@ -5,17 +5,17 @@ use Rattle.std.proofs.lemmas.Option.{none-some, same_Some}
 use Rattle.pm_model.specs.Words.{reads}
 use Rattle.pm_model.specs.Moments.{State}
 use Rattle.pud_defs.specs.declared.records.Puddle.{Puddle}
-use Rattle.pud_defs.specs.Geometry.{places_among, slots_among}
-use Rattle.pud_defs.specs.Graph.{Graph}
-use Rattle.pud_defs.specs.Holdings.{Holding, graph_held}
-use Rattle.pud_defs.specs.Holdings.Holding.{Sound, Wild}
-use Rattle.pud_defs.specs.PoolChanges.{pool_named}
-use Rattle.pud_defs.specs.Step.{graph_in, graph_seen, is_all_live, grows}
-use Rattle.pud_defs.specs.Stored.{Stored, places_of, stored_in}
-use Rattle.pud_defs.specs.Tables.{Tables, Pool, tables_of, puddles_of}
-use Rattle.pud_defs.specs.World.{Transaction, World}
-use Rattle.pud_defs.proofs.PoolsCounted.{few_members, length_puddles}
-use Rattle.pud_defs.proofs.PuddlesListed.{puddles_in_turn-listed}
+use Rattle.pud_defs.specs.Formats.Geometry.{places_among, slots_among}
+use Rattle.pud_defs.specs.PoolGraphs.Graph.{Graph}
+use Rattle.pud_defs.specs.PoolGraphs.Holdings.{Holding, graph_held}
+use Rattle.pud_defs.specs.PoolGraphs.Holdings.Holding.{Sound, Wild}
+use Rattle.pud_defs.specs.StateMachine.PoolChanges.{pool_named}
+use Rattle.pud_defs.specs.StateMachine.Step.{graph_in, graph_seen, is_all_live, grows}
+use Rattle.pud_defs.specs.PoolGraphs.Stored.{Stored, places_of, stored_in}
+use Rattle.pud_defs.specs.RegistryTables.Tables.{Tables, Pool, tables_of, puddles_of}
+use Rattle.pud_defs.specs.StateMachine.World.{Transaction, World}
+use Rattle.pud_defs.proofs.RegistryTables.PoolsCounted.{few_members, length_puddles}
+use Rattle.pud_defs.proofs.RegistryTables.PuddlesListed.{puddles_in_turn-listed}
 use Rattle.graph_laws.specs.Slots.{AreAllLive}
 use Rattle.graph_laws.proofs.LiveSlots.{objects-most, objects-live}
 use Rattle.registry.specs.Growth.{puddle_count, PoolHasGraph}

@@ -12,15 +12,15 @@ use Rattle.pud_defs.specs.declared.objects.FieldValue.TheVariants.{Num, Ref}
 use Rattle.pud_defs.specs.declared.machine.Command.TheVariants.{Commit, Set, Root, Free}
 use Rattle.pud_defs.specs.declared.machine.Refusal.{Refusal}
 use Rattle.pud_defs.specs.declared.machine.Refusal.TheVariants as refusals
-use Rattle.pud_defs.specs.Image.{Image}
-use Rattle.pud_defs.specs.Types.{types_of}
-use Rattle.pud_defs.specs.Stored.{stored_in}
-use Rattle.pud_defs.specs.Graph.{Graph, Object, object_at, object_in, is_referenced, graph_of}
-use Rattle.pud_defs.specs.DeferredValues.{deferred_set_names}
-use Rattle.pud_defs.specs.PoolChanges.{pool_named}
-use Rattle.pud_defs.specs.World.{Transaction, World, open_on}
-use Rattle.pud_defs.specs.Transactions.{units_of, deferred_of}
-use Rattle.pud_defs.specs.Step.{graph_seen, field_of, is_dangling, differ_in_kind, refusal_of}
+use Rattle.pud_defs.specs.Formats.Image.{Image}
+use Rattle.pud_defs.specs.RegistryTables.Types.{types_of}
+use Rattle.pud_defs.specs.PoolGraphs.Stored.{stored_in}
+use Rattle.pud_defs.specs.PoolGraphs.Graph.{Graph, Object, object_at, object_in, is_referenced, graph_of}
+use Rattle.pud_defs.specs.PoolGraphs.DeferredValues.{deferred_set_names}
+use Rattle.pud_defs.specs.StateMachine.PoolChanges.{pool_named}
+use Rattle.pud_defs.specs.StateMachine.World.{Transaction, World, open_on}
+use Rattle.pud_defs.specs.StateMachine.Transactions.{units_of, deferred_of}
+use Rattle.pud_defs.specs.StateMachine.Step.{graph_seen, field_of, is_dangling, differ_in_kind, refusal_of}
 use Rattle.puddle_header.specs.Places.{place_of_slot}
 use Rattle.graph_read.specs.declared.fields.FieldRead.{FieldRead}
 use Rattle.graph_read.specs.Reading.{table_in, place_in_pool, read_value, read_by}

@@ -13,12 +13,12 @@ use Rattle.pm_model.proofs.Changes.{Changes-said, Changes-now}
 use Rattle.pm_model.proofs.Leaves.{HasOrigin, Leaves-weaker}
 use Rattle.pm_model.proofs.Masks.{masked-there, masked-elsewhere, masked_image-there, masked_image-elsewhere, Picks-masked}
 use Rattle.pud_defs.specs.declared.layout.TheConstants.{DAEMON_LOG}
-use Rattle.pud_defs.specs.Image.{Image}
-use Rattle.pud_defs.specs.Entries.{is_idle_gate}
-use Rattle.pud_defs.specs.Layout.{tables_end, log_at}
-use Rattle.pud_defs.specs.Transactions.{with_changed}
-use Rattle.pud_defs.specs.World.{Transaction, World, world_of, idle_world_of, closed}
-use Rattle.pud_defs.proofs.Spaces.{owner_of-same}
+use Rattle.pud_defs.specs.Formats.Image.{Image}
+use Rattle.pud_defs.specs.Logging.Entries.{is_idle_gate}
+use Rattle.pud_defs.specs.Formats.Layout.{tables_end, log_at}
+use Rattle.pud_defs.specs.StateMachine.Transactions.{with_changed}
+use Rattle.pud_defs.specs.StateMachine.World.{Transaction, World, world_of, idle_world_of, closed}
+use Rattle.pud_defs.proofs.RegistryTables.Spaces.{owner_of-same}
 use Rattle.batch.specs.Worlds.{IsQuiescent}
 use Rattle.batch.proofs.Tables.{reads_kept, HasDurableTables-kept}
 use Rattle.word_transaction.specs.Running.{RecoversTo, ByTransaction}

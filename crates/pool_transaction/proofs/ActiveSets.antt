@@ -7,11 +7,11 @@ use Rattle.pm_model.specs.Words.{reads}
 use Rattle.pm_model.specs.Moments.{State}
 use Rattle.pud_defs.specs.declared.layout.TheConstants.{SET_UNITS}
 use Rattle.pud_defs.specs.declared.records.Puddle.{Puddle}
-use Rattle.pud_defs.specs.GraphChanges.{with_field, with_root, without_object}
-use Rattle.pud_defs.specs.Step.{refusal_of, after}
-use Rattle.pud_defs.specs.Stored.{stored_in}
-use Rattle.pud_defs.specs.Transactions.{with_changed}
-use Rattle.pud_defs.specs.World.{Transaction, World, closed}
+use Rattle.pud_defs.specs.PoolGraphs.GraphChanges.{with_field, with_root, without_object}
+use Rattle.pud_defs.specs.StateMachine.Step.{refusal_of, after}
+use Rattle.pud_defs.specs.PoolGraphs.Stored.{stored_in}
+use Rattle.pud_defs.specs.StateMachine.Transactions.{with_changed}
+use Rattle.pud_defs.specs.StateMachine.World.{Transaction, World, closed}
 use Rattle.hybrid_tx.specs.PoolScopes.{ArePlacedPuddles}
 use Rattle.hybrid_tx.specs.Objects.Transactions.{OpenTx, IsOpenOn, KeepsOpenOn}
 use Rattle.pool_transaction.specs.declared.changing.Update.{Update}

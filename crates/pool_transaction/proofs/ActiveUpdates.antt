@@ -7,11 +7,11 @@ use Rattle.pm_model.specs.Words.{reads}
 use Rattle.pm_model.specs.Moments.{State}
 use Rattle.pud_defs.specs.declared.layout.TheConstants.{DAEMON_LOG, SET_UNITS}
 use Rattle.pud_defs.specs.declared.records.Puddle.{Puddle}
-use Rattle.pud_defs.specs.Graph.{Graph}
-use Rattle.pud_defs.specs.Image.{Image}
-use Rattle.pud_defs.specs.DeferredValues.{DeferredValue}
-use Rattle.pud_defs.specs.Step.{refusal_of, after}
-use Rattle.pud_defs.specs.World.{Transaction, World}
+use Rattle.pud_defs.specs.PoolGraphs.Graph.{Graph}
+use Rattle.pud_defs.specs.Formats.Image.{Image}
+use Rattle.pud_defs.specs.PoolGraphs.DeferredValues.{DeferredValue}
+use Rattle.pud_defs.specs.StateMachine.Step.{refusal_of, after}
+use Rattle.pud_defs.specs.StateMachine.World.{Transaction, World}
 use Rattle.log_store.specs.Store.{OpenLog}
 use Rattle.batch.specs.Batches.{HasIdleGate}
 use Rattle.lazy_rewrite.specs.Entries.{HasLowBases}

@@ -16,17 +16,17 @@ use Rattle.pud_defs.specs.declared.layout.TheConstants.{DAEMON_LOG}
 use Rattle.pud_defs.specs.declared.records.PoolRecord.{PoolRecord}
 use Rattle.pud_defs.specs.declared.records.Puddle.{Puddle}
 use Rattle.pud_defs.specs.declared.records.TheConstants.{POOL_RECORDS}
-use Rattle.pud_defs.specs.Puddles.{Member, member_moved}
-use Rattle.pud_defs.specs.Replay.{settled_by}
-use Rattle.pud_defs.specs.SoundTables.{count_up, is_pool, is_sound_puddle, is_legal_member, HasSoundTables}
-use Rattle.pud_defs.specs.Tables.{Tables, tables_of, member_of, members, puddles_of, puddles_in_turn}
-use Rattle.pud_defs.specs.World.{World}
-use Rattle.pud_defs.proofs.Keyed.{find-keyed_place}
-use Rattle.pud_defs.proofs.PoolsCounted.{few_members}
-use Rattle.pud_defs.proofs.PuddlesListed.{puddles_in_turn-listed, passed_by, found_in_front}
-use Rattle.pud_defs.proofs.Replay.{outside_log, settled_by-idle}
-use Rattle.pud_defs.proofs.SoundChanged.{legal_puddle, distinct_ordinals}
-use Rattle.pud_defs.proofs.TablesOf.{tables_of-same, frames_of_tables}
+use Rattle.pud_defs.specs.RegistryTables.Puddles.{Member, member_moved}
+use Rattle.pud_defs.specs.Logging.Replay.{settled_by}
+use Rattle.pud_defs.specs.RegistryTables.SoundTables.{count_up, is_pool, is_sound_puddle, is_legal_member, HasSoundTables}
+use Rattle.pud_defs.specs.RegistryTables.Tables.{Tables, tables_of, member_of, members, puddles_of, puddles_in_turn}
+use Rattle.pud_defs.specs.StateMachine.World.{World}
+use Rattle.pud_defs.proofs.KeyedTables.Keyed.{find-keyed_place}
+use Rattle.pud_defs.proofs.RegistryTables.PoolsCounted.{few_members}
+use Rattle.pud_defs.proofs.RegistryTables.PuddlesListed.{puddles_in_turn-listed, passed_by, found_in_front}
+use Rattle.pud_defs.proofs.Logging.Replay.{outside_log, settled_by-idle}
+use Rattle.pud_defs.proofs.RegistryTables.SoundChanged.{legal_puddle, distinct_ordinals}
+use Rattle.pud_defs.proofs.RegistryTables.TablesOf.{tables_of-same, frames_of_tables}
 use Rattle.lazy_rewrite.specs.Frontiers.{frontiers_of}
 use Rattle.ready_daemon.specs.PoolKnowledge.{known_puddles_in}
 use Rattle.ready_daemon.specs.Memory.{Memory}

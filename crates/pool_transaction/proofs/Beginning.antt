@@ -17,27 +17,27 @@ use Rattle.pud_defs.specs.declared.log_words.TheConstants.{RUNNING_GATE, CLOSED_
 use Rattle.pud_defs.specs.declared.machine.Command.TheVariants as commands
 use Rattle.pud_defs.specs.declared.records.TheConstants.{POOL_RECORDS}
 use Rattle.pud_defs.specs.declared.records.Puddle.{Puddle}
-use Rattle.pud_defs.specs.Entries.{is_idle_gate}
-use Rattle.pud_defs.specs.Graph.{Graph, graph_of, empty_graph}
-use Rattle.pud_defs.specs.Holdings.{graph_held, held_as}
-use Rattle.pud_defs.specs.Image.{Image}
-use Rattle.pud_defs.specs.Layout.{tables_end, frames_at, device_words}
-use Rattle.pud_defs.specs.Layout as layouts
-use Rattle.pud_defs.specs.PoolChanges.{pool_named}
-use Rattle.pud_defs.specs.Replay.{is_in_log}
-use Rattle.pud_defs.specs.Settled.{ALL_LOGS, log_number_at, client_of_log}
-use Rattle.pud_defs.specs.Spaces.{owner_of, is_closed_log}
-use Rattle.pud_defs.specs.Step.{graph_in, graph_at_begin, after}
-use Rattle.pud_defs.specs.Stored.{Stored, IsOnDevice, stored_in}
-use Rattle.pud_defs.specs.Tables.{tables_of, puddles_of, listed, pool_of, puddles_in_turn}
-use Rattle.pud_defs.specs.Transactions as transactions
-use Rattle.pud_defs.specs.Transactions.{with_open}
-use Rattle.pud_defs.specs.World.{Transaction, World, world_of, idle_world_of, open_on}
-use Rattle.pud_defs.proofs.Replay.{outside_log, within_log}
-use Rattle.pud_defs.proofs.Idle.{registered_is_closed}
-use Rattle.pud_defs.proofs.IdleWorlds.{standing_beside, standing_idle}
-use Rattle.pud_defs.proofs.Parts.Part.{Spaces}
-use Rattle.pud_defs.proofs.Spaces.{owner_of-same, is_closed_log-same}
+use Rattle.pud_defs.specs.Logging.Entries.{is_idle_gate}
+use Rattle.pud_defs.specs.PoolGraphs.Graph.{Graph, graph_of, empty_graph}
+use Rattle.pud_defs.specs.PoolGraphs.Holdings.{graph_held, held_as}
+use Rattle.pud_defs.specs.Formats.Image.{Image}
+use Rattle.pud_defs.specs.Formats.Layout.{tables_end, frames_at, device_words}
+use Rattle.pud_defs.specs.Formats.Layout as layouts
+use Rattle.pud_defs.specs.StateMachine.PoolChanges.{pool_named}
+use Rattle.pud_defs.specs.Logging.Replay.{is_in_log}
+use Rattle.pud_defs.specs.Logging.Settled.{ALL_LOGS, log_number_at, client_of_log}
+use Rattle.pud_defs.specs.RegistryTables.Spaces.{owner_of, is_closed_log}
+use Rattle.pud_defs.specs.StateMachine.Step.{graph_in, graph_at_begin, after}
+use Rattle.pud_defs.specs.PoolGraphs.Stored.{Stored, IsOnDevice, stored_in}
+use Rattle.pud_defs.specs.RegistryTables.Tables.{tables_of, puddles_of, listed, pool_of, puddles_in_turn}
+use Rattle.pud_defs.specs.StateMachine.Transactions as transactions
+use Rattle.pud_defs.specs.StateMachine.Transactions.{with_open}
+use Rattle.pud_defs.specs.StateMachine.World.{Transaction, World, world_of, idle_world_of, open_on}
+use Rattle.pud_defs.proofs.Logging.Replay.{outside_log, within_log}
+use Rattle.pud_defs.proofs.Logging.Idle.{registered_is_closed}
+use Rattle.pud_defs.proofs.StateMachine.IdleWorlds.{standing_beside, standing_idle}
+use Rattle.pud_defs.proofs.StateMachine.Parts.Part.{Spaces}
+use Rattle.pud_defs.proofs.RegistryTables.Spaces.{owner_of-same, is_closed_log-same}
 use Rattle.batch.specs.Batches.{HasIdleGate}
 use Rattle.batch.specs.Worlds.{IsQuiescent}
 use Rattle.batch.proofs.Tables.{HasDurableTables-kept, reads_kept}

@@ -14,22 +14,22 @@ use Rattle.pm_model.proofs.Leaves.{HasOrigin, origin, Leaves-weaker}
 use Rattle.pm_model.proofs.Masks.{masked-elsewhere, masked_image-there, Picks-masked, Picks-unmasked, HasOnly-own_masked, Changes-masked}
 use Rattle.pud_defs.specs.declared.layout.TheConstants.{DAEMON_LOG, CLIENT_LOGS}
 use Rattle.pud_defs.specs.declared.log_words.TheConstants.{CLOSED_GATE}
-use Rattle.pud_defs.specs.Image.{Image}
-use Rattle.pud_defs.specs.Layout as layouts
-use Rattle.pud_defs.specs.Layout.{tables_end, frames_at}
-use Rattle.pud_defs.specs.Entries.{is_idle_gate}
-use Rattle.pud_defs.specs.PoolChanges.{pool_named}
-use Rattle.pud_defs.specs.Replay.{is_in_log}
-use Rattle.pud_defs.specs.Spaces.{is_closed_log}
-use Rattle.pud_defs.specs.Settled.{log_number_at}
-use Rattle.pud_defs.specs.Graph.{Graph, graph_of}
-use Rattle.pud_defs.specs.Stored.{stored_in}
-use Rattle.pud_defs.specs.Tables.{Pool}
-use Rattle.pud_defs.specs.Transactions.{with_open}
-use Rattle.pud_defs.specs.World.{StoredWorld, World, world_of, idle_world_of, closed}
-use Rattle.pud_defs.proofs.ClosedLogs.{closed_by_gate}
-use Rattle.pud_defs.proofs.Replay.{outside_log}
-use Rattle.pud_defs.proofs.Spaces.{owner_of-same}
+use Rattle.pud_defs.specs.Formats.Image.{Image}
+use Rattle.pud_defs.specs.Formats.Layout as layouts
+use Rattle.pud_defs.specs.Formats.Layout.{tables_end, frames_at}
+use Rattle.pud_defs.specs.Logging.Entries.{is_idle_gate}
+use Rattle.pud_defs.specs.StateMachine.PoolChanges.{pool_named}
+use Rattle.pud_defs.specs.Logging.Replay.{is_in_log}
+use Rattle.pud_defs.specs.RegistryTables.Spaces.{is_closed_log}
+use Rattle.pud_defs.specs.Logging.Settled.{log_number_at}
+use Rattle.pud_defs.specs.PoolGraphs.Graph.{Graph, graph_of}
+use Rattle.pud_defs.specs.PoolGraphs.Stored.{stored_in}
+use Rattle.pud_defs.specs.RegistryTables.Tables.{Pool}
+use Rattle.pud_defs.specs.StateMachine.Transactions.{with_open}
+use Rattle.pud_defs.specs.StateMachine.World.{StoredWorld, World, world_of, idle_world_of, closed}
+use Rattle.pud_defs.proofs.Logging.ClosedLogs.{closed_by_gate}
+use Rattle.pud_defs.proofs.Logging.Replay.{outside_log}
+use Rattle.pud_defs.proofs.RegistryTables.Spaces.{owner_of-same}
 use Rattle.batch.specs.Batches.{HasIdleGate}
 use Rattle.batch.specs.Worlds.{IsQuiescent}
 use Rattle.batch.proofs.Tables.{HasDurableTables-kept, reads_kept}

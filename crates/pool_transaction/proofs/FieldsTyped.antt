@@ -14,17 +14,17 @@ use Rattle.pud_defs.specs.declared.objects.FieldValue.{FieldValue}
 use Rattle.pud_defs.specs.declared.objects.FieldValue.TheVariants.{Num, Ref}
 use Rattle.pud_defs.specs.declared.records.Puddle.{Puddle}
 use Rattle.pud_defs.specs.declared.machine.Refusal.TheVariants as refusals
-use Rattle.pud_defs.specs.TypeMap.{is_pointer}
-use Rattle.pud_defs.specs.Geometry.{ordinal_of, slot_of}
-use Rattle.pud_defs.specs.Types.{map_of}
-use Rattle.pud_defs.specs.Keyed.{keyed, under}
-use Rattle.pud_defs.specs.Stored.{Stored, places_of, place_word}
-use Rattle.pud_defs.specs.Graph.{Content, Number, Null, at_place, place_in, target, puddles_by, content, field_count, Table, table_of, slot_contents, contents_or_none, value_of, object_at, live, all_stand, Graph, Object, object_in, is_referenced, graph_of}
-use Rattle.pud_defs.specs.DeferredValues.{deferred_set_names}
-use Rattle.pud_defs.specs.Step.{is_dangling, differ_in_kind, refusal_of}
-use Rattle.pud_defs.specs.World.{Transaction, World, open_on}
-use Rattle.pud_defs.proofs.Keyed.{find-keyed, first_from_some}
-use Rattle.pud_defs.proofs.Graphs.{graph_of-each, under_serial-free, under_serial-used}
+use Rattle.pud_defs.specs.Formats.TypeMap.{is_pointer}
+use Rattle.pud_defs.specs.Formats.Geometry.{ordinal_of, slot_of}
+use Rattle.pud_defs.specs.RegistryTables.Types.{map_of}
+use Rattle.pud_defs.specs.RegistryTables.Keyed.{keyed, under}
+use Rattle.pud_defs.specs.PoolGraphs.Stored.{Stored, places_of, place_word}
+use Rattle.pud_defs.specs.PoolGraphs.Graph.{Content, Number, Null, at_place, place_in, target, puddles_by, content, field_count, Table, table_of, slot_contents, contents_or_none, value_of, object_at, live, all_stand, Graph, Object, object_in, is_referenced, graph_of}
+use Rattle.pud_defs.specs.PoolGraphs.DeferredValues.{deferred_set_names}
+use Rattle.pud_defs.specs.StateMachine.Step.{is_dangling, differ_in_kind, refusal_of}
+use Rattle.pud_defs.specs.StateMachine.World.{Transaction, World, open_on}
+use Rattle.pud_defs.proofs.KeyedTables.Keyed.{find-keyed, first_from_some}
+use Rattle.pud_defs.proofs.PoolGraphs.Graphs.{graph_of-each, under_serial-free, under_serial-used}
 use Rattle.hybrid_tx.specs.Objects.Transactions.{MayHold, MaySet, MayFree}
 use Rattle.pool_transaction.specs.declared.changing.Update.{Update}
 use Rattle.pool_transaction.specs.declared.changing.Update.TheVariants.{Set, Later, Root, Free}

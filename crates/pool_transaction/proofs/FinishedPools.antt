@@ -9,8 +9,8 @@ use Rattle.pm_model.specs.Moments.{State}
 use Rattle.pud_defs.specs.declared.layout.TheConstants.{DAEMON_LOG}
 use Rattle.pud_defs.specs.declared.records.Puddle.{Puddle}
 use Rattle.pud_defs.specs.declared.records.Slot.{Slot}
-use Rattle.pud_defs.specs.Geometry.{steps_of}
-use Rattle.pud_defs.specs.Puddles.{moved_to}
+use Rattle.pud_defs.specs.Formats.Geometry.{steps_of}
+use Rattle.pud_defs.specs.RegistryTables.Puddles.{moved_to}
 use Rattle.graph_laws.proofs.Rewritten.{slice_get-set_there, slice_get-set_other}
 use Rattle.puddle_header.specs.Places.{IsSlotOf}
 use Rattle.batch.specs.Batches.{HasIdleGate}

@@ -6,9 +6,9 @@ use Rattle.std.proofs.lemmas.Option.{none-some, slice_get-map, slice_get-get_or,
 use Rattle.pud_defs.specs.declared.objects.FieldValue.{FieldValue}
 use Rattle.pud_defs.specs.declared.objects.FieldValue.TheVariants.{Num, Ref}
 use Rattle.pud_defs.specs.declared.records.Puddle.{Puddle}
-use Rattle.pud_defs.specs.Exported.{address_in}
-use Rattle.pud_defs.specs.Geometry.{ordinal_of, slot_of}
-use Rattle.pud_defs.specs.Image.{Image}
+use Rattle.pud_defs.specs.PoolGraphs.Exported.{address_in}
+use Rattle.pud_defs.specs.Formats.Geometry.{ordinal_of, slot_of}
+use Rattle.pud_defs.specs.Formats.Image.{Image}
 use Rattle.graph_read.proofs.Pointed.{no_puddle}
 use Rattle.lazy_rewrite.proofs.Spared.{HaveMoved, SparesObjects, place_in_pool-spared}
 use Rattle.hybrid_tx.specs.Objects.Stores.{address_at, word_for}

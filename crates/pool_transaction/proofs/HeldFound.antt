@@ -7,9 +7,9 @@ use Rattle.pm_model.specs.Words.{reads}
 use Rattle.pm_model.specs.Moments.{State}
 use Rattle.pud_defs.specs.declared.machine.Command.{Command}
 use Rattle.pud_defs.specs.declared.records.Puddle.{Puddle}
-use Rattle.pud_defs.specs.Puddles.{Member}
-use Rattle.pud_defs.specs.Step.{refusal_of, after, world_by}
-use Rattle.pud_defs.specs.World.{World}
+use Rattle.pud_defs.specs.RegistryTables.Puddles.{Member}
+use Rattle.pud_defs.specs.StateMachine.Step.{refusal_of, after, world_by}
+use Rattle.pud_defs.specs.StateMachine.World.{World}
 use Rattle.hybrid_tx.specs.PoolScopes.{ArePlacedPuddles}
 use Rattle.known_pool.specs.Known.{Known, IsKnown, by_puddles}
 use Rattle.ready_daemon.specs.PoolKnowledge.{puddles_known}

@@ -13,15 +13,15 @@ use Rattle.pud_defs.specs.declared.objects.FieldValue.{FieldValue}
 use Rattle.pud_defs.specs.declared.records.Puddle.{Puddle}
 use Rattle.pud_defs.specs.declared.records.Slot.{Slot}
 use Rattle.pud_defs.specs.declared.space.TheConstants.{LAST_FRONTIER}
-use Rattle.pud_defs.specs.Geometry.{ordinal_of}
-use Rattle.pud_defs.specs.Image.{Image}
-use Rattle.pud_defs.specs.Puddles.{Member, member_moved, moved_to}
-use Rattle.pud_defs.specs.Stored.{stored_in, places_of}
-use Rattle.pud_defs.specs.Tables.{tables_of}
+use Rattle.pud_defs.specs.Formats.Geometry.{ordinal_of}
+use Rattle.pud_defs.specs.Formats.Image.{Image}
+use Rattle.pud_defs.specs.RegistryTables.Puddles.{Member, member_moved, moved_to}
+use Rattle.pud_defs.specs.PoolGraphs.Stored.{stored_in, places_of}
+use Rattle.pud_defs.specs.RegistryTables.Tables.{tables_of}
 use Rattle.pud_defs.specs.declared.machine.Command.{Command}
-use Rattle.pud_defs.specs.Step.{refusal_of, after, world_by}
-use Rattle.pud_defs.specs.World.{World, closed}
-use Rattle.pud_defs.proofs.Steps.{done_world}
+use Rattle.pud_defs.specs.StateMachine.Step.{refusal_of, after, world_by}
+use Rattle.pud_defs.specs.StateMachine.World.{World, closed}
+use Rattle.pud_defs.proofs.StateMachine.Steps.{done_world}
 use Rattle.graph_laws.specs.Slots.{AreAllLive, IsLowestFreeSlot}
 use Rattle.graph_read.specs.Reading.{place_in_pool}
 use Rattle.puddle_header.specs.Places.{place_of_slot, IsSlotOf}

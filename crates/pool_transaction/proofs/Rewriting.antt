@@ -14,14 +14,14 @@ use Rattle.pud_defs.specs.declared.layout.TheConstants.{DAEMON_LOG}
 use Rattle.pud_defs.specs.declared.records.Puddle.{Puddle}
 use Rattle.pud_defs.specs.declared.records.PoolRecord.{PoolRecord}
 use Rattle.pud_defs.specs.declared.records.TheConstants.{POOL_RECORDS}
-use Rattle.pud_defs.specs.Image.{Image}
-use Rattle.pud_defs.specs.Puddles.{Member}
-use Rattle.pud_defs.specs.SoundTables.{HasSoundTables}
-use Rattle.pud_defs.specs.Spaces.{owner_of}
-use Rattle.pud_defs.specs.Tables.{Tables, tables_of, puddles_in_turn}
-use Rattle.pud_defs.specs.Types.{types_of}
-use Rattle.pud_defs.specs.World.{World, closed}
-use Rattle.pud_defs.proofs.Replay.{outside_log}
+use Rattle.pud_defs.specs.Formats.Image.{Image}
+use Rattle.pud_defs.specs.RegistryTables.Puddles.{Member}
+use Rattle.pud_defs.specs.RegistryTables.SoundTables.{HasSoundTables}
+use Rattle.pud_defs.specs.RegistryTables.Spaces.{owner_of}
+use Rattle.pud_defs.specs.RegistryTables.Tables.{Tables, tables_of, puddles_in_turn}
+use Rattle.pud_defs.specs.RegistryTables.Types.{types_of}
+use Rattle.pud_defs.specs.StateMachine.World.{World, closed}
+use Rattle.pud_defs.proofs.Logging.Replay.{outside_log}
 use Rattle.graph_laws.specs.Steps.{with_steps}
 use Rattle.lazy_rewrite.specs.Batches.{AreNextSteps, CommitsSteps, RewritesOnce, RewritesInTurn, Rewrites}
 use Rattle.lazy_rewrite.proofs.Stepped.{member_of_pool}

@@ -7,21 +7,21 @@ use Rattle.pm_model.specs.Moments.{State}
 use Rattle.pm_model.proofs.Masks.{masked-elsewhere}
 use Rattle.pud_defs.specs.declared.layout.TheConstants.{DAEMON_LOG, LOG_WORDS, FRAME_WORDS}
 use Rattle.pud_defs.specs.declared.records.Puddle.{Puddle}
-use Rattle.pud_defs.specs.Geometry.{steps_of, is_legal_frontier}
-use Rattle.pud_defs.specs.Image.{Image}
-use Rattle.pud_defs.specs.Frames.{frame_at}
-use Rattle.pud_defs.specs.Stored.{stored_in}
-use Rattle.pud_defs.specs.Graph.{graph_of}
-use Rattle.pud_defs.specs.Layout.{tables_end}
-use Rattle.pud_defs.specs.Puddles.{Member, member_moved, moved_to, frontier_word}
-use Rattle.pud_defs.specs.Puts.{with_frontier_at}
-use Rattle.pud_defs.specs.SoundTables.{HasSoundTables}
-use Rattle.pud_defs.specs.Tables.{Tables, tables_of, member_of, members, puddles_in_turn}
-use Rattle.pud_defs.specs.Types.{types_of}
-use Rattle.pud_defs.specs.World.{World}
-use Rattle.pud_defs.proofs.FrontiersMoved.{sound_moved}
-use Rattle.pud_defs.proofs.PoolMembers.{IsMemberOf}
-use Rattle.pud_defs.proofs.TablesOf.{frames_of_tables}
+use Rattle.pud_defs.specs.Formats.Geometry.{steps_of, is_legal_frontier}
+use Rattle.pud_defs.specs.Formats.Image.{Image}
+use Rattle.pud_defs.specs.Formats.Frames.{frame_at}
+use Rattle.pud_defs.specs.PoolGraphs.Stored.{stored_in}
+use Rattle.pud_defs.specs.PoolGraphs.Graph.{graph_of}
+use Rattle.pud_defs.specs.Formats.Layout.{tables_end}
+use Rattle.pud_defs.specs.RegistryTables.Puddles.{Member, member_moved, moved_to, frontier_word}
+use Rattle.pud_defs.specs.RegistryTables.Puts.{with_frontier_at}
+use Rattle.pud_defs.specs.RegistryTables.SoundTables.{HasSoundTables}
+use Rattle.pud_defs.specs.RegistryTables.Tables.{Tables, tables_of, member_of, members, puddles_in_turn}
+use Rattle.pud_defs.specs.RegistryTables.Types.{types_of}
+use Rattle.pud_defs.specs.StateMachine.World.{World}
+use Rattle.pud_defs.proofs.RegistryTables.FrontiersMoved.{sound_moved}
+use Rattle.pud_defs.proofs.RegistryTables.PoolMembers.{IsMemberOf}
+use Rattle.pud_defs.proofs.RegistryTables.TablesOf.{frames_of_tables}
 use Rattle.graph_laws.specs.Steps.{with_steps}
 use Rattle.batch.specs.Batches.{ByBatch}
 use Rattle.batch.proofs.Tables.{reads_kept}

@@ -11,17 +11,17 @@ use Rattle.pm_model.proofs.Leaves.{Leaves-weaker}
 use Rattle.pud_defs.specs.declared.layout.TheConstants.{DAEMON_LOG, TYPE_TABLE}
 use Rattle.pud_defs.specs.declared.records.Puddle.{Puddle}
 use Rattle.pud_defs.specs.declared.space.TheConstants.{LAST_FRONTIER}
-use Rattle.pud_defs.specs.Image.{Image}
-use Rattle.pud_defs.specs.Layout.{tables_end}
-use Rattle.pud_defs.specs.Puddles.{Member, member_moved, frontier_word}
-use Rattle.pud_defs.specs.Puts.{with_frontier_at}
-use Rattle.pud_defs.specs.Replay.{overwritten, settled_by}
-use Rattle.pud_defs.specs.Tables.{Tables, tables_of, puddles_in_turn}
-use Rattle.pud_defs.specs.World.{World}
-use Rattle.pud_defs.proofs.FrontiersMoved.{tables_of-moved}
-use Rattle.pud_defs.proofs.PoolMembers.{IsMemberOf}
-use Rattle.pud_defs.proofs.Replay.{overwritten-there, overwritten-stays}
-use Rattle.pud_defs.proofs.TablesOf.{tables_of-same, frames_of_tables}
+use Rattle.pud_defs.specs.Formats.Image.{Image}
+use Rattle.pud_defs.specs.Formats.Layout.{tables_end}
+use Rattle.pud_defs.specs.RegistryTables.Puddles.{Member, member_moved, frontier_word}
+use Rattle.pud_defs.specs.RegistryTables.Puts.{with_frontier_at}
+use Rattle.pud_defs.specs.Logging.Replay.{overwritten, settled_by}
+use Rattle.pud_defs.specs.RegistryTables.Tables.{Tables, tables_of, puddles_in_turn}
+use Rattle.pud_defs.specs.StateMachine.World.{World}
+use Rattle.pud_defs.proofs.RegistryTables.FrontiersMoved.{tables_of-moved}
+use Rattle.pud_defs.proofs.RegistryTables.PoolMembers.{IsMemberOf}
+use Rattle.pud_defs.proofs.Logging.Replay.{overwritten-there, overwritten-stays}
+use Rattle.pud_defs.proofs.RegistryTables.TablesOf.{tables_of-same, frames_of_tables}
 use Rattle.batch.specs.Batches.{batch_write, IsBatched}
 use Rattle.lazy_rewrite.specs.Batches.{AreNextSteps, CommitsSteps}
 use Rattle.lazy_rewrite.proofs.Kept.{settled_single}

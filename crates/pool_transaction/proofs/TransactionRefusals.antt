@@ -13,15 +13,15 @@ use Rattle.pud_defs.specs.declared.machine.Command.TheVariants.{Commit, Abort, N
 use Rattle.pud_defs.specs.declared.machine.Command.TheVariants as commands
 use Rattle.pud_defs.specs.declared.machine.Refusal.{Refusal}
 use Rattle.pud_defs.specs.declared.machine.Refusal.TheVariants as refusals
-use Rattle.pud_defs.specs.Types.{map_of}
-use Rattle.pud_defs.specs.Spaces.{Owner}
-use Rattle.pud_defs.specs.Graph.{Graph, Object, object_in}
-use Rattle.pud_defs.specs.DeferredValues.{DeferredValue, deferred_set_names}
-use Rattle.pud_defs.specs.Tables.{Pool}
-use Rattle.pud_defs.specs.PoolChanges.{pool_named, lacks_frames}
-use Rattle.pud_defs.specs.World.{Transaction, World, open_on}
-use Rattle.pud_defs.specs.Transactions.{is_own, is_others, units_of, deferred_of}
-use Rattle.pud_defs.specs.Step.{graph_in, graph_seen, object_of, field_of, is_dangling, differ_in_kind, is_referenced_in, grows, lacks_room, cause_holds, refusal_of}
+use Rattle.pud_defs.specs.RegistryTables.Types.{map_of}
+use Rattle.pud_defs.specs.RegistryTables.Spaces.{Owner}
+use Rattle.pud_defs.specs.PoolGraphs.Graph.{Graph, Object, object_in}
+use Rattle.pud_defs.specs.PoolGraphs.DeferredValues.{DeferredValue, deferred_set_names}
+use Rattle.pud_defs.specs.RegistryTables.Tables.{Pool}
+use Rattle.pud_defs.specs.StateMachine.PoolChanges.{pool_named, lacks_frames}
+use Rattle.pud_defs.specs.StateMachine.World.{Transaction, World, open_on}
+use Rattle.pud_defs.specs.StateMachine.Transactions.{is_own, is_others, units_of, deferred_of}
+use Rattle.pud_defs.specs.StateMachine.Step.{graph_in, graph_seen, object_of, field_of, is_dangling, differ_in_kind, is_referenced_in, grows, lacks_room, cause_holds, refusal_of}
 use Rattle.pool_transaction.specs.declared.changing.Update.{Update}
 use Rattle.pool_transaction.specs.declared.changing.Update.TheVariants as changes
 use Rattle.pool_transaction.specs.Changing.{command_of_update}

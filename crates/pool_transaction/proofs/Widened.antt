@@ -13,20 +13,20 @@ use Rattle.pm_model.proofs.Changes.{Changes-still}
 use Rattle.pm_model.proofs.Masks.{masked-elsewhere}
 use Rattle.pud_defs.specs.declared.layout.TheConstants.{FRAME_WORDS}
 use Rattle.pud_defs.specs.declared.records.Puddle.{Puddle}
-use Rattle.pud_defs.specs.Image.{Image}
-use Rattle.pud_defs.specs.Frames.{frame_at, IsFreshFrame}
-use Rattle.pud_defs.specs.Graph.{graph_of}
-use Rattle.pud_defs.specs.Layout.{frames_at, device_words}
-use Rattle.pud_defs.specs.PoolChanges.{pool_named}
-use Rattle.pud_defs.specs.Replay.{is_in_log}
-use Rattle.pud_defs.specs.Settled.{ALL_LOGS, log_number_at}
-use Rattle.pud_defs.specs.Spaces.{Owner, owner_of}
-use Rattle.pud_defs.specs.SoundTables.{HasSoundTables}
-use Rattle.pud_defs.specs.Step.{graph_in}
-use Rattle.pud_defs.specs.Tables.{tables_of, puddles_in_turn}
-use Rattle.pud_defs.specs.World.{Transaction, StoredWorld, World}
-use Rattle.pud_defs.proofs.Replay.{outside_log}
-use Rattle.pud_defs.proofs.TablesOf.{frames_of_tables}
+use Rattle.pud_defs.specs.Formats.Image.{Image}
+use Rattle.pud_defs.specs.Formats.Frames.{frame_at, IsFreshFrame}
+use Rattle.pud_defs.specs.PoolGraphs.Graph.{graph_of}
+use Rattle.pud_defs.specs.Formats.Layout.{frames_at, device_words}
+use Rattle.pud_defs.specs.StateMachine.PoolChanges.{pool_named}
+use Rattle.pud_defs.specs.Logging.Replay.{is_in_log}
+use Rattle.pud_defs.specs.Logging.Settled.{ALL_LOGS, log_number_at}
+use Rattle.pud_defs.specs.RegistryTables.Spaces.{Owner, owner_of}
+use Rattle.pud_defs.specs.RegistryTables.SoundTables.{HasSoundTables}
+use Rattle.pud_defs.specs.StateMachine.Step.{graph_in}
+use Rattle.pud_defs.specs.RegistryTables.Tables.{tables_of, puddles_in_turn}
+use Rattle.pud_defs.specs.StateMachine.World.{Transaction, StoredWorld, World}
+use Rattle.pud_defs.proofs.Logging.Replay.{outside_log}
+use Rattle.pud_defs.proofs.RegistryTables.TablesOf.{frames_of_tables}
 use Rattle.batch.specs.Worlds.{IsQuiescent}
 use Rattle.graph_laws.proofs.Grown.{slice_get-front, slice_get-push}
 use Rattle.word_transaction.specs.Scope.{IsScope}
@@ -46,7 +46,7 @@ use Rattle.nesting.specs.declared.Session.{Session}
 use Rattle.pool_transaction.specs.Changing.{StaysOpen}
 use Rattle.hybrid_tx.proofs.FinishedPuddles.{finished_placed, mine_of_finished, finished_last, none_of_finished}
 use Rattle.pm_model.proofs.Words.{HasOnly-newest}
-use Rattle.pud_defs.specs.Geometry.{steps_of}
+use Rattle.pud_defs.specs.Formats.Geometry.{steps_of}
 use Rattle.ready_daemon.specs.Memory.{ActiveTransaction, active_under}
 use Rattle.pool_transaction.proofs.OwnMore.{OpensAnew, begun, own_begun, other_begun, FinishesMore, mine_later, wider_ground, comes_open}
 use Rattle.pool_transaction.proofs.ActiveAnew.{opens_anew, then_one, other_is, are_anew, records_opened, masks_anew, wide as words_anew, settled_anew, rest_anew, logs_anew}

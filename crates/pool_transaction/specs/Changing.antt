@@ -11,15 +11,15 @@ use Rattle.pud_defs.specs.declared.objects.FieldValue.{FieldValue}
 use Rattle.pud_defs.specs.declared.objects.FieldValue.TheVariants.{Ref}
 use Rattle.pud_defs.specs.declared.records.Puddle.{Puddle}
 use Rattle.pud_defs.specs.declared.records.Slot.{Slot}
-use Rattle.pud_defs.specs.GraphChanges.{with_field, with_root, without_object, with_new}
-use Rattle.pud_defs.specs.Image.{Image}
-use Rattle.pud_defs.specs.DeferredValues.{deferred_set_names}
-use Rattle.pud_defs.specs.PoolChanges.{pool_named, with_grown_pool}
-use Rattle.pud_defs.specs.Step.{graph_seen, next_in, object_made}
-use Rattle.pud_defs.specs.Tables.{tables_of}
-use Rattle.pud_defs.specs.Transactions.{with_changed, charged, deferring}
-use Rattle.pud_defs.specs.Types.{map_of}
-use Rattle.pud_defs.specs.World.{Transaction, World, open_on}
+use Rattle.pud_defs.specs.PoolGraphs.GraphChanges.{with_field, with_root, without_object, with_new}
+use Rattle.pud_defs.specs.Formats.Image.{Image}
+use Rattle.pud_defs.specs.PoolGraphs.DeferredValues.{deferred_set_names}
+use Rattle.pud_defs.specs.StateMachine.PoolChanges.{pool_named, with_grown_pool}
+use Rattle.pud_defs.specs.StateMachine.Step.{graph_seen, next_in, object_made}
+use Rattle.pud_defs.specs.RegistryTables.Tables.{tables_of}
+use Rattle.pud_defs.specs.StateMachine.Transactions.{with_changed, charged, deferring}
+use Rattle.pud_defs.specs.RegistryTables.Types.{map_of}
+use Rattle.pud_defs.specs.StateMachine.World.{Transaction, World, open_on}
 use Rattle.registry.specs.declared.adding.NewPuddle.{NewPuddle}
 use Rattle.registry.specs.Growth.{grow_refusal, IsGrowthFor}
 use Rattle.puddle_header.specs.Places.{place_of_slot, IsSlotOf}

@@ -7,12 +7,12 @@ use Rattle.pm_model.specs.Moments.{State}
 use Rattle.pud_defs.specs.declared.machine.Refusal.{Refusal}
 use Rattle.pud_defs.specs.declared.records.Puddle.{Puddle}
 use Rattle.pud_defs.specs.declared.space.TheConstants.{LAST_FRONTIER}
-use Rattle.pud_defs.specs.Geometry.{ordinal_of}
-use Rattle.pud_defs.specs.Image.{Image}
-use Rattle.pud_defs.specs.Puddles.{Member, member_moved}
-use Rattle.pud_defs.specs.Stored.{stored_in, places_of, IsLivePlace}
-use Rattle.pud_defs.specs.Tables.{tables_of}
-use Rattle.pud_defs.specs.World.{World}
+use Rattle.pud_defs.specs.Formats.Geometry.{ordinal_of}
+use Rattle.pud_defs.specs.Formats.Image.{Image}
+use Rattle.pud_defs.specs.RegistryTables.Puddles.{Member, member_moved}
+use Rattle.pud_defs.specs.PoolGraphs.Stored.{stored_in, places_of, IsLivePlace}
+use Rattle.pud_defs.specs.RegistryTables.Tables.{tables_of}
+use Rattle.pud_defs.specs.StateMachine.World.{World}
 use Rattle.graph_laws.specs.Slots.{AreAllLive, IsLowestFreeSlot}
 use Rattle.graph_read.specs.Reading.{place_in_pool}
 use Rattle.pool_transaction.specs.declared.changing.Change.{Change}

@@ -1,7 +1,7 @@
 -- When a transaction may begin on a pool, and what is in memory once it has begun, and once it has ended.
 use Rattle.std.specs.Prelude.{◌≡◌, ℕ, ◌<◌, List, length, set, Some, None}
 use Rattle.pud_defs.specs.declared.records.Puddle.{Puddle}
-use Rattle.pud_defs.specs.Image.{Image}
+use Rattle.pud_defs.specs.Formats.Image.{Image}
 use Rattle.log_space.specs.FreeLogs.{first_closed}
 use Rattle.nesting.specs.Sessions.{session_in, entered}
 use Rattle.ready_daemon.specs.Beginning.{MayBegin}

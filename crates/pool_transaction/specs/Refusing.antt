@@ -4,7 +4,7 @@ use Rattle.pud_defs.specs.declared.layout.TheConstants.{LOG_ENTRY_WORDS, SET_UNI
 use Rattle.pud_defs.specs.declared.objects.FieldValue.{FieldValue}
 use Rattle.pud_defs.specs.declared.machine.Refusal.{Refusal}
 use Rattle.pud_defs.specs.declared.machine.Refusal.TheVariants as refusals
-use Rattle.pud_defs.specs.Step.{differ_in_kind}
+use Rattle.pud_defs.specs.StateMachine.Step.{differ_in_kind}
 use Rattle.graph_read.specs.declared.fields.FieldRead.{FieldRead}
 use Rattle.graph_read.specs.declared.fields.FieldRead.TheVariants.{NoObject, NoField, Value}
 

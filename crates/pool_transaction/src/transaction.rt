@@ -1,7 +1,7 @@
 //! Transactions that are open, as the daemon holds them.
 
 ghost use Rattle.std.specs.Prelude.{◌≡◌, Option, replicate};
-ghost use Rattle.pud_defs.specs.Settled.{ALL_LOGS};
+ghost use Rattle.pud_defs.specs.Logging.Settled.{ALL_LOGS};
 
 use hybrid_tx::Tx;
 use pud_defs::layout::LOGS;

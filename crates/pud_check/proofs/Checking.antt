@@ -8,24 +8,24 @@ use Rattle.pm_model.specs.Calls.{Says}
 use Rattle.pm_model.proofs.Saying.{Says-then, Says-front}
 use Rattle.pud_defs.specs.declared.records.PoolRecord.{PoolRecord}
 use Rattle.pud_defs.specs.declared.records.Puddle.{Puddle}
-use Rattle.pud_defs.specs.Image.{Image}
-use Rattle.pud_defs.specs.Names.{name_cmp}
-use Rattle.pud_defs.specs.Pools.{pool_read}
-use Rattle.pud_defs.specs.Registry.{frames_of}
-use Rattle.pud_defs.specs.Types.{types_of}
-use Rattle.pud_defs.specs.Stored.{Stored, stored_in}
-use Rattle.pud_defs.specs.Graph.{Graph, graph_of}
-use Rattle.pud_defs.specs.Holdings.{held_as, holding_in}
-use Rattle.pud_defs.specs.SoundTables.{HasSoundTables}
-use Rattle.pud_defs.specs.Tables.{Tables, Reader, tables_of, puddles_of, listed, records_of, pool_of, pools_of}
-use Rattle.pud_defs.specs.World.{pools_in, stored_by}
-use Rattle.pud_defs.specs.Texts.{line_of}
-use Rattle.pud_defs.specs.Listing.{name_text}
-use Rattle.pud_defs.specs.CheckText.{holding_text, checked_line, count_line, check_text}
-use Rattle.pud_defs.proofs.KeyedMaps.{of_entry}
-use Rattle.pud_defs.proofs.PoolRefusals.{pool_by_record, pools_by_records}
-use Rattle.pud_defs.proofs.PuddlesListed.{puddles_in_turn-listed}
-use Rattle.pud_defs.proofs.RecordsPlaced.{IsPlaced}
+use Rattle.pud_defs.specs.Formats.Image.{Image}
+use Rattle.pud_defs.specs.Formats.Names.{name_cmp}
+use Rattle.pud_defs.specs.RegistryTables.Pools.{pool_read}
+use Rattle.pud_defs.specs.RegistryTables.Registry.{frames_of}
+use Rattle.pud_defs.specs.RegistryTables.Types.{types_of}
+use Rattle.pud_defs.specs.PoolGraphs.Stored.{Stored, stored_in}
+use Rattle.pud_defs.specs.PoolGraphs.Graph.{Graph, graph_of}
+use Rattle.pud_defs.specs.PoolGraphs.Holdings.{held_as, holding_in}
+use Rattle.pud_defs.specs.RegistryTables.SoundTables.{HasSoundTables}
+use Rattle.pud_defs.specs.RegistryTables.Tables.{Tables, Reader, tables_of, puddles_of, listed, records_of, pool_of, pools_of}
+use Rattle.pud_defs.specs.StateMachine.World.{pools_in, stored_by}
+use Rattle.pud_defs.specs.Output.Texts.{line_of}
+use Rattle.pud_defs.specs.Output.Listing.{name_text}
+use Rattle.pud_defs.specs.Output.CheckText.{holding_text, checked_line, count_line, check_text}
+use Rattle.pud_defs.proofs.KeyedTables.KeyedMaps.{of_entry}
+use Rattle.pud_defs.proofs.StateMachine.PoolRefusals.{pool_by_record, pools_by_records}
+use Rattle.pud_defs.proofs.RegistryTables.PuddlesListed.{puddles_in_turn-listed}
+use Rattle.pud_defs.proofs.RegistryTables.RecordsPlaced.{IsPlaced}
 use Rattle.pool_table.specs.InOrder.{in_order}
 use Rattle.pool_list.proofs.ListedPools.{each_listed}
 use Rattle.pud_check.specs.Checked.{objects_text, objects_line, objects_in, puddles_checked, pool_checked, records_checked, listed_check}

@@ -1,12 +1,12 @@
 -- What is said of small pools by their sums, and whole summaries.
 use Rattle.std.proofs.Common.{◌≡◌, [], ◌∷◌, ◌++◌, replicate, codes, refl}
-use Rattle.pud_defs.specs.Graph.{empty_graph}
-use Rattle.pud_defs.specs.Holdings.{Holding}
-use Rattle.pud_defs.specs.Holdings.Holding.{Sound, Wild}
-use Rattle.pud_defs.specs.World.{StoredWorld, blank_world}
-use Rattle.pud_defs.proofs.Opened.{opened}
-use Rattle.pud_defs.proofs.ExamplesPools.{blank_of, behind, lines_said}
-use Rattle.pud_defs.proofs.ExamplesChecks.{one_object, pool_holding}
+use Rattle.pud_defs.specs.PoolGraphs.Graph.{empty_graph}
+use Rattle.pud_defs.specs.PoolGraphs.Holdings.{Holding}
+use Rattle.pud_defs.specs.PoolGraphs.Holdings.Holding.{Sound, Wild}
+use Rattle.pud_defs.specs.StateMachine.World.{StoredWorld, blank_world}
+use Rattle.pud_defs.proofs.Examples.Opened.{opened}
+use Rattle.pud_defs.proofs.Examples.Pools.{blank_of, behind, lines_said}
+use Rattle.pud_defs.proofs.Examples.Checks.{one_object, pool_holding}
 use Rattle.graph_read.proofs.ExamplesNumbers.{ring}
 use Rattle.pud_check.specs.Summary.{sum_line, gen_pool, copy_pool, summary_text}
 

@@ -8,21 +8,21 @@ use Rattle.std.proofs.lemmas.Option.{none-some}
 use Rattle.pud_defs.specs.declared.records.TheConstants.{POOL_RECORDS, MAX_PUDDLES}
 use Rattle.pud_defs.specs.declared.records.PoolRecord.{PoolRecord}
 use Rattle.pud_defs.specs.declared.records.Puddle.{Puddle}
-use Rattle.pud_defs.specs.Bases.{is_legal_base}
-use Rattle.pud_defs.specs.Geometry.{steps_of, is_legal_frontier}
-use Rattle.pud_defs.specs.Keyed.{count_used}
-use Rattle.pud_defs.specs.LayoutText.{frames_line, pool_line, puddle_line, pool_lines, tables_text}
-use Rattle.pud_defs.specs.Pools.{is_given, pool_read}
-use Rattle.pud_defs.specs.Puddles.{Member, is_legal_puddle, puddle_read}
-use Rattle.pud_defs.specs.SoundTables.{is_pool, is_sound_pool, is_sound_puddle, count_up, HasSoundTables}
-use Rattle.pud_defs.specs.Tables.{Tables, member_of, members, puddles_of, records_of}
-use Rattle.pud_defs.proofs.Keyed.{chosen_some}
-use Rattle.pud_defs.proofs.KeyedEach.{each-keyed, flat_map-each, each-weaker}
-use Rattle.pud_defs.proofs.PoolsCounted.{few_members}
-use Rattle.pud_defs.proofs.PuddlesListed.{passed_by, found_in_front}
-use Rattle.pud_defs.proofs.RecordsPlaced.{IsPlaced, each_placed, legal_mode, mode_read}
-use Rattle.pud_defs.proofs.SoundChanged.{legal_pool, legal_puddle}
-use Rattle.pud_defs.proofs.TypeLists.{same_number}
+use Rattle.pud_defs.specs.Formats.Bases.{is_legal_base}
+use Rattle.pud_defs.specs.Formats.Geometry.{steps_of, is_legal_frontier}
+use Rattle.pud_defs.specs.RegistryTables.Keyed.{count_used}
+use Rattle.pud_defs.specs.Output.LayoutText.{frames_line, pool_line, puddle_line, pool_lines, tables_text}
+use Rattle.pud_defs.specs.RegistryTables.Pools.{is_given, pool_read}
+use Rattle.pud_defs.specs.RegistryTables.Puddles.{Member, is_legal_puddle, puddle_read}
+use Rattle.pud_defs.specs.RegistryTables.SoundTables.{is_pool, is_sound_pool, is_sound_puddle, count_up, HasSoundTables}
+use Rattle.pud_defs.specs.RegistryTables.Tables.{Tables, member_of, members, puddles_of, records_of}
+use Rattle.pud_defs.proofs.KeyedTables.Keyed.{chosen_some}
+use Rattle.pud_defs.proofs.KeyedTables.KeyedEach.{each-keyed, flat_map-each, each-weaker}
+use Rattle.pud_defs.proofs.RegistryTables.PoolsCounted.{few_members}
+use Rattle.pud_defs.proofs.RegistryTables.PuddlesListed.{passed_by, found_in_front}
+use Rattle.pud_defs.proofs.RegistryTables.RecordsPlaced.{IsPlaced, each_placed, legal_mode, mode_read}
+use Rattle.pud_defs.proofs.RegistryTables.SoundChanged.{legal_pool, legal_puddle}
+use Rattle.pud_defs.proofs.RegistryTables.TypeLists.{same_number}
 use Rattle.pud_check.specs.LayoutListed.{line_found, puddles_listed, pool_listed, listed_layout}
 
 -- ---- what is found at each of so many ordinals, one after the other

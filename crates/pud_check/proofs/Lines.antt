@@ -1,7 +1,7 @@
 -- The parts of lines: how long they are, where an address stands in an identifier, and texts that are added one by one.
 use Rattle.std.proofs.Common.{◌≡◌, ℕ, List, ◌++◌, length, take, drop, refl, ap, ◌∙◌, append_assoc}
-use Rattle.pud_defs.specs.Identifiers.{hex_digits, uuid_text}
-use Rattle.pud_defs.specs.LayoutText.{address_text}
+use Rattle.pud_defs.specs.Formats.Identifiers.{hex_digits, uuid_text}
+use Rattle.pud_defs.specs.Output.LayoutText.{address_text}
 
 pub length_uuid_text : (u : ℕ) → length (uuid_text u) ≡ 36
 unfolding uuid_text hex_digits

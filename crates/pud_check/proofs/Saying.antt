@@ -8,16 +8,16 @@ use Rattle.pm_model.specs.Moments.{State}
 use Rattle.pm_model.specs.Calls.{Says}
 use Rattle.pm_model.proofs.Said.{words-all_said}
 use Rattle.pm_model.proofs.Saying.{Says-then, Says-front}
-use Rattle.pud_defs.specs.Image.{Image}
+use Rattle.pud_defs.specs.Formats.Image.{Image}
 use Rattle.pud_defs.specs.declared.layout.TheConstants.{MACHINE_WORD, NEXT_NUMBER_WORD}
 use Rattle.pud_defs.specs.declared.records.TheConstants.{MAX_PUDDLES}
 use Rattle.pud_defs.specs.declared.records.PoolRecord.{PoolRecord}
-use Rattle.pud_defs.specs.Keyed.{count_used}
-use Rattle.pud_defs.specs.LayoutText.{frames_line, tables_text, layout_text}
-use Rattle.pud_defs.specs.Registry.{frames_of}
-use Rattle.pud_defs.specs.SoundTables.{HasSoundTables}
-use Rattle.pud_defs.specs.Tables.{Tables, tables_of}
-use Rattle.pud_defs.proofs.TablesOf.{frames_of_tables}
+use Rattle.pud_defs.specs.RegistryTables.Keyed.{count_used}
+use Rattle.pud_defs.specs.Output.LayoutText.{frames_line, tables_text, layout_text}
+use Rattle.pud_defs.specs.RegistryTables.Registry.{frames_of}
+use Rattle.pud_defs.specs.RegistryTables.SoundTables.{HasSoundTables}
+use Rattle.pud_defs.specs.RegistryTables.Tables.{Tables, tables_of}
+use Rattle.pud_defs.proofs.RegistryTables.TablesOf.{frames_of_tables}
 use Rattle.pool_table.specs.InOrder.{in_order}
 use Rattle.puddle_table.specs.Placed.{Placed, HoldsPlaces}
 use Rattle.pud_check.specs.LayoutListed.{puddle_listed, puddles_listed, pool_listed, listed_layout}

@@ -6,17 +6,17 @@ use Rattle.pm_model.specs.Moments.{State}
 use Rattle.pm_model.specs.Calls.{Says}
 use Rattle.pm_model.proofs.Saying.{Says-then, Says-front}
 use Rattle.pud_defs.specs.declared.records.PoolRecord.{PoolRecord}
-use Rattle.pud_defs.specs.Image.{Image}
-use Rattle.pud_defs.specs.Names.{name_cmp}
-use Rattle.pud_defs.specs.Pools.{pool_read}
-use Rattle.pud_defs.specs.Registry.{frames_of}
-use Rattle.pud_defs.specs.Types.{types_of}
-use Rattle.pud_defs.specs.Holdings.{Holding, holding_in}
-use Rattle.pud_defs.specs.SoundTables.{HasSoundTables}
-use Rattle.pud_defs.specs.Tables.{Tables, Pool, Reader, tables_of, records_of, pool_of, pool_in, pools_of}
-use Rattle.pud_defs.specs.World.{pools_in, stored_by}
-use Rattle.pud_defs.proofs.PoolRefusals.{pool_by_record, pool_by_name, found_record}
-use Rattle.pud_defs.proofs.PuddlesListed.{puddles_in_turn-listed}
+use Rattle.pud_defs.specs.Formats.Image.{Image}
+use Rattle.pud_defs.specs.Formats.Names.{name_cmp}
+use Rattle.pud_defs.specs.RegistryTables.Pools.{pool_read}
+use Rattle.pud_defs.specs.RegistryTables.Registry.{frames_of}
+use Rattle.pud_defs.specs.RegistryTables.Types.{types_of}
+use Rattle.pud_defs.specs.PoolGraphs.Holdings.{Holding, holding_in}
+use Rattle.pud_defs.specs.RegistryTables.SoundTables.{HasSoundTables}
+use Rattle.pud_defs.specs.RegistryTables.Tables.{Tables, Pool, Reader, tables_of, records_of, pool_of, pool_in, pools_of}
+use Rattle.pud_defs.specs.StateMachine.World.{pools_in, stored_by}
+use Rattle.pud_defs.proofs.StateMachine.PoolRefusals.{pool_by_record, pool_by_name, found_record}
+use Rattle.pud_defs.proofs.RegistryTables.PuddlesListed.{puddles_in_turn-listed}
 use Rattle.pud_check.specs.Summary.{summed, summed_line, sum_line, gen_pool, copy_pool, refusals_line, summary_text}
 use Rattle.pud_check.specs.SummaryListed.{holding_listed, listed_sum, listed_summary}
 

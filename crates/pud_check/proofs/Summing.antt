@@ -3,9 +3,9 @@ use Rattle.std.proofs.Common.{◌≡◌, Option, Some, None, length, option_map,
 use Rattle.std.proofs.lemmas.Option.{none-some, same_Some}
 use Rattle.graph_read.specs.declared.judge.Totals.{Totals}
 use Rattle.graph_read.specs.Numbers.{totals_of}
-use Rattle.pud_defs.specs.Graph.{Graph}
-use Rattle.pud_defs.specs.Holdings.{held_as}
-use Rattle.pud_defs.specs.Stored.{Stored}
+use Rattle.pud_defs.specs.PoolGraphs.Graph.{Graph}
+use Rattle.pud_defs.specs.PoolGraphs.Holdings.{held_as}
+use Rattle.pud_defs.specs.PoolGraphs.Stored.{Stored}
 use Rattle.pud_check.specs.declared.sums.Summed.TheVariants as sums
 use Rattle.pud_check.specs.Summary.{summed}
 

@@ -5,12 +5,12 @@ use Rattle.pud_defs.specs.declared.records.TheConstants.{MAX_PUDDLES}
 use Rattle.pud_defs.specs.declared.records.PoolRecord.{PoolRecord}
 use Rattle.pud_defs.specs.declared.records.Puddle.{Puddle}
 use Rattle.pud_defs.specs.declared.records.PuddleRecord.{PuddleRecord}
-use Rattle.pud_defs.specs.Identifiers.{puddle_uuid, uuid_text}
-use Rattle.pud_defs.specs.Keyed.{count_used}
-use Rattle.pud_defs.specs.Tables.{Tables, puddle_in}
-use Rattle.pud_defs.specs.Texts.{line_of}
-use Rattle.pud_defs.specs.Listing.{space}
-use Rattle.pud_defs.specs.LayoutText.{frames_line, pool_line, puddle_line}
+use Rattle.pud_defs.specs.Formats.Identifiers.{puddle_uuid, uuid_text}
+use Rattle.pud_defs.specs.RegistryTables.Keyed.{count_used}
+use Rattle.pud_defs.specs.RegistryTables.Tables.{Tables, puddle_in}
+use Rattle.pud_defs.specs.Output.Texts.{line_of}
+use Rattle.pud_defs.specs.Output.Listing.{space}
+use Rattle.pud_defs.specs.Output.LayoutText.{frames_line, pool_line, puddle_line}
 use Rattle.pool_table.specs.InOrder.{in_order}
 
 -- ---- the parts of a line

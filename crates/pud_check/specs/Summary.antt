@@ -1,12 +1,12 @@
 -- What is said when a generated run has ended: how many lines it had, and how many objects its two pools have, with the sum of the
 -- numbers that these hold.
 use Rattle.std.specs.Prelude.{ℕ, List, ◌++◌, length, replicate, codes, decimal, Option, Some, None, option_map}
-use Rattle.pud_defs.specs.Holdings.{Holding}
-use Rattle.pud_defs.specs.Holdings.Holding.{Sound, Wild}
-use Rattle.pud_defs.specs.World.{StoredWorld}
-use Rattle.pud_defs.specs.PoolChanges.{pool_named}
-use Rattle.pud_defs.specs.Texts.{line_of}
-use Rattle.pud_defs.specs.Listing.{name_text}
+use Rattle.pud_defs.specs.PoolGraphs.Holdings.{Holding}
+use Rattle.pud_defs.specs.PoolGraphs.Holdings.Holding.{Sound, Wild}
+use Rattle.pud_defs.specs.StateMachine.World.{StoredWorld}
+use Rattle.pud_defs.specs.StateMachine.PoolChanges.{pool_named}
+use Rattle.pud_defs.specs.Output.Texts.{line_of}
+use Rattle.pud_defs.specs.Output.Listing.{name_text}
 use Rattle.graph_read.specs.Numbers.{number_sum}
 use Rattle.pud_check.specs.declared.sums.Summed.{Summed}
 use Rattle.pud_check.specs.declared.sums.Summed.TheVariants as sums

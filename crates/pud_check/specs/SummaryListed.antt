@@ -1,10 +1,10 @@
 -- The summary of a generated run as the tables of a device have its pools, sound or not.
 use Rattle.std.specs.Prelude.{ℕ, List, ◌++◌, option_map}
 use Rattle.pud_defs.specs.declared.records.PoolRecord.{PoolRecord}
-use Rattle.pud_defs.specs.Image.{Image}
-use Rattle.pud_defs.specs.Types.{types_of}
-use Rattle.pud_defs.specs.Holdings.{Holding, holding_in}
-use Rattle.pud_defs.specs.Tables.{tables_of, puddles_in_turn, pool_in}
+use Rattle.pud_defs.specs.Formats.Image.{Image}
+use Rattle.pud_defs.specs.RegistryTables.Types.{types_of}
+use Rattle.pud_defs.specs.PoolGraphs.Holdings.{Holding, holding_in}
+use Rattle.pud_defs.specs.RegistryTables.Tables.{tables_of, puddles_in_turn, pool_in}
 use Rattle.pud_check.specs.declared.sums.Summed.{Summed}
 use Rattle.pud_check.specs.Summary.{summed, summed_line, gen_pool, copy_pool, refusals_line}
 

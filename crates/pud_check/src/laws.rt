@@ -1,13 +1,13 @@
 //! The laws of what is said. The functions here do nothing; their contracts are the laws.
 
 ghost use Rattle.std.specs.Prelude.{◌≡◌, ℕ, List};
-ghost use Rattle.pud_defs.specs.CheckText.{check_text};
-ghost use Rattle.pud_defs.specs.Image.{Image};
-ghost use Rattle.pud_defs.specs.LayoutText.{tables_text};
-ghost use Rattle.pud_defs.specs.Registry.{frames_of};
-ghost use Rattle.pud_defs.specs.SoundTables.{HasSoundTables};
-ghost use Rattle.pud_defs.specs.Tables.{Tables, tables_of};
-ghost use Rattle.pud_defs.specs.World.{stored_by};
+ghost use Rattle.pud_defs.specs.Output.CheckText.{check_text};
+ghost use Rattle.pud_defs.specs.Formats.Image.{Image};
+ghost use Rattle.pud_defs.specs.Output.LayoutText.{tables_text};
+ghost use Rattle.pud_defs.specs.RegistryTables.Registry.{frames_of};
+ghost use Rattle.pud_defs.specs.RegistryTables.SoundTables.{HasSoundTables};
+ghost use Rattle.pud_defs.specs.RegistryTables.Tables.{Tables, tables_of};
+ghost use Rattle.pud_defs.specs.StateMachine.World.{stored_by};
 ghost use Rattle.pud_check.specs.Checked.{listed_check};
 ghost use Rattle.pud_check.specs.LayoutListed.{listed_layout};
 ghost use Rattle.pud_check.specs.Summary.{sum_line, summary_text};

@@ -3,9 +3,9 @@
 ghost use Rattle.std.specs.Prelude.{◌≡◌, ◌+◌, ◌≤◌, ◌∷◌, ◌++◌};
 ghost use Rattle.arrayvec.specs.ArrayVec.{array_vec_len};
 ghost use Rattle.pool_list.specs.declared.text.TheConstants.{TEXT_LIMIT};
-ghost use Rattle.pud_defs.specs.CheckText.{count_line};
-ghost use Rattle.pud_defs.specs.LayoutText.{address_text, frames_line, pool_line};
-ghost use Rattle.pud_defs.specs.Listing.{space};
+ghost use Rattle.pud_defs.specs.Output.CheckText.{count_line};
+ghost use Rattle.pud_defs.specs.Output.LayoutText.{address_text, frames_line, pool_line};
+ghost use Rattle.pud_defs.specs.Output.Listing.{space};
 ghost use Rattle.pud_check.specs.Checked.{objects_text, objects_line};
 ghost use Rattle.pud_check.specs.LayoutListed.{field_text, line_end, record_line};
 ghost use Rattle.pud_check.specs.Summary.{summed_text, summed_line, refusals_line};

@@ -4,7 +4,7 @@
 //! its puddles by their ordinals, and their frames.
 
 ghost use Rattle.std.specs.Prelude.{◌≡◌, ◌≤◌};
-ghost use Rattle.pud_defs.specs.ExportFile.{file_type_at, file_bases_at, file_frames_at, file_frame_at, file_words};
+ghost use Rattle.pud_defs.specs.PoolGraphs.ExportFile.{file_type_at, file_bases_at, file_frames_at, file_frame_at, file_words};
 
 use crate::layout::{FRAME_WORDS, TYPE_RECORD_WORDS, TYPE_RECORDS};
 use crate::records::MAX_PUDDLES;

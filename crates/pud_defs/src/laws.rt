@@ -2,12 +2,12 @@
 //! is the law.
 
 ghost use Rattle.std.specs.Prelude.{◌≡◌, ◌⊎◌, ◌+◌, ◌≤◌, ℕ, List, ◌++◌, Option, option_map};
-ghost use Rattle.pud_defs.specs.Image.{Image};
-ghost use Rattle.pud_defs.specs.Entries.{Entry, Log, entries_in};
-ghost use Rattle.pud_defs.specs.Replay.{AddressMap, new_value, replayed};
-ghost use Rattle.pud_defs.specs.Graph.{Graph};
-ghost use Rattle.pud_defs.specs.Texts.{in_one_line};
-ghost use Rattle.pud_defs.specs.DumpText.{dump_text};
+ghost use Rattle.pud_defs.specs.Formats.Image.{Image};
+ghost use Rattle.pud_defs.specs.Logging.Entries.{Entry, Log, entries_in};
+ghost use Rattle.pud_defs.specs.Logging.Replay.{AddressMap, new_value, replayed};
+ghost use Rattle.pud_defs.specs.PoolGraphs.Graph.{Graph};
+ghost use Rattle.pud_defs.specs.Output.Texts.{in_one_line};
+ghost use Rattle.pud_defs.specs.Output.DumpText.{dump_text};
 
 /// A word that no entry in range names keeps its value.
 pub fn word_not_named_stays()

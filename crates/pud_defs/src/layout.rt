@@ -1,8 +1,8 @@
 //! Where things lie on a device: word numbers, sizes and limits.
 
 ghost use Rattle.std.specs.Prelude.{◌≡◌, ◌<◌, ◌≤◌};
-ghost use Rattle.pud_defs.specs.Layout.{tables_end, log_at, frames_at, device_words};
-ghost use Rattle.pud_defs.specs.Settled.{ALL_LOGS, log_number_at};
+ghost use Rattle.pud_defs.specs.Formats.Layout.{tables_end, log_at, frames_at, device_words};
+ghost use Rattle.pud_defs.specs.Logging.Settled.{ALL_LOGS, log_number_at};
 
 /// The number of a log among the 32 of a device, 0 to 31: log `k` of client `c` has the number `4 * c + k`.
 pub type LogNumber = u32;

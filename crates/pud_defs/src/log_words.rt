@@ -5,8 +5,8 @@
 //! sequence number, and in bits 32 to 63 the order. The readers answer for every word, legal or not.
 
 ghost use Rattle.std.specs.Prelude.{◌≡◌, ◌<◌, ◌^◌};
-ghost use Rattle.pud_defs.specs.Entries.{gate_lo, gate_hi, gate_used, gate_word, entry_n, entry_seq, entry_order, entry_word, is_legal_gate, is_legal_entry_word};
-ghost use Rattle.pud_defs.specs.Spaces.{is_closed_range};
+ghost use Rattle.pud_defs.specs.Logging.Entries.{gate_lo, gate_hi, gate_used, gate_word, entry_n, entry_seq, entry_order, entry_word, is_legal_gate, is_legal_entry_word};
+ghost use Rattle.pud_defs.specs.RegistryTables.Spaces.{is_closed_range};
 
 use crate::layout::{LOG_ENTRY_WORDS, MAX_ENTRY_VALUES};
 

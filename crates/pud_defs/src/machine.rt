@@ -1,8 +1,8 @@
 //! What a line asks for and what is answered.
 
 ghost use Rattle.std.specs.Prelude.{◌≡◌};
-ghost use Rattle.pud_defs.specs.Step.Answer.{of_reply};
-ghost use Rattle.pud_defs.specs.Texts.{begins_with_ok};
+ghost use Rattle.pud_defs.specs.StateMachine.Step.Answer.{of_reply};
+ghost use Rattle.pud_defs.specs.Output.Texts.{begins_with_ok};
 
 use crate::objects::FieldValue;
 use crate::records::Name;
@@ -160,7 +160,7 @@ pub enum Reply {
 
 impl Reply {
     /// Whether the line was carried out: the text of the reply begins with `ok`.
-    #[tactic(auto, unfolding(crate::specs::Texts::reply_text))]
+    #[tactic(auto, unfolding(crate::specs::Output::Texts::reply_text))]
     pub fn is_ok(self) -> bool
         ensures { result ≡ begins_with_ok (of_reply self) }
     {

@@ -1,7 +1,7 @@
 //! The objects of a pool: what a field holds, where a stored pointer leads, and whether a slot is free.
 
 ghost use Rattle.std.specs.Prelude.{◌≡◌};
-ghost use Rattle.pud_defs.specs.Stored.{slot_state};
+ghost use Rattle.pud_defs.specs.PoolGraphs.Stored.{slot_state};
 
 /// The value of a field, as lines name it.
 #[derive(Clone, Copy, Debug, PartialEq, Eq)]

@@ -4,10 +4,10 @@
 //! bits 0 to 31, 0 in a free record, and the ordinal in bits 32 to 63. The readers answer for every word, legal or not.
 
 ghost use Rattle.std.specs.Prelude.{◌≡◌, ◌<◌};
-ghost use Rattle.pud_defs.specs.Modes.{is_legal_mode};
-ghost use Rattle.pud_defs.specs.Names.{name_by, is_name_byte};
-ghost use Rattle.pud_defs.specs.Pools.{owner_uid, owner_gid, owner_word};
-ghost use Rattle.pud_defs.specs.Puddles.{member_pool, member_ordinal, member_word};
+ghost use Rattle.pud_defs.specs.Formats.Modes.{is_legal_mode};
+ghost use Rattle.pud_defs.specs.Formats.Names.{name_by, is_name_byte};
+ghost use Rattle.pud_defs.specs.RegistryTables.Pools.{owner_uid, owner_gid, owner_word};
+ghost use Rattle.pud_defs.specs.RegistryTables.Puddles.{member_pool, member_ordinal, member_word};
 
 /// How many records the pool table has.
 pub const POOL_RECORDS: u32 = 32;

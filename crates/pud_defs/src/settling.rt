@@ -3,15 +3,15 @@
 
 ghost use Rattle.std.specs.Prelude.{◌≡◌, ◌↔◌, ◌+◌, ◌<◌, ◌≤◌, ℕ, false, Option};
 ghost use Rattle.pud_defs.specs.declared.layout.TheConstants.{DAEMON_LOG, CLIENTS};
-ghost use Rattle.pud_defs.specs.Image.{Image};
-ghost use Rattle.pud_defs.specs.Entries.{Log};
-ghost use Rattle.pud_defs.specs.Replay.{overwritten, settled_by};
-ghost use Rattle.pud_defs.specs.Spaces.{Owner, owner_of};
-ghost use Rattle.pud_defs.specs.Tables.{Tables};
-ghost use Rattle.pud_defs.specs.Allowed.{is_allowed_log};
-ghost use Rattle.pud_defs.specs.Settled.{gives_to, ALL_LOGS, given_by_log, given_by_others, log_alone, is_in_logs, beside_logs, settled_over, is_refused_log, AreDisjoint, IsApart, IsBeside};
-ghost use Rattle.pud_defs.specs.Registry.{frames_of, is_sound};
-ghost use Rattle.pud_defs.specs.World.{StoredWorld, world_of, idle_world_of};
+ghost use Rattle.pud_defs.specs.Formats.Image.{Image};
+ghost use Rattle.pud_defs.specs.Logging.Entries.{Log};
+ghost use Rattle.pud_defs.specs.Logging.Replay.{overwritten, settled_by};
+ghost use Rattle.pud_defs.specs.RegistryTables.Spaces.{Owner, owner_of};
+ghost use Rattle.pud_defs.specs.RegistryTables.Tables.{Tables};
+ghost use Rattle.pud_defs.specs.Logging.Allowed.{is_allowed_log};
+ghost use Rattle.pud_defs.specs.Logging.Settled.{gives_to, ALL_LOGS, given_by_log, given_by_others, log_alone, is_in_logs, beside_logs, settled_over, is_refused_log, AreDisjoint, IsApart, IsBeside};
+ghost use Rattle.pud_defs.specs.RegistryTables.Registry.{frames_of, is_sound};
+ghost use Rattle.pud_defs.specs.StateMachine.World.{StoredWorld, world_of, idle_world_of};
 
 /// A closed log settles nothing: where no entry can be in its range it gives no word a value.
 pub fn closed_log_gives_nothing()

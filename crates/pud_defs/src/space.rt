@@ -8,9 +8,9 @@
 //! says the ordinal and the slot, whichever puddles the pool has.
 
 ghost use Rattle.std.specs.Prelude.{◌≡◌, ◌+◌, ◌*◌, ◌%◌, ◌^◌, ◌<◌, ◌≤◌};
-ghost use Rattle.pud_defs.specs.Bases.{is_legal_base, base_at};
-ghost use Rattle.pud_defs.specs.Geometry.{puddle_slots, slots_of, slot_words_of, steps_of, is_legal_frontier, puddle_slot_at, slot_at, slot_begins, ordinal_of, slot_of, place_at, places_among, slots_among};
-ghost use Rattle.pud_defs.specs.Frames.{frame_at};
+ghost use Rattle.pud_defs.specs.Formats.Bases.{is_legal_base, base_at};
+ghost use Rattle.pud_defs.specs.Formats.Geometry.{puddle_slots, slots_of, slot_words_of, steps_of, is_legal_frontier, puddle_slot_at, slot_at, slot_begins, ordinal_of, slot_of, place_at, places_among, slots_among};
+ghost use Rattle.pud_defs.specs.Formats.Frames.{frame_at};
 
 use crate::layout::{FRAME_WORDS, MAX_FRAMES, frames_at};
 use crate::records::{MAX_PUDDLES, Puddle, Slot};

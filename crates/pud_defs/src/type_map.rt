@@ -4,7 +4,7 @@
 //! all other bits are 0. Each function here answers for every word, legal or not.
 
 ghost use Rattle.std.specs.Prelude.{◌≡◌};
-ghost use Rattle.pud_defs.specs.TypeMap.{map_fields, is_pointer, is_legal_map, is_legal_type_id};
+ghost use Rattle.pud_defs.specs.Formats.TypeMap.{map_fields, is_pointer, is_legal_map, is_legal_type_id};
 
 use crate::layout::{MAX_FIELDS, MAX_TYPE_ID};
 
@@ -16,7 +16,7 @@ pub fn map_fields(v: u64) -> u32
 }
 
 /// Whether bit `f` of the word is set, whatever its other bits are. False where `f` is beyond 63.
-#[tactic(auto, using(crate::proofs::Words::no_bit_beyond))]
+#[tactic(auto, using(crate::proofs::Formats::Words::no_bit_beyond))]
 pub fn map_is_pointer(v: u64, f: u32) -> bool
     ensures { result ≡ is_pointer v f }
 {
@@ -25,7 +25,7 @@ pub fn map_is_pointer(v: u64, f: u32) -> bool
 
 /// Whether the word is the map of a type: 1 to 30 fields, no pointer bit at or above the number of fields, and all
 /// other bits 0.
-#[tactic(auto, using(crate::proofs::Words::no_bit_from))]
+#[tactic(auto, using(crate::proofs::Formats::Words::no_bit_from))]
 pub fn is_legal_map(v: u64) -> bool
     ensures { result ≡ is_legal_map v }
 {

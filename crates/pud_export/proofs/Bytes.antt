@@ -2,7 +2,7 @@
 use Rattle.std.proofs.Common.{◌≡◌, ℕ, ◌+◌, ◌*◌, ◌^◌, ◌<◌, List, [], ◌∷◌, ◌++◌, length, refl, ap, arith, length-append}
 use Rattle.std.specs.Int.{from_le_bytes, to_le_bytes, w64}
 use Rattle.std.proofs.lemmas.Nat.{from_le_bytes-to_le_bytes_8}
-use Rattle.pud_defs.specs.ExportFile.{words_in}
+use Rattle.pud_defs.specs.PoolGraphs.ExportFile.{words_in}
 
 -- one word more
 pub words_in-more : (xs : List ℕ) (v : ℕ) → length xs ≡ 8 * length (words_in xs) → v < 2 ^ 64 → words_in (xs ++ to_le_bytes w64 v) ≡ words_in xs ++ v ∷ []

@@ -8,12 +8,12 @@ use Rattle.pud_defs.specs.declared.layout.TheConstants.{FRAME_WORDS}
 use Rattle.pud_defs.specs.declared.objects.Pointee.{Pointee}
 use Rattle.pud_defs.specs.declared.records.Puddle.{Puddle}
 use Rattle.pud_defs.specs.declared.space.TheConstants.{FRAME_MAGIC, FRAME_HEADER_WORDS, ROOT_WORD}
-use Rattle.pud_defs.specs.Geometry.{puddle_slots, place_at}
-use Rattle.pud_defs.specs.Frames.{frame_word}
-use Rattle.pud_defs.specs.Graph.{pointee_at, next_serial_of, root_of}
-use Rattle.pud_defs.specs.Image.{Image}
-use Rattle.pud_defs.specs.Stored.{Stored, stored_in}
-use Rattle.pud_defs.specs.Exported.{address_of, uuid_number_of, exported_slot, exported_header, exported_frame}
+use Rattle.pud_defs.specs.Formats.Geometry.{puddle_slots, place_at}
+use Rattle.pud_defs.specs.Formats.Frames.{frame_word}
+use Rattle.pud_defs.specs.PoolGraphs.Graph.{pointee_at, next_serial_of, root_of}
+use Rattle.pud_defs.specs.Formats.Image.{Image}
+use Rattle.pud_defs.specs.PoolGraphs.Stored.{Stored, stored_in}
+use Rattle.pud_defs.specs.PoolGraphs.Exported.{address_of, uuid_number_of, exported_slot, exported_header, exported_frame}
 use Rattle.puddle_header.proofs.Placed.{stored_word}
 use Rattle.graph_read.specs.Checking.{content_of}
 use Rattle.graph_read.specs.Reading.{pointee_of}

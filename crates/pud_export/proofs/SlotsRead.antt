@@ -12,13 +12,13 @@ use Rattle.std.proofs.lemmas.List.FromFn.{map-range_with_len_more, length-map-ra
 use Rattle.std.proofs.lemmas.Option.{slice_get-map, slice_get-get_or}
 use Rattle.pud_defs.specs.declared.records.Puddle.{Puddle}
 use Rattle.pud_defs.specs.declared.space.TheConstants.{SPACE_START, SPACE_BYTES, WORD_BYTES, RANGE_BYTES, SLOT_SERIAL_WORD, SLOT_TYPE_WORD, SLOT_FIELDS_WORD}
-use Rattle.pud_defs.specs.Bases.{is_legal_base}
-use Rattle.pud_defs.specs.ExportFile.{are_file_bases}
-use Rattle.pud_defs.specs.Geometry.{puddle_slots, slot_at, place_at}
-use Rattle.pud_defs.specs.Graph.{At, slot_address, field_count}
-use Rattle.pud_defs.specs.Types.{map_of}
-use Rattle.pud_defs.specs.Stored.{Stored, place_words, place_word}
-use Rattle.pud_defs.specs.Exported.{address_in, address_of, exported_field, exported_object, exported_slot}
+use Rattle.pud_defs.specs.Formats.Bases.{is_legal_base}
+use Rattle.pud_defs.specs.PoolGraphs.ExportFile.{are_file_bases}
+use Rattle.pud_defs.specs.Formats.Geometry.{puddle_slots, slot_at, place_at}
+use Rattle.pud_defs.specs.PoolGraphs.Graph.{At, slot_address, field_count}
+use Rattle.pud_defs.specs.RegistryTables.Types.{map_of}
+use Rattle.pud_defs.specs.PoolGraphs.Stored.{Stored, place_words, place_word}
+use Rattle.pud_defs.specs.PoolGraphs.Exported.{address_in, address_of, exported_field, exported_object, exported_slot}
 use Rattle.puddle_header.proofs.Placed.{place_ordinal, place_slot}
 use Rattle.pud_export.specs.Exporting.{HasLowBases}
 

@@ -4,9 +4,9 @@ use Rattle.std.specs.List.{list_any, filter_map, range_with_len, cons_option}
 use Rattle.std.specs.Ordering.{nat_cmp}
 use Rattle.std.specs.FinMap.Entries.{where_key}
 use Rattle.pud_defs.specs.declared.space.TheConstants.{SLOT_SERIAL_WORD, SLOT_TYPE_WORD}
-use Rattle.pud_defs.specs.ExportFile.{is_type_used, types_used}
-use Rattle.pud_defs.specs.Graph.{Graph, graph_of}
-use Rattle.pud_defs.specs.Stored.{Stored, places_of, place_word}
+use Rattle.pud_defs.specs.PoolGraphs.ExportFile.{is_type_used, types_used}
+use Rattle.pud_defs.specs.PoolGraphs.Graph.{Graph, graph_of}
+use Rattle.pud_defs.specs.PoolGraphs.Stored.{Stored, places_of, place_word}
 use Rattle.graph_laws.specs.Slots.{is_of_type}
 use Rattle.graph_laws.proofs.UsedTypes.{is_type_used-scanned}
 use Rattle.pud_export.specs.Exporting.{live_type, live_types, is_among, types_among}

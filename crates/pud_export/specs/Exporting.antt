@@ -7,9 +7,9 @@ use Rattle.pm_model.specs.declared.host.HostFault.{HostFault}
 use Rattle.pud_defs.specs.declared.files.TheConstants.{FILE_MAGIC, FILE_VERSION}
 use Rattle.pud_defs.specs.declared.records.Puddle.{Puddle}
 use Rattle.pud_defs.specs.declared.space.TheConstants.{RANGE_BYTES, SLOT_SERIAL_WORD, SLOT_TYPE_WORD}
-use Rattle.pud_defs.specs.Exported.{type_words, exported_slot}
-use Rattle.pud_defs.specs.Geometry.{place_at}
-use Rattle.pud_defs.specs.Stored.{Stored, places_of, place_word, slot_state}
+use Rattle.pud_defs.specs.PoolGraphs.Exported.{type_words, exported_slot}
+use Rattle.pud_defs.specs.Formats.Geometry.{place_at}
+use Rattle.pud_defs.specs.PoolGraphs.Stored.{Stored, places_of, place_word, slot_state}
 use Rattle.pud_export.specs.declared.faults.ExportFault.{ExportFault}
 use Rattle.pud_export.specs.declared.faults.ExportFault.TheVariants as faults
 

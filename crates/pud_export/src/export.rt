@@ -4,13 +4,13 @@ ghost use Rattle.std.specs.Prelude.{◌≡◌, ◌*◌, ◌≤◌, length, Optio
 ghost use Rattle.pm_model.specs.Words.{reads};
 ghost use Rattle.pm_model.specs.Reads.{OnlyReads};
 ghost use Rattle.pud_defs.specs.declared.layout.TheConstants.{MACHINE_WORD, TYPE_RECORDS};
-ghost use Rattle.pud_defs.specs.ExportFile.{words_in, types_used, file_graph};
-ghost use Rattle.pud_defs.specs.Exported.{exported_words, IsExportable};
-ghost use Rattle.pud_defs.specs.Graph.{Graph, graph_of};
-ghost use Rattle.pud_defs.specs.Image.{Image};
-ghost use Rattle.pud_defs.specs.Layout.{device_words};
-ghost use Rattle.pud_defs.specs.Stored.{IsOnDevice, stored_in};
-ghost use Rattle.pud_defs.specs.Types.{types_of};
+ghost use Rattle.pud_defs.specs.PoolGraphs.ExportFile.{words_in, types_used, file_graph};
+ghost use Rattle.pud_defs.specs.PoolGraphs.Exported.{exported_words, IsExportable};
+ghost use Rattle.pud_defs.specs.PoolGraphs.Graph.{Graph, graph_of};
+ghost use Rattle.pud_defs.specs.Formats.Image.{Image};
+ghost use Rattle.pud_defs.specs.Formats.Layout.{device_words};
+ghost use Rattle.pud_defs.specs.PoolGraphs.Stored.{IsOnDevice, stored_in};
+ghost use Rattle.pud_defs.specs.RegistryTables.Types.{types_of};
 ghost use Rattle.pud_export.specs.Exporting.{HasLowBases, fault_in};
 
 use crate::faults::ExportFault;

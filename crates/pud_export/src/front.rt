@@ -1,7 +1,7 @@
 //! What stands before the frames of an export file: its header, its types and the bases of its puddles.
 
 ghost use Rattle.std.specs.Prelude.{◌≡◌, ◌≤◌, [], ◌∷◌, ◌++◌, length, map, flat_map, IfOk, OnOk};
-ghost use Rattle.pud_defs.specs.Exported.{type_words};
+ghost use Rattle.pud_defs.specs.PoolGraphs.Exported.{type_words};
 ghost use Rattle.pud_export.specs.Exporting.{front_words};
 
 use crate::words::WordBytes;

@@ -4,12 +4,12 @@ ghost use Rattle.std.specs.Prelude.{◌≡◌, ◌<◌, ◌≤◌, length, map, 
 ghost use Rattle.pm_model.specs.Words.{reads};
 ghost use Rattle.pm_model.specs.Counts.{fault_of};
 ghost use Rattle.pm_model.specs.Reads.{OnlyReads};
-ghost use Rattle.pud_defs.specs.Exported.{address_of, exported_value, exported_object, exported_slot};
-ghost use Rattle.pud_defs.specs.Geometry.{puddle_slots, place_at};
-ghost use Rattle.pud_defs.specs.Graph.{At};
-ghost use Rattle.pud_defs.specs.Image.{Image};
-ghost use Rattle.pud_defs.specs.Layout.{device_words};
-ghost use Rattle.pud_defs.specs.Stored.{IsOnDevice, stored_in, place_word};
+ghost use Rattle.pud_defs.specs.PoolGraphs.Exported.{address_of, exported_value, exported_object, exported_slot};
+ghost use Rattle.pud_defs.specs.Formats.Geometry.{puddle_slots, place_at};
+ghost use Rattle.pud_defs.specs.PoolGraphs.Graph.{At};
+ghost use Rattle.pud_defs.specs.Formats.Image.{Image};
+ghost use Rattle.pud_defs.specs.Formats.Layout.{device_words};
+ghost use Rattle.pud_defs.specs.PoolGraphs.Stored.{IsOnDevice, stored_in, place_word};
 ghost use Rattle.puddle_header.specs.Places.{places_in};
 ghost use Rattle.graph_read.specs.Checking.{content_of};
 ghost use Rattle.graph_read.specs.Reading.{LeadsWithin};

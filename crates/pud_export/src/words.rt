@@ -1,7 +1,7 @@
 //! Bytes that are written word by word, each word as eight bytes, the lowest first.
 
 ghost use Rattle.std.specs.Prelude.{◌≡◌, ◌*◌, [], ◌∷◌, ◌++◌, length, IfOk, OnOk};
-ghost use Rattle.pud_defs.specs.ExportFile.{words_in};
+ghost use Rattle.pud_defs.specs.PoolGraphs.ExportFile.{words_in};
 
 use std::alloc::{AllocError, Global};
 use std::marker::Model;
@@ -20,7 +20,7 @@ impl Model for WordBytes {
 
     ghost Value = { List ℕ };
 
-    ghost use Rattle.pud_defs.specs.ExportFile.{words_in};
+    ghost use Rattle.pud_defs.specs.PoolGraphs.ExportFile.{words_in};
 
     ghost view = { λ w. words_in w.bytes.items };
 

@@ -15,16 +15,16 @@ use Rattle.pud_defs.specs.declared.layout.TheConstants.{TYPE_TABLE, TYPE_RECORDS
 use Rattle.pud_defs.specs.declared.files.TheConstants.{FILE_HEADER_WORDS}
 use Rattle.pud_defs.specs.declared.records.TheConstants.{MAX_PUDDLES}
 use Rattle.pud_defs.specs.declared.records.Puddle.{Puddle}
-use Rattle.pud_defs.specs.Image.{Image}
-use Rattle.pud_defs.specs.Keyed.{put_entry, keyed}
-use Rattle.pud_defs.specs.Layout.{frames_at}
-use Rattle.pud_defs.specs.Frames.{frame_at}
-use Rattle.pud_defs.specs.Stored.{stored_in, IsOnDevice}
-use Rattle.pud_defs.specs.Graph.{graph_of}
-use Rattle.pud_defs.specs.Types.{type_record_at, type_at, types_of, is_sound_type}
-use Rattle.pud_defs.specs.ExportFile.{file_type, file_types, file_frames_at, file_frame_at, file_puddle, file_stored, are_file_types}
-use Rattle.pud_defs.proofs.Keyed.{keyed-none}
-use Rattle.pud_defs.proofs.TypeTable.{type_at-free, type_at-used}
+use Rattle.pud_defs.specs.Formats.Image.{Image}
+use Rattle.pud_defs.specs.RegistryTables.Keyed.{put_entry, keyed}
+use Rattle.pud_defs.specs.Formats.Layout.{frames_at}
+use Rattle.pud_defs.specs.Formats.Frames.{frame_at}
+use Rattle.pud_defs.specs.PoolGraphs.Stored.{stored_in, IsOnDevice}
+use Rattle.pud_defs.specs.PoolGraphs.Graph.{graph_of}
+use Rattle.pud_defs.specs.RegistryTables.Types.{type_record_at, type_at, types_of, is_sound_type}
+use Rattle.pud_defs.specs.PoolGraphs.ExportFile.{file_type, file_types, file_frames_at, file_frame_at, file_puddle, file_stored, are_file_types}
+use Rattle.pud_defs.proofs.KeyedTables.Keyed.{keyed-none}
+use Rattle.pud_defs.proofs.RegistryTables.TypeTable.{type_at-free, type_at-used}
 use Rattle.graph_laws.proofs.Within.{graph_of-within}
 use Rattle.graph_read.proofs.Pointed.{no_puddle}
 use Rattle.puddle_header.proofs.Placed.{stored_word}

@@ -5,12 +5,12 @@ use Rattle.std.proofs.lemmas.List.{take_all, drop_all, length-drop, length-map}
 use Rattle.std.proofs.lemmas.List.Folds.{list_all-map}
 use Rattle.std.proofs.lemmas.Option.{slice_get-map, slice_get-get_or}
 use Rattle.pud_defs.specs.declared.records.Puddle.{Puddle}
-use Rattle.pud_defs.specs.Bases.{is_legal_base}
-use Rattle.pud_defs.specs.Keyed.{first_from, under, is_apart, are_distinct}
-use Rattle.pud_defs.specs.ExportFile.{under_base, are_file_bases}
+use Rattle.pud_defs.specs.Formats.Bases.{is_legal_base}
+use Rattle.pud_defs.specs.RegistryTables.Keyed.{first_from, under, is_apart, are_distinct}
+use Rattle.pud_defs.specs.PoolGraphs.ExportFile.{under_base, are_file_bases}
 use Rattle.graph_read.proofs.Pointed.{no_puddle}
-use Rattle.pud_defs.proofs.DistinctKeys.{some_or, none_by_some, some_under, eqb_turned}
-use Rattle.pud_defs.proofs.Keyed.{are_distinct-step}
+use Rattle.pud_defs.proofs.KeyedTables.DistinctKeys.{some_or, none_by_some, some_under, eqb_turned}
+use Rattle.pud_defs.proofs.KeyedTables.Keyed.{are_distinct-step}
 
 module _ (at : List (ℕ × Puddle)) where
   abbrev by_base : ℕ → Option (ℕ × ℕ)

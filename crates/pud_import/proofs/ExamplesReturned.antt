@@ -2,14 +2,14 @@
 use Rattle.std.proofs.Common.{◌≡◌, ℕ, cond, List, [], ◌∷◌, codes, bytes_eq, Some, None, refl}
 use Rattle.pud_defs.specs.declared.machine.Command.{Command}
 use Rattle.pud_defs.specs.declared.machine.Command.TheVariants.{Import}
-use Rattle.pud_defs.specs.Spaces.{owner}
-use Rattle.pud_defs.specs.World.{World, nothing_open, blank_world}
-use Rattle.pud_defs.specs.PoolChanges.{pool_named}
-use Rattle.pud_defs.specs.Step.{contents_named, refusal_of, after}
-use Rattle.pud_defs.specs.Gives.{contents_of_pool}
-use Rattle.pud_defs.proofs.Opened.{opened}
-use Rattle.pud_defs.proofs.ExamplesTransactions.{name_of}
-use Rattle.pud_defs.proofs.ExamplesFiles.{contents, bytes}
+use Rattle.pud_defs.specs.RegistryTables.Spaces.{owner}
+use Rattle.pud_defs.specs.StateMachine.World.{World, nothing_open, blank_world}
+use Rattle.pud_defs.specs.StateMachine.PoolChanges.{pool_named}
+use Rattle.pud_defs.specs.StateMachine.Step.{contents_named, refusal_of, after}
+use Rattle.pud_defs.specs.StateMachine.Gives.{contents_of_pool}
+use Rattle.pud_defs.proofs.Examples.Opened.{opened}
+use Rattle.pud_defs.proofs.Examples.Transactions.{name_of}
+use Rattle.pud_defs.proofs.Examples.Files.{contents, bytes}
 use Rattle.pud_import.specs.Rewrites.{behind_rewrites}
 
 -- types 1 and 9 are defined, of which the file `x` has the first

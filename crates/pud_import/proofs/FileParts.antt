@@ -7,11 +7,11 @@ use Rattle.pm_model.specs.declared.host.TheConstants.{FILE_READ_LIMIT}
 use Rattle.std.proofs.lemmas.List.FromFn.{length-map-range_with_len}
 use Rattle.pud_defs.specs.declared.layout.TheConstants.{TYPE_RECORDS}
 use Rattle.pud_defs.specs.declared.records.TheConstants.{MAX_PUDDLES}
-use Rattle.pud_defs.specs.Exported.{IsExportable}
-use Rattle.pud_defs.specs.Image.{Image}
-use Rattle.pud_defs.specs.Stored.{Stored}
-use Rattle.pud_defs.specs.Graph.{Graph, graph_of}
-use Rattle.pud_defs.specs.ExportFile.{words_in, file_words, file_type, file_puddle, file_types, file_stored, has_file_header, are_file_types, are_file_bases, is_plain, is_file, is_type_used, contents_with, contents_of, file_graph}
+use Rattle.pud_defs.specs.PoolGraphs.Exported.{IsExportable}
+use Rattle.pud_defs.specs.Formats.Image.{Image}
+use Rattle.pud_defs.specs.PoolGraphs.Stored.{Stored}
+use Rattle.pud_defs.specs.PoolGraphs.Graph.{Graph, graph_of}
+use Rattle.pud_defs.specs.PoolGraphs.ExportFile.{words_in, file_words, file_type, file_puddle, file_types, file_stored, has_file_header, are_file_types, are_file_bases, is_plain, is_file, is_type_used, contents_with, contents_of, file_graph}
 use Rattle.graph_laws.proofs.UsedTypes.{is_type_used-scanned}
 use Rattle.pud_import.proofs.Spelled.{length-words_in}
 use Rattle.pud_import.specs.Contents.{file_image, type_count_read, puddle_count_read, types_held, stored_held, contents_read, is_used_in, is_sized, is_sound_file}

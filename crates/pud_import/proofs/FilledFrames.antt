@@ -10,8 +10,8 @@ use Rattle.pm_model.specs.Changes.{placed, written, Changes, Persists}
 use Rattle.pm_model.proofs.Changes.{Changes-then, Changes-wider, HasOnly-kept}
 use Rattle.pm_persist.proofs.Ranges.{placed_at, placed_within}
 use Rattle.pud_defs.specs.declared.layout.TheConstants.{FRAME_WORDS}
-use Rattle.pud_defs.specs.Frames.{frame_at}
-use Rattle.pud_defs.specs.Stored.{Stored}
+use Rattle.pud_defs.specs.Formats.Frames.{frame_at}
+use Rattle.pud_defs.specs.PoolGraphs.Stored.{Stored}
 use Rattle.registry.specs.declared.adding.NewPuddle.{NewPuddle}
 use Rattle.pud_import.specs.Filling.{filled_value, ByFrame, FillsFrame, ByFrames, AreFilled}
 use Rattle.pud_import.specs.Places.{FramesRise}

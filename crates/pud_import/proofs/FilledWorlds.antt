@@ -10,19 +10,19 @@ use Rattle.pm_model.specs.Changes.{IsFrom, Changes, Leaves, Silently}
 use Rattle.pm_model.proofs.Changes.{Changes-said, Changes-now, Changes-then, Changes-wider}
 use Rattle.pm_model.proofs.Leaves.{Leaves-changes, Leaves-weaker, Leaves-then, Leaves-now}
 use Rattle.pud_defs.specs.declared.layout.TheConstants.{DAEMON_LOG, FRAME_WORDS, TYPE_TABLE}
-use Rattle.pud_defs.specs.Image.{Image}
-use Rattle.pud_defs.specs.Layout.{IsWithin, frames_at, device_words}
-use Rattle.pud_defs.specs.Frames.{frame_at}
-use Rattle.pud_defs.specs.Entries.{is_idle_gate}
-use Rattle.pud_defs.specs.Replay.{is_in_log, beside_log}
-use Rattle.pud_defs.specs.SoundTables.{are_sound_tables}
-use Rattle.pud_defs.specs.Tables.{Tables, tables_of}
-use Rattle.pud_defs.specs.World.{StoredWorld, idle_world_of}
-use Rattle.pud_defs.proofs.Holdings.{HasSameFrame, pools_in-same}
-use Rattle.pud_defs.proofs.IdleWorlds.{idle_registry_standing, idle_world_of-beside, standing_idle}
-use Rattle.pud_defs.proofs.Parts.{Header, Types, Pools, Spaces, Part, IsReadBy, Holds, Holds-same, part_place, StandsFor}
-use Rattle.pud_defs.proofs.Replay.{settled_by-beside}
-use Rattle.pud_defs.proofs.TablesOf.{tables_of-same}
+use Rattle.pud_defs.specs.Formats.Image.{Image}
+use Rattle.pud_defs.specs.Formats.Layout.{IsWithin, frames_at, device_words}
+use Rattle.pud_defs.specs.Formats.Frames.{frame_at}
+use Rattle.pud_defs.specs.Logging.Entries.{is_idle_gate}
+use Rattle.pud_defs.specs.Logging.Replay.{is_in_log, beside_log}
+use Rattle.pud_defs.specs.RegistryTables.SoundTables.{are_sound_tables}
+use Rattle.pud_defs.specs.RegistryTables.Tables.{Tables, tables_of}
+use Rattle.pud_defs.specs.StateMachine.World.{StoredWorld, idle_world_of}
+use Rattle.pud_defs.proofs.PoolGraphs.Holdings.{HasSameFrame, pools_in-same}
+use Rattle.pud_defs.proofs.StateMachine.IdleWorlds.{idle_registry_standing, idle_world_of-beside, standing_idle}
+use Rattle.pud_defs.proofs.StateMachine.Parts.{Header, Types, Pools, Spaces, Part, IsReadBy, Holds, Holds-same, part_place, StandsFor}
+use Rattle.pud_defs.proofs.Logging.Replay.{settled_by-beside}
+use Rattle.pud_defs.proofs.RegistryTables.TablesOf.{tables_of-same}
 use Rattle.batch.specs.Worlds.{IsQuiescent}
 use Rattle.batch.specs.Tables.{HasDurableTables}
 use Rattle.batch.proofs.Tables.{HasDurableTables-kept}

@@ -1,9 +1,9 @@
 -- Free frames found one behind the other: how many are free.
 use Rattle.std.proofs.Common.{◌≡◌, ℕ, zero, suc, ◌+◌, ◌-◌, ◌<◌, ◌≤◌, true, false, ltb, Option, Some, None, is_none, refl, sym, ap, ◌∙◌, arith}
 use Rattle.std.proofs.lemmas.Bool.{cond-true, cond-false, lt-ltb, le-ltb}
-use Rattle.pud_defs.specs.Keyed.{first_free, count_used}
-use Rattle.pud_defs.specs.Puddles.{Member}
-use Rattle.pud_defs.proofs.Keyed.{first_free_some, count_used_step, count_used_full, count_used_most}
+use Rattle.pud_defs.specs.RegistryTables.Keyed.{first_free, count_used}
+use Rattle.pud_defs.specs.RegistryTables.Puddles.{Member}
+use Rattle.pud_defs.proofs.KeyedTables.Keyed.{first_free_some, count_used_step, count_used_full, count_used_most}
 
 module _ (at : ℕ → Option Member) (F : ℕ) where
   used_up_to : (from i n : ℕ) → n ≡ i - from → from ≤ i → i ≤ F → ((j : ℕ) → from ≤ j → j < i → is_none (at j) ≡ false) → count_used at from (F - from) ≡ n + count_used at i (F - i)

@@ -16,26 +16,26 @@ use Rattle.pud_defs.specs.declared.records.TheConstants.{MAX_PUDDLES}
 use Rattle.pud_defs.specs.declared.records.PoolRecord.{PoolRecord}
 use Rattle.pud_defs.specs.declared.records.Puddle.{Puddle}
 use Rattle.pud_defs.specs.declared.space.TheConstants.{LAST_FRONTIER, SLOT_TYPE_WORD}
-use Rattle.pud_defs.specs.Image.{Image}
-use Rattle.pud_defs.specs.Layout.{frames_at}
-use Rattle.pud_defs.specs.Frames.{frame_at}
-use Rattle.pud_defs.specs.Graph.{graph_of}
-use Rattle.pud_defs.specs.Stored.{Stored, place_word, stored_in}
-use Rattle.pud_defs.specs.ExportFile.{FileContents, file_puddle, file_graph, are_file_types, are_file_bases}
-use Rattle.pud_defs.specs.Imports.{types_missing, with_types_defined}
-use Rattle.pud_defs.specs.Placement.{ArePlacedFrom}
-use Rattle.pud_defs.specs.Replay.{settled_by}
-use Rattle.pud_defs.specs.Step.{clashes_with}
-use Rattle.pud_defs.specs.Tables.{Tables, tables_of}
-use Rattle.pud_defs.specs.Types.{type_record_at, type_at, types_of}
-use Rattle.pud_defs.specs.World.{StoredWorld}
-use Rattle.pud_defs.proofs.IdleWorlds.{standing_of_idle_world}
-use Rattle.pud_defs.proofs.Keyed.{keyed-same, first_free_some, option_map_parts}
-use Rattle.pud_defs.proofs.Parts.{Types}
-use Rattle.pud_defs.proofs.Replay.{settled_by-idle, outside_log}
-use Rattle.pud_defs.proofs.TablesOf.{frames_of_tables, tables_of-same}
-use Rattle.pud_defs.proofs.TypeMore.{graph_of-wider}
-use Rattle.pud_defs.proofs.TypeTable.{type_at-same}
+use Rattle.pud_defs.specs.Formats.Image.{Image}
+use Rattle.pud_defs.specs.Formats.Layout.{frames_at}
+use Rattle.pud_defs.specs.Formats.Frames.{frame_at}
+use Rattle.pud_defs.specs.PoolGraphs.Graph.{graph_of}
+use Rattle.pud_defs.specs.PoolGraphs.Stored.{Stored, place_word, stored_in}
+use Rattle.pud_defs.specs.PoolGraphs.ExportFile.{FileContents, file_puddle, file_graph, are_file_types, are_file_bases}
+use Rattle.pud_defs.specs.StateMachine.Imports.{types_missing, with_types_defined}
+use Rattle.pud_defs.specs.RegistryTables.Placement.{ArePlacedFrom}
+use Rattle.pud_defs.specs.Logging.Replay.{settled_by}
+use Rattle.pud_defs.specs.StateMachine.Step.{clashes_with}
+use Rattle.pud_defs.specs.RegistryTables.Tables.{Tables, tables_of}
+use Rattle.pud_defs.specs.RegistryTables.Types.{type_record_at, type_at, types_of}
+use Rattle.pud_defs.specs.StateMachine.World.{StoredWorld}
+use Rattle.pud_defs.proofs.StateMachine.IdleWorlds.{standing_of_idle_world}
+use Rattle.pud_defs.proofs.KeyedTables.Keyed.{keyed-same, first_free_some, option_map_parts}
+use Rattle.pud_defs.proofs.StateMachine.Parts.{Types}
+use Rattle.pud_defs.proofs.Logging.Replay.{settled_by-idle, outside_log}
+use Rattle.pud_defs.proofs.RegistryTables.TablesOf.{frames_of_tables, tables_of-same}
+use Rattle.pud_defs.proofs.PoolGraphs.TypeMore.{graph_of-wider}
+use Rattle.pud_defs.proofs.RegistryTables.TypeTable.{type_at-same}
 use Rattle.batch.specs.Worlds.{IsQuiescent}
 use Rattle.batch.proofs.Tables.{reads_kept}
 use Rattle.graph_laws.specs.Placed.{AreFrontiers}

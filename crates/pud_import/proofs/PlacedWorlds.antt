@@ -10,19 +10,19 @@ use Rattle.pud_defs.specs.declared.space.TheConstants.{FRAME_MAGIC, FRAME_MAGIC_
 use Rattle.pud_defs.specs.declared.records.TheConstants.{POOL_RECORDS}
 use Rattle.pud_defs.specs.declared.records.Puddle.{Puddle}
 use Rattle.pud_defs.specs.declared.records.PoolRecord.{PoolRecord}
-use Rattle.pud_defs.specs.Image.{Image}
-use Rattle.pud_defs.specs.Frames.{frame_at, frame_word}
-use Rattle.pud_defs.specs.Keyed.{first_free}
-use Rattle.pud_defs.specs.Spaces.{all_below}
-use Rattle.pud_defs.specs.Stored.{Stored, stored_in, word_in_frame}
-use Rattle.pud_defs.specs.Graph.{Graph, has_header, headers_fit, graph_of, pointee_at}
-use Rattle.pud_defs.specs.Placement.{ArePlacedFrom, ArePlaced, placed_frontier}
-use Rattle.pud_defs.specs.Tables.{Tables, tables_of, pool_in}
-use Rattle.pud_defs.specs.Types.{type_at, types_of}
-use Rattle.pud_defs.specs.Imports.{types_missing}
-use Rattle.pud_defs.proofs.Keyed.{keyed-same, option_map_parts}
-use Rattle.pud_defs.proofs.Spaces.{all_below-from, all_below-each}
-use Rattle.pud_defs.proofs.Graphs.{graph_of-each}
+use Rattle.pud_defs.specs.Formats.Image.{Image}
+use Rattle.pud_defs.specs.Formats.Frames.{frame_at, frame_word}
+use Rattle.pud_defs.specs.RegistryTables.Keyed.{first_free}
+use Rattle.pud_defs.specs.RegistryTables.Spaces.{all_below}
+use Rattle.pud_defs.specs.PoolGraphs.Stored.{Stored, stored_in, word_in_frame}
+use Rattle.pud_defs.specs.PoolGraphs.Graph.{Graph, has_header, headers_fit, graph_of, pointee_at}
+use Rattle.pud_defs.specs.RegistryTables.Placement.{ArePlacedFrom, ArePlaced, placed_frontier}
+use Rattle.pud_defs.specs.RegistryTables.Tables.{Tables, tables_of, pool_in}
+use Rattle.pud_defs.specs.RegistryTables.Types.{type_at, types_of}
+use Rattle.pud_defs.specs.StateMachine.Imports.{types_missing}
+use Rattle.pud_defs.proofs.KeyedTables.Keyed.{keyed-same, option_map_parts}
+use Rattle.pud_defs.proofs.RegistryTables.Spaces.{all_below-from, all_below-each}
+use Rattle.pud_defs.proofs.PoolGraphs.Graphs.{graph_of-each}
 use Rattle.graph_laws.specs.Placed.{AreFrontiers}
 use Rattle.graph_laws.proofs.Pointers.{there_is_puddle}
 use Rattle.graph_laws.proofs.Placed.{pointers-kept, pointers-moved, graph_of-placed}

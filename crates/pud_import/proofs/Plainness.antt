@@ -1,11 +1,11 @@
 -- Headers and slots whose words are 0 where they are not read make a file plain.
 use Rattle.std.proofs.Common.{◌≡◌, ℕ, Bool, ◌&&◌, List, sym, ap, ap₂, ◌∙◌}
 use Rattle.pud_defs.specs.declared.space.TheConstants.{FRAME_HEADER_WORDS}
-use Rattle.pud_defs.specs.Geometry.{places_among}
-use Rattle.pud_defs.specs.Image.{Image}
-use Rattle.pud_defs.specs.Spaces.{all_below}
-use Rattle.pud_defs.specs.Stored.{place_words, place_word}
-use Rattle.pud_defs.specs.ExportFile.{file_stored, is_zero, header_words_read, slot_words_read, is_plain}
+use Rattle.pud_defs.specs.Formats.Geometry.{places_among}
+use Rattle.pud_defs.specs.Formats.Image.{Image}
+use Rattle.pud_defs.specs.RegistryTables.Spaces.{all_below}
+use Rattle.pud_defs.specs.PoolGraphs.Stored.{place_words, place_word}
+use Rattle.pud_defs.specs.PoolGraphs.ExportFile.{file_stored, is_zero, header_words_read, slot_words_read, is_plain}
 use Rattle.pud_import.proofs.UsedPlaces.{puddles-file, places-file}
 
 pub is_plain-joined : (types : List (ℕ × ℕ)) (words : Image) (T K : ℕ) (headers slots : Bool)

@@ -6,14 +6,14 @@ use Rattle.std.proofs.lemmas.Bool.{cond-true}
 use Rattle.std.proofs.lemmas.Option.{none-some}
 use Rattle.pud_defs.specs.declared.layout.TheConstants.{NEXT_NUMBER_WORD, NUMBER_LIMIT}
 use Rattle.pud_defs.specs.declared.records.TheConstants.{POOL_RECORDS}
-use Rattle.pud_defs.specs.Image.{Image}
-use Rattle.pud_defs.specs.Keyed.{first_free, count_used}
-use Rattle.pud_defs.specs.ExportFile.{FileContents}
-use Rattle.pud_defs.specs.Imports.{numbers_drawn}
-use Rattle.pud_defs.specs.Step.{clashes_with}
-use Rattle.pud_defs.specs.Tables.{Tables, tables_of}
-use Rattle.pud_defs.specs.Types.{types_of, used_types}
-use Rattle.pud_defs.proofs.TablesOf.{frames_of_tables}
+use Rattle.pud_defs.specs.Formats.Image.{Image}
+use Rattle.pud_defs.specs.RegistryTables.Keyed.{first_free, count_used}
+use Rattle.pud_defs.specs.PoolGraphs.ExportFile.{FileContents}
+use Rattle.pud_defs.specs.StateMachine.Imports.{numbers_drawn}
+use Rattle.pud_defs.specs.StateMachine.Step.{clashes_with}
+use Rattle.pud_defs.specs.RegistryTables.Tables.{Tables, tables_of}
+use Rattle.pud_defs.specs.RegistryTables.Types.{types_of, used_types}
+use Rattle.pud_defs.proofs.RegistryTables.TablesOf.{frames_of_tables}
 use Rattle.pud_import.specs.declared.placing.PlaceFault.{PlaceFault}
 use Rattle.pud_import.specs.declared.placing.PlaceFault.TheVariants as faults
 use Rattle.pud_import.specs.Placing.{lacks_records, types_refusal, frames_refusal, refusal_by}

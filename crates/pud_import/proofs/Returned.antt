@@ -15,27 +15,27 @@ use Rattle.pud_defs.specs.declared.machine.Command.TheVariants.{Import, Rewrite}
 use Rattle.pud_defs.specs.declared.machine.Refusal.{Refusal}
 use Rattle.pud_defs.specs.declared.machine.Refusal.TheVariants as refusals
 use Rattle.pud_defs.specs.declared.layout.TheConstants.{TYPE_RECORDS}
-use Rattle.pud_defs.specs.Image.{Image}
-use Rattle.pud_defs.specs.Names.{name_cmp}
-use Rattle.pud_defs.specs.Spaces.{Owner}
-use Rattle.pud_defs.specs.Stored.{Stored}
-use Rattle.pud_defs.specs.Graph.{Graph, graph_of}
-use Rattle.pud_defs.specs.ExportFile.{FileContents, words_in, file_types, file_stored, are_file_types, is_file, is_type_used, contents_with, contents_of, file_graph}
-use Rattle.pud_defs.specs.Settled.{settled}
-use Rattle.pud_defs.specs.Registry.{frames_of, has_legal_log, is_registry}
-use Rattle.pud_defs.specs.Types.{type_at}
-use Rattle.pud_defs.specs.Tables.{Pool}
-use Rattle.pud_defs.specs.World.{StoredWorld, World, stored_by, registry_world, world_of}
-use Rattle.pud_defs.specs.PoolChanges.{pool_named}
-use Rattle.pud_defs.specs.Imports.{types_missing, with_types_defined, is_full_for_file, lacks_frames_for_file, imported_pool, with_imported_pool, with_pool_of}
-use Rattle.pud_defs.specs.Listing.{name_text}
-use Rattle.pud_defs.specs.Step.{contents_in, contents_named, of_contents, clashes_with, refusal_of, owner_acting, after, world_by}
-use Rattle.pud_defs.specs.Gives.{Shelf, Exports, contents_of_pool}
-use Rattle.pud_defs.proofs.Keyed.{is_sorted-keyed}
-use Rattle.pud_defs.proofs.TypeLists.{true_when}
-use Rattle.pud_defs.proofs.PoolRefusals.{importing_refusal, refusal_of-import}
-use Rattle.pud_defs.proofs.Changing.{is_sorted-after}
-use Rattle.pud_defs.proofs.Steps.{refused_world, done_world}
+use Rattle.pud_defs.specs.Formats.Image.{Image}
+use Rattle.pud_defs.specs.Formats.Names.{name_cmp}
+use Rattle.pud_defs.specs.RegistryTables.Spaces.{Owner}
+use Rattle.pud_defs.specs.PoolGraphs.Stored.{Stored}
+use Rattle.pud_defs.specs.PoolGraphs.Graph.{Graph, graph_of}
+use Rattle.pud_defs.specs.PoolGraphs.ExportFile.{FileContents, words_in, file_types, file_stored, are_file_types, is_file, is_type_used, contents_with, contents_of, file_graph}
+use Rattle.pud_defs.specs.Logging.Settled.{settled}
+use Rattle.pud_defs.specs.RegistryTables.Registry.{frames_of, has_legal_log, is_registry}
+use Rattle.pud_defs.specs.RegistryTables.Types.{type_at}
+use Rattle.pud_defs.specs.RegistryTables.Tables.{Pool}
+use Rattle.pud_defs.specs.StateMachine.World.{StoredWorld, World, stored_by, registry_world, world_of}
+use Rattle.pud_defs.specs.StateMachine.PoolChanges.{pool_named}
+use Rattle.pud_defs.specs.StateMachine.Imports.{types_missing, with_types_defined, is_full_for_file, lacks_frames_for_file, imported_pool, with_imported_pool, with_pool_of}
+use Rattle.pud_defs.specs.Output.Listing.{name_text}
+use Rattle.pud_defs.specs.StateMachine.Step.{contents_in, contents_named, of_contents, clashes_with, refusal_of, owner_acting, after, world_by}
+use Rattle.pud_defs.specs.StateMachine.Gives.{Shelf, Exports, contents_of_pool}
+use Rattle.pud_defs.proofs.KeyedTables.Keyed.{is_sorted-keyed}
+use Rattle.pud_defs.proofs.RegistryTables.TypeLists.{true_when}
+use Rattle.pud_defs.proofs.StateMachine.PoolRefusals.{importing_refusal, refusal_of-import}
+use Rattle.pud_defs.proofs.StateMachine.Changing.{is_sorted-after}
+use Rattle.pud_defs.proofs.StateMachine.Steps.{refused_world, done_world}
 use Rattle.pud_import.specs.Rewrites.{behind_rewrites}
 use Rattle.pud_import.proofs.TypesBrought.{types_used-later}
 

@@ -2,7 +2,7 @@
 use Rattle.std.proofs.Common.{◌≡◌, ℕ, zero, suc, ◌+◌, ◌-◌, ◌*◌, ◌/◌, ◌≤◌, List, [], ◌∷◌, length, slice_index, take, drop, refl, ap₂, ◌∙◌, arith}
 use Rattle.std.specs.Int.{from_le_bytes, w64}
 use Rattle.std.specs.List.{slice_range}
-use Rattle.pud_defs.specs.ExportFile.{words_in}
+use Rattle.pud_defs.specs.PoolGraphs.ExportFile.{words_in}
 
 -- a word is spelled by its eight bytes
 pub word_read : (xs : List ℕ) (k : ℕ) → 8 * k + 8 ≤ length xs → from_le_bytes w64 (slice_range xs (8 * k) (8 * k + 8)) ≡ slice_index (words_in xs) k

@@ -10,17 +10,17 @@ use Rattle.std.proofs.lemmas.Cmp.{nat_cmp_total}
 use Rattle.std.proofs.lemmas.List.FromFn.{length-range_with_len, get_or-range_with_len}
 use Rattle.std.proofs.lemmas.List.Folds.{Any-from_list_any}
 use Rattle.std.proofs.lemmas.Option.{none-some, same_Some}
-use Rattle.pud_defs.specs.Types.{map_of}
-use Rattle.pud_defs.specs.Stored.{Stored, places_of}
-use Rattle.pud_defs.specs.Graph.{Graph, table_of, graph_of}
-use Rattle.pud_defs.specs.ExportFile.{is_type_used, types_used}
-use Rattle.pud_defs.specs.Imports.{types_missing, with_types_defined}
-use Rattle.pud_defs.specs.Step.{is_other, is_clash, clashes_with}
-use Rattle.pud_defs.specs.PoolChanges.{with_type_defined}
-use Rattle.pud_defs.specs.World.{StoredWorld}
-use Rattle.pud_defs.proofs.TypeLists.{same_test, same_number, true_when}
-use Rattle.pud_defs.proofs.TypeMore.{defined_there}
-use Rattle.pud_defs.proofs.Graphs.{graph_of-each}
+use Rattle.pud_defs.specs.RegistryTables.Types.{map_of}
+use Rattle.pud_defs.specs.PoolGraphs.Stored.{Stored, places_of}
+use Rattle.pud_defs.specs.PoolGraphs.Graph.{Graph, table_of, graph_of}
+use Rattle.pud_defs.specs.PoolGraphs.ExportFile.{is_type_used, types_used}
+use Rattle.pud_defs.specs.StateMachine.Imports.{types_missing, with_types_defined}
+use Rattle.pud_defs.specs.StateMachine.Step.{is_other, is_clash, clashes_with}
+use Rattle.pud_defs.specs.StateMachine.PoolChanges.{with_type_defined}
+use Rattle.pud_defs.specs.StateMachine.World.{StoredWorld}
+use Rattle.pud_defs.proofs.RegistryTables.TypeLists.{same_test, same_number, true_when}
+use Rattle.pud_defs.proofs.PoolGraphs.TypeMore.{defined_there}
+use Rattle.pud_defs.proofs.PoolGraphs.Graphs.{graph_of-each}
 use Rattle.graph_laws.specs.Slots.{is_of_type}
 use Rattle.graph_laws.proofs.UsedTypes.{is_type_used-scanned}
 

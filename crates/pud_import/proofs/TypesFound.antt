@@ -1,8 +1,8 @@
 -- The map of a type, looked up type by type.
 use Rattle.std.proofs.Common.{◌≡◌, ℕ, ◌+◌, ◌<◌, ◌∷◌, Some, sym, ap, ◌∙◌, eq-eqb, ne_eqb}
 use Rattle.std.proofs.lemmas.Bool.{cond-true, cond-false}
-use Rattle.pud_defs.specs.Types.{map_of}
-use Rattle.pud_defs.proofs.TypeLists.{same_test}
+use Rattle.pud_defs.specs.RegistryTables.Types.{map_of}
+use Rattle.pud_defs.proofs.RegistryTables.TypeLists.{same_test}
 use Rattle.pud_import.proofs.Numbered.{from_number, from_number-more}
 
 module _ (f : ℕ → ℕ × ℕ) (id i n : ℕ) (t : ℕ × ℕ) (below : i < n) (here : t ≡ f i) where

@@ -6,11 +6,11 @@ use Rattle.std.specs.FinMap.Entries.{below_all, is_sorted}
 use Rattle.std.proofs.lemmas.Bool.{and_parts, and_from, ltb-true, lt-ltb, leb-true}
 use Rattle.std.proofs.lemmas.Bool.Decides.{nat_tests}
 use Rattle.pud_defs.specs.declared.layout.TheConstants.{MAX_TYPE_ID}
-use Rattle.pud_defs.specs.Image.{Image}
-use Rattle.pud_defs.specs.TypeMap.{is_legal_map, is_legal_type_id}
-use Rattle.pud_defs.specs.Types.{is_sound_type}
-use Rattle.pud_defs.specs.ExportFile.{file_type, file_types, are_file_types}
-use Rattle.pud_defs.proofs.Spaces.{all_below-each, list_all-below}
+use Rattle.pud_defs.specs.Formats.Image.{Image}
+use Rattle.pud_defs.specs.Formats.TypeMap.{is_legal_map, is_legal_type_id}
+use Rattle.pud_defs.specs.RegistryTables.Types.{is_sound_type}
+use Rattle.pud_defs.specs.PoolGraphs.ExportFile.{file_type, file_types, are_file_types}
+use Rattle.pud_defs.proofs.RegistryTables.Spaces.{all_below-each, list_all-below}
 use Rattle.pud_import.proofs.Numbered.{from_number, from_number-more}
 
 abbrev sound : ℕ × ℕ → Bool

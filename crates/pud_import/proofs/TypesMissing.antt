@@ -5,12 +5,12 @@ use Rattle.std.specs.Prelude.{slice_get}
 use Rattle.std.proofs.lemmas.List.{append-nil, length-map}
 use Rattle.std.proofs.lemmas.Option.{slice_get-map, slice_get-get_or, get_or_from_slice_get}
 use Rattle.std.proofs.lemmas.List.FromFn.{map-range_with_len_more}
-use Rattle.pud_defs.specs.Image.{Image}
+use Rattle.pud_defs.specs.Formats.Image.{Image}
 use Rattle.pud_defs.specs.declared.layout.TheConstants.{TYPE_RECORDS}
-use Rattle.pud_defs.specs.Types.{map_of, type_at, used_types}
-use Rattle.pud_defs.specs.ExportFile.{file_type, file_types}
-use Rattle.pud_defs.specs.Imports.{types_missing}
-use Rattle.pud_defs.specs.Step.{is_clash, clashes_with}
+use Rattle.pud_defs.specs.RegistryTables.Types.{map_of, type_at, used_types}
+use Rattle.pud_defs.specs.PoolGraphs.ExportFile.{file_type, file_types}
+use Rattle.pud_defs.specs.StateMachine.Imports.{types_missing}
+use Rattle.pud_defs.specs.StateMachine.Step.{is_clash, clashes_with}
 use Rattle.registry.specs.declared.placing.NewType.{NewType}
 use Rattle.registry.specs.Placing.{HasFreeRecords}
 use Rattle.type_maps.specs.FreeRecords.{free_records, AreFreeRecords}

@@ -6,13 +6,13 @@ use Rattle.std.proofs.lemmas.Bool.{cases_eq, cond-true, cond-false, and_parts, e
 use Rattle.std.proofs.lemmas.Bool.Decides.{nat_tests}
 use Rattle.std.proofs.lemmas.Cmp.{nat_cmp_total}
 use Rattle.std.proofs.lemmas.Option.{none-some, same_Some}
-use Rattle.pud_defs.specs.Types.{map_of, with_type}
-use Rattle.pud_defs.specs.ExportFile.{are_file_types}
-use Rattle.pud_defs.specs.Imports.{types_missing, with_types_defined}
-use Rattle.pud_defs.specs.PoolChanges.{with_type_defined}
-use Rattle.pud_defs.specs.Step.{is_other, is_clash, clashes_with}
-use Rattle.pud_defs.specs.World.{StoredWorld}
-use Rattle.pud_defs.proofs.TypeLists.{same_test, same_number, true_when}
+use Rattle.pud_defs.specs.RegistryTables.Types.{map_of, with_type}
+use Rattle.pud_defs.specs.PoolGraphs.ExportFile.{are_file_types}
+use Rattle.pud_defs.specs.StateMachine.Imports.{types_missing, with_types_defined}
+use Rattle.pud_defs.specs.StateMachine.PoolChanges.{with_type_defined}
+use Rattle.pud_defs.specs.StateMachine.Step.{is_other, is_clash, clashes_with}
+use Rattle.pud_defs.specs.StateMachine.World.{StoredWorld}
+use Rattle.pud_defs.proofs.RegistryTables.TypeLists.{same_test, same_number, true_when}
 
 -- ---- types put into a list
 

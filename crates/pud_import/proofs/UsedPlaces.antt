@@ -1,12 +1,12 @@
 -- Whether an object of a type lives in some slot, place by place.
 use Rattle.std.proofs.Common.{◌≡◌, ℕ, ◌<◌, ◌≤◌, true, false, not, length, sym, ap, ◌∙◌, arith}
 use Rattle.std.proofs.lemmas.List.FromFn.{length-map-range_with_len}
-use Rattle.pud_defs.specs.Geometry.{places_among}
-use Rattle.pud_defs.specs.Image.{Image}
-use Rattle.pud_defs.specs.Spaces.{all_below}
-use Rattle.pud_defs.specs.Stored.{Stored, places_of}
-use Rattle.pud_defs.specs.ExportFile.{file_puddle, file_stored}
-use Rattle.pud_defs.proofs.Spaces.{all_below-from, all_below-each, all_below-fails, any-range}
+use Rattle.pud_defs.specs.Formats.Geometry.{places_among}
+use Rattle.pud_defs.specs.Formats.Image.{Image}
+use Rattle.pud_defs.specs.RegistryTables.Spaces.{all_below}
+use Rattle.pud_defs.specs.PoolGraphs.Stored.{Stored, places_of}
+use Rattle.pud_defs.specs.PoolGraphs.ExportFile.{file_puddle, file_stored}
+use Rattle.pud_defs.proofs.RegistryTables.Spaces.{all_below-from, all_below-each, all_below-fails, any-range}
 use Rattle.graph_laws.specs.Slots.{is_of_type}
 use Rattle.pud_import.specs.Contents.{is_used_in}
 

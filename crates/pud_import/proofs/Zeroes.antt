@@ -1,8 +1,8 @@
 -- Words that are 0, one by one.
 use Rattle.std.proofs.Common.{◌≡◌, ◌≢◌, ℕ, ◌+◌, ◌-◌, ◌<◌, ◌≤◌, true, false, eqb, sym, ap, ◌∙◌, arith, eq-eqb, ne_eqb}
-use Rattle.pud_defs.specs.Spaces.{all_below}
-use Rattle.pud_defs.specs.ExportFile.{is_zero}
-use Rattle.pud_defs.proofs.Spaces.{all_below-same, all_below-from, all_below-each, all_below-fails, all_below-more, all_below-none}
+use Rattle.pud_defs.specs.RegistryTables.Spaces.{all_below}
+use Rattle.pud_defs.specs.PoolGraphs.ExportFile.{is_zero}
+use Rattle.pud_defs.proofs.RegistryTables.Spaces.{all_below-same, all_below-from, all_below-each, all_below-fails, all_below-more, all_below-none}
 
 module _ (word : ℕ → ℕ) (from : ℕ) where
   there : (k : ℕ) → from ≤ k → word (from + (k - from)) ≡ word k

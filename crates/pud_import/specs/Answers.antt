@@ -6,9 +6,9 @@ use Rattle.pm_model.specs.Moments.{State}
 use Rattle.pud_defs.specs.declared.layout.TheConstants.{TYPE_TABLE, TYPE_RECORD_WORDS}
 use Rattle.pud_defs.specs.declared.files.TheConstants.{FILE_HEADER_WORDS}
 use Rattle.pud_defs.specs.declared.records.Puddle.{Puddle}
-use Rattle.pud_defs.specs.Layout.{frames_at}
-use Rattle.pud_defs.specs.Image.{Image}
-use Rattle.pud_defs.specs.ExportFile.{file_frames_at, file_puddle}
+use Rattle.pud_defs.specs.Formats.Layout.{frames_at}
+use Rattle.pud_defs.specs.Formats.Image.{Image}
+use Rattle.pud_defs.specs.PoolGraphs.ExportFile.{file_frames_at, file_puddle}
 
 -- the words of a device that has T types in its table, and K frames, as the file has them; each other word is 0
 abbrev pub as_device : Image → (T K : ℕ) → Image

@@ -2,10 +2,10 @@
 use Rattle.std.specs.Prelude.{ℕ, ◌*◌, Bool, ◌&&◌, ◌==◌, List, length, slice_index, is_some}
 use Rattle.std.specs.List.{list_all, list_any, range_with_len}
 use Rattle.pud_defs.specs.declared.files.TheConstants.{FILE_TYPES_WORD, FILE_PUDDLES_WORD}
-use Rattle.pud_defs.specs.Image.{Image}
-use Rattle.pud_defs.specs.Graph.{Graph, graph_of}
-use Rattle.pud_defs.specs.Stored.{Stored, places_of}
-use Rattle.pud_defs.specs.ExportFile.{FileContents, words_in, file_words, file_types, file_stored, has_file_header, are_file_types, are_file_bases, is_plain}
+use Rattle.pud_defs.specs.Formats.Image.{Image}
+use Rattle.pud_defs.specs.PoolGraphs.Graph.{Graph, graph_of}
+use Rattle.pud_defs.specs.PoolGraphs.Stored.{Stored, places_of}
+use Rattle.pud_defs.specs.PoolGraphs.ExportFile.{FileContents, words_in, file_words, file_types, file_stored, has_file_header, are_file_types, are_file_bases, is_plain}
 use Rattle.graph_laws.specs.Slots.{is_of_type}
 
 -- the words that they spell

@@ -6,9 +6,9 @@ use Rattle.pm_model.specs.Moments.{State}
 use Rattle.pm_model.specs.Changes.{Footprint, Changes}
 use Rattle.pud_defs.specs.declared.layout.TheConstants.{FRAME_WORDS}
 use Rattle.pud_defs.specs.declared.space.TheConstants.{FRAME_NUMBER_WORD}
-use Rattle.pud_defs.specs.Layout.{IsWithin}
-use Rattle.pud_defs.specs.Frames.{frame_at}
-use Rattle.pud_defs.specs.Stored.{Stored}
+use Rattle.pud_defs.specs.Formats.Layout.{IsWithin}
+use Rattle.pud_defs.specs.Formats.Frames.{frame_at}
+use Rattle.pud_defs.specs.PoolGraphs.Stored.{Stored}
 use Rattle.registry.specs.declared.adding.NewPuddle.{NewPuddle}
 
 -- ---- one frame

@@ -7,15 +7,15 @@ use Rattle.pm_model.specs.Changes.{Write, Changes}
 use Rattle.pm_model.specs.Masks.{masked, IsOff}
 use Rattle.pud_defs.specs.declared.layout.TheConstants.{DAEMON_LOG, NEXT_NUMBER_WORD, NUMBER_LIMIT, TYPE_RECORDS}
 use Rattle.pud_defs.specs.declared.records.TheConstants.{POOL_RECORDS}
-use Rattle.pud_defs.specs.Image.{Image}
-use Rattle.pud_defs.specs.Keyed.{first_free, count_used}
-use Rattle.pud_defs.specs.Stored.{Stored}
-use Rattle.pud_defs.specs.ExportFile.{FileContents}
-use Rattle.pud_defs.specs.Imports.{types_missing, numbers_drawn}
-use Rattle.pud_defs.specs.Step.{clashes_with}
-use Rattle.pud_defs.specs.Tables.{Tables, tables_of, pool_in}
-use Rattle.pud_defs.specs.Types.{type_at, types_of, used_types}
-use Rattle.pud_defs.specs.World.{StoredWorld}
+use Rattle.pud_defs.specs.Formats.Image.{Image}
+use Rattle.pud_defs.specs.RegistryTables.Keyed.{first_free, count_used}
+use Rattle.pud_defs.specs.PoolGraphs.Stored.{Stored}
+use Rattle.pud_defs.specs.PoolGraphs.ExportFile.{FileContents}
+use Rattle.pud_defs.specs.StateMachine.Imports.{types_missing, numbers_drawn}
+use Rattle.pud_defs.specs.StateMachine.Step.{clashes_with}
+use Rattle.pud_defs.specs.RegistryTables.Tables.{Tables, tables_of, pool_in}
+use Rattle.pud_defs.specs.RegistryTables.Types.{type_at, types_of, used_types}
+use Rattle.pud_defs.specs.StateMachine.World.{StoredWorld}
 use Rattle.batch.specs.Batches.{ByBatch}
 use Rattle.batch.specs.Worlds.{IsQuiescent}
 use Rattle.batch.specs.Tables.{HasDurableTables}

@@ -1,8 +1,8 @@
 -- A world behind lines that rewrite a pool.
 use Rattle.std.specs.Prelude.{ℕ, List, [], ◌∷◌, Some}
 use Rattle.pud_defs.specs.declared.machine.Command.TheVariants.{Rewrite}
-use Rattle.pud_defs.specs.World.{World}
-use Rattle.pud_defs.specs.Step.{world_by}
+use Rattle.pud_defs.specs.StateMachine.World.{World}
+use Rattle.pud_defs.specs.StateMachine.Step.{world_by}
 
 -- the world behind a line `rewrite` for each of these numbers of steps, on the pool of the name
 abbrev pub behind_rewrites : List ℕ → (steps : List ℕ) → World → World

@@ -1,8 +1,8 @@
 -- What bytes hold of which the counts are known, word by word.
 use Rattle.std.specs.Prelude.{ℕ, List, slice_index}
-use Rattle.pud_defs.specs.Image.{Image}
-use Rattle.pud_defs.specs.Stored.{Stored}
-use Rattle.pud_defs.specs.ExportFile.{words_in, file_types, file_stored}
+use Rattle.pud_defs.specs.Formats.Image.{Image}
+use Rattle.pud_defs.specs.PoolGraphs.Stored.{Stored}
+use Rattle.pud_defs.specs.PoolGraphs.ExportFile.{words_in, file_types, file_stored}
 use Rattle.pud_import.specs.declared.sized_file.SizedFile.{SizedFile}
 
 -- its words

@@ -3,9 +3,9 @@
 ghost use Rattle.std.specs.Prelude.{◌≡◌, ◌<◌, ◌≤◌, ◌==◌, length, map, take};
 ghost use Rattle.std.specs.List.{list_all, list_any};
 ghost use Rattle.std.specs.Ordering.{nat_cmp};
-ghost use Rattle.pud_defs.specs.Bases.{is_legal_base};
-ghost use Rattle.pud_defs.specs.ExportFile.{file_puddle, under_base, are_file_bases};
-ghost use Rattle.pud_defs.specs.Keyed.{are_distinct};
+ghost use Rattle.pud_defs.specs.Formats.Bases.{is_legal_base};
+ghost use Rattle.pud_defs.specs.PoolGraphs.ExportFile.{file_puddle, under_base, are_file_bases};
+ghost use Rattle.pud_defs.specs.RegistryTables.Keyed.{are_distinct};
 ghost use Rattle.pud_import.specs.Answers.{file_pool};
 ghost use Rattle.pud_import.specs.Sized.{image_of_file};
 

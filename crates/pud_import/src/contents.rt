@@ -2,7 +2,7 @@
 
 ghost use Rattle.std.specs.Prelude.{◌≡◌, ◌+◌, ◌<◌};
 ghost use Rattle.pud_defs.specs.declared.layout.TheConstants.{FRAME_WORDS};
-ghost use Rattle.pud_defs.specs.ExportFile.{file_words, file_type, file_bases_at};
+ghost use Rattle.pud_defs.specs.PoolGraphs.ExportFile.{file_words, file_type, file_bases_at};
 ghost use Rattle.pud_import.specs.Sized.{image_of_file, stored_of};
 
 use crate::sized_file::SizedFile;

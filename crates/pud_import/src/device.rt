@@ -1,7 +1,7 @@
 //! A file that answers as a device, so that what reads a device reads a file.
 
 ghost use Rattle.std.specs.Prelude.{◌≡◌, ◌<◌};
-ghost use Rattle.pud_defs.specs.Layout.{device_words};
+ghost use Rattle.pud_defs.specs.Formats.Layout.{device_words};
 ghost use Rattle.pud_import.specs.Answers.{as_device};
 ghost use Rattle.pud_import.specs.Sized.{image_of_file};
 
@@ -32,8 +32,8 @@ impl<'a> SizedFile<'a> {
 impl<'a> Loads for SizedFile<'a> {
     ghost use Rattle.std.specs.Prelude.{slice_index};
     ghost use Rattle.pm_model.specs.Counts.{fresh_counts};
-    ghost use Rattle.pud_defs.specs.ExportFile.{words_in};
-    ghost use Rattle.pud_defs.specs.Layout.{device_words};
+    ghost use Rattle.pud_defs.specs.PoolGraphs.ExportFile.{words_in};
+    ghost use Rattle.pud_defs.specs.Formats.Layout.{device_words};
     ghost use Rattle.pud_import.specs.Answers.{as_device, holding};
 
     ghost tells = { Unit {0} };

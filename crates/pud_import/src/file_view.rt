@@ -4,9 +4,9 @@ ghost use Rattle.std.specs.Prelude.{◌≡◌, ◌+◌, ◌<◌, ◌≤◌, opti
 ghost use Rattle.std.specs.Result.{is_ok};
 ghost use Rattle.pud_defs.specs.declared.layout.TheConstants.{FRAME_WORDS, TYPE_RECORDS};
 ghost use Rattle.pud_defs.specs.declared.records.TheConstants.{MAX_PUDDLES};
-ghost use Rattle.pud_defs.specs.ExportFile.{file_type, file_bases_at, file_graph};
-ghost use Rattle.pud_defs.specs.Exported.{IsExportable};
-ghost use Rattle.pud_defs.specs.Graph.{graph_of};
+ghost use Rattle.pud_defs.specs.PoolGraphs.ExportFile.{file_type, file_bases_at, file_graph};
+ghost use Rattle.pud_defs.specs.PoolGraphs.Exported.{IsExportable};
+ghost use Rattle.pud_defs.specs.PoolGraphs.Graph.{graph_of};
 ghost use Rattle.pud_import.specs.Contents.{file_image, type_count_read, puddle_count_read, types_held, stored_held, contents_read};
 
 use crate::header::sized;
@@ -26,7 +26,7 @@ pub struct FileView<'a> {
 
 impl<'a> Model for FileView<'a> {
     ghost use Rattle.std.specs.Prelude.{◌≡◌, ℕ, true, List, is_some};
-    ghost use Rattle.pud_defs.specs.ExportFile.{file_graph};
+    ghost use Rattle.pud_defs.specs.PoolGraphs.ExportFile.{file_graph};
     ghost use Rattle.pud_import.specs.Contents.{type_count_read, puddle_count_read};
 
     ghost Value = { List ℕ };

@@ -5,7 +5,7 @@ ghost use Rattle.pm_model.specs.Changes.{Changes};
 ghost use Rattle.pm_model.specs.Counts.{after_fault, fault_of};
 ghost use Rattle.pud_defs.specs.declared.layout.TheConstants.{FRAME_WORDS};
 ghost use Rattle.pud_defs.specs.declared.records.TheConstants.{MAX_PUDDLES};
-ghost use Rattle.pud_defs.specs.Layout.{device_words};
+ghost use Rattle.pud_defs.specs.Formats.Layout.{device_words};
 ghost use Rattle.registry.specs.Adding.{IsAddedWithin};
 ghost use Rattle.pud_import.specs.Contents.{puddle_count_read, stored_held};
 ghost use Rattle.pud_import.specs.Filling.{filled_value, FillsFrame, ByFrames, AreFilled};

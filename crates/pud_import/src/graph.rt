@@ -1,9 +1,9 @@
 //! Whether what a file's frames store is a graph.
 
 ghost use Rattle.std.specs.Prelude.{◌≡◌, is_some};
-ghost use Rattle.pud_defs.specs.Graph.{graph_of};
-ghost use Rattle.pud_defs.specs.Stored.{IsOnDevice, stored_in};
-ghost use Rattle.pud_defs.specs.Types.{types_of};
+ghost use Rattle.pud_defs.specs.PoolGraphs.Graph.{graph_of};
+ghost use Rattle.pud_defs.specs.PoolGraphs.Stored.{IsOnDevice, stored_in};
+ghost use Rattle.pud_defs.specs.RegistryTables.Types.{types_of};
 ghost use Rattle.pud_import.specs.Answers.{as_device};
 ghost use Rattle.pud_import.specs.Sized.{image_of_file};
 

@@ -1,7 +1,7 @@
 //! The header of a file, and how many words it says there are.
 
 ghost use Rattle.std.specs.Prelude.{◌≡◌, ◌≤◌, ◌*◌, ◌&&◌, ◌==◌, nat_le, length, is_some, IfSome};
-ghost use Rattle.pud_defs.specs.ExportFile.{has_file_header};
+ghost use Rattle.pud_defs.specs.PoolGraphs.ExportFile.{has_file_header};
 ghost use Rattle.pud_import.specs.Contents.{file_image, type_count_read, puddle_count_read, is_sized};
 
 use crate::sized_file::SizedFile;

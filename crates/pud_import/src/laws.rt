@@ -4,13 +4,13 @@ ghost use Rattle.std.specs.Prelude.{◌≡◌, ℕ, List, Option, true, take, is
 ghost use Rattle.std.specs.Ordering.{nat_cmp};
 ghost use Rattle.std.specs.FinMap.Entries.{is_sorted};
 ghost use Rattle.pm_model.specs.declared.host.TheConstants.{FILE_READ_LIMIT};
-ghost use Rattle.pud_defs.specs.Image.{Image};
+ghost use Rattle.pud_defs.specs.Formats.Image.{Image};
 ghost use Rattle.pud_defs.specs.declared.machine.Command.TheVariants.{Import};
-ghost use Rattle.pud_defs.specs.ExportFile.{file_graph};
-ghost use Rattle.pud_defs.specs.World.{StoredWorld, World, world_of};
-ghost use Rattle.pud_defs.specs.PoolChanges.{pool_named};
-ghost use Rattle.pud_defs.specs.Step.{contents_in, contents_named, refusal_of, after};
-ghost use Rattle.pud_defs.specs.Gives.{Shelf, Exports, contents_of_pool};
+ghost use Rattle.pud_defs.specs.PoolGraphs.ExportFile.{file_graph};
+ghost use Rattle.pud_defs.specs.StateMachine.World.{StoredWorld, World, world_of};
+ghost use Rattle.pud_defs.specs.StateMachine.PoolChanges.{pool_named};
+ghost use Rattle.pud_defs.specs.StateMachine.Step.{contents_in, contents_named, refusal_of, after};
+ghost use Rattle.pud_defs.specs.StateMachine.Gives.{Shelf, Exports, contents_of_pool};
 ghost use Rattle.pud_import.specs.Rewrites.{behind_rewrites};
 
 /// What a host gives of a file decides what the file holds: as many bytes from its front as a host reads at most are one more

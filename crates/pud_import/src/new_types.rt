@@ -4,9 +4,9 @@ ghost use Rattle.std.specs.Prelude.{◌≡◌, ◌<◌, ◌≤◌, Option, IfOk,
 ghost use Rattle.pm_model.specs.Words.{Image, reads};
 ghost use Rattle.pm_model.specs.Reads.{OnlyReads};
 ghost use Rattle.pud_defs.specs.declared.layout.TheConstants.{TYPE_RECORDS};
-ghost use Rattle.pud_defs.specs.Imports.{types_missing};
-ghost use Rattle.pud_defs.specs.Step.{is_clash, clashes_with};
-ghost use Rattle.pud_defs.specs.Types.{map_of, type_at, types_of};
+ghost use Rattle.pud_defs.specs.StateMachine.Imports.{types_missing};
+ghost use Rattle.pud_defs.specs.StateMachine.Step.{is_clash, clashes_with};
+ghost use Rattle.pud_defs.specs.RegistryTables.Types.{map_of, type_at, types_of};
 ghost use Rattle.registry.specs.Placing.{type_of, HasFreeRecords};
 ghost use Rattle.pud_import.specs.Contents.{types_held};
 ghost use Rattle.pud_import.specs.Placing.{place_fault, refusal_in, types_refusal};

@@ -3,11 +3,11 @@
 ghost use Rattle.std.specs.Prelude.{◌≡◌, ◌<◌, ◌≤◌};
 ghost use Rattle.pud_defs.specs.declared.layout.TheConstants.{FRAME_WORDS};
 ghost use Rattle.pud_defs.specs.declared.space.TheConstants.{FRAME_HEADER_WORDS};
-ghost use Rattle.pud_defs.specs.ExportFile.{is_zero, header_words_read, object_words_read, slot_words_read, is_plain};
-ghost use Rattle.pud_defs.specs.Geometry.{places_among, puddle_slot_words};
-ghost use Rattle.pud_defs.specs.Spaces.{all_below};
-ghost use Rattle.pud_defs.specs.Stored.{place_words, place_word};
-ghost use Rattle.pud_defs.specs.Types.{map_of};
+ghost use Rattle.pud_defs.specs.PoolGraphs.ExportFile.{is_zero, header_words_read, object_words_read, slot_words_read, is_plain};
+ghost use Rattle.pud_defs.specs.Formats.Geometry.{places_among, puddle_slot_words};
+ghost use Rattle.pud_defs.specs.RegistryTables.Spaces.{all_below};
+ghost use Rattle.pud_defs.specs.PoolGraphs.Stored.{place_words, place_word};
+ghost use Rattle.pud_defs.specs.RegistryTables.Types.{map_of};
 ghost use Rattle.pud_import.specs.Sized.{types_in, stored_of};
 
 use crate::sized_file::SizedFile;

@@ -3,7 +3,7 @@
 ghost use Rattle.std.specs.Prelude.{◌≡◌, ◌≤◌, ◌*◌, length};
 ghost use Rattle.pud_defs.specs.declared.layout.TheConstants.{TYPE_RECORDS};
 ghost use Rattle.pud_defs.specs.declared.records.TheConstants.{MAX_PUDDLES};
-ghost use Rattle.pud_defs.specs.ExportFile.{file_words};
+ghost use Rattle.pud_defs.specs.PoolGraphs.ExportFile.{file_words};
 
 use pud_defs::layout::TYPE_RECORDS;
 use pud_defs::records::MAX_PUDDLES;

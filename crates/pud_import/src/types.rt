@@ -1,8 +1,8 @@
 //! The types that a file lists.
 
 ghost use Rattle.std.specs.Prelude.{◌≡◌, ◌&&◌, Option, nat_lt};
-ghost use Rattle.pud_defs.specs.ExportFile.{are_file_types};
-ghost use Rattle.pud_defs.specs.Types.{is_sound_type};
+ghost use Rattle.pud_defs.specs.PoolGraphs.ExportFile.{are_file_types};
+ghost use Rattle.pud_defs.specs.RegistryTables.Types.{is_sound_type};
 ghost use Rattle.pud_import.specs.Sized.{types_in};
 
 use crate::sized_file::SizedFile;

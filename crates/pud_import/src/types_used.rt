@@ -2,7 +2,7 @@
 
 ghost use Rattle.std.specs.Prelude.{◌≡◌, ◌<◌};
 ghost use Rattle.std.specs.List.{list_all};
-ghost use Rattle.pud_defs.specs.Geometry.{places_among};
+ghost use Rattle.pud_defs.specs.Formats.Geometry.{places_among};
 ghost use Rattle.graph_laws.specs.Slots.{is_of_type};
 ghost use Rattle.pud_import.specs.Contents.{is_used_in};
 ghost use Rattle.pud_import.specs.Sized.{types_in, stored_of};

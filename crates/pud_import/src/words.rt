@@ -3,7 +3,7 @@
 ghost use Rattle.std.specs.Prelude.{◌≡◌, ◌+◌, ◌*◌, ◌≤◌, length, slice_index};
 ghost use Rattle.std.specs.Int.{from_le_bytes, w64};
 ghost use Rattle.std.specs.List.{slice_range};
-ghost use Rattle.pud_defs.specs.ExportFile.{words_in};
+ghost use Rattle.pud_defs.specs.PoolGraphs.ExportFile.{words_in};
 
 /// How many bytes a word has.
 pub(crate) const WORD: usize = 8;

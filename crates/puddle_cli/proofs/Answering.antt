@@ -13,20 +13,20 @@ use Rattle.pm_model.specs.Changes.{Leaves}
 use Rattle.pm_model.proofs.Leaves.{Leaves-then, Leaves-still, Leaves-weaker}
 use Rattle.pud_defs.specs.declared.layout.TheConstants.{SCRIPT_LIMIT}
 use Rattle.pud_defs.specs.declared.machine.Command.{Command}
-use Rattle.pud_defs.specs.World.{World, world_of, closed}
-use Rattle.pud_defs.specs.Grammar.{command_of}
-use Rattle.pud_defs.specs.Gives.{Gives, StepBy}
-use Rattle.pud_defs.specs.Run.{Turn, IsTurn, cuts_of, IsRun, last_world, newlines, open_rest, lines_taken, lines_among}
-use Rattle.pud_defs.specs.Texts.{answer_text, begins_with_ok}
-use Rattle.pud_defs.specs.Stands.{StandsAfter, StandsWith}
-use Rattle.pud_defs.specs.Changing.{file_in, KeepsFiles}
-use Rattle.pud_defs.proofs.Changing.{KeepsFiles-still, KeepsUnwritable-still, KeepsUnwritable-then, KeepsUnwritable-line}
-use Rattle.pud_defs.proofs.Commands.{command_of-front}
-use Rattle.pud_defs.proofs.Lines.{open_rest-newline, open_rest-other, open_rest-nothing, lines_taken-nothing, lines_taken-newline, lines_taken-other, lines_taken-end, lines_among_empty, lines_among_line}
+use Rattle.pud_defs.specs.StateMachine.World.{World, world_of, closed}
+use Rattle.pud_defs.specs.StateMachine.Grammar.{command_of}
+use Rattle.pud_defs.specs.StateMachine.Gives.{Gives, StepBy}
+use Rattle.pud_defs.specs.StateMachine.Run.{Turn, IsTurn, cuts_of, IsRun, last_world, newlines, open_rest, lines_taken, lines_among}
+use Rattle.pud_defs.specs.Output.Texts.{answer_text, begins_with_ok}
+use Rattle.pud_defs.specs.StateMachine.Stands.{StandsAfter, StandsWith}
+use Rattle.pud_defs.specs.StateMachine.Changing.{file_in, KeepsFiles}
+use Rattle.pud_defs.proofs.StateMachine.Changing.{KeepsFiles-still, KeepsUnwritable-still, KeepsUnwritable-then, KeepsUnwritable-line}
+use Rattle.pud_defs.proofs.StateMachine.Commands.{command_of-front}
+use Rattle.pud_defs.proofs.StateMachine.Lines.{open_rest-newline, open_rest-other, open_rest-nothing, lines_taken-nothing, lines_taken-newline, lines_taken-other, lines_taken-end, lines_among_empty, lines_among_line}
 use Rattle.ready_daemon.proofs.Beside.{ready_stands}
-use Rattle.pud_defs.proofs.Runs.{IsRun-append, last_world-append}
-use Rattle.pud_defs.proofs.Said.{replies_text-append}
-use Rattle.pud_defs.proofs.Stands.{StandsAfter-more, StandsWith-later}
+use Rattle.pud_defs.proofs.StateMachine.Runs.{IsRun-append, last_world-append}
+use Rattle.pud_defs.proofs.Output.Said.{replies_text-append}
+use Rattle.pud_defs.proofs.StateMachine.Stands.{StandsAfter-more, StandsWith-later}
 use Rattle.puddled.specs.declared.daemon.RunFault.{RunFault}
 use Rattle.puddled.specs.declared.daemon.RunFault.TheVariants.{NotSound}
 use Rattle.puddled.specs.Faults.{of_host, run_fault, CountsLine, CountsReply, CountsTurns, Grows}

@@ -12,13 +12,13 @@ use Rattle.pm_model.proofs.Words.{Picks-reads, reads_only}
 use Rattle.pm_model.proofs.Changes.{Changes-said}
 use Rattle.pm_model.proofs.Leaves.{Leaves-changes, Leaves-then, Leaves-weaker, Leaves-now, Leaves-each, Leaves-says, Leaves-still}
 use Rattle.pud_defs.specs.declared.layout.TheConstants.{DEVICE_MAGIC, MAGIC_WORD}
-use Rattle.pud_defs.specs.Layout.{frames_at, device_words, is_legal_frame_count}
-use Rattle.pud_defs.specs.Image.{Image}
-use Rattle.pud_defs.specs.Registry.{has_magic}
-use Rattle.pud_defs.specs.World.{world_of, blank_world, IsBlank}
-use Rattle.pud_defs.specs.Texts.{formatted_text}
-use Rattle.pud_defs.proofs.Worlds.{world_of-no_magic}
-use Rattle.pud_defs.proofs.Blank.{world_of-blank}
+use Rattle.pud_defs.specs.Formats.Layout.{frames_at, device_words, is_legal_frame_count}
+use Rattle.pud_defs.specs.Formats.Image.{Image}
+use Rattle.pud_defs.specs.RegistryTables.Registry.{has_magic}
+use Rattle.pud_defs.specs.StateMachine.World.{world_of, blank_world, IsBlank}
+use Rattle.pud_defs.specs.Output.Texts.{formatted_text}
+use Rattle.pud_defs.proofs.StateMachine.Worlds.{world_of-no_magic}
+use Rattle.pud_defs.proofs.Formats.Blank.{world_of-blank}
 use Rattle.puddled.proofs.Lines.{SaysPart-says, SaysPart-nothing, words_said, script_said, shelf_said}
 use Rattle.puddle_cli.specs.Formatting.{is_format_refused, HasNoMagic, BelowFrames, IsLaidOut, HasFramesOf, KeepsFrames, LaysOut, Formats}
 

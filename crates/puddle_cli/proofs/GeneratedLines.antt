@@ -3,8 +3,8 @@ use Rattle.std.proofs.Common.{◌≡◌, ℕ, suc, ◌+◌, ◌*◌, ◌<◌, �
 use Rattle.std.specs.Prelude.{All, get_or}
 use Rattle.std.proofs.lemmas.Bool.{cases_eq}
 use Rattle.std.proofs.lemmas.List.{append-nil}
-use Rattle.pud_defs.specs.Run.{newlines, open_rest, lines_taken, lines_among}
-use Rattle.pud_defs.proofs.Lines.{newlines-append, newlines_one, newlines_other, open_rest-newline, open_rest-other, open_rest-nothing, lines_taken-nothing, lines_taken-newline, lines_taken-other, lines_taken-end, lines_among_empty, lines_among_line}
+use Rattle.pud_defs.specs.StateMachine.Run.{newlines, open_rest, lines_taken, lines_among}
+use Rattle.pud_defs.proofs.StateMachine.Lines.{newlines-append, newlines_one, newlines_other, open_rest-newline, open_rest-other, open_rest-nothing, lines_taken-nothing, lines_taken-newline, lines_taken-other, lines_taken-end, lines_among_empty, lines_among_line}
 use Rattle.puddle_cli.specs.Generated.{bytes_of}
 
 -- ---- the front of bytes closes the first of the lines that all close

@@ -11,14 +11,14 @@ use Rattle.pm_model.specs.Moments.{State}
 use Rattle.pm_model.specs.Changes.{Leaves}
 use Rattle.pm_model.proofs.Leaves.{Leaves-then, Leaves-weaker, Leaves-each, Leaves-says}
 use Rattle.pud_defs.specs.declared.layout.TheConstants.{SCRIPT_LIMIT}
-use Rattle.pud_defs.specs.World.{World, StoredWorld, no_clients, nothing_open, stored_by, world_of, closed}
-use Rattle.pud_defs.specs.Run.{Turn, IsRun, last_world, lines_taken}
-use Rattle.pud_defs.specs.Changing.{KeepsFiles, KeepsUnwritable}
-use Rattle.pud_defs.specs.Registry.{frames_of}
-use Rattle.pud_defs.specs.SoundTables.{HasSoundTables}
-use Rattle.pud_defs.specs.Tables.{tables_of}
-use Rattle.pud_defs.specs.StartText.{start_text}
-use Rattle.pud_defs.proofs.Changing.{KeepsFiles-still, KeepsUnwritable-still, KeepsUnwritable-then}
+use Rattle.pud_defs.specs.StateMachine.World.{World, StoredWorld, no_clients, nothing_open, stored_by, world_of, closed}
+use Rattle.pud_defs.specs.StateMachine.Run.{Turn, IsRun, last_world, lines_taken}
+use Rattle.pud_defs.specs.StateMachine.Changing.{KeepsFiles, KeepsUnwritable}
+use Rattle.pud_defs.specs.RegistryTables.Registry.{frames_of}
+use Rattle.pud_defs.specs.RegistryTables.SoundTables.{HasSoundTables}
+use Rattle.pud_defs.specs.RegistryTables.Tables.{tables_of}
+use Rattle.pud_defs.specs.Output.StartText.{start_text}
+use Rattle.pud_defs.proofs.StateMachine.Changing.{KeepsFiles-still, KeepsUnwritable-still, KeepsUnwritable-then}
 use Rattle.pud_check.specs.Summary.{summary_text}
 use Rattle.pud_check.specs.SummaryListed.{listed_summary}
 use Rattle.gen_work.specs.GenLines.{gen_lines}

@@ -12,11 +12,11 @@ use Rattle.pm_model.proofs.Leaves.{Leaves-changes, Leaves-then}
 use Rattle.pm_persist.specs.Ranges.{zeroed}
 use Rattle.pm_persist.proofs.Ranges.{zeroed_at, zeroed_within, placed_within}
 use Rattle.pud_defs.specs.declared.layout.TheConstants.{DEVICE_MAGIC, VERSION, MAGIC_WORD, VERSION_WORD, MACHINE_WORD, FRAMES_WORD, NEXT_NUMBER_WORD}
-use Rattle.pud_defs.specs.Layout.{frames_at}
-use Rattle.pud_defs.specs.Image.{Image, image_with}
-use Rattle.pud_defs.specs.Registry.{has_magic}
-use Rattle.pud_defs.specs.World.{IsBlank}
-use Rattle.pud_defs.proofs.Images.{written_there, written_other}
+use Rattle.pud_defs.specs.Formats.Layout.{frames_at}
+use Rattle.pud_defs.specs.Formats.Image.{Image, image_with}
+use Rattle.pud_defs.specs.RegistryTables.Registry.{has_magic}
+use Rattle.pud_defs.specs.StateMachine.World.{IsBlank}
+use Rattle.pud_defs.proofs.Formats.Images.{written_there, written_other}
 use Rattle.type_maps.proofs.OneWord.{image_of_one, image_after_one}
 use Rattle.puddle_cli.specs.Formatting.{HasNoMagic, BelowFrames, IsLaidOut, LaysOut}
 

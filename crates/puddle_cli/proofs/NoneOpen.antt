@@ -7,12 +7,12 @@ use Rattle.pud_defs.specs.declared.machine.Command.{Command}
 use Rattle.pud_defs.specs.declared.machine.Command.TheVariants.{Client, Export, Import, Rewrite}
 use Rattle.pud_defs.specs.declared.machine.Command.TheVariants as commands
 use Rattle.pud_defs.specs.declared.machine.Refusal.{Refusal}
-use Rattle.pud_defs.specs.Gives.{StepBy, may_lack_memory}
-use Rattle.pud_defs.specs.Grammar.{command_of}
-use Rattle.pud_defs.specs.Run.{Turn, IsTurn, IsRun, last_world}
-use Rattle.pud_defs.specs.Step.{Answer, after, refusal_of, unless_refused, world_by}
-use Rattle.pud_defs.specs.World.{World, restart, nothing_open}
-use Rattle.pud_defs.proofs.Opened.{opened}
+use Rattle.pud_defs.specs.StateMachine.Gives.{StepBy, may_lack_memory}
+use Rattle.pud_defs.specs.StateMachine.Grammar.{command_of}
+use Rattle.pud_defs.specs.StateMachine.Run.{Turn, IsTurn, IsRun, last_world}
+use Rattle.pud_defs.specs.StateMachine.Step.{Answer, after, refusal_of, unless_refused, world_by}
+use Rattle.pud_defs.specs.StateMachine.World.{World, restart, nothing_open}
+use Rattle.pud_defs.proofs.Examples.Opened.{opened}
 use Rattle.pud_check.specs.Summary.{gen_pool, copy_pool}
 use Rattle.gen_work.specs.GenLines.{opening_lines, object_lines, closing_lines, number_at, gen_lines}
 

@@ -5,10 +5,10 @@ use Rattle.std.specs.Fmt.{digits, digits_onto, digit_glyph}
 use Rattle.std.specs.List.{range_with_len}
 use Rattle.std.proofs.lemmas.List.Elements.{All-append}
 use Rattle.pud_defs.specs.declared.machine.Reply.TheVariants as replies
-use Rattle.pud_defs.specs.Run.{newlines}
-use Rattle.pud_defs.specs.Texts.{line_of, reply_text}
-use Rattle.pud_defs.proofs.Lines.{newlines-append}
-use Rattle.pud_defs.proofs.Said.{newlines-reply_text}
+use Rattle.pud_defs.specs.StateMachine.Run.{newlines}
+use Rattle.pud_defs.specs.Output.Texts.{line_of, reply_text}
+use Rattle.pud_defs.proofs.StateMachine.Lines.{newlines-append}
+use Rattle.pud_defs.proofs.Output.Said.{newlines-reply_text}
 use Rattle.gen_work.specs.GenLines.{opening_lines, object_lines, closing_lines, number_at, gen_lines}
 use Rattle.puddle_cli.proofs.GeneratedLines.{IsPlainLine}
 

@@ -8,9 +8,9 @@ use Rattle.std.proofs.lemmas.List.Folds.{concat-append}
 use Rattle.pm_model.specs.Words.{reads}
 use Rattle.pm_model.specs.Moments.{State}
 use Rattle.pm_model.specs.Calls.{TakesByte}
-use Rattle.pud_defs.specs.Run.{open_rest, lines_taken, lines_among}
-use Rattle.pud_defs.specs.StartText.{start_text}
-use Rattle.pud_defs.proofs.Lines.{open_rest-newline, open_rest-other, open_rest-nothing, lines_taken-nothing, lines_taken-newline, lines_taken-other, lines_taken-end, lines_among_empty, lines_among_line}
+use Rattle.pud_defs.specs.StateMachine.Run.{open_rest, lines_taken, lines_among}
+use Rattle.pud_defs.specs.Output.StartText.{start_text}
+use Rattle.pud_defs.proofs.StateMachine.Lines.{open_rest-newline, open_rest-other, open_rest-nothing, lines_taken-nothing, lines_taken-newline, lines_taken-other, lines_taken-end, lines_among_empty, lines_among_line}
 use Rattle.puddled.specs.declared.daemon.RunFault.{RunFault}
 use Rattle.pm_model.specs.declared.host.HostFault.{HostFault}
 use Rattle.puddled.specs.Faults.{run_fault}

@@ -8,16 +8,16 @@ use Rattle.pm_model.specs.Words.{Image, IsRested, reads}
 use Rattle.pm_model.specs.Moments.{State}
 use Rattle.pm_model.specs.Changes.{Leaves}
 use Rattle.pm_model.proofs.Leaves.{Leaves-then, Leaves-weaker, Leaves-each}
-use Rattle.pud_defs.specs.Grammar.{command_of}
-use Rattle.pud_defs.specs.World.{World, StoredWorld, no_clients, nothing_open, world_of, closed, restart}
-use Rattle.pud_defs.specs.Run.{last_world, Turn, cuts_of, newlines}
-use Rattle.pud_defs.specs.Texts.{replies_text}
-use Rattle.pud_defs.specs.StartText.{start_text}
-use Rattle.pud_defs.specs.Stands.{StandsWith, StandsBehind}
+use Rattle.pud_defs.specs.StateMachine.Grammar.{command_of}
+use Rattle.pud_defs.specs.StateMachine.World.{World, StoredWorld, no_clients, nothing_open, world_of, closed, restart}
+use Rattle.pud_defs.specs.StateMachine.Run.{last_world, Turn, cuts_of, newlines}
+use Rattle.pud_defs.specs.Output.Texts.{replies_text}
+use Rattle.pud_defs.specs.Output.StartText.{start_text}
+use Rattle.pud_defs.specs.StateMachine.Stands.{StandsWith, StandsBehind}
 use Rattle.ready_daemon.proofs.Beside.{ready_stands}
-use Rattle.pud_defs.proofs.Changing.{KeepsFiles-still, KeepsUnwritable-still, KeepsUnwritable-then}
-use Rattle.pud_defs.proofs.Lines.{newlines-append, newlines_part, lines_taken-nothing}
-use Rattle.pud_defs.proofs.Stands.{StandsBehind-closed, StandsBehind-after}
+use Rattle.pud_defs.proofs.StateMachine.Changing.{KeepsFiles-still, KeepsUnwritable-still, KeepsUnwritable-then}
+use Rattle.pud_defs.proofs.StateMachine.Lines.{newlines-append, newlines_part, lines_taken-nothing}
+use Rattle.pud_defs.proofs.StateMachine.Stands.{StandsBehind-closed, StandsBehind-after}
 use Rattle.recover.specs.Recovery.{RefusesSame}
 use Rattle.independence.proofs.Runs.{independent_whole}
 use Rattle.puddled.specs.declared.daemon.RunFault.{RunFault}

@@ -9,26 +9,26 @@ use Rattle.pm_model.specs.Calls.{Says}
 use Rattle.pm_model.specs.Changes.{Leaves}
 use Rattle.pm_model.proofs.Leaves.{Leaves-then, Leaves-weaker, Leaves-says}
 use Rattle.pud_defs.specs.declared.layout.TheConstants.{DAEMON_LOG, MACHINE_WORD, FRAMES_WORD, NEXT_NUMBER_WORD, TYPE_TABLE, TYPE_RECORDS, SPACE_TABLE, PUDDLE_TABLE}
-use Rattle.pud_defs.specs.Image.{Image}
-use Rattle.pud_defs.specs.Layout.{tables_end, frames_at}
-use Rattle.pud_defs.specs.Settled.{is_in_logs, settled}
-use Rattle.pud_defs.specs.Registry.{frames_of}
-use Rattle.pud_defs.specs.Types.{type_record_at, type_at, types_of}
-use Rattle.pud_defs.specs.Tables.{Tables, tables_of}
-use Rattle.pud_defs.specs.Run.{newlines}
-use Rattle.pud_defs.specs.StartText.{start_text}
-use Rattle.pud_defs.specs.CheckText.{check_text}
-use Rattle.pud_defs.specs.SoundTables.{are_sound_tables, HasSoundTables}
-use Rattle.pud_defs.specs.LayoutText.{tables_text, layout_text}
-use Rattle.pud_defs.specs.World.{StoredWorld, World, pools_in, stored_by, no_clients, nothing_open, world_of}
-use Rattle.pud_defs.proofs.Replay.{outside_log}
-use Rattle.pud_defs.proofs.Keyed.{keyed-same}
-use Rattle.pud_defs.proofs.TypeTable.{type_at-same}
-use Rattle.pud_defs.proofs.TablesOf.{tables_of-same}
-use Rattle.pud_defs.proofs.Holdings.{pools_in-same, frame_among}
-use Rattle.pud_defs.proofs.SoundChanged.{sound_from}
-use Rattle.pud_defs.proofs.Parts.{HoldsWorld}
-use Rattle.pud_defs.proofs.Worlds.{holding_of_world, frames_of_world}
+use Rattle.pud_defs.specs.Formats.Image.{Image}
+use Rattle.pud_defs.specs.Formats.Layout.{tables_end, frames_at}
+use Rattle.pud_defs.specs.Logging.Settled.{is_in_logs, settled}
+use Rattle.pud_defs.specs.RegistryTables.Registry.{frames_of}
+use Rattle.pud_defs.specs.RegistryTables.Types.{type_record_at, type_at, types_of}
+use Rattle.pud_defs.specs.RegistryTables.Tables.{Tables, tables_of}
+use Rattle.pud_defs.specs.StateMachine.Run.{newlines}
+use Rattle.pud_defs.specs.Output.StartText.{start_text}
+use Rattle.pud_defs.specs.Output.CheckText.{check_text}
+use Rattle.pud_defs.specs.RegistryTables.SoundTables.{are_sound_tables, HasSoundTables}
+use Rattle.pud_defs.specs.Output.LayoutText.{tables_text, layout_text}
+use Rattle.pud_defs.specs.StateMachine.World.{StoredWorld, World, pools_in, stored_by, no_clients, nothing_open, world_of}
+use Rattle.pud_defs.proofs.Logging.Replay.{outside_log}
+use Rattle.pud_defs.proofs.KeyedTables.Keyed.{keyed-same}
+use Rattle.pud_defs.proofs.RegistryTables.TypeTable.{type_at-same}
+use Rattle.pud_defs.proofs.RegistryTables.TablesOf.{tables_of-same}
+use Rattle.pud_defs.proofs.PoolGraphs.Holdings.{pools_in-same, frame_among}
+use Rattle.pud_defs.proofs.RegistryTables.SoundChanged.{sound_from}
+use Rattle.pud_defs.proofs.StateMachine.Parts.{HoldsWorld}
+use Rattle.pud_defs.proofs.StateMachine.Worlds.{holding_of_world, frames_of_world}
 use Rattle.ready_daemon.proofs.Beside.{ready_stands}
 use Rattle.puddled.specs.declared.daemon.StartFault.{StartFault}
 use Rattle.puddled.specs.declared.daemon.StartFault.TheVariants as starts

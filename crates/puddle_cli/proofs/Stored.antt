@@ -6,11 +6,11 @@ use Rattle.pm_model.specs.Masks.{masked}
 use Rattle.pm_model.proofs.Masks.{reads-masked}
 use Rattle.pm_model.specs.Moments.{State}
 use Rattle.pud_defs.specs.declared.machine.Command.{Command}
-use Rattle.pud_defs.specs.Gives.{Gives, StepBy}
-use Rattle.pud_defs.specs.Grammar.{command_of}
-use Rattle.pud_defs.specs.Run.{Turn, IsTurn, IsRun, last_world}
-use Rattle.pud_defs.specs.Step.{Answer}
-use Rattle.pud_defs.specs.World.{World, pools_in, stored_by, closed, nothing_open}
+use Rattle.pud_defs.specs.StateMachine.Gives.{Gives, StepBy}
+use Rattle.pud_defs.specs.StateMachine.Grammar.{command_of}
+use Rattle.pud_defs.specs.StateMachine.Run.{Turn, IsTurn, IsRun, last_world}
+use Rattle.pud_defs.specs.StateMachine.Step.{Answer}
+use Rattle.pud_defs.specs.StateMachine.World.{World, pools_in, stored_by, closed, nothing_open}
 use Rattle.ready_daemon.specs.Memory.{Memory, ActiveTransaction, active_under}
 use Rattle.ready_daemon.specs.Ready.{IsReady}
 use Rattle.puddled.proofs.LinesCarriedOut.{frames_by}

@@ -6,11 +6,11 @@ use Rattle.pm_model.specs.Words.{Has, values, Words, Picks, HasOnly, IsRested, r
 use Rattle.pm_model.specs.Moments.{State, MayLeave}
 use Rattle.pm_model.specs.Changes.{IsKept, Changes, Leaves, Silently}
 use Rattle.pud_defs.specs.declared.layout.TheConstants.{DEVICE_MAGIC, VERSION, MAGIC_WORD, VERSION_WORD, MACHINE_WORD, FRAMES_WORD, NEXT_NUMBER_WORD}
-use Rattle.pud_defs.specs.Layout.{frames_at, device_words}
-use Rattle.pud_defs.specs.Image.{Image}
-use Rattle.pud_defs.specs.Registry.{has_magic}
-use Rattle.pud_defs.specs.World.{world_of, blank_world, IsBlank}
-use Rattle.pud_defs.specs.Texts.{formatted_text}
+use Rattle.pud_defs.specs.Formats.Layout.{frames_at, device_words}
+use Rattle.pud_defs.specs.Formats.Image.{Image}
+use Rattle.pud_defs.specs.RegistryTables.Registry.{has_magic}
+use Rattle.pud_defs.specs.StateMachine.World.{world_of, blank_world, IsBlank}
+use Rattle.pud_defs.specs.Output.Texts.{formatted_text}
 use Rattle.puddled.specs.Saying.{SaysPart}
 use Rattle.puddle_cli.specs.declared.format.TheConstants.{FIRST_NUMBER}
 

@@ -4,11 +4,11 @@ use Rattle.pm_model.specs.Words.{Picks, reads}
 use Rattle.pm_model.specs.Counts.{Counts}
 use Rattle.pm_model.specs.Moments.{State, MayLeave}
 use Rattle.pm_model.specs.Changes.{Leaves}
-use Rattle.pud_defs.specs.Image.{Image}
-use Rattle.pud_defs.specs.World.{World, world_of, closed}
-use Rattle.pud_defs.specs.Changing.{KeepsFiles}
-use Rattle.pud_defs.specs.Run.{Turn, IsRun, last_world}
-use Rattle.pud_defs.specs.StartText.{start_text}
+use Rattle.pud_defs.specs.Formats.Image.{Image}
+use Rattle.pud_defs.specs.StateMachine.World.{World, world_of, closed}
+use Rattle.pud_defs.specs.StateMachine.Changing.{KeepsFiles}
+use Rattle.pud_defs.specs.StateMachine.Run.{Turn, IsRun, last_world}
+use Rattle.pud_defs.specs.Output.StartText.{start_text}
 use Rattle.pud_check.specs.Summary.{summary_text}
 use Rattle.pud_check.specs.SummaryListed.{listed_summary}
 use Rattle.puddled.specs.declared.daemon.RunFault.{RunFault}

@@ -4,14 +4,14 @@ use Rattle.pm_model.specs.Words.{Picks, reads}
 use Rattle.pm_model.specs.Counts.{Counts, after_fault}
 use Rattle.pm_model.specs.Moments.{State, MayLeave}
 use Rattle.pud_defs.specs.declared.layout.TheConstants.{SCRIPT_LIMIT}
-use Rattle.pud_defs.specs.Image.{Image}
-use Rattle.pud_defs.specs.World.{World, world_of, closed}
-use Rattle.pud_defs.specs.Grammar.{command_of}
-use Rattle.pud_defs.specs.Changing.{KeepsFiles, KeepsUnwritable}
-use Rattle.pud_defs.specs.Run.{Turn, cuts_of, IsRun, last_world, lines_taken, newlines}
-use Rattle.pud_defs.specs.Texts.{replies_text}
-use Rattle.pud_defs.specs.StartText.{start_text}
-use Rattle.pud_defs.specs.Stands.{StandsBehind}
+use Rattle.pud_defs.specs.Formats.Image.{Image}
+use Rattle.pud_defs.specs.StateMachine.World.{World, world_of, closed}
+use Rattle.pud_defs.specs.StateMachine.Grammar.{command_of}
+use Rattle.pud_defs.specs.StateMachine.Changing.{KeepsFiles, KeepsUnwritable}
+use Rattle.pud_defs.specs.StateMachine.Run.{Turn, cuts_of, IsRun, last_world, lines_taken, newlines}
+use Rattle.pud_defs.specs.Output.Texts.{replies_text}
+use Rattle.pud_defs.specs.Output.StartText.{start_text}
+use Rattle.pud_defs.specs.StateMachine.Stands.{StandsBehind}
 use Rattle.independence.specs.Independence.{AreIndependent}
 use Rattle.puddle_cli.specs.declared.status.TheConstants.{DONE, POWER_LOST, TOO_LONG}
 use Rattle.recover.specs.Recovery.{RefusesSame}

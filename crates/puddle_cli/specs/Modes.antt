@@ -4,12 +4,12 @@ use Rattle.pm_model.specs.Words.{IsRested, reads}
 use Rattle.pm_model.specs.Moments.{State}
 use Rattle.pm_model.specs.Counts.{Counts, Rose, after_fault}
 use Rattle.pm_model.specs.Changes.{Leaves}
-use Rattle.pud_defs.specs.Image.{Image}
-use Rattle.pud_defs.specs.Settled.{settled}
-use Rattle.pud_defs.specs.Registry.{frames_of}
-use Rattle.pud_defs.specs.Run.{newlines}
-use Rattle.pud_defs.specs.StartText.{start_text}
-use Rattle.pud_defs.specs.World.{StoredWorld, World, no_clients, nothing_open, world_of, closed}
+use Rattle.pud_defs.specs.Formats.Image.{Image}
+use Rattle.pud_defs.specs.Logging.Settled.{settled}
+use Rattle.pud_defs.specs.RegistryTables.Registry.{frames_of}
+use Rattle.pud_defs.specs.StateMachine.Run.{newlines}
+use Rattle.pud_defs.specs.Output.StartText.{start_text}
+use Rattle.pud_defs.specs.StateMachine.World.{StoredWorld, World, no_clients, nothing_open, world_of, closed}
 use Rattle.ready_daemon.specs.Ready.{KeepsInput, RefusesNone}
 use Rattle.puddled.specs.Saying.{SaysPart}
 use Rattle.gen_work.specs.GenLines.{gen_lines}

@@ -3,8 +3,8 @@ use Rattle.std.specs.Prelude.{◌≡◌, ◌⊎◌, ℕ, ◌≤◌, Bool, false,
 use Rattle.std.specs.List.{concat}
 use Rattle.pm_model.specs.Words.{reads}
 use Rattle.pm_model.specs.Moments.{State}
-use Rattle.pud_defs.specs.Run.{open_rest, lines_taken, lines_among}
-use Rattle.pud_defs.specs.StartText.{start_text}
+use Rattle.pud_defs.specs.StateMachine.Run.{open_rest, lines_taken, lines_among}
+use Rattle.pud_defs.specs.Output.StartText.{start_text}
 use Rattle.puddled.specs.declared.daemon.RunFault.{RunFault}
 use Rattle.puddled.specs.Saying.{IsPart, SaysPart}
 use Rattle.puddled.specs.Daemon.{IsAnswerText}

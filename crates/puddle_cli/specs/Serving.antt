@@ -5,13 +5,13 @@ use Rattle.pm_model.specs.Counts.{Counts, Rose, after_fault}
 use Rattle.pm_model.specs.Moments.{State}
 use Rattle.pm_model.specs.Changes.{Leaves}
 use Rattle.pud_defs.specs.declared.layout.TheConstants.{SCRIPT_LIMIT}
-use Rattle.pud_defs.specs.Image.{Image}
-use Rattle.pud_defs.specs.World.{World, world_of, closed}
-use Rattle.pud_defs.specs.Grammar.{command_of}
-use Rattle.pud_defs.specs.Changing.{file_in, KeepsFiles, KeepsUnwritable}
-use Rattle.pud_defs.specs.Run.{Turn, cuts_of, IsRun, last_world, open_rest, lines_taken, lines_among}
-use Rattle.pud_defs.specs.Texts.{replies_text, begins_with_ok}
-use Rattle.pud_defs.specs.Stands.{StandsWith}
+use Rattle.pud_defs.specs.Formats.Image.{Image}
+use Rattle.pud_defs.specs.StateMachine.World.{World, world_of, closed}
+use Rattle.pud_defs.specs.StateMachine.Grammar.{command_of}
+use Rattle.pud_defs.specs.StateMachine.Changing.{file_in, KeepsFiles, KeepsUnwritable}
+use Rattle.pud_defs.specs.StateMachine.Run.{Turn, cuts_of, IsRun, last_world, open_rest, lines_taken, lines_among}
+use Rattle.pud_defs.specs.Output.Texts.{replies_text, begins_with_ok}
+use Rattle.pud_defs.specs.StateMachine.Stands.{StandsWith}
 use Rattle.puddled.specs.declared.daemon.RunFault.{RunFault}
 use Rattle.puddled.specs.declared.daemon.RunFault.TheVariants.{CutInStart, NotSound}
 use Rattle.puddled.specs.Faults.{run_fault, last_fault, CountsLine, CountsTurns}

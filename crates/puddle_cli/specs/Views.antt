@@ -3,10 +3,10 @@ use Rattle.std.specs.Prelude.{ℕ, List, Option}
 use Rattle.pm_model.specs.declared.host.HostFault.{HostFault}
 use Rattle.pm_model.specs.Moments.{State}
 use Rattle.pm_model.specs.Calls.{Says}
-use Rattle.pud_defs.specs.Image.{Image}
-use Rattle.pud_defs.specs.LayoutText.{layout_text}
-use Rattle.pud_defs.specs.CheckText.{check_text}
-use Rattle.pud_defs.specs.World.{stored_by}
+use Rattle.pud_defs.specs.Formats.Image.{Image}
+use Rattle.pud_defs.specs.Output.LayoutText.{layout_text}
+use Rattle.pud_defs.specs.Output.CheckText.{check_text}
+use Rattle.pud_defs.specs.StateMachine.World.{stored_by}
 use Rattle.puddle_cli.specs.declared.show.View.{View}
 use Rattle.puddle_cli.specs.declared.show.View.TheVariants.{Layout, Check}
 

@@ -3,7 +3,7 @@ ghost use Rattle.std.specs.Prelude.{◌≡◌, ◌≢◌, ◌↔◌, ◌≤◌, 
 ghost use Rattle.pm_model.specs.Words.{reads};
 ghost use Rattle.pm_model.specs.Counts.{after_fault, fault_of};
 ghost use Rattle.pm_model.specs.Reads.{OnlyReads};
-ghost use Rattle.pud_defs.specs.Layout.{device_words, is_legal_frame_count};
+ghost use Rattle.pud_defs.specs.Formats.Layout.{device_words, is_legal_frame_count};
 ghost use Rattle.puddle_cli.specs.Status.{status_fault, IsStatusOfMode};
 ghost use Rattle.puddle_cli.specs.Formatting.{is_format_refused, LaysOut, Formats};
 

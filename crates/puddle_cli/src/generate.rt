@@ -2,9 +2,9 @@
 ghost use Rattle.std.specs.Prelude.{◌≡◌, ◌≢◌, ◌⊎◌, ◌↔◌, ◌≤◌, ℕ, [], length, Option, Result};
 ghost use Rattle.pm_model.specs.Words.{IsRested, reads};
 ghost use Rattle.pm_model.specs.Counts.{Rose};
-ghost use Rattle.pud_defs.specs.Layout.{device_words};
-ghost use Rattle.pud_defs.specs.StartText.{start_text};
-ghost use Rattle.pud_defs.specs.World.{World, no_clients, nothing_open, world_of, closed};
+ghost use Rattle.pud_defs.specs.Formats.Layout.{device_words};
+ghost use Rattle.pud_defs.specs.Output.StartText.{start_text};
+ghost use Rattle.pud_defs.specs.StateMachine.World.{World, no_clients, nothing_open, world_of, closed};
 ghost use Rattle.gen_work.specs.GenLines.{gen_lines};
 ghost use Rattle.command_line.specs.declared.modes.TheConstants.{MAX_SEED, MAX_OBJECTS};
 ghost use Rattle.ready_daemon.specs.Ready.{IsReady};

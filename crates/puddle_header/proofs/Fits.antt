@@ -4,10 +4,10 @@ use Rattle.std.specs.Prelude.{cond}
 use Rattle.std.proofs.lemmas.Bool.{cond-true, cond-false}
 use Rattle.pud_defs.specs.declared.space.TheConstants.{FRAME_MAGIC_WORD, FRAME_NUMBER_WORD, FRAME_ORDINAL_WORD}
 use Rattle.pud_defs.specs.declared.records.TheConstants.{PUDDLE_NUMBER_WORD}
-use Rattle.pud_defs.specs.Image.{Image}
-use Rattle.pud_defs.specs.Frames.{frame_word}
-use Rattle.pud_defs.specs.Puddles.{puddle_by, puddle_at, puddle_record_at, member_pool, member_ordinal}
-use Rattle.pud_defs.specs.Headers.{is_header, is_header_of, header_fits}
+use Rattle.pud_defs.specs.Formats.Image.{Image}
+use Rattle.pud_defs.specs.Formats.Frames.{frame_word}
+use Rattle.pud_defs.specs.RegistryTables.Puddles.{puddle_by, puddle_at, puddle_record_at, member_pool, member_ordinal}
+use Rattle.pud_defs.specs.Formats.Headers.{is_header, is_header_of, header_fits}
 
 pub is_header-words : (given place m n o m' n' o' : ℕ) → m ≡ m' → n ≡ n' → o ≡ o' → is_header given place m n o ≡ is_header given place m' n' o'
 is_header-words given place m n o m' n' o' a b c = rw (a, b, c) refl

@@ -4,11 +4,11 @@ use Rattle.std.proofs.lemmas.Bool.{cond-true, lt-ltb}
 use Rattle.pud_defs.specs.declared.layout.TheConstants.{FRAME_WORDS}
 use Rattle.pud_defs.specs.declared.records.Puddle.{Puddle}
 use Rattle.pud_defs.specs.declared.records.Slot.{Slot}
-use Rattle.pud_defs.specs.Geometry.{puddle_slots, slots_of, slot_words_of, puddle_slot_at, ordinal_of, slot_of, place_at}
-use Rattle.pud_defs.specs.Image.{Image}
-use Rattle.pud_defs.specs.Frames.{frame_word}
-use Rattle.pud_defs.specs.Headers.{slot_word}
-use Rattle.pud_defs.specs.Stored.{stored_in, place_word, word_in_frame}
+use Rattle.pud_defs.specs.Formats.Geometry.{puddle_slots, slots_of, slot_words_of, puddle_slot_at, ordinal_of, slot_of, place_at}
+use Rattle.pud_defs.specs.Formats.Image.{Image}
+use Rattle.pud_defs.specs.Formats.Frames.{frame_word}
+use Rattle.pud_defs.specs.Formats.Headers.{slot_word}
+use Rattle.pud_defs.specs.PoolGraphs.Stored.{stored_in, place_word, word_in_frame}
 use Rattle.puddle_header.specs.Places.{place_of_slot, IsSlotOf}
 
 -- the ordinal and the slot of a place

@@ -2,7 +2,7 @@
 use Rattle.std.specs.Prelude.{◌≡◌, ℕ, ◌<◌, List, length, slice_get, Some}
 use Rattle.pud_defs.specs.declared.records.Puddle.{Puddle}
 use Rattle.pud_defs.specs.declared.records.Slot.{Slot}
-use Rattle.pud_defs.specs.Geometry.{slots_of, place_at, places_among}
+use Rattle.pud_defs.specs.Formats.Geometry.{slots_of, place_at, places_among}
 
 -- how many places the puddles have
 abbrev pub places_in : List (ℕ × Puddle) → ℕ

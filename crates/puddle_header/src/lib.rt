@@ -10,10 +10,10 @@ ghost use Rattle.std.specs.Prelude.{◌≡◌, ◌+◌, ◌<◌, ◌≤◌, IfOk
 ghost use Rattle.pm_model.specs.Words.{Image, reads};
 ghost use Rattle.pm_model.specs.Counts.{fault_of};
 ghost use Rattle.pm_model.specs.Reads.{OnlyReads};
-ghost use Rattle.pud_defs.specs.Layout.{device_words};
-ghost use Rattle.pud_defs.specs.Geometry.{puddle_slots, puddle_slot_words};
-ghost use Rattle.pud_defs.specs.Frames.{frame_word};
-ghost use Rattle.pud_defs.specs.Headers.{slot_word, is_header, header_fits};
+ghost use Rattle.pud_defs.specs.Formats.Layout.{device_words};
+ghost use Rattle.pud_defs.specs.Formats.Geometry.{puddle_slots, puddle_slot_words};
+ghost use Rattle.pud_defs.specs.Formats.Frames.{frame_word};
+ghost use Rattle.pud_defs.specs.Formats.Headers.{slot_word, is_header, header_fits};
 
 mod places;
 

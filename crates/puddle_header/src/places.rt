@@ -8,8 +8,8 @@ ghost use Rattle.pm_model.specs.Words.{Image, reads};
 ghost use Rattle.pm_model.specs.Counts.{fault_of};
 ghost use Rattle.pm_model.specs.Reads.{OnlyReads};
 ghost use Rattle.pud_defs.specs.declared.space.TheConstants.{SLOT_SERIAL_WORD};
-ghost use Rattle.pud_defs.specs.Layout.{device_words};
-ghost use Rattle.pud_defs.specs.Stored.{IsOnDevice, stored_in, place_word};
+ghost use Rattle.pud_defs.specs.Formats.Layout.{device_words};
+ghost use Rattle.pud_defs.specs.PoolGraphs.Stored.{IsOnDevice, stored_in, place_word};
 ghost use Rattle.puddle_header.specs.Places.{places_in, place_of_slot, IsSlotOf};
 
 use crate::slot_serial;

@@ -1,12 +1,12 @@
 -- Bases that some puddle has, frame by frame.
 use Rattle.std.proofs.Common.{◌≡◌, ℕ, ◌<◌, Bool, true, false, not, refl, sym, ap, ◌∙◌}
-use Rattle.pud_defs.specs.Image.{Image}
-use Rattle.pud_defs.specs.Placement.{has_another_base}
-use Rattle.pud_defs.specs.Puddles.{puddle_at}
-use Rattle.pud_defs.specs.Spaces.{all_below}
-use Rattle.pud_defs.specs.Tables.{tables_of}
-use Rattle.pud_defs.proofs.Spaces.{all_below-same, all_below-fails}
-use Rattle.pud_defs.proofs.TablesOf.{frames_of_tables, puddles_below}
+use Rattle.pud_defs.specs.Formats.Image.{Image}
+use Rattle.pud_defs.specs.RegistryTables.Placement.{has_another_base}
+use Rattle.pud_defs.specs.RegistryTables.Puddles.{puddle_at}
+use Rattle.pud_defs.specs.RegistryTables.Spaces.{all_below}
+use Rattle.pud_defs.specs.RegistryTables.Tables.{tables_of}
+use Rattle.pud_defs.proofs.RegistryTables.Spaces.{all_below-same, all_below-fails}
+use Rattle.pud_defs.proofs.RegistryTables.TablesOf.{frames_of_tables, puddles_below}
 
 pub not_twice : (b : Bool) → not (not b) ≡ b
 not_twice true = refl

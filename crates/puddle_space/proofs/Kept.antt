@@ -5,8 +5,8 @@ use Rattle.std.proofs.lemmas.Bool.{cases_eq, and_right}
 use Rattle.std.proofs.lemmas.List.Sums.{sum_by-set}
 use Rattle.std.specs.Prelude.{cond, nat_lt, Some, None, IsSome}
 use Rattle.std.specs.List.{position, position_or_len}
-use Rattle.pud_defs.specs.Bases.{base_at}
-use Rattle.pud_defs.specs.Spaces.{all_below}
+use Rattle.pud_defs.specs.Formats.Bases.{base_at}
+use Rattle.pud_defs.specs.RegistryTables.Spaces.{all_below}
 use Rattle.puddle_space.specs.declared.bases.TheConstants.{TRIED}
 use Rattle.puddle_space.specs.FreeRanges.{free_count, is_free, IsRange, LeavesFree}
 

@@ -1,12 +1,12 @@
 -- The place of an address, record by record.
 use Rattle.std.proofs.Common.{◌≡◌, ℕ, zero, suc, ◌+◌, ◌-◌, ◌<◌, ◌≤◌, Option, Some, None, option_map, refl, sym, ap, ap₂, ◌∙◌, arith}
 use Rattle.std.specs.Option.{option_or}
-use Rattle.pud_defs.specs.Image.{Image}
-use Rattle.pud_defs.specs.Puddles.{Member, puddle_at}
-use Rattle.pud_defs.specs.Tables.{tables_of}
-use Rattle.pud_defs.specs.Places.{first_some, word_in, place_in_puddle, located}
+use Rattle.pud_defs.specs.Formats.Image.{Image}
+use Rattle.pud_defs.specs.RegistryTables.Puddles.{Member, puddle_at}
+use Rattle.pud_defs.specs.RegistryTables.Tables.{tables_of}
+use Rattle.pud_defs.specs.RegistryTables.Places.{first_some, word_in, place_in_puddle, located}
 use Rattle.puddle_space.specs.Nearby.{base_of_member}
-use Rattle.pud_defs.proofs.TablesOf.{puddles_below, frames_of_tables}
+use Rattle.pud_defs.proofs.RegistryTables.TablesOf.{puddles_below, frames_of_tables}
 
 -- ---- steps of a search
 

@@ -4,14 +4,14 @@ use Rattle.std.specs.List.{list_all}
 use Rattle.std.proofs.lemmas.Bool.{and_parts, leb-true}
 use Rattle.std.proofs.lemmas.Bool.Decides.{nat_tests}
 use Rattle.pud_defs.specs.declared.space.TheConstants.{SPACE_START, SPACE_BYTES, RANGE_BYTES}
-use Rattle.pud_defs.specs.Image.{Image}
-use Rattle.pud_defs.specs.Bases.{base_at, is_legal_base}
-use Rattle.pud_defs.specs.Spaces.{all_below}
-use Rattle.pud_defs.specs.Puddles.{puddle_at}
-use Rattle.pud_defs.specs.Tables.{tables_of}
-use Rattle.pud_defs.specs.Places.{has_other_bases, is_free_base, IsLowestBase}
-use Rattle.pud_defs.proofs.Spaces.{all_below-same}
-use Rattle.pud_defs.proofs.TablesOf.{puddles_below, frames_of_tables}
+use Rattle.pud_defs.specs.Formats.Image.{Image}
+use Rattle.pud_defs.specs.Formats.Bases.{base_at, is_legal_base}
+use Rattle.pud_defs.specs.RegistryTables.Spaces.{all_below}
+use Rattle.pud_defs.specs.RegistryTables.Puddles.{puddle_at}
+use Rattle.pud_defs.specs.RegistryTables.Tables.{tables_of}
+use Rattle.pud_defs.specs.RegistryTables.Places.{has_other_bases, is_free_base, IsLowestBase}
+use Rattle.pud_defs.proofs.RegistryTables.Spaces.{all_below-same}
+use Rattle.pud_defs.proofs.RegistryTables.TablesOf.{puddles_below, frames_of_tables}
 use Rattle.puddle_space.specs.declared.bases.TheConstants.{TRIED}
 use Rattle.puddle_space.specs.FreeRanges.{is_free, LeavesFree}
 

@@ -1,7 +1,7 @@
 -- Which of the ranges that are tried are free, as a list with a test for each.
 use Rattle.std.specs.Prelude.{◌≡◌, ℕ, ◌<◌, Bool, false, ◌&&◌, List, slice_index_or}
 use Rattle.std.specs.List.{count_by}
-use Rattle.pud_defs.specs.Bases.{base_at}
+use Rattle.pud_defs.specs.Formats.Bases.{base_at}
 use Rattle.puddle_space.specs.declared.bases.TheConstants.{TRIED}
 
 -- how many are free

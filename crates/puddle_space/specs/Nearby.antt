@@ -1,9 +1,9 @@
 -- The addresses around one that was located.
 use Rattle.std.specs.Prelude.{◌≡◌, ℕ, ◌-◌, ◌/◌, ◌<◌, ◌≤◌, Some, All}
 use Rattle.pud_defs.specs.declared.space.TheConstants.{WORD_BYTES}
-use Rattle.pud_defs.specs.Places.{located}
-use Rattle.pud_defs.specs.Puddles.{Member}
-use Rattle.pud_defs.specs.Tables.{Tables}
+use Rattle.pud_defs.specs.RegistryTables.Places.{located}
+use Rattle.pud_defs.specs.RegistryTables.Puddles.{Member}
+use Rattle.pud_defs.specs.RegistryTables.Tables.{Tables}
 use Rattle.puddle_space.specs.declared.addresses.Gap.{Gap}
 use Rattle.puddle_space.specs.declared.addresses.Nearby.{Nearby}
 use Rattle.puddle_space.specs.declared.addresses.Neighbours.{Neighbours}

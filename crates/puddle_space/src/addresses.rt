@@ -6,10 +6,10 @@ ghost use Rattle.pm_model.specs.Counts.{fault_of};
 ghost use Rattle.pm_model.specs.Reads.{OnlyReads};
 ghost use Rattle.pud_defs.specs.declared.layout.TheConstants.{FRAME_WORDS};
 ghost use Rattle.pud_defs.specs.declared.space.TheConstants.{WORD_BYTES};
-ghost use Rattle.pud_defs.specs.Layout.{tables_end};
-ghost use Rattle.pud_defs.specs.Puddles.{puddle_at};
-ghost use Rattle.pud_defs.specs.Tables.{Tables, tables_of};
-ghost use Rattle.pud_defs.specs.Places.{word_in, located};
+ghost use Rattle.pud_defs.specs.Formats.Layout.{tables_end};
+ghost use Rattle.pud_defs.specs.RegistryTables.Puddles.{puddle_at};
+ghost use Rattle.pud_defs.specs.RegistryTables.Tables.{Tables, tables_of};
+ghost use Rattle.pud_defs.specs.RegistryTables.Places.{word_in, located};
 ghost use Rattle.puddle_space.specs.Within.{IsPlaceIn};
 ghost use Rattle.puddle_space.specs.Nearby.{base_of_member, IsInGap, AreNeighbours, IsNearby};
 

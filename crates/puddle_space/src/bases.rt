@@ -6,12 +6,12 @@ ghost use Rattle.std.specs.List.{list_all, position};
 ghost use Rattle.pm_model.specs.Words.{Image, reads};
 ghost use Rattle.pm_model.specs.Counts.{fault_of};
 ghost use Rattle.pm_model.specs.Reads.{OnlyReads};
-ghost use Rattle.pud_defs.specs.Layout.{tables_end};
-ghost use Rattle.pud_defs.specs.Bases.{base_at};
-ghost use Rattle.pud_defs.specs.Spaces.{all_below};
-ghost use Rattle.pud_defs.specs.Puddles.{puddle_at};
-ghost use Rattle.pud_defs.specs.Tables.{tables_of};
-ghost use Rattle.pud_defs.specs.Places.{has_other_bases, IsLowestBase};
+ghost use Rattle.pud_defs.specs.Formats.Layout.{tables_end};
+ghost use Rattle.pud_defs.specs.Formats.Bases.{base_at};
+ghost use Rattle.pud_defs.specs.RegistryTables.Spaces.{all_below};
+ghost use Rattle.pud_defs.specs.RegistryTables.Puddles.{puddle_at};
+ghost use Rattle.pud_defs.specs.RegistryTables.Tables.{tables_of};
+ghost use Rattle.pud_defs.specs.RegistryTables.Places.{has_other_bases, IsLowestBase};
 ghost use Rattle.puddle_space.specs.FreeRanges.{free_count, is_free, IsRange, LeavesFree};
 
 use pm_model::{Host, HostFault};

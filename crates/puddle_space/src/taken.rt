@@ -4,11 +4,11 @@ ghost use Rattle.std.specs.Prelude.{◌≡◌, ◌+◌, ◌<◌, ◌≤◌, not,
 ghost use Rattle.pm_model.specs.Words.{Image, reads};
 ghost use Rattle.pm_model.specs.Counts.{fault_of};
 ghost use Rattle.pm_model.specs.Reads.{OnlyReads};
-ghost use Rattle.pud_defs.specs.Layout.{tables_end};
-ghost use Rattle.pud_defs.specs.Placement.{has_another_base};
-ghost use Rattle.pud_defs.specs.Puddles.{puddle_at};
-ghost use Rattle.pud_defs.specs.Spaces.{all_below};
-ghost use Rattle.pud_defs.specs.Tables.{tables_of};
+ghost use Rattle.pud_defs.specs.Formats.Layout.{tables_end};
+ghost use Rattle.pud_defs.specs.RegistryTables.Placement.{has_another_base};
+ghost use Rattle.pud_defs.specs.RegistryTables.Puddles.{puddle_at};
+ghost use Rattle.pud_defs.specs.RegistryTables.Spaces.{all_below};
+ghost use Rattle.pud_defs.specs.RegistryTables.Tables.{tables_of};
 
 use pm_model::{Host, HostFault};
 use pud_defs::layout::{MAX_FRAMES, PUDDLE_RECORD_WORDS, PUDDLE_TABLE};

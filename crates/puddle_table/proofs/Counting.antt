@@ -3,12 +3,12 @@ use Rattle.std.proofs.Common.{◌≡◌, inl, inr, ℕ, ◌+◌, ◌-◌, ◌<�
 use Rattle.std.proofs.lemmas.Bool.{cases_eq}
 use Rattle.std.proofs.lemmas.List.{get_or-replicate}
 use Rattle.pud_defs.specs.declared.records.TheConstants.{POOL_RECORDS}
-use Rattle.pud_defs.specs.Image.{Image}
-use Rattle.pud_defs.specs.Keyed.{count_used}
-use Rattle.pud_defs.specs.Puddles.{member_pool, puddle_record_at}
-use Rattle.pud_defs.specs.Tables.{Tables, tables_of, member_of, members}
-use Rattle.pud_defs.proofs.Keyed.{count_used_step}
-use Rattle.pud_defs.proofs.TablesOf.{puddles_below, puddle_at-free}
+use Rattle.pud_defs.specs.Formats.Image.{Image}
+use Rattle.pud_defs.specs.RegistryTables.Keyed.{count_used}
+use Rattle.pud_defs.specs.RegistryTables.Puddles.{member_pool, puddle_record_at}
+use Rattle.pud_defs.specs.RegistryTables.Tables.{Tables, tables_of, member_of, members}
+use Rattle.pud_defs.proofs.KeyedTables.Keyed.{count_used_step}
+use Rattle.pud_defs.proofs.RegistryTables.TablesOf.{puddles_below, puddle_at-free}
 use Rattle.puddle_table.specs.Records.{CountsPools, CountsMember}
 use Rattle.puddle_table.proofs.Search.{used_record}
 

@@ -8,12 +8,12 @@ use Rattle.std.proofs.lemmas.List.{get_or-replicate}
 use Rattle.std.proofs.lemmas.Option.{none-some, same_Some}
 use Rattle.pud_defs.specs.declared.records.TheConstants.{POOL_RECORDS, MAX_PUDDLES}
 use Rattle.pud_defs.specs.declared.records.Puddle.{Puddle}
-use Rattle.pud_defs.specs.Image.{Image}
-use Rattle.pud_defs.specs.Keyed.{count_used, first_from}
-use Rattle.pud_defs.specs.Puddles.{puddle_record_at, puddle_read}
-use Rattle.pud_defs.specs.Tables.{tables_of, members, puddles_of, puddle_in}
-use Rattle.pud_defs.proofs.Keyed.{chosen_some, find-keyed, first_from_step, first_from_end, first_from_some, count_used_step}
-use Rattle.pud_defs.proofs.TablesOf.{puddles_below, puddle_at-free, frames_of_tables}
+use Rattle.pud_defs.specs.Formats.Image.{Image}
+use Rattle.pud_defs.specs.RegistryTables.Keyed.{count_used, first_from}
+use Rattle.pud_defs.specs.RegistryTables.Puddles.{puddle_record_at, puddle_read}
+use Rattle.pud_defs.specs.RegistryTables.Tables.{tables_of, members, puddles_of, puddle_in}
+use Rattle.pud_defs.proofs.KeyedTables.Keyed.{chosen_some, find-keyed, first_from_step, first_from_end, first_from_some, count_used_step}
+use Rattle.pud_defs.proofs.RegistryTables.TablesOf.{puddles_below, puddle_at-free, frames_of_tables}
 use Rattle.puddle_table.specs.Records.{is_member, puddle_words_at}
 use Rattle.puddle_table.specs.Placed.{Placed, frame_of_puddle, AreFramesBelow, PutsMember, HoldsPlaces}
 use Rattle.puddle_table.proofs.Search.{used_record, under_table}

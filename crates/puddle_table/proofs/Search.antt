@@ -6,13 +6,13 @@ use Rattle.std.proofs.lemmas.Bool.Decides.{nat_tests}
 use Rattle.std.proofs.lemmas.Cmp.{nat_cmp_total}
 use Rattle.pud_defs.specs.declared.records.Puddle.{Puddle}
 use Rattle.pud_defs.specs.declared.records.PuddleRecord.{PuddleRecord}
-use Rattle.pud_defs.specs.Image.{Image}
-use Rattle.pud_defs.specs.Keyed.{first_free, under, first_from}
-use Rattle.pud_defs.specs.Puddles.{Member, member_pool, member_ordinal, puddle_record_at, puddle_by, puddle_at, puddle_read, member_word}
-use Rattle.pud_defs.specs.Puts.{put_of, puddle_put}
-use Rattle.pud_defs.specs.Tables.{tables_of, member_of, members, puddles_of, puddle_in}
-use Rattle.pud_defs.proofs.Keyed.{find-keyed, first_from_here, first_from_other, first_from_end, first_free_here, first_free_used, first_free_end}
-use Rattle.pud_defs.proofs.TablesOf.{puddles_below, frames_of_tables, puddle_at-free}
+use Rattle.pud_defs.specs.Formats.Image.{Image}
+use Rattle.pud_defs.specs.RegistryTables.Keyed.{first_free, under, first_from}
+use Rattle.pud_defs.specs.RegistryTables.Puddles.{Member, member_pool, member_ordinal, puddle_record_at, puddle_by, puddle_at, puddle_read, member_word}
+use Rattle.pud_defs.specs.RegistryTables.Puts.{put_of, puddle_put}
+use Rattle.pud_defs.specs.RegistryTables.Tables.{tables_of, member_of, members, puddles_of, puddle_in}
+use Rattle.pud_defs.proofs.KeyedTables.Keyed.{find-keyed, first_from_here, first_from_other, first_from_end, first_free_here, first_free_used, first_free_end}
+use Rattle.pud_defs.proofs.RegistryTables.TablesOf.{puddles_below, frames_of_tables, puddle_at-free}
 use Rattle.puddle_table.specs.declared.PuddleFault.{PuddleFault}
 use Rattle.puddle_table.specs.declared.PuddleFault.TheVariants.{NoSpace}
 use Rattle.puddle_table.specs.Records.{frame_by, puddle_added_at, is_member, puddle_words_at}

@@ -7,9 +7,9 @@ use Rattle.std.proofs.lemmas.List.Elements.{All-nil, All-cons, All-append}
 use Rattle.std.proofs.lemmas.Option.{none-some}
 use Rattle.pud_defs.specs.declared.records.TheConstants.{POOL_RECORDS, MAX_PUDDLES}
 use Rattle.pud_defs.specs.declared.records.Puddle.{Puddle}
-use Rattle.pud_defs.specs.Image.{Image}
-use Rattle.pud_defs.specs.Tables.{Tables, tables_of, puddles_of, in_turn, puddles_in_turn}
-use Rattle.pud_defs.proofs.PuddlesListed.{in_turn-found, in_turn-none, in_turn-end}
+use Rattle.pud_defs.specs.Formats.Image.{Image}
+use Rattle.pud_defs.specs.RegistryTables.Tables.{Tables, tables_of, puddles_of, in_turn, puddles_in_turn}
+use Rattle.pud_defs.proofs.RegistryTables.PuddlesListed.{in_turn-found, in_turn-none, in_turn-end}
 use Rattle.puddle_table.specs.Records.{puddle_words_at}
 use Rattle.puddle_table.specs.Placed.{Placed, AreFramesBelow, frame_of_puddle, HoldsPlaces}
 use Rattle.puddle_table.proofs.Placing.{puddle_found}

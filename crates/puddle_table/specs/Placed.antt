@@ -3,8 +3,8 @@ use Rattle.std.specs.Prelude.{◌≡◌, ℕ, ◌+◌, ◌*◌, ◌<◌, ◌==�
 use Rattle.std.specs.Ordering.{nat_cmp}
 use Rattle.std.specs.FinMap.Entries.{find}
 use Rattle.pud_defs.specs.declared.records.TheConstants.{POOL_RECORDS, MAX_PUDDLES}
-use Rattle.pud_defs.specs.Keyed.{count_used}
-use Rattle.pud_defs.specs.Tables.{Tables, puddles_of}
+use Rattle.pud_defs.specs.RegistryTables.Keyed.{count_used}
+use Rattle.pud_defs.specs.RegistryTables.Tables.{Tables, puddles_of}
 use Rattle.puddle_table.specs.Records.{is_member}
 
 -- How many frames there are, how many of them have a puddle, and the frames of the puddles: 16 places for each slot of the pool table, by the ordinals.

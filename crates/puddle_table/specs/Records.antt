@@ -5,11 +5,11 @@ use Rattle.pud_defs.specs.declared.records.TheConstants.{POOL_RECORDS, PUDDLE_NU
 use Rattle.pud_defs.specs.declared.records.Puddle.{Puddle}
 use Rattle.pud_defs.specs.declared.records.PuddleRecord.{PuddleRecord}
 use Rattle.pud_defs.specs.declared.records.Put.{Put}
-use Rattle.pud_defs.specs.Image.{Image}
-use Rattle.pud_defs.specs.Keyed.{first_free, count_used}
-use Rattle.pud_defs.specs.Puddles.{member_pool, member_ordinal, puddle_record_at}
-use Rattle.pud_defs.specs.Tables.{Tables, members}
-use Rattle.pud_defs.specs.Puts.{puddle_put, with_puddle_at, member_by}
+use Rattle.pud_defs.specs.Formats.Image.{Image}
+use Rattle.pud_defs.specs.RegistryTables.Keyed.{first_free, count_used}
+use Rattle.pud_defs.specs.RegistryTables.Puddles.{member_pool, member_ordinal, puddle_record_at}
+use Rattle.pud_defs.specs.RegistryTables.Tables.{Tables, members}
+use Rattle.pud_defs.specs.RegistryTables.Puts.{puddle_put, with_puddle_at, member_by}
 use Rattle.puddle_table.specs.declared.PuddleFault.{PuddleFault}
 use Rattle.puddle_table.specs.declared.PuddleFault.TheVariants as faults
 

@@ -12,12 +12,12 @@ ghost use Rattle.pm_model.specs.Counts.{fault_of};
 ghost use Rattle.pm_model.specs.Reads.{OnlyReads};
 ghost use Rattle.pud_defs.specs.declared.layout.TheConstants.{MAX_FRAMES};
 ghost use Rattle.pud_defs.specs.declared.records.TheConstants.{POOL_RECORDS};
-ghost use Rattle.pud_defs.specs.Image.{Image};
-ghost use Rattle.pud_defs.specs.Layout.{tables_end};
-ghost use Rattle.pud_defs.specs.Keyed.{first_free};
-ghost use Rattle.pud_defs.specs.Puddles.{puddle_record_at, puddle_read};
-ghost use Rattle.pud_defs.specs.Tables.{tables_of, puddle_in};
-ghost use Rattle.pud_defs.specs.Puts.{puddle_put, free_puddle_put, with_put, with_puddle_at, member_by};
+ghost use Rattle.pud_defs.specs.Formats.Image.{Image};
+ghost use Rattle.pud_defs.specs.Formats.Layout.{tables_end};
+ghost use Rattle.pud_defs.specs.RegistryTables.Keyed.{first_free};
+ghost use Rattle.pud_defs.specs.RegistryTables.Puddles.{puddle_record_at, puddle_read};
+ghost use Rattle.pud_defs.specs.RegistryTables.Tables.{tables_of, puddle_in};
+ghost use Rattle.pud_defs.specs.RegistryTables.Puts.{puddle_put, free_puddle_put, with_put, with_puddle_at, member_by};
 ghost use Rattle.puddle_table.specs.Records.{fault_in, frame_by, puddle_added, AddsPuddle, CountsPools, CountsMember, is_member, puddle_words_at, frontier_of, IsFrame};
 
 pub use places::{Places, Puddles, find_places, find_puddles};

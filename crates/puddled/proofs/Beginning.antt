@@ -10,13 +10,13 @@ use Rattle.pm_model.specs.Changes.{Leaves, Silently}
 use Rattle.pm_model.proofs.Changes.{Changes-said}
 use Rattle.pm_model.proofs.Leaves.{Leaves-both, Leaves-changes, Leaves-now, Leaves-then, Leaves-weaker, Leaves-says}
 use Rattle.pud_defs.specs.declared.layout.TheConstants.{DAEMON_LOG, CLIENTS}
-use Rattle.pud_defs.specs.Image.{Image}
-use Rattle.pud_defs.specs.Run.{newlines}
-use Rattle.pud_defs.specs.StartText.{refused_lines, start_text}
-use Rattle.pud_defs.specs.Texts.{ready_text}
-use Rattle.pud_defs.specs.World.{World, world_of, closed}
-use Rattle.pud_defs.proofs.Lines.{newlines-append, newlines_part}
-use Rattle.pud_defs.proofs.StartText.{refused_lines-same}
+use Rattle.pud_defs.specs.Formats.Image.{Image}
+use Rattle.pud_defs.specs.StateMachine.Run.{newlines}
+use Rattle.pud_defs.specs.Output.StartText.{refused_lines, start_text}
+use Rattle.pud_defs.specs.Output.Texts.{ready_text}
+use Rattle.pud_defs.specs.StateMachine.World.{World, world_of, closed}
+use Rattle.pud_defs.proofs.StateMachine.Lines.{newlines-append, newlines_part}
+use Rattle.pud_defs.proofs.Output.StartText.{refused_lines-same}
 use Rattle.batch.specs.Batches.{ByBatch, IsBatched}
 use Rattle.log_space.specs.Clearing.{clearing, Empties}
 use Rattle.recover.specs.declared.judge.Mark.{Mark}

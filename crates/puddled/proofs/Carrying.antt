@@ -12,14 +12,14 @@ use Rattle.pud_defs.specs.declared.machine.Command.TheVariants.{Leave, Cut, Arm,
 use Rattle.pud_defs.specs.declared.machine.Reply.{Reply}
 use Rattle.pud_defs.specs.declared.machine.Reply.TheVariants as replies
 use Rattle.pud_defs.specs.declared.machine.Refusal.TheVariants as refusals
-use Rattle.pud_defs.specs.World.{World, restart}
-use Rattle.pud_defs.specs.Step.{Answer, refusal_of, after, answer, answer_by, world_by}
-use Rattle.pud_defs.specs.Step.Answer.{of_reply, of_text}
-use Rattle.pud_defs.specs.Listing.{pools_text}
-use Rattle.pud_defs.specs.Gives.{StepBy, may_lack_memory}
-use Rattle.pud_defs.specs.Changing.{file_of, file_in}
-use Rattle.pud_defs.proofs.Changing.{Gives-plain, KeepsFiles-still, KeepsFiles-then}
-use Rattle.pud_defs.proofs.Steps.{answer_is_ok, done_world}
+use Rattle.pud_defs.specs.StateMachine.World.{World, restart}
+use Rattle.pud_defs.specs.StateMachine.Step.{Answer, refusal_of, after, answer, answer_by, world_by}
+use Rattle.pud_defs.specs.StateMachine.Step.Answer.{of_reply, of_text}
+use Rattle.pud_defs.specs.Output.Listing.{pools_text}
+use Rattle.pud_defs.specs.StateMachine.Gives.{StepBy, may_lack_memory}
+use Rattle.pud_defs.specs.StateMachine.Changing.{file_of, file_in}
+use Rattle.pud_defs.proofs.StateMachine.Changing.{Gives-plain, KeepsFiles-still, KeepsFiles-then}
+use Rattle.pud_defs.proofs.StateMachine.Steps.{answer_is_ok, done_world}
 use Rattle.puddled.specs.Faults.{Kind, kind_of, CountsCommand}
 use Rattle.puddled.specs.Faults.Kind.{ordinary, loses, arms}
 use Rattle.ready_daemon.specs.Memory.{Memory}

@@ -11,11 +11,11 @@ use Rattle.pud_defs.specs.declared.machine.Command.TheVariants.{Leave, Begin, Co
 use Rattle.pud_defs.specs.declared.machine.Refusal.{Refusal}
 use Rattle.pud_defs.specs.declared.machine.Reply.{Reply}
 use Rattle.pud_defs.specs.declared.machine.Reply.TheVariants as replies
-use Rattle.pud_defs.specs.Changing.{file_of}
-use Rattle.pud_defs.specs.World.{World}
-use Rattle.pud_defs.specs.Step.{refusal_of, after, answer_by, world_by}
-use Rattle.pud_defs.specs.Step.Answer.{of_reply}
-use Rattle.pud_defs.proofs.Steps.{refused_answer, done_world}
+use Rattle.pud_defs.specs.StateMachine.Changing.{file_of}
+use Rattle.pud_defs.specs.StateMachine.World.{World}
+use Rattle.pud_defs.specs.StateMachine.Step.{refusal_of, after, answer_by, world_by}
+use Rattle.pud_defs.specs.StateMachine.Step.Answer.{of_reply}
+use Rattle.pud_defs.proofs.StateMachine.Steps.{refused_answer, done_world}
 use Rattle.puddled.proofs.Frontiers.{MovesNone, AppliesAs-refused, AppliesAs-failed}
 use Rattle.puddled.specs.LineAnswers.{as_line_answer}
 use Rattle.pool_transaction.specs.declared.changing.Change.{Change}

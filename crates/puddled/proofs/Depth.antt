@@ -5,10 +5,10 @@ use Rattle.std.proofs.lemmas.Bool.{cond-false, lt-leb}
 use Rattle.std.proofs.lemmas.Option.{same_Some}
 use Rattle.pm_model.specs.Moments.{State}
 use Rattle.pud_defs.specs.declared.machine.Command.TheVariants as commands
-use Rattle.pud_defs.specs.Step.{after}
-use Rattle.pud_defs.specs.Tables.{Pool}
-use Rattle.pud_defs.specs.Transactions.{with_open, lowered, committed_pools}
-use Rattle.pud_defs.specs.World.{Transaction, World, open_on}
+use Rattle.pud_defs.specs.StateMachine.Step.{after}
+use Rattle.pud_defs.specs.RegistryTables.Tables.{Pool}
+use Rattle.pud_defs.specs.StateMachine.Transactions.{with_open, lowered, committed_pools}
+use Rattle.pud_defs.specs.StateMachine.World.{Transaction, World, open_on}
 use Rattle.nesting.specs.declared.Session.{Session}
 use Rattle.nesting.specs.Sessions.{lowered_session, session_depth, depth_in, left}
 use Rattle.ready_daemon.specs.Memory.{ActiveTransaction, Memory, active_under}

@@ -12,27 +12,27 @@ use Rattle.pm_model.proofs.Changes.{Changes-said, HasOnly-kept}
 use Rattle.pm_model.proofs.Leaves.{Leaves-now}
 use Rattle.pud_defs.specs.declared.layout.TheConstants.{DAEMON_LOG, FRAMES_WORD, TYPE_TABLE, SPACE_TABLE, PUDDLE_TABLE, CLIENTS, CLIENT_LOGS}
 use Rattle.pud_defs.specs.declared.log_words.TheConstants.{CLOSED_GATE}
-use Rattle.pud_defs.specs.Image.{Image}
-use Rattle.pud_defs.specs.Layout.{IsWithin, tables_end, log_at, frames_at}
-use Rattle.pud_defs.specs.Entries.{Entry, log_of, is_idle_gate}
-use Rattle.pud_defs.specs.Replay.{overwritten, is_in_log, settled_by}
-use Rattle.pud_defs.specs.Spaces.{Owner, owner, owner_by, owner_of, is_closed_log, has_closed_logs, space_record_at}
-use Rattle.pud_defs.specs.Tables.{tables_of}
-use Rattle.pud_defs.specs.Allowed.{is_allowed_log, is_refused, is_accepted}
-use Rattle.pud_defs.specs.Settled.{ALL_LOGS, client_of_log, log_number_at, is_refused_log, is_accepted_log, is_in_logs, beside_logs, settled_over, settled}
-use Rattle.pud_defs.specs.Registry.{frames_of, has_legal_log}
-use Rattle.pud_defs.specs.World.{StoredWorld, world_of}
-use Rattle.pud_defs.proofs.Replay.{overwritten-stays, overwritten-there, settled_by-idle, outside_log, not_inside}
-use Rattle.pud_defs.proofs.Spaces.{all_below-from, has_closed_logs-same, are_legal_spaces-same, are_legal_spaces-none}
-use Rattle.pud_defs.proofs.Settled.{settled_over-none}
-use Rattle.pud_defs.proofs.LogsBeside.{IsReadBeside, world_again}
-use Rattle.pud_defs.proofs.Logged.{has_legal_log-of}
-use Rattle.pud_defs.proofs.ClosedLogs.{closed_by_gate}
-use Rattle.pud_defs.proofs.Parts.{HoldsWorld}
-use Rattle.pud_defs.proofs.TablesOf.{tables_of-same}
-use Rattle.pud_defs.proofs.Worlds.{settled-below, holding_of_world, frames_of_world}
-use Rattle.pud_defs.proofs.IdleWorlds.{legal_log_idle}
-use Rattle.pud_defs.proofs.Idle.{given_by_log-unowned, idle_world_of-unowned}
+use Rattle.pud_defs.specs.Formats.Image.{Image}
+use Rattle.pud_defs.specs.Formats.Layout.{IsWithin, tables_end, log_at, frames_at}
+use Rattle.pud_defs.specs.Logging.Entries.{Entry, log_of, is_idle_gate}
+use Rattle.pud_defs.specs.Logging.Replay.{overwritten, is_in_log, settled_by}
+use Rattle.pud_defs.specs.RegistryTables.Spaces.{Owner, owner, owner_by, owner_of, is_closed_log, has_closed_logs, space_record_at}
+use Rattle.pud_defs.specs.RegistryTables.Tables.{tables_of}
+use Rattle.pud_defs.specs.Logging.Allowed.{is_allowed_log, is_refused, is_accepted}
+use Rattle.pud_defs.specs.Logging.Settled.{ALL_LOGS, client_of_log, log_number_at, is_refused_log, is_accepted_log, is_in_logs, beside_logs, settled_over, settled}
+use Rattle.pud_defs.specs.RegistryTables.Registry.{frames_of, has_legal_log}
+use Rattle.pud_defs.specs.StateMachine.World.{StoredWorld, world_of}
+use Rattle.pud_defs.proofs.Logging.Replay.{overwritten-stays, overwritten-there, settled_by-idle, outside_log, not_inside}
+use Rattle.pud_defs.proofs.RegistryTables.Spaces.{all_below-from, has_closed_logs-same, are_legal_spaces-same, are_legal_spaces-none}
+use Rattle.pud_defs.proofs.Logging.Settled.{settled_over-none}
+use Rattle.pud_defs.proofs.Logging.LogsBeside.{IsReadBeside, world_again}
+use Rattle.pud_defs.proofs.Logging.Logged.{has_legal_log-of}
+use Rattle.pud_defs.proofs.Logging.ClosedLogs.{closed_by_gate}
+use Rattle.pud_defs.proofs.StateMachine.Parts.{HoldsWorld}
+use Rattle.pud_defs.proofs.RegistryTables.TablesOf.{tables_of-same}
+use Rattle.pud_defs.proofs.StateMachine.Worlds.{settled-below, holding_of_world, frames_of_world}
+use Rattle.pud_defs.proofs.StateMachine.IdleWorlds.{legal_log_idle}
+use Rattle.pud_defs.proofs.Logging.Idle.{given_by_log-unowned, idle_world_of-unowned}
 use Rattle.batch.specs.Batches.{HasIdleGate, batch_write, ByBatch, committed, IsBatched}
 use Rattle.batch.specs.Worlds.{IsQuiescent}
 use Rattle.log_space.specs.Clearing.{clearing, Empties}

@@ -13,14 +13,14 @@ use Rattle.pud_defs.specs.declared.machine.Command.TheVariants.{Export}
 use Rattle.pud_defs.specs.declared.machine.Reply.TheVariants as replies
 use Rattle.pud_defs.specs.declared.machine.Refusal.TheVariants as refusals
 use Rattle.pud_defs.specs.declared.records.Puddle.{Puddle}
-use Rattle.pud_defs.specs.ExportFile.{file_graph}
-use Rattle.pud_defs.specs.World.{World, open_on}
-use Rattle.pud_defs.specs.Transactions.{is_own}
-use Rattle.pud_defs.specs.Listing.{name_text}
-use Rattle.pud_defs.specs.Step.{refusal_of}
-use Rattle.pud_defs.specs.Step.Answer.{of_reply}
-use Rattle.pud_defs.specs.Gives.{with_file, contents_for}
-use Rattle.pud_defs.specs.Changing.{KeepsFiles}
+use Rattle.pud_defs.specs.PoolGraphs.ExportFile.{file_graph}
+use Rattle.pud_defs.specs.StateMachine.World.{World, open_on}
+use Rattle.pud_defs.specs.StateMachine.Transactions.{is_own}
+use Rattle.pud_defs.specs.Output.Listing.{name_text}
+use Rattle.pud_defs.specs.StateMachine.Step.{refusal_of}
+use Rattle.pud_defs.specs.StateMachine.Step.Answer.{of_reply}
+use Rattle.pud_defs.specs.StateMachine.Gives.{with_file, contents_for}
+use Rattle.pud_defs.specs.StateMachine.Changing.{KeepsFiles}
 use Rattle.puddled.specs.declared.answers.LineAnswer.TheVariants as answers
 use Rattle.puddled.specs.declared.finding.FoundPool.{FoundPool}
 use Rattle.puddled.specs.declared.finding.Need.TheVariants as needs

@@ -20,26 +20,26 @@ use Rattle.pud_defs.specs.declared.machine.Reply.TheVariants as replies
 use Rattle.pud_defs.specs.declared.machine.Refusal.{Refusal}
 use Rattle.pud_defs.specs.declared.machine.Refusal.TheVariants as refusals
 use Rattle.pud_defs.specs.declared.records.Puddle.{Puddle}
-use Rattle.pud_defs.specs.Image.{Image}
-use Rattle.pud_defs.specs.Graph.{Graph}
-use Rattle.pud_defs.specs.DumpText.{dump_text}
+use Rattle.pud_defs.specs.Formats.Image.{Image}
+use Rattle.pud_defs.specs.PoolGraphs.Graph.{Graph}
+use Rattle.pud_defs.specs.Output.DumpText.{dump_text}
 use Rattle.pud_defs.specs.declared.layout.TheConstants.{MACHINE_WORD}
-use Rattle.pud_defs.specs.Types.{types_of}
-use Rattle.pud_defs.specs.Stored.{stored_in}
-use Rattle.pud_defs.specs.ExportFile.{FileContents, words_in, types_used, file_graph}
-use Rattle.pud_defs.specs.Exported.{exported_words}
-use Rattle.pud_defs.specs.PoolChanges.{pool_named}
-use Rattle.pud_defs.specs.World.{Transaction, World, closed, open_on}
-use Rattle.pud_defs.specs.Transactions.{is_own}
-use Rattle.pud_defs.specs.Listing.{name_text}
-use Rattle.pud_defs.specs.Step.{Answer, refusal_of, cause_holds, after, answer, world_by}
-use Rattle.pud_defs.specs.Step.Answer.{of_reply, of_text}
-use Rattle.pud_defs.specs.Gives.{with_file, contents_for, contents_of_pool, Exports, GivesUnless, Gives, StepBy, may_lack_memory}
-use Rattle.pud_defs.specs.Changing.{file_of, KeepsFiles}
-use Rattle.pud_defs.specs.Texts.{in_one_line}
-use Rattle.pud_defs.proofs.Changing.{Gives-plain, KeepsFiles-still}
-use Rattle.pud_defs.proofs.DumpText.{in_one_line-dump_text}
-use Rattle.pud_defs.proofs.Steps.{refused_answer, refused_world, done_answer, done_world, answer_is_ok}
+use Rattle.pud_defs.specs.RegistryTables.Types.{types_of}
+use Rattle.pud_defs.specs.PoolGraphs.Stored.{stored_in}
+use Rattle.pud_defs.specs.PoolGraphs.ExportFile.{FileContents, words_in, types_used, file_graph}
+use Rattle.pud_defs.specs.PoolGraphs.Exported.{exported_words}
+use Rattle.pud_defs.specs.StateMachine.PoolChanges.{pool_named}
+use Rattle.pud_defs.specs.StateMachine.World.{Transaction, World, closed, open_on}
+use Rattle.pud_defs.specs.StateMachine.Transactions.{is_own}
+use Rattle.pud_defs.specs.Output.Listing.{name_text}
+use Rattle.pud_defs.specs.StateMachine.Step.{Answer, refusal_of, cause_holds, after, answer, world_by}
+use Rattle.pud_defs.specs.StateMachine.Step.Answer.{of_reply, of_text}
+use Rattle.pud_defs.specs.StateMachine.Gives.{with_file, contents_for, contents_of_pool, Exports, GivesUnless, Gives, StepBy, may_lack_memory}
+use Rattle.pud_defs.specs.StateMachine.Changing.{file_of, KeepsFiles}
+use Rattle.pud_defs.specs.Output.Texts.{in_one_line}
+use Rattle.pud_defs.proofs.StateMachine.Changing.{Gives-plain, KeepsFiles-still}
+use Rattle.pud_defs.proofs.Output.DumpText.{in_one_line-dump_text}
+use Rattle.pud_defs.proofs.StateMachine.Steps.{refused_answer, refused_world, done_answer, done_world, answer_is_ok}
 use Rattle.graph_dump.specs.declared.fault.DumpFault.{DumpFault}
 use Rattle.graph_dump.specs.declared.fault.DumpFault.TheVariants as dumps
 use Rattle.graph_dump.specs.Faults.{fault_in as dump_fault_in}

@@ -5,8 +5,8 @@ use Rattle.std.specs.Str.{IsAscii, IsUtf8}
 use Rattle.std.proofs.lemmas.Bool.{cases_lt, cases_Bool, and_parts}
 use Rattle.std.proofs.lemmas.Str.{IsUtf8-from_ascii}
 use Rattle.std.proofs.lemmas.Str.Ascii.{IsAscii-nil, IsAscii-cons}
-use Rattle.pud_defs.specs.Names.{is_name_byte, is_filled, is_legal_name}
-use Rattle.pud_defs.specs.Listing.{name_text}
+use Rattle.pud_defs.specs.Formats.Names.{is_name_byte, is_filled, is_legal_name}
+use Rattle.pud_defs.specs.Output.Listing.{name_text}
 
 name_byte_low : (b : ℕ) → is_name_byte b ≡ true → b < 128
 name_byte_low b is = elim (cases_lt b 128) [

@@ -14,27 +14,27 @@ use Rattle.pud_defs.specs.declared.records.PoolRecord.{PoolRecord}
 use Rattle.pud_defs.specs.declared.records.Puddle.{Puddle}
 use Rattle.pud_defs.specs.declared.machine.Refusal.{Refusal}
 use Rattle.pud_defs.specs.declared.machine.Refusal.TheVariants as refusals
-use Rattle.pud_defs.specs.Image.{Image}
-use Rattle.pud_defs.specs.Settled.{ALL_LOGS}
-use Rattle.pud_defs.specs.Spaces.{Owner, owner}
-use Rattle.pud_defs.specs.Names.{name_cmp}
-use Rattle.pud_defs.specs.Rights.{may_read, may_write}
-use Rattle.pud_defs.specs.Types.{types_of}
-use Rattle.pud_defs.specs.Stored.{stored_in}
-use Rattle.pud_defs.specs.Graph.{Graph, graph_of}
-use Rattle.pud_defs.specs.Exported.{IsExportable}
-use Rattle.pud_defs.specs.Holdings.{holding_in}
-use Rattle.pud_defs.specs.SoundTables.{is_sound_pool, HasSoundTables}
-use Rattle.pud_defs.specs.Tables.{Tables, Pool, Reader, tables_of, records_of, pool_in, puddles_of, puddles_in_turn, listed, pool_of}
-use Rattle.pud_defs.specs.PoolChanges.{pool_named}
-use Rattle.pud_defs.specs.World.{Transaction, World, open_on}
-use Rattle.pud_defs.specs.Transactions.{is_others}
-use Rattle.pud_defs.specs.Step.{has_write_right, graph_in, graph_seen}
-use Rattle.pud_defs.proofs.PuddlesListed.{puddles_in_turn-listed}
-use Rattle.pud_defs.proofs.Exportable.{exportable as pool_exportable}
-use Rattle.pud_defs.proofs.PoolRefusals.{pool_by_record, found_record}
-use Rattle.pud_defs.proofs.RecordsPlaced.{legal_mode, mode_read}
-use Rattle.pud_defs.proofs.SoundChanged.{legal_pool}
+use Rattle.pud_defs.specs.Formats.Image.{Image}
+use Rattle.pud_defs.specs.Logging.Settled.{ALL_LOGS}
+use Rattle.pud_defs.specs.RegistryTables.Spaces.{Owner, owner}
+use Rattle.pud_defs.specs.Formats.Names.{name_cmp}
+use Rattle.pud_defs.specs.Formats.Rights.{may_read, may_write}
+use Rattle.pud_defs.specs.RegistryTables.Types.{types_of}
+use Rattle.pud_defs.specs.PoolGraphs.Stored.{stored_in}
+use Rattle.pud_defs.specs.PoolGraphs.Graph.{Graph, graph_of}
+use Rattle.pud_defs.specs.PoolGraphs.Exported.{IsExportable}
+use Rattle.pud_defs.specs.PoolGraphs.Holdings.{holding_in}
+use Rattle.pud_defs.specs.RegistryTables.SoundTables.{is_sound_pool, HasSoundTables}
+use Rattle.pud_defs.specs.RegistryTables.Tables.{Tables, Pool, Reader, tables_of, records_of, pool_in, puddles_of, puddles_in_turn, listed, pool_of}
+use Rattle.pud_defs.specs.StateMachine.PoolChanges.{pool_named}
+use Rattle.pud_defs.specs.StateMachine.World.{Transaction, World, open_on}
+use Rattle.pud_defs.specs.StateMachine.Transactions.{is_others}
+use Rattle.pud_defs.specs.StateMachine.Step.{has_write_right, graph_in, graph_seen}
+use Rattle.pud_defs.proofs.RegistryTables.PuddlesListed.{puddles_in_turn-listed}
+use Rattle.pud_defs.proofs.RegistryTables.Exportable.{exportable as pool_exportable}
+use Rattle.pud_defs.proofs.StateMachine.PoolRefusals.{pool_by_record, found_record}
+use Rattle.pud_defs.proofs.RegistryTables.RecordsPlaced.{legal_mode, mode_read}
+use Rattle.pud_defs.proofs.RegistryTables.SoundChanged.{legal_pool}
 use Rattle.nesting.specs.declared.Session.{Session}
 use Rattle.nesting.specs.Sessions.{session_client, session_in, session_depth, IsSession}
 use Rattle.ready_daemon.specs.Memory.{Memory}
@@ -61,7 +61,7 @@ use Rattle.puddled.specs.declared.finding.FoundPool.{FoundPool}
 use Rattle.puddled.specs.Files.{IsStoredPool}
 use Rattle.puddled.specs.Finding.{needs_graph, lacks_graph, has_right, right_by, need_refusal, refusal_to, found_unless_busy, session_found, IsRecordOf, IsFound}
 use Rattle.puddled.specs.Reading.{SeesGraph}
-use Rattle.pud_defs.proofs.DistinctKeys.{none_by_some}
+use Rattle.pud_defs.proofs.KeyedTables.DistinctKeys.{none_by_some}
 use Rattle.ready_daemon.proofs.GraphLonger.{graph_as}
 
 -- ---- puddles that are judged as they were read

@@ -11,11 +11,11 @@ use Rattle.pud_defs.specs.declared.machine.Command.TheVariants.{Drop, Rewrite}
 use Rattle.pud_defs.specs.declared.machine.Refusal.{Refusal}
 use Rattle.pud_defs.specs.declared.records.Puddle.{Puddle}
 use Rattle.pud_defs.specs.declared.records.TheConstants.{POOL_RECORDS}
-use Rattle.pud_defs.specs.Image.{Image}
-use Rattle.pud_defs.specs.Puddles.{Member}
-use Rattle.pud_defs.specs.Step.{refusal_of, world_by}
-use Rattle.pud_defs.specs.Tables.{tables_of, puddles_in_turn}
-use Rattle.pud_defs.specs.World.{World}
+use Rattle.pud_defs.specs.Formats.Image.{Image}
+use Rattle.pud_defs.specs.RegistryTables.Puddles.{Member}
+use Rattle.pud_defs.specs.StateMachine.Step.{refusal_of, world_by}
+use Rattle.pud_defs.specs.RegistryTables.Tables.{tables_of, puddles_in_turn}
+use Rattle.pud_defs.specs.StateMachine.World.{World}
 use Rattle.lazy_rewrite.specs.Frontiers.{steps_left, steps_from, frontier_in, frontiers_of}
 use Rattle.pool_transaction.specs.declared.changing.Change.{Change}
 use Rattle.pool_transaction.specs.declared.changing.Change.TheVariants as changes

@@ -15,19 +15,19 @@ use Rattle.pud_defs.specs.declared.machine.Refusal.{Refusal}
 use Rattle.pud_defs.specs.declared.machine.Refusal.TheVariants as refusals
 use Rattle.pud_defs.specs.declared.machine.Reply.{Reply}
 use Rattle.pud_defs.specs.declared.machine.Reply.TheVariants as replies
-use Rattle.pud_defs.specs.ExportFile.{FileContents, file_graph}
-use Rattle.pud_defs.specs.Grammar.{IsLegalCommand}
-use Rattle.pud_defs.specs.Image.{Image}
-use Rattle.pud_defs.specs.Imports.{with_imported_pool}
-use Rattle.pud_defs.specs.Listing.{name_text}
-use Rattle.pud_defs.specs.Spaces.{owner}
-use Rattle.pud_defs.specs.Step.{refusal_of, world_by}
-use Rattle.pud_defs.specs.Step.Answer.{of_reply}
-use Rattle.pud_defs.specs.Stored.{Stored}
-use Rattle.pud_defs.specs.Tables.{tables_of, pool_in}
-use Rattle.pud_defs.specs.World.{StoredWorld, World}
-use Rattle.pud_defs.proofs.Keyed.{option_map_parts}
-use Rattle.pud_defs.proofs.Steps.{refused_world}
+use Rattle.pud_defs.specs.PoolGraphs.ExportFile.{FileContents, file_graph}
+use Rattle.pud_defs.specs.StateMachine.Grammar.{IsLegalCommand}
+use Rattle.pud_defs.specs.Formats.Image.{Image}
+use Rattle.pud_defs.specs.StateMachine.Imports.{with_imported_pool}
+use Rattle.pud_defs.specs.Output.Listing.{name_text}
+use Rattle.pud_defs.specs.RegistryTables.Spaces.{owner}
+use Rattle.pud_defs.specs.StateMachine.Step.{refusal_of, world_by}
+use Rattle.pud_defs.specs.StateMachine.Step.Answer.{of_reply}
+use Rattle.pud_defs.specs.PoolGraphs.Stored.{Stored}
+use Rattle.pud_defs.specs.RegistryTables.Tables.{tables_of, pool_in}
+use Rattle.pud_defs.specs.StateMachine.World.{StoredWorld, World}
+use Rattle.pud_defs.proofs.KeyedTables.Keyed.{option_map_parts}
+use Rattle.pud_defs.proofs.StateMachine.Steps.{refused_world}
 use Rattle.batch.specs.Batches.{HasIdleGate}
 use Rattle.registry.specs.Pools.{OrStill, ChangesMasked}
 use Rattle.pud_import.specs.declared.placing.PlaceFault.{PlaceFault}

@@ -13,26 +13,26 @@ use Rattle.pud_defs.specs.declared.machine.Command.{Command}
 use Rattle.pud_defs.specs.declared.machine.Command.TheVariants.{Import}
 use Rattle.pud_defs.specs.declared.machine.Refusal.{Refusal}
 use Rattle.pud_defs.specs.declared.machine.Refusal.TheVariants as refusals
-use Rattle.pud_defs.specs.ExportFile.{FileContents, file_graph}
-use Rattle.pud_defs.specs.Holdings.{holding_in}
-use Rattle.pud_defs.specs.Image.{Image}
-use Rattle.pud_defs.specs.Imports.{types_missing, numbers_drawn, is_full_for_file, lacks_frames_for_file, with_imported_pool, with_pool_of}
-use Rattle.pud_defs.specs.Keyed.{first_free, count_used}
-use Rattle.pud_defs.specs.Listing.{name_text}
-use Rattle.pud_defs.specs.Names.{name_cmp}
-use Rattle.pud_defs.specs.PoolChanges.{pool_named}
-use Rattle.pud_defs.specs.Spaces.{Owner, owner}
-use Rattle.pud_defs.specs.Step.{cause_holds, contents_in, of_contents, clashes_with, refusal_of, after, answer_by}
-use Rattle.pud_defs.specs.Step.Answer.{of_reply}
-use Rattle.pud_defs.specs.Gives.{may_lack_memory}
-use Rattle.pud_defs.specs.Tables.{Tables, Pool, Reader, tables_of, pool_in}
-use Rattle.pud_defs.specs.Types.{types_of, used_types}
-use Rattle.pud_defs.proofs.TypeTable.{length-types_of}
-use Rattle.pud_defs.specs.World.{StoredWorld, World}
-use Rattle.pud_defs.proofs.PoolRefusals.{importing_refusal, refusal_of-import, found_by_table, full_by_table}
-use Rattle.pud_defs.proofs.PoolsCounted.{IsMasked, sum_puddles}
-use Rattle.pud_defs.proofs.Steps.{answer_is_ok, refused_answer}
-use Rattle.pud_defs.proofs.TablesOf.{pools_beyond, frames_of_tables}
+use Rattle.pud_defs.specs.PoolGraphs.ExportFile.{FileContents, file_graph}
+use Rattle.pud_defs.specs.PoolGraphs.Holdings.{holding_in}
+use Rattle.pud_defs.specs.Formats.Image.{Image}
+use Rattle.pud_defs.specs.StateMachine.Imports.{types_missing, numbers_drawn, is_full_for_file, lacks_frames_for_file, with_imported_pool, with_pool_of}
+use Rattle.pud_defs.specs.RegistryTables.Keyed.{first_free, count_used}
+use Rattle.pud_defs.specs.Output.Listing.{name_text}
+use Rattle.pud_defs.specs.Formats.Names.{name_cmp}
+use Rattle.pud_defs.specs.StateMachine.PoolChanges.{pool_named}
+use Rattle.pud_defs.specs.RegistryTables.Spaces.{Owner, owner}
+use Rattle.pud_defs.specs.StateMachine.Step.{cause_holds, contents_in, of_contents, clashes_with, refusal_of, after, answer_by}
+use Rattle.pud_defs.specs.StateMachine.Step.Answer.{of_reply}
+use Rattle.pud_defs.specs.StateMachine.Gives.{may_lack_memory}
+use Rattle.pud_defs.specs.RegistryTables.Tables.{Tables, Pool, Reader, tables_of, pool_in}
+use Rattle.pud_defs.specs.RegistryTables.Types.{types_of, used_types}
+use Rattle.pud_defs.proofs.RegistryTables.TypeTable.{length-types_of}
+use Rattle.pud_defs.specs.StateMachine.World.{StoredWorld, World}
+use Rattle.pud_defs.proofs.StateMachine.PoolRefusals.{importing_refusal, refusal_of-import, found_by_table, full_by_table}
+use Rattle.pud_defs.proofs.RegistryTables.PoolsCounted.{IsMasked, sum_puddles}
+use Rattle.pud_defs.proofs.StateMachine.Steps.{answer_is_ok, refused_answer}
+use Rattle.pud_defs.proofs.RegistryTables.TablesOf.{pools_beyond, frames_of_tables}
 use Rattle.pud_import.specs.declared.placing.PlaceFault.{PlaceFault}
 use Rattle.pud_import.specs.declared.placing.PlaceFault.TheVariants as faults
 use Rattle.pud_import.specs.Placing.{place_fault, refusal_in, refusal_by}

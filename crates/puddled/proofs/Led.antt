@@ -12,17 +12,17 @@ use Rattle.pm_model.proofs.Words.{Picks-reads}
 use Rattle.pm_model.proofs.Leaves.{Leaves-now, Leaves-then, Leaves-weaker, Leaves-says}
 use Rattle.pud_defs.specs.declared.layout.TheConstants.{DAEMON_LOG, POOL_TABLE, SPACE_TABLE, PUDDLE_TABLE}
 use Rattle.pud_defs.specs.declared.machine.Command.{Command}
-use Rattle.pud_defs.specs.Image.{Image}
-use Rattle.pud_defs.specs.Grammar.{command_of}
-use Rattle.pud_defs.specs.Layout.{tables_end}
-use Rattle.pud_defs.specs.Puddles.{Member}
-use Rattle.pud_defs.specs.Registry.{frames_of}
-use Rattle.pud_defs.specs.Replay.{settled_by}
-use Rattle.pud_defs.specs.Tables.{Tables, tables_of}
-use Rattle.pud_defs.specs.World.{World}
-use Rattle.pud_defs.proofs.Replay.{outside_log}
-use Rattle.pud_defs.proofs.TablesOf.{tables_of-same}
-use Rattle.pud_defs.proofs.Worlds.{frames_of_world, settled-below}
+use Rattle.pud_defs.specs.Formats.Image.{Image}
+use Rattle.pud_defs.specs.StateMachine.Grammar.{command_of}
+use Rattle.pud_defs.specs.Formats.Layout.{tables_end}
+use Rattle.pud_defs.specs.RegistryTables.Puddles.{Member}
+use Rattle.pud_defs.specs.RegistryTables.Registry.{frames_of}
+use Rattle.pud_defs.specs.Logging.Replay.{settled_by}
+use Rattle.pud_defs.specs.RegistryTables.Tables.{Tables, tables_of}
+use Rattle.pud_defs.specs.StateMachine.World.{World}
+use Rattle.pud_defs.proofs.Logging.Replay.{outside_log}
+use Rattle.pud_defs.proofs.RegistryTables.TablesOf.{tables_of-same}
+use Rattle.pud_defs.proofs.StateMachine.Worlds.{frames_of_world, settled-below}
 use Rattle.ready_daemon.specs.Memory.{Memory}
 use Rattle.ready_daemon.specs.Moves.{MovesTo, still}
 use Rattle.ready_daemon.proofs.Goals.{stays_still, still_stays}
@@ -35,7 +35,7 @@ use Rattle.pud_defs.specs.declared.machine.Command.TheVariants.{Cut, Arm}
 use Rattle.pud_defs.specs.declared.machine.Refusal.{Refusal}
 use Rattle.pud_defs.specs.declared.machine.Reply.{Reply}
 use Rattle.pud_defs.specs.declared.machine.Reply.TheVariants as replies
-use Rattle.pud_defs.specs.Step.{refusal_of}
+use Rattle.pud_defs.specs.StateMachine.Step.{refusal_of}
 use Rattle.std.proofs.lemmas.Option.{none-some}
 use Rattle.pool_transaction.specs.Finishing.{Arrives, UnlessFailed}
 use Rattle.pool_transaction.proofs.Arriving.{settled_gate}

@@ -9,15 +9,15 @@ use Rattle.pm_model.specs.Calls.{Says}
 use Rattle.pm_model.specs.Changes.{Leaves, Silently}
 use Rattle.pm_model.proofs.Leaves.{Leaves-then, Leaves-weaker, Leaves-now, Leaves-says, IsPrefix}
 use Rattle.pm_model.proofs.Said.{words-all_said, said-all_said, script-all_said, shelf-all_said}
-use Rattle.pud_defs.specs.Image.{Image}
-use Rattle.pud_defs.specs.World.{World, world_of, closed}
-use Rattle.pud_defs.specs.Grammar.{command_of}
-use Rattle.pud_defs.specs.Step.{Answer}
-use Rattle.pud_defs.specs.Run.{Turn, IsTurn, cuts_of, newlines}
-use Rattle.pud_defs.specs.Texts.{answer_text, begins_with_ok}
-use Rattle.pud_defs.specs.Stands.{StandsAfter, StandsWith}
-use Rattle.pud_defs.proofs.Lines.{newlines_part}
-use Rattle.pud_defs.proofs.Said.{newlines-answer_text}
+use Rattle.pud_defs.specs.Formats.Image.{Image}
+use Rattle.pud_defs.specs.StateMachine.World.{World, world_of, closed}
+use Rattle.pud_defs.specs.StateMachine.Grammar.{command_of}
+use Rattle.pud_defs.specs.StateMachine.Step.{Answer}
+use Rattle.pud_defs.specs.StateMachine.Run.{Turn, IsTurn, cuts_of, newlines}
+use Rattle.pud_defs.specs.Output.Texts.{answer_text, begins_with_ok}
+use Rattle.pud_defs.specs.StateMachine.Stands.{StandsAfter, StandsWith}
+use Rattle.pud_defs.proofs.StateMachine.Lines.{newlines_part}
+use Rattle.pud_defs.proofs.Output.Said.{newlines-answer_text}
 use Rattle.independence.proofs.Turns.{leaves_others}
 use Rattle.puddled.specs.declared.daemon.RunFault.{RunFault}
 use Rattle.puddled.specs.declared.daemon.RunFault.TheVariants.{NotSound}
@@ -31,7 +31,7 @@ use Rattle.puddled.specs.Saying.{EndsIn, SaysPart}
 use Rattle.puddled.specs.Daemon.{KeepsAllBut, KeepsLine, CarriesOutLine, spoken, IsAnswerText, SaysAnswer, Answers}
 use Rattle.puddled.proofs.Listed.{said_when_ready}
 use Rattle.puddled.proofs.LinesCarriedOut.{Between}
-use Rattle.pud_defs.proofs.Changing.{KeepsFiles-still, KeepsFiles-then}
+use Rattle.pud_defs.proofs.StateMachine.Changing.{KeepsFiles-still, KeepsFiles-then}
 use Rattle.std.proofs.lemmas.Option.{none-some}
 
 -- bytes that were said are the front of the text, and all of it without a fault

@@ -10,18 +10,18 @@ use Rattle.pm_model.specs.Changes.{Leaves, Silently}
 use Rattle.pm_model.proofs.Words.{Picks-reads}
 use Rattle.pm_model.proofs.Leaves.{Leaves-then, Leaves-now, Leaves-weaker}
 use Rattle.pud_defs.specs.declared.machine.Reply.TheVariants as replies
-use Rattle.pud_defs.specs.Image.{Image}
-use Rattle.pud_defs.specs.Puddles.{Member}
+use Rattle.pud_defs.specs.Formats.Image.{Image}
+use Rattle.pud_defs.specs.RegistryTables.Puddles.{Member}
 use Rattle.pud_defs.specs.declared.machine.Command.{Command}
 use Rattle.pud_defs.specs.declared.machine.Command.TheVariants.{Leave}
 use Rattle.pud_defs.specs.declared.machine.Refusal.{Refusal}
-use Rattle.pud_defs.specs.World.{World, world_of, closed, restart}
-use Rattle.pud_defs.specs.Grammar.{command_of}
-use Rattle.pud_defs.specs.Step.{refusal_of, after, unless_refused, world_by}
-use Rattle.pud_defs.specs.Changing.{Part, part_of, with_part, file_in}
-use Rattle.pud_defs.specs.Changing.Part.{types, pools, tables, clients, transactions, nothing}
-use Rattle.pud_defs.proofs.Changing.{after-part, shelf_of_gives, Gives-plain_is, KeepsFiles-none}
-use Rattle.pud_defs.proofs.Commands.{command_of-legal}
+use Rattle.pud_defs.specs.StateMachine.World.{World, world_of, closed, restart}
+use Rattle.pud_defs.specs.StateMachine.Grammar.{command_of}
+use Rattle.pud_defs.specs.StateMachine.Step.{refusal_of, after, unless_refused, world_by}
+use Rattle.pud_defs.specs.StateMachine.Changing.{Part, part_of, with_part, file_in}
+use Rattle.pud_defs.specs.StateMachine.Changing.Part.{types, pools, tables, clients, transactions, nothing}
+use Rattle.pud_defs.proofs.StateMachine.Changing.{after-part, shelf_of_gives, Gives-plain_is, KeepsFiles-none}
+use Rattle.pud_defs.proofs.StateMachine.Commands.{command_of-legal}
 use Rattle.puddled.specs.declared.daemon.StartFault.{StartFault}
 use Rattle.puddled.specs.declared.daemon.StartFault.TheVariants as starts
 use Rattle.puddled.specs.declared.daemon.RunFault.TheVariants as faults

@@ -6,11 +6,11 @@ use Rattle.pm_model.specs.Moments.{State}
 use Rattle.pm_model.specs.Masks.{masked}
 use Rattle.pm_model.specs.Calls.{Says}
 use Rattle.pud_defs.specs.declared.layout.TheConstants.{MACHINE_WORD}
-use Rattle.pud_defs.specs.Image.{Image}
-use Rattle.pud_defs.specs.Tables.{Tables, tables_of}
-use Rattle.pud_defs.specs.Holdings.{holding_in}
-use Rattle.pud_defs.specs.World.{World}
-use Rattle.pud_defs.specs.Texts.{line_of, answer_text}
+use Rattle.pud_defs.specs.Formats.Image.{Image}
+use Rattle.pud_defs.specs.RegistryTables.Tables.{Tables, tables_of}
+use Rattle.pud_defs.specs.PoolGraphs.Holdings.{holding_in}
+use Rattle.pud_defs.specs.StateMachine.World.{World}
+use Rattle.pud_defs.specs.Output.Texts.{line_of, answer_text}
 use Rattle.pool_list.specs.Listed.{listed_text}
 use Rattle.pool_list.proofs.ListedPools.{line_of-listed_text}
 use Rattle.ready_daemon.specs.Memory.{Memory}

@@ -6,12 +6,12 @@ use Rattle.pud_defs.specs.declared.machine.Command.TheVariants as commands
 use Rattle.pud_defs.specs.declared.machine.Command.TheVariants.{Get, Dump, Export, Begin, Commit}
 use Rattle.pud_defs.specs.declared.machine.Refusal.{Refusal}
 use Rattle.pud_defs.specs.declared.machine.Refusal.TheVariants as refusals
-use Rattle.pud_defs.specs.PoolChanges.{pool_named}
-use Rattle.pud_defs.specs.Spaces.{Owner}
-use Rattle.pud_defs.specs.Step.{has_owner_right, has_read_right, has_write_right, graph_in, graph_seen, object_of, field_of, open_elsewhere, refusal_of, cause_holds}
-use Rattle.pud_defs.specs.Tables.{Pool}
-use Rattle.pud_defs.specs.Transactions.{is_own, is_others, depth_of}
-use Rattle.pud_defs.specs.World.{Transaction, World, open_on}
+use Rattle.pud_defs.specs.StateMachine.PoolChanges.{pool_named}
+use Rattle.pud_defs.specs.RegistryTables.Spaces.{Owner}
+use Rattle.pud_defs.specs.StateMachine.Step.{has_owner_right, has_read_right, has_write_right, graph_in, graph_seen, object_of, field_of, open_elsewhere, refusal_of, cause_holds}
+use Rattle.pud_defs.specs.RegistryTables.Tables.{Pool}
+use Rattle.pud_defs.specs.StateMachine.Transactions.{is_own, is_others, depth_of}
+use Rattle.pud_defs.specs.StateMachine.World.{Transaction, World, open_on}
 use Rattle.pool_transaction.proofs.TransactionRefusals.{behind}
 use Rattle.puddled.specs.declared.finding.Need.TheVariants as needs
 use Rattle.puddled.specs.Finding.{refusal_to}

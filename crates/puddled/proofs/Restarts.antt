@@ -12,19 +12,19 @@ use Rattle.pm_model.proofs.Changes.{Changes-said}
 use Rattle.pm_model.proofs.Leaves.{Leaves-changes, Leaves-now, Leaves-then, Leaves-weaker}
 use Rattle.pud_defs.specs.declared.layout.TheConstants.{DAEMON_LOG, FRAMES_WORD, SPACE_TABLE, PUDDLE_TABLE, CLIENTS}
 use Rattle.pud_defs.specs.declared.records.TheConstants.{POOL_RECORDS}
-use Rattle.pud_defs.specs.Image.{Image}
-use Rattle.pud_defs.specs.Layout.{tables_end, frames_at}
-use Rattle.pud_defs.specs.Entries.{log_of}
-use Rattle.pud_defs.specs.Spaces.{owner_by, space_record_at}
-use Rattle.pud_defs.specs.Replay.{device_word, new_value, is_in_log, settled_by}
-use Rattle.pud_defs.specs.Registry.{frames_of}
-use Rattle.pud_defs.specs.Settled.{ALL_LOGS, is_refused_log, is_in_logs, settled}
-use Rattle.pud_defs.specs.Tables.{tables_of}
-use Rattle.pud_defs.specs.World.{World, StoredWorld, world_of, closed, restart}
-use Rattle.pud_defs.proofs.Replay.{overwritten-stays, settled_by-outside, outside_log}
-use Rattle.pud_defs.proofs.Logged.{settled_by-unlogged}
-use Rattle.pud_defs.proofs.Worlds.{legal_log_of_world, frames_of_world, settled-below}
-use Rattle.pud_defs.proofs.Idle.{world_of_idle}
+use Rattle.pud_defs.specs.Formats.Image.{Image}
+use Rattle.pud_defs.specs.Formats.Layout.{tables_end, frames_at}
+use Rattle.pud_defs.specs.Logging.Entries.{log_of}
+use Rattle.pud_defs.specs.RegistryTables.Spaces.{owner_by, space_record_at}
+use Rattle.pud_defs.specs.Logging.Replay.{device_word, new_value, is_in_log, settled_by}
+use Rattle.pud_defs.specs.RegistryTables.Registry.{frames_of}
+use Rattle.pud_defs.specs.Logging.Settled.{ALL_LOGS, is_refused_log, is_in_logs, settled}
+use Rattle.pud_defs.specs.RegistryTables.Tables.{tables_of}
+use Rattle.pud_defs.specs.StateMachine.World.{World, StoredWorld, world_of, closed, restart}
+use Rattle.pud_defs.proofs.Logging.Replay.{overwritten-stays, settled_by-outside, outside_log}
+use Rattle.pud_defs.proofs.Logging.Logged.{settled_by-unlogged}
+use Rattle.pud_defs.proofs.StateMachine.Worlds.{legal_log_of_world, frames_of_world, settled-below}
+use Rattle.pud_defs.proofs.Logging.Idle.{world_of_idle}
 use Rattle.log_replay.specs.Replaying.{Anything}
 use Rattle.batch.specs.Batches.{HasIdleGate, ByBatch, IsBatched}
 use Rattle.log_space.specs.Clearing.{clearing, Empties}

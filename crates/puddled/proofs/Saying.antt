@@ -4,7 +4,7 @@ use Rattle.pm_model.specs.declared.host.HostFault.{HostFault}
 use Rattle.pm_model.specs.Moments.{State}
 use Rattle.pm_model.specs.Calls.{Says}
 use Rattle.pm_model.proofs.Saying.{Says-then, Says-front}
-use Rattle.pud_defs.specs.Texts.{line_of}
+use Rattle.pud_defs.specs.Output.Texts.{line_of}
 
 -- the fault comes before the text
 pub Says-unbegun : (text : List ℕ) (fault : HostFault) (a b : State) → Says (codes "ok ") (Some fault) a b → Says (line_of (codes "ok " ++ text)) (Some fault) a b

@@ -5,8 +5,8 @@ use Rattle.pm_model.specs.declared.host.HostFault.{HostFault}
 use Rattle.pm_model.specs.Moments.{State}
 use Rattle.pud_defs.specs.declared.machine.Command.{Command}
 use Rattle.pud_defs.specs.declared.machine.Command.TheVariants.{Commit}
-use Rattle.pud_defs.specs.Step.{after}
-use Rattle.pud_defs.specs.World.{World}
+use Rattle.pud_defs.specs.StateMachine.Step.{after}
+use Rattle.pud_defs.specs.StateMachine.World.{World}
 use Rattle.nesting.specs.declared.Session.{Session}
 use Rattle.nesting.specs.Sessions.{depth_in}
 use Rattle.pool_transaction.specs.Lifetime.{with_ended}

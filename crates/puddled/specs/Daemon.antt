@@ -6,16 +6,16 @@ use Rattle.pm_model.specs.Words.{Image, reads}
 use Rattle.pm_model.specs.Counts.{Counts, fault_of}
 use Rattle.pm_model.specs.Moments.{State}
 use Rattle.pm_model.specs.Changes.{Leaves, Silently}
-use Rattle.pud_defs.specs.Step.{Answer}
-use Rattle.pud_defs.specs.Puddles.{Member}
-use Rattle.pud_defs.specs.Gives.{Gives, StepBy}
-use Rattle.pud_defs.specs.World.{World, world_of, closed}
+use Rattle.pud_defs.specs.StateMachine.Step.{Answer}
+use Rattle.pud_defs.specs.RegistryTables.Puddles.{Member}
+use Rattle.pud_defs.specs.StateMachine.Gives.{Gives, StepBy}
+use Rattle.pud_defs.specs.StateMachine.World.{World, world_of, closed}
 use Rattle.pud_defs.specs.declared.machine.Command.{Command}
-use Rattle.pud_defs.specs.Grammar.{command_of}
-use Rattle.pud_defs.specs.Changing.{file_in, KeepsFiles}
-use Rattle.pud_defs.specs.Run.{Turn, IsTurn, cuts_of}
-use Rattle.pud_defs.specs.Texts.{answer_text, begins_with_ok}
-use Rattle.pud_defs.specs.Stands.{StandsWith}
+use Rattle.pud_defs.specs.StateMachine.Grammar.{command_of}
+use Rattle.pud_defs.specs.StateMachine.Changing.{file_in, KeepsFiles}
+use Rattle.pud_defs.specs.StateMachine.Run.{Turn, IsTurn, cuts_of}
+use Rattle.pud_defs.specs.Output.Texts.{answer_text, begins_with_ok}
+use Rattle.pud_defs.specs.StateMachine.Stands.{StandsWith}
 use Rattle.independence.specs.Independence.{LeavesOthers}
 use Rattle.ready_daemon.specs.Memory.{Memory}
 use Rattle.pool_transaction.specs.Finishing.{Arrives, UnlessFailed}

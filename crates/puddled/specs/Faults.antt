@@ -7,8 +7,8 @@ use Rattle.pud_defs.specs.declared.machine.Command.{Command}
 use Rattle.pud_defs.specs.declared.machine.Command.TheVariants.{Cut, Arm}
 use Rattle.pud_defs.specs.declared.machine.Reply.{Reply}
 use Rattle.pud_defs.specs.declared.machine.Reply.TheVariants as replies
-use Rattle.pud_defs.specs.Grammar.{command_of}
-use Rattle.pud_defs.specs.Run.{Turn, cuts_of}
+use Rattle.pud_defs.specs.StateMachine.Grammar.{command_of}
+use Rattle.pud_defs.specs.StateMachine.Run.{Turn, cuts_of}
 use Rattle.puddled.specs.declared.daemon.StartFault.{StartFault}
 use Rattle.puddled.specs.declared.daemon.StartFault.TheVariants as starts
 use Rattle.recover.specs.declared.recovery.RecoverFault.{RecoverFault}

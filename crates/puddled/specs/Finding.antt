@@ -4,15 +4,15 @@ use Rattle.pud_defs.specs.declared.records.TheConstants.{POOL_RECORDS}
 use Rattle.pud_defs.specs.declared.records.PoolRecord.{PoolRecord}
 use Rattle.pud_defs.specs.declared.machine.Refusal.{Refusal}
 use Rattle.pud_defs.specs.declared.machine.Refusal.TheVariants as refusals
-use Rattle.pud_defs.specs.Image.{Image}
-use Rattle.pud_defs.specs.Rights.{may_read, may_write}
-use Rattle.pud_defs.specs.Settled.{ALL_LOGS}
-use Rattle.pud_defs.specs.Spaces.{Owner, owner}
-use Rattle.pud_defs.specs.Step.{has_owner_right, has_read_right, has_write_right, graph_in}
-use Rattle.pud_defs.specs.Tables.{Pool, tables_of, pool_in}
-use Rattle.pud_defs.specs.PoolChanges.{pool_named}
-use Rattle.pud_defs.specs.Transactions.{is_others}
-use Rattle.pud_defs.specs.World.{Transaction, World, open_on}
+use Rattle.pud_defs.specs.Formats.Image.{Image}
+use Rattle.pud_defs.specs.Formats.Rights.{may_read, may_write}
+use Rattle.pud_defs.specs.Logging.Settled.{ALL_LOGS}
+use Rattle.pud_defs.specs.RegistryTables.Spaces.{Owner, owner}
+use Rattle.pud_defs.specs.StateMachine.Step.{has_owner_right, has_read_right, has_write_right, graph_in}
+use Rattle.pud_defs.specs.RegistryTables.Tables.{Pool, tables_of, pool_in}
+use Rattle.pud_defs.specs.StateMachine.PoolChanges.{pool_named}
+use Rattle.pud_defs.specs.StateMachine.Transactions.{is_others}
+use Rattle.pud_defs.specs.StateMachine.World.{Transaction, World, open_on}
 use Rattle.nesting.specs.declared.EnterFault.{EnterFault}
 use Rattle.nesting.specs.declared.EnterFault.TheVariants.{Deep, Logs}
 use Rattle.nesting.specs.declared.Session.{Session}

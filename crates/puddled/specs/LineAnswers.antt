@@ -3,13 +3,13 @@ use Rattle.std.specs.Prelude.{◌≡◌, ℕ, List, ◌++◌, codes, Result, Ok,
 use Rattle.pm_model.specs.declared.host.HostFault.{HostFault}
 use Rattle.pud_defs.specs.declared.layout.TheConstants.{MACHINE_WORD}
 use Rattle.pud_defs.specs.declared.machine.Reply.{Reply}
-use Rattle.pud_defs.specs.Image.{Image}
-use Rattle.pud_defs.specs.Tables.{tables_of}
-use Rattle.pud_defs.specs.World.{World}
-use Rattle.pud_defs.specs.Listing.{pools_text}
-use Rattle.pud_defs.specs.Step.{Answer}
-use Rattle.pud_defs.specs.Step.Answer.{of_reply, of_text}
-use Rattle.pud_defs.specs.Texts.{line_of, reply_text, in_one_line}
+use Rattle.pud_defs.specs.Formats.Image.{Image}
+use Rattle.pud_defs.specs.RegistryTables.Tables.{tables_of}
+use Rattle.pud_defs.specs.StateMachine.World.{World}
+use Rattle.pud_defs.specs.Output.Listing.{pools_text}
+use Rattle.pud_defs.specs.StateMachine.Step.{Answer}
+use Rattle.pud_defs.specs.StateMachine.Step.Answer.{of_reply, of_text}
+use Rattle.pud_defs.specs.Output.Texts.{line_of, reply_text, in_one_line}
 use Rattle.pool_list.specs.Listed.{listed_text}
 use Rattle.puddled.specs.declared.answers.LineAnswer.{LineAnswer}
 use Rattle.puddled.specs.declared.answers.LineAnswer.TheVariants as answers

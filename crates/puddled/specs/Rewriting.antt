@@ -1,7 +1,7 @@
 -- What a line that rewrites pointers does to the frontiers of its pool.
 use Rattle.std.specs.Prelude.{◌≡◌, ℕ, List, Some}
 use Rattle.pud_defs.specs.declared.records.Puddle.{Puddle}
-use Rattle.pud_defs.specs.Image.{Image}
+use Rattle.pud_defs.specs.Formats.Image.{Image}
 use Rattle.lazy_rewrite.specs.Frontiers.{steps_from}
 use Rattle.ready_daemon.specs.PoolKnowledge.{puddles_with_graph}
 use Rattle.ready_daemon.specs.Owning.{IsRecordSlot}

@@ -5,15 +5,15 @@ use Rattle.pm_model.specs.Moments.{State}
 use Rattle.pm_model.specs.Changes.{Footprint, Leaves, Silently}
 use Rattle.pud_defs.specs.declared.layout.TheConstants.{DAEMON_LOG, SPACE_TABLE, PUDDLE_TABLE, CLIENTS}
 use Rattle.pud_defs.specs.declared.records.TheConstants.{POOL_RECORDS}
-use Rattle.pud_defs.specs.Image.{Image}
-use Rattle.pud_defs.specs.Layout.{IsWithin}
-use Rattle.pud_defs.specs.Replay.{is_in_log, settled_by}
-use Rattle.pud_defs.specs.Registry.{frames_of}
-use Rattle.pud_defs.specs.Settled.{ALL_LOGS, is_refused_log, is_in_logs, settled}
-use Rattle.pud_defs.specs.Run.{newlines}
-use Rattle.pud_defs.specs.Tables.{tables_of}
-use Rattle.pud_defs.specs.StartText.{refused_lines, start_text}
-use Rattle.pud_defs.specs.World.{World, world_of, closed, restart}
+use Rattle.pud_defs.specs.Formats.Image.{Image}
+use Rattle.pud_defs.specs.Formats.Layout.{IsWithin}
+use Rattle.pud_defs.specs.Logging.Replay.{is_in_log, settled_by}
+use Rattle.pud_defs.specs.RegistryTables.Registry.{frames_of}
+use Rattle.pud_defs.specs.Logging.Settled.{ALL_LOGS, is_refused_log, is_in_logs, settled}
+use Rattle.pud_defs.specs.StateMachine.Run.{newlines}
+use Rattle.pud_defs.specs.RegistryTables.Tables.{tables_of}
+use Rattle.pud_defs.specs.Output.StartText.{refused_lines, start_text}
+use Rattle.pud_defs.specs.StateMachine.World.{World, world_of, closed, restart}
 use Rattle.recover.specs.declared.judge.Mark.{Mark}
 use Rattle.recover.specs.declared.judge.Mark.TheVariants.{Closed}
 use Rattle.recover.specs.Verdicts.{is_refused_mark}

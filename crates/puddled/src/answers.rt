@@ -4,9 +4,9 @@ ghost use Rattle.pm_model.specs.Words.{Image, reads};
 ghost use Rattle.pm_model.specs.Counts.{after_fault, fault_of};
 ghost use Rattle.pm_model.specs.Calls.{Says};
 ghost use Rattle.pud_defs.specs.declared.layout.TheConstants.{MAX_FRAMES};
-ghost use Rattle.pud_defs.specs.Layout.{tables_end};
-ghost use Rattle.pud_defs.specs.World.{World};
-ghost use Rattle.pud_defs.specs.Texts.{line_of, reply_text, begins_with_ok};
+ghost use Rattle.pud_defs.specs.Formats.Layout.{tables_end};
+ghost use Rattle.pud_defs.specs.StateMachine.World.{World};
+ghost use Rattle.pud_defs.specs.Output.Texts.{line_of, reply_text, begins_with_ok};
 ghost use Rattle.puddled.specs.LineAnswers.{as_line_answer, answer_of, said_text};
 
 use pm_model::{Host, HostFault};

@@ -3,10 +3,10 @@ ghost use Rattle.std.specs.Prelude.{◌≡◌, ◌<◌, ◌≤◌, ℕ, true, If
 ghost use Rattle.pm_model.specs.Words.{IsRested};
 ghost use Rattle.pm_model.specs.Counts.{after_fault, fault_of};
 ghost use Rattle.pud_defs.specs.declared.layout.TheConstants.{CLIENTS, MAX_OWNER_ID, MAX_FRAMES};
-ghost use Rattle.pud_defs.specs.Layout.{device_words};
-ghost use Rattle.pud_defs.specs.World.{World};
-ghost use Rattle.pud_defs.specs.Step.{answer_by, after, world_by};
-ghost use Rattle.pud_defs.specs.Step.Answer.{of_reply};
+ghost use Rattle.pud_defs.specs.Formats.Layout.{device_words};
+ghost use Rattle.pud_defs.specs.StateMachine.World.{World};
+ghost use Rattle.pud_defs.specs.StateMachine.Step.{answer_by, after, world_by};
+ghost use Rattle.pud_defs.specs.StateMachine.Step.Answer.{of_reply};
 ghost use Rattle.pud_defs.specs.declared.machine.Command.TheVariants as commands;
 ghost use Rattle.ready_daemon.specs.Memory.{Memory};
 ghost use Rattle.ready_daemon.specs.ActiveTransactions.{AreOfOtherClients};

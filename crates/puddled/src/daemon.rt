@@ -4,16 +4,16 @@ ghost use Rattle.pm_model.specs.Words.{IsRested, reads};
 ghost use Rattle.pm_model.specs.Counts.{Counts, after_fault, after_arm, after_loss_of, fault_of};
 ghost use Rattle.pm_model.specs.Moments.{State};
 ghost use Rattle.pud_defs.specs.declared.layout.TheConstants.{MIN_FRAMES};
-ghost use Rattle.pud_defs.specs.Layout.{device_words};
-ghost use Rattle.pud_defs.specs.Registry.{frames_of};
-ghost use Rattle.pud_defs.specs.World.{World, world_of, closed, restart};
+ghost use Rattle.pud_defs.specs.Formats.Layout.{device_words};
+ghost use Rattle.pud_defs.specs.RegistryTables.Registry.{frames_of};
+ghost use Rattle.pud_defs.specs.StateMachine.World.{World, world_of, closed, restart};
 ghost use Rattle.puddled.specs.Faults.{start_fault, kind_of, CountsReply, CountsCommand, behind_loss, HasLostPower};
-ghost use Rattle.pud_defs.specs.Grammar.{command_of, IsLegalCommand};
-ghost use Rattle.pud_defs.specs.Changing.{file_of, file_in};
+ghost use Rattle.pud_defs.specs.StateMachine.Grammar.{command_of, IsLegalCommand};
+ghost use Rattle.pud_defs.specs.StateMachine.Changing.{file_of, file_in};
 ghost use Rattle.ready_daemon.specs.Memory.{Memory};
 ghost use Rattle.ready_daemon.specs.Ready.{KeepsRest, KeepsInput, IsReady, Applies};
 ghost use Rattle.pud_defs.specs.declared.machine.Command.TheVariants as commands;
-ghost use Rattle.pud_defs.specs.Step.{refusal_of};
+ghost use Rattle.pud_defs.specs.StateMachine.Step.{refusal_of};
 ghost use Rattle.puddled.specs.Frontiers.{LeadFrontiers, MoveOnTheWay};
 ghost use Rattle.puddled.specs.Rewriting.{DoesSteps};
 ghost use Rattle.puddled.specs.Starting.{IsReplayed, Recovers};
@@ -362,8 +362,8 @@ fn carry_out_line<H: Host>(
 
 impl Daemon {
     ghost use Rattle.pud_defs.specs.declared.layout.TheConstants.{MAX_FRAMES};
-    ghost use Rattle.pud_defs.specs.StartText.{start_text};
-    ghost use Rattle.pud_defs.specs.Step.Answer.{of_reply};
+    ghost use Rattle.pud_defs.specs.Output.StartText.{start_text};
+    ghost use Rattle.pud_defs.specs.StateMachine.Step.Answer.{of_reply};
     ghost use Rattle.puddled.specs.Saying.{EndsIn, SaysPart};
     ghost use Rattle.puddled.specs.Starting.{first_memory, Starts};
     ghost use Rattle.puddled.specs.Daemon.{spoken, SaysAnswer, Answers};

@@ -7,11 +7,11 @@ ghost use Rattle.pud_defs.specs.declared.layout.TheConstants.{DAEMON_LOG, MAX_FR
 ghost use Rattle.pud_defs.specs.declared.records.TheConstants.{POOL_RECORDS};
 ghost use Rattle.pud_defs.specs.declared.machine.Command.TheVariants as commands;
 ghost use Rattle.pud_defs.specs.declared.records.Puddle.{Puddle};
-ghost use Rattle.pud_defs.specs.Layout.{device_words};
-ghost use Rattle.pud_defs.specs.Stored.{IsOnDevice};
-ghost use Rattle.pud_defs.specs.Step.{answer_by, refusal_of, world_by};
-ghost use Rattle.pud_defs.specs.Step.Answer.{of_reply};
-ghost use Rattle.pud_defs.specs.World.{World};
+ghost use Rattle.pud_defs.specs.Formats.Layout.{device_words};
+ghost use Rattle.pud_defs.specs.PoolGraphs.Stored.{IsOnDevice};
+ghost use Rattle.pud_defs.specs.StateMachine.Step.{answer_by, refusal_of, world_by};
+ghost use Rattle.pud_defs.specs.StateMachine.Step.Answer.{of_reply};
+ghost use Rattle.pud_defs.specs.StateMachine.World.{World};
 ghost use Rattle.batch.specs.Batches.{HasIdleGate};
 ghost use Rattle.known_pool.specs.Known.{Known, with_puddles};
 ghost use Rattle.log_replay.specs.Replaying.{Anything};

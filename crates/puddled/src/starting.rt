@@ -4,10 +4,10 @@ ghost use Rattle.std.specs.Prelude.{◌≡◌, ◌+◌, ◌≤◌, ◌<◌, ◌+
 ghost use Rattle.pm_model.specs.Counts.{after_fault, fault_of};
 ghost use Rattle.pm_model.specs.Calls.{Says};
 ghost use Rattle.arrayvec.specs.ArrayString.{array_string_len};
-ghost use Rattle.pud_defs.specs.Image.{Image};
-ghost use Rattle.pud_defs.specs.Settled.{ALL_LOGS};
-ghost use Rattle.pud_defs.specs.StartText.{refused_line, refused_lines};
-ghost use Rattle.pud_defs.specs.Texts.{ready_text};
+ghost use Rattle.pud_defs.specs.Formats.Image.{Image};
+ghost use Rattle.pud_defs.specs.Logging.Settled.{ALL_LOGS};
+ghost use Rattle.pud_defs.specs.Output.StartText.{refused_line, refused_lines};
+ghost use Rattle.pud_defs.specs.Output.Texts.{ready_text};
 ghost use Rattle.recover.specs.Verdicts.{is_refused_mark};
 ghost use Rattle.puddled.specs.Starting.{AreMarks, refused_text};
 ghost use Rattle.puddled.specs.declared.starting.TheConstants.{LINE_LIMIT, TEXT_LIMIT};

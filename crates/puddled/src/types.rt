@@ -3,10 +3,10 @@ ghost use Rattle.std.specs.Prelude.{◌≡◌, ◌≤◌, ℕ, true, IfOk, Optio
 ghost use Rattle.pm_model.specs.Words.{IsRested};
 ghost use Rattle.pm_model.specs.Counts.{after_fault, fault_of};
 ghost use Rattle.pud_defs.specs.declared.layout.TheConstants.{POOL_TABLE};
-ghost use Rattle.pud_defs.specs.TypeMap.{is_legal_type_id, is_legal_map};
-ghost use Rattle.pud_defs.specs.World.{World};
-ghost use Rattle.pud_defs.specs.Step.{answer_by, world_by};
-ghost use Rattle.pud_defs.specs.Step.Answer.{of_reply};
+ghost use Rattle.pud_defs.specs.Formats.TypeMap.{is_legal_type_id, is_legal_map};
+ghost use Rattle.pud_defs.specs.StateMachine.World.{World};
+ghost use Rattle.pud_defs.specs.StateMachine.Step.{answer_by, world_by};
+ghost use Rattle.pud_defs.specs.StateMachine.Step.Answer.{of_reply};
 ghost use Rattle.pud_defs.specs.declared.machine.Command.TheVariants.{Define};
 ghost use Rattle.ready_daemon.specs.Memory.{Memory};
 ghost use Rattle.ready_daemon.specs.Defined.{reply_of_definition};

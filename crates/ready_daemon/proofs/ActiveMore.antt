@@ -7,8 +7,8 @@ use Rattle.std.proofs.lemmas.Option.{none-some, same_Some}
 use Rattle.std.proofs.lemmas.Slice.Eq.{bytes_eq-Decides}
 use Rattle.pm_model.specs.Changes.{Write}
 use Rattle.pm_model.specs.Words.{Words}
-use Rattle.pud_defs.specs.Transactions.{with_open}
-use Rattle.pud_defs.specs.World.{Transaction, World, open_on}
+use Rattle.pud_defs.specs.StateMachine.Transactions.{with_open}
+use Rattle.pud_defs.specs.StateMachine.World.{Transaction, World, open_on}
 use Rattle.hybrid_tx.specs.Open.ManyOpen.{Opens, MasksAll, AreOpenPools}
 use Rattle.nesting.specs.declared.Session.{Session}
 use Rattle.nesting.specs.Sessions.{session_in, session_log, session_depth, entered}

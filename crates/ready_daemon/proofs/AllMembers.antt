@@ -9,15 +9,15 @@ use Rattle.std.proofs.lemmas.Option.{same_Some}
 use Rattle.pud_defs.specs.declared.records.TheConstants.{POOL_RECORDS}
 use Rattle.pud_defs.specs.declared.records.PoolRecord.{PoolRecord}
 use Rattle.pud_defs.specs.declared.records.Puddle.{Puddle}
-use Rattle.pud_defs.specs.Keyed.{under}
-use Rattle.pud_defs.specs.Puddles.{Member}
-use Rattle.pud_defs.specs.SoundTables.{HasSoundTables}
-use Rattle.pud_defs.specs.Tables.{Tables, members, puddles_of, puddles_in_turn}
-use Rattle.pud_defs.proofs.Keyed.{alone_there, under_none}
-use Rattle.pud_defs.proofs.PoolMembers.{IsMemberOf, HasMembers, members_in_turn}
-use Rattle.pud_defs.proofs.PuddlesListed.{puddles_in_turn-listed}
-use Rattle.pud_defs.proofs.SoundChanged.{distinct_ordinals}
-use Rattle.pud_defs.proofs.TypeLists.{same_test}
+use Rattle.pud_defs.specs.RegistryTables.Keyed.{under}
+use Rattle.pud_defs.specs.RegistryTables.Puddles.{Member}
+use Rattle.pud_defs.specs.RegistryTables.SoundTables.{HasSoundTables}
+use Rattle.pud_defs.specs.RegistryTables.Tables.{Tables, members, puddles_of, puddles_in_turn}
+use Rattle.pud_defs.proofs.KeyedTables.Keyed.{alone_there, under_none}
+use Rattle.pud_defs.proofs.RegistryTables.PoolMembers.{IsMemberOf, HasMembers, members_in_turn}
+use Rattle.pud_defs.proofs.RegistryTables.PuddlesListed.{puddles_in_turn-listed}
+use Rattle.pud_defs.proofs.RegistryTables.SoundChanged.{distinct_ordinals}
+use Rattle.pud_defs.proofs.RegistryTables.TypeLists.{same_test}
 
 -- lists of one length with the same at each place
 same_elements : {A : Type 0} (xs ys : List A) → length xs ≡ length ys → ((i : ℕ) (x y : A) → slice_get xs i ≡ Some x → slice_get ys i ≡ Some y → x ≡ y) → xs ≡ ys

@@ -10,13 +10,13 @@ use Rattle.pm_model.proofs.Leaves.{Leaves-still, Leaves-weaker, Leaves-then}
 use Rattle.pud_defs.specs.declared.machine.Command.{Command}
 use Rattle.pud_defs.specs.declared.machine.Refusal.{Refusal}
 use Rattle.pud_defs.specs.declared.layout.TheConstants.{DAEMON_LOG}
-use Rattle.pud_defs.specs.Image.{Image}
-use Rattle.pud_defs.specs.Puddles.{Member}
-use Rattle.pud_defs.specs.Replay.{settled_by}
-use Rattle.pud_defs.specs.Tables.{tables_of}
-use Rattle.pud_defs.specs.World.{StoredWorld, World, world_of, closed}
-use Rattle.pud_defs.specs.Step.{refusal_of, after, unless_refused, world_by}
-use Rattle.pud_defs.proofs.Steps.{done_world}
+use Rattle.pud_defs.specs.Formats.Image.{Image}
+use Rattle.pud_defs.specs.RegistryTables.Puddles.{Member}
+use Rattle.pud_defs.specs.Logging.Replay.{settled_by}
+use Rattle.pud_defs.specs.RegistryTables.Tables.{tables_of}
+use Rattle.pud_defs.specs.StateMachine.World.{StoredWorld, World, world_of, closed}
+use Rattle.pud_defs.specs.StateMachine.Step.{refusal_of, after, unless_refused, world_by}
+use Rattle.pud_defs.proofs.StateMachine.Steps.{done_world}
 use Rattle.known_pool.specs.Known.{Known, IsKnown}
 use Rattle.ready_daemon.specs.Memory.{Memory}
 use Rattle.ready_daemon.specs.PoolKnowledge.{known_puddles_in}

@@ -7,11 +7,11 @@ use Rattle.std.proofs.lemmas.Option.{none-some, same_Some}
 use Rattle.std.proofs.lemmas.Slice.Eq.{bytes_eq-Decides}
 use Rattle.pm_model.specs.Moments.{State}
 use Rattle.pud_defs.specs.declared.machine.Command.TheVariants as commands
-use Rattle.pud_defs.specs.Graph.{Graph}
-use Rattle.pud_defs.specs.DeferredValues.{DeferredValue}
-use Rattle.pud_defs.specs.Step.{graph_at_begin, after}
-use Rattle.pud_defs.specs.Transactions.{with_open, open_after_begin}
-use Rattle.pud_defs.specs.World.{Transaction, World, open_on}
+use Rattle.pud_defs.specs.PoolGraphs.Graph.{Graph}
+use Rattle.pud_defs.specs.PoolGraphs.DeferredValues.{DeferredValue}
+use Rattle.pud_defs.specs.StateMachine.Step.{graph_at_begin, after}
+use Rattle.pud_defs.specs.StateMachine.Transactions.{with_open, open_after_begin}
+use Rattle.pud_defs.specs.StateMachine.World.{Transaction, World, open_on}
 use Rattle.hybrid_tx.specs.Objects.Transactions.{IsOpenOn}
 use Rattle.nesting.specs.declared.Session.{Session}
 use Rattle.nesting.specs.Sessions.{session_in, session_log, session_depth, entered}

@@ -12,15 +12,15 @@ use Rattle.pm_model.proofs.Words.{HasOnly-own}
 use Rattle.pm_model.proofs.Leaves.{Leaves-changes, Leaves-weaker, Leaves-then}
 use Rattle.pm_model.proofs.Masks.{IsOff-none, masked-elsewhere, masked_image-there, masked_image-elsewhere, reads-masked}
 use Rattle.pud_defs.specs.declared.layout.TheConstants.{DAEMON_LOG, NEXT_NUMBER_WORD}
-use Rattle.pud_defs.specs.Image.{Image}
-use Rattle.pud_defs.specs.Layout.{tables_end, frames_at, log_at}
-use Rattle.pud_defs.specs.Spaces.{Owner}
-use Rattle.pud_defs.specs.Entries.{Entry, Log, is_idle_gate}
-use Rattle.pud_defs.specs.Replay.{device_word, new_value, is_in_log}
-use Rattle.pud_defs.specs.Settled.{log_number_at}
-use Rattle.pud_defs.specs.World.{World}
-use Rattle.pud_defs.proofs.Replay.{outside_log, not_inside}
-use Rattle.pud_defs.proofs.TablesOf.{tables_of-same}
+use Rattle.pud_defs.specs.Formats.Image.{Image}
+use Rattle.pud_defs.specs.Formats.Layout.{tables_end, frames_at, log_at}
+use Rattle.pud_defs.specs.RegistryTables.Spaces.{Owner}
+use Rattle.pud_defs.specs.Logging.Entries.{Entry, Log, is_idle_gate}
+use Rattle.pud_defs.specs.Logging.Replay.{device_word, new_value, is_in_log}
+use Rattle.pud_defs.specs.Logging.Settled.{log_number_at}
+use Rattle.pud_defs.specs.StateMachine.World.{World}
+use Rattle.pud_defs.proofs.Logging.Replay.{outside_log, not_inside}
+use Rattle.pud_defs.proofs.RegistryTables.TablesOf.{tables_of-same}
 use Rattle.batch.specs.Batches.{batch_write, AreBatched, HasIdleGate, ByBatch, IsBatched, Commits}
 use Rattle.batch.proofs.Masked.{not_written}
 use Rattle.batch.proofs.Tables.{StaysDurable, reads_kept}

@@ -11,18 +11,18 @@ use Rattle.pm_model.proofs.Changes.{Changes-said}
 use Rattle.pm_model.proofs.Leaves.{HasOrigin, Leaves-both, Leaves-weaker, Leaves-changes}
 use Rattle.pm_model.proofs.Masks.{masked-elsewhere, Picks-masked, Leaves-unmasked}
 use Rattle.pud_defs.specs.declared.layout.TheConstants.{DAEMON_LOG, LOG_WORDS, POOL_TABLE}
-use Rattle.pud_defs.specs.Image.{Image}
-use Rattle.pud_defs.specs.Entries.{log_of, is_idle_gate}
-use Rattle.pud_defs.specs.Replay.{device_word, IsInLog, is_in_log}
-use Rattle.pud_defs.specs.Stored.{Stored, IsOnDevice, stored_in}
-use Rattle.pud_defs.specs.Graph.{Graph, graph_of}
-use Rattle.pud_defs.specs.PoolChanges.{pool_named}
-use Rattle.pud_defs.specs.Puddles.{Member}
-use Rattle.pud_defs.specs.Step.{graph_in}
-use Rattle.pud_defs.specs.Settled.{log_number_at}
-use Rattle.pud_defs.specs.Types.{map_of}
-use Rattle.pud_defs.specs.World.{Transaction, World, StoredWorld, world_of, idle_world_of, closed, open_on}
-use Rattle.pud_defs.proofs.Replay.{empty_range_of, new_value-closed, outside_log}
+use Rattle.pud_defs.specs.Formats.Image.{Image}
+use Rattle.pud_defs.specs.Logging.Entries.{log_of, is_idle_gate}
+use Rattle.pud_defs.specs.Logging.Replay.{device_word, IsInLog, is_in_log}
+use Rattle.pud_defs.specs.PoolGraphs.Stored.{Stored, IsOnDevice, stored_in}
+use Rattle.pud_defs.specs.PoolGraphs.Graph.{Graph, graph_of}
+use Rattle.pud_defs.specs.StateMachine.PoolChanges.{pool_named}
+use Rattle.pud_defs.specs.RegistryTables.Puddles.{Member}
+use Rattle.pud_defs.specs.StateMachine.Step.{graph_in}
+use Rattle.pud_defs.specs.Logging.Settled.{log_number_at}
+use Rattle.pud_defs.specs.RegistryTables.Types.{map_of}
+use Rattle.pud_defs.specs.StateMachine.World.{Transaction, World, StoredWorld, world_of, idle_world_of, closed, open_on}
+use Rattle.pud_defs.proofs.Logging.Replay.{empty_range_of, new_value-closed, outside_log}
 use Rattle.hybrid_tx.specs.PoolScopes.{pool_has_word, pool_scope, finished_of}
 use Rattle.hybrid_tx.specs.Open.Masks.{OpenPool, is_open_record, open_mask, IsOpenPool, IsLeftOpen}
 use Rattle.hybrid_tx.specs.Open.ManyOpen.{OpenTransaction, Opens, MasksAll, AreOpenPools, HasRecords, AreLeftOpen}

@@ -15,21 +15,21 @@ use Rattle.pm_model.proofs.Leaves.{Leaves-changes, Leaves-weaker, Leaves-then, L
 use Rattle.pud_defs.specs.declared.layout.TheConstants.{DAEMON_LOG, CLIENTS, CLIENT_LOGS, SPACE_RECORD_WORDS, PUDDLE_TABLE}
 use Rattle.pud_defs.specs.declared.log_words.TheConstants.{CLOSED_GATE}
 use Rattle.pm_model.proofs.Words.{HasOnly-own}
-use Rattle.pud_defs.specs.Layout.{tables_end, log_at}
-use Rattle.pud_defs.specs.Image.{Image}
-use Rattle.pud_defs.specs.Entries.{Entry, log_of, is_idle_gate}
-use Rattle.pud_defs.specs.Puddles.{Member}
-use Rattle.pud_defs.specs.Replay.{device_word}
-use Rattle.pud_defs.specs.Tables.{tables_of}
-use Rattle.pud_defs.specs.Spaces.{Owner, space_record_at, owner_by, owner_of, has_closed_logs, owner, with_owner}
-use Rattle.pud_defs.specs.World.{World, idle_world_of, closed}
+use Rattle.pud_defs.specs.Formats.Layout.{tables_end, log_at}
+use Rattle.pud_defs.specs.Formats.Image.{Image}
+use Rattle.pud_defs.specs.Logging.Entries.{Entry, log_of, is_idle_gate}
+use Rattle.pud_defs.specs.RegistryTables.Puddles.{Member}
+use Rattle.pud_defs.specs.Logging.Replay.{device_word}
+use Rattle.pud_defs.specs.RegistryTables.Tables.{tables_of}
+use Rattle.pud_defs.specs.RegistryTables.Spaces.{Owner, space_record_at, owner_by, owner_of, has_closed_logs, owner, with_owner}
+use Rattle.pud_defs.specs.StateMachine.World.{World, idle_world_of, closed}
 use Rattle.pud_defs.specs.declared.machine.Command.TheVariants.{Client, Leave}
 use Rattle.pud_defs.specs.declared.machine.Refusal.TheVariants as refusals
-use Rattle.pud_defs.specs.Step.{refusal_of, after}
-use Rattle.pud_defs.proofs.Replay.{empty_range_of, new_value-closed, outside_log}
-use Rattle.pud_defs.proofs.ClosedLogs.{has_closed_logs-gates}
-use Rattle.pud_defs.proofs.Spaces.{used_is_some, owner_of-same, has_closed_logs-same}
-use Rattle.pud_defs.proofs.Steps.{client-taken, client-new, leave-absent, leave-present}
+use Rattle.pud_defs.specs.StateMachine.Step.{refusal_of, after}
+use Rattle.pud_defs.proofs.Logging.Replay.{empty_range_of, new_value-closed, outside_log}
+use Rattle.pud_defs.proofs.Logging.ClosedLogs.{has_closed_logs-gates}
+use Rattle.pud_defs.proofs.RegistryTables.Spaces.{used_is_some, owner_of-same, has_closed_logs-same}
+use Rattle.pud_defs.proofs.StateMachine.Steps.{client-taken, client-new, leave-absent, leave-present}
 use Rattle.batch.specs.Batches.{batch_entry, IsBatchEntry, AreBatched, HasIdleGate, ByBatch, IsBatched, Commits}
 use Rattle.batch.specs.Tables.{HasDurableTables}
 use Rattle.batch.proofs.Tables.{StaysDurable, reads_kept, HasDurableTables-kept, HasDurableTables-committed}

@@ -10,34 +10,34 @@ use Rattle.pud_defs.specs.declared.layout.TheConstants.{DAEMON_LOG, TYPE_TABLE, 
 use Rattle.pud_defs.specs.declared.records.TheConstants.{POOL_RECORDS}
 use Rattle.pud_defs.specs.declared.records.PoolRecord.{PoolRecord}
 use Rattle.pud_defs.specs.declared.records.Puddle.{Puddle}
-use Rattle.pud_defs.specs.Image.{Image}
-use Rattle.pud_defs.specs.Layout.{frames_at}
-use Rattle.pud_defs.specs.Entries.{is_idle_gate}
-use Rattle.pud_defs.specs.Frames.{frame_at}
-use Rattle.pud_defs.specs.Graph.{Graph, graph_of}
-use Rattle.pud_defs.specs.Holdings.{Holding, held_as, holding_in}
-use Rattle.pud_defs.specs.Holdings.Holding.{Sound}
-use Rattle.pud_defs.specs.Names.{name_cmp}
-use Rattle.pud_defs.specs.PoolChanges.{changed_pool}
-use Rattle.pud_defs.specs.Puddles.{Member}
-use Rattle.pud_defs.specs.Replay.{beside_log, is_in_log}
-use Rattle.pud_defs.specs.SoundTables.{are_sound_tables, HasSoundTables}
-use Rattle.pud_defs.specs.Stored.{stored_in}
-use Rattle.pud_defs.specs.Tables.{Tables, Pool, Reader, tables_of, puddles_of, puddles_in_turn, listed, pool_of, entries, pools_of}
-use Rattle.pud_defs.specs.Transactions.{holding_graph}
-use Rattle.pud_defs.specs.World.{StoredWorld, idle_world_of}
-use Rattle.pud_defs.proofs.Holdings.{IsFrameOf, HasSameFrame, frames_listed, stored_in-same}
-use Rattle.pud_defs.proofs.IdleWorlds.{standing_idle, idle_world_of-beside, idle_registry_standing}
-use Rattle.pud_defs.proofs.Keyed.{keyed-put, alone_there, is_free_for}
-use Rattle.pud_defs.proofs.KeyedEach.{each-weaker}
-use Rattle.pud_defs.proofs.Parts.{StandsFor, standing_with_pools}
-use Rattle.pud_defs.proofs.Parts.Part.{Header, Pools}
-use Rattle.pud_defs.proofs.PoolMembers.{members_in_turn}
-use Rattle.pud_defs.proofs.PoolsChanged.{same_name, entry_of, distinct_entries}
-use Rattle.pud_defs.proofs.PuddlesListed.{puddles_in_turn-listed}
-use Rattle.pud_defs.proofs.Replay.{beside_log-outside, outside_log}
-use Rattle.pud_defs.proofs.SoundChanged.{distinct_names, sound_from}
-use Rattle.pud_defs.proofs.TablesOf.{tables_of-same}
+use Rattle.pud_defs.specs.Formats.Image.{Image}
+use Rattle.pud_defs.specs.Formats.Layout.{frames_at}
+use Rattle.pud_defs.specs.Logging.Entries.{is_idle_gate}
+use Rattle.pud_defs.specs.Formats.Frames.{frame_at}
+use Rattle.pud_defs.specs.PoolGraphs.Graph.{Graph, graph_of}
+use Rattle.pud_defs.specs.PoolGraphs.Holdings.{Holding, held_as, holding_in}
+use Rattle.pud_defs.specs.PoolGraphs.Holdings.Holding.{Sound}
+use Rattle.pud_defs.specs.Formats.Names.{name_cmp}
+use Rattle.pud_defs.specs.StateMachine.PoolChanges.{changed_pool}
+use Rattle.pud_defs.specs.RegistryTables.Puddles.{Member}
+use Rattle.pud_defs.specs.Logging.Replay.{beside_log, is_in_log}
+use Rattle.pud_defs.specs.RegistryTables.SoundTables.{are_sound_tables, HasSoundTables}
+use Rattle.pud_defs.specs.PoolGraphs.Stored.{stored_in}
+use Rattle.pud_defs.specs.RegistryTables.Tables.{Tables, Pool, Reader, tables_of, puddles_of, puddles_in_turn, listed, pool_of, entries, pools_of}
+use Rattle.pud_defs.specs.StateMachine.Transactions.{holding_graph}
+use Rattle.pud_defs.specs.StateMachine.World.{StoredWorld, idle_world_of}
+use Rattle.pud_defs.proofs.PoolGraphs.Holdings.{IsFrameOf, HasSameFrame, frames_listed, stored_in-same}
+use Rattle.pud_defs.proofs.StateMachine.IdleWorlds.{standing_idle, idle_world_of-beside, idle_registry_standing}
+use Rattle.pud_defs.proofs.KeyedTables.Keyed.{keyed-put, alone_there, is_free_for}
+use Rattle.pud_defs.proofs.KeyedTables.KeyedEach.{each-weaker}
+use Rattle.pud_defs.proofs.StateMachine.Parts.{StandsFor, standing_with_pools}
+use Rattle.pud_defs.proofs.StateMachine.Parts.Part.{Header, Pools}
+use Rattle.pud_defs.proofs.RegistryTables.PoolMembers.{members_in_turn}
+use Rattle.pud_defs.proofs.RegistryTables.PoolsChanged.{same_name, entry_of, distinct_entries}
+use Rattle.pud_defs.proofs.RegistryTables.PuddlesListed.{puddles_in_turn-listed}
+use Rattle.pud_defs.proofs.Logging.Replay.{beside_log-outside, outside_log}
+use Rattle.pud_defs.proofs.RegistryTables.SoundChanged.{distinct_names, sound_from}
+use Rattle.pud_defs.proofs.RegistryTables.TablesOf.{tables_of-same}
 use Rattle.registry.proofs.Changed.{found_pool, changed_there}
 use Rattle.hybrid_tx.specs.PoolScopes.{pool_has_word}
 use Rattle.hybrid_tx.proofs.Open.OpenMasks.{mine_behind}

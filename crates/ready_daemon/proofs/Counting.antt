@@ -13,23 +13,23 @@ use Rattle.pm_model.proofs.Masks.{reads-masked, masked_image-elsewhere}
 use Rattle.pud_defs.specs.declared.layout.TheConstants.{CLIENTS, CLIENT_LOGS}
 use Rattle.pud_defs.specs.declared.records.TheConstants.{POOL_RECORDS}
 use Rattle.pud_defs.specs.declared.records.PoolRecord.{PoolRecord}
-use Rattle.pud_defs.specs.Entries.{Log, gate_lo, gate_hi}
-use Rattle.pud_defs.specs.Holdings.{holding_in}
-use Rattle.pud_defs.specs.Image.{Image}
-use Rattle.pud_defs.specs.Layout.{log_at}
-use Rattle.pud_defs.specs.Names.{name_cmp}
-use Rattle.pud_defs.specs.Settled.{ALL_LOGS, client_of_log, log_number_at}
-use Rattle.pud_defs.specs.Spaces.{Owner, owner_of, is_closed_range, is_closed_log, are_closed_logs}
-use Rattle.pud_defs.specs.Step.{open_elsewhere}
-use Rattle.pud_defs.specs.Tables.{Tables, Pool, Reader, tables_of, puddles_of, entries, pools_of}
-use Rattle.pud_defs.specs.Transactions.{is_own}
-use Rattle.pud_defs.specs.World.{Transaction, World, open_on}
-use Rattle.pud_defs.proofs.Idle.{registered_is_closed}
-use Rattle.pud_defs.proofs.Parts.Part.{Spaces}
-use Rattle.pud_defs.proofs.PoolsChanged.{entry_of, distinct_entries}
-use Rattle.pud_defs.proofs.PoolsCounted.{sum_places, sum_places-same, worth, sum-keyed}
-use Rattle.pud_defs.proofs.SoundChanged.{distinct_names}
-use Rattle.pud_defs.proofs.Spaces.{is_closed_log-same}
+use Rattle.pud_defs.specs.Logging.Entries.{Log, gate_lo, gate_hi}
+use Rattle.pud_defs.specs.PoolGraphs.Holdings.{holding_in}
+use Rattle.pud_defs.specs.Formats.Image.{Image}
+use Rattle.pud_defs.specs.Formats.Layout.{log_at}
+use Rattle.pud_defs.specs.Formats.Names.{name_cmp}
+use Rattle.pud_defs.specs.Logging.Settled.{ALL_LOGS, client_of_log, log_number_at}
+use Rattle.pud_defs.specs.RegistryTables.Spaces.{Owner, owner_of, is_closed_range, is_closed_log, are_closed_logs}
+use Rattle.pud_defs.specs.StateMachine.Step.{open_elsewhere}
+use Rattle.pud_defs.specs.RegistryTables.Tables.{Tables, Pool, Reader, tables_of, puddles_of, entries, pools_of}
+use Rattle.pud_defs.specs.StateMachine.Transactions.{is_own}
+use Rattle.pud_defs.specs.StateMachine.World.{Transaction, World, open_on}
+use Rattle.pud_defs.proofs.Logging.Idle.{registered_is_closed}
+use Rattle.pud_defs.proofs.StateMachine.Parts.Part.{Spaces}
+use Rattle.pud_defs.proofs.RegistryTables.PoolsChanged.{entry_of, distinct_entries}
+use Rattle.pud_defs.proofs.RegistryTables.PoolsCounted.{sum_places, sum_places-same, worth, sum-keyed}
+use Rattle.pud_defs.proofs.RegistryTables.SoundChanged.{distinct_names}
+use Rattle.pud_defs.proofs.RegistryTables.Spaces.{is_closed_log-same}
 use Rattle.hybrid_tx.proofs.Open.ManyMasks.{masks_beside_log}
 use Rattle.log_space.specs.FreeLogs.{first_from, first_closed, log_number, IsLogOf}
 use Rattle.log_space.proofs.FirstFrom.{first_from-found, first_from-each}

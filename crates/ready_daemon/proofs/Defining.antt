@@ -16,33 +16,33 @@ use Rattle.pud_defs.specs.declared.layout.TheConstants.{TYPE_RECORDS, TYPE_TABLE
 use Rattle.pud_defs.specs.declared.machine.Command.TheVariants.{Define}
 use Rattle.pud_defs.specs.declared.machine.Refusal.{Refusal}
 use Rattle.pud_defs.specs.declared.machine.Refusal.TheVariants.{Clash, Full}
-use Rattle.pud_defs.specs.Image.{Image}
-use Rattle.pud_defs.specs.Image.{image_with as write_word}
-use Rattle.pud_defs.specs.Keyed.{first_free}
-use Rattle.pud_defs.specs.Names.{name_cmp}
-use Rattle.pud_defs.specs.Spaces.{Owner, owner_of}
-use Rattle.pud_defs.specs.Stored.{Stored}
-use Rattle.pud_defs.specs.Graph.{Graph, graph_of}
-use Rattle.pud_defs.specs.Tables.{Pool}
-use Rattle.pud_defs.specs.Holdings.{Holding, graph_held, read_anew}
-use Rattle.pud_defs.specs.Holdings.Holding.{Sound, Wild}
-use Rattle.pud_defs.specs.TypeMap.{is_legal_map, is_legal_type_id}
-use Rattle.pud_defs.specs.Types.{type_record_at, type_at, types_of, free_type, used_types, map_of, with_type}
-use Rattle.pud_defs.specs.Entries.{is_idle_gate}
-use Rattle.pud_defs.specs.PoolChanges.{pool_named, reread_pool, with_type_defined}
-use Rattle.pud_defs.specs.World.{StoredWorld, World, idle_world_of, closed}
-use Rattle.pud_defs.specs.Step.{is_other, is_clash, graph_in, answer_by, refusal_of, after, unless_refused, world_by}
-use Rattle.pud_defs.proofs.Keyed.{IsLowestFree, first_free_some, keyed-same}
-use Rattle.pud_defs.proofs.KeyedMaps.{find-mapped}
-use Rattle.pud_defs.proofs.PoolsCounted.{count_used-same}
-use Rattle.pud_defs.proofs.TypeMore.{map_of-more, graph_of-more}
-use Rattle.pud_defs.proofs.TypeTable.{free_word, type_at-same}
-use Rattle.pud_defs.proofs.Spaces.{owner_of-same}
-use Rattle.pud_defs.proofs.Parts.{StandsFor}
-use Rattle.pud_defs.proofs.IdleWorlds.{types_sorted, pools_settled, map_of_world, length_of_world, full_of_world, room_of_world}
-use Rattle.pud_defs.proofs.Definitions.{idle_world_of-map_written, idle_world_of-defined}
-use Rattle.pud_defs.specs.Step.Answer.{of_reply}
-use Rattle.pud_defs.proofs.Steps.{refused_answer, answer_is_ok, refusal_of-define, define-same, define-clash, define-full, define-new, after-same}
+use Rattle.pud_defs.specs.Formats.Image.{Image}
+use Rattle.pud_defs.specs.Formats.Image.{image_with as write_word}
+use Rattle.pud_defs.specs.RegistryTables.Keyed.{first_free}
+use Rattle.pud_defs.specs.Formats.Names.{name_cmp}
+use Rattle.pud_defs.specs.RegistryTables.Spaces.{Owner, owner_of}
+use Rattle.pud_defs.specs.PoolGraphs.Stored.{Stored}
+use Rattle.pud_defs.specs.PoolGraphs.Graph.{Graph, graph_of}
+use Rattle.pud_defs.specs.RegistryTables.Tables.{Pool}
+use Rattle.pud_defs.specs.PoolGraphs.Holdings.{Holding, graph_held, read_anew}
+use Rattle.pud_defs.specs.PoolGraphs.Holdings.Holding.{Sound, Wild}
+use Rattle.pud_defs.specs.Formats.TypeMap.{is_legal_map, is_legal_type_id}
+use Rattle.pud_defs.specs.RegistryTables.Types.{type_record_at, type_at, types_of, free_type, used_types, map_of, with_type}
+use Rattle.pud_defs.specs.Logging.Entries.{is_idle_gate}
+use Rattle.pud_defs.specs.StateMachine.PoolChanges.{pool_named, reread_pool, with_type_defined}
+use Rattle.pud_defs.specs.StateMachine.World.{StoredWorld, World, idle_world_of, closed}
+use Rattle.pud_defs.specs.StateMachine.Step.{is_other, is_clash, graph_in, answer_by, refusal_of, after, unless_refused, world_by}
+use Rattle.pud_defs.proofs.KeyedTables.Keyed.{IsLowestFree, first_free_some, keyed-same}
+use Rattle.pud_defs.proofs.KeyedTables.KeyedMaps.{find-mapped}
+use Rattle.pud_defs.proofs.RegistryTables.PoolsCounted.{count_used-same}
+use Rattle.pud_defs.proofs.PoolGraphs.TypeMore.{map_of-more, graph_of-more}
+use Rattle.pud_defs.proofs.RegistryTables.TypeTable.{free_word, type_at-same}
+use Rattle.pud_defs.proofs.RegistryTables.Spaces.{owner_of-same}
+use Rattle.pud_defs.proofs.StateMachine.Parts.{StandsFor}
+use Rattle.pud_defs.proofs.StateMachine.IdleWorlds.{types_sorted, pools_settled, map_of_world, length_of_world, full_of_world, room_of_world}
+use Rattle.pud_defs.proofs.RegistryTables.Definitions.{idle_world_of-map_written, idle_world_of-defined}
+use Rattle.pud_defs.specs.StateMachine.Step.Answer.{of_reply}
+use Rattle.pud_defs.proofs.StateMachine.Steps.{refused_answer, answer_is_ok, refusal_of-define, define-same, define-clash, define-full, define-new, after-same}
 use Rattle.type_maps.specs.declared.TypeFault.{TypeFault}
 use Rattle.type_maps.specs.declared.TypeFault.TheVariants as faults
 use Rattle.type_maps.specs.Define.{fault_in, refusal_in, table_refusal, place_for, record_write, half_defined, defined, IsDefining, IsDefined, Defines}

@@ -2,7 +2,7 @@
 use Rattle.std.proofs.Common.{◌≡◌, ℕ, ◌+◌, ◌≤◌, Bool, true, false, eqb, cond, Option, Some, ap, ◌∙◌, arith, eq-eqb}
 use Rattle.std.specs.Prelude.{max}
 use Rattle.std.proofs.lemmas.Bool.{cond-true}
-use Rattle.pud_defs.specs.Puddles.{Member, member_moved}
+use Rattle.pud_defs.specs.RegistryTables.Puddles.{Member, member_moved}
 use Rattle.ready_daemon.specs.Moves.{Stays, IsFrontierBetween, MovesTo, still, led_to, led_in}
 use Rattle.ready_daemon.proofs.PuddlesLeft.{GoesOn, Joins}
 

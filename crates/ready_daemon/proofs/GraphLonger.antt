@@ -4,14 +4,14 @@ use Rattle.std.proofs.lemmas.List.{length-map, length_push}
 use Rattle.std.proofs.lemmas.Option.{none-some}
 use Rattle.pud_defs.specs.declared.records.Puddle.{Puddle}
 use Rattle.pud_defs.specs.declared.space.TheConstants.{SLOT_SERIAL_WORD}
-use Rattle.pud_defs.specs.Geometry.{ordinal_of}
-use Rattle.pud_defs.specs.Frames.{IsFreshFrame}
-use Rattle.pud_defs.specs.Graph.{under_serial, table_of, place_of_serial, object_at, Object, Graph, graph_of}
-use Rattle.pud_defs.specs.Holdings.{held_as, graph_held}
-use Rattle.pud_defs.specs.Image.{Image}
-use Rattle.pud_defs.specs.Keyed.{under}
-use Rattle.pud_defs.specs.Stored.{Stored, word_in_frame, stored_in, places_of, place_word, place_begins, slot_state}
-use Rattle.pud_defs.proofs.Keyed.{first_from_at, first_from_some}
+use Rattle.pud_defs.specs.Formats.Geometry.{ordinal_of}
+use Rattle.pud_defs.specs.Formats.Frames.{IsFreshFrame}
+use Rattle.pud_defs.specs.PoolGraphs.Graph.{under_serial, table_of, place_of_serial, object_at, Object, Graph, graph_of}
+use Rattle.pud_defs.specs.PoolGraphs.Holdings.{held_as, graph_held}
+use Rattle.pud_defs.specs.Formats.Image.{Image}
+use Rattle.pud_defs.specs.RegistryTables.Keyed.{under}
+use Rattle.pud_defs.specs.PoolGraphs.Stored.{Stored, word_in_frame, stored_in, places_of, place_word, place_begins, slot_state}
+use Rattle.pud_defs.proofs.KeyedTables.Keyed.{first_from_at, first_from_some}
 use Rattle.graph_laws.proofs.Grown.{slice_get-front}
 use Rattle.graph_laws.proofs.Places.{object_in-place}
 use Rattle.puddle_header.specs.Places.{places_in}

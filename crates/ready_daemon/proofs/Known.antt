@@ -4,10 +4,10 @@ use Rattle.std.proofs.lemmas.Bool.{cases_eq, cases_lt}
 use Rattle.std.proofs.lemmas.List.{get_or-set_same, get_or-set_other, get_or_past, get_or-replicate, length-replicate}
 use Rattle.std.proofs.lemmas.Option.{none-some, same_Some}
 use Rattle.pud_defs.specs.declared.records.Puddle.{Puddle}
-use Rattle.pud_defs.specs.Image.{Image}
-use Rattle.pud_defs.specs.Stored.{IsOnDevice}
+use Rattle.pud_defs.specs.Formats.Image.{Image}
+use Rattle.pud_defs.specs.PoolGraphs.Stored.{IsOnDevice}
 use Rattle.ready_daemon.specs.PoolKnowledge.{puddles_with_graph}
-use Rattle.pud_defs.proofs.Keyed.{option_map_parts}
+use Rattle.pud_defs.proofs.KeyedTables.Keyed.{option_map_parts}
 use Rattle.known_pool.specs.Known.{Known, IsKnown, by_puddles}
 use Rattle.ready_daemon.specs.PoolKnowledge.{known_pool_in, puddles_known, known_puddles_in, alone_in, AreOnDevice, AreKnownPools}
 

@@ -14,24 +14,24 @@ use Rattle.pud_defs.specs.declared.records.Puddle.{Puddle}
 use Rattle.pud_defs.specs.declared.records.PoolRecord.{PoolRecord}
 use Rattle.pud_defs.specs.declared.records.PuddleRecord.{PuddleRecord}
 use Rattle.pud_defs.specs.declared.records.Put.{Put}
-use Rattle.pud_defs.specs.Image.{Image}
-use Rattle.pud_defs.specs.Frames.{frame_at, fresh_frame}
-use Rattle.pud_defs.specs.Keyed.{first_free}
-use Rattle.pud_defs.specs.Layout.{tables_end, frames_at}
-use Rattle.pud_defs.specs.Puddles.{Member}
-use Rattle.pud_defs.specs.Puts.{with_put, member_by, changed_at, puddle_put, pool_put, free_pool_put, free_puddle_put, with_pool_at, is_of_pool}
-use Rattle.pud_defs.specs.Types.{types_of}
-use Rattle.pud_defs.specs.Stored.{stored_in}
-use Rattle.pud_defs.specs.Graph.{graph_of}
-use Rattle.pud_defs.specs.SoundTables.{HasSoundTables}
-use Rattle.pud_defs.specs.Tables.{Tables, tables_of, member_of, members}
-use Rattle.pud_defs.proofs.Keyed.{first_free_some}
-use Rattle.pud_defs.proofs.PoolsChanged.{changed_here, changed_elsewhere}
-use Rattle.pud_defs.proofs.PoolsCounted.{no_member}
-use Rattle.pud_defs.proofs.Graphs.{graph_of-each}
-use Rattle.pud_defs.proofs.PoolMembers.{IsMemberOf, members_in_turn}
-use Rattle.pud_defs.proofs.PutsMade.{with_put-outside, puddle_put_made, mode_put_made, free_pool_put_made, free_puddle_put_made}
-use Rattle.pud_defs.proofs.TablesOf.{frames_of_tables}
+use Rattle.pud_defs.specs.Formats.Image.{Image}
+use Rattle.pud_defs.specs.Formats.Frames.{frame_at, fresh_frame}
+use Rattle.pud_defs.specs.RegistryTables.Keyed.{first_free}
+use Rattle.pud_defs.specs.Formats.Layout.{tables_end, frames_at}
+use Rattle.pud_defs.specs.RegistryTables.Puddles.{Member}
+use Rattle.pud_defs.specs.RegistryTables.Puts.{with_put, member_by, changed_at, puddle_put, pool_put, free_pool_put, free_puddle_put, with_pool_at, is_of_pool}
+use Rattle.pud_defs.specs.RegistryTables.Types.{types_of}
+use Rattle.pud_defs.specs.PoolGraphs.Stored.{stored_in}
+use Rattle.pud_defs.specs.PoolGraphs.Graph.{graph_of}
+use Rattle.pud_defs.specs.RegistryTables.SoundTables.{HasSoundTables}
+use Rattle.pud_defs.specs.RegistryTables.Tables.{Tables, tables_of, member_of, members}
+use Rattle.pud_defs.proofs.KeyedTables.Keyed.{first_free_some}
+use Rattle.pud_defs.proofs.RegistryTables.PoolsChanged.{changed_here, changed_elsewhere}
+use Rattle.pud_defs.proofs.RegistryTables.PoolsCounted.{no_member}
+use Rattle.pud_defs.proofs.PoolGraphs.Graphs.{graph_of-each}
+use Rattle.pud_defs.proofs.RegistryTables.PoolMembers.{IsMemberOf, members_in_turn}
+use Rattle.pud_defs.proofs.RegistryTables.PutsMade.{with_put-outside, puddle_put_made, mode_put_made, free_pool_put_made, free_puddle_put_made}
+use Rattle.pud_defs.proofs.RegistryTables.TablesOf.{frames_of_tables}
 use Rattle.batch.specs.Batches.{Commits}
 use Rattle.batch.proofs.Tables.{reads_kept, reads_committed}
 use Rattle.registry.specs.Puts.{puts_batch, number_put, with_puts, AreOfPools, IsPoolsWord}

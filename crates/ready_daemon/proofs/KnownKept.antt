@@ -10,17 +10,17 @@ use Rattle.pm_model.specs.Changes.{Footprint, Changes}
 use Rattle.pud_defs.specs.declared.layout.TheConstants.{FRAME_WORDS, TYPE_TABLE, POOL_TABLE, PUDDLE_TABLE, TYPE_RECORDS}
 use Rattle.pud_defs.specs.declared.records.TheConstants.{MAX_PUDDLES}
 use Rattle.pud_defs.specs.declared.records.Puddle.{Puddle}
-use Rattle.pud_defs.specs.Image.{Image}
-use Rattle.pud_defs.specs.Frames.{frame_at}
-use Rattle.pud_defs.specs.Layout.{tables_end, frames_at}
-use Rattle.pud_defs.specs.Puddles.{Member}
-use Rattle.pud_defs.specs.Types.{type_record_at, type_at, types_of}
-use Rattle.pud_defs.specs.Stored.{Stored, stored_in}
-use Rattle.pud_defs.specs.Graph.{Graph, graph_of}
-use Rattle.pud_defs.specs.Tables.{tables_of, members, member_of, puddles_of, in_turn, puddles_in_turn}
-use Rattle.pud_defs.proofs.Keyed.{keyed-same}
-use Rattle.pud_defs.proofs.TablesOf.{puddles_below, frames_of_tables, puddle_at-same}
-use Rattle.pud_defs.proofs.TypeTable.{type_at-same}
+use Rattle.pud_defs.specs.Formats.Image.{Image}
+use Rattle.pud_defs.specs.Formats.Frames.{frame_at}
+use Rattle.pud_defs.specs.Formats.Layout.{tables_end, frames_at}
+use Rattle.pud_defs.specs.RegistryTables.Puddles.{Member}
+use Rattle.pud_defs.specs.RegistryTables.Types.{type_record_at, type_at, types_of}
+use Rattle.pud_defs.specs.PoolGraphs.Stored.{Stored, stored_in}
+use Rattle.pud_defs.specs.PoolGraphs.Graph.{Graph, graph_of}
+use Rattle.pud_defs.specs.RegistryTables.Tables.{tables_of, members, member_of, puddles_of, in_turn, puddles_in_turn}
+use Rattle.pud_defs.proofs.KeyedTables.Keyed.{keyed-same}
+use Rattle.pud_defs.proofs.RegistryTables.TablesOf.{puddles_below, frames_of_tables, puddle_at-same}
+use Rattle.pud_defs.proofs.RegistryTables.TypeTable.{type_at-same}
 use Rattle.batch.proofs.Tables.{reads_kept}
 use Rattle.hybrid_tx.specs.PoolScopes.{pool_has_word}
 use Rattle.hybrid_tx.proofs.Objects.Opening.{stored_in-has_word}

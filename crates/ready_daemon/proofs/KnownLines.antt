@@ -7,18 +7,18 @@ use Rattle.pm_model.specs.Moments.{State}
 use Rattle.pm_model.specs.Changes.{Write, written, Persists}
 use Rattle.pm_model.proofs.Words.{HasOnly-newest}
 use Rattle.pud_defs.specs.declared.layout.TheConstants.{DAEMON_LOG, PUDDLE_TABLE, CLIENTS, SPACE_RECORD_WORDS, TYPE_TABLE, POOL_TABLE, TYPE_RECORDS}
-use Rattle.pud_defs.specs.Image.{Image}
-use Rattle.pud_defs.specs.Replay.{overwritten}
-use Rattle.pud_defs.specs.Spaces.{space_record_at}
-use Rattle.pud_defs.specs.TypeMap.{is_legal_type_id}
-use Rattle.pud_defs.specs.Types.{type_record_at, type_at, types_of, free_type, map_of, with_type}
-use Rattle.pud_defs.specs.Graph.{graph_of}
-use Rattle.pud_defs.specs.Tables.{member_of}
-use Rattle.pud_defs.proofs.Images.{written_there, written_other}
-use Rattle.pud_defs.proofs.Keyed.{keyed-same, first_free_some}
-use Rattle.pud_defs.proofs.Replay.{overwritten-there, overwritten-stays}
-use Rattle.pud_defs.proofs.TypeMore.{graph_of-more}
-use Rattle.pud_defs.proofs.TypeTable.{free_word, type_at-map_written, types_of-written}
+use Rattle.pud_defs.specs.Formats.Image.{Image}
+use Rattle.pud_defs.specs.Logging.Replay.{overwritten}
+use Rattle.pud_defs.specs.RegistryTables.Spaces.{space_record_at}
+use Rattle.pud_defs.specs.Formats.TypeMap.{is_legal_type_id}
+use Rattle.pud_defs.specs.RegistryTables.Types.{type_record_at, type_at, types_of, free_type, map_of, with_type}
+use Rattle.pud_defs.specs.PoolGraphs.Graph.{graph_of}
+use Rattle.pud_defs.specs.RegistryTables.Tables.{member_of}
+use Rattle.pud_defs.proofs.Formats.Images.{written_there, written_other}
+use Rattle.pud_defs.proofs.KeyedTables.Keyed.{keyed-same, first_free_some}
+use Rattle.pud_defs.proofs.Logging.Replay.{overwritten-there, overwritten-stays}
+use Rattle.pud_defs.proofs.PoolGraphs.TypeMore.{graph_of-more}
+use Rattle.pud_defs.proofs.RegistryTables.TypeTable.{free_word, type_at-map_written, types_of-written}
 use Rattle.batch.specs.Batches.{batch_write, ByBatch, Commits}
 use Rattle.batch.proofs.Tables.{reads_kept}
 use Rattle.log_space.specs.Closed.{ByClosing, ClosesGates}

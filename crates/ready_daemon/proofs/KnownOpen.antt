@@ -9,14 +9,14 @@ use Rattle.pm_model.specs.Changes.{Footprint, Write, Changes, only, written, Per
 use Rattle.pm_model.proofs.Words.{only_at}
 use Rattle.pud_defs.specs.declared.layout.TheConstants.{LOG_WORDS}
 use Rattle.pud_defs.specs.declared.records.Puddle.{Puddle}
-use Rattle.pud_defs.specs.Image.{Image}
-use Rattle.pud_defs.specs.Layout.{tables_end, frames_at}
-use Rattle.pud_defs.specs.Settled.{ALL_LOGS, log_number_at}
-use Rattle.pud_defs.specs.Types.{types_of}
-use Rattle.pud_defs.specs.Stored.{stored_in}
-use Rattle.pud_defs.specs.Graph.{Graph, graph_of}
-use Rattle.pud_defs.specs.Tables.{tables_of, member_of, puddles_in_turn}
-use Rattle.pud_defs.specs.World.{World}
+use Rattle.pud_defs.specs.Formats.Image.{Image}
+use Rattle.pud_defs.specs.Formats.Layout.{tables_end, frames_at}
+use Rattle.pud_defs.specs.Logging.Settled.{ALL_LOGS, log_number_at}
+use Rattle.pud_defs.specs.RegistryTables.Types.{types_of}
+use Rattle.pud_defs.specs.PoolGraphs.Stored.{stored_in}
+use Rattle.pud_defs.specs.PoolGraphs.Graph.{Graph, graph_of}
+use Rattle.pud_defs.specs.RegistryTables.Tables.{tables_of, member_of, puddles_in_turn}
+use Rattle.pud_defs.specs.StateMachine.World.{World}
 use Rattle.batch.proofs.Tables.{reads_kept}
 use Rattle.word_transaction.specs.Running.{ByTransaction}
 use Rattle.hybrid_tx.specs.PoolScopes.{pool_scope, finished_of, pool_has_word}

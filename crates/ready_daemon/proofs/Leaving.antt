@@ -14,13 +14,13 @@ use Rattle.pm_model.proofs.Changes.{Changes-still, Changes-then}
 use Rattle.pm_model.proofs.Leaves.{Leaves-weaker, Leaves-then}
 use Rattle.pud_defs.specs.declared.layout.TheConstants.{CLIENTS, CLIENT_LOGS}
 use Rattle.pud_defs.specs.declared.machine.Command.TheVariants.{Leave}
-use Rattle.pud_defs.specs.Image.{Image}
+use Rattle.pud_defs.specs.Formats.Image.{Image}
 use Rattle.pud_defs.specs.declared.machine.Command.{Command}
-use Rattle.pud_defs.specs.Settled.{client_of_log}
-use Rattle.pud_defs.specs.Spaces.{owner_of}
-use Rattle.pud_defs.specs.Step.{after, refusal_of, unless_refused, world_by}
-use Rattle.pud_defs.specs.Transactions.{OpenTransactions, is_own, with_open, without_client}
-use Rattle.pud_defs.specs.World.{Transaction, World, closed, open_on}
+use Rattle.pud_defs.specs.Logging.Settled.{client_of_log}
+use Rattle.pud_defs.specs.RegistryTables.Spaces.{owner_of}
+use Rattle.pud_defs.specs.StateMachine.Step.{after, refusal_of, unless_refused, world_by}
+use Rattle.pud_defs.specs.StateMachine.Transactions.{OpenTransactions, is_own, with_open, without_client}
+use Rattle.pud_defs.specs.StateMachine.World.{Transaction, World, closed, open_on}
 use Rattle.ready_daemon.specs.Memory.{ActiveTransaction, Memory, active_under}
 use Rattle.ready_daemon.specs.ActiveTransactions.{IsActive, AreOfOtherClients}
 use Rattle.ready_daemon.specs.Leaving.{world_without, world_without_log, BehindTables}

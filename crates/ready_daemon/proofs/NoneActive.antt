@@ -5,7 +5,7 @@ use Rattle.std.proofs.lemmas.List.{get_or_past, get_or-replicate, length-replica
 use Rattle.std.proofs.lemmas.Option.{none-some}
 use Rattle.pm_model.specs.Masks.{no_mask}
 use Rattle.pm_model.specs.Words.{Words}
-use Rattle.pud_defs.specs.World.{World, nothing_open}
+use Rattle.pud_defs.specs.StateMachine.World.{World, nothing_open}
 use Rattle.hybrid_tx.specs.Open.ManyOpen.{none_open}
 use Rattle.nesting.proofs.Holders.{session_in-replicate}
 use Rattle.ready_daemon.specs.Memory.{ActiveTransaction, active_under}

@@ -3,10 +3,10 @@ use Rattle.std.proofs.Common.{◌≡◌, ◌≢◌, inl, inr, ℕ, ◌+◌, fals
 use Rattle.std.proofs.lemmas.Bool.{cases_Bool, cond-true, cond-false}
 use Rattle.std.proofs.lemmas.Option.{none-some, same_Some}
 use Rattle.std.proofs.lemmas.Slice.Eq.{bytes_eq-Decides}
-use Rattle.pud_defs.specs.Graph.{Graph}
-use Rattle.pud_defs.specs.DeferredValues.{DeferredValue}
-use Rattle.pud_defs.specs.Transactions.{OpenTransactions, with_open, with_changed, charged, deferring}
-use Rattle.pud_defs.specs.World.{Transaction}
+use Rattle.pud_defs.specs.PoolGraphs.Graph.{Graph}
+use Rattle.pud_defs.specs.PoolGraphs.DeferredValues.{DeferredValue}
+use Rattle.pud_defs.specs.StateMachine.Transactions.{OpenTransactions, with_open, with_changed, charged, deferring}
+use Rattle.pud_defs.specs.StateMachine.World.{Transaction}
 
 other_name : (name other : List ℕ) → other ≢ name → bytes_eq other name ≡ false
 other_name name other apart = elim (cases_Bool (bytes_eq other name)) [

@@ -8,17 +8,17 @@ use Rattle.pm_model.specs.Words.{Words}
 use Rattle.pm_model.specs.Changes.{Write}
 use Rattle.pm_model.specs.Masks.{IsOff}
 use Rattle.pud_defs.specs.declared.layout.TheConstants.{DAEMON_LOG, CLIENTS, CLIENT_LOGS, SPACE_RECORD_WORDS}
-use Rattle.pud_defs.specs.Replay.{IsInLog}
-use Rattle.pud_defs.specs.Puddles.{puddle_record_at}
-use Rattle.pud_defs.specs.Pools.{pool_record_at}
-use Rattle.pud_defs.specs.Spaces.{Owner, space_record_at, with_owner}
-use Rattle.pud_defs.specs.Settled.{client_of_log, log_number_at}
-use Rattle.pud_defs.specs.Stored.{IsOnDevice}
-use Rattle.pud_defs.specs.Transactions.{OpenTransactions, is_own, without_client}
-use Rattle.pud_defs.specs.World.{Transaction, World, open_on}
+use Rattle.pud_defs.specs.Logging.Replay.{IsInLog}
+use Rattle.pud_defs.specs.RegistryTables.Puddles.{puddle_record_at}
+use Rattle.pud_defs.specs.RegistryTables.Pools.{pool_record_at}
+use Rattle.pud_defs.specs.RegistryTables.Spaces.{Owner, space_record_at, with_owner}
+use Rattle.pud_defs.specs.Logging.Settled.{client_of_log, log_number_at}
+use Rattle.pud_defs.specs.PoolGraphs.Stored.{IsOnDevice}
+use Rattle.pud_defs.specs.StateMachine.Transactions.{OpenTransactions, is_own, without_client}
+use Rattle.pud_defs.specs.StateMachine.World.{Transaction, World, open_on}
 use Rattle.pud_defs.specs.declared.machine.Command.TheVariants.{Leave}
-use Rattle.pud_defs.specs.Step.{after}
-use Rattle.pud_defs.proofs.Replay.{outside_log}
+use Rattle.pud_defs.specs.StateMachine.Step.{after}
+use Rattle.pud_defs.proofs.Logging.Replay.{outside_log}
 use Rattle.hybrid_tx.specs.Open.Masks.{OpenPool, is_in_pool_record, is_in_space_record, is_in_puddle_record, is_open_record, open_mask}
 use Rattle.hybrid_tx.proofs.Open.OpenMasks.{mine_behind, mask_below, mask_of_others, open_record_place}
 use Rattle.hybrid_tx.proofs.Open.OpenPools.{open_on_device}

@@ -15,35 +15,35 @@ use Rattle.pud_defs.specs.declared.records.TheConstants.{POOL_RECORDS}
 use Rattle.pud_defs.specs.declared.records.PoolRecord.{PoolRecord}
 use Rattle.pud_defs.specs.declared.records.PuddleRecord.{PuddleRecord}
 use Rattle.pud_defs.specs.declared.records.Put.{Put}
-use Rattle.pud_defs.specs.ExportFile.{FileContents}
-use Rattle.pud_defs.specs.Graph.{Graph, graph_of}
-use Rattle.pud_defs.specs.Image.{Image}
-use Rattle.pud_defs.specs.Imports.{types_missing, with_types_defined, imported_pool, with_imported_pool}
-use Rattle.pud_defs.specs.Layout.{tables_end, frames_at}
-use Rattle.pud_defs.specs.PoolChanges.{pool_named, with_type_defined}
-use Rattle.pud_defs.specs.Puts.{with_put, pool_put, member_by, changed_at, with_puddle_at}
-use Rattle.pud_defs.specs.SoundTables.{HasSoundTables}
-use Rattle.pud_defs.specs.Spaces.{Owner}
-use Rattle.pud_defs.specs.Step.{graph_in}
-use Rattle.pud_defs.specs.Stored.{Stored}
-use Rattle.pud_defs.specs.Tables.{Tables, tables_of, member_of}
-use Rattle.pud_defs.specs.Types.{map_of, with_type, types_of}
-use Rattle.pud_defs.specs.World.{StoredWorld, World}
-use Rattle.pud_defs.proofs.PoolsChanged.{changed_here, changed_elsewhere}
-use Rattle.pud_defs.proofs.TablesOf.{frames_of_tables}
-use Rattle.pud_defs.proofs.TypeLists.{same_test}
-use Rattle.pud_defs.proofs.TypeMore.{graph_of-wider}
+use Rattle.pud_defs.specs.PoolGraphs.ExportFile.{FileContents}
+use Rattle.pud_defs.specs.PoolGraphs.Graph.{Graph, graph_of}
+use Rattle.pud_defs.specs.Formats.Image.{Image}
+use Rattle.pud_defs.specs.StateMachine.Imports.{types_missing, with_types_defined, imported_pool, with_imported_pool}
+use Rattle.pud_defs.specs.Formats.Layout.{tables_end, frames_at}
+use Rattle.pud_defs.specs.StateMachine.PoolChanges.{pool_named, with_type_defined}
+use Rattle.pud_defs.specs.RegistryTables.Puts.{with_put, pool_put, member_by, changed_at, with_puddle_at}
+use Rattle.pud_defs.specs.RegistryTables.SoundTables.{HasSoundTables}
+use Rattle.pud_defs.specs.RegistryTables.Spaces.{Owner}
+use Rattle.pud_defs.specs.StateMachine.Step.{graph_in}
+use Rattle.pud_defs.specs.PoolGraphs.Stored.{Stored}
+use Rattle.pud_defs.specs.RegistryTables.Tables.{Tables, tables_of, member_of}
+use Rattle.pud_defs.specs.RegistryTables.Types.{map_of, with_type, types_of}
+use Rattle.pud_defs.specs.StateMachine.World.{StoredWorld, World}
+use Rattle.pud_defs.proofs.RegistryTables.PoolsChanged.{changed_here, changed_elsewhere}
+use Rattle.pud_defs.proofs.RegistryTables.TablesOf.{frames_of_tables}
+use Rattle.pud_defs.proofs.RegistryTables.TypeLists.{same_test}
+use Rattle.pud_defs.proofs.PoolGraphs.TypeMore.{graph_of-wider}
 use Rattle.ready_daemon.specs.Memory.{ActiveTransaction, Memory}
 use Rattle.ready_daemon.specs.ActiveTransactions.{AreActive, KeepsActive}
 use Rattle.ready_daemon.proofs.Beside.{active_is}
 use Rattle.ready_daemon.proofs.Defining.{pool_kept}
 use Rattle.ready_daemon.proofs.PoolsApart.{found_beside_put}
 use Rattle.ready_daemon.proofs.Pooling.{IsNotNamed}
-use Rattle.pud_defs.specs.Types.{type_at, type_record_at}
-use Rattle.pud_defs.proofs.TypeTable.{type_at-same}
-use Rattle.pud_defs.proofs.Keyed.{first_free_some}
-use Rattle.pud_defs.proofs.PutsMade.{with_put-outside}
-use Rattle.pud_defs.proofs.TablesOf.{tables_of-same}
+use Rattle.pud_defs.specs.RegistryTables.Types.{type_at, type_record_at}
+use Rattle.pud_defs.proofs.RegistryTables.TypeTable.{type_at-same}
+use Rattle.pud_defs.proofs.KeyedTables.Keyed.{first_free_some}
+use Rattle.pud_defs.proofs.RegistryTables.PutsMade.{with_put-outside}
+use Rattle.pud_defs.proofs.RegistryTables.TablesOf.{tables_of-same}
 use Rattle.batch.specs.Batches.{ByBatch}
 use Rattle.batch.proofs.Tables.{reads_kept, reads_committed}
 use Rattle.registry.specs.declared.adding.NewPuddle.{NewPuddle}
@@ -54,16 +54,16 @@ use Rattle.registry.specs.Pools.{CommitsPuts}
 use Rattle.registry.specs.Placing.{new_type_put, placing, HasFreeRecords, IsPlacedFor}
 use Rattle.registry.proofs.NewPuddles.{AreWithin, with_added, adding_of, adding_tables}
 use Rattle.registry.proofs.PutBatches.{of_tables, overwritten-table_puts}
-use Rattle.pud_defs.specs.Imports.{numbers_drawn}
+use Rattle.pud_defs.specs.StateMachine.Imports.{numbers_drawn}
 use Rattle.ready_daemon.proofs.KnownKept.{KeepsGraphs, KeepsPools, KeepsPools-each, puddles_same, own_word}
 use Rattle.ready_daemon.proofs.KnownJudged.{not_free}
 use Rattle.pm_model.proofs.Words.{Picks-reads}
 use Rattle.pud_defs.specs.declared.machine.Command.{Command}
-use Rattle.pud_defs.specs.Step.{refusal_of, after, world_by}
-use Rattle.pud_defs.proofs.IdleWorlds.{standing_beside, standing_idle}
-use Rattle.pud_defs.proofs.Parts.{Holds-same, StandsFor}
-use Rattle.pud_defs.proofs.Parts.Part.{Types}
-use Rattle.pud_defs.proofs.Steps.{done_world}
+use Rattle.pud_defs.specs.StateMachine.Step.{refusal_of, after, world_by}
+use Rattle.pud_defs.proofs.StateMachine.IdleWorlds.{standing_beside, standing_idle}
+use Rattle.pud_defs.proofs.StateMachine.Parts.{Holds-same, StandsFor}
+use Rattle.pud_defs.proofs.StateMachine.Parts.Part.{Types}
+use Rattle.pud_defs.proofs.StateMachine.Steps.{done_world}
 use Rattle.ready_daemon.specs.Moves.{Stays, LeavesPuddles}
 use Rattle.ready_daemon.specs.Ready.{IsReady, Applies}
 use Rattle.ready_daemon.proofs.Beside.{Applies-beside}

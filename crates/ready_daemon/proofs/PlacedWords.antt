@@ -8,18 +8,18 @@ use Rattle.pud_defs.specs.declared.records.TheConstants.{POOL_RECORDS}
 use Rattle.pud_defs.specs.declared.records.PoolRecord.{PoolRecord}
 use Rattle.pud_defs.specs.declared.records.Puddle.{Puddle}
 use Rattle.pud_defs.specs.declared.records.Put.{Put}
-use Rattle.pud_defs.specs.Image.{Image}
-use Rattle.pud_defs.specs.Frames.{frame_at}
-use Rattle.pud_defs.specs.Layout.{IsWithin}
-use Rattle.pud_defs.specs.Placement.{ArePlacedFrom}
-use Rattle.pud_defs.specs.Pools.{pool_record_at}
-use Rattle.pud_defs.specs.Puddles.{Member, puddle_record_at}
-use Rattle.pud_defs.specs.Puts.{pool_put, puddle_put}
-use Rattle.pud_defs.specs.Replay.{value_at}
-use Rattle.pud_defs.specs.Tables.{Tables, tables_of}
-use Rattle.pud_defs.specs.Types.{type_at}
-use Rattle.pud_defs.proofs.Keyed.{first_free_some}
-use Rattle.pud_defs.proofs.TablesOf.{frames_of_tables}
+use Rattle.pud_defs.specs.Formats.Image.{Image}
+use Rattle.pud_defs.specs.Formats.Frames.{frame_at}
+use Rattle.pud_defs.specs.Formats.Layout.{IsWithin}
+use Rattle.pud_defs.specs.RegistryTables.Placement.{ArePlacedFrom}
+use Rattle.pud_defs.specs.RegistryTables.Pools.{pool_record_at}
+use Rattle.pud_defs.specs.RegistryTables.Puddles.{Member, puddle_record_at}
+use Rattle.pud_defs.specs.RegistryTables.Puts.{pool_put, puddle_put}
+use Rattle.pud_defs.specs.Logging.Replay.{value_at}
+use Rattle.pud_defs.specs.RegistryTables.Tables.{Tables, tables_of}
+use Rattle.pud_defs.specs.RegistryTables.Types.{type_at}
+use Rattle.pud_defs.proofs.KeyedTables.Keyed.{first_free_some}
+use Rattle.pud_defs.proofs.RegistryTables.TablesOf.{frames_of_tables}
 use Rattle.batch.specs.Batches.{batch_write, ByBatch}
 use Rattle.registry.specs.declared.adding.NewPuddle.{NewPuddle}
 use Rattle.registry.specs.declared.placing.NewType.{NewType}
@@ -29,7 +29,7 @@ use Rattle.registry.specs.Placing.{new_type_put, placing, puddle_of_added, HasFr
 use Rattle.registry.proofs.PutBatches.{either_some}
 use Rattle.pm_model.specs.Words.{Words, reads}
 use Rattle.pm_model.specs.Changes.{Write}
-use Rattle.pud_defs.specs.World.{World}
+use Rattle.pud_defs.specs.StateMachine.World.{World}
 use Rattle.ready_daemon.specs.Memory.{ActiveTransaction}
 use Rattle.ready_daemon.specs.ActiveTransactions.{AreActive}
 use Rattle.ready_daemon.proofs.Beside.{unmasked_front}

@@ -22,25 +22,25 @@ use Rattle.pud_defs.specs.declared.machine.Command.TheVariants as commands
 use Rattle.pud_defs.specs.declared.machine.Reply.{Reply}
 use Rattle.pud_defs.specs.declared.machine.Refusal.{Refusal}
 use Rattle.pud_defs.specs.declared.machine.Refusal.TheVariants as refusals
-use Rattle.pud_defs.specs.Image.{Image}
-use Rattle.pud_defs.specs.Keyed.{first_free, count_used}
-use Rattle.pud_defs.specs.Pools.{pool_read}
-use Rattle.pud_defs.specs.Names.{name_cmp}
-use Rattle.pud_defs.specs.Puddles.{Member}
-use Rattle.pud_defs.specs.Holdings.{holding_in}
-use Rattle.pud_defs.specs.Spaces as spaces
-use Rattle.pud_defs.specs.Spaces.{owner, owner_by, owner_of, is_space, is_legal_space, space_record_at}
-use Rattle.pud_defs.specs.Tables.{Tables, Pool, Reader, tables_of, members, records_of, pool_in, pool_of}
-use Rattle.pud_defs.specs.PoolChanges.{pool_named, lacks_numbers, is_full_of_pools, lacks_frames, new_pool, with_new_pool, with_pool_mode, without_pool}
-use Rattle.pud_defs.specs.World.{StoredWorld, Transaction, World, open_on}
-use Rattle.pud_defs.specs.Step.{graph_in, has_owner_right, refusal_of, after, answer_by, world_by}
-use Rattle.pud_defs.specs.Step.Answer.{of_reply}
-use Rattle.pud_defs.proofs.PoolsCounted.{IsMasked}
-use Rattle.pud_defs.specs.Transactions.{is_own, is_others}
-use Rattle.pud_defs.proofs.PoolRefusals.{making_refusal, refusal_of-pool, refusal_of-drop, refusal_of-owned, pool_by_record, pool_by_name, found_by_table, full_by_table, space_by_table, found_record}
-use Rattle.pud_defs.proofs.Spaces.{all_below-each}
-use Rattle.pud_defs.proofs.Steps.{answer_is_ok, refused_answer, refused_world, done_world}
-use Rattle.pud_defs.proofs.TablesOf.{pools_beyond, frames_of_tables}
+use Rattle.pud_defs.specs.Formats.Image.{Image}
+use Rattle.pud_defs.specs.RegistryTables.Keyed.{first_free, count_used}
+use Rattle.pud_defs.specs.RegistryTables.Pools.{pool_read}
+use Rattle.pud_defs.specs.Formats.Names.{name_cmp}
+use Rattle.pud_defs.specs.RegistryTables.Puddles.{Member}
+use Rattle.pud_defs.specs.PoolGraphs.Holdings.{holding_in}
+use Rattle.pud_defs.specs.RegistryTables.Spaces as spaces
+use Rattle.pud_defs.specs.RegistryTables.Spaces.{owner, owner_by, owner_of, is_space, is_legal_space, space_record_at}
+use Rattle.pud_defs.specs.RegistryTables.Tables.{Tables, Pool, Reader, tables_of, members, records_of, pool_in, pool_of}
+use Rattle.pud_defs.specs.StateMachine.PoolChanges.{pool_named, lacks_numbers, is_full_of_pools, lacks_frames, new_pool, with_new_pool, with_pool_mode, without_pool}
+use Rattle.pud_defs.specs.StateMachine.World.{StoredWorld, Transaction, World, open_on}
+use Rattle.pud_defs.specs.StateMachine.Step.{graph_in, has_owner_right, refusal_of, after, answer_by, world_by}
+use Rattle.pud_defs.specs.StateMachine.Step.Answer.{of_reply}
+use Rattle.pud_defs.proofs.RegistryTables.PoolsCounted.{IsMasked}
+use Rattle.pud_defs.specs.StateMachine.Transactions.{is_own, is_others}
+use Rattle.pud_defs.proofs.StateMachine.PoolRefusals.{making_refusal, refusal_of-pool, refusal_of-drop, refusal_of-owned, pool_by_record, pool_by_name, found_by_table, full_by_table, space_by_table, found_record}
+use Rattle.pud_defs.proofs.RegistryTables.Spaces.{all_below-each}
+use Rattle.pud_defs.proofs.StateMachine.Steps.{answer_is_ok, refused_answer, refused_world, done_world}
+use Rattle.pud_defs.proofs.RegistryTables.TablesOf.{pools_beyond, frames_of_tables}
 use Rattle.batch.specs.Worlds.{IsQuiescent}
 use Rattle.batch.specs.Tables.{HasDurableTables}
 use Rattle.batch.specs.Batches.{HasIdleGate, ByBatch, Commits}

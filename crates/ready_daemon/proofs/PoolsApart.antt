@@ -18,26 +18,26 @@ use Rattle.pm_persist.proofs.Ranges.{placed_within}
 use Rattle.pud_defs.specs.declared.layout.TheConstants.{DAEMON_LOG, SPACE_TABLE, PUDDLE_TABLE, TYPE_TABLE}
 use Rattle.pud_defs.specs.declared.records.TheConstants.{POOL_RECORDS}
 use Rattle.pud_defs.specs.declared.records.Put.{Put}
-use Rattle.pud_defs.specs.Image.{Image}
-use Rattle.pud_defs.specs.Entries.{Entry}
-use Rattle.pud_defs.specs.Frames.{frame_at, fresh_frame}
-use Rattle.pud_defs.specs.Layout.{tables_end, frames_at}
-use Rattle.pud_defs.specs.Keyed.{first_free, without}
-use Rattle.pud_defs.specs.Names.{name_cmp}
-use Rattle.pud_defs.specs.Pools.{pool_record_at}
-use Rattle.pud_defs.specs.Puddles.{Member, puddle_record_at}
-use Rattle.pud_defs.specs.Puts.{is_of_pool}
-use Rattle.pud_defs.specs.Replay.{value_at}
-use Rattle.pud_defs.specs.Tables.{Tables, Pool, tables_of}
-use Rattle.pud_defs.specs.Types.{map_of}
-use Rattle.pud_defs.specs.Graph.{graph_of}
-use Rattle.pud_defs.specs.PoolChanges.{pool_named}
-use Rattle.pud_defs.specs.Step.{graph_in}
-use Rattle.pud_defs.specs.World.{StoredWorld, World, idle_world_of, closed}
-use Rattle.pud_defs.proofs.Keyed.{first_free_some}
-use Rattle.pud_defs.proofs.PoolsChanged.{same_name}
-use Rattle.pud_defs.proofs.Spaces.{owner_of-same}
-use Rattle.pud_defs.proofs.TablesOf.{frames_of_tables}
+use Rattle.pud_defs.specs.Formats.Image.{Image}
+use Rattle.pud_defs.specs.Logging.Entries.{Entry}
+use Rattle.pud_defs.specs.Formats.Frames.{frame_at, fresh_frame}
+use Rattle.pud_defs.specs.Formats.Layout.{tables_end, frames_at}
+use Rattle.pud_defs.specs.RegistryTables.Keyed.{first_free, without}
+use Rattle.pud_defs.specs.Formats.Names.{name_cmp}
+use Rattle.pud_defs.specs.RegistryTables.Pools.{pool_record_at}
+use Rattle.pud_defs.specs.RegistryTables.Puddles.{Member, puddle_record_at}
+use Rattle.pud_defs.specs.RegistryTables.Puts.{is_of_pool}
+use Rattle.pud_defs.specs.Logging.Replay.{value_at}
+use Rattle.pud_defs.specs.RegistryTables.Tables.{Tables, Pool, tables_of}
+use Rattle.pud_defs.specs.RegistryTables.Types.{map_of}
+use Rattle.pud_defs.specs.PoolGraphs.Graph.{graph_of}
+use Rattle.pud_defs.specs.StateMachine.PoolChanges.{pool_named}
+use Rattle.pud_defs.specs.StateMachine.Step.{graph_in}
+use Rattle.pud_defs.specs.StateMachine.World.{StoredWorld, World, idle_world_of, closed}
+use Rattle.pud_defs.proofs.KeyedTables.Keyed.{first_free_some}
+use Rattle.pud_defs.proofs.RegistryTables.PoolsChanged.{same_name}
+use Rattle.pud_defs.proofs.RegistryTables.Spaces.{owner_of-same}
+use Rattle.pud_defs.proofs.RegistryTables.TablesOf.{frames_of_tables}
 use Rattle.batch.specs.Batches.{batch_write, AreBatched, HasIdleGate, ByBatch}
 use Rattle.batch.specs.Tables.{HasDurableTables}
 use Rattle.batch.proofs.Tables.{StaysDurable, HasDurableTables-changed, reads_kept}

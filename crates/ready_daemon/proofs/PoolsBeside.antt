@@ -9,18 +9,18 @@ use Rattle.pm_model.specs.Changes.{Write}
 use Rattle.pud_defs.specs.declared.records.TheConstants.{POOL_RECORDS}
 use Rattle.pud_defs.specs.declared.records.PoolRecord.{PoolRecord}
 use Rattle.pud_defs.specs.declared.records.Puddle.{Puddle}
-use Rattle.pud_defs.specs.Geometry.{steps_of}
-use Rattle.pud_defs.specs.Frames.{frame_at}
-use Rattle.pud_defs.specs.Layout.{IsWithin, tables_end}
-use Rattle.pud_defs.specs.Pools.{pool_record_at}
-use Rattle.pud_defs.specs.Puddles.{Member, puddle_record_at}
-use Rattle.pud_defs.specs.Puts.{is_of_pool}
-use Rattle.pud_defs.specs.Settled.{client_of_log, log_number_at}
-use Rattle.pud_defs.specs.Spaces.{space_record_at}
-use Rattle.pud_defs.specs.Tables.{Tables, tables_of}
-use Rattle.pud_defs.specs.World.{World}
-use Rattle.pud_defs.proofs.Replay.{outside_log}
-use Rattle.pud_defs.proofs.TablesOf.{pools_below, puddles_below, frames_of_tables, pool_at-same, puddle_at-same}
+use Rattle.pud_defs.specs.Formats.Geometry.{steps_of}
+use Rattle.pud_defs.specs.Formats.Frames.{frame_at}
+use Rattle.pud_defs.specs.Formats.Layout.{IsWithin, tables_end}
+use Rattle.pud_defs.specs.RegistryTables.Pools.{pool_record_at}
+use Rattle.pud_defs.specs.RegistryTables.Puddles.{Member, puddle_record_at}
+use Rattle.pud_defs.specs.RegistryTables.Puts.{is_of_pool}
+use Rattle.pud_defs.specs.Logging.Settled.{client_of_log, log_number_at}
+use Rattle.pud_defs.specs.RegistryTables.Spaces.{space_record_at}
+use Rattle.pud_defs.specs.RegistryTables.Tables.{Tables, tables_of}
+use Rattle.pud_defs.specs.StateMachine.World.{World}
+use Rattle.pud_defs.proofs.Logging.Replay.{outside_log}
+use Rattle.pud_defs.proofs.RegistryTables.TablesOf.{pools_below, puddles_below, frames_of_tables, pool_at-same, puddle_at-same}
 use Rattle.hybrid_tx.specs.PoolScopes.{pool_has_word, is_finished, finished_of}
 use Rattle.hybrid_tx.proofs.FinishedPuddles.{stood}
 use Rattle.hybrid_tx.specs.Open.Masks.{OpenPool, is_in_pool_record, is_in_space_record, is_in_puddle_record, is_open_record, ArePuddlesOf, open_mask}

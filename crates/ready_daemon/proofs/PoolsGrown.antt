@@ -10,14 +10,14 @@ use Rattle.pm_model.proofs.Words.{HasOnly-newest}
 use Rattle.pud_defs.specs.declared.layout.TheConstants.{DAEMON_LOG, NEXT_NUMBER_WORD, TYPE_TABLE, FRAME_WORDS}
 use Rattle.pud_defs.specs.declared.records.TheConstants.{POOL_RECORDS}
 use Rattle.pud_defs.specs.declared.records.Put.{Put}
-use Rattle.pud_defs.specs.Image.{Image}
-use Rattle.pud_defs.specs.Frames.{frame_at, fresh_frame}
-use Rattle.pud_defs.specs.Layout.{frames_at}
-use Rattle.pud_defs.specs.Puts.{member_by, with_puddle_at}
-use Rattle.pud_defs.specs.Tables.{tables_of}
-use Rattle.pud_defs.specs.World.{World}
-use Rattle.pud_defs.specs.Keyed.{first_free}
-use Rattle.pud_defs.proofs.TablesOf.{tables_of-same, frames_of_tables}
+use Rattle.pud_defs.specs.Formats.Image.{Image}
+use Rattle.pud_defs.specs.Formats.Frames.{frame_at, fresh_frame}
+use Rattle.pud_defs.specs.Formats.Layout.{frames_at}
+use Rattle.pud_defs.specs.RegistryTables.Puts.{member_by, with_puddle_at}
+use Rattle.pud_defs.specs.RegistryTables.Tables.{tables_of}
+use Rattle.pud_defs.specs.StateMachine.World.{World}
+use Rattle.pud_defs.specs.RegistryTables.Keyed.{first_free}
+use Rattle.pud_defs.proofs.RegistryTables.TablesOf.{tables_of-same, frames_of_tables}
 use Rattle.batch.specs.Batches.{ByBatch, Commits}
 use Rattle.batch.proofs.Tables.{reads_kept, reads_committed}
 use Rattle.registry.specs.declared.adding.NewPuddle.{NewPuddle}

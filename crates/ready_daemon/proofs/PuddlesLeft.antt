@@ -12,14 +12,14 @@ use Rattle.pm_model.specs.Masks.{IsOff}
 use Rattle.pm_model.proofs.Words.{Picks-reads}
 use Rattle.pm_model.proofs.Leaves.{HasOrigin, Leaves-still, Leaves-weaker, Leaves-then, Leaves-now}
 use Rattle.pud_defs.specs.declared.layout.TheConstants.{DAEMON_LOG, PUDDLE_TABLE}
-use Rattle.pud_defs.specs.Image.{Image}
-use Rattle.pud_defs.specs.Layout.{tables_end}
-use Rattle.pud_defs.specs.Puddles.{Member, puddle_record_at}
-use Rattle.pud_defs.specs.Replay.{settled_by}
-use Rattle.pud_defs.specs.Tables.{Tables, tables_of}
-use Rattle.pud_defs.proofs.Replay.{outside_log, settled_by-outside, settled_by-idle}
-use Rattle.pud_defs.proofs.TablesOf.{puddles_below, puddles_beyond, puddle_at-same, tables_of-same}
-use Rattle.pud_defs.specs.World.{World}
+use Rattle.pud_defs.specs.Formats.Image.{Image}
+use Rattle.pud_defs.specs.Formats.Layout.{tables_end}
+use Rattle.pud_defs.specs.RegistryTables.Puddles.{Member, puddle_record_at}
+use Rattle.pud_defs.specs.Logging.Replay.{settled_by}
+use Rattle.pud_defs.specs.RegistryTables.Tables.{Tables, tables_of}
+use Rattle.pud_defs.proofs.Logging.Replay.{outside_log, settled_by-outside, settled_by-idle}
+use Rattle.pud_defs.proofs.RegistryTables.TablesOf.{puddles_below, puddles_beyond, puddle_at-same, tables_of-same}
+use Rattle.pud_defs.specs.StateMachine.World.{World}
 use Rattle.batch.specs.Batches.{HasIdleGate}
 use Rattle.batch.specs.Tables.{HasDurableTables}
 use Rattle.ready_daemon.specs.ActiveTransactions.{ByOthers, NamesNone, LeavesMasked}

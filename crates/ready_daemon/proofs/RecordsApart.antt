@@ -13,15 +13,15 @@ use Rattle.pm_persist.proofs.Ranges.{placed_within}
 use Rattle.pud_defs.specs.declared.layout.TheConstants.{DAEMON_LOG, PUDDLE_TABLE}
 use Rattle.pud_defs.specs.declared.records.TheConstants.{POOL_RECORDS}
 use Rattle.pud_defs.specs.declared.records.Put.{Put}
-use Rattle.pud_defs.specs.Image.{Image}
-use Rattle.pud_defs.specs.Frames.{frame_at, fresh_frame}
-use Rattle.pud_defs.specs.Keyed.{first_free}
-use Rattle.pud_defs.specs.Puddles.{Member, puddle_record_at}
-use Rattle.pud_defs.specs.Puts.{is_of_pool}
-use Rattle.pud_defs.specs.Replay.{settled_by}
-use Rattle.pud_defs.specs.Tables.{Tables, tables_of}
-use Rattle.pud_defs.proofs.Keyed.{first_free_some}
-use Rattle.pud_defs.proofs.TablesOf.{frames_of_tables}
+use Rattle.pud_defs.specs.Formats.Image.{Image}
+use Rattle.pud_defs.specs.Formats.Frames.{frame_at, fresh_frame}
+use Rattle.pud_defs.specs.RegistryTables.Keyed.{first_free}
+use Rattle.pud_defs.specs.RegistryTables.Puddles.{Member, puddle_record_at}
+use Rattle.pud_defs.specs.RegistryTables.Puts.{is_of_pool}
+use Rattle.pud_defs.specs.Logging.Replay.{settled_by}
+use Rattle.pud_defs.specs.RegistryTables.Tables.{Tables, tables_of}
+use Rattle.pud_defs.proofs.KeyedTables.Keyed.{first_free_some}
+use Rattle.pud_defs.proofs.RegistryTables.TablesOf.{frames_of_tables}
 use Rattle.batch.specs.Batches.{HasIdleGate, ByBatch}
 use Rattle.batch.specs.Tables.{HasDurableTables}
 use Rattle.registry.specs.declared.adding.NewPuddle.{NewPuddle}

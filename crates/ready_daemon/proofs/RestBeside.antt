@@ -4,16 +4,16 @@ use Rattle.pm_model.specs.Words.{HasOnly, reads}
 use Rattle.pm_model.specs.Moments.{State}
 use Rattle.pm_model.proofs.Words.{HasOnly-own, HasOnly-newest}
 use Rattle.pud_defs.specs.declared.layout.TheConstants.{DAEMON_LOG}
-use Rattle.pud_defs.specs.Replay.{is_in_log}
-use Rattle.pud_defs.specs.World.{World}
-use Rattle.pud_defs.proofs.Replay.{outside_log}
+use Rattle.pud_defs.specs.Logging.Replay.{is_in_log}
+use Rattle.pud_defs.specs.StateMachine.World.{World}
+use Rattle.pud_defs.proofs.Logging.Replay.{outside_log}
 use Rattle.hybrid_tx.specs.PoolScopes.{pool_has_word, finished_of}
 use Rattle.hybrid_tx.proofs.PoolScope.{pool_has_word-each}
 use Rattle.std.proofs.lemmas.Bool.{cases_eq, false_from_ne_true}
 use Rattle.std.proofs.lemmas.Option.{same_Some}
 use Rattle.pud_defs.specs.declared.records.Puddle.{Puddle}
-use Rattle.pud_defs.specs.Tables.{tables_of, puddles_in_turn}
-use Rattle.pud_defs.specs.Settled.{log_number_at}
+use Rattle.pud_defs.specs.RegistryTables.Tables.{tables_of, puddles_in_turn}
+use Rattle.pud_defs.specs.Logging.Settled.{log_number_at}
 use Rattle.hybrid_tx.specs.Open.Masks.{is_open_record}
 use Rattle.hybrid_tx.proofs.Open.OpenMasks.{mask_of_others, open_record_place}
 use Rattle.hybrid_tx.proofs.Open.OpenPools.{open_on_device}

@@ -9,13 +9,13 @@ use Rattle.pm_model.specs.Changes.{Write}
 use Rattle.pm_model.specs.Moments.{State}
 use Rattle.pud_defs.specs.declared.records.PoolRecord.{PoolRecord}
 use Rattle.pud_defs.specs.declared.records.TheConstants.{POOL_RECORDS}
-use Rattle.pud_defs.specs.Image.{Image}
-use Rattle.pud_defs.specs.Names.{name_cmp}
-use Rattle.pud_defs.specs.SoundTables.{has_distinct_names, HasSoundTables}
-use Rattle.pud_defs.specs.Tables.{Tables, tables_of, named, records_of}
-use Rattle.pud_defs.specs.World.{Transaction, World, open_on}
-use Rattle.pud_defs.proofs.Keyed.{HasDistinctKeys, distinct_keys, find-keyed_place}
-use Rattle.pud_defs.proofs.TablesOf.{pools_beyond}
+use Rattle.pud_defs.specs.Formats.Image.{Image}
+use Rattle.pud_defs.specs.Formats.Names.{name_cmp}
+use Rattle.pud_defs.specs.RegistryTables.SoundTables.{has_distinct_names, HasSoundTables}
+use Rattle.pud_defs.specs.RegistryTables.Tables.{Tables, tables_of, named, records_of}
+use Rattle.pud_defs.specs.StateMachine.World.{Transaction, World, open_on}
+use Rattle.pud_defs.proofs.KeyedTables.Keyed.{HasDistinctKeys, distinct_keys, find-keyed_place}
+use Rattle.pud_defs.proofs.RegistryTables.TablesOf.{pools_beyond}
 use Rattle.nesting.specs.declared.Session.{Session}
 use Rattle.nesting.specs.Sessions.{session_client, session_in, holder_in}
 use Rattle.ready_daemon.specs.Memory.{ActiveTransaction, Memory, active_under}

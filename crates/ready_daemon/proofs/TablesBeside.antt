@@ -7,17 +7,17 @@ use Rattle.pm_model.specs.Masks.{masked, masked_image}
 use Rattle.pm_model.proofs.Words.{Picks-reads}
 use Rattle.pm_model.proofs.Masks.{reads-masked, HasOnly-own_masked}
 use Rattle.pud_defs.specs.declared.layout.TheConstants.{DAEMON_LOG, POOL_TABLE, CLIENTS}
-use Rattle.pud_defs.specs.Image.{Image}
-use Rattle.pud_defs.specs.Layout.{tables_end}
-use Rattle.pud_defs.specs.Spaces.{are_legal_spaces, owner_of}
-use Rattle.pud_defs.specs.Holdings.{holding_in}
-use Rattle.pud_defs.specs.SoundTables.{HasSoundTables}
-use Rattle.pud_defs.specs.Tables.{Tables, tables_of, pools_of}
-use Rattle.pud_defs.specs.World.{World, closed}
-use Rattle.pud_defs.proofs.IdleWorlds.{standing_beside, standing_idle}
-use Rattle.pud_defs.proofs.Parts.{HasHeader, HasTypes, Holds-same, StandsFor}
-use Rattle.pud_defs.proofs.Parts.Part.{Header, Types, Spaces}
-use Rattle.pud_defs.proofs.Spaces.{owner_of-same, are_legal_spaces-same}
+use Rattle.pud_defs.specs.Formats.Image.{Image}
+use Rattle.pud_defs.specs.Formats.Layout.{tables_end}
+use Rattle.pud_defs.specs.RegistryTables.Spaces.{are_legal_spaces, owner_of}
+use Rattle.pud_defs.specs.PoolGraphs.Holdings.{holding_in}
+use Rattle.pud_defs.specs.RegistryTables.SoundTables.{HasSoundTables}
+use Rattle.pud_defs.specs.RegistryTables.Tables.{Tables, tables_of, pools_of}
+use Rattle.pud_defs.specs.StateMachine.World.{World, closed}
+use Rattle.pud_defs.proofs.StateMachine.IdleWorlds.{standing_beside, standing_idle}
+use Rattle.pud_defs.proofs.StateMachine.Parts.{HasHeader, HasTypes, Holds-same, StandsFor}
+use Rattle.pud_defs.proofs.StateMachine.Parts.Part.{Header, Types, Spaces}
+use Rattle.pud_defs.proofs.RegistryTables.Spaces.{owner_of-same, are_legal_spaces-same}
 use Rattle.batch.specs.Tables.{HasDurableTables}
 use Rattle.registry.proofs.Moved.{ReadsWorld, reads_world}
 use Rattle.ready_daemon.specs.Memory.{ActiveTransaction, Memory}

@@ -1,13 +1,13 @@
 -- The turns of a line.
 use Rattle.std.proofs.Common.{◌≡◌, ◌⊎◌, inl, inr, ℕ, ◌+◌, Bool, cond, List, [], ◌∷◌, refl, ap}
 use Rattle.pud_defs.specs.declared.machine.Reply.TheVariants.{Cut}
-use Rattle.pud_defs.specs.World.{World, restart}
-use Rattle.pud_defs.specs.Grammar.{command_of}
-use Rattle.pud_defs.specs.Step.{Answer}
-use Rattle.pud_defs.specs.Step.Answer.{of_reply}
-use Rattle.pud_defs.specs.Gives.{Gives, Step}
-use Rattle.pud_defs.specs.Run.{Turn, IsTurn, cuts_of}
-use Rattle.pud_defs.proofs.Steps.{step_is_no_cut}
+use Rattle.pud_defs.specs.StateMachine.World.{World, restart}
+use Rattle.pud_defs.specs.StateMachine.Grammar.{command_of}
+use Rattle.pud_defs.specs.StateMachine.Step.{Answer}
+use Rattle.pud_defs.specs.StateMachine.Step.Answer.{of_reply}
+use Rattle.pud_defs.specs.StateMachine.Gives.{Gives, Step}
+use Rattle.pud_defs.specs.StateMachine.Run.{Turn, IsTurn, cuts_of}
+use Rattle.pud_defs.proofs.StateMachine.Steps.{step_is_no_cut}
 
 -- the turn of a line that was carried out, or refused
 abbrev pub turn_of : List ℕ → Answer → World → Turn

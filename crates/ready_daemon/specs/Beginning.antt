@@ -2,14 +2,14 @@
 use Rattle.std.specs.Prelude.{◌≡◌, ℕ, true, List, Some}
 use Rattle.pud_defs.specs.declared.records.PoolRecord.{PoolRecord}
 use Rattle.pud_defs.specs.declared.records.Puddle.{Puddle}
-use Rattle.pud_defs.specs.Image.{Image}
-use Rattle.pud_defs.specs.Rights.{may_write}
-use Rattle.pud_defs.specs.Spaces.{Owner, owner, owner_of}
-use Rattle.pud_defs.specs.Settled.{log_number_at}
-use Rattle.pud_defs.specs.Stored.{stored_in}
-use Rattle.pud_defs.specs.Types.{types_of}
-use Rattle.pud_defs.specs.Graph.{Graph, graph_of}
-use Rattle.pud_defs.specs.Tables.{tables_of, puddles_in_turn}
+use Rattle.pud_defs.specs.Formats.Image.{Image}
+use Rattle.pud_defs.specs.Formats.Rights.{may_write}
+use Rattle.pud_defs.specs.RegistryTables.Spaces.{Owner, owner, owner_of}
+use Rattle.pud_defs.specs.Logging.Settled.{log_number_at}
+use Rattle.pud_defs.specs.PoolGraphs.Stored.{stored_in}
+use Rattle.pud_defs.specs.RegistryTables.Types.{types_of}
+use Rattle.pud_defs.specs.PoolGraphs.Graph.{Graph, graph_of}
+use Rattle.pud_defs.specs.RegistryTables.Tables.{tables_of, puddles_in_turn}
 use Rattle.hybrid_tx.specs.Objects.Transactions.{begun_tx}
 use Rattle.ready_daemon.specs.Memory.{ActiveTransaction}
 

@@ -1,6 +1,6 @@
 -- What the daemon knows of pools, those among them on which it holds a transaction.
 use Rattle.std.specs.Prelude.{◌≡◌, ℕ, List, Option, Some}
-use Rattle.pud_defs.specs.Image.{Image}
+use Rattle.pud_defs.specs.Formats.Image.{Image}
 use Rattle.hybrid_tx.specs.Open.ManyOpen.{OpenTransaction, Opens}
 use Rattle.known_pool.specs.Known.{Known}
 use Rattle.ready_daemon.specs.PoolKnowledge.{known_puddles_in, AreKnownPools}

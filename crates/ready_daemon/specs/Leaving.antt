@@ -1,9 +1,9 @@
 -- What is left in memory, and of the world, once transactions have ended.
 use Rattle.std.specs.Prelude.{ℕ, ◌≤◌, List, set, Option, Some, None}
 use Rattle.pm_model.specs.Changes.{Footprint}
-use Rattle.pud_defs.specs.Layout.{tables_end}
-use Rattle.pud_defs.specs.Transactions.{with_open, without_client}
-use Rattle.pud_defs.specs.World.{World}
+use Rattle.pud_defs.specs.Formats.Layout.{tables_end}
+use Rattle.pud_defs.specs.StateMachine.Transactions.{with_open, without_client}
+use Rattle.pud_defs.specs.StateMachine.World.{World}
 use Rattle.nesting.specs.declared.Session.{Session}
 use Rattle.known_pool.specs.Known.{Known}
 use Rattle.ready_daemon.specs.PoolKnowledge.{alone_in}

@@ -7,14 +7,14 @@ use Rattle.pm_model.specs.Moments.{State}
 use Rattle.pm_model.specs.Changes.{Leaves, Silently, Write}
 use Rattle.pm_model.specs.Masks.{masked, masked_state}
 use Rattle.pud_defs.specs.declared.layout.TheConstants.{DAEMON_LOG, CLIENTS}
-use Rattle.pud_defs.specs.Image.{Image}
-use Rattle.pud_defs.specs.Entries.{log_of}
-use Rattle.pud_defs.specs.Puddles.{Member}
-use Rattle.pud_defs.specs.Replay.{device_word, new_value, settled_by}
-use Rattle.pud_defs.specs.Spaces.{space_record_at, owner_of, has_closed_logs}
-use Rattle.pud_defs.specs.Registry.{frames_of}
-use Rattle.pud_defs.specs.Settled.{ALL_LOGS, is_refused_log}
-use Rattle.pud_defs.specs.World.{World, world_of, idle_world_of, closed}
+use Rattle.pud_defs.specs.Formats.Image.{Image}
+use Rattle.pud_defs.specs.Logging.Entries.{log_of}
+use Rattle.pud_defs.specs.RegistryTables.Puddles.{Member}
+use Rattle.pud_defs.specs.Logging.Replay.{device_word, new_value, settled_by}
+use Rattle.pud_defs.specs.RegistryTables.Spaces.{space_record_at, owner_of, has_closed_logs}
+use Rattle.pud_defs.specs.RegistryTables.Registry.{frames_of}
+use Rattle.pud_defs.specs.Logging.Settled.{ALL_LOGS, is_refused_log}
+use Rattle.pud_defs.specs.StateMachine.World.{World, world_of, idle_world_of, closed}
 use Rattle.pud_defs.specs.declared.machine.Command.{Command}
 use Rattle.pud_defs.specs.declared.machine.Command.TheVariants.{Leave}
 use Rattle.batch.specs.Tables.{HasDurableTables}

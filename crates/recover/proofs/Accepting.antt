@@ -2,15 +2,15 @@
 use Rattle.std.proofs.Common.{◌≡◌, inl, inr, ℕ, ◌<◌, ◌≤◌, true, false, List, Option, Some, None, refl, sym, ◌∙◌, arith}
 use Rattle.std.proofs.lemmas.Bool.{cases_Bool, cond-true, cond-false}
 use Rattle.std.proofs.lemmas.Option.{none-some}
-use Rattle.pud_defs.specs.Image.{Image}
-use Rattle.pud_defs.specs.Layout.{device_words}
-use Rattle.pud_defs.specs.Entries.{Entry, Log, log_of}
-use Rattle.pud_defs.specs.Spaces.{Owner, owner_of}
-use Rattle.pud_defs.specs.Tables.{Tables, tables_of}
-use Rattle.pud_defs.specs.Allowed.{puddle_word, is_allowed_log, is_accepted, counts_any}
-use Rattle.pud_defs.specs.Settled.{ALL_LOGS, client_of_log, log_number_at, given_by_log, is_accepted_log}
-use Rattle.pud_defs.proofs.TablesOf.{frames_of_tables}
-use Rattle.pud_defs.proofs.Accepted.{gives_to-none_counts, gives_to-not_accepted, NamesFrame, accepted_entries}
+use Rattle.pud_defs.specs.Formats.Image.{Image}
+use Rattle.pud_defs.specs.Formats.Layout.{device_words}
+use Rattle.pud_defs.specs.Logging.Entries.{Entry, Log, log_of}
+use Rattle.pud_defs.specs.RegistryTables.Spaces.{Owner, owner_of}
+use Rattle.pud_defs.specs.RegistryTables.Tables.{Tables, tables_of}
+use Rattle.pud_defs.specs.Logging.Allowed.{puddle_word, is_allowed_log, is_accepted, counts_any}
+use Rattle.pud_defs.specs.Logging.Settled.{ALL_LOGS, client_of_log, log_number_at, given_by_log, is_accepted_log}
+use Rattle.pud_defs.proofs.RegistryTables.TablesOf.{frames_of_tables}
+use Rattle.pud_defs.proofs.Logging.Accepted.{gives_to-none_counts, gives_to-not_accepted, NamesFrame, accepted_entries}
 use Rattle.log_replay.specs.Replaying.{NamesApart, IsReplayable}
 use Rattle.recover.specs.declared.judge.Mark.{Mark}
 use Rattle.recover.specs.declared.judge.Mark.TheVariants.{Closed, Replayed, Refused}

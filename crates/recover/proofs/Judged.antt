@@ -1,11 +1,11 @@
 -- The verdict of a log, by its owner and its copy.
 use Rattle.std.proofs.Common.{◌≡◌, ℕ, List, Option, Some, None, option_map, map, sym, ap, ◌∙◌}
-use Rattle.pud_defs.specs.Image.{Image}
-use Rattle.pud_defs.specs.Entries.{Entry, log_of, gate_lo, gate_hi}
-use Rattle.pud_defs.specs.Spaces.{Owner, owner_of}
-use Rattle.pud_defs.specs.Tables.{Tables, tables_of}
-use Rattle.pud_defs.specs.Replay.{AddressMap}
-use Rattle.pud_defs.specs.Settled.{client_of_log, log_number_at}
+use Rattle.pud_defs.specs.Formats.Image.{Image}
+use Rattle.pud_defs.specs.Logging.Entries.{Entry, log_of, gate_lo, gate_hi}
+use Rattle.pud_defs.specs.RegistryTables.Spaces.{Owner, owner_of}
+use Rattle.pud_defs.specs.RegistryTables.Tables.{Tables, tables_of}
+use Rattle.pud_defs.specs.Logging.Replay.{AddressMap}
+use Rattle.pud_defs.specs.Logging.Settled.{client_of_log, log_number_at}
 use Rattle.log_entry.specs.Copying.{Copied, image_of_copy, log_copied}
 use Rattle.log_replay.specs.Placing.{placed_entry, placed_log}
 use Rattle.recover.specs.declared.judge.Mark.TheVariants.{Replayed, Refused}

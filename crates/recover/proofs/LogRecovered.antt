@@ -12,15 +12,15 @@ use Rattle.pm_model.proofs.Changes.{Changes-still, Changes-wider, HasOnly-kept}
 use Rattle.pm_model.proofs.Leaves.{Leaves-still, Leaves-weaker, Leaves-changes}
 use Rattle.pm_model.proofs.OneWord.{one_word}
 use Rattle.pud_defs.specs.declared.log_words.TheConstants.{CLOSED_GATE}
-use Rattle.pud_defs.specs.Image.{Image}
-use Rattle.pud_defs.specs.Entries.{log_of, is_idle_gate}
-use Rattle.pud_defs.specs.Tables.{tables_of}
-use Rattle.pud_defs.specs.Spaces.{owner_of}
-use Rattle.pud_defs.specs.Settled.{client_of_log, log_number_at, given_by_log, is_refused_log, is_accepted_log}
-use Rattle.pud_defs.specs.LogsReplayed.{ReplaysClientLog}
-use Rattle.pud_defs.proofs.Replay.{overwritten-stays, empty_range_of}
-use Rattle.pud_defs.proofs.Settled.{gives_to-closed}
-use Rattle.pud_defs.proofs.Accepted.{gives_to-accepted, accepted_not_refused}
+use Rattle.pud_defs.specs.Formats.Image.{Image}
+use Rattle.pud_defs.specs.Logging.Entries.{log_of, is_idle_gate}
+use Rattle.pud_defs.specs.RegistryTables.Tables.{tables_of}
+use Rattle.pud_defs.specs.RegistryTables.Spaces.{owner_of}
+use Rattle.pud_defs.specs.Logging.Settled.{client_of_log, log_number_at, given_by_log, is_refused_log, is_accepted_log}
+use Rattle.pud_defs.specs.Logging.LogsReplayed.{ReplaysClientLog}
+use Rattle.pud_defs.proofs.Logging.Replay.{overwritten-stays, empty_range_of}
+use Rattle.pud_defs.proofs.Logging.Settled.{gives_to-closed}
+use Rattle.pud_defs.proofs.Logging.Accepted.{gives_to-accepted, accepted_not_refused}
 use Rattle.log_replay.specs.declared.Target.{Target}
 use Rattle.log_replay.specs.declared.Target.TheVariants.{Puddles}
 use Rattle.log_replay.specs.Replaying.{HasDurableLog, new_values, ByLog as ByOneLog, IsSettling, SettlesLog}

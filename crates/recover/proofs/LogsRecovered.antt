@@ -11,16 +11,16 @@ use Rattle.pm_model.proofs.Changes.{Changes-still, Changes-said, Changes-wider, 
 use Rattle.pm_model.proofs.Leaves.{Leaves-still, Leaves-then, Leaves-weaker}
 use Rattle.pud_defs.specs.declared.layout.TheConstants.{CLIENTS}
 use Rattle.pud_defs.specs.declared.log_words.TheConstants.{CLOSED_GATE}
-use Rattle.pud_defs.specs.Image.{Image}
-use Rattle.pud_defs.specs.Entries.{log_of}
-use Rattle.pud_defs.specs.Tables.{tables_of}
-use Rattle.pud_defs.specs.Spaces.{owner_of, has_closed_logs}
-use Rattle.pud_defs.specs.Allowed.{is_accepted}
-use Rattle.pud_defs.specs.Settled.{gives_to, ALL_LOGS, client_of_log, log_number_at, given_by_log, is_refused_log, is_accepted_log, settled_over}
-use Rattle.pud_defs.specs.LogsReplayed.{ReplaysClientLog}
-use Rattle.pud_defs.proofs.Spaces.{owner_of-same}
-use Rattle.pud_defs.proofs.TablesOf.{tables_of-same}
-use Rattle.pud_defs.proofs.LogsReplayed.{beside_gate, below_logs, other_log, settled_same, refused_same, nothing_below_next, logs_still_closed}
+use Rattle.pud_defs.specs.Formats.Image.{Image}
+use Rattle.pud_defs.specs.Logging.Entries.{log_of}
+use Rattle.pud_defs.specs.RegistryTables.Tables.{tables_of}
+use Rattle.pud_defs.specs.RegistryTables.Spaces.{owner_of, has_closed_logs}
+use Rattle.pud_defs.specs.Logging.Allowed.{is_accepted}
+use Rattle.pud_defs.specs.Logging.Settled.{gives_to, ALL_LOGS, client_of_log, log_number_at, given_by_log, is_refused_log, is_accepted_log, settled_over}
+use Rattle.pud_defs.specs.Logging.LogsReplayed.{ReplaysClientLog}
+use Rattle.pud_defs.proofs.RegistryTables.Spaces.{owner_of-same}
+use Rattle.pud_defs.proofs.RegistryTables.TablesOf.{tables_of-same}
+use Rattle.pud_defs.proofs.Logging.LogsReplayed.{beside_gate, below_logs, other_log, settled_same, refused_same, nothing_below_next, logs_still_closed}
 use Rattle.recover.specs.Verdicts.{verdict_by, verdict_of}
 use Rattle.recover.specs.RecoveredLogs.{ByClientLog, ByClientLogs, RecoversLog, RecoversLogAtEachMoment, IsRecoveredAlike, RecoversLogs, RecoversLogsAtEachMoment}
 

@@ -3,13 +3,13 @@ use Rattle.std.proofs.Common.{◌≡◌, inl, inr, ℕ, ◌-◌, arith, leb, sub
 use Rattle.std.specs.List.{list_all, list_any}
 use Rattle.std.proofs.lemmas.Bool.{cond-true, cond-false, cases_Bool}
 use Rattle.pud_defs.specs.declared.layout.TheConstants.{ENTRY_HEADER_WORDS}
-use Rattle.pud_defs.specs.Image.{Image, image_with}
-use Rattle.pud_defs.proofs.Images.{written_other}
-use Rattle.pud_defs.specs.Entries.{Entry, Log, gate_used, is_legal_gate, entries_of}
-use Rattle.pud_defs.specs.Spaces.{Owner}
-use Rattle.pud_defs.specs.Replay.{is_in_range, entries_or_none}
-use Rattle.pud_defs.specs.Tables.{Tables}
-use Rattle.pud_defs.specs.Allowed.{is_allowed_entry, are_allowed_entries, is_allowed_log}
+use Rattle.pud_defs.specs.Formats.Image.{Image, image_with}
+use Rattle.pud_defs.proofs.Formats.Images.{written_other}
+use Rattle.pud_defs.specs.Logging.Entries.{Entry, Log, gate_used, is_legal_gate, entries_of}
+use Rattle.pud_defs.specs.RegistryTables.Spaces.{Owner}
+use Rattle.pud_defs.specs.Logging.Replay.{is_in_range, entries_or_none}
+use Rattle.pud_defs.specs.RegistryTables.Tables.{Tables}
+use Rattle.pud_defs.specs.Logging.Allowed.{is_allowed_entry, are_allowed_entries, is_allowed_log}
 use Rattle.log_entry.specs.declared.Entry.{Entry as Found}
 use Rattle.log_entry.specs.Reading.{Reading, entry_from, entries_left, left_before, PassesOne, Passes}
 use Rattle.log_entry.proofs.Left.{IsReading, entries_left-behind}

@@ -1,12 +1,12 @@
 -- Which logs are refused, by their marks.
 use Rattle.std.proofs.Common.{◌≡◌, inl, inr, ℕ, Bool, true, false, not, cond, Option, Some, None, refl, sym, ap, ◌∙◌}
 use Rattle.std.proofs.lemmas.Bool.{cond-true, cond-false, cases_Bool}
-use Rattle.pud_defs.specs.Image.{Image}
-use Rattle.pud_defs.specs.Entries.{Log, log_of}
-use Rattle.pud_defs.specs.Spaces.{Owner, owner_of}
-use Rattle.pud_defs.specs.Tables.{Tables, tables_of}
-use Rattle.pud_defs.specs.Allowed.{is_allowed_log, counts_any, is_refused}
-use Rattle.pud_defs.specs.Settled.{client_of_log, log_number_at, is_refused_log}
+use Rattle.pud_defs.specs.Formats.Image.{Image}
+use Rattle.pud_defs.specs.Logging.Entries.{Log, log_of}
+use Rattle.pud_defs.specs.RegistryTables.Spaces.{Owner, owner_of}
+use Rattle.pud_defs.specs.RegistryTables.Tables.{Tables, tables_of}
+use Rattle.pud_defs.specs.Logging.Allowed.{is_allowed_log, counts_any, is_refused}
+use Rattle.pud_defs.specs.Logging.Settled.{client_of_log, log_number_at, is_refused_log}
 use Rattle.recover.specs.declared.judge.Mark.TheVariants.{Closed, Replayed, Refused}
 use Rattle.recover.specs.Verdicts.{mark_for, verdict_by, verdict_of, mark_of, is_refused_mark}
 

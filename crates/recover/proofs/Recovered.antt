@@ -12,25 +12,25 @@ use Rattle.pm_model.proofs.Changes.{Changes-said, Changes-wider, Changes-then, H
 use Rattle.pm_model.proofs.Leaves.{Leaves-both, Leaves-changes, Leaves-then, Leaves-weaker}
 use Rattle.pud_defs.specs.declared.layout.TheConstants.{DAEMON_LOG, TYPE_TABLE}
 use Rattle.pud_defs.specs.declared.log_words.TheConstants.{CLOSED_GATE}
-use Rattle.pud_defs.specs.Image.{Image}
-use Rattle.pud_defs.specs.Layout.{tables_end, frames_at}
-use Rattle.pud_defs.specs.Entries.{log_of, is_idle_gate}
-use Rattle.pud_defs.specs.Replay.{device_word, new_value, IsInLog, is_in_log, settled_by}
-use Rattle.pud_defs.specs.Spaces.{owner_of, are_legal_spaces, space_record_at}
-use Rattle.pud_defs.specs.Tables.{tables_of}
-use Rattle.pud_defs.specs.Settled.{ALL_LOGS, client_of_log, log_number_at, given_by_log, is_refused_log, is_accepted_log, is_in_logs, beside_logs, settled_over, settled}
-use Rattle.pud_defs.specs.Registry.{frames_of}
-use Rattle.pud_defs.specs.World.{StoredWorld, world_of}
-use Rattle.pud_defs.proofs.Replay.{overwritten-stays, settled_by-inside, settled_by-outside, settled_by-idle, outside_log, within_log}
-use Rattle.pud_defs.proofs.Spaces.{has_closed_logs-same, are_legal_spaces-same}
-use Rattle.pud_defs.proofs.Settled.{settled_over-none}
-use Rattle.pud_defs.proofs.Accepted.{accepted_not_refused}
-use Rattle.pud_defs.proofs.LogsReplayed.{given_by_log-below}
-use Rattle.pud_defs.proofs.LogsBeside.{agree_tables, agree_owner, agree_log, idle_given, idle_refused, idle_accepted, idle_settled, world_again}
-use Rattle.pud_defs.proofs.Logged.{settled_by-client_logs}
-use Rattle.pud_defs.proofs.Parts.{HoldsWorld}
-use Rattle.pud_defs.proofs.Worlds.{settled-below, legal_log_of_world, holding_of_world, frames_of_world}
-use Rattle.pud_defs.proofs.IdleWorlds.{legal_log_idle}
+use Rattle.pud_defs.specs.Formats.Image.{Image}
+use Rattle.pud_defs.specs.Formats.Layout.{tables_end, frames_at}
+use Rattle.pud_defs.specs.Logging.Entries.{log_of, is_idle_gate}
+use Rattle.pud_defs.specs.Logging.Replay.{device_word, new_value, IsInLog, is_in_log, settled_by}
+use Rattle.pud_defs.specs.RegistryTables.Spaces.{owner_of, are_legal_spaces, space_record_at}
+use Rattle.pud_defs.specs.RegistryTables.Tables.{tables_of}
+use Rattle.pud_defs.specs.Logging.Settled.{ALL_LOGS, client_of_log, log_number_at, given_by_log, is_refused_log, is_accepted_log, is_in_logs, beside_logs, settled_over, settled}
+use Rattle.pud_defs.specs.RegistryTables.Registry.{frames_of}
+use Rattle.pud_defs.specs.StateMachine.World.{StoredWorld, world_of}
+use Rattle.pud_defs.proofs.Logging.Replay.{overwritten-stays, settled_by-inside, settled_by-outside, settled_by-idle, outside_log, within_log}
+use Rattle.pud_defs.proofs.RegistryTables.Spaces.{has_closed_logs-same, are_legal_spaces-same}
+use Rattle.pud_defs.proofs.Logging.Settled.{settled_over-none}
+use Rattle.pud_defs.proofs.Logging.Accepted.{accepted_not_refused}
+use Rattle.pud_defs.proofs.Logging.LogsReplayed.{given_by_log-below}
+use Rattle.pud_defs.proofs.Logging.LogsBeside.{agree_tables, agree_owner, agree_log, idle_given, idle_refused, idle_accepted, idle_settled, world_again}
+use Rattle.pud_defs.proofs.Logging.Logged.{settled_by-client_logs}
+use Rattle.pud_defs.proofs.StateMachine.Parts.{HoldsWorld}
+use Rattle.pud_defs.proofs.StateMachine.Worlds.{settled-below, legal_log_of_world, holding_of_world, frames_of_world}
+use Rattle.pud_defs.proofs.StateMachine.IdleWorlds.{legal_log_idle}
 use Rattle.log_replay.specs.declared.Target.TheVariants as targets
 use Rattle.log_replay.specs.Replaying.{ByLog as ByOneLog, SettlesLog}
 use Rattle.registry.specs.declared.DeviceGeometry.{DeviceGeometry}

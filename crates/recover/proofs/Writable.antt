@@ -5,17 +5,17 @@ use Rattle.pud_defs.specs.declared.layout.TheConstants.{FRAME_WORDS}
 use Rattle.pud_defs.specs.declared.space.TheConstants.{WORD_BYTES}
 use Rattle.pud_defs.specs.declared.records.TheConstants.{POOL_RECORDS, POOL_OWNER_WORD, POOL_MODE_WORD}
 use Rattle.pud_defs.specs.declared.records.PoolRecord.{PoolRecord}
-use Rattle.pud_defs.specs.Image.{Image}
-use Rattle.pud_defs.specs.Entries.{Entry}
-use Rattle.pud_defs.specs.Spaces.{Owner, owner}
-use Rattle.pud_defs.specs.Names.{name_by}
-use Rattle.pud_defs.specs.Pools.{owner_uid, owner_gid, pool_record_at, pool_at, pool_by}
-use Rattle.pud_defs.specs.Puddles.{member_pool, puddle_record_at}
-use Rattle.pud_defs.specs.Rights.{may_write}
-use Rattle.pud_defs.specs.Tables.{Tables, tables_of}
-use Rattle.pud_defs.specs.Places.{located}
-use Rattle.pud_defs.specs.Allowed.{may_write_record, may_write_puddle, are_writable, is_allowed_entry}
-use Rattle.pud_defs.proofs.TablesOf.{pools_below, pools_beyond, puddles_below, pool_at-free, puddle_at-free}
+use Rattle.pud_defs.specs.Formats.Image.{Image}
+use Rattle.pud_defs.specs.Logging.Entries.{Entry}
+use Rattle.pud_defs.specs.RegistryTables.Spaces.{Owner, owner}
+use Rattle.pud_defs.specs.Formats.Names.{name_by}
+use Rattle.pud_defs.specs.RegistryTables.Pools.{owner_uid, owner_gid, pool_record_at, pool_at, pool_by}
+use Rattle.pud_defs.specs.RegistryTables.Puddles.{member_pool, puddle_record_at}
+use Rattle.pud_defs.specs.Formats.Rights.{may_write}
+use Rattle.pud_defs.specs.RegistryTables.Tables.{Tables, tables_of}
+use Rattle.pud_defs.specs.RegistryTables.Places.{located}
+use Rattle.pud_defs.specs.Logging.Allowed.{may_write_record, may_write_puddle, are_writable, is_allowed_entry}
+use Rattle.pud_defs.proofs.RegistryTables.TablesOf.{pools_below, pools_beyond, puddles_below, pool_at-free, puddle_at-free}
 use Rattle.puddle_space.proofs.Records.{used_record}
 
 -- ---- the pool of a slot

@@ -1,7 +1,7 @@
 -- What a log that was judged is.
 use Rattle.std.specs.Prelude.{◌≡◌, ℕ, Option, option_map, IfSome}
-use Rattle.pud_defs.specs.Image.{Image}
-use Rattle.pud_defs.specs.Settled.{log_number_at}
+use Rattle.pud_defs.specs.Formats.Image.{Image}
+use Rattle.pud_defs.specs.Logging.Settled.{log_number_at}
 use Rattle.log_replay.specs.declared.Target.TheVariants.{Puddles}
 use Rattle.log_replay.specs.Replaying.{IsPlacedCopy}
 use Rattle.recover.specs.declared.judge.JudgedLog.{JudgedLog}

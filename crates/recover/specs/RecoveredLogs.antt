@@ -6,12 +6,12 @@ use Rattle.pm_model.specs.Moments.{State}
 use Rattle.pm_model.specs.Changes.{Footprint, Changes, Leaves, Silently}
 use Rattle.pud_defs.specs.declared.layout.TheConstants.{CLIENTS}
 use Rattle.pud_defs.specs.declared.log_words.TheConstants.{CLOSED_GATE}
-use Rattle.pud_defs.specs.Image.{Image}
-use Rattle.pud_defs.specs.Layout.{tables_end}
-use Rattle.pud_defs.specs.Entries.{log_of}
-use Rattle.pud_defs.specs.Spaces.{has_closed_logs}
-use Rattle.pud_defs.specs.Settled.{ALL_LOGS, log_number_at, given_by_log, is_refused_log, is_accepted_log, settled_over}
-use Rattle.pud_defs.specs.LogsReplayed.{ReplaysClientLog, GivesNothingBelow}
+use Rattle.pud_defs.specs.Formats.Image.{Image}
+use Rattle.pud_defs.specs.Formats.Layout.{tables_end}
+use Rattle.pud_defs.specs.Logging.Entries.{log_of}
+use Rattle.pud_defs.specs.RegistryTables.Spaces.{has_closed_logs}
+use Rattle.pud_defs.specs.Logging.Settled.{ALL_LOGS, log_number_at, given_by_log, is_refused_log, is_accepted_log, settled_over}
+use Rattle.pud_defs.specs.Logging.LogsReplayed.{ReplaysClientLog, GivesNothingBelow}
 use Rattle.log_replay.specs.Replaying.{IsNamed}
 
 -- The log of a number is registered and allowed by the image, and the word is its gate, or one that it gives a value.

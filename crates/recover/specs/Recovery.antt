@@ -6,12 +6,12 @@ use Rattle.pm_model.specs.Moments.{State}
 use Rattle.pm_model.specs.Changes.{Footprint, Changes, Leaves, Silently}
 use Rattle.pud_defs.specs.declared.layout.TheConstants.{DAEMON_LOG, CLIENTS}
 use Rattle.pud_defs.specs.declared.log_words.TheConstants.{CLOSED_GATE}
-use Rattle.pud_defs.specs.Image.{Image}
-use Rattle.pud_defs.specs.Entries.{log_of}
-use Rattle.pud_defs.specs.Replay.{device_word, new_value, IsInLog, is_in_log, settled_by}
-use Rattle.pud_defs.specs.Spaces.{space_record_at, has_closed_logs}
-use Rattle.pud_defs.specs.Settled.{ALL_LOGS, log_number_at, is_refused_log, is_accepted_log, is_in_logs, settled}
-use Rattle.pud_defs.specs.World.{StoredWorld, world_of}
+use Rattle.pud_defs.specs.Formats.Image.{Image}
+use Rattle.pud_defs.specs.Logging.Entries.{log_of}
+use Rattle.pud_defs.specs.Logging.Replay.{device_word, new_value, IsInLog, is_in_log, settled_by}
+use Rattle.pud_defs.specs.RegistryTables.Spaces.{space_record_at, has_closed_logs}
+use Rattle.pud_defs.specs.Logging.Settled.{ALL_LOGS, log_number_at, is_refused_log, is_accepted_log, is_in_logs, settled}
+use Rattle.pud_defs.specs.StateMachine.World.{StoredWorld, world_of}
 use Rattle.log_replay.specs.Replaying.{IsNamed}
 use Rattle.registry.specs.declared.LoadFault.{LoadFault}
 use Rattle.registry.specs.declared.LoadFault.TheVariants as loads

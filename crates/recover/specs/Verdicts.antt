@@ -1,11 +1,11 @@
 -- What a start finds of the logs of clients.
 use Rattle.std.specs.Prelude.{ℕ, Bool, true, false, cond, Option, Some, None}
-use Rattle.pud_defs.specs.Image.{Image}
-use Rattle.pud_defs.specs.Entries.{Log, log_of}
-use Rattle.pud_defs.specs.Spaces.{Owner, owner, owner_of}
-use Rattle.pud_defs.specs.Tables.{Tables, tables_of}
-use Rattle.pud_defs.specs.Allowed.{is_allowed_log, counts_any}
-use Rattle.pud_defs.specs.Settled.{client_of_log, log_number_at}
+use Rattle.pud_defs.specs.Formats.Image.{Image}
+use Rattle.pud_defs.specs.Logging.Entries.{Log, log_of}
+use Rattle.pud_defs.specs.RegistryTables.Spaces.{Owner, owner, owner_of}
+use Rattle.pud_defs.specs.RegistryTables.Tables.{Tables, tables_of}
+use Rattle.pud_defs.specs.Logging.Allowed.{is_allowed_log, counts_any}
+use Rattle.pud_defs.specs.Logging.Settled.{client_of_log, log_number_at}
 use Rattle.recover.specs.declared.judge.Registrant.{Registrant}
 use Rattle.recover.specs.declared.judge.Mark.{Mark}
 use Rattle.recover.specs.declared.judge.Mark.TheVariants.{Closed, Replayed, Refused}

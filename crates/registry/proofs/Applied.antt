@@ -14,17 +14,17 @@ use Rattle.pm_model.proofs.Changes.{Changes-still, Changes-then, HasOnly-kept}
 use Rattle.pm_model.proofs.Leaves.{Leaves-weaker, Leaves-still}
 use Rattle.pud_defs.specs.declared.layout.TheConstants.{DAEMON_LOG, FRAMES_WORD, MACHINE_WORD}
 use Rattle.pud_defs.specs.declared.log_words.TheConstants.{CLOSED_GATE}
-use Rattle.pud_defs.specs.Image.{Image}
-use Rattle.pud_defs.specs.Layout.{device_words}
-use Rattle.pud_defs.specs.Entries.{Entry, log_of, is_idle_gate}
-use Rattle.pud_defs.specs.Replay.{device_word, new_value, is_in_log, settled_by}
-use Rattle.pud_defs.specs.Registry.{frames_of, is_loggable, are_loggable, has_legal_log, is_sound}
-use Rattle.pud_defs.specs.Settled.{settled}
-use Rattle.pud_defs.specs.World.{StoredWorld, stored_by, world_of}
-use Rattle.pud_defs.proofs.Replay.{outside_log, settled_by-inside, settled_by-outside, settled_by-idle}
-use Rattle.pud_defs.proofs.Logged.{legal_entries, allowed_in_range, has_legal_log-of, new_value-unlogged}
-use Rattle.pud_defs.proofs.Worlds.{settled-below, legal_log_of_world, holding_of_world, frames_of_world, world_of-settled, world_of-sound}
-use Rattle.pud_defs.proofs.IdleWorlds.{legal_log_idle}
+use Rattle.pud_defs.specs.Formats.Image.{Image}
+use Rattle.pud_defs.specs.Formats.Layout.{device_words}
+use Rattle.pud_defs.specs.Logging.Entries.{Entry, log_of, is_idle_gate}
+use Rattle.pud_defs.specs.Logging.Replay.{device_word, new_value, is_in_log, settled_by}
+use Rattle.pud_defs.specs.RegistryTables.Registry.{frames_of, is_loggable, are_loggable, has_legal_log, is_sound}
+use Rattle.pud_defs.specs.Logging.Settled.{settled}
+use Rattle.pud_defs.specs.StateMachine.World.{StoredWorld, stored_by, world_of}
+use Rattle.pud_defs.proofs.Logging.Replay.{outside_log, settled_by-inside, settled_by-outside, settled_by-idle}
+use Rattle.pud_defs.proofs.Logging.Logged.{legal_entries, allowed_in_range, has_legal_log-of, new_value-unlogged}
+use Rattle.pud_defs.proofs.StateMachine.Worlds.{settled-below, legal_log_of_world, holding_of_world, frames_of_world, world_of-settled, world_of-sound}
+use Rattle.pud_defs.proofs.StateMachine.IdleWorlds.{legal_log_idle}
 use Rattle.log_entry.specs.Copying.{log_copied}
 use Rattle.log_replay.specs.declared.Target.TheVariants as targets
 use Rattle.log_replay.specs.Replaying.{IsReplayable, IsPlacedCopy, HasDurableLog, ByLog, SettlesSame, SettlesLog}

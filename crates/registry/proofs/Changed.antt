@@ -7,23 +7,23 @@ use Rattle.std.proofs.lemmas.Bool.{cases_lt, cases_eq, cases_Bool, cond-true, co
 use Rattle.pud_defs.specs.declared.layout.TheConstants.{NEXT_NUMBER_WORD, PUDDLE_TABLE}
 use Rattle.pud_defs.specs.declared.records.TheConstants.{POOL_RECORDS}
 use Rattle.pud_defs.specs.declared.records.PoolRecord.{PoolRecord}
-use Rattle.pud_defs.specs.Image.{Image}
-use Rattle.pud_defs.specs.Modes.{is_legal_mode}
-use Rattle.pud_defs.specs.Names.{name_cmp}
-use Rattle.pud_defs.specs.Keyed.{without}
-use Rattle.pud_defs.specs.Pools.{is_given, is_legal_pool, pool_at}
-use Rattle.pud_defs.specs.Puddles.{Member}
-use Rattle.pud_defs.specs.Tables.{Tables, Pool, Reader, tables_of, puddles_of, pool_of, entries, pools_of}
-use Rattle.pud_defs.specs.SoundTables.{is_sound_pool, HasSoundTables}
-use Rattle.pud_defs.specs.Puts.{with_put, mode_put, free_pool_put, free_puddle_put, with_pool_at, with_puddle_at, with_mode, is_of_pool, without_pool_at}
-use Rattle.pud_defs.specs.PoolChanges.{changed_pool, with_pool_mode, without_pool}
-use Rattle.pud_defs.specs.Holdings.{holding_in}
-use Rattle.pud_defs.specs.World.{StoredWorld}
-use Rattle.pud_defs.proofs.Keyed.{find-keyed_place}
-use Rattle.pud_defs.proofs.TablesOf.{pools_below, puddles_beyond}
-use Rattle.pud_defs.proofs.PutsMade.{with_put-outside, mode_put_made, free_pool_put_made, free_puddle_put_made}
-use Rattle.pud_defs.proofs.PoolsChanged.{distinct_entries, entry_of, changed_here, changed_elsewhere, pools_changed, pools_dropped}
-use Rattle.pud_defs.proofs.SoundChanged.{legal_pool, distinct_names, sound_changed, sound_dropped}
+use Rattle.pud_defs.specs.Formats.Image.{Image}
+use Rattle.pud_defs.specs.Formats.Modes.{is_legal_mode}
+use Rattle.pud_defs.specs.Formats.Names.{name_cmp}
+use Rattle.pud_defs.specs.RegistryTables.Keyed.{without}
+use Rattle.pud_defs.specs.RegistryTables.Pools.{is_given, is_legal_pool, pool_at}
+use Rattle.pud_defs.specs.RegistryTables.Puddles.{Member}
+use Rattle.pud_defs.specs.RegistryTables.Tables.{Tables, Pool, Reader, tables_of, puddles_of, pool_of, entries, pools_of}
+use Rattle.pud_defs.specs.RegistryTables.SoundTables.{is_sound_pool, HasSoundTables}
+use Rattle.pud_defs.specs.RegistryTables.Puts.{with_put, mode_put, free_pool_put, free_puddle_put, with_pool_at, with_puddle_at, with_mode, is_of_pool, without_pool_at}
+use Rattle.pud_defs.specs.StateMachine.PoolChanges.{changed_pool, with_pool_mode, without_pool}
+use Rattle.pud_defs.specs.PoolGraphs.Holdings.{holding_in}
+use Rattle.pud_defs.specs.StateMachine.World.{StoredWorld}
+use Rattle.pud_defs.proofs.KeyedTables.Keyed.{find-keyed_place}
+use Rattle.pud_defs.proofs.RegistryTables.TablesOf.{pools_below, puddles_beyond}
+use Rattle.pud_defs.proofs.RegistryTables.PutsMade.{with_put-outside, mode_put_made, free_pool_put_made, free_puddle_put_made}
+use Rattle.pud_defs.proofs.RegistryTables.PoolsChanged.{distinct_entries, entry_of, changed_here, changed_elsewhere, pools_changed, pools_dropped}
+use Rattle.pud_defs.proofs.RegistryTables.SoundChanged.{legal_pool, distinct_names, sound_changed, sound_dropped}
 use Rattle.registry.specs.Puts.{with_puts, AreOfPools}
 use Rattle.registry.specs.Pools.{changing, freeing, dropping}
 use Rattle.registry.specs.Adding.{MakesPools, pools_next}

@@ -11,16 +11,16 @@ use Rattle.pm_model.proofs.Leaves.{Leaves-changes, Leaves-weaker, Leaves-then, L
 use Rattle.pm_persist.proofs.Ranges.{placed_at, placed_within}
 use Rattle.pud_defs.specs.declared.layout.TheConstants.{DAEMON_LOG, FRAME_WORDS}
 use Rattle.pud_defs.specs.declared.records.Put.{Put}
-use Rattle.pud_defs.specs.Image.{Image}
-use Rattle.pud_defs.specs.Layout.{IsWithin, frames_at, device_words}
-use Rattle.pud_defs.specs.Frames.{frame_at, frame_word, fresh_frame}
-use Rattle.pud_defs.specs.Entries.{is_idle_gate}
-use Rattle.pud_defs.specs.Replay.{is_in_log, beside_log, settled_by}
-use Rattle.pud_defs.specs.World.{StoredWorld, idle_world_of}
-use Rattle.pud_defs.proofs.Replay.{outside_log, settled_by-beside}
-use Rattle.pud_defs.specs.Tables.{Tables, tables_of}
-use Rattle.pud_defs.proofs.Parts.{standing_filled}
-use Rattle.pud_defs.proofs.IdleWorlds.{idle_registry_standing, idle_world_of-beside, standing_idle}
+use Rattle.pud_defs.specs.Formats.Image.{Image}
+use Rattle.pud_defs.specs.Formats.Layout.{IsWithin, frames_at, device_words}
+use Rattle.pud_defs.specs.Formats.Frames.{frame_at, frame_word, fresh_frame}
+use Rattle.pud_defs.specs.Logging.Entries.{is_idle_gate}
+use Rattle.pud_defs.specs.Logging.Replay.{is_in_log, beside_log, settled_by}
+use Rattle.pud_defs.specs.StateMachine.World.{StoredWorld, idle_world_of}
+use Rattle.pud_defs.proofs.Logging.Replay.{outside_log, settled_by-beside}
+use Rattle.pud_defs.specs.RegistryTables.Tables.{Tables, tables_of}
+use Rattle.pud_defs.proofs.StateMachine.Parts.{standing_filled}
+use Rattle.pud_defs.proofs.StateMachine.IdleWorlds.{idle_registry_standing, idle_world_of-beside, standing_idle}
 use Rattle.batch.specs.Batches.{HasIdleGate, IsBatched}
 use Rattle.batch.specs.Worlds.{IsQuiescent}
 use Rattle.batch.specs.Tables.{HasDurableTables}

@@ -6,13 +6,13 @@ use Rattle.pud_defs.specs.declared.layout.TheConstants.{LOG_ENTRY_WORDS}
 use Rattle.pud_defs.specs.declared.records.TheConstants.{MAX_PUDDLES}
 use Rattle.pud_defs.specs.declared.records.Puddle.{Puddle}
 use Rattle.pud_defs.specs.declared.records.Put.{Put}
-use Rattle.pud_defs.specs.Image.{Image}
-use Rattle.pud_defs.specs.Keyed.{count_used}
-use Rattle.pud_defs.specs.Entries.{Entry}
-use Rattle.pud_defs.specs.Puddles.{Member, member_pool, puddle_record_at, puddle_by, puddle_at}
-use Rattle.pud_defs.specs.Tables.{Tables, tables_of, member_of, members}
-use Rattle.pud_defs.specs.Puts.{free_pool_put, free_puddle_put, is_of_pool}
-use Rattle.pud_defs.proofs.TablesOf.{puddles_below}
+use Rattle.pud_defs.specs.Formats.Image.{Image}
+use Rattle.pud_defs.specs.RegistryTables.Keyed.{count_used}
+use Rattle.pud_defs.specs.Logging.Entries.{Entry}
+use Rattle.pud_defs.specs.RegistryTables.Puddles.{Member, member_pool, puddle_record_at, puddle_by, puddle_at}
+use Rattle.pud_defs.specs.RegistryTables.Tables.{Tables, tables_of, member_of, members}
+use Rattle.pud_defs.specs.RegistryTables.Puts.{free_pool_put, free_puddle_put, is_of_pool}
+use Rattle.pud_defs.proofs.RegistryTables.TablesOf.{puddles_below}
 use Rattle.batch.specs.Batches.{word_count_of}
 use Rattle.registry.specs.Puts.{put_entry, puts_batch}
 use Rattle.registry.specs.Pools.{put_if, freeing, dropping}

@@ -10,25 +10,25 @@ use Rattle.pud_defs.specs.declared.space.TheConstants.{FRAME_MAGIC, FRAME_MAGIC_
 use Rattle.pud_defs.specs.declared.records.TheConstants.{POOL_RECORDS, MAX_PUDDLES}
 use Rattle.pud_defs.specs.declared.records.PoolRecord.{PoolRecord}
 use Rattle.pud_defs.specs.declared.records.Puddle.{Puddle}
-use Rattle.pud_defs.specs.Geometry.{ordinal_of}
-use Rattle.pud_defs.specs.Image.{Image}
-use Rattle.pud_defs.specs.Names.{name_cmp}
-use Rattle.pud_defs.specs.Keyed.{under}
-use Rattle.pud_defs.specs.Headers.{is_header}
-use Rattle.pud_defs.specs.Frames.{fresh_header, fresh_frame, IsFreshFrame}
-use Rattle.pud_defs.specs.Puddles.{Member}
-use Rattle.pud_defs.specs.Spaces.{owner}
-use Rattle.pud_defs.specs.Stored.{Stored, word_in_frame, stored_in, place_begins}
-use Rattle.pud_defs.specs.Graph.{Graph, graph_of}
-use Rattle.pud_defs.specs.Holdings.{Holding, held_as, held_by, graph_held, holding_in}
-use Rattle.pud_defs.specs.Holdings.Holding.{Sound, Wild}
-use Rattle.pud_defs.specs.Tables.{Tables, Pool, Reader, tables_of, puddles_of, listed, pool_of, pools_of}
-use Rattle.pud_defs.specs.Puts.{member_by, with_puddle_at}
-use Rattle.pud_defs.specs.PoolChanges.{pool_named, changed_pool, with_puddle_more, with_grown_pool}
-use Rattle.pud_defs.specs.World.{StoredWorld}
-use Rattle.pud_defs.proofs.FreshGraph.{fresh_word, fresh_header_words}
-use Rattle.pud_defs.proofs.Keyed.{first_free_some}
-use Rattle.pud_defs.proofs.PoolsCounted.{few_members, length_puddles}
+use Rattle.pud_defs.specs.Formats.Geometry.{ordinal_of}
+use Rattle.pud_defs.specs.Formats.Image.{Image}
+use Rattle.pud_defs.specs.Formats.Names.{name_cmp}
+use Rattle.pud_defs.specs.RegistryTables.Keyed.{under}
+use Rattle.pud_defs.specs.Formats.Headers.{is_header}
+use Rattle.pud_defs.specs.Formats.Frames.{fresh_header, fresh_frame, IsFreshFrame}
+use Rattle.pud_defs.specs.RegistryTables.Puddles.{Member}
+use Rattle.pud_defs.specs.RegistryTables.Spaces.{owner}
+use Rattle.pud_defs.specs.PoolGraphs.Stored.{Stored, word_in_frame, stored_in, place_begins}
+use Rattle.pud_defs.specs.PoolGraphs.Graph.{Graph, graph_of}
+use Rattle.pud_defs.specs.PoolGraphs.Holdings.{Holding, held_as, held_by, graph_held, holding_in}
+use Rattle.pud_defs.specs.PoolGraphs.Holdings.Holding.{Sound, Wild}
+use Rattle.pud_defs.specs.RegistryTables.Tables.{Tables, Pool, Reader, tables_of, puddles_of, listed, pool_of, pools_of}
+use Rattle.pud_defs.specs.RegistryTables.Puts.{member_by, with_puddle_at}
+use Rattle.pud_defs.specs.StateMachine.PoolChanges.{pool_named, changed_pool, with_puddle_more, with_grown_pool}
+use Rattle.pud_defs.specs.StateMachine.World.{StoredWorld}
+use Rattle.pud_defs.proofs.PoolGraphs.FreshGraph.{fresh_word, fresh_header_words}
+use Rattle.pud_defs.proofs.KeyedTables.Keyed.{first_free_some}
+use Rattle.pud_defs.proofs.RegistryTables.PoolsCounted.{few_members, length_puddles}
 use Rattle.graph_laws.specs.Reads.{with_puddle, IsGrown}
 use Rattle.graph_laws.proofs.Grown.{slice_get-front, slice_get-push, graph_of-grown}
 use Rattle.graph_laws.proofs.StaysWild.{graph_of-wild}
@@ -38,8 +38,8 @@ use Rattle.registry.specs.Growth.{puddle_count, growing, IsGrowthFor, PoolHasGra
 use Rattle.registry.proofs.Moved.{ReadsWorld}
 use Rattle.registry.proofs.Changed.{found_pool, changed_there}
 use Rattle.registry.proofs.NewPuddles.{other_base, other_old_base, others_bases, legal_new, adding_of, adding_next, adding_tables}
-use Rattle.pud_defs.specs.SoundTables.{old_bases}
-use Rattle.pud_defs.proofs.PuddleMore.{IsNextPuddle, sound_more, pools_more}
+use Rattle.pud_defs.specs.RegistryTables.SoundTables.{old_bases}
+use Rattle.pud_defs.proofs.RegistryTables.PuddleMore.{IsNextPuddle, sound_more, pools_more}
 
 -- ---- the graph
 

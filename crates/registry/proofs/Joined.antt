@@ -12,22 +12,22 @@ use Rattle.pud_defs.specs.declared.layout.TheConstants.{DAEMON_LOG, NEXT_NUMBER_
 use Rattle.pud_defs.specs.declared.records.TheConstants.{POOL_RECORDS, MAX_PUDDLES}
 use Rattle.pud_defs.specs.declared.records.PoolRecord.{PoolRecord}
 use Rattle.pud_defs.specs.declared.records.Put.{Put}
-use Rattle.pud_defs.specs.Image.{Image}
-use Rattle.pud_defs.specs.Entries.{Entry}
-use Rattle.pud_defs.specs.Frames.{fresh_frame, IsFreshFrame}
-use Rattle.pud_defs.specs.Keyed.{first_free, count_used, without}
-use Rattle.pud_defs.specs.Replay.{settled_by}
-use Rattle.pud_defs.proofs.Keyed.{first_free_some}
-use Rattle.pud_defs.specs.Modes.{is_legal_mode}
-use Rattle.pud_defs.specs.Names.{name_cmp}
-use Rattle.pud_defs.specs.Spaces.{owner}
-use Rattle.pud_defs.specs.Tables.{Tables, Pool, tables_of, members}
+use Rattle.pud_defs.specs.Formats.Image.{Image}
+use Rattle.pud_defs.specs.Logging.Entries.{Entry}
+use Rattle.pud_defs.specs.Formats.Frames.{fresh_frame, IsFreshFrame}
+use Rattle.pud_defs.specs.RegistryTables.Keyed.{first_free, count_used, without}
+use Rattle.pud_defs.specs.Logging.Replay.{settled_by}
+use Rattle.pud_defs.proofs.KeyedTables.Keyed.{first_free_some}
+use Rattle.pud_defs.specs.Formats.Modes.{is_legal_mode}
+use Rattle.pud_defs.specs.Formats.Names.{name_cmp}
+use Rattle.pud_defs.specs.RegistryTables.Spaces.{owner}
+use Rattle.pud_defs.specs.RegistryTables.Tables.{Tables, Pool, tables_of, members}
 use Rattle.std.specs.FinMap.Entries.{put}
-use Rattle.pud_defs.specs.Layout.{tables_end}
-use Rattle.pud_defs.specs.PoolChanges.{NUMBERS_DRAWN, changed_pool, new_pool, with_puddle_more, with_new_pool, with_pool_mode, without_pool}
-use Rattle.pud_defs.specs.World.{StoredWorld}
-use Rattle.pud_defs.proofs.TablesOf.{tables_of-same, frames_of_tables}
-use Rattle.pud_defs.proofs.PoolsCounted.{few_members, length_puddles}
+use Rattle.pud_defs.specs.Formats.Layout.{tables_end}
+use Rattle.pud_defs.specs.StateMachine.PoolChanges.{NUMBERS_DRAWN, changed_pool, new_pool, with_puddle_more, with_new_pool, with_pool_mode, without_pool}
+use Rattle.pud_defs.specs.StateMachine.World.{StoredWorld}
+use Rattle.pud_defs.proofs.RegistryTables.TablesOf.{tables_of-same, frames_of_tables}
+use Rattle.pud_defs.proofs.RegistryTables.PoolsCounted.{few_members, length_puddles}
 use Rattle.batch.specs.Batches.{HasIdleGate, IsFree, Commits}
 use Rattle.batch.specs.Worlds.{IsQuiescent, MovesBy, Moves, IsBetween}
 use Rattle.batch.specs.Tables.{HasDurableTables}

@@ -7,29 +7,29 @@ use Rattle.std.proofs.lemmas.Bool.{cases_lt, cases_Bool, cond-true, and_from}
 use Rattle.pud_defs.specs.declared.layout.TheConstants.{NEXT_NUMBER_WORD, NUMBER_LIMIT, MAX_OWNER_ID, FRAME_WORDS}
 use Rattle.pud_defs.specs.declared.records.TheConstants.{POOL_RECORDS}
 use Rattle.pud_defs.specs.declared.records.PoolRecord.{PoolRecord}
-use Rattle.pud_defs.specs.Image.{Image}
-use Rattle.pud_defs.specs.Names.{name_cmp}
-use Rattle.pud_defs.specs.Keyed.{first_from}
-use Rattle.pud_defs.specs.Pools.{IsEncodable}
-use Rattle.pud_defs.specs.Puddles.{Member}
-use Rattle.pud_defs.specs.Places.{IsLowestBase}
-use Rattle.pud_defs.specs.Spaces.{Owner, owner}
-use Rattle.pud_defs.specs.Tables.{Tables, Reader, tables_of, member_of, named, records_of, pool_in, pool_of}
-use Rattle.pud_defs.specs.SoundTables.{bases}
-use Rattle.pud_defs.specs.Puts.{with_put, pool_put, member_by, with_pool_at, with_puddle_at, is_of_pool}
-use Rattle.pud_defs.specs.PoolChanges.{NUMBERS_DRAWN, lacks_numbers, new_pool, with_new_pool}
-use Rattle.pud_defs.specs.Frames.{IsFreshFrame}
-use Rattle.pud_defs.specs.Stored.{word_in_frame, stored_in}
-use Rattle.pud_defs.specs.Graph.{empty_graph}
-use Rattle.pud_defs.specs.Holdings.{held_as, holding_in}
-use Rattle.pud_defs.specs.Holdings.Holding.{Sound}
-use Rattle.pud_defs.proofs.FreshGraph.{graph_of-fresh}
-use Rattle.pud_defs.specs.World.{StoredWorld}
-use Rattle.pud_defs.proofs.Keyed.{first_free_some, first_from_none, find-keyed}
-use Rattle.pud_defs.proofs.PutsMade.{pool_put_made}
-use Rattle.pud_defs.proofs.PoolsChanged.{IsPoolMade, made, pools_made}
-use Rattle.pud_defs.proofs.PoolsCounted.{no_member}
-use Rattle.pud_defs.proofs.SoundChanged.{IsAdded, sound_made}
+use Rattle.pud_defs.specs.Formats.Image.{Image}
+use Rattle.pud_defs.specs.Formats.Names.{name_cmp}
+use Rattle.pud_defs.specs.RegistryTables.Keyed.{first_from}
+use Rattle.pud_defs.specs.RegistryTables.Pools.{IsEncodable}
+use Rattle.pud_defs.specs.RegistryTables.Puddles.{Member}
+use Rattle.pud_defs.specs.RegistryTables.Places.{IsLowestBase}
+use Rattle.pud_defs.specs.RegistryTables.Spaces.{Owner, owner}
+use Rattle.pud_defs.specs.RegistryTables.Tables.{Tables, Reader, tables_of, member_of, named, records_of, pool_in, pool_of}
+use Rattle.pud_defs.specs.RegistryTables.SoundTables.{bases}
+use Rattle.pud_defs.specs.RegistryTables.Puts.{with_put, pool_put, member_by, with_pool_at, with_puddle_at, is_of_pool}
+use Rattle.pud_defs.specs.StateMachine.PoolChanges.{NUMBERS_DRAWN, lacks_numbers, new_pool, with_new_pool}
+use Rattle.pud_defs.specs.Formats.Frames.{IsFreshFrame}
+use Rattle.pud_defs.specs.PoolGraphs.Stored.{word_in_frame, stored_in}
+use Rattle.pud_defs.specs.PoolGraphs.Graph.{empty_graph}
+use Rattle.pud_defs.specs.PoolGraphs.Holdings.{held_as, holding_in}
+use Rattle.pud_defs.specs.PoolGraphs.Holdings.Holding.{Sound}
+use Rattle.pud_defs.proofs.PoolGraphs.FreshGraph.{graph_of-fresh}
+use Rattle.pud_defs.specs.StateMachine.World.{StoredWorld}
+use Rattle.pud_defs.proofs.KeyedTables.Keyed.{first_free_some, first_from_none, find-keyed}
+use Rattle.pud_defs.proofs.RegistryTables.PutsMade.{pool_put_made}
+use Rattle.pud_defs.proofs.RegistryTables.PoolsChanged.{IsPoolMade, made, pools_made}
+use Rattle.pud_defs.proofs.RegistryTables.PoolsCounted.{no_member}
+use Rattle.pud_defs.proofs.RegistryTables.SoundChanged.{IsAdded, sound_made}
 use Rattle.registry.specs.declared.adding.NewPuddle.{NewPuddle}
 use Rattle.registry.specs.Puts.{AreOfPools, with_puts}
 use Rattle.registry.specs.Adding.{IsFilled, MakesPools, pools_next}

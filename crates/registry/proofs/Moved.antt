@@ -10,20 +10,20 @@ use Rattle.pm_model.proofs.Changes.{Changes-wider, Changes-still}
 use Rattle.pm_model.proofs.Leaves.{Leaves-weaker, Leaves-still}
 use Rattle.pud_defs.specs.declared.layout.TheConstants.{NEXT_NUMBER_WORD, DAEMON_LOG, POOL_TABLE, SPACE_TABLE, PUDDLE_TABLE, TYPE_TABLE, NUMBER_LIMIT}
 use Rattle.pud_defs.specs.declared.records.Put.{Put}
-use Rattle.pud_defs.specs.Image.{Image}
-use Rattle.pud_defs.specs.Layout.{tables_end, frames_at}
-use Rattle.pud_defs.specs.Replay.{settled_by}
-use Rattle.pud_defs.specs.Tables.{Tables, Pool, tables_of, pools_of}
-use Rattle.pud_defs.specs.Holdings.{holding_in}
-use Rattle.pud_defs.specs.SoundTables.{are_sound_tables, HasSoundTables}
-use Rattle.pud_defs.specs.World.{StoredWorld, pools_in, idle_registry}
-use Rattle.pud_defs.proofs.Replay.{settled_by-idle, outside_log}
-use Rattle.pud_defs.proofs.TablesOf.{tables_of-same, frames_of_tables}
-use Rattle.pud_defs.proofs.SoundChanged.{sound_from, sound_test}
-use Rattle.pud_defs.proofs.Holdings.{HasSameFrame, frame_among, pools_of-held, pools_in-same}
-use Rattle.pud_defs.proofs.Parts.{StandsFor, HasPools, standing_with_pools}
-use Rattle.pud_defs.proofs.Parts.Part.{Header, Pools}
-use Rattle.pud_defs.proofs.IdleWorlds.{standing_of_idle_world, idle_registry_standing}
+use Rattle.pud_defs.specs.Formats.Image.{Image}
+use Rattle.pud_defs.specs.Formats.Layout.{tables_end, frames_at}
+use Rattle.pud_defs.specs.Logging.Replay.{settled_by}
+use Rattle.pud_defs.specs.RegistryTables.Tables.{Tables, Pool, tables_of, pools_of}
+use Rattle.pud_defs.specs.PoolGraphs.Holdings.{holding_in}
+use Rattle.pud_defs.specs.RegistryTables.SoundTables.{are_sound_tables, HasSoundTables}
+use Rattle.pud_defs.specs.StateMachine.World.{StoredWorld, pools_in, idle_registry}
+use Rattle.pud_defs.proofs.Logging.Replay.{settled_by-idle, outside_log}
+use Rattle.pud_defs.proofs.RegistryTables.TablesOf.{tables_of-same, frames_of_tables}
+use Rattle.pud_defs.proofs.RegistryTables.SoundChanged.{sound_from, sound_test}
+use Rattle.pud_defs.proofs.PoolGraphs.Holdings.{HasSameFrame, frame_among, pools_of-held, pools_in-same}
+use Rattle.pud_defs.proofs.StateMachine.Parts.{StandsFor, HasPools, standing_with_pools}
+use Rattle.pud_defs.proofs.StateMachine.Parts.Part.{Header, Pools}
+use Rattle.pud_defs.proofs.StateMachine.IdleWorlds.{standing_of_idle_world, idle_registry_standing}
 use Rattle.batch.specs.Batches.{ByBatch}
 use Rattle.batch.specs.Worlds.{IsQuiescent, with_batch, MovesBy, IsBetween, Moves}
 use Rattle.batch.specs.Tables.{HasDurableTables}

@@ -6,19 +6,19 @@ use Rattle.std.proofs.lemmas.Bool.{cases_eq, cases_Bool, cond-true, cond-false, 
 use Rattle.pud_defs.specs.declared.layout.TheConstants.{NEXT_NUMBER_WORD, PUDDLE_TABLE}
 use Rattle.pud_defs.specs.declared.records.TheConstants.{POOL_RECORDS}
 use Rattle.pud_defs.specs.declared.space.TheConstants.{LAST_FRONTIER}
-use Rattle.pud_defs.specs.Bases.{is_legal_base}
-use Rattle.pud_defs.specs.Image.{Image}
-use Rattle.pud_defs.specs.Keyed.{under}
-use Rattle.pud_defs.specs.Places.{has_other_bases, IsLowestBase}
-use Rattle.pud_defs.specs.Pools.{is_given}
-use Rattle.pud_defs.specs.Puddles.{Member, is_legal_puddle}
-use Rattle.pud_defs.specs.Puts.{with_put, puddle_put, member_by, with_puddle_at}
-use Rattle.pud_defs.specs.Spaces.{all_below}
-use Rattle.pud_defs.specs.Tables.{Tables, tables_of, member_of}
-use Rattle.pud_defs.proofs.Keyed.{under_apart}
-use Rattle.pud_defs.proofs.PutsMade.{with_put-outside, with_put-inside, puddle_put_made}
-use Rattle.pud_defs.proofs.Spaces.{all_below-each}
-use Rattle.pud_defs.proofs.TablesOf.{tables_of-same}
+use Rattle.pud_defs.specs.Formats.Bases.{is_legal_base}
+use Rattle.pud_defs.specs.Formats.Image.{Image}
+use Rattle.pud_defs.specs.RegistryTables.Keyed.{under}
+use Rattle.pud_defs.specs.RegistryTables.Places.{has_other_bases, IsLowestBase}
+use Rattle.pud_defs.specs.RegistryTables.Pools.{is_given}
+use Rattle.pud_defs.specs.RegistryTables.Puddles.{Member, is_legal_puddle}
+use Rattle.pud_defs.specs.RegistryTables.Puts.{with_put, puddle_put, member_by, with_puddle_at}
+use Rattle.pud_defs.specs.RegistryTables.Spaces.{all_below}
+use Rattle.pud_defs.specs.RegistryTables.Tables.{Tables, tables_of, member_of}
+use Rattle.pud_defs.proofs.KeyedTables.Keyed.{under_apart}
+use Rattle.pud_defs.proofs.RegistryTables.PutsMade.{with_put-outside, with_put-inside, puddle_put_made}
+use Rattle.pud_defs.proofs.RegistryTables.Spaces.{all_below-each}
+use Rattle.pud_defs.proofs.RegistryTables.TablesOf.{tables_of-same}
 use Rattle.registry.specs.declared.adding.NewPuddle.{NewPuddle}
 use Rattle.registry.specs.Puts.{AreOfPools, number_put, with_puts}
 use Rattle.registry.specs.Adding.{IsNewPuddle, puddle_records, adding}

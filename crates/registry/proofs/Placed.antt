@@ -4,11 +4,11 @@ use Rattle.std.proofs.lemmas.Bool.{le-ltb}
 use Rattle.pud_defs.specs.declared.layout.TheConstants.{NEXT_NUMBER_WORD, NUMBER_LIMIT}
 use Rattle.pud_defs.specs.declared.machine.Refusal.TheVariants as refusals
 use Rattle.pud_defs.specs.declared.records.TheConstants.{POOL_RECORDS}
-use Rattle.pud_defs.specs.Keyed.{first_free}
-use Rattle.pud_defs.specs.Image.{Image}
-use Rattle.pud_defs.specs.Tables.{Tables, tables_of, pool_in}
-use Rattle.pud_defs.proofs.TablesOf.{frames_of_tables}
-use Rattle.pud_defs.specs.PoolChanges.{NUMBERS_DRAWN, lacks_numbers}
+use Rattle.pud_defs.specs.RegistryTables.Keyed.{first_free}
+use Rattle.pud_defs.specs.Formats.Image.{Image}
+use Rattle.pud_defs.specs.RegistryTables.Tables.{Tables, tables_of, pool_in}
+use Rattle.pud_defs.proofs.RegistryTables.TablesOf.{frames_of_tables}
+use Rattle.pud_defs.specs.StateMachine.PoolChanges.{NUMBERS_DRAWN, lacks_numbers}
 use Rattle.pool_table.specs.LookUp.{slot_for}
 use Rattle.pool_table.proofs.LookUp.{slot_found, lowest_free, found_free}
 use Rattle.puddle_table.specs.declared.PuddleFault.{PuddleFault}

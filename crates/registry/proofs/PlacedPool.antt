@@ -19,37 +19,37 @@ use Rattle.pud_defs.specs.declared.records.PoolRecord.{PoolRecord}
 use Rattle.pud_defs.specs.declared.records.Puddle.{Puddle}
 use Rattle.pud_defs.specs.declared.records.Put.{Put}
 use Rattle.pud_defs.specs.declared.space.TheConstants.{LAST_FRONTIER}
-use Rattle.pud_defs.specs.Bases.{is_legal_base}
-use Rattle.pud_defs.specs.Entries.{Entry}
-use Rattle.pud_defs.specs.ExportFile.{FileContents}
-use Rattle.pud_defs.specs.Graph.{graph_of}
-use Rattle.pud_defs.specs.Holdings.{held_as, holding_in}
-use Rattle.pud_defs.specs.Holdings.Holding.{Sound}
-use Rattle.pud_defs.specs.Image.{Image}
-use Rattle.pud_defs.specs.Imports.{types_missing, numbers_drawn, imported_pool, with_types_defined, with_imported_pool}
-use Rattle.pud_defs.specs.Layout.{tables_end, frames_at}
-use Rattle.pud_defs.specs.Names.{name_cmp}
-use Rattle.pud_defs.specs.Placement.{placed_frontier}
-use Rattle.pud_defs.specs.Pools.{IsEncodable}
-use Rattle.pud_defs.specs.Puddles.{Member}
-use Rattle.pud_defs.specs.Puts.{pool_put, member_by, with_put, with_pool_at, with_puddle_at}
-use Rattle.pud_defs.specs.Replay.{settled_by}
-use Rattle.pud_defs.specs.Spaces.{owner}
-use Rattle.pud_defs.specs.Stored.{stored_in}
-use Rattle.pud_defs.specs.Tables.{Tables, Pool, tables_of, listed, pool_of}
-use Rattle.pud_defs.specs.Types.{type_record_at, type_at, types_of}
-use Rattle.pud_defs.specs.World.{StoredWorld, idle_registry}
-use Rattle.pud_defs.proofs.Holdings.{HasSameFrame, stored_in-same}
-use Rattle.pud_defs.proofs.IdleWorlds.{standing_of_idle_world, idle_registry_standing}
-use Rattle.pud_defs.proofs.Keyed.{first_free_some, keyed-same}
-use Rattle.pud_defs.proofs.Parts.{StandsFor}
-use Rattle.pud_defs.proofs.Parts.Part.{Types}
-use Rattle.pud_defs.proofs.PoolsCounted.{no_member}
-use Rattle.pud_defs.proofs.PuddlesPlaced.{member_for, with_puddles_at, counted, listed-counted, length-counted, AreDistinctBases, file_bases_distinct, IsPlacedNext, HasPlaced, IsNewPool, all_placed, IsPlacedAt, placed_each}
-use Rattle.pud_defs.proofs.PutsMade.{pool_put_made}
-use Rattle.pud_defs.proofs.TablesOf.{frames_of_tables}
-use Rattle.pud_defs.proofs.TypeTable.{type_at-same}
-use Rattle.pud_defs.proofs.TypesDefined.{types_missing-new, AreNewTypes, typed, typed-is}
+use Rattle.pud_defs.specs.Formats.Bases.{is_legal_base}
+use Rattle.pud_defs.specs.Logging.Entries.{Entry}
+use Rattle.pud_defs.specs.PoolGraphs.ExportFile.{FileContents}
+use Rattle.pud_defs.specs.PoolGraphs.Graph.{graph_of}
+use Rattle.pud_defs.specs.PoolGraphs.Holdings.{held_as, holding_in}
+use Rattle.pud_defs.specs.PoolGraphs.Holdings.Holding.{Sound}
+use Rattle.pud_defs.specs.Formats.Image.{Image}
+use Rattle.pud_defs.specs.StateMachine.Imports.{types_missing, numbers_drawn, imported_pool, with_types_defined, with_imported_pool}
+use Rattle.pud_defs.specs.Formats.Layout.{tables_end, frames_at}
+use Rattle.pud_defs.specs.Formats.Names.{name_cmp}
+use Rattle.pud_defs.specs.RegistryTables.Placement.{placed_frontier}
+use Rattle.pud_defs.specs.RegistryTables.Pools.{IsEncodable}
+use Rattle.pud_defs.specs.RegistryTables.Puddles.{Member}
+use Rattle.pud_defs.specs.RegistryTables.Puts.{pool_put, member_by, with_put, with_pool_at, with_puddle_at}
+use Rattle.pud_defs.specs.Logging.Replay.{settled_by}
+use Rattle.pud_defs.specs.RegistryTables.Spaces.{owner}
+use Rattle.pud_defs.specs.PoolGraphs.Stored.{stored_in}
+use Rattle.pud_defs.specs.RegistryTables.Tables.{Tables, Pool, tables_of, listed, pool_of}
+use Rattle.pud_defs.specs.RegistryTables.Types.{type_record_at, type_at, types_of}
+use Rattle.pud_defs.specs.StateMachine.World.{StoredWorld, idle_registry}
+use Rattle.pud_defs.proofs.PoolGraphs.Holdings.{HasSameFrame, stored_in-same}
+use Rattle.pud_defs.proofs.StateMachine.IdleWorlds.{standing_of_idle_world, idle_registry_standing}
+use Rattle.pud_defs.proofs.KeyedTables.Keyed.{first_free_some, keyed-same}
+use Rattle.pud_defs.proofs.StateMachine.Parts.{StandsFor}
+use Rattle.pud_defs.proofs.StateMachine.Parts.Part.{Types}
+use Rattle.pud_defs.proofs.RegistryTables.PoolsCounted.{no_member}
+use Rattle.pud_defs.proofs.RegistryTables.PuddlesPlaced.{member_for, with_puddles_at, counted, listed-counted, length-counted, AreDistinctBases, file_bases_distinct, IsPlacedNext, HasPlaced, IsNewPool, all_placed, IsPlacedAt, placed_each}
+use Rattle.pud_defs.proofs.RegistryTables.PutsMade.{pool_put_made}
+use Rattle.pud_defs.proofs.RegistryTables.TablesOf.{frames_of_tables}
+use Rattle.pud_defs.proofs.RegistryTables.TypeTable.{type_at-same}
+use Rattle.pud_defs.proofs.RegistryTables.TypesDefined.{types_missing-new, AreNewTypes, typed, typed-is}
 use Rattle.batch.specs.Batches.{HasIdleGate, IsFree, ByBatch, Commits}
 use Rattle.batch.specs.Worlds.{IsQuiescent, MovesBy, Moves}
 use Rattle.batch.specs.Tables.{HasDurableTables}

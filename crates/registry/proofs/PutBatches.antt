@@ -9,17 +9,17 @@ use Rattle.std.proofs.lemmas.List.{get_or-take}
 use Rattle.std.proofs.lemmas.List.Elements.{All-nil, All-cons}
 use Rattle.pud_defs.specs.declared.layout.TheConstants.{NEXT_NUMBER_WORD, DAEMON_LOG, TYPE_TABLE, POOL_TABLE}
 use Rattle.pud_defs.specs.declared.records.Put.{Put}
-use Rattle.pud_defs.specs.Image.{Image}
-use Rattle.pud_defs.specs.Layout.{IsWithin, tables_end}
-use Rattle.pud_defs.specs.Entries.{Entry}
-use Rattle.pud_defs.specs.Replay.{value_at, overwritten}
-use Rattle.pud_defs.specs.Puts.{with_put}
-use Rattle.pud_defs.specs.Registry.{may_be_logged, is_loggable}
-use Rattle.pud_defs.proofs.Replay.{overwritten-then, value_at-there, value_at-apart}
-use Rattle.pud_defs.proofs.PutsMade.{with_put-outside, with_put-inside}
-use Rattle.pud_defs.proofs.Logged.{may_be_logged-table, is_loggable-there}
+use Rattle.pud_defs.specs.Formats.Image.{Image}
+use Rattle.pud_defs.specs.Formats.Layout.{IsWithin, tables_end}
+use Rattle.pud_defs.specs.Logging.Entries.{Entry}
+use Rattle.pud_defs.specs.Logging.Replay.{value_at, overwritten}
+use Rattle.pud_defs.specs.RegistryTables.Puts.{with_put}
+use Rattle.pud_defs.specs.RegistryTables.Registry.{may_be_logged, is_loggable}
+use Rattle.pud_defs.proofs.Logging.Replay.{overwritten-then, value_at-there, value_at-apart}
+use Rattle.pud_defs.proofs.RegistryTables.PutsMade.{with_put-outside, with_put-inside}
+use Rattle.pud_defs.proofs.Logging.Logged.{may_be_logged-table, is_loggable-there}
 use Rattle.pm_model.specs.Words.{Words}
-use Rattle.pud_defs.specs.Replay.{device_word}
+use Rattle.pud_defs.specs.Logging.Replay.{device_word}
 use Rattle.batch.specs.Batches.{batch_write, committed, IsBatchEntry, AreBatched, HasIdleGate, IsFree, ByBatch}
 use Rattle.log_replay.specs.Replaying.{NamesApart}
 use Rattle.registry.specs.Puts.{put_entry, puts_batch, with_puts, IsOfPools, AreOfPools, IsOfTables, AreOfTables, IsPoolsWord, ByPools}

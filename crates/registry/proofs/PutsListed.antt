@@ -6,9 +6,9 @@ use Rattle.pud_defs.specs.declared.layout.TheConstants.{LOG_ENTRY_WORDS, TYPE_RE
 use Rattle.pud_defs.specs.declared.records.TheConstants.{MAX_PUDDLES}
 use Rattle.pud_defs.specs.declared.records.PoolRecord.{PoolRecord}
 use Rattle.pud_defs.specs.declared.records.Put.{Put}
-use Rattle.pud_defs.specs.Entries.{Entry}
-use Rattle.pud_defs.specs.Imports.{numbers_drawn}
-use Rattle.pud_defs.specs.Puts.{pool_put, puddle_put}
+use Rattle.pud_defs.specs.Logging.Entries.{Entry}
+use Rattle.pud_defs.specs.StateMachine.Imports.{numbers_drawn}
+use Rattle.pud_defs.specs.RegistryTables.Puts.{pool_put, puddle_put}
 use Rattle.batch.specs.Batches.{word_count_of}
 use Rattle.registry.specs.declared.adding.NewPuddle.{NewPuddle}
 use Rattle.registry.specs.declared.placing.NewType.{NewType}

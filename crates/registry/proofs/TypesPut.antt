@@ -5,20 +5,20 @@ use Rattle.std.proofs.lemmas.List.Elements.{All-head, All-tail}
 use Rattle.std.proofs.lemmas.Bool.{and_parts}
 use Rattle.pud_defs.specs.declared.layout.TheConstants.{TYPE_RECORDS, TYPE_TABLE, POOL_TABLE}
 use Rattle.pud_defs.specs.declared.records.Put.{Put}
-use Rattle.pud_defs.specs.Image.{Image}
-use Rattle.pud_defs.specs.Types.{type_record_at, type_at}
-use Rattle.pud_defs.specs.TypeMap.{is_legal_map, is_legal_type_id}
-use Rattle.pud_defs.specs.Tables.{tables_of}
-use Rattle.pud_defs.specs.Puts.{with_put}
-use Rattle.pud_defs.specs.PoolChanges.{with_type_defined}
-use Rattle.pud_defs.specs.Imports.{with_types_defined}
-use Rattle.pud_defs.specs.World.{StoredWorld}
-use Rattle.pud_defs.proofs.Keyed.{first_free_some}
-use Rattle.pud_defs.proofs.Parts.{StandsFor}
-use Rattle.pud_defs.proofs.PutsMade.{with_put-outside}
-use Rattle.pud_defs.proofs.TablesOf.{tables_of-same}
-use Rattle.pud_defs.proofs.TypeTable.{type_at-same}
-use Rattle.pud_defs.proofs.TypesDefined.{AreNewTypes, standing-type_put, first_free-same}
+use Rattle.pud_defs.specs.Formats.Image.{Image}
+use Rattle.pud_defs.specs.RegistryTables.Types.{type_record_at, type_at}
+use Rattle.pud_defs.specs.Formats.TypeMap.{is_legal_map, is_legal_type_id}
+use Rattle.pud_defs.specs.RegistryTables.Tables.{tables_of}
+use Rattle.pud_defs.specs.RegistryTables.Puts.{with_put}
+use Rattle.pud_defs.specs.StateMachine.PoolChanges.{with_type_defined}
+use Rattle.pud_defs.specs.StateMachine.Imports.{with_types_defined}
+use Rattle.pud_defs.specs.StateMachine.World.{StoredWorld}
+use Rattle.pud_defs.proofs.KeyedTables.Keyed.{first_free_some}
+use Rattle.pud_defs.proofs.StateMachine.Parts.{StandsFor}
+use Rattle.pud_defs.proofs.RegistryTables.PutsMade.{with_put-outside}
+use Rattle.pud_defs.proofs.RegistryTables.TablesOf.{tables_of-same}
+use Rattle.pud_defs.proofs.RegistryTables.TypeTable.{type_at-same}
+use Rattle.pud_defs.proofs.RegistryTables.TypesDefined.{AreNewTypes, standing-type_put, first_free-same}
 use Rattle.type_maps.specs.FreeRecords.{AreFreeRecords}
 use Rattle.registry.specs.declared.placing.NewType.{NewType}
 use Rattle.registry.specs.Puts.{with_puts, AreOfTables}

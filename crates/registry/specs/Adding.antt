@@ -9,16 +9,16 @@ use Rattle.pud_defs.specs.declared.layout.TheConstants.{DAEMON_LOG, NEXT_NUMBER_
 use Rattle.pud_defs.specs.declared.space.TheConstants.{LAST_FRONTIER}
 use Rattle.pud_defs.specs.declared.records.TheConstants.{POOL_RECORDS}
 use Rattle.pud_defs.specs.declared.records.Put.{Put}
-use Rattle.pud_defs.specs.Image.{Image}
-use Rattle.pud_defs.specs.Keyed.{first_free}
-use Rattle.pud_defs.specs.Entries.{Entry}
-use Rattle.pud_defs.specs.Frames.{frame_at, fresh_frame, IsFreshFrame}
-use Rattle.pud_defs.specs.Holdings.{holding_in}
-use Rattle.pud_defs.specs.Places.{IsLowestBase}
-use Rattle.pud_defs.specs.Puts.{puddle_put}
-use Rattle.pud_defs.specs.SoundTables.{HasSoundTables}
-use Rattle.pud_defs.specs.Tables.{Tables, Pool, tables_of, pools_of}
-use Rattle.pud_defs.specs.World.{StoredWorld}
+use Rattle.pud_defs.specs.Formats.Image.{Image}
+use Rattle.pud_defs.specs.RegistryTables.Keyed.{first_free}
+use Rattle.pud_defs.specs.Logging.Entries.{Entry}
+use Rattle.pud_defs.specs.Formats.Frames.{frame_at, fresh_frame, IsFreshFrame}
+use Rattle.pud_defs.specs.PoolGraphs.Holdings.{holding_in}
+use Rattle.pud_defs.specs.RegistryTables.Places.{IsLowestBase}
+use Rattle.pud_defs.specs.RegistryTables.Puts.{puddle_put}
+use Rattle.pud_defs.specs.RegistryTables.SoundTables.{HasSoundTables}
+use Rattle.pud_defs.specs.RegistryTables.Tables.{Tables, Pool, tables_of, pools_of}
+use Rattle.pud_defs.specs.StateMachine.World.{StoredWorld}
 use Rattle.batch.specs.Batches.{ByBatch, Commits}
 use Rattle.batch.specs.Worlds.{IsQuiescent}
 use Rattle.batch.specs.Tables.{HasDurableTables}

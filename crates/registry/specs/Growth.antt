@@ -10,15 +10,15 @@ use Rattle.pud_defs.specs.declared.records.TheConstants.{MAX_PUDDLES}
 use Rattle.pud_defs.specs.declared.records.Puddle.{Puddle}
 use Rattle.pud_defs.specs.declared.records.Put.{Put}
 use Rattle.pud_defs.specs.declared.records.PoolRecord.{PoolRecord}
-use Rattle.pud_defs.specs.Keyed.{first_free, count_used}
-use Rattle.pud_defs.specs.Frames.{fresh_frame}
-use Rattle.pud_defs.specs.Graph.{Graph}
-use Rattle.pud_defs.specs.Holdings.Holding.{Sound, Wild}
-use Rattle.pud_defs.specs.Puts.{member_by}
-use Rattle.pud_defs.specs.Stored.{Stored}
-use Rattle.pud_defs.specs.Tables.{Tables, Pool, tables_of, members}
-use Rattle.pud_defs.specs.PoolChanges.{pool_named, changed_pool, with_grown_pool}
-use Rattle.pud_defs.specs.World.{StoredWorld}
+use Rattle.pud_defs.specs.RegistryTables.Keyed.{first_free, count_used}
+use Rattle.pud_defs.specs.Formats.Frames.{fresh_frame}
+use Rattle.pud_defs.specs.PoolGraphs.Graph.{Graph}
+use Rattle.pud_defs.specs.PoolGraphs.Holdings.Holding.{Sound, Wild}
+use Rattle.pud_defs.specs.RegistryTables.Puts.{member_by}
+use Rattle.pud_defs.specs.PoolGraphs.Stored.{Stored}
+use Rattle.pud_defs.specs.RegistryTables.Tables.{Tables, Pool, tables_of, members}
+use Rattle.pud_defs.specs.StateMachine.PoolChanges.{pool_named, changed_pool, with_grown_pool}
+use Rattle.pud_defs.specs.StateMachine.World.{StoredWorld}
 use Rattle.graph_laws.specs.Reads.{with_puddle}
 use Rattle.batch.specs.Worlds.{IsQuiescent}
 use Rattle.registry.specs.declared.adding.NewPuddle.{NewPuddle}

@@ -2,9 +2,9 @@
 use Rattle.std.specs.Prelude.{◌≡◌, ℕ, ◌+◌, false, ◌||◌, cond, List, Option, Some, None, is_some, is_none, Result, Ok, Err}
 use Rattle.pm_model.specs.declared.host.HostFault.{HostFault}
 use Rattle.pud_defs.specs.declared.records.TheConstants.{POOL_RECORDS}
-use Rattle.pud_defs.specs.Keyed.{first_free}
-use Rattle.pud_defs.specs.Tables.{Tables, pool_in}
-use Rattle.pud_defs.specs.PoolChanges.{lacks_numbers}
+use Rattle.pud_defs.specs.RegistryTables.Keyed.{first_free}
+use Rattle.pud_defs.specs.RegistryTables.Tables.{Tables, pool_in}
+use Rattle.pud_defs.specs.StateMachine.PoolChanges.{lacks_numbers}
 use Rattle.pool_table.specs.declared.PoolFault.{PoolFault}
 use Rattle.pool_table.specs.declared.PoolFault.TheVariants as pools
 use Rattle.puddle_table.specs.declared.PuddleFault.{PuddleFault}

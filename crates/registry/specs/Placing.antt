@@ -8,18 +8,18 @@ use Rattle.pud_defs.specs.declared.records.TheConstants.{POOL_RECORDS, MAX_PUDDL
 use Rattle.pud_defs.specs.declared.records.PoolRecord.{PoolRecord}
 use Rattle.pud_defs.specs.declared.records.Puddle.{Puddle}
 use Rattle.pud_defs.specs.declared.records.Put.{Put}
-use Rattle.pud_defs.specs.Image.{Image}
-use Rattle.pud_defs.specs.Keyed.{first_free}
-use Rattle.pud_defs.specs.Types.{type_at, types_of}
-use Rattle.pud_defs.specs.Graph.{graph_of}
-use Rattle.pud_defs.specs.Stored.{stored_in}
-use Rattle.pud_defs.specs.ExportFile.{FileContents, are_file_types, are_file_bases}
-use Rattle.pud_defs.specs.Replay.{settled_by}
-use Rattle.pud_defs.specs.Puts.{pool_put, member_by}
-use Rattle.pud_defs.specs.Placement.{ArePlaced}
-use Rattle.pud_defs.specs.Imports.{type_put, types_missing, numbers_drawn, with_types_defined}
-use Rattle.pud_defs.specs.Tables.{tables_of, pool_in}
-use Rattle.pud_defs.specs.World.{StoredWorld}
+use Rattle.pud_defs.specs.Formats.Image.{Image}
+use Rattle.pud_defs.specs.RegistryTables.Keyed.{first_free}
+use Rattle.pud_defs.specs.RegistryTables.Types.{type_at, types_of}
+use Rattle.pud_defs.specs.PoolGraphs.Graph.{graph_of}
+use Rattle.pud_defs.specs.PoolGraphs.Stored.{stored_in}
+use Rattle.pud_defs.specs.PoolGraphs.ExportFile.{FileContents, are_file_types, are_file_bases}
+use Rattle.pud_defs.specs.Logging.Replay.{settled_by}
+use Rattle.pud_defs.specs.RegistryTables.Puts.{pool_put, member_by}
+use Rattle.pud_defs.specs.RegistryTables.Placement.{ArePlaced}
+use Rattle.pud_defs.specs.StateMachine.Imports.{type_put, types_missing, numbers_drawn, with_types_defined}
+use Rattle.pud_defs.specs.RegistryTables.Tables.{tables_of, pool_in}
+use Rattle.pud_defs.specs.StateMachine.World.{StoredWorld}
 use Rattle.batch.specs.Batches.{ByBatch}
 use Rattle.batch.specs.Worlds.{IsQuiescent}
 use Rattle.batch.specs.Tables.{HasDurableTables}

@@ -8,17 +8,17 @@ use Rattle.pm_model.specs.Masks.{masked, masked_image, masked_state}
 use Rattle.pud_defs.specs.declared.layout.TheConstants.{DAEMON_LOG, NEXT_NUMBER_WORD, MAX_OWNER_ID}
 use Rattle.pud_defs.specs.declared.records.PoolRecord.{PoolRecord}
 use Rattle.pud_defs.specs.declared.records.Put.{Put}
-use Rattle.pud_defs.specs.Image.{Image}
-use Rattle.pud_defs.specs.Keyed.{first_free}
-use Rattle.pud_defs.specs.Frames.{IsFreshFrame}
-use Rattle.pud_defs.specs.Modes.{is_legal_mode}
-use Rattle.pud_defs.specs.Names.{IsName, is_legal_name}
-use Rattle.pud_defs.specs.Puddles.{Member}
-use Rattle.pud_defs.specs.Tables.{Tables, tables_of}
-use Rattle.pud_defs.specs.Puts.{pool_put, mode_put, free_pool_put, free_puddle_put, is_of_pool}
-use Rattle.pud_defs.specs.PoolChanges.{with_new_pool}
-use Rattle.pud_defs.specs.Spaces.{owner}
-use Rattle.pud_defs.specs.World.{StoredWorld, idle_world_of}
+use Rattle.pud_defs.specs.Formats.Image.{Image}
+use Rattle.pud_defs.specs.RegistryTables.Keyed.{first_free}
+use Rattle.pud_defs.specs.Formats.Frames.{IsFreshFrame}
+use Rattle.pud_defs.specs.Formats.Modes.{is_legal_mode}
+use Rattle.pud_defs.specs.Formats.Names.{IsName, is_legal_name}
+use Rattle.pud_defs.specs.RegistryTables.Puddles.{Member}
+use Rattle.pud_defs.specs.RegistryTables.Tables.{Tables, tables_of}
+use Rattle.pud_defs.specs.RegistryTables.Puts.{pool_put, mode_put, free_pool_put, free_puddle_put, is_of_pool}
+use Rattle.pud_defs.specs.StateMachine.PoolChanges.{with_new_pool}
+use Rattle.pud_defs.specs.RegistryTables.Spaces.{owner}
+use Rattle.pud_defs.specs.StateMachine.World.{StoredWorld, idle_world_of}
 use Rattle.batch.specs.Batches.{Commits}
 use Rattle.batch.specs.Worlds.{IsQuiescent}
 use Rattle.batch.specs.Tables.{HasDurableTables}

@@ -3,11 +3,11 @@ use Rattle.std.specs.Prelude.{◌⊎◌, ℕ, ◌+◌, ◌≤◌, List, [], ◌�
 use Rattle.pm_model.specs.Changes.{Footprint}
 use Rattle.pud_defs.specs.declared.layout.TheConstants.{NEXT_NUMBER_WORD, DAEMON_LOG, TYPE_TABLE, POOL_TABLE, SPACE_TABLE, PUDDLE_TABLE}
 use Rattle.pud_defs.specs.declared.records.Put.{Put}
-use Rattle.pud_defs.specs.Image.{Image}
-use Rattle.pud_defs.specs.Layout.{IsWithin, tables_end, frames_at, device_words}
-use Rattle.pud_defs.specs.Entries.{Entry}
-use Rattle.pud_defs.specs.Replay.{IsInLog}
-use Rattle.pud_defs.specs.Puts.{put_of, with_put}
+use Rattle.pud_defs.specs.Formats.Image.{Image}
+use Rattle.pud_defs.specs.Formats.Layout.{IsWithin, tables_end, frames_at, device_words}
+use Rattle.pud_defs.specs.Logging.Entries.{Entry}
+use Rattle.pud_defs.specs.Logging.Replay.{IsInLog}
+use Rattle.pud_defs.specs.RegistryTables.Puts.{put_of, with_put}
 use Rattle.batch.specs.Batches.{batch_entry}
 
 -- a change as the entry of a batch

@@ -3,8 +3,8 @@
 ghost use Rattle.std.specs.Prelude.{◌≡◌, ◌<◌, ◌≤◌};
 ghost use Rattle.pm_model.specs.Counts.{after_fault, fault_of};
 ghost use Rattle.pm_model.specs.Changes.{Persists};
-ghost use Rattle.pud_defs.specs.Layout.{device_words};
-ghost use Rattle.pud_defs.specs.Frames.{first_serial, fresh_frame};
+ghost use Rattle.pud_defs.specs.Formats.Layout.{device_words};
+ghost use Rattle.pud_defs.specs.Formats.Frames.{first_serial, fresh_frame};
 ghost use Rattle.registry.specs.Adding.{filling};
 
 use crate::adding::NewPuddle;
@@ -24,7 +24,7 @@ fn first_serial(ordinal: u32) -> u64
 }
 
 /// The words of the frame of a new puddle.
-#[tactic(auto, unfolding(pud_defs::specs::Frames::fresh_frame))]
+#[tactic(auto, unfolding(pud_defs::specs::Formats::Frames::fresh_frame))]
 fn fresh_frame(number: u64, ordinal: u32) -> [u64; FRAME_WORDS as usize]
     ensures { result ≡ fresh_frame number ordinal }
 {

@@ -8,8 +8,8 @@ ghost use Rattle.pm_model.specs.Changes.{Changes};
 ghost use Rattle.log_replay.specs.declared.Target.TheVariants as targets;
 ghost use Rattle.log_replay.specs.Replaying.{Anything, SettlesLog};
 ghost use Rattle.pud_defs.specs.declared.layout.TheConstants.{DAEMON_LOG};
-ghost use Rattle.pud_defs.specs.Registry.{frames_of};
-ghost use Rattle.pud_defs.specs.World.{StoredWorld, world_of};
+ghost use Rattle.pud_defs.specs.RegistryTables.Registry.{frames_of};
+ghost use Rattle.pud_defs.specs.StateMachine.World.{StoredWorld, world_of};
 ghost use Rattle.soundness.specs.Judging.{IsRoomFor};
 ghost use Rattle.registry.specs.Registry.{load_fault, AppliesLog};
 

@@ -3,7 +3,7 @@ use Rattle.std.proofs.Common.{◌≡◌, ℕ, ◌+◌, ◌-◌, ◌*◌, ◌^◌
 use Rattle.std.proofs.lemmas.List.{drop_all}
 use Rattle.std.specs.List.{list_all}
 use Rattle.std.proofs.lemmas.Bool.Decides.{nat_tests}
-use Rattle.pud_defs.specs.Grammar.{begins_as_number, is_digit, value_behind, decimal_of, in_range}
+use Rattle.pud_defs.specs.StateMachine.Grammar.{begins_as_number, is_digit, value_behind, decimal_of, in_range}
 
 -- the number, where a word holds it
 abbrev pub word_of : Option ℕ → Option ℕ

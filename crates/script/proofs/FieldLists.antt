@@ -2,8 +2,8 @@
 use Rattle.std.proofs.Common.{◌≡◌, ℕ, ◌+◌, ◌*◌, ◌^◌, ◌<◌, ◌≤◌, true, false, cond, List, [], ◌∷◌, bytes_eq, codes, option_map, option_and_then, sum_by, Option, Some, None, refl, sym, ap, ◌∙◌, arith, pow_mono}
 use Rattle.std.proofs.lemmas.Nat.{pow-add}
 use Rattle.std.proofs.lemmas.List.Sums.{sum_by-cons}
-use Rattle.pud_defs.specs.Grammar.{split_at, number_within, fields_from, pointers_of, listed_map}
-use Rattle.pud_defs.specs.TypeMap.{map_word}
+use Rattle.pud_defs.specs.StateMachine.Grammar.{split_at, number_within, fields_from, pointers_of, listed_map}
+use Rattle.pud_defs.specs.Formats.TypeMap.{map_word}
 
 -- the map word so far, with the pointers that the pieces that are left name, from `least` up
 unfoldable pub map_behind : ℕ → ℕ → ℕ → List (List ℕ) → Option ℕ

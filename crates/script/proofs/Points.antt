@@ -1,6 +1,6 @@
 -- Pieces that are too many for the place of a field.
 use Rattle.std.proofs.Common.{◌≡◌, ℕ, ◌<◌, List, [], ◌∷◌, length, None, refl, arith}
-use Rattle.pud_defs.specs.Grammar.{split_at, field_by}
+use Rattle.pud_defs.specs.StateMachine.Grammar.{split_at, field_by}
 use Rattle.script.proofs.Taken.{has_piece}
 
 third_piece : (object field : List ℕ) (pieces : List (List ℕ)) → 0 < length pieces → field_by (object ∷ field ∷ pieces) ≡ None

@@ -2,7 +2,7 @@
 use Rattle.std.proofs.Common.{◌≡◌, ℕ, ◌<◌, ◌==◌, List, [], ◌∷◌, length, Option, Some, None, option_and_then, refl, arith}
 use Rattle.std.proofs.lemmas.List.Splits.{length-slice_split}
 use Rattle.pud_defs.specs.declared.machine.Command.{Command}
-use Rattle.pud_defs.specs.Grammar.{split_at, Parser, taking, at_end}
+use Rattle.pud_defs.specs.StateMachine.Grammar.{split_at, Parser, taking, at_end}
 
 pub taking-front : {A : Type 0} (kind : List ℕ → Option A) (next : A → Parser) (argument : List ℕ) (arguments : List (List ℕ)) → taking kind next (argument ∷ arguments) ≡ option_and_then (λ v. next v arguments) (kind argument)
 unfolding taking

@@ -1,7 +1,7 @@
 -- The pieces of a line that are still to be read.
 use Rattle.std.specs.Prelude.{ℕ, List, [], ◌∷◌, Option, Some, None}
 use denote.Ref.{Bor}
-use Rattle.pud_defs.specs.Grammar.{split_at}
+use Rattle.pud_defs.specs.StateMachine.Grammar.{split_at}
 
 -- the pieces of these bytes: none where there are no bytes left, not even an empty piece
 abbrev pub pieces_of : ℕ → Option (Bor (List ℕ)) → List (List ℕ)

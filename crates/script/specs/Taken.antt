@@ -1,6 +1,6 @@
 -- An argument that is taken from the front.
 use Rattle.std.specs.Prelude.{◌≡◌, ℕ, List, Option, option_and_then}
-use Rattle.pud_defs.specs.Grammar.{Parser, taking}
+use Rattle.pud_defs.specs.StateMachine.Grammar.{Parser, taking}
 
 -- The front one of the arguments is of this kind and has this value, and the others are left; or there is no value, where it is not.
 -- So whatever takes such an argument first goes on with the value and what is left.

@@ -1,7 +1,7 @@
 //! The arguments of a line, taken from the front one by one, each by its kind.
 
 ghost use Rattle.std.specs.Prelude.{◌≡◌, ◌≤◌, ℕ, List, IfSome};
-ghost use Rattle.pud_defs.specs.Grammar.{client_number, owner_id, type_id, field_total, listed_map, pool_name, pool_mode, word_number, object_serial, field_place, value_named, step_count, armed_step, loss_pick, at_end};
+ghost use Rattle.pud_defs.specs.StateMachine.Grammar.{client_number, owner_id, type_id, field_total, listed_map, pool_name, pool_mode, word_number, object_serial, field_place, value_named, step_count, armed_step, loss_pick, at_end};
 ghost use Rattle.script.specs.Pieces.{pieces_of, with_front};
 ghost use Rattle.script.specs.Taken.{IsTaken};
 

@@ -1,7 +1,7 @@
 //! The pointer fields of a type, read into its map word.
 
 ghost use Rattle.std.specs.Prelude.{◌≡◌, ◌≤◌};
-ghost use Rattle.pud_defs.specs.Grammar.{listed_map};
+ghost use Rattle.pud_defs.specs.StateMachine.Grammar.{listed_map};
 
 use crate::numbers::read_within;
 use crate::pieces::cut;

@@ -30,7 +30,7 @@
 
 ghost use Rattle.std.specs.Prelude.{◌≡◌, IfOk};
 ghost use Rattle.std.specs.Result.{result_ok};
-ghost use Rattle.pud_defs.specs.Grammar.{split_at, client_by, leave_by, define_by, pool_line_by, chmod_by, drop_by, begin_by, commit_by, abort_by, new_by, set_by, later_by, root_by, free_by, get_by, dump_by, export_by, import_by, rewrite_by, pools_by, cut_by, arm_by, transaction_lines, command_among, command_with, command_by, command_of, IsLegalCommand};
+ghost use Rattle.pud_defs.specs.StateMachine.Grammar.{split_at, client_by, leave_by, define_by, pool_line_by, chmod_by, drop_by, begin_by, commit_by, abort_by, new_by, set_by, later_by, root_by, free_by, get_by, dump_by, export_by, import_by, rewrite_by, pools_by, cut_by, arm_by, transaction_lines, command_among, command_with, command_by, command_of, IsLegalCommand};
 
 use crate::arguments::Arguments;
 use crate::pieces::cut;
@@ -43,7 +43,7 @@ use pud_defs::machine::Command;
 pub struct Bad;
 
 /// The coming of a client by its arguments.
-#[tactic(auto, unfolding(pud_defs::specs::Grammar::client_by))]
+#[tactic(auto, unfolding(pud_defs::specs::StateMachine::Grammar::client_by))]
 fn read_client(mut arguments: Arguments) -> Option<Command>
     ensures { result ≡ client_by arguments.entry }
 {
@@ -54,7 +54,7 @@ fn read_client(mut arguments: Arguments) -> Option<Command>
 }
 
 /// The leaving of a client.
-#[tactic(auto, unfolding(pud_defs::specs::Grammar::leave_by))]
+#[tactic(auto, unfolding(pud_defs::specs::StateMachine::Grammar::leave_by))]
 fn read_leave(mut arguments: Arguments) -> Option<Command>
     ensures { result ≡ leave_by arguments.entry }
 {
@@ -63,7 +63,7 @@ fn read_leave(mut arguments: Arguments) -> Option<Command>
 }
 
 /// The definition of a type.
-#[tactic(auto, unfolding(pud_defs::specs::Grammar::define_by))]
+#[tactic(auto, unfolding(pud_defs::specs::StateMachine::Grammar::define_by))]
 fn read_definition(mut arguments: Arguments) -> Option<Command>
     ensures { result ≡ define_by arguments.entry }
 {
@@ -74,7 +74,7 @@ fn read_definition(mut arguments: Arguments) -> Option<Command>
 }
 
 /// The making of a pool.
-#[tactic(auto, unfolding(pud_defs::specs::Grammar::pool_line_by))]
+#[tactic(auto, unfolding(pud_defs::specs::StateMachine::Grammar::pool_line_by))]
 fn read_pool(mut arguments: Arguments) -> Option<Command>
     ensures { result ≡ pool_line_by arguments.entry }
 {
@@ -85,7 +85,7 @@ fn read_pool(mut arguments: Arguments) -> Option<Command>
 }
 
 /// The change of a pool's mode.
-#[tactic(auto, unfolding(pud_defs::specs::Grammar::chmod_by))]
+#[tactic(auto, unfolding(pud_defs::specs::StateMachine::Grammar::chmod_by))]
 fn read_chmod(mut arguments: Arguments) -> Option<Command>
     ensures { result ≡ chmod_by arguments.entry }
 {
@@ -96,7 +96,7 @@ fn read_chmod(mut arguments: Arguments) -> Option<Command>
 }
 
 /// The dropping of a pool.
-#[tactic(auto, unfolding(pud_defs::specs::Grammar::drop_by))]
+#[tactic(auto, unfolding(pud_defs::specs::StateMachine::Grammar::drop_by))]
 fn read_drop(mut arguments: Arguments) -> Option<Command>
     ensures { result ≡ drop_by arguments.entry }
 {
@@ -106,7 +106,7 @@ fn read_drop(mut arguments: Arguments) -> Option<Command>
 }
 
 /// The beginning of a transaction.
-#[tactic(auto, unfolding(pud_defs::specs::Grammar::begin_by))]
+#[tactic(auto, unfolding(pud_defs::specs::StateMachine::Grammar::begin_by))]
 fn read_begin(mut arguments: Arguments) -> Option<Command>
     ensures { result ≡ begin_by arguments.entry }
 {
@@ -116,7 +116,7 @@ fn read_begin(mut arguments: Arguments) -> Option<Command>
 }
 
 /// The ending of a transaction whose changes stay.
-#[tactic(auto, unfolding(pud_defs::specs::Grammar::commit_by))]
+#[tactic(auto, unfolding(pud_defs::specs::StateMachine::Grammar::commit_by))]
 fn read_commit(mut arguments: Arguments) -> Option<Command>
     ensures { result ≡ commit_by arguments.entry }
 {
@@ -126,7 +126,7 @@ fn read_commit(mut arguments: Arguments) -> Option<Command>
 }
 
 /// The undoing of a transaction.
-#[tactic(auto, unfolding(pud_defs::specs::Grammar::abort_by))]
+#[tactic(auto, unfolding(pud_defs::specs::StateMachine::Grammar::abort_by))]
 fn read_abort(mut arguments: Arguments) -> Option<Command>
     ensures { result ≡ abort_by arguments.entry }
 {
@@ -136,7 +136,7 @@ fn read_abort(mut arguments: Arguments) -> Option<Command>
 }
 
 /// The making of an object.
-#[tactic(auto, unfolding(pud_defs::specs::Grammar::new_by))]
+#[tactic(auto, unfolding(pud_defs::specs::StateMachine::Grammar::new_by))]
 fn read_new(mut arguments: Arguments) -> Option<Command>
     ensures { result ≡ new_by arguments.entry }
 {
@@ -147,7 +147,7 @@ fn read_new(mut arguments: Arguments) -> Option<Command>
 }
 
 /// The setting of a field.
-#[tactic(auto, unfolding(pud_defs::specs::Grammar::set_by))]
+#[tactic(auto, unfolding(pud_defs::specs::StateMachine::Grammar::set_by))]
 fn read_set(mut arguments: Arguments) -> Option<Command>
     ensures { result ≡ set_by arguments.entry }
 {
@@ -165,7 +165,7 @@ fn read_set(mut arguments: Arguments) -> Option<Command>
 }
 
 /// The asking for a value of a field.
-#[tactic(auto, unfolding(pud_defs::specs::Grammar::later_by))]
+#[tactic(auto, unfolding(pud_defs::specs::StateMachine::Grammar::later_by))]
 fn read_later(mut arguments: Arguments) -> Option<Command>
     ensures { result ≡ later_by arguments.entry }
 {
@@ -183,7 +183,7 @@ fn read_later(mut arguments: Arguments) -> Option<Command>
 }
 
 /// The setting of the root.
-#[tactic(auto, unfolding(pud_defs::specs::Grammar::root_by))]
+#[tactic(auto, unfolding(pud_defs::specs::StateMachine::Grammar::root_by))]
 fn read_root(mut arguments: Arguments) -> Option<Command>
     ensures { result ≡ root_by arguments.entry }
 {
@@ -194,7 +194,7 @@ fn read_root(mut arguments: Arguments) -> Option<Command>
 }
 
 /// The freeing of an object.
-#[tactic(auto, unfolding(pud_defs::specs::Grammar::free_by))]
+#[tactic(auto, unfolding(pud_defs::specs::StateMachine::Grammar::free_by))]
 fn read_free(mut arguments: Arguments) -> Option<Command>
     ensures { result ≡ free_by arguments.entry }
 {
@@ -205,7 +205,7 @@ fn read_free(mut arguments: Arguments) -> Option<Command>
 }
 
 /// The reading of a field.
-#[tactic(auto, unfolding(pud_defs::specs::Grammar::get_by))]
+#[tactic(auto, unfolding(pud_defs::specs::StateMachine::Grammar::get_by))]
 fn read_get(mut arguments: Arguments) -> Option<Command>
     ensures { result ≡ get_by arguments.entry }
 {
@@ -216,7 +216,7 @@ fn read_get(mut arguments: Arguments) -> Option<Command>
 }
 
 /// The text of a pool's graph.
-#[tactic(auto, unfolding(pud_defs::specs::Grammar::dump_by))]
+#[tactic(auto, unfolding(pud_defs::specs::StateMachine::Grammar::dump_by))]
 fn read_dump(mut arguments: Arguments) -> Option<Command>
     ensures { result ≡ dump_by arguments.entry }
 {
@@ -226,7 +226,7 @@ fn read_dump(mut arguments: Arguments) -> Option<Command>
 }
 
 /// The writing of a pool into a file.
-#[tactic(auto, unfolding(pud_defs::specs::Grammar::export_by))]
+#[tactic(auto, unfolding(pud_defs::specs::StateMachine::Grammar::export_by))]
 fn read_export(mut arguments: Arguments) -> Option<Command>
     ensures { result ≡ export_by arguments.entry }
 {
@@ -237,7 +237,7 @@ fn read_export(mut arguments: Arguments) -> Option<Command>
 }
 
 /// The making of a pool of a file.
-#[tactic(auto, unfolding(pud_defs::specs::Grammar::import_by))]
+#[tactic(auto, unfolding(pud_defs::specs::StateMachine::Grammar::import_by))]
 fn read_import(mut arguments: Arguments) -> Option<Command>
     ensures { result ≡ import_by arguments.entry }
 {
@@ -254,7 +254,7 @@ fn read_import(mut arguments: Arguments) -> Option<Command>
 }
 
 /// The rewriting of a pool's pointers.
-#[tactic(auto, unfolding(pud_defs::specs::Grammar::rewrite_by))]
+#[tactic(auto, unfolding(pud_defs::specs::StateMachine::Grammar::rewrite_by))]
 fn read_rewrite(mut arguments: Arguments) -> Option<Command>
     ensures { result ≡ rewrite_by arguments.entry }
 {
@@ -264,7 +264,7 @@ fn read_rewrite(mut arguments: Arguments) -> Option<Command>
 }
 
 /// The list of the pools.
-#[tactic(auto, unfolding(pud_defs::specs::Grammar::pools_by))]
+#[tactic(auto, unfolding(pud_defs::specs::StateMachine::Grammar::pools_by))]
 fn read_pools(arguments: Arguments) -> Option<Command>
     ensures { result ≡ pools_by arguments.entry }
 {
@@ -272,7 +272,7 @@ fn read_pools(arguments: Arguments) -> Option<Command>
 }
 
 /// A power loss at once.
-#[tactic(auto, unfolding(pud_defs::specs::Grammar::cut_by))]
+#[tactic(auto, unfolding(pud_defs::specs::StateMachine::Grammar::cut_by))]
 fn read_cut(mut arguments: Arguments) -> Option<Command>
     ensures { result ≡ cut_by arguments.entry }
 {
@@ -281,7 +281,7 @@ fn read_cut(mut arguments: Arguments) -> Option<Command>
 }
 
 /// A power loss that is armed.
-#[tactic(auto, unfolding(pud_defs::specs::Grammar::arm_by))]
+#[tactic(auto, unfolding(pud_defs::specs::StateMachine::Grammar::arm_by))]
 fn read_arm(mut arguments: Arguments) -> Option<Command>
     ensures { result ≡ arm_by arguments.entry }
 {
@@ -316,7 +316,7 @@ fn read_in_transaction(word: &[u8], arguments: Arguments) -> Option<Command>
 }
 
 /// The command by its word and its arguments.
-#[tactic(auto, unfolding(pud_defs::specs::Grammar::command_with))]
+#[tactic(auto, unfolding(pud_defs::specs::StateMachine::Grammar::command_with))]
 fn read_with(word: &[u8], arguments: Arguments) -> Option<Command>
     ensures { result ≡ command_with word.now arguments.entry }
 {
@@ -363,7 +363,7 @@ fn read_command(line: &[u8]) -> Option<Command>
 
 /// The command that a line, without its newline, is. `Bad` exactly where it is none. A line may have any length and
 /// any bytes.
-#[tactic(auto, unfolding(pud_defs::specs::Grammar::command_of))]
+#[tactic(auto, unfolding(pud_defs::specs::StateMachine::Grammar::command_of))]
 pub fn parse_line(line: &[u8]) -> Result<Command, Bad>
     ensures command { result_ok result ≡ command_of line.now }
     ensures legal { IfOk result IsLegalCommand }

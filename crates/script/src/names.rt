@@ -2,8 +2,8 @@
 
 ghost use Rattle.std.specs.Prelude.{◌≡◌, ◌-◌, ◌≤◌, ◌++◌, ◌&&◌, nat_le, cond, length, replicate, Some, None};
 ghost use Rattle.std.specs.List.{list_all};
-ghost use Rattle.pud_defs.specs.Grammar.{is_mode_digit, pool_mode, pool_name};
-ghost use Rattle.pud_defs.specs.Names.{is_name_byte};
+ghost use Rattle.pud_defs.specs.StateMachine.Grammar.{is_mode_digit, pool_mode, pool_name};
+ghost use Rattle.pud_defs.specs.Formats.Names.{is_name_byte};
 
 use pud_defs::records::{NAME_BYTES, Name, is_name_byte};
 
@@ -34,7 +34,7 @@ fn filled(bytes: &[u8]) -> Name
 }
 
 /// The name that the bytes are, filled with zeros. None where they are no name.
-#[tactic(auto, unfolding(pud_defs::specs::Grammar::pool_name))]
+#[tactic(auto, unfolding(pud_defs::specs::StateMachine::Grammar::pool_name))]
 pub(crate) fn read_name(bytes: &[u8]) -> Option<Name>
     ensures { result ≡ pool_name bytes.now }
 {
@@ -55,7 +55,7 @@ fn mode_digit(byte: u8) -> Option<u32>
 }
 
 /// The mode that the bytes are: three such digits, for the owner, the group and others. None where they are no mode.
-#[tactic(auto, unfolding(pud_defs::specs::Grammar::pool_mode))]
+#[tactic(auto, unfolding(pud_defs::specs::StateMachine::Grammar::pool_mode))]
 pub(crate) fn read_mode(bytes: &[u8]) -> Option<u32>
     ensures { result ≡ pool_mode bytes.now }
 {

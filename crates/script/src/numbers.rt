@@ -1,7 +1,7 @@
 //! Decimal numbers: digits, with no sign and no leading zero but `0` itself.
 
 ghost use Rattle.std.specs.Prelude.{◌≡◌, ◌+◌, ◌-◌, ◌*◌, ◌^◌, cond, None};
-ghost use Rattle.pud_defs.specs.Grammar.{begins_as_number, is_digit, in_range, number_within};
+ghost use Rattle.pud_defs.specs.StateMachine.Grammar.{begins_as_number, is_digit, in_range, number_within};
 
 /// Whether the first byte is one that a number may begin with: not `0` in front of others.
 fn begins_as_number(digits: &[u8]) -> bool

@@ -1,7 +1,7 @@
 //! Cutting a line into the pieces between its separators.
 
 ghost use Rattle.std.specs.Prelude.{◌≡◌, ◌∷◌, ◌<◌, ◌==◌, length, position, IfSome};
-ghost use Rattle.pud_defs.specs.Grammar.{split_at};
+ghost use Rattle.pud_defs.specs.StateMachine.Grammar.{split_at};
 ghost use Rattle.script.specs.Pieces.{pieces_of};
 
 /// Where the first separator stands.

@@ -1,7 +1,7 @@
 //! The places of fields.
 
 ghost use Rattle.std.specs.Prelude.{◌≡◌};
-ghost use Rattle.pud_defs.specs.Grammar.{field_place, object_serial};
+ghost use Rattle.pud_defs.specs.StateMachine.Grammar.{field_place, object_serial};
 
 use crate::numbers::{read_number, read_within};
 use crate::pieces::cut;
@@ -17,7 +17,7 @@ pub(crate) fn read_serial(bytes: &[u8]) -> Option<u64>
 
 /// The serial of an object and the number of a field, from 0 to 29, of the place that the bytes are: both joined by one point. None
 /// where they are no place.
-#[tactic(auto, unfolding(pud_defs::specs::Grammar::field_place), using(crate::proofs::Points::second_point))]
+#[tactic(auto, unfolding(pud_defs::specs::StateMachine::Grammar::field_place), using(crate::proofs::Points::second_point))]
 pub(crate) fn read_place(bytes: &[u8]) -> Option<(u64, u32)>
     ensures { result ≡ field_place bytes.now }
 {

@@ -1,7 +1,7 @@
 //! The texts of replies.
 
 ghost use Rattle.std.specs.Prelude.{◌≡◌, ◌+◌, ◌≤◌, ◌++◌, length, take};
-ghost use Rattle.pud_defs.specs.Texts.{line_of, refusal_word, reply_text};
+ghost use Rattle.pud_defs.specs.Output.Texts.{line_of, refusal_word, reply_text};
 
 use itoa::Buffer;
 use pud_defs::layout::REPLY_LIMIT;
@@ -56,7 +56,7 @@ fn print_line(front: &[u8], rest: &[u8], out: &mut [u8; REPLY_LIMIT]) -> usize
 
 /// Writes the text of the reply, with its newline, at the front of `out`, and says how many bytes it has. The bytes
 /// of `out` behind them say nothing.
-#[tactic(auto, unfolding(pud_defs::specs::Texts::reply_text))]
+#[tactic(auto, unfolding(pud_defs::specs::Output::Texts::reply_text))]
 pub fn print_reply(reply: Reply, out: &mut [u8; REPLY_LIMIT]) -> usize
     ensures within { result ≤ REPLY_LIMIT }
     ensures text { take result out.new ≡ reply_text reply }

@@ -1,14 +1,14 @@
 //! The values of fields.
 
 ghost use Rattle.std.specs.Prelude.{◌≡◌};
-ghost use Rattle.pud_defs.specs.Grammar.{value_named};
+ghost use Rattle.pud_defs.specs.StateMachine.Grammar.{value_named};
 
 use crate::numbers::read_number;
 use pud_defs::objects::FieldValue;
 
 /// The value that the bytes are: a number below 2^64, or `@` and the serial of an object below 2^64, of which `@0` is null. None where
 /// they are no value.
-#[tactic(auto, unfolding(pud_defs::specs::Grammar::value_named))]
+#[tactic(auto, unfolding(pud_defs::specs::StateMachine::Grammar::value_named))]
 pub(crate) fn read_value(bytes: &[u8]) -> Option<FieldValue>
     ensures { result ≡ value_named bytes.now }
 {

@@ -5,22 +5,22 @@ use Rattle.std.specs.Prelude.{is_some}
 use Rattle.std.proofs.lemmas.Bool.{and_parts, and_left, and_right, cases_Bool}
 use Rattle.std.proofs.lemmas.Option.{cond_some}
 use Rattle.pud_defs.specs.declared.layout.TheConstants.{DEVICE_MAGIC, VERSION, MAGIC_WORD, VERSION_WORD, FRAMES_WORD, MIN_FRAMES, DAEMON_LOG}
-use Rattle.pud_defs.specs.Image.{Image}
-use Rattle.pud_defs.specs.Entries.{Entry, log_of, entries_of}
-use Rattle.pud_defs.specs.Layout.{device_words, is_legal_frame_count}
-use Rattle.pud_defs.specs.Replay.{settled_by}
-use Rattle.pud_defs.specs.Spaces.{are_legal_spaces}
-use Rattle.pud_defs.specs.Registry.{frames_of, has_magic, has_version, has_room, has_legal_number, has_legal_types, has_sound_tables, has_legal_spaces, is_registry, is_loggable, are_loggable, has_legal_log, is_sound}
-use Rattle.pud_defs.specs.Tables.{Tables}
-use Rattle.pud_defs.specs.SoundTables.{has_legal_pools, has_distinct_names, has_legal_puddles, has_distinct_bases, has_distinct_old_bases, has_distinct_ordinals, has_counted_puddles, are_sound_tables}
-use Rattle.pud_defs.proofs.Logged.{settled_by-unlogged}
-use Rattle.pud_defs.proofs.Worlds.{holding_by}
+use Rattle.pud_defs.specs.Formats.Image.{Image}
+use Rattle.pud_defs.specs.Logging.Entries.{Entry, log_of, entries_of}
+use Rattle.pud_defs.specs.Formats.Layout.{device_words, is_legal_frame_count}
+use Rattle.pud_defs.specs.Logging.Replay.{settled_by}
+use Rattle.pud_defs.specs.RegistryTables.Spaces.{are_legal_spaces}
+use Rattle.pud_defs.specs.RegistryTables.Registry.{frames_of, has_magic, has_version, has_room, has_legal_number, has_legal_types, has_sound_tables, has_legal_spaces, is_registry, is_loggable, are_loggable, has_legal_log, is_sound}
+use Rattle.pud_defs.specs.RegistryTables.Tables.{Tables}
+use Rattle.pud_defs.specs.RegistryTables.SoundTables.{has_legal_pools, has_distinct_names, has_legal_puddles, has_distinct_bases, has_distinct_old_bases, has_distinct_ordinals, has_counted_puddles, are_sound_tables}
+use Rattle.pud_defs.proofs.Logging.Logged.{settled_by-unlogged}
+use Rattle.pud_defs.proofs.StateMachine.Worlds.{holding_by}
 use Rattle.log_entry.specs.Copying.{log_copied}
 use Rattle.soundness.specs.declared.overlay.Overlay.{Overlay}
 use Rattle.soundness.specs.Overlaying.{IsOverlay}
 use Rattle.soundness.specs.Distinct.{are_distinct_puddles}
 use Rattle.soundness.specs.Judging.{frames_described, has_sound_records}
-use Rattle.pud_defs.proofs.Keyed.{some_there}
+use Rattle.pud_defs.proofs.KeyedTables.Keyed.{some_there}
 
 -- ---- a legal log
 

@@ -6,16 +6,16 @@ use Rattle.std.specs.Ordering.{nat_cmp}
 use Rattle.std.proofs.lemmas.Bool.{and_from, and_left, and_right, cases_eq, or_left, cond-false}
 use Rattle.pud_defs.specs.declared.records.TheConstants.{POOL_RECORDS, MAX_PUDDLES}
 use Rattle.pud_defs.specs.declared.records.Puddle.{Puddle}
-use Rattle.pud_defs.specs.Image.{Image}
-use Rattle.pud_defs.specs.Spaces.{all_below}
-use Rattle.pud_defs.specs.Keyed.{under, first_from, is_apart, are_distinct}
-use Rattle.pud_defs.specs.Pools.{pool_record_at, pool_by, pool_at}
-use Rattle.pud_defs.specs.Puddles.{Member, member_pool, member_ordinal, puddle_record_at, puddle_by, puddle_at}
-use Rattle.pud_defs.specs.Tables.{Tables, tables_of, member_of, members, puddles_of}
-use Rattle.pud_defs.specs.SoundTables.{has_legal_puddles, has_distinct_bases, has_distinct_old_bases, has_distinct_ordinals, has_counted_puddles, are_counted}
-use Rattle.pud_defs.proofs.Spaces.{all_below-same, all_below-more, all_below-fails}
-use Rattle.pud_defs.proofs.TablesOf.{pools_below, puddles_below, pool_at-free, puddle_at-free}
-use Rattle.pud_defs.proofs.DistinctKeys.{some_or, some_under, none_by_some, IsTold, IsSmall, small_in_tables, distinct_old_bases, distinct_ordinals, found_ordinal, first_from-nowhere, AreKeys, counted_by_marks}
+use Rattle.pud_defs.specs.Formats.Image.{Image}
+use Rattle.pud_defs.specs.RegistryTables.Spaces.{all_below}
+use Rattle.pud_defs.specs.RegistryTables.Keyed.{under, first_from, is_apart, are_distinct}
+use Rattle.pud_defs.specs.RegistryTables.Pools.{pool_record_at, pool_by, pool_at}
+use Rattle.pud_defs.specs.RegistryTables.Puddles.{Member, member_pool, member_ordinal, puddle_record_at, puddle_by, puddle_at}
+use Rattle.pud_defs.specs.RegistryTables.Tables.{Tables, tables_of, member_of, members, puddles_of}
+use Rattle.pud_defs.specs.RegistryTables.SoundTables.{has_legal_puddles, has_distinct_bases, has_distinct_old_bases, has_distinct_ordinals, has_counted_puddles, are_counted}
+use Rattle.pud_defs.proofs.RegistryTables.Spaces.{all_below-same, all_below-more, all_below-fails}
+use Rattle.pud_defs.proofs.RegistryTables.TablesOf.{pools_below, puddles_below, pool_at-free, puddle_at-free}
+use Rattle.pud_defs.proofs.KeyedTables.DistinctKeys.{some_or, some_under, none_by_some, IsTold, IsSmall, small_in_tables, distinct_old_bases, distinct_ordinals, found_ordinal, first_from-nowhere, AreKeys, counted_by_marks}
 use Rattle.soundness.specs.declared.distinct.Key.{Key}
 use Rattle.soundness.specs.declared.distinct.Key.TheVariants.{Base, OldBase}
 use Rattle.soundness.specs.declared.distinct.TheConstants.{OLD_BASES, PLACES}

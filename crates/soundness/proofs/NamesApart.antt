@@ -12,12 +12,12 @@ use Rattle.std.proofs.lemmas.Map.Views.{tells_apart}
 use Rattle.std.proofs.lemmas.Nat.{from_le_bytes-to_le_bytes_8}
 use Rattle.pud_defs.specs.declared.records.TheConstants.{POOL_RECORDS}
 use Rattle.pud_defs.specs.declared.records.PoolRecord.{PoolRecord}
-use Rattle.pud_defs.specs.Image.{Image}
-use Rattle.pud_defs.specs.Names.{name_by, name_cmp}
-use Rattle.pud_defs.specs.Keyed.{under, first_from, is_apart, are_distinct}
-use Rattle.pud_defs.specs.Pools.{pool_by, pool_record_at}
-use Rattle.pud_defs.specs.Tables.{tables_of, named}
-use Rattle.pud_defs.specs.SoundTables.{has_distinct_names}
+use Rattle.pud_defs.specs.Formats.Image.{Image}
+use Rattle.pud_defs.specs.Formats.Names.{name_by, name_cmp}
+use Rattle.pud_defs.specs.RegistryTables.Keyed.{under, first_from, is_apart, are_distinct}
+use Rattle.pud_defs.specs.RegistryTables.Pools.{pool_by, pool_record_at}
+use Rattle.pud_defs.specs.RegistryTables.Tables.{tables_of, named}
+use Rattle.pud_defs.specs.RegistryTables.SoundTables.{has_distinct_names}
 use Rattle.soundness.specs.declared.names.NameWords.{NameWords}
 use Rattle.soundness.specs.Tables.{record_words, pool_by_words}
 use Rattle.soundness.specs.Named.{is_same_name, are_apart, IsNameOf, HoldsNames, no_name}

@@ -10,9 +10,9 @@ use Rattle.std.proofs.lemmas.Bool.{and_parts, and_from, or_parts, or_from, not-t
 use Rattle.std.proofs.lemmas.List.Sorted.{IsPermutation-sym, IsNonDecreasingBy-from_sort}
 use Rattle.std.proofs.lemmas.Map.Keys.{IsDistinct-head, IsDistinct-tail, IsDistinct-cons, IsDistinct-from_apart, IsDistinct-IsPermutation, IsDistinct-from_sorted, IsStrictlyIncreasing-from_distinct, sorted_from_strictly_increasing}
 use Rattle.std.proofs.Math.Nat.{mod-eq_of_lt}
-use Rattle.pud_defs.specs.Keyed.{under, first_from, is_apart, are_distinct}
-use Rattle.pud_defs.specs.Puddles.{Member}
-use Rattle.pud_defs.proofs.DistinctKeys.{same_tests, none_by_some, some_or, some_under, eqb_turned}
+use Rattle.pud_defs.specs.RegistryTables.Keyed.{under, first_from, is_apart, are_distinct}
+use Rattle.pud_defs.specs.RegistryTables.Puddles.{Member}
+use Rattle.pud_defs.proofs.KeyedTables.DistinctKeys.{same_tests, none_by_some, some_or, some_under, eqb_turned}
 use Rattle.soundness.specs.declared.distinct.TheConstants.{POOL_NUMBERS, OLD_BASES, PLACES}
 use Rattle.soundness.specs.Distinct.{joined_key, mark_index, with_number}
 

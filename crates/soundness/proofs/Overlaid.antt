@@ -7,11 +7,11 @@ use Rattle.std.proofs.lemmas.Bool.Decides.{leb_tells}
 use Rattle.std.proofs.lemmas.Option.{slice_get_past}
 use Rattle.pud_defs.specs.declared.layout.TheConstants.{DAEMON_LOG}
 use Rattle.pud_defs.specs.declared.log_words.TheConstants.{UNDO_ORDER, REDO_ORDER}
-use Rattle.pud_defs.specs.Image.{Image}
-use Rattle.pud_defs.specs.Entries.{Entry, Log, log_of, words_from}
-use Rattle.pud_defs.specs.Replay.{device_word, is_in_range, value_in, given_by, undo_value, redo_value, is_in_log, settled_by}
-use Rattle.pud_defs.proofs.Entries.{words_from-length}
-use Rattle.pud_defs.proofs.Replay.{or_none, or_assoc, given_by-out, undo_value-first, undo_value-none, redo_value-first, redo_value-none, new_value-of, replayed-none, settled_by-outside}
+use Rattle.pud_defs.specs.Formats.Image.{Image}
+use Rattle.pud_defs.specs.Logging.Entries.{Entry, Log, log_of, words_from}
+use Rattle.pud_defs.specs.Logging.Replay.{device_word, is_in_range, value_in, given_by, undo_value, redo_value, is_in_log, settled_by}
+use Rattle.pud_defs.proofs.Logging.Entries.{words_from-length}
+use Rattle.pud_defs.proofs.Logging.Replay.{or_none, or_assoc, given_by-out, undo_value-first, undo_value-none, redo_value-first, redo_value-none, new_value-of, replayed-none, settled_by-outside}
 use Rattle.log_entry.specs.declared.Entry.{Entry as Found}
 use Rattle.log_entry.specs.declared.LogRange.{LogRange}
 use Rattle.log_entry.specs.Ranges.{HasRange}

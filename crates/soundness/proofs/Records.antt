@@ -6,16 +6,16 @@ use Rattle.std.proofs.lemmas.Bool.{cases_eq, eq-eqb, ne_eqb}
 use Rattle.std.proofs.lemmas.List.{take_more}
 use Rattle.std.proofs.lemmas.List.Folds.{list_any-append}
 use Rattle.pud_defs.specs.declared.layout.TheConstants.{TYPE_RECORDS}
-use Rattle.pud_defs.specs.Image.{Image}
-use Rattle.pud_defs.specs.Spaces.{all_below}
-use Rattle.pud_defs.specs.TypeMap.{is_legal_map, is_legal_type_id}
-use Rattle.pud_defs.specs.Keyed.{first_from, is_apart, are_distinct}
-use Rattle.pud_defs.specs.Types.{type_record_at, type_by, type_at, is_sound_type}
-use Rattle.pud_defs.specs.Registry.{has_legal_types}
-use Rattle.pud_defs.proofs.Spaces.{all_below-from, all_below-each}
-use Rattle.pud_defs.proofs.Keyed.{first_from_here, first_from_other, first_from_end}
-use Rattle.pud_defs.proofs.DistinctKeys.{same_tests}
-use Rattle.pud_defs.proofs.TypeTable.{type_here, type_other}
+use Rattle.pud_defs.specs.Formats.Image.{Image}
+use Rattle.pud_defs.specs.RegistryTables.Spaces.{all_below}
+use Rattle.pud_defs.specs.Formats.TypeMap.{is_legal_map, is_legal_type_id}
+use Rattle.pud_defs.specs.RegistryTables.Keyed.{first_from, is_apart, are_distinct}
+use Rattle.pud_defs.specs.RegistryTables.Types.{type_record_at, type_by, type_at, is_sound_type}
+use Rattle.pud_defs.specs.RegistryTables.Registry.{has_legal_types}
+use Rattle.pud_defs.proofs.RegistryTables.Spaces.{all_below-from, all_below-each}
+use Rattle.pud_defs.proofs.KeyedTables.Keyed.{first_from_here, first_from_other, first_from_end}
+use Rattle.pud_defs.proofs.KeyedTables.DistinctKeys.{same_tests}
+use Rattle.pud_defs.proofs.RegistryTables.TypeTable.{type_here, type_other}
 use Rattle.soundness.specs.Judging.{are_legal_last, with_one_more}
 
 -- what holds of the last n records, at one record more

@@ -3,13 +3,13 @@ use Rattle.std.proofs.Common.{◌≡◌, ℕ, ◌-◌, ◌<◌, ◌≤◌, Bool,
 use Rattle.std.proofs.lemmas.Bool.{cond-true, eq-eqb, ne_eqb, lt-ltb}
 use Rattle.pud_defs.specs.declared.records.TheConstants.{POOL_RECORDS, MAX_PUDDLES}
 use Rattle.pud_defs.specs.declared.records.PoolRecord.{PoolRecord}
-use Rattle.pud_defs.specs.Image.{Image}
-use Rattle.pud_defs.specs.Pools.{pool_at, pool_by, pool_record_at}
-use Rattle.pud_defs.specs.Puddles.{puddle_at, puddle_by, puddle_record_at, member_pool, is_legal_puddle}
-use Rattle.pud_defs.specs.Tables.{Tables, tables_of}
-use Rattle.pud_defs.specs.SoundTables.{is_pool, is_sound_puddle}
+use Rattle.pud_defs.specs.Formats.Image.{Image}
+use Rattle.pud_defs.specs.RegistryTables.Pools.{pool_at, pool_by, pool_record_at}
+use Rattle.pud_defs.specs.RegistryTables.Puddles.{puddle_at, puddle_by, puddle_record_at, member_pool, is_legal_puddle}
+use Rattle.pud_defs.specs.RegistryTables.Tables.{Tables, tables_of}
+use Rattle.pud_defs.specs.RegistryTables.SoundTables.{is_pool, is_sound_puddle}
 use Rattle.soundness.specs.Tables.{record_words, pool_by_words, puddle_by_words, member_of_words, is_legal_but_pool}
-use Rattle.pud_defs.proofs.TablesOf.{pools_beyond}
+use Rattle.pud_defs.proofs.RegistryTables.TablesOf.{pools_beyond}
 
 -- ---- which record a place of a table has
 

@@ -1,11 +1,11 @@
 -- What tells the puddles of a device apart: numbers of used records, and where a pool's ordinals are marked.
 use Rattle.std.specs.Prelude.{◌≡◌, ℕ, ◌+◌, ◌*◌, ◌%◌, ◌<◌, Bool, true, false, not, ◌&&◌, ◌||◌, List, ◌∷◌, Option, Some, None, option_map, is_some, is_none, slice_index_or, slice_set}
 use Rattle.std.specs.Ordering.{nat_cmp}
-use Rattle.pud_defs.specs.Keyed.{first_from, are_distinct}
-use Rattle.pud_defs.specs.Puddles.{Member}
-use Rattle.pud_defs.specs.Spaces.{all_below}
-use Rattle.pud_defs.specs.Tables.{Tables}
-use Rattle.pud_defs.specs.SoundTables.{has_distinct_bases, has_distinct_old_bases, has_distinct_ordinals, has_counted_puddles}
+use Rattle.pud_defs.specs.RegistryTables.Keyed.{first_from, are_distinct}
+use Rattle.pud_defs.specs.RegistryTables.Puddles.{Member}
+use Rattle.pud_defs.specs.RegistryTables.Spaces.{all_below}
+use Rattle.pud_defs.specs.RegistryTables.Tables.{Tables}
+use Rattle.pud_defs.specs.RegistryTables.SoundTables.{has_distinct_bases, has_distinct_old_bases, has_distinct_ordinals, has_counted_puddles}
 use Rattle.soundness.specs.declared.distinct.Key.{Key}
 use Rattle.soundness.specs.declared.distinct.Key.TheVariants.{Base, OldBase}
 use Rattle.soundness.specs.declared.distinct.TheConstants.{POOL_NUMBERS, OLD_BASES, PLACES}

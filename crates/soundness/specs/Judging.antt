@@ -2,15 +2,15 @@
 use Rattle.std.specs.Prelude.{ℕ, ◌-◌, ◌≤◌, ◌==◌, nat_le, Bool, not, ◌&&◌, cond, Option, Some, None}
 use Rattle.std.specs.Ordering.{nat_cmp}
 use Rattle.pud_defs.specs.declared.layout.TheConstants.{DEVICE_MAGIC, VERSION, MAGIC_WORD, VERSION_WORD, FRAMES_WORD, MIN_FRAMES, MAX_FRAMES, NEXT_NUMBER_WORD, TYPE_RECORDS}
-use Rattle.pud_defs.specs.Image.{Image}
-use Rattle.pud_defs.specs.TypeMap.{is_legal_map, is_legal_type_id}
-use Rattle.pud_defs.specs.Keyed.{are_distinct}
-use Rattle.pud_defs.specs.Types.{type_at, is_sound_type}
-use Rattle.pud_defs.specs.Layout.{device_words, is_legal_frame_count}
-use Rattle.pud_defs.specs.Spaces.{all_below}
-use Rattle.pud_defs.specs.Tables.{tables_of}
-use Rattle.pud_defs.specs.SoundTables.{are_sound_tables}
-use Rattle.pud_defs.specs.Registry.{has_legal_number, has_legal_types}
+use Rattle.pud_defs.specs.Formats.Image.{Image}
+use Rattle.pud_defs.specs.Formats.TypeMap.{is_legal_map, is_legal_type_id}
+use Rattle.pud_defs.specs.RegistryTables.Keyed.{are_distinct}
+use Rattle.pud_defs.specs.RegistryTables.Types.{type_at, is_sound_type}
+use Rattle.pud_defs.specs.Formats.Layout.{device_words, is_legal_frame_count}
+use Rattle.pud_defs.specs.RegistryTables.Spaces.{all_below}
+use Rattle.pud_defs.specs.RegistryTables.Tables.{tables_of}
+use Rattle.pud_defs.specs.RegistryTables.SoundTables.{are_sound_tables}
+use Rattle.pud_defs.specs.RegistryTables.Registry.{has_legal_number, has_legal_types}
 
 -- the number of frames, by the size of the device and the words 0, 1 and 3, where these are sound
 abbrev pub frames_by : (size magic version frames : ℕ) → Option ℕ

@@ -2,9 +2,9 @@
 use Rattle.std.specs.Prelude.{ℕ, ◌+◌, Bool, ◌&&◌, nat_lt, List, [], ◌∷◌, slice_index, Option}
 use Rattle.pud_defs.specs.declared.records.TheConstants.{MAX_PUDDLES, POOL_OWNER_WORD, POOL_MODE_WORD, POOL_NUMBER_WORD, PUDDLE_NUMBER_WORD, PUDDLE_BASE_WORD, PUDDLE_OLD_BASE_WORD, PUDDLE_FRONTIER_WORD}
 use Rattle.pud_defs.specs.declared.records.PoolRecord.{PoolRecord}
-use Rattle.pud_defs.specs.Image.{Image}
-use Rattle.pud_defs.specs.Pools.{pool_by}
-use Rattle.pud_defs.specs.Puddles.{Member, member_pool, member_ordinal, puddle_by, is_legal_puddle}
+use Rattle.pud_defs.specs.Formats.Image.{Image}
+use Rattle.pud_defs.specs.RegistryTables.Pools.{pool_by}
+use Rattle.pud_defs.specs.RegistryTables.Puddles.{Member, member_pool, member_ordinal, puddle_by, is_legal_puddle}
 
 -- the words of a record that are read, from a word on
 abbrev pub record_words : Image → ℕ → List ℕ

@@ -5,12 +5,12 @@ ghost use Rattle.std.specs.List.{IsDistinct};
 ghost use Rattle.pm_model.specs.Words.{reads};
 ghost use Rattle.pm_model.specs.Counts.{fault_of};
 ghost use Rattle.pm_model.specs.Reads.{OnlyReads};
-ghost use Rattle.pud_defs.specs.Image.{Image};
-ghost use Rattle.pud_defs.specs.Layout.{device_words};
-ghost use Rattle.pud_defs.specs.Replay.{settled_by};
-ghost use Rattle.pud_defs.specs.Spaces.{all_below};
-ghost use Rattle.pud_defs.specs.Tables.{tables_of};
-ghost use Rattle.pud_defs.specs.SoundTables.{has_legal_puddles};
+ghost use Rattle.pud_defs.specs.Formats.Image.{Image};
+ghost use Rattle.pud_defs.specs.Formats.Layout.{device_words};
+ghost use Rattle.pud_defs.specs.Logging.Replay.{settled_by};
+ghost use Rattle.pud_defs.specs.RegistryTables.Spaces.{all_below};
+ghost use Rattle.pud_defs.specs.RegistryTables.Tables.{tables_of};
+ghost use Rattle.pud_defs.specs.RegistryTables.SoundTables.{has_legal_puddles};
 ghost use Rattle.soundness.specs.Overlaying.{IsOverlay};
 ghost use Rattle.soundness.specs.Distinct.{joined_key, key_word, key_by, key_of, mark_index, with_number, has_distinct_numbers, MarksMore, AreMarked, counts_up, is_marked_at, is_counted_by, has_counted_ordinals, are_distinct_puddles};
 

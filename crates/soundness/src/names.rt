@@ -5,10 +5,10 @@ ghost use Rattle.pm_model.specs.Words.{reads};
 ghost use Rattle.pm_model.specs.Counts.{fault_of};
 ghost use Rattle.pm_model.specs.Reads.{OnlyReads};
 ghost use Rattle.pud_defs.specs.declared.layout.TheConstants.{DAEMON_LOG, SPACE_TABLE};
-ghost use Rattle.pud_defs.specs.Image.{Image};
-ghost use Rattle.pud_defs.specs.Replay.{settled_by};
-ghost use Rattle.pud_defs.specs.Tables.{tables_of};
-ghost use Rattle.pud_defs.specs.SoundTables.{has_distinct_names};
+ghost use Rattle.pud_defs.specs.Formats.Image.{Image};
+ghost use Rattle.pud_defs.specs.Logging.Replay.{settled_by};
+ghost use Rattle.pud_defs.specs.RegistryTables.Tables.{tables_of};
+ghost use Rattle.pud_defs.specs.RegistryTables.SoundTables.{has_distinct_names};
 ghost use Rattle.soundness.specs.Overlaying.{IsOverlay};
 ghost use Rattle.soundness.specs.Named.{is_same_name, are_apart, HoldsNames};
 

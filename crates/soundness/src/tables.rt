@@ -6,13 +6,13 @@ ghost use Rattle.pm_model.specs.Counts.{fault_of};
 ghost use Rattle.pm_model.specs.Reads.{OnlyReads};
 ghost use Rattle.pud_defs.specs.declared.layout.TheConstants.{DAEMON_LOG, TYPE_TABLE, SPACE_TABLE, MAX_FRAMES};
 ghost use Rattle.pud_defs.specs.declared.records.TheConstants.{POOL_RECORDS, RECORD_WORDS_READ};
-ghost use Rattle.pud_defs.specs.Image.{Image};
-ghost use Rattle.pud_defs.specs.Layout.{device_words};
-ghost use Rattle.pud_defs.specs.Replay.{settled_by};
-ghost use Rattle.pud_defs.specs.Names.{is_filled, is_legal_name};
-ghost use Rattle.pud_defs.specs.Pools.{is_given};
-ghost use Rattle.pud_defs.specs.Tables.{tables_of};
-ghost use Rattle.pud_defs.specs.SoundTables.{is_sound_pool, has_legal_pools, is_pool, is_sound_puddle, has_legal_puddles};
+ghost use Rattle.pud_defs.specs.Formats.Image.{Image};
+ghost use Rattle.pud_defs.specs.Formats.Layout.{device_words};
+ghost use Rattle.pud_defs.specs.Logging.Replay.{settled_by};
+ghost use Rattle.pud_defs.specs.Formats.Names.{is_filled, is_legal_name};
+ghost use Rattle.pud_defs.specs.RegistryTables.Pools.{is_given};
+ghost use Rattle.pud_defs.specs.RegistryTables.Tables.{tables_of};
+ghost use Rattle.pud_defs.specs.RegistryTables.SoundTables.{is_sound_pool, has_legal_pools, is_pool, is_sound_puddle, has_legal_puddles};
 ghost use Rattle.soundness.specs.Overlaying.{IsOverlay};
 ghost use Rattle.soundness.specs.Tables.{record_words, pool_by_words, puddle_by_words, member_of_words, is_legal_but_pool};
 
@@ -35,7 +35,7 @@ fn are_zero(bytes: &[u8]) -> bool
 }
 
 /// Whether bytes of a name come first, and zeros alone behind them.
-#[tactic(auto, unfolding(pud_defs::specs::Names::is_filled))]
+#[tactic(auto, unfolding(pud_defs::specs::Formats::Names::is_filled))]
 fn is_filled(bytes: &[u8]) -> bool
     ensures { result ≡ is_filled bytes.now }
 {
@@ -49,7 +49,7 @@ fn is_filled(bytes: &[u8]) -> bool
 }
 
 /// Whether at least one byte of a name comes first, and zeros alone behind the last one.
-#[tactic(auto, unfolding(pud_defs::specs::Names::is_legal_name))]
+#[tactic(auto, unfolding(pud_defs::specs::Formats::Names::is_legal_name))]
 fn is_legal_name(bytes: &[u8]) -> bool
     ensures { result ≡ is_legal_name bytes.now }
 {
@@ -88,7 +88,7 @@ fn read_record<H: Host>(h: &mut H, overlay: &Overlay, at: u32) -> Result<RecordW
 }
 
 /// Whether a pool record of these words is free, or legal where this UUID number is the next.
-#[tactic(auto, unfolding(pud_defs::specs::Pools::pool_by))]
+#[tactic(auto, unfolding(pud_defs::specs::RegistryTables::Pools::pool_by))]
 fn is_sound_pool(next: u64, words: &RecordWords) -> bool
     ensures { result ≡ is_sound_pool next (pool_by_words words.now) }
 {

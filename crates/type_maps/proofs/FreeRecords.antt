@@ -3,8 +3,8 @@ use Rattle.std.proofs.Common.{◌≡◌, inl, inr, ℕ, zero, suc, ◌+◌, ◌-
 use Rattle.std.proofs.lemmas.Bool.{cases_lt, cond-true, cond-false}
 use Rattle.std.proofs.lemmas.List.{take-append-le, take_all, length-take-le}
 use Rattle.pud_defs.specs.declared.layout.TheConstants.{TYPE_RECORDS}
-use Rattle.pud_defs.specs.Keyed.{count_used}
-use Rattle.pud_defs.proofs.Keyed.{first_free_here, first_free_used}
+use Rattle.pud_defs.specs.RegistryTables.Keyed.{count_used}
+use Rattle.pud_defs.proofs.KeyedTables.Keyed.{first_free_here, first_free_used}
 use Rattle.type_maps.specs.FreeRecords.{free_places, AreFreeRecords}
 
 module _ {A : Type 0} where

@@ -3,14 +3,14 @@ use Rattle.std.proofs.Common.{◌≡◌, ℕ, ◌+◌, ◌-◌, ◌<◌, ◌≤�
 use Rattle.std.proofs.lemmas.Bool.{eq-eqb, le-leb, lt-leb}
 use Rattle.std.proofs.lemmas.Cmp.{nat_cmp_total}
 use Rattle.pud_defs.specs.declared.machine.Refusal.TheVariants as refusals
-use Rattle.pud_defs.specs.Step.{is_other}
+use Rattle.pud_defs.specs.StateMachine.Step.{is_other}
 use Rattle.std.specs.Option.{option_or}
 use Rattle.pud_defs.specs.declared.layout.TheConstants.{TYPE_RECORDS}
-use Rattle.pud_defs.specs.Image.{Image}
-use Rattle.pud_defs.specs.Keyed.{first_free, first_from, under}
-use Rattle.pud_defs.specs.Types.{type_record_at, type_at, types_of, free_type, used_types, map_of}
-use Rattle.pud_defs.proofs.Keyed.{find-keyed, first_from_here, first_from_other, first_from_end, first_free_here, first_free_used, first_free_end, first_free_some, count_used_full, count_used_room, option_or-none}
-use Rattle.pud_defs.proofs.TypeTable.{type_at-free, type_at-used, type_here, type_other}
+use Rattle.pud_defs.specs.Formats.Image.{Image}
+use Rattle.pud_defs.specs.RegistryTables.Keyed.{first_free, first_from, under}
+use Rattle.pud_defs.specs.RegistryTables.Types.{type_record_at, type_at, types_of, free_type, used_types, map_of}
+use Rattle.pud_defs.proofs.KeyedTables.Keyed.{find-keyed, first_from_here, first_from_other, first_from_end, first_free_here, first_free_used, first_free_end, first_free_some, count_used_full, count_used_room, option_or-none}
+use Rattle.pud_defs.proofs.RegistryTables.TypeTable.{type_at-free, type_at-used, type_here, type_other}
 use Rattle.type_maps.specs.declared.Lookup.{Lookup}
 use Rattle.type_maps.specs.declared.Lookup.TheVariants as places
 use Rattle.type_maps.specs.Define.{lookup_by, lookup_of, table_refusal}

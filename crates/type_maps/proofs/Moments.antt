@@ -10,8 +10,8 @@ use Rattle.pm_model.specs.Words.{HasOnly}
 use Rattle.pm_model.proofs.Words.{only_at}
 use Rattle.pm_model.proofs.Changes.{Changes-still, Changes-wider, Changes-then, Changes-said, HasOnly-kept, Persists-failed}
 use Rattle.pm_model.proofs.Leaves.{Leaves-changes, Leaves-still, Leaves-then}
-use Rattle.pud_defs.specs.Image.{Image, image_with}
-use Rattle.pud_defs.specs.Types.{type_record_at}
+use Rattle.pud_defs.specs.Formats.Image.{Image, image_with}
+use Rattle.pud_defs.specs.RegistryTables.Types.{type_record_at}
 use Rattle.type_maps.specs.Define.{record_write, IsDefining, Defines}
 use Rattle.type_maps.proofs.OneWord.{image_of_one, image_after_one}
 

@@ -4,8 +4,8 @@ use Rattle.pm_model.specs.Words.{Words, Picks}
 use Rattle.pm_model.specs.Moments.{State}
 use Rattle.pm_model.specs.Changes.{only, IsFrom, Persists, written as may_be_written}
 use Rattle.pm_model.proofs.OneWord.{one_word, one_word_after}
-use Rattle.pud_defs.specs.Image.{Image, image_with}
-use Rattle.pud_defs.proofs.Images.{written_is}
+use Rattle.pud_defs.specs.Formats.Image.{Image, image_with}
+use Rattle.pud_defs.proofs.Formats.Images.{written_is}
 
 pub image_of_one : (w v : ℕ) (before image : Image) → IsFrom (may_be_written (only w v)) before image → (image ≡ before) ⊎ (image ≡ image_with w v before)
 image_of_one w v before image from = elim (one_word w v before image from) [

@@ -7,9 +7,9 @@ use Rattle.pm_model.specs.Changes.{Leaves, Silently, Write, Persists}
 use Rattle.pud_defs.specs.declared.layout.TheConstants.{TYPE_RECORDS}
 use Rattle.pud_defs.specs.declared.machine.Refusal.{Refusal}
 use Rattle.pud_defs.specs.declared.machine.Refusal.TheVariants as refusals
-use Rattle.pud_defs.specs.Image.{Image, image_with}
-use Rattle.pud_defs.specs.Types.{type_record_at, types_of, free_type, used_types, map_of}
-use Rattle.pud_defs.specs.Step.{is_clash}
+use Rattle.pud_defs.specs.Formats.Image.{Image, image_with}
+use Rattle.pud_defs.specs.RegistryTables.Types.{type_record_at, types_of, free_type, used_types, map_of}
+use Rattle.pud_defs.specs.StateMachine.Step.{is_clash}
 use Rattle.type_maps.specs.declared.TypeFault.{TypeFault}
 use Rattle.type_maps.specs.declared.TypeFault.TheVariants as faults
 use Rattle.type_maps.specs.declared.Lookup.{Lookup}

@@ -5,7 +5,7 @@ use Rattle.std.proofs.lemmas.Bool.Decides.{nat_tests}
 use Rattle.std.specs.Int.{w128, to_be_bytes}
 use Rattle.uuid.specs.Text.{by_index, lower, hyphenated_text}
 use Rattle.uuid.specs.Text as theirs
-use Rattle.pud_defs.specs.Identifiers.{hex_digit, hex_digits, uuid_text}
+use Rattle.pud_defs.specs.Formats.Identifiers.{hex_digit, hex_digits, uuid_text}
 
 digit_same : (d : ℕ) → theirs.hex_digit lower d ≡ hex_digit d
 digit_same d = grind (arith, nat_tests)

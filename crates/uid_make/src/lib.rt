@@ -2,7 +2,7 @@
 #![tactic(auto)]
 
 ghost use Rattle.std.specs.Prelude.{◌≡◌};
-ghost use Rattle.pud_defs.specs.Identifiers.{puddle_uuid, uuid_text};
+ghost use Rattle.pud_defs.specs.Formats.Identifiers.{puddle_uuid, uuid_text};
 
 use uuid::Uuid;
 

@@ -11,12 +11,12 @@ use Rattle.pm_model.proofs.Changes.{Changes-wider, HasOnly-kept}
 use Rattle.pm_model.proofs.Leaves.{Leaves-changes}
 use Rattle.pud_defs.specs.declared.layout.TheConstants.{LOG_HEADER_WORDS}
 use Rattle.pud_defs.specs.declared.log_words.TheConstants.{RUNNING_GATE}
-use Rattle.pud_defs.specs.Image.{Image}
-use Rattle.pud_defs.specs.Entries.{log_of}
-use Rattle.pud_defs.specs.Replay.{IsInLog, is_in_log}
-use Rattle.pud_defs.specs.Spaces.{is_closed_log}
-use Rattle.pud_defs.proofs.Entries.{words_from-none, entries_in-nothing}
-use Rattle.pud_defs.proofs.Replay.{undo_value-none, not_inside}
+use Rattle.pud_defs.specs.Formats.Image.{Image}
+use Rattle.pud_defs.specs.Logging.Entries.{log_of}
+use Rattle.pud_defs.specs.Logging.Replay.{IsInLog, is_in_log}
+use Rattle.pud_defs.specs.RegistryTables.Spaces.{is_closed_log}
+use Rattle.pud_defs.proofs.Logging.Entries.{words_from-none, entries_in-nothing}
+use Rattle.pud_defs.proofs.Logging.Replay.{undo_value-none, not_inside}
 use Rattle.log_store.specs.Store.{saying}
 use Rattle.log_store.proofs.Open.{log_of-is, IsOpen-running}
 use Rattle.word_transaction.specs.Scope.{Scope, IsScope, IsInScope, running_range, saved}

@@ -10,10 +10,10 @@ use Rattle.pm_model.specs.Changes.{Footprint, Write, Changes, Leaves, Silently}
 use Rattle.pm_model.proofs.Words.{HasOnly-own}
 use Rattle.pm_model.proofs.Changes.{Changes-still, Changes-then, Changes-said, HasOnly-kept}
 use Rattle.pm_model.proofs.Leaves.{Leaves-still, Leaves-then}
-use Rattle.pud_defs.specs.Image.{Image}
-use Rattle.pud_defs.specs.Entries.{Entry}
-use Rattle.pud_defs.specs.Replay.{over, is_in_log}
-use Rattle.pud_defs.proofs.Replay.{overwritten-then, or_none}
+use Rattle.pud_defs.specs.Formats.Image.{Image}
+use Rattle.pud_defs.specs.Logging.Entries.{Entry}
+use Rattle.pud_defs.specs.Logging.Replay.{over, is_in_log}
+use Rattle.pud_defs.proofs.Logging.Replay.{overwritten-then, or_none}
 use Rattle.log_store.specs.Store.{OpenLog, InLog}
 use Rattle.log_store.proofs.Open.{IsOpen-kept}
 use Rattle.word_transaction.specs.Scope.{Scope}

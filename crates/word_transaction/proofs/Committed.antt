@@ -12,11 +12,11 @@ use Rattle.pm_model.proofs.Changes.{now_among, Changes-fence, Changes-then, Chan
 use Rattle.pm_model.proofs.Leaves.{Leaves-changes, Leaves-then}
 use Rattle.pm_model.proofs.OneWord.{one_word, value_of_only}
 use Rattle.pud_defs.specs.declared.log_words.TheConstants.{COMMITTING_LO, COMMITTING_HI, CLOSED_GATE}
-use Rattle.pud_defs.specs.Image.{Image}
-use Rattle.pud_defs.specs.Entries.{Entry, Log, log_of, gate_lo, gate_hi, gate_word, is_idle_gate}
-use Rattle.pud_defs.specs.Replay.{overwritten}
-use Rattle.pud_defs.proofs.Entries.{gate_lo-of, gate_hi-of}
-use Rattle.pud_defs.proofs.Replay.{not_inside, overwritten-stays}
+use Rattle.pud_defs.specs.Formats.Image.{Image}
+use Rattle.pud_defs.specs.Logging.Entries.{Entry, Log, log_of, gate_lo, gate_hi, gate_word, is_idle_gate}
+use Rattle.pud_defs.specs.Logging.Replay.{overwritten}
+use Rattle.pud_defs.proofs.Logging.Entries.{gate_lo-of, gate_hi-of}
+use Rattle.pud_defs.proofs.Logging.Replay.{not_inside, overwritten-stays}
 use Rattle.log_store.specs.Store.{OpenLog, IsOpen, defers, saying, committing}
 use Rattle.log_store.proofs.Open.{IsOpen-fits, IsOpen-log, IsOpen-kept, IsOpen-moved, log_of-moving, only_here}
 use Rattle.word_transaction.specs.Scope.{Scope, IsScope, pending}

@@ -6,10 +6,10 @@ use Rattle.std.proofs.lemmas.List.Elements.{All-head, All-tail}
 use Rattle.pm_persist.proofs.Ranges.{placed_at}
 use Rattle.pud_defs.specs.declared.log_words.TheConstants.{UNDO_ORDER, RUNNING_LO, RUNNING_HI}
 use Rattle.pud_defs.specs.declared.space.TheConstants.{WORD_BYTES}
-use Rattle.pud_defs.specs.Entries.{Entry}
-use Rattle.pud_defs.specs.Replay.{is_in_range, value_from, value_in, given_by}
-use Rattle.pud_defs.proofs.Spaces.{all_below-each}
-use Rattle.pud_defs.proofs.Replay.{undo_value-first}
+use Rattle.pud_defs.specs.Logging.Entries.{Entry}
+use Rattle.pud_defs.specs.Logging.Replay.{is_in_range, value_from, value_in, given_by}
+use Rattle.pud_defs.proofs.RegistryTables.Spaces.{all_below-each}
+use Rattle.pud_defs.proofs.Logging.Replay.{undo_value-first}
 use Rattle.word_transaction.specs.Scope.{Scope, IsScope, IsInScope, running_range, saved}
 use Rattle.word_transaction.specs.Coverage.{covers, is_covered, are_covered}
 use Rattle.word_transaction.specs.Running.{IsOneOf}

@@ -7,9 +7,9 @@ use Rattle.pm_model.specs.Moments.{State}
 use Rattle.pm_model.specs.Changes.{Changes, Leaves, Silently}
 use Rattle.pm_model.proofs.Words.{HasOnly-newest}
 use Rattle.pm_model.proofs.Leaves.{Leaves-weaker}
-use Rattle.pud_defs.specs.Image.{Image}
-use Rattle.pud_defs.specs.Replay.{is_in_log}
-use Rattle.pud_defs.proofs.Replay.{not_inside}
+use Rattle.pud_defs.specs.Formats.Image.{Image}
+use Rattle.pud_defs.specs.Logging.Replay.{is_in_log}
+use Rattle.pud_defs.proofs.Logging.Replay.{not_inside}
 use Rattle.word_transaction.specs.Scope.{Scope}
 use Rattle.word_transaction.specs.Running.{ByTransaction, IsIdle, RecoversTo, RecoversByRange, AbortsTransaction, CommitsTransaction}
 use Rattle.word_transaction.proofs.Images.{RecoversTo-closed, closed_by_gate}

@@ -11,10 +11,10 @@ use Rattle.pm_model.specs.Changes.{Footprint, Write, Changes, Leaves, Silently}
 use Rattle.pm_model.proofs.Words.{HasOnly-own}
 use Rattle.pm_model.proofs.Leaves.{Leaves-changes}
 use Rattle.pud_defs.specs.declared.log_words.TheConstants.{UNDO_ORDER, REDO_ORDER}
-use Rattle.pud_defs.specs.Image.{Image}
-use Rattle.pud_defs.specs.Entries.{Entry, Log}
-use Rattle.pud_defs.specs.Replay.{AddressMap, is_in_range, value_from, undo_value, redo_value}
-use Rattle.pud_defs.proofs.Replay.{undo_value-first, undo_value-none, redo_value-first, redo_value-none}
+use Rattle.pud_defs.specs.Formats.Image.{Image}
+use Rattle.pud_defs.specs.Logging.Entries.{Entry, Log}
+use Rattle.pud_defs.specs.Logging.Replay.{AddressMap, is_in_range, value_from, undo_value, redo_value}
+use Rattle.pud_defs.proofs.Logging.Replay.{undo_value-first, undo_value-none, redo_value-first, redo_value-none}
 use Rattle.log_store.specs.Store.{OpenLog, InLog}
 use Rattle.word_transaction.specs.Scope.{Scope, IsScope, IsInScope, running_range, committing_range, saved, pending}
 use Rattle.word_transaction.specs.Running.{IsRunning, IsCovered, RecoversTo}

@@ -5,19 +5,19 @@ use Rattle.std.proofs.lemmas.Bool.{and_parts}
 use Rattle.std.proofs.lemmas.List.Elements.{All-nil}
 use Rattle.pm_model.specs.Words.{Words, Picks}
 use Rattle.pud_defs.specs.declared.log_words.TheConstants.{RUNNING_LO, RUNNING_HI, CLOSED_GATE}
-use Rattle.pud_defs.specs.Image.{Image}
-use Rattle.pud_defs.specs.Entries.{Entry, Log, log_of, gate_lo, gate_hi, entries_of, is_idle_gate}
-use Rattle.pud_defs.specs.Replay.{is_in_range, new_value, IsInLog}
-use Rattle.pud_defs.specs.Spaces.{is_closed_range, is_closed_log}
-use Rattle.pud_defs.proofs.Entries.{log_of-same, used_within}
-use Rattle.pud_defs.proofs.Replay.{closed_range, replayed-none, empty_range_of, entries_of-idle}
+use Rattle.pud_defs.specs.Formats.Image.{Image}
+use Rattle.pud_defs.specs.Logging.Entries.{Entry, Log, log_of, gate_lo, gate_hi, entries_of, is_idle_gate}
+use Rattle.pud_defs.specs.Logging.Replay.{is_in_range, new_value, IsInLog}
+use Rattle.pud_defs.specs.RegistryTables.Spaces.{is_closed_range, is_closed_log}
+use Rattle.pud_defs.proofs.Logging.Entries.{log_of-same, used_within}
+use Rattle.pud_defs.proofs.Logging.Replay.{closed_range, replayed-none, empty_range_of, entries_of-idle}
 use Rattle.log_store.specs.Store.{OpenLog, saying}
 use Rattle.log_store.proofs.Open.{IsOpen-log, log_of-closed}
 use Rattle.word_transaction.specs.Scope.{Scope, IsInScope, saved}
 use Rattle.word_transaction.specs.Running.{IsRunning, RecoversTo}
 use Rattle.word_transaction.proofs.Saved.{new_value-running}
-use Rattle.pud_defs.proofs.Keyed.{some_there}
-use Rattle.pud_defs.proofs.Idle.{closed_gate}
+use Rattle.pud_defs.proofs.KeyedTables.Keyed.{some_there}
+use Rattle.pud_defs.proofs.Logging.Idle.{closed_gate}
 
 -- it has to do with those words alone
 pub RecoversTo-local : (g : Scope) (at : ℕ) (values i j : Image) → ((k : ℕ) → IsInLog at k → j k ≡ i k) → ((k : ℕ) → g.has_word k ≡ true → j k ≡ i k) → RecoversTo g at values i → RecoversTo g at values j

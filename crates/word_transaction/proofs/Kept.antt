@@ -8,9 +8,9 @@ use Rattle.pm_model.specs.Moments.{State}
 use Rattle.pm_model.specs.Counts.{fault_of}
 use Rattle.pm_model.specs.Changes.{Write, placed}
 use Rattle.pm_persist.proofs.Ranges.{placed_within}
-use Rattle.pud_defs.specs.Image.{Image}
-use Rattle.pud_defs.specs.Entries.{Entry}
-use Rattle.pud_defs.specs.Replay.{AddressMap, over}
+use Rattle.pud_defs.specs.Formats.Image.{Image}
+use Rattle.pud_defs.specs.Logging.Entries.{Entry}
+use Rattle.pud_defs.specs.Logging.Replay.{AddressMap, over}
 use Rattle.log_store.specs.Store.{OpenLog, undo_entry, with_entries}
 use Rattle.word_transaction.specs.Scope.{Scope, IsScope, saved, deferred_entries}
 use Rattle.word_transaction.specs.Running.{IsRunning, IsCovered, IsOneOf, MayAppend, no_write, KeepsRunning, SavesWords, SavesAndWrites}

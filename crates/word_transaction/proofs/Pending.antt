@@ -6,10 +6,10 @@ use Rattle.std.proofs.lemmas.Bool.{cases_Bool, cond-true, cond-false, or_parts}
 use Rattle.std.proofs.lemmas.List.{append-nil}
 use Rattle.std.proofs.lemmas.List.Elements.{All-head, All-tail, filter-append}
 use Rattle.pud_defs.specs.declared.log_words.TheConstants.{UNDO_ORDER, REDO_ORDER, COMMITTING_LO, COMMITTING_HI}
-use Rattle.pud_defs.specs.Image.{Image}
-use Rattle.pud_defs.specs.Entries.{Entry, Log, log_of}
-use Rattle.pud_defs.specs.Replay.{AddressMap, is_in_range, value_in, given_by, undo_value, redo_value, new_value, over, overwritten, replayed}
-use Rattle.pud_defs.proofs.Replay.{undo_value-first, redo_value-first, undo_value-none, redo_value-none, given_by-out, given_by-other, or_none, new_value-of, overwritten-nothing, overwritten-then}
+use Rattle.pud_defs.specs.Formats.Image.{Image}
+use Rattle.pud_defs.specs.Logging.Entries.{Entry, Log, log_of}
+use Rattle.pud_defs.specs.Logging.Replay.{AddressMap, is_in_range, value_in, given_by, undo_value, redo_value, new_value, over, overwritten, replayed}
+use Rattle.pud_defs.proofs.Logging.Replay.{undo_value-first, redo_value-first, undo_value-none, redo_value-none, given_by-out, given_by-other, or_none, new_value-of, overwritten-nothing, overwritten-then}
 use Rattle.log_store.specs.Store.{OpenLog, is_redo, defers, saying, committing}
 use Rattle.word_transaction.specs.Scope.{Scope, redo_entry, IsUndo, IsRedo, IsInScope, deferred_entries, written_in_turn, committing_range, pending}
 use Rattle.word_transaction.specs.Running.{RecoversTo}

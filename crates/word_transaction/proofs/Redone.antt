@@ -7,11 +7,11 @@ use Rattle.pm_model.specs.Changes.{Changes, Leaves, Silently}
 use Rattle.pm_model.proofs.Words.{HasOnly-newest, HasOnly-own}
 use Rattle.pm_model.proofs.Changes.{HasOnly-kept}
 use Rattle.pud_defs.specs.declared.layout.TheConstants.{PUDDLE_TABLE}
-use Rattle.pud_defs.specs.Image.{Image}
-use Rattle.pud_defs.specs.Layout.{tables_end, IsWithin}
-use Rattle.pud_defs.specs.Entries.{Entry}
-use Rattle.pud_defs.specs.Replay.{AddressMap, overwritten}
-use Rattle.pud_defs.proofs.Replay.{overwritten-there, overwritten-stays}
+use Rattle.pud_defs.specs.Formats.Image.{Image}
+use Rattle.pud_defs.specs.Formats.Layout.{tables_end, IsWithin}
+use Rattle.pud_defs.specs.Logging.Entries.{Entry}
+use Rattle.pud_defs.specs.Logging.Replay.{AddressMap, overwritten}
+use Rattle.pud_defs.proofs.Logging.Replay.{overwritten-there, overwritten-stays}
 use Rattle.log_store.specs.Store.{OpenLog, saying, committing}
 use Rattle.log_replay.specs.declared.Target.TheVariants.{Puddles}
 use Rattle.log_replay.specs.Replaying.{address_map_of, IsReplayable, HasDurableLog, IsSettling, SettlesLog}

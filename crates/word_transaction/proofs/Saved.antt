@@ -8,10 +8,10 @@ use Rattle.std.proofs.lemmas.List.Elements.{All-head, All-tail}
 use Rattle.pm_model.specs.Changes.{placed}
 use Rattle.pm_persist.proofs.Ranges.{placed_at, placed_within}
 use Rattle.pud_defs.specs.declared.log_words.TheConstants.{UNDO_ORDER, REDO_ORDER, RUNNING_LO, RUNNING_HI}
-use Rattle.pud_defs.specs.Image.{Image}
-use Rattle.pud_defs.specs.Entries.{Entry, Log, words_from}
-use Rattle.pud_defs.specs.Replay.{AddressMap, is_in_range, value_from, value_in, given_by, undo_value, redo_value, new_value}
-use Rattle.pud_defs.proofs.Replay.{undo_value-first, undo_value-none, undo_value-append, redo_value-first, redo_value-none, given_by-out, given_by-other, new_value-of, or_none}
+use Rattle.pud_defs.specs.Formats.Image.{Image}
+use Rattle.pud_defs.specs.Logging.Entries.{Entry, Log, words_from}
+use Rattle.pud_defs.specs.Logging.Replay.{AddressMap, is_in_range, value_from, value_in, given_by, undo_value, redo_value, new_value}
+use Rattle.pud_defs.proofs.Logging.Replay.{undo_value-first, undo_value-none, undo_value-append, redo_value-first, redo_value-none, given_by-out, given_by-other, new_value-of, or_none}
 use Rattle.log_store.specs.Store.{undo_entry}
 use Rattle.word_transaction.specs.Scope.{Scope, IsScope, IsInScope, redo_entry, running_range, committing_range, saved, pending}
 use Rattle.word_transaction.specs.Running.{IsOneOf}

@@ -10,11 +10,11 @@ use Rattle.pm_model.specs.Changes.{Changes, Leaves, Silently, placed}
 use Rattle.pm_model.proofs.Changes.{Changes-wider, HasOnly-kept}
 use Rattle.pm_model.proofs.Leaves.{Leaves-weaker}
 use Rattle.pud_defs.specs.declared.log_words.TheConstants.{UNDO_ORDER}
-use Rattle.pud_defs.specs.Image.{Image}
-use Rattle.pud_defs.specs.Entries.{Entry, log_of, words_from}
-use Rattle.pud_defs.specs.Replay.{value_from, given_by}
-use Rattle.pud_defs.proofs.Entries.{words_from-length, words_from-step, words_from-none}
-use Rattle.pud_defs.proofs.Replay.{not_inside, or_none, undo_value-first, undo_value-none}
+use Rattle.pud_defs.specs.Formats.Image.{Image}
+use Rattle.pud_defs.specs.Logging.Entries.{Entry, log_of, words_from}
+use Rattle.pud_defs.specs.Logging.Replay.{value_from, given_by}
+use Rattle.pud_defs.proofs.Logging.Entries.{words_from-length, words_from-step, words_from-none}
+use Rattle.pud_defs.proofs.Logging.Replay.{not_inside, or_none, undo_value-first, undo_value-none}
 use Rattle.log_store.specs.Store.{OpenLog, undo_entry, with_entries, saying, InLog, IsOpen, with_last, HasGrown, Appends, append_fault}
 use Rattle.log_store.specs.declared.AppendFault.{AppendFault}
 use Rattle.log_store.specs.declared.AppendFault.TheVariants.{Host, TooBig}

@@ -10,12 +10,12 @@ use Rattle.pm_model.proofs.Words.{HasOnly-newest, HasOnly-own}
 use Rattle.pm_model.proofs.Changes.{Changes-wider, HasOnly-kept}
 use Rattle.pm_model.proofs.Leaves.{Leaves-weaker}
 use Rattle.pud_defs.specs.declared.layout.TheConstants.{LOG_WORDS, LOG_HEADER_WORDS}
-use Rattle.pud_defs.specs.Image.{Image}
-use Rattle.pud_defs.specs.Entries.{Entry, Log, log_of, gate_used, gate_word, is_idle_gate}
-use Rattle.pud_defs.specs.Replay.{AddressMap, new_value, is_in_log, IsInLog}
-use Rattle.pud_defs.specs.Tables.{tables_of}
-use Rattle.pud_defs.specs.Allowed.{puddle_word}
-use Rattle.pud_defs.proofs.Replay.{not_inside}
+use Rattle.pud_defs.specs.Formats.Image.{Image}
+use Rattle.pud_defs.specs.Logging.Entries.{Entry, Log, log_of, gate_used, gate_word, is_idle_gate}
+use Rattle.pud_defs.specs.Logging.Replay.{AddressMap, new_value, is_in_log, IsInLog}
+use Rattle.pud_defs.specs.RegistryTables.Tables.{tables_of}
+use Rattle.pud_defs.specs.Logging.Allowed.{puddle_word}
+use Rattle.pud_defs.proofs.Logging.Replay.{not_inside}
 use Rattle.log_store.specs.Store.{OpenLog, IsOpen, saying}
 use Rattle.log_store.proofs.Open.{IsOpen-fits, IsOpen-log_by, used_is}
 use Rattle.log_replay.specs.declared.Target.TheVariants.{Puddles}

@@ -6,10 +6,10 @@ use Rattle.pm_model.specs.Moments.{State}
 use Rattle.pm_model.specs.Changes.{Persists, only}
 use Rattle.pud_defs.specs.declared.layout.TheConstants.{LOG_HEADER_WORDS}
 use Rattle.pud_defs.specs.declared.log_words.TheConstants.{CLOSED_GATE}
-use Rattle.pud_defs.specs.Image.{Image}
-use Rattle.pud_defs.specs.Entries.{Entry, entries_in, words_from}
-use Rattle.pud_defs.proofs.Entries.{words_from-none, entries_in-nothing}
-use Rattle.pud_defs.proofs.Replay.{undo_value-none}
+use Rattle.pud_defs.specs.Formats.Image.{Image}
+use Rattle.pud_defs.specs.Logging.Entries.{Entry, entries_in, words_from}
+use Rattle.pud_defs.proofs.Logging.Entries.{words_from-none, entries_in-nothing}
+use Rattle.pud_defs.proofs.Logging.Replay.{undo_value-none}
 use Rattle.log_store.specs.Store.{OpenLog, saying}
 use Rattle.log_store.proofs.Open.{IsOpen-words}
 use Rattle.word_transaction.specs.Scope.{Scope, IsScope, running_range, saved}

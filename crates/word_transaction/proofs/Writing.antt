@@ -6,10 +6,10 @@ use Rattle.pm_model.specs.Moments.{State}
 use Rattle.pm_model.specs.Changes.{Write, IsFrom, Writes, written}
 use Rattle.pm_model.proofs.Changes.{Changes-wider, HasOnly-kept}
 use Rattle.pm_model.proofs.Leaves.{Leaves-changes}
-use Rattle.pud_defs.specs.Image.{Image}
-use Rattle.pud_defs.specs.Entries.{Entry}
-use Rattle.pud_defs.specs.Replay.{overwritten, IsInLog}
-use Rattle.pud_defs.proofs.Replay.{overwritten-stays, overwritten-there, not_inside}
+use Rattle.pud_defs.specs.Formats.Image.{Image}
+use Rattle.pud_defs.specs.Logging.Entries.{Entry}
+use Rattle.pud_defs.specs.Logging.Replay.{overwritten, IsInLog}
+use Rattle.pud_defs.proofs.Logging.Replay.{overwritten-stays, overwritten-there, not_inside}
 use Rattle.log_store.specs.Store.{OpenLog}
 use Rattle.log_store.proofs.Open.{IsOpen-fits, IsOpen-kept, IsOpen-log_by}
 use Rattle.word_transaction.specs.Scope.{Scope, IsScope}

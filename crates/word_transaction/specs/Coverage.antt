@@ -4,8 +4,8 @@ use Rattle.std.specs.List.{list_any}
 use Rattle.pud_defs.specs.declared.layout.TheConstants.{ENTRY_HEADER_WORDS}
 use Rattle.pud_defs.specs.declared.log_words.TheConstants.{UNDO_ORDER}
 use Rattle.pud_defs.specs.declared.space.TheConstants.{WORD_BYTES}
-use Rattle.pud_defs.specs.Entries.{Entry}
-use Rattle.pud_defs.specs.Spaces.{all_below}
+use Rattle.pud_defs.specs.Logging.Entries.{Entry}
+use Rattle.pud_defs.specs.RegistryTables.Spaces.{all_below}
 
 -- it is an undo entry, and one of its values is that of the word of this address
 abbrev pub covers : (address : ℕ) → Entry → Bool

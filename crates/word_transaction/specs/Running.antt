@@ -6,13 +6,13 @@ use Rattle.pm_model.specs.Moments.{Moment, State}
 use Rattle.pm_model.specs.Changes.{Footprint, Write, Changes, Leaves, Silently}
 use Rattle.pud_defs.specs.declared.layout.TheConstants.{PUDDLE_TABLE}
 use Rattle.pud_defs.specs.declared.log_words.TheConstants.{RUNNING_LO, RUNNING_HI, COMMITTING_LO, COMMITTING_HI, CLOSED_GATE}
-use Rattle.pud_defs.specs.Image.{Image}
-use Rattle.pud_defs.specs.Layout.{tables_end, IsWithin}
-use Rattle.pud_defs.specs.Entries.{Entry, entries_of, log_of, gate_lo, gate_hi, gate_word}
-use Rattle.pud_defs.specs.Replay.{AddressMap, is_in_range, overwritten, replayed, IsInLog, is_in_log}
-use Rattle.pud_defs.specs.Spaces.{is_closed_log}
-use Rattle.pud_defs.specs.Tables.{tables_of}
-use Rattle.pud_defs.specs.Allowed.{puddle_word}
+use Rattle.pud_defs.specs.Formats.Image.{Image}
+use Rattle.pud_defs.specs.Formats.Layout.{tables_end, IsWithin}
+use Rattle.pud_defs.specs.Logging.Entries.{Entry, entries_of, log_of, gate_lo, gate_hi, gate_word}
+use Rattle.pud_defs.specs.Logging.Replay.{AddressMap, is_in_range, overwritten, replayed, IsInLog, is_in_log}
+use Rattle.pud_defs.specs.RegistryTables.Spaces.{is_closed_log}
+use Rattle.pud_defs.specs.RegistryTables.Tables.{tables_of}
+use Rattle.pud_defs.specs.Logging.Allowed.{puddle_word}
 use Rattle.log_store.specs.Store.{OpenLog, IsOpen}
 use Rattle.word_transaction.specs.Scope.{Scope, IsInScope, saved, deferred_entries}
 

@@ -6,8 +6,8 @@ ghost use Rattle.pm_model.specs.Counts.{fault_of};
 ghost use Rattle.pm_model.specs.Reads.{OnlyReads};
 ghost use Rattle.pud_defs.specs.declared.layout.TheConstants.{LOG_WORDS};
 ghost use Rattle.pud_defs.specs.declared.space.TheConstants.{WORD_BYTES};
-ghost use Rattle.pud_defs.specs.Image.{Image};
-ghost use Rattle.pud_defs.specs.Entries.{Entry as LogEntry, entries_of};
+ghost use Rattle.pud_defs.specs.Formats.Image.{Image};
+ghost use Rattle.pud_defs.specs.Logging.Entries.{Entry as LogEntry, entries_of};
 ghost use Rattle.log_entry.specs.Reading.{entry_from};
 ghost use Rattle.word_transaction.specs.Coverage.{covers, is_covered, are_covered};
 

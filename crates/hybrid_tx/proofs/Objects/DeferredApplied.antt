@@ -3,14 +3,14 @@ use Rattle.std.proofs.Common.{◌≡◌, ℕ, ◌+◌, List, [], ◌∷◌, Opti
 use Rattle.std.proofs.lemmas.Option.{same_Some}
 use Rattle.pm_model.specs.Changes.{placed}
 use Rattle.pud_defs.specs.declared.records.Puddle.{Puddle}
-use Rattle.pud_defs.specs.Image.{Image}
-use Rattle.pud_defs.specs.Entries.{Entry}
-use Rattle.pud_defs.specs.Geometry.{steps_of}
-use Rattle.pud_defs.specs.Frames.{frame_at}
-use Rattle.pud_defs.specs.Replay.{value_in, value_from, overwritten}
-use Rattle.pud_defs.specs.Stored.{stored_in}
-use Rattle.pud_defs.specs.Graph.{Graph, graph_of}
-use Rattle.pud_defs.specs.DeferredValues.{DeferredValue, with_deferred_value, with_deferred_set}
+use Rattle.pud_defs.specs.Formats.Image.{Image}
+use Rattle.pud_defs.specs.Logging.Entries.{Entry}
+use Rattle.pud_defs.specs.Formats.Geometry.{steps_of}
+use Rattle.pud_defs.specs.Formats.Frames.{frame_at}
+use Rattle.pud_defs.specs.Logging.Replay.{value_in, value_from, overwritten}
+use Rattle.pud_defs.specs.PoolGraphs.Stored.{stored_in}
+use Rattle.pud_defs.specs.PoolGraphs.Graph.{Graph, graph_of}
+use Rattle.pud_defs.specs.PoolGraphs.DeferredValues.{DeferredValue, with_deferred_value, with_deferred_set}
 use Rattle.graph_laws.proofs.Words.{few_fields}
 use Rattle.word_transaction.specs.Scope.{written_in_turn}
 use Rattle.hybrid_tx.specs.PoolScopes.{pool_place, finished_of, ArePlacedPuddles, IsRewrittenAt}

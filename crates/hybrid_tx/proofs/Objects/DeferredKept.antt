@@ -7,15 +7,15 @@ use Rattle.pud_defs.specs.declared.space.TheConstants.{SLOT_SERIAL_WORD}
 use Rattle.pud_defs.specs.declared.records.Puddle.{Puddle}
 use Rattle.pud_defs.specs.declared.objects.FieldValue.{FieldValue}
 use Rattle.pud_defs.specs.declared.objects.FieldValue.TheVariants.{Num, Ref}
-use Rattle.pud_defs.specs.Geometry.{steps_of, ordinal_of, slot_of}
-use Rattle.pud_defs.specs.Image.{Image}
-use Rattle.pud_defs.specs.Types.{map_of}
-use Rattle.pud_defs.specs.Keyed.{first_from}
-use Rattle.pud_defs.specs.Entries.{Entry}
-use Rattle.pud_defs.specs.Stored.{Stored, stored_in, place_word}
-use Rattle.pud_defs.specs.Graph.{slot_address, under_serial, Object, Graph, object_in}
-use Rattle.pud_defs.specs.DeferredValues.{DeferredValue}
-use Rattle.pud_defs.specs.Exported.{address_in}
+use Rattle.pud_defs.specs.Formats.Geometry.{steps_of, ordinal_of, slot_of}
+use Rattle.pud_defs.specs.Formats.Image.{Image}
+use Rattle.pud_defs.specs.RegistryTables.Types.{map_of}
+use Rattle.pud_defs.specs.RegistryTables.Keyed.{first_from}
+use Rattle.pud_defs.specs.Logging.Entries.{Entry}
+use Rattle.pud_defs.specs.PoolGraphs.Stored.{Stored, stored_in, place_word}
+use Rattle.pud_defs.specs.PoolGraphs.Graph.{slot_address, under_serial, Object, Graph, object_in}
+use Rattle.pud_defs.specs.PoolGraphs.DeferredValues.{DeferredValue}
+use Rattle.pud_defs.specs.PoolGraphs.Exported.{address_in}
 use Rattle.graph_laws.proofs.Words.{place_of_serial-some}
 use Rattle.puddle_header.specs.Places.{places_in}
 use Rattle.graph_read.specs.Reading.{place_in_pool, table_in}

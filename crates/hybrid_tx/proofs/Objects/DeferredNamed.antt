@@ -9,16 +9,16 @@ use Rattle.pud_defs.specs.declared.records.Puddle.{Puddle}
 use Rattle.pud_defs.specs.declared.records.Slot.{Slot}
 use Rattle.pud_defs.specs.declared.objects.FieldValue.{FieldValue}
 use Rattle.pud_defs.specs.declared.objects.FieldValue.TheVariants.{Num, Ref}
-use Rattle.pud_defs.specs.Geometry.{ordinal_of, slot_of}
-use Rattle.pud_defs.specs.Image.{Image}
-use Rattle.pud_defs.specs.TypeMap.{is_pointer}
-use Rattle.pud_defs.specs.Types.{map_of}
-use Rattle.pud_defs.specs.Headers.{slot_word}
-use Rattle.pud_defs.specs.Entries.{Entry, entries_of, words_from}
-use Rattle.pud_defs.specs.Stored.{stored_in, place_word}
-use Rattle.pud_defs.specs.Graph.{slot_address, At, target, Object, Graph, names_serial, graph_of}
-use Rattle.pud_defs.specs.DeferredValues.{DeferredValue, deferred_value_names, deferred_set_names}
-use Rattle.pud_defs.proofs.Entries.{words_from-length, words_from-step}
+use Rattle.pud_defs.specs.Formats.Geometry.{ordinal_of, slot_of}
+use Rattle.pud_defs.specs.Formats.Image.{Image}
+use Rattle.pud_defs.specs.Formats.TypeMap.{is_pointer}
+use Rattle.pud_defs.specs.RegistryTables.Types.{map_of}
+use Rattle.pud_defs.specs.Formats.Headers.{slot_word}
+use Rattle.pud_defs.specs.Logging.Entries.{Entry, entries_of, words_from}
+use Rattle.pud_defs.specs.PoolGraphs.Stored.{stored_in, place_word}
+use Rattle.pud_defs.specs.PoolGraphs.Graph.{slot_address, At, target, Object, Graph, names_serial, graph_of}
+use Rattle.pud_defs.specs.PoolGraphs.DeferredValues.{DeferredValue, deferred_value_names, deferred_set_names}
+use Rattle.pud_defs.proofs.Logging.Entries.{words_from-length, words_from-step}
 use Rattle.log_entry.specs.declared.Entry.{Entry as Found}
 use Rattle.log_entry.specs.Reading.{Reading, entries_left, entry_from, left_before}
 use Rattle.log_entry.proofs.Left.{entries_left-start, taken, none_left}

@@ -11,14 +11,14 @@ use Rattle.pud_defs.specs.declared.records.Puddle.{Puddle}
 use Rattle.pud_defs.specs.declared.records.Slot.{Slot}
 use Rattle.pud_defs.specs.declared.objects.FieldValue.{FieldValue}
 use Rattle.pud_defs.specs.declared.objects.FieldValue.TheVariants.{Num, Ref}
-use Rattle.pud_defs.specs.Image.{Image}
-use Rattle.pud_defs.specs.Entries.{Entry}
-use Rattle.pud_defs.specs.Replay.{overwritten}
-use Rattle.pud_defs.specs.Stored.{Stored, stored_in, place_word}
-use Rattle.pud_defs.specs.Graph.{Object, Graph, object_in, names_serial, graph_of}
-use Rattle.pud_defs.specs.GraphChanges.{without_object}
-use Rattle.pud_defs.specs.DeferredValues.{DeferredValue, deferred_value_names, deferred_set_names}
-use Rattle.pud_defs.proofs.TypeLists.{same_test, same_number}
+use Rattle.pud_defs.specs.Formats.Image.{Image}
+use Rattle.pud_defs.specs.Logging.Entries.{Entry}
+use Rattle.pud_defs.specs.Logging.Replay.{overwritten}
+use Rattle.pud_defs.specs.PoolGraphs.Stored.{Stored, stored_in, place_word}
+use Rattle.pud_defs.specs.PoolGraphs.Graph.{Object, Graph, object_in, names_serial, graph_of}
+use Rattle.pud_defs.specs.PoolGraphs.GraphChanges.{without_object}
+use Rattle.pud_defs.specs.PoolGraphs.DeferredValues.{DeferredValue, deferred_value_names, deferred_set_names}
+use Rattle.pud_defs.proofs.RegistryTables.TypeLists.{same_test, same_number}
 use Rattle.graph_laws.specs.Changes.{with_serial_word}
 use Rattle.graph_laws.proofs.Words.{place_of_serial-some, slot_word-there, slot_word-other}
 use Rattle.puddle_header.specs.Places.{places_in, place_of_slot, IsSlotOf}

@@ -13,19 +13,19 @@ use Rattle.pud_defs.specs.declared.space.TheConstants.{WORD_BYTES}
 use Rattle.pud_defs.specs.declared.records.Puddle.{Puddle}
 use Rattle.pud_defs.specs.declared.records.Slot.{Slot}
 use Rattle.pud_defs.specs.declared.objects.FieldValue.{FieldValue}
-use Rattle.pud_defs.specs.Layout.{device_words, frames_at}
-use Rattle.pud_defs.specs.Image.{Image}
-use Rattle.pud_defs.specs.Bases.{is_legal_base}
-use Rattle.pud_defs.specs.Geometry.{slot_begins, ordinal_of, steps_of}
-use Rattle.pud_defs.specs.Frames.{frame_at}
-use Rattle.pud_defs.specs.Entries.{Entry}
-use Rattle.pud_defs.specs.Replay.{overwritten}
-use Rattle.pud_defs.proofs.Replay.{overwritten-nothing}
-use Rattle.pud_defs.specs.Stored.{stored_in}
-use Rattle.pud_defs.specs.Graph.{Graph, graph_of}
-use Rattle.pud_defs.specs.GraphChanges.{with_field}
-use Rattle.pud_defs.specs.DeferredValues.{DeferredValue}
-use Rattle.pud_defs.specs.Exported.{address_in}
+use Rattle.pud_defs.specs.Formats.Layout.{device_words, frames_at}
+use Rattle.pud_defs.specs.Formats.Image.{Image}
+use Rattle.pud_defs.specs.Formats.Bases.{is_legal_base}
+use Rattle.pud_defs.specs.Formats.Geometry.{slot_begins, ordinal_of, steps_of}
+use Rattle.pud_defs.specs.Formats.Frames.{frame_at}
+use Rattle.pud_defs.specs.Logging.Entries.{Entry}
+use Rattle.pud_defs.specs.Logging.Replay.{overwritten}
+use Rattle.pud_defs.proofs.Logging.Replay.{overwritten-nothing}
+use Rattle.pud_defs.specs.PoolGraphs.Stored.{stored_in}
+use Rattle.pud_defs.specs.PoolGraphs.Graph.{Graph, graph_of}
+use Rattle.pud_defs.specs.PoolGraphs.GraphChanges.{with_field}
+use Rattle.pud_defs.specs.PoolGraphs.DeferredValues.{DeferredValue}
+use Rattle.pud_defs.specs.PoolGraphs.Exported.{address_in}
 use Rattle.graph_laws.proofs.Words.{few_fields}
 use Rattle.puddle_header.specs.Places.{place_of_slot, IsSlotOf}
 use Rattle.graph_read.specs.Reading.{place_in_pool}

@@ -11,18 +11,18 @@ use Rattle.pud_defs.specs.declared.records.Puddle.{Puddle}
 use Rattle.pud_defs.specs.declared.records.Slot.{Slot}
 use Rattle.pud_defs.specs.declared.objects.FieldValue.{FieldValue}
 use Rattle.pud_defs.specs.declared.objects.FieldValue.TheVariants.{Num, Ref}
-use Rattle.pud_defs.specs.Geometry.{steps_of, puddle_slot_at, ordinal_of, slot_of, places_among}
-use Rattle.pud_defs.specs.Types.{map_of}
-use Rattle.pud_defs.specs.Image.{Image, image_with}
-use Rattle.pud_defs.specs.Frames.{frame_at}
-use Rattle.pud_defs.specs.Replay.{overwritten}
-use Rattle.pud_defs.specs.Stored.{Stored, stored_in, places_of}
-use Rattle.pud_defs.specs.Graph.{table_of, place_of_serial, object_at, Object, field_count, Graph, object_in, graph_of}
-use Rattle.pud_defs.proofs.Replay.{overwritten-there, overwritten-stays, value_at-there, value_at-apart}
-use Rattle.pud_defs.specs.GraphChanges.{with_field}
+use Rattle.pud_defs.specs.Formats.Geometry.{steps_of, puddle_slot_at, ordinal_of, slot_of, places_among}
+use Rattle.pud_defs.specs.RegistryTables.Types.{map_of}
+use Rattle.pud_defs.specs.Formats.Image.{Image, image_with}
+use Rattle.pud_defs.specs.Formats.Frames.{frame_at}
+use Rattle.pud_defs.specs.Logging.Replay.{overwritten}
+use Rattle.pud_defs.specs.PoolGraphs.Stored.{Stored, stored_in, places_of}
+use Rattle.pud_defs.specs.PoolGraphs.Graph.{table_of, place_of_serial, object_at, Object, field_count, Graph, object_in, graph_of}
+use Rattle.pud_defs.proofs.Logging.Replay.{overwritten-there, overwritten-stays, value_at-there, value_at-apart}
+use Rattle.pud_defs.specs.PoolGraphs.GraphChanges.{with_field}
 use Rattle.graph_laws.specs.Changes.{with_word, with_words, with_field_word, IsAddress, IsField}
 use Rattle.graph_laws.specs.Reads.{HasDistinctFrames}
-use Rattle.pud_defs.specs.Exported.{address_in}
+use Rattle.pud_defs.specs.PoolGraphs.Exported.{address_in}
 use Rattle.graph_laws.proofs.Fields.{graph_of-number, graph_of-null, graph_of-reference}
 use Rattle.graph_laws.proofs.Places.{object_in-place}
 use Rattle.graph_laws.proofs.StoredImages.{stored_in-written}

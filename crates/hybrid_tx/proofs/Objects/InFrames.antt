@@ -10,13 +10,13 @@ use Rattle.pm_persist.proofs.Ranges.{placed_within}
 use Rattle.pud_defs.specs.declared.layout.TheConstants.{FRAME_WORDS, LOG_WORDS, SET_UNITS}
 use Rattle.pud_defs.specs.declared.space.TheConstants.{WORD_BYTES, SPACE_START, SPACE_BYTES}
 use Rattle.pud_defs.specs.declared.records.Puddle.{Puddle}
-use Rattle.pud_defs.specs.Layout.{device_words, frames_at}
-use Rattle.pud_defs.specs.Image.{Image}
-use Rattle.pud_defs.specs.Bases.{is_legal_base}
-use Rattle.pud_defs.specs.Geometry.{steps_of}
-use Rattle.pud_defs.specs.Frames.{frame_at}
-use Rattle.pud_defs.specs.Entries.{Entry}
-use Rattle.pud_defs.specs.Replay.{over}
+use Rattle.pud_defs.specs.Formats.Layout.{device_words, frames_at}
+use Rattle.pud_defs.specs.Formats.Image.{Image}
+use Rattle.pud_defs.specs.Formats.Bases.{is_legal_base}
+use Rattle.pud_defs.specs.Formats.Geometry.{steps_of}
+use Rattle.pud_defs.specs.Formats.Frames.{frame_at}
+use Rattle.pud_defs.specs.Logging.Entries.{Entry}
+use Rattle.pud_defs.specs.Logging.Replay.{over}
 use Rattle.log_store.specs.Store.{OpenLog, with_deferred_words}
 use Rattle.word_transaction.specs.Scope.{Scope, IsScope, redo_entry}
 use Rattle.word_transaction.specs.Running.{IsRunning, ByTransaction, no_write, KeepsRunning, SavesAndWrites}

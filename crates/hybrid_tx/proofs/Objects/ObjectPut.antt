@@ -11,18 +11,18 @@ use Rattle.pud_defs.specs.declared.layout.TheConstants.{LOG_WORDS, FRAME_WORDS, 
 use Rattle.pud_defs.specs.declared.space.TheConstants.{SLOT_SERIAL_WORD, NEXT_SERIAL_WORD}
 use Rattle.pud_defs.specs.declared.records.Puddle.{Puddle}
 use Rattle.pud_defs.specs.declared.records.Slot.{Slot}
-use Rattle.pud_defs.specs.Geometry.{puddle_slot_words, slot_begins}
-use Rattle.pud_defs.specs.Types.{map_of}
-use Rattle.pud_defs.specs.Layout.{device_words, frames_at}
-use Rattle.pud_defs.specs.Image.{Image}
-use Rattle.pud_defs.specs.Frames.{frame_at, frame_word}
-use Rattle.pud_defs.specs.Entries.{Entry}
-use Rattle.pud_defs.specs.Replay.{over, overwritten, is_in_log}
-use Rattle.pud_defs.specs.Stored.{stored_in, place_word}
-use Rattle.pud_defs.specs.Graph.{Graph, next_serial_of, graph_of}
-use Rattle.pud_defs.proofs.Graphs.{graph_of-each}
-use Rattle.pud_defs.specs.GraphChanges.{with_new, blank_object}
-use Rattle.pud_defs.specs.DeferredValues.{DeferredValue}
+use Rattle.pud_defs.specs.Formats.Geometry.{puddle_slot_words, slot_begins}
+use Rattle.pud_defs.specs.RegistryTables.Types.{map_of}
+use Rattle.pud_defs.specs.Formats.Layout.{device_words, frames_at}
+use Rattle.pud_defs.specs.Formats.Image.{Image}
+use Rattle.pud_defs.specs.Formats.Frames.{frame_at, frame_word}
+use Rattle.pud_defs.specs.Logging.Entries.{Entry}
+use Rattle.pud_defs.specs.Logging.Replay.{over, overwritten, is_in_log}
+use Rattle.pud_defs.specs.PoolGraphs.Stored.{stored_in, place_word}
+use Rattle.pud_defs.specs.PoolGraphs.Graph.{Graph, next_serial_of, graph_of}
+use Rattle.pud_defs.proofs.PoolGraphs.Graphs.{graph_of-each}
+use Rattle.pud_defs.specs.PoolGraphs.GraphChanges.{with_new, blank_object}
+use Rattle.pud_defs.specs.PoolGraphs.DeferredValues.{DeferredValue}
 use Rattle.puddle_header.specs.Places.{place_of_slot, IsSlotOf}
 use Rattle.puddle_header.proofs.Placed.{stored_word}
 use Rattle.log_store.specs.Store.{OpenLog}

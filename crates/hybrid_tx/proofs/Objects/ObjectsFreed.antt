@@ -5,12 +5,12 @@ use Rattle.pud_defs.specs.declared.layout.TheConstants.{FRAME_WORDS}
 use Rattle.pud_defs.specs.declared.space.TheConstants.{SLOT_SERIAL_WORD}
 use Rattle.pud_defs.specs.declared.records.Puddle.{Puddle}
 use Rattle.pud_defs.specs.declared.records.Slot.{Slot}
-use Rattle.pud_defs.specs.Geometry.{puddle_slot_at, slot_begins}
-use Rattle.pud_defs.specs.Image.{Image}
-use Rattle.pud_defs.specs.Replay.{overwritten}
-use Rattle.pud_defs.specs.Stored.{Stored, stored_in}
-use Rattle.pud_defs.specs.Graph.{Graph, graph_of, is_referenced}
-use Rattle.pud_defs.specs.GraphChanges.{without_object}
+use Rattle.pud_defs.specs.Formats.Geometry.{puddle_slot_at, slot_begins}
+use Rattle.pud_defs.specs.Formats.Image.{Image}
+use Rattle.pud_defs.specs.Logging.Replay.{overwritten}
+use Rattle.pud_defs.specs.PoolGraphs.Stored.{Stored, stored_in}
+use Rattle.pud_defs.specs.PoolGraphs.Graph.{Graph, graph_of, is_referenced}
+use Rattle.pud_defs.specs.PoolGraphs.GraphChanges.{without_object}
 use Rattle.graph_laws.specs.Changes.{with_word, with_words, with_serial_word}
 use Rattle.graph_laws.specs.Reads.{HasDistinctFrames}
 use Rattle.graph_laws.proofs.FreedObjects.{graph_of-freed}

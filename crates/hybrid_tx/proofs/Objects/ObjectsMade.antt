@@ -10,16 +10,16 @@ use Rattle.pud_defs.specs.declared.layout.TheConstants.{FRAME_WORDS, NUMBER_LIMI
 use Rattle.pud_defs.specs.declared.space.TheConstants.{SLOT_SERIAL_WORD, SLOT_TYPE_WORD, SLOT_FIELDS_WORD, NEXT_SERIAL_WORD}
 use Rattle.pud_defs.specs.declared.records.Puddle.{Puddle}
 use Rattle.pud_defs.specs.declared.records.Slot.{Slot}
-use Rattle.pud_defs.specs.Geometry.{puddle_slot_words, slot_begins, ordinal_of}
-use Rattle.pud_defs.specs.Types.{map_of}
-use Rattle.pud_defs.specs.Image.{Image}
-use Rattle.pud_defs.specs.Frames.{frame_at}
-use Rattle.pud_defs.specs.Replay.{overwritten}
-use Rattle.pud_defs.specs.Stored.{Stored, stored_in, word_in_frame, place_word, place_begins, place_words, IsFreePlace}
-use Rattle.pud_defs.specs.Graph.{Graph, next_serial_of, graph_of}
-use Rattle.pud_defs.proofs.Graphs.{graph_of-each}
-use Rattle.pud_defs.proofs.Replay.{overwritten-there, overwritten-stays, value_at-there, value_at-apart}
-use Rattle.pud_defs.specs.GraphChanges.{blank_object, with_new}
+use Rattle.pud_defs.specs.Formats.Geometry.{puddle_slot_words, slot_begins, ordinal_of}
+use Rattle.pud_defs.specs.RegistryTables.Types.{map_of}
+use Rattle.pud_defs.specs.Formats.Image.{Image}
+use Rattle.pud_defs.specs.Formats.Frames.{frame_at}
+use Rattle.pud_defs.specs.Logging.Replay.{overwritten}
+use Rattle.pud_defs.specs.PoolGraphs.Stored.{Stored, stored_in, word_in_frame, place_word, place_begins, place_words, IsFreePlace}
+use Rattle.pud_defs.specs.PoolGraphs.Graph.{Graph, next_serial_of, graph_of}
+use Rattle.pud_defs.proofs.PoolGraphs.Graphs.{graph_of-each}
+use Rattle.pud_defs.proofs.Logging.Replay.{overwritten-there, overwritten-stays, value_at-there, value_at-apart}
+use Rattle.pud_defs.specs.PoolGraphs.GraphChanges.{blank_object, with_new}
 use Rattle.graph_laws.specs.Changes.{IsMade}
 use Rattle.graph_laws.proofs.NewObjects.{graph_of-new}
 use Rattle.graph_laws.proofs.Words.{few_fields}

@@ -7,14 +7,14 @@ use Rattle.pm_model.specs.Changes.{Write, Changes}
 use Rattle.pm_model.proofs.Changes.{HasOnly-kept}
 use Rattle.pud_defs.specs.declared.layout.TheConstants.{LOG_WORDS}
 use Rattle.pud_defs.specs.declared.records.Puddle.{Puddle}
-use Rattle.pud_defs.specs.Layout.{device_words, frames_at}
-use Rattle.pud_defs.specs.Image.{Image}
-use Rattle.pud_defs.specs.Entries.{Entry}
-use Rattle.pud_defs.specs.Frames.{frame_at}
-use Rattle.pud_defs.specs.Replay.{overwritten}
-use Rattle.pud_defs.specs.Stored.{stored_in}
-use Rattle.pud_defs.specs.Graph.{Graph, graph_of}
-use Rattle.pud_defs.specs.DeferredValues.{DeferredValue}
+use Rattle.pud_defs.specs.Formats.Layout.{device_words, frames_at}
+use Rattle.pud_defs.specs.Formats.Image.{Image}
+use Rattle.pud_defs.specs.Logging.Entries.{Entry}
+use Rattle.pud_defs.specs.Formats.Frames.{frame_at}
+use Rattle.pud_defs.specs.Logging.Replay.{overwritten}
+use Rattle.pud_defs.specs.PoolGraphs.Stored.{stored_in}
+use Rattle.pud_defs.specs.PoolGraphs.Graph.{Graph, graph_of}
+use Rattle.pud_defs.specs.PoolGraphs.DeferredValues.{DeferredValue}
 use Rattle.graph_laws.proofs.StoredImages.{stored_in-same}
 use Rattle.log_store.specs.Store.{OpenLog}
 use Rattle.word_transaction.specs.Scope.{IsScope}

@@ -9,13 +9,13 @@ use Rattle.pm_model.specs.Moments.{State}
 use Rattle.pm_model.specs.Changes.{Changes}
 use Rattle.pud_defs.specs.declared.layout.TheConstants.{LOG_WORDS}
 use Rattle.pud_defs.specs.declared.records.Puddle.{Puddle}
-use Rattle.pud_defs.specs.Layout.{device_words, frames_at}
-use Rattle.pud_defs.specs.Image.{Image}
-use Rattle.pud_defs.specs.Entries.{Entry, log_of}
-use Rattle.pud_defs.specs.Replay.{new_value, overwritten, replayed}
-use Rattle.pud_defs.specs.Stored.{stored_in}
-use Rattle.pud_defs.specs.Graph.{Graph, graph_of}
-use Rattle.pud_defs.specs.DeferredValues.{DeferredValue, with_deferred_set}
+use Rattle.pud_defs.specs.Formats.Layout.{device_words, frames_at}
+use Rattle.pud_defs.specs.Formats.Image.{Image}
+use Rattle.pud_defs.specs.Logging.Entries.{Entry, log_of}
+use Rattle.pud_defs.specs.Logging.Replay.{new_value, overwritten, replayed}
+use Rattle.pud_defs.specs.PoolGraphs.Stored.{stored_in}
+use Rattle.pud_defs.specs.PoolGraphs.Graph.{Graph, graph_of}
+use Rattle.pud_defs.specs.PoolGraphs.DeferredValues.{DeferredValue, with_deferred_set}
 use Rattle.log_store.specs.Store.{OpenLog, defers}
 use Rattle.word_transaction.specs.Scope.{Scope, IsScope, written_in_turn, pending}
 use Rattle.word_transaction.specs.Running.{IsRunning, IsIdle, RecoversTo, ByTransaction, AbortsTransaction, CommitsTransaction, CanRedo}

@@ -9,13 +9,13 @@ use Rattle.pud_defs.specs.declared.layout.TheConstants.{LOG_WORDS}
 use Rattle.pud_defs.specs.declared.space.TheConstants.{ROOT_WORD}
 use Rattle.pud_defs.specs.declared.records.Puddle.{Puddle}
 use Rattle.pud_defs.specs.declared.objects.FieldValue.TheVariants.{Ref}
-use Rattle.pud_defs.specs.Layout.{device_words, frames_at}
-use Rattle.pud_defs.specs.Image.{Image}
-use Rattle.pud_defs.specs.Frames.{frame_at}
-use Rattle.pud_defs.specs.Replay.{overwritten}
-use Rattle.pud_defs.specs.Graph.{Graph}
-use Rattle.pud_defs.specs.GraphChanges.{with_root}
-use Rattle.pud_defs.specs.DeferredValues.{DeferredValue}
+use Rattle.pud_defs.specs.Formats.Layout.{device_words, frames_at}
+use Rattle.pud_defs.specs.Formats.Image.{Image}
+use Rattle.pud_defs.specs.Formats.Frames.{frame_at}
+use Rattle.pud_defs.specs.Logging.Replay.{overwritten}
+use Rattle.pud_defs.specs.PoolGraphs.Graph.{Graph}
+use Rattle.pud_defs.specs.PoolGraphs.GraphChanges.{with_root}
+use Rattle.pud_defs.specs.PoolGraphs.DeferredValues.{DeferredValue}
 use Rattle.log_store.specs.Store.{OpenLog}
 use Rattle.hybrid_tx.specs.PoolScopes.{ArePlacedPuddles, IsRewrittenAt}
 use Rattle.hybrid_tx.specs.Objects.Stores.{word_for}

@@ -5,12 +5,12 @@ use Rattle.pm_model.specs.Changes.{placed}
 use Rattle.pud_defs.specs.declared.space.TheConstants.{ROOT_WORD}
 use Rattle.pud_defs.specs.declared.records.Puddle.{Puddle}
 use Rattle.pud_defs.specs.declared.objects.FieldValue.TheVariants.{Ref}
-use Rattle.pud_defs.specs.Image.{Image}
-use Rattle.pud_defs.specs.Frames.{frame_at}
-use Rattle.pud_defs.specs.Replay.{overwritten}
-use Rattle.pud_defs.specs.Stored.{Stored, stored_in, places_of}
-use Rattle.pud_defs.specs.Graph.{table_of, Graph, graph_of}
-use Rattle.pud_defs.specs.GraphChanges.{with_root}
+use Rattle.pud_defs.specs.Formats.Image.{Image}
+use Rattle.pud_defs.specs.Formats.Frames.{frame_at}
+use Rattle.pud_defs.specs.Logging.Replay.{overwritten}
+use Rattle.pud_defs.specs.PoolGraphs.Stored.{Stored, stored_in, places_of}
+use Rattle.pud_defs.specs.PoolGraphs.Graph.{table_of, Graph, graph_of}
+use Rattle.pud_defs.specs.PoolGraphs.GraphChanges.{with_root}
 use Rattle.graph_laws.specs.Changes.{with_root_word}
 use Rattle.graph_laws.proofs.Roots.{graph_of-no_root, graph_of-root}
 use Rattle.graph_laws.proofs.Words.{place_of_serial-some}

@@ -7,16 +7,16 @@ use Rattle.pm_model.specs.Changes.{Write}
 use Rattle.pm_model.specs.Masks.{masked_image}
 use Rattle.pm_model.proofs.Masks.{masked_image-there, masked_image-elsewhere}
 use Rattle.pud_defs.specs.declared.layout.TheConstants.{DAEMON_LOG}
-use Rattle.pud_defs.specs.Allowed.{puddle_word}
-use Rattle.pud_defs.specs.Entries.{Log, log_of, is_idle_gate}
-use Rattle.pud_defs.specs.Image.{Image}
-use Rattle.pud_defs.specs.Replay.{device_word, new_value}
-use Rattle.pud_defs.specs.Settled.{ALL_LOGS, log_number_at}
-use Rattle.pud_defs.specs.Spaces.{is_closed_log}
-use Rattle.pud_defs.specs.Tables.{tables_of}
-use Rattle.pud_defs.specs.World.{StoredWorld, idle_world_of}
-use Rattle.pud_defs.proofs.Masked.{log_of-masked}
-use Rattle.pud_defs.proofs.Spaces.{is_closed_log-same}
+use Rattle.pud_defs.specs.Logging.Allowed.{puddle_word}
+use Rattle.pud_defs.specs.Logging.Entries.{Log, log_of, is_idle_gate}
+use Rattle.pud_defs.specs.Formats.Image.{Image}
+use Rattle.pud_defs.specs.Logging.Replay.{device_word, new_value}
+use Rattle.pud_defs.specs.Logging.Settled.{ALL_LOGS, log_number_at}
+use Rattle.pud_defs.specs.RegistryTables.Spaces.{is_closed_log}
+use Rattle.pud_defs.specs.RegistryTables.Tables.{tables_of}
+use Rattle.pud_defs.specs.StateMachine.World.{StoredWorld, idle_world_of}
+use Rattle.pud_defs.proofs.Logging.Masked.{log_of-masked}
+use Rattle.pud_defs.proofs.RegistryTables.Spaces.{is_closed_log-same}
 use Rattle.word_transaction.specs.Running.{HasPlaces}
 use Rattle.hybrid_tx.specs.PoolScopes.{pool_has_word, pool_scope, finished_of}
 use Rattle.hybrid_tx.specs.Open.Masks.{is_open_record, open_mask, IsOpenPool, IsLeftOpen}

@@ -6,12 +6,12 @@ use Rattle.std.proofs.lemmas.Option.{none-some, same_Some}
 use Rattle.pm_model.specs.Changes.{Write}
 use Rattle.pud_defs.specs.declared.layout.TheConstants.{POOL_TABLE}
 use Rattle.pud_defs.specs.declared.log_words.TheConstants.{CLOSED_GATE}
-use Rattle.pud_defs.specs.Image.{Image}
-use Rattle.pud_defs.specs.Places.{first_some}
-use Rattle.pud_defs.specs.Replay.{IsInLog, is_in_log}
-use Rattle.pud_defs.specs.Settled.{ALL_LOGS, log_number_at}
-use Rattle.pud_defs.specs.Tables.{tables_of}
-use Rattle.pud_defs.proofs.Replay.{within_log}
+use Rattle.pud_defs.specs.Formats.Image.{Image}
+use Rattle.pud_defs.specs.RegistryTables.Places.{first_some}
+use Rattle.pud_defs.specs.Logging.Replay.{IsInLog, is_in_log}
+use Rattle.pud_defs.specs.Logging.Settled.{ALL_LOGS, log_number_at}
+use Rattle.pud_defs.specs.RegistryTables.Tables.{tables_of}
+use Rattle.pud_defs.proofs.Logging.Replay.{within_log}
 use Rattle.hybrid_tx.specs.PoolScopes.{pool_has_word, finished_of}
 use Rattle.hybrid_tx.specs.Open.Masks.{is_open_record, open_mask}
 use Rattle.hybrid_tx.specs.Open.ManyOpen.{OpenTransaction, Opens, mask_of, open_masks, IsMaskedBy, MasksAll, AreOpenPools, HasRecords, AreLeftOpen}

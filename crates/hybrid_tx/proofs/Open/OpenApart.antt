@@ -1,9 +1,9 @@
 -- What one open transaction may write is no word of another's.
 use Rattle.std.proofs.Common.{◌≡◌, ◌≢◌, inl, inr, ℕ, true, false, Some, None, sym, ◌∙◌}
 use Rattle.std.proofs.lemmas.Bool.{and_from, le-leb, lt-ltb, or_cases, or_left}
-use Rattle.pud_defs.specs.Image.{Image}
-use Rattle.pud_defs.specs.Replay.{IsInLog, is_in_log}
-use Rattle.pud_defs.specs.Settled.{log_number_at}
+use Rattle.pud_defs.specs.Formats.Image.{Image}
+use Rattle.pud_defs.specs.Logging.Replay.{IsInLog, is_in_log}
+use Rattle.pud_defs.specs.Logging.Settled.{log_number_at}
 use Rattle.word_transaction.specs.Running.{ByTransaction}
 use Rattle.hybrid_tx.specs.PoolScopes.{pool_has_word, pool_scope, finished_of}
 use Rattle.hybrid_tx.specs.Open.Masks.{is_open_record, open_mask}

@@ -5,25 +5,25 @@ use Rattle.pm_model.specs.Changes.{Write}
 use Rattle.pm_model.specs.Masks.{masked_image}
 use Rattle.pud_defs.specs.declared.layout.TheConstants.{DAEMON_LOG, POOL_TABLE, CLIENTS, CLIENT_LOGS}
 use Rattle.pud_defs.specs.declared.log_words.TheConstants.{CLOSED_GATE}
-use Rattle.pud_defs.specs.Allowed.{puddle_word}
-use Rattle.pud_defs.specs.Entries.{log_of, is_idle_gate}
-use Rattle.pud_defs.specs.Image.{Image}
-use Rattle.pud_defs.specs.Layout.{tables_end, log_at}
-use Rattle.pud_defs.specs.Replay.{device_word, new_value, IsInLog, is_in_log, settled_by}
-use Rattle.pud_defs.specs.Settled.{ALL_LOGS, client_of_log, log_number_at}
-use Rattle.pud_defs.specs.SoundTables.{HasSoundTables}
-use Rattle.pud_defs.specs.Spaces.{space_record_at, is_closed_log, has_closed_logs, are_closed_logs}
-use Rattle.pud_defs.specs.Tables.{Tables, tables_of}
-use Rattle.pud_defs.specs.World.{StoredWorld, idle_world_of}
-use Rattle.pud_defs.proofs.IdleWorlds.{standing_logs, standing_of_idle_world, idle_world_of_standing, legal_log_of_idle_world}
-use Rattle.pud_defs.proofs.LogsBeside.{agree_tables}
-use Rattle.pud_defs.proofs.Parts.{StandsFor}
-use Rattle.pud_defs.proofs.Parts.Part.{Spaces}
-use Rattle.pud_defs.proofs.Replay.{new_value-closed, empty_range_of, settled_by-idle, outside_log}
-use Rattle.pud_defs.proofs.Spaces.{all_below-from, all_below-each, is_closed_log-same, owner_of-same}
-use Rattle.pud_defs.proofs.TablesOf.{tables_of-same}
+use Rattle.pud_defs.specs.Logging.Allowed.{puddle_word}
+use Rattle.pud_defs.specs.Logging.Entries.{log_of, is_idle_gate}
+use Rattle.pud_defs.specs.Formats.Image.{Image}
+use Rattle.pud_defs.specs.Formats.Layout.{tables_end, log_at}
+use Rattle.pud_defs.specs.Logging.Replay.{device_word, new_value, IsInLog, is_in_log, settled_by}
+use Rattle.pud_defs.specs.Logging.Settled.{ALL_LOGS, client_of_log, log_number_at}
+use Rattle.pud_defs.specs.RegistryTables.SoundTables.{HasSoundTables}
+use Rattle.pud_defs.specs.RegistryTables.Spaces.{space_record_at, is_closed_log, has_closed_logs, are_closed_logs}
+use Rattle.pud_defs.specs.RegistryTables.Tables.{Tables, tables_of}
+use Rattle.pud_defs.specs.StateMachine.World.{StoredWorld, idle_world_of}
+use Rattle.pud_defs.proofs.StateMachine.IdleWorlds.{standing_logs, standing_of_idle_world, idle_world_of_standing, legal_log_of_idle_world}
+use Rattle.pud_defs.proofs.Logging.LogsBeside.{agree_tables}
+use Rattle.pud_defs.proofs.StateMachine.Parts.{StandsFor}
+use Rattle.pud_defs.proofs.StateMachine.Parts.Part.{Spaces}
+use Rattle.pud_defs.proofs.Logging.Replay.{new_value-closed, empty_range_of, settled_by-idle, outside_log}
+use Rattle.pud_defs.proofs.RegistryTables.Spaces.{all_below-from, all_below-each, is_closed_log-same, owner_of-same}
+use Rattle.pud_defs.proofs.RegistryTables.TablesOf.{tables_of-same}
 use Rattle.word_transaction.specs.Running.{HasPlaces}
-use Rattle.pud_defs.proofs.ClosedLogs.{closed_by_gate}
+use Rattle.pud_defs.proofs.Logging.ClosedLogs.{closed_by_gate}
 use Rattle.hybrid_tx.specs.PoolScopes.{pool_has_word, pool_scope, finished_of}
 use Rattle.hybrid_tx.specs.Open.Masks.{OpenPool, is_open_record, open_mask, ArePuddlesOf, IsOpenPool}
 use Rattle.hybrid_tx.specs.Open.ManyOpen.{OpenTransaction, Opens, AreOpenPools, HasRecords, MasksAll}

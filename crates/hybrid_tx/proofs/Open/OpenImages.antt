@@ -5,23 +5,23 @@ use Rattle.std.proofs.lemmas.Bool.{cases_Bool, and_left, and_right, lt-leb, le-l
 use Rattle.pm_model.specs.Changes.{Write}
 use Rattle.pm_model.specs.Masks.{masked_image}
 use Rattle.pud_defs.specs.declared.layout.TheConstants.{DAEMON_LOG, FRAMES_WORD, POOL_TABLE}
-use Rattle.pud_defs.specs.Image.{Image}
-use Rattle.pud_defs.specs.Layout.{tables_end, frames_at}
-use Rattle.pud_defs.specs.Entries.{log_of}
-use Rattle.pud_defs.specs.Registry.{frames_of, has_legal_log, are_loggable}
-use Rattle.pud_defs.specs.Replay.{device_word, new_value, overwritten, is_in_log, settled_by}
-use Rattle.pud_defs.specs.Settled.{ALL_LOGS, is_refused_log, is_in_logs, settled}
-use Rattle.pud_defs.specs.Spaces.{are_closed_logs, are_legal_spaces}
-use Rattle.pud_defs.specs.World.{StoredWorld, world_of, idle_world_of}
-use Rattle.pud_defs.proofs.Replay.{overwritten-stays, overwritten-there, settled_by-outside, within_log}
-use Rattle.pud_defs.proofs.Spaces.{are_legal_spaces-same}
-use Rattle.pud_defs.proofs.Masked.{IsBesideLog, log_of-masked, settled_by-masked}
-use Rattle.pud_defs.proofs.Idle.{world_of_idle, no_log_is_refused}
-use Rattle.pud_defs.proofs.IdleWorlds.{standing_of_idle_world, legal_log_of_idle_world, frames_of_idle_world}
-use Rattle.pud_defs.proofs.LogsBeside.{IsReadBeside, world_again}
-use Rattle.pud_defs.proofs.Parts.{StandsFor}
-use Rattle.pud_defs.proofs.Parts.Part.{Spaces}
-use Rattle.pud_defs.proofs.Worlds.{settled-below}
+use Rattle.pud_defs.specs.Formats.Image.{Image}
+use Rattle.pud_defs.specs.Formats.Layout.{tables_end, frames_at}
+use Rattle.pud_defs.specs.Logging.Entries.{log_of}
+use Rattle.pud_defs.specs.RegistryTables.Registry.{frames_of, has_legal_log, are_loggable}
+use Rattle.pud_defs.specs.Logging.Replay.{device_word, new_value, overwritten, is_in_log, settled_by}
+use Rattle.pud_defs.specs.Logging.Settled.{ALL_LOGS, is_refused_log, is_in_logs, settled}
+use Rattle.pud_defs.specs.RegistryTables.Spaces.{are_closed_logs, are_legal_spaces}
+use Rattle.pud_defs.specs.StateMachine.World.{StoredWorld, world_of, idle_world_of}
+use Rattle.pud_defs.proofs.Logging.Replay.{overwritten-stays, overwritten-there, settled_by-outside, within_log}
+use Rattle.pud_defs.proofs.RegistryTables.Spaces.{are_legal_spaces-same}
+use Rattle.pud_defs.proofs.Logging.Masked.{IsBesideLog, log_of-masked, settled_by-masked}
+use Rattle.pud_defs.proofs.Logging.Idle.{world_of_idle, no_log_is_refused}
+use Rattle.pud_defs.proofs.StateMachine.IdleWorlds.{standing_of_idle_world, legal_log_of_idle_world, frames_of_idle_world}
+use Rattle.pud_defs.proofs.Logging.LogsBeside.{IsReadBeside, world_again}
+use Rattle.pud_defs.proofs.StateMachine.Parts.{StandsFor}
+use Rattle.pud_defs.proofs.StateMachine.Parts.Part.{Spaces}
+use Rattle.pud_defs.proofs.StateMachine.Worlds.{settled-below}
 use Rattle.hybrid_tx.specs.Open.ManyOpen.{OpenTransaction, Opens, AreOpenPools, HasRecords, MasksAll}
 use Rattle.hybrid_tx.proofs.Open.OpenSettled.{AreLikeMasked, GivesOwn, same_below, settled_alike, refused_alike}
 use Rattle.hybrid_tx.proofs.Open.ManyMasks.{masks_of_mine, masks_of_record, masks_of_none, masks_below, opens_apart}

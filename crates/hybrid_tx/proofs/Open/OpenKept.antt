@@ -6,11 +6,11 @@ use Rattle.pm_model.specs.Words.{reads}
 use Rattle.pm_model.specs.Moments.{State}
 use Rattle.pm_model.specs.Changes.{Footprint, Changes}
 use Rattle.pud_defs.specs.declared.records.Puddle.{Puddle}
-use Rattle.pud_defs.specs.Types.{map_of}
-use Rattle.pud_defs.specs.Image.{Image}
-use Rattle.pud_defs.specs.Stored.{Stored, stored_in}
-use Rattle.pud_defs.specs.Graph.{Graph, graph_of}
-use Rattle.pud_defs.specs.DeferredValues.{DeferredValue}
+use Rattle.pud_defs.specs.RegistryTables.Types.{map_of}
+use Rattle.pud_defs.specs.Formats.Image.{Image}
+use Rattle.pud_defs.specs.PoolGraphs.Stored.{Stored, stored_in}
+use Rattle.pud_defs.specs.PoolGraphs.Graph.{Graph, graph_of}
+use Rattle.pud_defs.specs.PoolGraphs.DeferredValues.{DeferredValue}
 use Rattle.log_store.specs.Store.{OpenLog, InLog}
 use Rattle.pm_model.proofs.Changes.{HasOnly-kept}
 use Rattle.word_transaction.proofs.Calls.{IsRunning-kept}

@@ -7,16 +7,16 @@ use Rattle.pud_defs.specs.declared.layout.TheConstants.{DAEMON_LOG, POOL_TABLE}
 use Rattle.pud_defs.specs.declared.log_words.TheConstants.{CLOSED_GATE}
 use Rattle.pud_defs.specs.declared.records.TheConstants.{POOL_RECORDS}
 use Rattle.pud_defs.specs.declared.records.Puddle.{Puddle}
-use Rattle.pud_defs.specs.Image.{Image}
-use Rattle.pud_defs.specs.Layout.{tables_end, frames_at}
-use Rattle.pud_defs.specs.Pools.{pool_record_at}
-use Rattle.pud_defs.specs.Puddles.{puddle_record_at}
-use Rattle.pud_defs.specs.Replay.{is_in_log}
-use Rattle.pud_defs.specs.Settled.{ALL_LOGS, client_of_log, log_number_at}
-use Rattle.pud_defs.specs.Spaces.{space_record_at}
-use Rattle.pud_defs.specs.Stored.{IsOnDevice}
-use Rattle.pud_defs.proofs.Masked.{IsBesideLog}
-use Rattle.pud_defs.proofs.Replay.{outside_log}
+use Rattle.pud_defs.specs.Formats.Image.{Image}
+use Rattle.pud_defs.specs.Formats.Layout.{tables_end, frames_at}
+use Rattle.pud_defs.specs.RegistryTables.Pools.{pool_record_at}
+use Rattle.pud_defs.specs.RegistryTables.Puddles.{puddle_record_at}
+use Rattle.pud_defs.specs.Logging.Replay.{is_in_log}
+use Rattle.pud_defs.specs.Logging.Settled.{ALL_LOGS, client_of_log, log_number_at}
+use Rattle.pud_defs.specs.RegistryTables.Spaces.{space_record_at}
+use Rattle.pud_defs.specs.PoolGraphs.Stored.{IsOnDevice}
+use Rattle.pud_defs.proofs.Logging.Masked.{IsBesideLog}
+use Rattle.pud_defs.proofs.Logging.Replay.{outside_log}
 use Rattle.hybrid_tx.specs.PoolScopes.{pool_has_word, finished_of}
 use Rattle.hybrid_tx.specs.Open.Masks.{OpenPool, is_in_pool_record, is_in_space_record, is_in_puddle_record, is_open_record, open_mask}
 use Rattle.hybrid_tx.proofs.PoolScope.{any_element, all_there, pool_has_word-each}

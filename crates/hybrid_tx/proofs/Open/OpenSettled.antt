@@ -4,20 +4,20 @@ use Rattle.std.specs.Prelude.{unwrap_or, nat_le, nat_lt}
 use Rattle.std.proofs.lemmas.Bool.{cases_Bool, cases_eq, cases_lt, cond-false, and_from, le-leb, lt-ltb}
 use Rattle.std.proofs.lemmas.Option.{none-some, same_Some}
 use Rattle.pud_defs.specs.declared.layout.TheConstants.{CLIENTS, LOG_WORDS}
-use Rattle.pud_defs.specs.Image.{Image}
-use Rattle.pud_defs.specs.Layout.{tables_end, frames_at}
-use Rattle.pud_defs.specs.Entries.{log_of}
-use Rattle.pud_defs.specs.Replay.{new_value, replayed, IsInLog, is_in_log}
-use Rattle.pud_defs.specs.Spaces.{owner_of, are_closed_logs}
-use Rattle.pud_defs.specs.Tables.{tables_of}
-use Rattle.pud_defs.specs.Allowed.{puddle_word, is_allowed_log, is_refused, is_accepted}
-use Rattle.pud_defs.specs.Settled.{gives_to, ALL_LOGS, client_of_log, log_number_at, given_by_log, is_refused_log, is_in_logs, given_in_turn, settled_over}
-use Rattle.pud_defs.proofs.Replay.{outside_log, within_log}
-use Rattle.pud_defs.proofs.Spaces.{log_of-within, owner_of-same}
-use Rattle.pud_defs.proofs.TablesOf.{tables_of-same}
-use Rattle.pud_defs.proofs.Settled.{given_in_turn-none, given_in_turn-one, settled_over-own}
-use Rattle.pud_defs.proofs.Accepted.{gives_to-accepted}
-use Rattle.pud_defs.proofs.Idle.{given_by_log-closed}
+use Rattle.pud_defs.specs.Formats.Image.{Image}
+use Rattle.pud_defs.specs.Formats.Layout.{tables_end, frames_at}
+use Rattle.pud_defs.specs.Logging.Entries.{log_of}
+use Rattle.pud_defs.specs.Logging.Replay.{new_value, replayed, IsInLog, is_in_log}
+use Rattle.pud_defs.specs.RegistryTables.Spaces.{owner_of, are_closed_logs}
+use Rattle.pud_defs.specs.RegistryTables.Tables.{tables_of}
+use Rattle.pud_defs.specs.Logging.Allowed.{puddle_word, is_allowed_log, is_refused, is_accepted}
+use Rattle.pud_defs.specs.Logging.Settled.{gives_to, ALL_LOGS, client_of_log, log_number_at, given_by_log, is_refused_log, is_in_logs, given_in_turn, settled_over}
+use Rattle.pud_defs.proofs.Logging.Replay.{outside_log, within_log}
+use Rattle.pud_defs.proofs.RegistryTables.Spaces.{log_of-within, owner_of-same}
+use Rattle.pud_defs.proofs.RegistryTables.TablesOf.{tables_of-same}
+use Rattle.pud_defs.proofs.Logging.Settled.{given_in_turn-none, given_in_turn-one, settled_over-own}
+use Rattle.pud_defs.proofs.Logging.Accepted.{gives_to-accepted}
+use Rattle.pud_defs.proofs.Logging.Idle.{given_by_log-closed}
 use Rattle.hybrid_tx.specs.PoolScopes.{pool_has_word, finished_of}
 use Rattle.hybrid_tx.specs.Open.Masks.{OpenPool}
 use Rattle.hybrid_tx.specs.Open.ManyOpen.{OpenTransaction, Opens, AreOpenPools}

@@ -4,16 +4,16 @@ use Rattle.std.proofs.lemmas.Bool.{and_from, le-leb, lt-ltb}
 use Rattle.pm_model.specs.Changes.{Write}
 use Rattle.pm_model.specs.Masks.{masked_image}
 use Rattle.pud_defs.specs.declared.layout.TheConstants.{DAEMON_LOG}
-use Rattle.pud_defs.specs.Entries.{log_of}
-use Rattle.pud_defs.specs.Image.{Image}
-use Rattle.pud_defs.specs.Registry.{frames_of}
-use Rattle.pud_defs.specs.Replay.{device_word, new_value, settled_by}
-use Rattle.pud_defs.specs.Settled.{ALL_LOGS, log_number_at, is_refused_log}
-use Rattle.pud_defs.specs.SoundTables.{are_sound_tables, HasSoundTables}
-use Rattle.pud_defs.specs.Tables.{tables_of}
-use Rattle.pud_defs.specs.World.{StoredWorld, world_of, idle_world_of}
-use Rattle.pud_defs.proofs.Parts.Part.{Pools}
-use Rattle.pud_defs.proofs.SoundChanged.{sound_from}
+use Rattle.pud_defs.specs.Logging.Entries.{log_of}
+use Rattle.pud_defs.specs.Formats.Image.{Image}
+use Rattle.pud_defs.specs.RegistryTables.Registry.{frames_of}
+use Rattle.pud_defs.specs.Logging.Replay.{device_word, new_value, settled_by}
+use Rattle.pud_defs.specs.Logging.Settled.{ALL_LOGS, log_number_at, is_refused_log}
+use Rattle.pud_defs.specs.RegistryTables.SoundTables.{are_sound_tables, HasSoundTables}
+use Rattle.pud_defs.specs.RegistryTables.Tables.{tables_of}
+use Rattle.pud_defs.specs.StateMachine.World.{StoredWorld, world_of, idle_world_of}
+use Rattle.pud_defs.proofs.StateMachine.Parts.Part.{Pools}
+use Rattle.pud_defs.proofs.RegistryTables.SoundChanged.{sound_from}
 use Rattle.word_transaction.specs.Running.{RecoversTo}
 use Rattle.word_transaction.proofs.Images.{RecoversTo-local}
 use Rattle.hybrid_tx.specs.PoolScopes.{pool_scope, finished_of}

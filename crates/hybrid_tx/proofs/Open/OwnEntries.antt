@@ -6,9 +6,9 @@ use Rattle.std.specs.Option.{option_or}
 use Rattle.std.proofs.lemmas.Bool.{cases_Bool, cond-true, cond-false}
 use Rattle.std.proofs.lemmas.List.Elements.{All-nil, All-cons, All-head, All-tail}
 use Rattle.pud_defs.specs.declared.log_words.TheConstants.{UNDO_ORDER, REDO_ORDER}
-use Rattle.pud_defs.specs.Entries.{Entry, Log}
-use Rattle.pud_defs.specs.Replay.{AddressMap, is_in_range, given_by, undo_value, redo_value, given, new_value}
-use Rattle.pud_defs.proofs.Replay.{undo_value-first, redo_value-first, given_by-out, or_none, new_value-of}
+use Rattle.pud_defs.specs.Logging.Entries.{Entry, Log}
+use Rattle.pud_defs.specs.Logging.Replay.{AddressMap, is_in_range, given_by, undo_value, redo_value, given, new_value}
+use Rattle.pud_defs.proofs.Logging.Replay.{undo_value-first, redo_value-first, given_by-out, or_none, new_value-of}
 use Rattle.word_transaction.specs.Scope.{Scope, IsScope, IsInScope}
 use Rattle.word_transaction.specs.Running.{HasPlaces}
 use Rattle.word_transaction.proofs.Saved.{undone_is_mine, redone_is_mine}

@@ -6,19 +6,19 @@ use Rattle.std.proofs.lemmas.Option.{none-some, same_Some, slice_get-map, slice_
 use Rattle.pud_defs.specs.declared.space.TheConstants.{RANGE_BYTES}
 use Rattle.pud_defs.specs.declared.records.TheConstants.{MAX_PUDDLES}
 use Rattle.pud_defs.specs.declared.records.Puddle.{Puddle}
-use Rattle.pud_defs.specs.Allowed.{puddle_word}
-use Rattle.pud_defs.specs.Bases.{is_legal_base}
-use Rattle.pud_defs.specs.Puddles.{Member}
-use Rattle.pud_defs.specs.SoundTables.{HasSoundTables}
-use Rattle.pud_defs.specs.Stored.{IsOnDevice}
-use Rattle.pud_defs.specs.Tables.{Tables, puddles_in_turn}
-use Rattle.pud_defs.proofs.PuddlesListed.{puddles_in_turn-on_device}
+use Rattle.pud_defs.specs.Logging.Allowed.{puddle_word}
+use Rattle.pud_defs.specs.Formats.Bases.{is_legal_base}
+use Rattle.pud_defs.specs.RegistryTables.Puddles.{Member}
+use Rattle.pud_defs.specs.RegistryTables.SoundTables.{HasSoundTables}
+use Rattle.pud_defs.specs.PoolGraphs.Stored.{IsOnDevice}
+use Rattle.pud_defs.specs.RegistryTables.Tables.{Tables, puddles_in_turn}
+use Rattle.pud_defs.proofs.RegistryTables.PuddlesListed.{puddles_in_turn-on_device}
 use Rattle.graph_laws.specs.Changes.{AreBases}
 use Rattle.word_transaction.specs.Running.{HasPlaces}
 use Rattle.hybrid_tx.specs.PoolScopes.{pool_place, pool_has_word, pool_scope, ArePlacedPuddles}
 use Rattle.hybrid_tx.specs.Open.Masks.{IsPuddleOf, ArePuddlesOf}
 use Rattle.hybrid_tx.proofs.PoolScope.{IsNamed, pool_may_name-named, pool_place-there, pool_has_word-each}
-use Rattle.pud_defs.proofs.PoolMembers.{IsMemberOf, HasMembers, members_in_turn, multiple_of_legal, legal_of_member, one_ordinal, one_frame, puddle_word_of_member}
+use Rattle.pud_defs.proofs.RegistryTables.PoolMembers.{IsMemberOf, HasMembers, members_in_turn, multiple_of_legal, legal_of_member, one_ordinal, one_frame, puddle_word_of_member}
 
 -- the puddle of a base
 pub record HasBase (at : List (ℕ × Puddle)) (i base : ℕ) : Type 0 where

@@ -8,19 +8,19 @@ use Rattle.pud_defs.specs.declared.layout.TheConstants.{FRAME_WORDS}
 use Rattle.pud_defs.specs.declared.space.TheConstants.{WORD_BYTES}
 use Rattle.pud_defs.specs.declared.records.PoolRecord.{PoolRecord}
 use Rattle.pud_defs.specs.declared.records.Puddle.{Puddle}
-use Rattle.pud_defs.specs.Allowed.{may_write_record, may_write_puddle, are_writable, is_allowed_entry, are_allowed_entries, is_allowed_log}
-use Rattle.pud_defs.specs.Entries.{Entry, Log}
-use Rattle.pud_defs.specs.Places.{located}
-use Rattle.pud_defs.specs.Replay.{is_in_range}
-use Rattle.pud_defs.specs.Rights.{may_write}
-use Rattle.pud_defs.specs.SoundTables.{HasSoundTables}
-use Rattle.pud_defs.specs.Spaces.{Owner, owner}
-use Rattle.pud_defs.specs.Tables.{Tables}
+use Rattle.pud_defs.specs.Logging.Allowed.{may_write_record, may_write_puddle, are_writable, is_allowed_entry, are_allowed_entries, is_allowed_log}
+use Rattle.pud_defs.specs.Logging.Entries.{Entry, Log}
+use Rattle.pud_defs.specs.RegistryTables.Places.{located}
+use Rattle.pud_defs.specs.Logging.Replay.{is_in_range}
+use Rattle.pud_defs.specs.Formats.Rights.{may_write}
+use Rattle.pud_defs.specs.RegistryTables.SoundTables.{HasSoundTables}
+use Rattle.pud_defs.specs.RegistryTables.Spaces.{Owner, owner}
+use Rattle.pud_defs.specs.RegistryTables.Tables.{Tables}
 use Rattle.hybrid_tx.specs.PoolScopes.{pool_scope}
 use Rattle.hybrid_tx.specs.Open.Masks.{IsPuddleOf, ArePuddlesOf}
 use Rattle.hybrid_tx.proofs.PoolScope.{IsNamed, pool_may_name-named}
 use Rattle.hybrid_tx.proofs.Open.OwnEntries.{IsOwnInRange}
-use Rattle.pud_defs.proofs.PoolMembers.{located_of_member}
+use Rattle.pud_defs.proofs.RegistryTables.PoolMembers.{located_of_member}
 use Rattle.hybrid_tx.proofs.Open.PoolPlaces.{as_member}
 
 -- The pool of the slot is there, and its mode lets this owner write it.

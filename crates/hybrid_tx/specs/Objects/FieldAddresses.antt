@@ -1,7 +1,7 @@
 -- Addresses of fields, by which redo entries name what is asked for.
 use Rattle.std.specs.Prelude.{◌≡◌, ℕ, ◌+◌, ◌*◌, ◌<◌, List}
 use Rattle.pud_defs.specs.declared.layout.TheConstants.{MAX_FIELDS}
-use Rattle.pud_defs.specs.Geometry.{slots_of, slot_at}
+use Rattle.pud_defs.specs.Formats.Geometry.{slots_of, slot_at}
 use Rattle.pud_defs.specs.declared.space.TheConstants.{WORD_BYTES, SLOT_FIELDS_WORD}
 use Rattle.pud_defs.specs.declared.records.Puddle.{Puddle}
 use Rattle.pud_defs.specs.declared.records.Slot.{Slot}

@@ -6,12 +6,12 @@ use Rattle.pud_defs.specs.declared.records.Puddle.{Puddle}
 use Rattle.pud_defs.specs.declared.records.Slot.{Slot}
 use Rattle.pud_defs.specs.declared.objects.FieldValue.{FieldValue}
 use Rattle.pud_defs.specs.declared.objects.FieldValue.TheVariants.{Num, Ref}
-use Rattle.pud_defs.specs.Geometry.{puddle_slot_words, slot_begins}
-use Rattle.pud_defs.specs.Image.{Image}
-use Rattle.pud_defs.specs.Frames.{frame_at}
-use Rattle.pud_defs.specs.Replay.{over, IsInLog}
-use Rattle.pud_defs.specs.Graph.{At}
-use Rattle.pud_defs.specs.Exported.{address_of}
+use Rattle.pud_defs.specs.Formats.Geometry.{puddle_slot_words, slot_begins}
+use Rattle.pud_defs.specs.Formats.Image.{Image}
+use Rattle.pud_defs.specs.Formats.Frames.{frame_at}
+use Rattle.pud_defs.specs.Logging.Replay.{over, IsInLog}
+use Rattle.pud_defs.specs.PoolGraphs.Graph.{At}
+use Rattle.pud_defs.specs.PoolGraphs.Exported.{address_of}
 use Rattle.puddle_header.specs.Places.{place_of_slot}
 use Rattle.graph_read.specs.Reading.{place_in_pool}
 

@@ -1,9 +1,9 @@
 -- Transactions that are open at once, each on a pool of its own: the words of all of them, with their values from the beginning of each.
 use Rattle.std.specs.Prelude.{◌≡◌, ◌≢◌, ℕ, true, ◌==◌, cond, Option, Some, None}
 use Rattle.pm_model.specs.Changes.{Write}
-use Rattle.pud_defs.specs.Image.{Image}
-use Rattle.pud_defs.specs.Places.{first_some}
-use Rattle.pud_defs.specs.Settled.{ALL_LOGS}
+use Rattle.pud_defs.specs.Formats.Image.{Image}
+use Rattle.pud_defs.specs.RegistryTables.Places.{first_some}
+use Rattle.pud_defs.specs.Logging.Settled.{ALL_LOGS}
 use Rattle.hybrid_tx.specs.Open.Masks.{OpenPool, is_open_record, open_mask, IsOpenPool, IsLeftOpen}
 
 -- An open transaction: where it is open, and the image of its beginning.

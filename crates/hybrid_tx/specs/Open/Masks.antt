@@ -7,15 +7,15 @@ use Rattle.pud_defs.specs.declared.log_words.TheConstants.{CLOSED_GATE}
 use Rattle.pud_defs.specs.declared.records.TheConstants.{POOL_RECORDS, MAX_PUDDLES}
 use Rattle.pud_defs.specs.declared.records.PoolRecord.{PoolRecord}
 use Rattle.pud_defs.specs.declared.records.Puddle.{Puddle}
-use Rattle.pud_defs.specs.Image.{Image}
-use Rattle.pud_defs.specs.Entries.{log_of}
-use Rattle.pud_defs.specs.Replay.{device_word, new_value, is_in_log}
-use Rattle.pud_defs.specs.Rights.{may_write}
-use Rattle.pud_defs.specs.Spaces.{Owner, owner, space_record_at, owner_of}
-use Rattle.pud_defs.specs.Pools.{pool_record_at}
-use Rattle.pud_defs.specs.Puddles.{Member, puddle_record_at}
-use Rattle.pud_defs.specs.Tables.{Tables, tables_of}
-use Rattle.pud_defs.specs.Settled.{ALL_LOGS, client_of_log, log_number_at}
+use Rattle.pud_defs.specs.Formats.Image.{Image}
+use Rattle.pud_defs.specs.Logging.Entries.{log_of}
+use Rattle.pud_defs.specs.Logging.Replay.{device_word, new_value, is_in_log}
+use Rattle.pud_defs.specs.Formats.Rights.{may_write}
+use Rattle.pud_defs.specs.RegistryTables.Spaces.{Owner, owner, space_record_at, owner_of}
+use Rattle.pud_defs.specs.RegistryTables.Pools.{pool_record_at}
+use Rattle.pud_defs.specs.RegistryTables.Puddles.{Member, puddle_record_at}
+use Rattle.pud_defs.specs.RegistryTables.Tables.{Tables, tables_of}
+use Rattle.pud_defs.specs.Logging.Settled.{ALL_LOGS, client_of_log, log_number_at}
 use Rattle.graph_laws.specs.Reads.{HasDistinctFrames}
 use Rattle.word_transaction.specs.Running.{RecoversTo}
 use Rattle.hybrid_tx.specs.PoolScopes.{pool_has_word, pool_scope, finished_of}

@@ -1,5 +1,5 @@
 use Rattle.std.proofs.Common.{◌&&◌, leb, Bool, ℕ, sym, ap, ◌∙◌}
-use Rattle.pud_defs.specs.Entries.{entry_n}
+use Rattle.pud_defs.specs.Logging.Entries.{entry_n}
 use Rattle.log_entry.proofs.begins_entry.Goals as goal
 
 pub returns-then-is_legal_entry_word : goal.returns-then-is_legal_entry_word

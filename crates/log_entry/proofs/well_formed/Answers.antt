@@ -1,6 +1,6 @@
 use Rattle.std.proofs.Common.{◌≡◌, ℕ, true, leb, is_some, refl, sym, ap, ap₂, ◌∙◌, arith}
 use Rattle.pm_model.specs.Words.{reads}
-use Rattle.pud_defs.specs.Entries.{gate_used, is_legal_gate}
+use Rattle.pud_defs.specs.Logging.Entries.{gate_used, is_legal_gate}
 use Rattle.log_entry.specs.Reading.{Reading, PassesOne}
 use Rattle.log_entry.proofs.Left.{entries_left-start, IsReading-start, IsReading-more, not_formed, formed-more, formed-end}
 use Rattle.pm_model.proofs.Reading.{OnlyReads-none, OnlyReads-then, still_reads}

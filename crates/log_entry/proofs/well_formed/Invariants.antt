@@ -1,8 +1,8 @@
 use Rattle.std.proofs.Common.{None, ◌≡◌, ◌-◌, is_some}
 use Rattle.pm_model.specs.Words.{reads}
 use Rattle.pud_defs.specs.declared.layout.TheConstants.{LOG_ENTRY_WORDS}
-use Rattle.pud_defs.specs.Image.{Image}
-use Rattle.pud_defs.specs.Entries.{entries_of}
+use Rattle.pud_defs.specs.Formats.Image.{Image}
+use Rattle.pud_defs.specs.Logging.Entries.{entries_of}
 use Rattle.log_entry.specs.Reading.{entries_left}
 use Rattle.log_entry.proofs.Left.{IsReading}
 use Rattle.pm_model.specs.Reads.{OnlyReads}

@@ -1,6 +1,6 @@
 use Rattle.std.proofs.Common.{ap, ◌∙◌}
 use Rattle.pm_model.proofs.Reading.{still_reads}
-use Rattle.pud_defs.specs.Entries.{Log}
+use Rattle.pud_defs.specs.Logging.Entries.{Log}
 use Rattle.log_replay.specs.Replaying.{log_to}
 use Rattle.log_replay.proofs.copy_placed.Goals as goal
 

@@ -1,8 +1,8 @@
 use Rattle.std.proofs.Common.{◌≡◌, ℕ, option_map, map, refl, sym, ap, ◌∙◌}
 use Rattle.pm_model.proofs.Reading.{OnlyReads-none, OnlyReads-then, still_reads}
-use Rattle.pud_defs.specs.Entries.{gate_lo, gate_hi}
-use Rattle.pud_defs.specs.Tables.{tables_of}
-use Rattle.pud_defs.specs.Allowed.{puddle_word}
+use Rattle.pud_defs.specs.Logging.Entries.{gate_lo, gate_hi}
+use Rattle.pud_defs.specs.RegistryTables.Tables.{tables_of}
+use Rattle.pud_defs.specs.Logging.Allowed.{puddle_word}
 use Rattle.log_entry.specs.Reading.{entry_from}
 use Rattle.log_entry.specs.Copying.{image_of_copy, log_copied, with_address}
 use Rattle.log_entry.proofs.Left.{IsReading-start, IsReading-more}

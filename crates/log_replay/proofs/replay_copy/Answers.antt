@@ -3,7 +3,7 @@ use Rattle.std.proofs.lemmas.Result.{err_from_is_err_and}
 use Rattle.pm_model.specs.Words.{reads}
 use Rattle.pm_model.specs.Counts.{fault_of}
 use Rattle.pm_model.proofs.Changes.{Changes-fence}
-use Rattle.pud_defs.specs.Replay.{device_word, new_value}
+use Rattle.pud_defs.specs.Logging.Replay.{device_word, new_value}
 use Rattle.log_entry.specs.Copying.{log_copied}
 use Rattle.log_replay.specs.Replaying.{Anything, new_values}
 use Rattle.log_replay.proofs.Applying.{AppliesEntries-same, any_then}

@@ -1,7 +1,7 @@
 use Rattle.std.proofs.Common.{List, refl, subst}
 use Rattle.pm_model.specs.Counts.{fault_of}
 use Rattle.pud_defs.specs.declared.layout.TheConstants.{DAEMON_LOG}
-use Rattle.pud_defs.specs.Entries.{Entry}
+use Rattle.pud_defs.specs.Logging.Entries.{Entry}
 use Rattle.pm_model.specs.Masks.{no_mask, masked_state}
 use Rattle.pm_model.proofs.Masks.{IsOff-no_mask}
 use Rattle.pud_defs.specs.declared.layout.TheConstants.{CLIENTS}

@@ -1,6 +1,6 @@
 use Rattle.std.proofs.Common.{◌≡◌, ◌*◌, List, [], ◌∷◌, ◌++◌, sym, ap, ◌∙◌, arith}
-use Rattle.pud_defs.specs.Entries.{Entry}
-use Rattle.pud_defs.specs.Spaces.{space_record_at}
+use Rattle.pud_defs.specs.Logging.Entries.{Entry}
+use Rattle.pud_defs.specs.RegistryTables.Spaces.{space_record_at}
 use Rattle.batch.specs.Batches.{batch_entry, word_count_of}
 use Rattle.log_space.specs.Clearing.{clearing}
 use Rattle.log_space.proofs.Cleared.{clearing-none, clearing-more, word_count_of-clearing}

@@ -1,8 +1,8 @@
 use Rattle.std.proofs.Common.{◌≡◌, ℕ, ◌+◌, ◌-◌, true, false, option_map, refl, sym, ap, ◌∙◌, arith}
 use Rattle.pm_model.specs.Words.{reads}
 use Rattle.pud_defs.specs.declared.layout.TheConstants.{CLIENT_LOGS}
-use Rattle.pud_defs.specs.Layout.{log_at}
-use Rattle.pud_defs.specs.Spaces.{is_closed_log}
+use Rattle.pud_defs.specs.Formats.Layout.{log_at}
+use Rattle.pud_defs.specs.RegistryTables.Spaces.{is_closed_log}
 use Rattle.log_space.specs.FreeLogs.{log_number}
 use Rattle.log_space.proofs.FirstFrom.{first_from-passes, first_from-fails, first_from-none}
 use Rattle.pm_model.proofs.Reading.{OnlyReads-none, OnlyReads-then, still_reads}

@@ -1,8 +1,8 @@
 use Rattle.std.proofs.Common.{None, ◌≡◌, ◌-◌}
 use Rattle.pm_model.specs.Words.{reads}
 use Rattle.pud_defs.specs.declared.layout.TheConstants.{CLIENT_LOGS}
-use Rattle.pud_defs.specs.Layout.{log_at}
-use Rattle.pud_defs.specs.Spaces.{is_closed_log}
+use Rattle.pud_defs.specs.Formats.Layout.{log_at}
+use Rattle.pud_defs.specs.RegistryTables.Spaces.{is_closed_log}
 use Rattle.log_space.specs.FreeLogs.{first_from}
 use Rattle.pm_model.specs.Reads.{OnlyReads}
 use Rattle.log_space.proofs.free_log.Given as goal

@@ -1,5 +1,5 @@
 use Rattle.std.proofs.Common.{eqb, ap, ◌∙◌}
-use Rattle.pud_defs.proofs.Spaces.{used_is_some}
+use Rattle.pud_defs.proofs.RegistryTables.Spaces.{used_is_some}
 use Rattle.log_space.proofs.is_registered.Goals as goal
 
 pub returns-clause-registered : goal.returns-clause-registered

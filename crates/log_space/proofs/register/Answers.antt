@@ -4,7 +4,7 @@ use Rattle.pud_defs.specs.declared.layout.TheConstants.{DAEMON_LOG}
 use Rattle.pm_model.specs.Masks.{masked, masked_state, IsOff}
 use Rattle.batch.specs.Batches.{ByBatch, Commits}
 use Rattle.batch.specs.Worlds.{MovesBy, Moves}
-use Rattle.pud_defs.specs.Spaces.{owner}
+use Rattle.pud_defs.specs.RegistryTables.Spaces.{owner}
 use Rattle.log_space.specs.Records.{record_batch}
 use Rattle.log_space.proofs.Writing.{GivesOwner-registration, MovesBy-record, Registers-moves}
 use Rattle.log_space.proofs.register.Goals as goal

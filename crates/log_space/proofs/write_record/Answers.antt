@@ -1,8 +1,8 @@
 use Rattle.std.proofs.Common.{◌≡◌, ℕ, ◌+◌, ◌≤◌, ◌++◌, List, [], ◌∷◌, length, refl, ap, subst, ◌∙◌, arith}
 use Rattle.pm_model.specs.Counts.{fault_of}
 use Rattle.pud_defs.specs.declared.layout.TheConstants.{DAEMON_LOG, LOG_ENTRY_WORDS, ENTRY_HEADER_WORDS, SPACE_RECORD_WORDS}
-use Rattle.pud_defs.specs.Entries.{Entry}
-use Rattle.pud_defs.specs.Spaces.{space_record_at}
+use Rattle.pud_defs.specs.Logging.Entries.{Entry}
+use Rattle.pud_defs.specs.RegistryTables.Spaces.{space_record_at}
 use Rattle.pm_model.specs.Masks.{masked, masked_state, IsOff}
 use Rattle.batch.specs.Batches.{batch_entry, word_count_of, IsFree, ByBatch, Commits}
 use Rattle.batch.specs.Worlds.{MovesBy, Moves}

@@ -1,4 +1,4 @@
-use Rattle.pud_defs.specs.Stored.{stored_in}
+use Rattle.pud_defs.specs.PoolGraphs.Stored.{stored_in}
 use Rattle.object_alloc.proofs.Searched.{AreLiveBefore-start}
 use Rattle.object_alloc.proofs.alloc_slot.Goals as goal
 

@@ -1,5 +1,5 @@
 use Rattle.std.proofs.Common.{ℕ, Option, IfSome, sym, subst}
-use Rattle.pud_defs.specs.Stored.{stored_in}
+use Rattle.pud_defs.specs.PoolGraphs.Stored.{stored_in}
 use Rattle.graph_laws.specs.Slots.{IsLowestFreeSlot}
 use Rattle.object_alloc.proofs.Searched.{not_all_live}
 use Rattle.object_alloc.proofs.alloc_slot_from.Goals as goal

@@ -1,6 +1,6 @@
 use Rattle.std.proofs.Common.{sym, ◌∙◌, arith}
 use Rattle.std.proofs.lemmas.Bool.{eqb-true, eqb-false}
-use Rattle.pud_defs.specs.Stored.{stored_in}
+use Rattle.pud_defs.specs.PoolGraphs.Stored.{stored_in}
 use Rattle.object_alloc.proofs.Searched.{AreLiveBefore-more, found_free, none_found}
 use Rattle.pm_model.proofs.Reading.{OnlyReads-then, still_reads}
 use Rattle.object_alloc.proofs.free_place.Goals as goal

@@ -1,7 +1,7 @@
 use Rattle.std.proofs.Common.{None, ◌≡◌}
 use Rattle.pm_model.specs.Words.{reads}
-use Rattle.pud_defs.specs.Image.{Image}
-use Rattle.pud_defs.specs.Stored.{stored_in}
+use Rattle.pud_defs.specs.Formats.Image.{Image}
+use Rattle.pud_defs.specs.PoolGraphs.Stored.{stored_in}
 use Rattle.object_alloc.specs.Alloc.{AreLiveBefore}
 use Rattle.pm_model.specs.Reads.{OnlyReads}
 use Rattle.object_alloc.proofs.free_place.Given as goal

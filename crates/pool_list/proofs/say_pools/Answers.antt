@@ -4,7 +4,7 @@ use Rattle.pm_model.specs.Calls.{Says}
 use Rattle.pm_model.proofs.Reading.{still_reads}
 use Rattle.pm_model.proofs.Saying.{Says-behind}
 use Rattle.pud_defs.specs.declared.layout.TheConstants.{MACHINE_WORD}
-use Rattle.pud_defs.specs.Texts.{line_of}
+use Rattle.pud_defs.specs.Output.Texts.{line_of}
 use Rattle.pool_list.specs.Listed.{records_text}
 use Rattle.pool_list.proofs.Saying.{records_text-read}
 use Rattle.pool_list.proofs.say_pools.Goals as goal

@@ -7,8 +7,8 @@ use Rattle.pm_model.proofs.Reading.{still_reads}
 use Rattle.pm_model.proofs.Saying.{Says-behind}
 use Rattle.pud_defs.specs.declared.layout.TheConstants.{MACHINE_WORD, NEXT_NUMBER_WORD}
 use Rattle.pud_defs.specs.declared.records.PoolRecord.{PoolRecord}
-use Rattle.pud_defs.specs.LayoutText.{frames_line}
-use Rattle.pud_defs.specs.Tables.{tables_of}
+use Rattle.pud_defs.specs.Output.LayoutText.{frames_line}
+use Rattle.pud_defs.specs.RegistryTables.Tables.{tables_of}
 use Rattle.pud_check.specs.LayoutListed.{pool_listed}
 use Rattle.pud_check.proofs.Saying.{reads-said, holds_counted, Says-no_pools, Says-layout, listed_layout-sound}
 use Rattle.pud_check.proofs.say_layout.Goals as goal

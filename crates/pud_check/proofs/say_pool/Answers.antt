@@ -3,8 +3,8 @@ use Rattle.std.proofs.lemmas.Result.{err_from_is_err_and}
 use Rattle.pm_model.specs.Counts.{fault_of}
 use Rattle.pm_model.specs.Calls.{Says}
 use Rattle.pm_model.proofs.Saying.{Says-then, Says-front}
-use Rattle.pud_defs.specs.LayoutText.{pool_line}
-use Rattle.pud_defs.specs.Tables.{tables_of}
+use Rattle.pud_defs.specs.Output.LayoutText.{pool_line}
+use Rattle.pud_defs.specs.RegistryTables.Tables.{tables_of}
 use Rattle.pud_check.specs.LayoutListed.{puddles_listed}
 use Rattle.pud_check.proofs.Saying.{reads-said}
 use Rattle.pud_check.proofs.say_pool.Goals as goal

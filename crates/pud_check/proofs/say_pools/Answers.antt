@@ -1,7 +1,7 @@
 use Rattle.std.proofs.Common.{None, ap, ◌∙◌}
 use Rattle.std.proofs.lemmas.Result.{err_from_is_err_and}
 use Rattle.pm_model.specs.Counts.{after_fault, fault_of}
-use Rattle.pud_defs.specs.Tables.{tables_of}
+use Rattle.pud_defs.specs.RegistryTables.Tables.{tables_of}
 use Rattle.pool_list.proofs.Saying.{Says-more, Says-until}
 use Rattle.pud_check.specs.LayoutListed.{pool_listed}
 use Rattle.pud_check.proofs.Saying.{reads-said}

@@ -2,8 +2,8 @@ use Rattle.std.proofs.Common.{◌≡◌, None, take}
 use Rattle.std.specs.List.{flat_map}
 use Rattle.pm_model.specs.Words.{reads}
 use Rattle.pm_model.specs.Calls.{Says}
-use Rattle.pud_defs.specs.Image.{Image}
-use Rattle.pud_defs.specs.Tables.{tables_of}
+use Rattle.pud_defs.specs.Formats.Image.{Image}
+use Rattle.pud_defs.specs.RegistryTables.Tables.{tables_of}
 use Rattle.puddle_table.specs.Placed.{HoldsPlaces}
 use Rattle.pud_check.specs.LayoutListed.{pool_listed}
 use Rattle.pud_check.proofs.say_pools.Given as goal

@@ -1,9 +1,9 @@
 use Rattle.std.proofs.Common.{◌≡◌, ℕ, ◌+◌, Bool, IfOk, sym, ap, subst, ◌∙◌, eq-eqb, ne_eqb}
 use Rattle.pud_defs.specs.declared.space.TheConstants.{FRAME_MAGIC_WORD, FRAME_NUMBER_WORD, FRAME_ORDINAL_WORD}
-use Rattle.pud_defs.specs.Image.{Image}
-use Rattle.pud_defs.specs.Frames.{frame_word}
-use Rattle.pud_defs.specs.Headers.{is_header}
-use Rattle.pud_defs.specs.Puddles.{puddle_record_at}
+use Rattle.pud_defs.specs.Formats.Image.{Image}
+use Rattle.pud_defs.specs.Formats.Frames.{frame_word}
+use Rattle.pud_defs.specs.Formats.Headers.{is_header}
+use Rattle.pud_defs.specs.RegistryTables.Puddles.{puddle_record_at}
 use Rattle.puddle_header.proofs.Fits.{no_header, header_by_record}
 use Rattle.pm_model.proofs.Reading.{still_reads}
 use Rattle.puddle_header.proofs.header_fits.Goals as goal

@@ -1,5 +1,5 @@
 use Rattle.std.proofs.Common.{◌≡◌, ℕ, ◌+◌, IfOk, subst}
-use Rattle.pud_defs.specs.Frames.{frame_word}
+use Rattle.pud_defs.specs.Formats.Frames.{frame_word}
 use Rattle.puddle_header.proofs.slot_word.Goals as goal
 
 pub returns-clause-word : goal.returns-clause-word

@@ -1,6 +1,6 @@
 use Rattle.std.proofs.Common.{None, ◌≤◌, All}
 use Rattle.pm_model.specs.Words.{reads}
-use Rattle.pud_defs.specs.Tables.{tables_of}
+use Rattle.pud_defs.specs.RegistryTables.Tables.{tables_of}
 use Rattle.puddle_table.proofs.Counting.{IsCounted}
 use Rattle.pm_model.specs.Reads.{OnlyReads}
 use Rattle.puddle_table.proofs.count_by_pool.Given as goal

@@ -2,8 +2,8 @@ use Rattle.std.proofs.Common.{◌≡◌, refl, sym, ap, ◌∙◌, arith}
 use Rattle.pm_model.specs.Words.{reads}
 use Rattle.pm_model.specs.Moments.{State}
 use Rattle.pm_model.proofs.Reading.{OnlyReads-none, OnlyReads-then, still_reads}
-use Rattle.pud_defs.specs.Image.{Image}
-use Rattle.pud_defs.specs.Puddles.{puddle_record_at}
+use Rattle.pud_defs.specs.Formats.Image.{Image}
+use Rattle.pud_defs.specs.RegistryTables.Puddles.{puddle_record_at}
 use Rattle.puddle_table.specs.Records.{frame_by}
 use Rattle.puddle_table.proofs.Search.{lowest_here, lowest_later, lowest_none, lowest_moved}
 use Rattle.puddle_table.proofs.free_frame.Goals as goal

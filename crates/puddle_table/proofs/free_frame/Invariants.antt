@@ -1,7 +1,7 @@
 use Rattle.std.proofs.Common.{None, ◌≡◌, ◌-◌}
 use Rattle.pm_model.specs.Words.{reads}
-use Rattle.pud_defs.specs.Keyed.{first_free}
-use Rattle.pud_defs.specs.Tables.{tables_of}
+use Rattle.pud_defs.specs.RegistryTables.Keyed.{first_free}
+use Rattle.pud_defs.specs.RegistryTables.Tables.{tables_of}
 use Rattle.pm_model.specs.Reads.{OnlyReads}
 use Rattle.puddle_table.proofs.free_frame.Given as goal
 

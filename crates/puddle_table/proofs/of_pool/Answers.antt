@@ -3,8 +3,8 @@ use Rattle.pm_model.specs.Words.{reads}
 use Rattle.pm_model.specs.Moments.{State}
 use Rattle.pm_model.proofs.Reading.{OnlyReads-none, OnlyReads-then, still_reads}
 use Rattle.pud_defs.specs.declared.records.PuddleRecord.{PuddleRecord}
-use Rattle.pud_defs.specs.Image.{Image}
-use Rattle.pud_defs.specs.Puddles.{puddle_record_at}
+use Rattle.pud_defs.specs.Formats.Image.{Image}
+use Rattle.pud_defs.specs.RegistryTables.Puddles.{puddle_record_at}
 use Rattle.puddle_table.specs.Records.{is_member}
 use Rattle.puddle_table.proofs.Search.{found_from-start, found_from-here, found_from-other, found_from-end, found_moved}
 use Rattle.puddle_table.proofs.of_pool.Goals as goal

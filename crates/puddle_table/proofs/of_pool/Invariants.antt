@@ -1,6 +1,6 @@
 use Rattle.std.proofs.Common.{None, ◌≡◌}
 use Rattle.pm_model.specs.Words.{reads}
-use Rattle.pud_defs.specs.Tables.{tables_of, puddle_in}
+use Rattle.pud_defs.specs.RegistryTables.Tables.{tables_of, puddle_in}
 use Rattle.puddle_table.proofs.Search.{found_from}
 use Rattle.pm_model.specs.Reads.{OnlyReads}
 use Rattle.puddle_table.proofs.of_pool.Given as goal

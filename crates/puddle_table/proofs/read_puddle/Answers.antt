@@ -1,6 +1,6 @@
 use Rattle.std.proofs.Common.{◌+◌, ap, ◌∙◌}
 use Rattle.pm_model.proofs.Reading.{still_reads}
-use Rattle.pud_defs.specs.Image.{Image}
+use Rattle.pud_defs.specs.Formats.Image.{Image}
 use Rattle.puddle_table.proofs.Search.{words_read}
 use Rattle.puddle_table.proofs.read_puddle.Goals as goal
 

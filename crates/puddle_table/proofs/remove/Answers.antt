@@ -1,7 +1,7 @@
 use Rattle.std.proofs.Common.{◌≡◌, ℕ, [], ◌∷◌, None, sym, subst}
-use Rattle.pud_defs.specs.Tables.{tables_of}
-use Rattle.pud_defs.specs.Puts.{put_of, with_put, with_puddle_at}
-use Rattle.pud_defs.proofs.PutsMade.{free_puddle_put_made}
+use Rattle.pud_defs.specs.RegistryTables.Tables.{tables_of}
+use Rattle.pud_defs.specs.RegistryTables.Puts.{put_of, with_put, with_puddle_at}
+use Rattle.pud_defs.proofs.RegistryTables.PutsMade.{free_puddle_put_made}
 use Rattle.puddle_table.proofs.remove.Goals as goal
 
 pub returns-clause-changes : goal.returns-clause-changes

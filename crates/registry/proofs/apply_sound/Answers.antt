@@ -4,8 +4,8 @@ use Rattle.std.proofs.lemmas.Result.{err_from_is_err_and}
 use Rattle.pm_model.specs.Words.{reads}
 use Rattle.pm_model.proofs.Reading.{Changes-read, still_size}
 use Rattle.log_replay.proofs.Applying.{any_then}
-use Rattle.pud_defs.specs.World.{world_of}
-use Rattle.pud_defs.proofs.Worlds.{world_of-sound, world_of-unsound}
+use Rattle.pud_defs.specs.StateMachine.World.{world_of}
+use Rattle.pud_defs.proofs.StateMachine.Worlds.{world_of-sound, world_of-unsound}
 use Rattle.log_replay.specs.declared.Target.TheVariants as targets
 use Rattle.registry.proofs.Applied.{copied_before, settles_sound, SettlesLog-failed, AppliesLog-sound, AppliesLog-failed}
 use Rattle.registry.proofs.apply_sound.Goals as goal

@@ -1,8 +1,8 @@
 use Rattle.std.proofs.Common.{◌≡◌, ℕ, None, refl, sym, ap, ◌∙◌}
 use Rattle.std.proofs.lemmas.Result.{err_from_is_err_and}
 use Rattle.pm_model.specs.Words.{reads}
-use Rattle.pud_defs.specs.World.{world_of}
-use Rattle.pud_defs.proofs.Worlds.{frames_of_world}
+use Rattle.pud_defs.specs.StateMachine.World.{world_of}
+use Rattle.pud_defs.proofs.StateMachine.Worlds.{frames_of_world}
 use Rattle.registry.proofs.Applied.{SettlesLog-unread, AppliesLog-kept, stands_read, machine_then}
 use Rattle.registry.proofs.load_sound.Goals as goal
 

@@ -2,7 +2,7 @@ use Rattle.std.proofs.Common.{◌≡◌, ℕ, suc, ◌+◌, ◌-◌, ◌≤◌, 
 use Rattle.std.proofs.lemmas.Slice.{take-put_mid}
 use borrow.Rule.Slice.PartMut.{put_mid}
 use Rattle.pud_defs.specs.declared.layout.TheConstants.{MAX_ENTRY_VALUES, LOG_ENTRY_WORDS}
-use Rattle.pud_defs.specs.Entries.{Entry, spelled}
+use Rattle.pud_defs.specs.Logging.Entries.{Entry, spelled}
 use Rattle.batch.specs.Batches.{batch_entry, word_count_of, IsBuffer}
 use Rattle.batch.proofs.Buffers.{HasMore, has_more}
 use Rattle.batch.proofs.Batch.add.Goals as goal

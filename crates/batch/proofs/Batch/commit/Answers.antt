@@ -1,5 +1,5 @@
 use Rattle.std.proofs.Common.{List, Some, ap, subst, ◌∙◌}
-use Rattle.pud_defs.specs.Entries.{Entry}
+use Rattle.pud_defs.specs.Logging.Entries.{Entry}
 use Rattle.batch.specs.Batches.{AreBatched}
 use Rattle.pm_model.specs.Counts.{fault_of}
 use Rattle.pm_model.specs.Masks.{masked_state}

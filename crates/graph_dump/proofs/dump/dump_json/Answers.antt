@@ -1,7 +1,7 @@
 use Rattle.std.proofs.Common.{◌<◌, length, map, ap, sym, ◌∙◌, arith, ℕ}
 use Rattle.pud_defs.specs.declared.space.TheConstants.{NEXT_SERIAL_WORD, ROOT_WORD}
-use Rattle.pud_defs.specs.Types.{types_of}
-use Rattle.pud_defs.specs.Graph.{pointee_at, named_by}
+use Rattle.pud_defs.specs.RegistryTables.Types.{types_of}
+use Rattle.pud_defs.specs.PoolGraphs.Graph.{pointee_at, named_by}
 use Rattle.graph_read.specs.Reading.{table_in}
 use Rattle.graph_read.proofs.Referenced.{none_held}
 use Rattle.graph_read.proofs.Judging.{first_word, positive_length}

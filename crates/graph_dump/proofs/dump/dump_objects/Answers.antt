@@ -3,7 +3,7 @@ use Rattle.std.proofs.lemmas.List.Elements.{All-tail}
 use Rattle.std.proofs.lemmas.Map.Iter.{rest_more}
 use Rattle.std.specs.Map.{values_of}
 use Rattle.std.specs.Map.Iter.{deref_pair}
-use Rattle.pud_defs.specs.DumpText.{joined}
+use Rattle.pud_defs.specs.Output.DumpText.{joined}
 use Rattle.puddle_header.specs.Places.{places_in}
 use Rattle.graph_dump.specs.Read.{entry_text}
 use Rattle.graph_dump.proofs.Joining.{joined_from-more}

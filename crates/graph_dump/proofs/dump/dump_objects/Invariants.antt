@@ -1,7 +1,7 @@
 use Rattle.std.proofs.Common.{None, ◌≡◌, ◌++◌, ◌<◌, map, All}
 use Rattle.std.specs.Map.{values_of}
 use Rattle.pm_model.specs.Words.{Image, reads}
-use Rattle.pud_defs.specs.DumpText.{joined}
+use Rattle.pud_defs.specs.Output.DumpText.{joined}
 use Rattle.puddle_header.specs.Places.{places_in}
 use Rattle.graph_dump.specs.Read.{entry_text}
 use Rattle.graph_dump.proofs.Joining.{joined_from}

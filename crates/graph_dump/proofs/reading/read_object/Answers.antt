@@ -1,5 +1,5 @@
 use Rattle.std.proofs.Common.{◌≡◌, ap, sym, ◌∙◌, take, ℕ}
-use Rattle.pud_defs.specs.Types.{types_of, map_of}
+use Rattle.pud_defs.specs.RegistryTables.Types.{types_of, map_of}
 use Rattle.graph_dump.specs.Read.{field_values}
 use Rattle.graph_dump.proofs.Objects.{object_at-read}
 use Rattle.pm_model.proofs.Reading.{still_reads}

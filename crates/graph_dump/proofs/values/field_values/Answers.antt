@@ -1,7 +1,7 @@
 use Rattle.std.proofs.Common.{arith}
 use Rattle.std.proofs.lemmas.List.{map_more}
 use Rattle.pud_defs.specs.declared.objects.FieldValue.TheVariants.{Num}
-use Rattle.pud_defs.specs.DumpText.{value_text}
+use Rattle.pud_defs.specs.Output.DumpText.{value_text}
 use Rattle.graph_dump.proofs.Spelling.{SpellsEach-more}
 use Rattle.graph_dump.proofs.values.field_values.Goals as goal
 

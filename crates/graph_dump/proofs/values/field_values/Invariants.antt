@@ -1,5 +1,5 @@
 use Rattle.std.proofs.Common.{map, take}
-use Rattle.pud_defs.specs.DumpText.{value_text}
+use Rattle.pud_defs.specs.Output.DumpText.{value_text}
 use Rattle.graph_dump.specs.Spelled.{SpellsEach}
 use Rattle.graph_dump.proofs.values.field_values.Given as goal
 

@@ -1,7 +1,7 @@
 use Rattle.std.proofs.Common.{rules, map}
 use Rattle.serde_json.specs.declared.value.Value.{the_lemmas}
 use Rattle.serde_json.proofs.OnLiterals.{serde_json_on_literals}
-use Rattle.pud_defs.specs.DumpText.{value_text}
+use Rattle.pud_defs.specs.Output.DumpText.{value_text}
 use Rattle.graph_dump.specs.Spelled.{SpellsEach}
 use Rattle.graph_dump.proofs.Spelling.{Spells-object}
 use Rattle.graph_dump.proofs.values.object_value.Goals as goal

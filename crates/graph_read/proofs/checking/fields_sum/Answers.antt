@@ -1,9 +1,9 @@
 use Rattle.std.proofs.Common.{◌≡◌, ◌%◌, ◌^◌, ◌<◌, ℕ, slice_index, refl, sym, ap, ap₂, ◌∙◌, arith}
 use Rattle.std.specs.Bool.{then_some}
-use Rattle.pud_defs.specs.Graph.{field_count}
-use Rattle.pud_defs.specs.Spaces.{all_below}
-use Rattle.pud_defs.specs.Stored.{stored_in}
-use Rattle.pud_defs.proofs.Spaces.{all_below-more, all_below-fails, all_below-none}
+use Rattle.pud_defs.specs.PoolGraphs.Graph.{field_count}
+use Rattle.pud_defs.specs.RegistryTables.Spaces.{all_below}
+use Rattle.pud_defs.specs.PoolGraphs.Stored.{stored_in}
+use Rattle.pud_defs.proofs.RegistryTables.Spaces.{all_below-more, all_below-fails, all_below-none}
 use Rattle.graph_read.proofs.Numbers.{fields_counted, fields_counted-more, value_passed, value_refused}
 use Rattle.graph_read.proofs.Passing.{field_passes, field_count-least, fields_pass-each}
 use Rattle.pm_model.proofs.Reading.{OnlyReads-none, OnlyReads-then, still_reads}

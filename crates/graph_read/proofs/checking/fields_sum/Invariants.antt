@@ -1,9 +1,9 @@
 use Rattle.std.proofs.Common.{None, ◌≡◌, ◌%◌, ◌^◌, true, slice_index}
 use Rattle.pm_model.specs.Words.{reads}
 use Rattle.pm_model.specs.Reads.{OnlyReads}
-use Rattle.pud_defs.specs.Image.{Image}
-use Rattle.pud_defs.specs.Spaces.{all_below}
-use Rattle.pud_defs.specs.Stored.{stored_in}
+use Rattle.pud_defs.specs.Formats.Image.{Image}
+use Rattle.pud_defs.specs.RegistryTables.Spaces.{all_below}
+use Rattle.pud_defs.specs.PoolGraphs.Stored.{stored_in}
 use Rattle.graph_read.proofs.Numbers.{fields_counted}
 use Rattle.graph_read.proofs.Passing.{field_passes}
 use Rattle.graph_read.proofs.checking.fields_sum.Given as goal

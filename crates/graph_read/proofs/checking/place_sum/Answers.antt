@@ -1,9 +1,9 @@
 use Rattle.std.proofs.Common.{◌≡◌, ◌≢◌, IfOk, Some, slice_index, sym, ap, subst, ◌∙◌}
 use Rattle.std.proofs.lemmas.Bool.{eqb-false}
 use Rattle.pud_defs.specs.declared.space.TheConstants.{SLOT_TYPE_WORD}
-use Rattle.pud_defs.specs.Graph.{table_of, slot_contents}
-use Rattle.pud_defs.specs.Stored.{stored_in, place_word}
-use Rattle.pud_defs.specs.Types.{types_of, map_of}
+use Rattle.pud_defs.specs.PoolGraphs.Graph.{table_of, slot_contents}
+use Rattle.pud_defs.specs.PoolGraphs.Stored.{stored_in, place_word}
+use Rattle.pud_defs.specs.RegistryTables.Types.{types_of, map_of}
 use Rattle.graph_read.specs.Checking.{with_serials}
 use Rattle.graph_read.specs.Numbers.{fields_sum}
 use Rattle.graph_read.proofs.Numbers.{place_sum-live}

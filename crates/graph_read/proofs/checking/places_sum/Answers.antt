@@ -1,5 +1,5 @@
 use Rattle.std.proofs.Common.{refl, slice_index, sym, arith}
-use Rattle.pud_defs.proofs.Spaces.{all_below-more, all_below-none}
+use Rattle.pud_defs.proofs.RegistryTables.Spaces.{all_below-more, all_below-none}
 use Rattle.puddle_header.specs.Places.{places_in}
 use Rattle.graph_read.specs.Checking.{place_passes, with_serials}
 use Rattle.graph_read.specs.Reading.{table_in}

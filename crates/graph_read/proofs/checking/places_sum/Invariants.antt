@@ -1,8 +1,8 @@
 use Rattle.std.proofs.Common.{None, ◌≡◌, ◌%◌, ◌^◌, true, slice_index}
 use Rattle.pm_model.specs.Words.{reads}
 use Rattle.pm_model.specs.Reads.{OnlyReads}
-use Rattle.pud_defs.specs.Image.{Image}
-use Rattle.pud_defs.specs.Spaces.{all_below}
+use Rattle.pud_defs.specs.Formats.Image.{Image}
+use Rattle.pud_defs.specs.RegistryTables.Spaces.{all_below}
 use Rattle.graph_read.specs.Checking.{place_passes, with_serials}
 use Rattle.graph_read.specs.Numbers.{numbers_below}
 use Rattle.graph_read.specs.Reading.{table_in}

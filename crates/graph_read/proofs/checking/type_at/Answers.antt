@@ -1,6 +1,6 @@
 use Rattle.std.proofs.Common.{◌≡◌, ℕ, ◌∙◌, ap, subst, IfOk, arith}
 use Rattle.pud_defs.specs.declared.space.TheConstants.{SLOT_TYPE_WORD}
-use Rattle.pud_defs.specs.Stored.{stored_in, place_word}
+use Rattle.pud_defs.specs.PoolGraphs.Stored.{stored_in, place_word}
 use Rattle.puddle_header.proofs.Placed.{slot_at_place}
 use Rattle.graph_read.proofs.checking.type_at.Goals as goal
 

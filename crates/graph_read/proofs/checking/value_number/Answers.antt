@@ -2,8 +2,8 @@ use Rattle.std.proofs.Common.{ℕ, ◌+◌, List, map, slice_index, sym, ap, ap�
 use Rattle.std.specs.Bool.{then_some}
 use Rattle.std.proofs.lemmas.Bool.{cond-true}
 use Rattle.pud_defs.specs.declared.records.Puddle.{Puddle}
-use Rattle.pud_defs.specs.Geometry.{ordinal_of, slot_of}
-use Rattle.pud_defs.specs.Graph.{pointee_at}
+use Rattle.pud_defs.specs.Formats.Geometry.{ordinal_of, slot_of}
+use Rattle.pud_defs.specs.PoolGraphs.Graph.{pointee_at}
 use Rattle.graph_read.specs.Checking.{content_of, passes}
 use Rattle.graph_read.specs.Reading.{pointee_of}
 use Rattle.graph_read.proofs.Numbers.{number_in_content-pointer}

@@ -1,6 +1,6 @@
 use Rattle.std.proofs.Common.{◌∙◌, ap, sym, arith}
 use Rattle.pud_defs.specs.declared.space.TheConstants.{SLOT_TYPE_WORD}
-use Rattle.pud_defs.specs.Types.{types_of, map_of}
+use Rattle.pud_defs.specs.RegistryTables.Types.{types_of, map_of}
 use Rattle.graph_read.specs.declared.fields.FieldRead.TheVariants.{Value}
 use Rattle.puddle_header.specs.Places.{place_of_slot}
 use Rattle.puddle_header.proofs.Placed.{slot_at_place}

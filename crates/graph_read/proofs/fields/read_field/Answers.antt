@@ -1,5 +1,5 @@
 use Rattle.std.proofs.Common.{◌≡◌, ℕ, ◌∙◌, ap, sym, subst, IfOk, Option, Some, option_map}
-use Rattle.pud_defs.specs.Graph.{Object, object_at}
+use Rattle.pud_defs.specs.PoolGraphs.Graph.{Object, object_at}
 use Rattle.puddle_header.specs.Places.{place_of_slot}
 use Rattle.graph_read.specs.Reading.{table_in, place_in_pool, read_by}
 use Rattle.graph_read.proofs.Found.{object_in-place}

@@ -2,7 +2,7 @@ use Rattle.std.proofs.Common.{◌≡◌, ap, sym, ◌∙◌, Some, IfOk, subst, 
 use Rattle.std.specs.Prelude.{map, length}
 use Rattle.std.proofs.lemmas.Option.{slice_get-get_or}
 use Rattle.pud_defs.specs.declared.space.TheConstants.{SLOT_SERIAL_WORD}
-use Rattle.pud_defs.specs.Graph.{pointee_at}
+use Rattle.pud_defs.specs.PoolGraphs.Graph.{pointee_at}
 use Rattle.graph_read.specs.Reading.{table_in, IsSlotWithin, LeadsWithin}
 use Rattle.puddle_header.proofs.Placed.{stored_slot}
 use Rattle.graph_read.proofs.Fielded.{named-at}

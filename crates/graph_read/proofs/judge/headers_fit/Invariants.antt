@@ -1,8 +1,8 @@
 use Rattle.std.proofs.Common.{None, ◌≡◌, true}
 use Rattle.pm_model.specs.Words.{reads}
-use Rattle.pud_defs.specs.Image.{Image}
-use Rattle.pud_defs.specs.Spaces.{all_below}
-use Rattle.pud_defs.specs.Stored.{stored_in}
+use Rattle.pud_defs.specs.Formats.Image.{Image}
+use Rattle.pud_defs.specs.RegistryTables.Spaces.{all_below}
+use Rattle.pud_defs.specs.PoolGraphs.Stored.{stored_in}
 use Rattle.graph_read.proofs.Judging.{header_at}
 use Rattle.pm_model.specs.Reads.{OnlyReads}
 use Rattle.graph_read.proofs.judge.headers_fit.Given as goal

@@ -1,11 +1,11 @@
 use Rattle.std.proofs.Common.{◌&&◌, true, nat_cmp, ◌<◌, length, option_map, slice_index, sym, ap, ◌∙◌, arith}
 use Rattle.std.proofs.Math.Bool.{and-true}
 use Rattle.pud_defs.specs.declared.space.TheConstants.{NEXT_SERIAL_WORD}
-use Rattle.pud_defs.specs.Stored.{stored_in}
-use Rattle.pud_defs.specs.Types.{types_of}
-use Rattle.pud_defs.specs.Graph.{stands, under_serial, table_of}
-use Rattle.pud_defs.specs.Keyed.{are_distinct, count_used}
-use Rattle.pud_defs.specs.Spaces.{all_below}
+use Rattle.pud_defs.specs.PoolGraphs.Stored.{stored_in}
+use Rattle.pud_defs.specs.RegistryTables.Types.{types_of}
+use Rattle.pud_defs.specs.PoolGraphs.Graph.{stands, under_serial, table_of}
+use Rattle.pud_defs.specs.RegistryTables.Keyed.{are_distinct, count_used}
+use Rattle.pud_defs.specs.RegistryTables.Spaces.{all_below}
 use Rattle.graph_read.specs.declared.checking.SlotCheck.TheVariants.{IsSound}
 use Rattle.graph_read.specs.Checking.{content_of, place_passes, with_serials}
 use Rattle.graph_read.specs.Numbers.{places_sum, totals_of}

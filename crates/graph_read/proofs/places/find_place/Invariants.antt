@@ -1,6 +1,6 @@
 use Rattle.std.proofs.Common.{None, ◌≡◌}
 use Rattle.pm_model.specs.Words.{reads}
-use Rattle.pud_defs.specs.Image.{Image}
+use Rattle.pud_defs.specs.Formats.Image.{Image}
 use Rattle.puddle_header.specs.Places.{places_in}
 use Rattle.graph_read.specs.Reading.{table_in, place_in_pool}
 use Rattle.graph_read.proofs.Found.{place_from}

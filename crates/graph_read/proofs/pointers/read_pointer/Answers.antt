@@ -1,7 +1,7 @@
 use Rattle.std.proofs.Common.{sym, ap, ◌∙◌, ltb, arith}
 use Rattle.std.specs.Prelude.{slice_index_or}
 use Rattle.pud_defs.specs.declared.records.Puddle.{Puddle}
-use Rattle.pud_defs.specs.Graph.{slot_in}
+use Rattle.pud_defs.specs.PoolGraphs.Graph.{slot_in}
 use Rattle.graph_read.specs.Reading.{pointee_of}
 use Rattle.graph_read.proofs.Pointed.{no_puddle, pointer-null, pointer_from-start, pointer_from-here, pointer_from-other, pointer_from-end, pointee_of-slot}
 use Rattle.graph_read.proofs.pointers.read_pointer.Goals as goal

@@ -1,6 +1,6 @@
 use Rattle.std.proofs.Common.{◌≡◌}
 use Rattle.std.specs.Prelude.{map}
-use Rattle.pud_defs.specs.Graph.{pointee_at}
+use Rattle.pud_defs.specs.PoolGraphs.Graph.{pointee_at}
 use Rattle.graph_read.proofs.Pointed.{pointer_from}
 use Rattle.graph_read.proofs.pointers.read_pointer.Given as goal
 

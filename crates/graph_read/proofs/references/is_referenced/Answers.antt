@@ -1,8 +1,8 @@
 use Rattle.std.proofs.Common.{◌<◌, is_some, length, slice_index, sym, ap, ◌∙◌}
-use Rattle.pud_defs.specs.Graph.{named_by, table_of}
-use Rattle.pud_defs.specs.Spaces.{all_below}
-use Rattle.pud_defs.specs.Stored.{stored_in}
-use Rattle.pud_defs.specs.Types.{types_of}
+use Rattle.pud_defs.specs.PoolGraphs.Graph.{named_by, table_of}
+use Rattle.pud_defs.specs.RegistryTables.Spaces.{all_below}
+use Rattle.pud_defs.specs.PoolGraphs.Stored.{stored_in}
+use Rattle.pud_defs.specs.RegistryTables.Types.{types_of}
 use Rattle.graph_read.specs.declared.checking.SlotCheck.TheVariants.{LacksPointerTo}
 use Rattle.graph_read.specs.Checking.{content_of, place_passes, with_serials}
 use Rattle.graph_read.proofs.Referenced.{held, none_held}

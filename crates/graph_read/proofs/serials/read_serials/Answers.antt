@@ -1,5 +1,5 @@
 use Rattle.std.proofs.Common.{length-set, refl, ◌∙◌, arith}
-use Rattle.pud_defs.specs.Stored.{stored_in}
+use Rattle.pud_defs.specs.PoolGraphs.Stored.{stored_in}
 use Rattle.graph_read.specs.declared.serials.TheConstants.{PLACES}
 use Rattle.graph_read.specs.Checking.{serials_in}
 use Rattle.graph_read.proofs.SerialsRead.{IsReadTo-start, IsReadTo-more, IsReadTo-end, no_serial_behind}

@@ -1,7 +1,7 @@
 use Rattle.std.proofs.Common.{None, ◌≡◌, length}
 use Rattle.pm_model.specs.Words.{reads}
-use Rattle.pud_defs.specs.Image.{Image}
-use Rattle.pud_defs.specs.Stored.{stored_in}
+use Rattle.pud_defs.specs.Formats.Image.{Image}
+use Rattle.pud_defs.specs.PoolGraphs.Stored.{stored_in}
 use Rattle.graph_read.specs.declared.serials.TheConstants.{PLACES}
 use Rattle.graph_read.specs.Checking.{serials_in}
 use Rattle.graph_read.proofs.SerialsRead.{IsReadTo}

@@ -1,7 +1,7 @@
 use Rattle.std.proofs.Common.{option_map, sym, ap, subst, ◌∙◌}
 use Rattle.pm_model.specs.Moments.{State}
-use Rattle.pud_defs.specs.Image.{Image}
-use Rattle.pud_defs.specs.Types.{types_of}
+use Rattle.pud_defs.specs.Formats.Image.{Image}
+use Rattle.pud_defs.specs.RegistryTables.Types.{types_of}
 use Rattle.pm_model.proofs.Reading.{still_reads}
 use Rattle.puddle_header.specs.Places.{place_of_slot}
 use Rattle.hybrid_tx.specs.Objects.Transactions.{AreDeferredEntries, IsOpenOn}

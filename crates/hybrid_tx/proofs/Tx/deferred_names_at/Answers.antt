@@ -1,9 +1,9 @@
 use Rattle.std.proofs.Common.{◌≡◌, inl, inr, true, false, sym, ap, subst, ◌∙◌}
-use Rattle.pud_defs.specs.Image.{Image}
-use Rattle.pud_defs.specs.Types.{types_of}
-use Rattle.pud_defs.specs.Entries.{Log, entries_of}
-use Rattle.pud_defs.specs.Stored.{stored_in}
-use Rattle.pud_defs.specs.Graph.{graph_of}
+use Rattle.pud_defs.specs.Formats.Image.{Image}
+use Rattle.pud_defs.specs.RegistryTables.Types.{types_of}
+use Rattle.pud_defs.specs.Logging.Entries.{Log, entries_of}
+use Rattle.pud_defs.specs.PoolGraphs.Stored.{stored_in}
+use Rattle.pud_defs.specs.PoolGraphs.Graph.{graph_of}
 use Rattle.log_entry.proofs.Left.{IsReading-start, IsReading-more}
 use Rattle.hybrid_tx.specs.Objects.Transactions.{AreDeferredEntries}
 use Rattle.hybrid_tx.proofs.Objects.DeferredNamed.{NamesRest-start, NamesRest-more, NamesRest-passed, NamesOne-decided, NamesRest-end}

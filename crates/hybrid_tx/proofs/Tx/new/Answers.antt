@@ -2,12 +2,12 @@ use Rattle.std.proofs.Common.{Err, ap, subst, refl}
 use Rattle.pm_model.specs.Words.{reads}
 use Rattle.pm_model.specs.Counts.{fault_of}
 use Rattle.pm_model.specs.Moments.{State}
-use Rattle.pud_defs.specs.Stored.{stored_in, IsFreePlace}
+use Rattle.pud_defs.specs.PoolGraphs.Stored.{stored_in, IsFreePlace}
 use Rattle.pud_defs.specs.declared.records.Slot.{Slot}
 use Rattle.object_alloc.specs.declared.AllocFault.{AllocFault}
 use Rattle.object_alloc.specs.Alloc.{alloc_fault}
 use Rattle.pm_model.proofs.Reading.{Changes-read}
-use Rattle.pud_defs.specs.GraphChanges.{with_new, blank_object}
+use Rattle.pud_defs.specs.PoolGraphs.GraphChanges.{with_new, blank_object}
 use Rattle.puddle_header.specs.Places.{place_of_slot}
 use Rattle.hybrid_tx.specs.Objects.Transactions.{IsOpenOn, KeepsOpenOn, MakesIn}
 use Rattle.hybrid_tx.proofs.Objects.FieldPut.{RunsOn-stopped}

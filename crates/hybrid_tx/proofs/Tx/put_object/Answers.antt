@@ -4,8 +4,8 @@ use Rattle.pm_model.specs.Counts.{fault_of}
 use Rattle.pud_defs.specs.declared.layout.TheConstants.{FRAME_WORDS}
 use Rattle.pud_defs.specs.declared.space.TheConstants.{NEXT_SERIAL_WORD}
 use Rattle.pud_defs.specs.declared.records.Puddle.{Puddle}
-use Rattle.pud_defs.specs.Frames.{frame_at}
-use Rattle.pud_defs.specs.Geometry.{slot_begins}
+use Rattle.pud_defs.specs.Formats.Frames.{frame_at}
+use Rattle.pud_defs.specs.Formats.Geometry.{slot_begins}
 use Rattle.hybrid_tx.specs.PoolScopes.{pool_scope, finished_of}
 use Rattle.hybrid_tx.proofs.FinishedPuddles.{finished_placed, finished_there}
 use Rattle.hybrid_tx.proofs.Objects.FieldPut.{slot_address-read}

@@ -1,8 +1,8 @@
 use Rattle.std.proofs.Common.{◌<◌, ap, ap₂, sym, ◌∙◌}
 use Rattle.std.proofs.lemmas.Option.{none-some, same_Some}
 use Rattle.pm_model.specs.Words.{Image}
-use Rattle.pud_defs.specs.TypeMap.{is_pointer}
-use Rattle.pud_defs.specs.Types.{types_of}
+use Rattle.pud_defs.specs.Formats.TypeMap.{is_pointer}
+use Rattle.pud_defs.specs.RegistryTables.Types.{types_of}
 use Rattle.hybrid_tx.proofs.PoolScope.{all_there}
 use Rattle.hybrid_tx.proofs.Objects.DeferredNamed.{names-object, address_of_later, read_of_later, map_of_later, names-value, names-neither, value_found}
 use Rattle.pm_model.proofs.Reading.{OnlyReads-then, still_reads}

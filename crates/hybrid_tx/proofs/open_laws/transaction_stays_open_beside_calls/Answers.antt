@@ -1,5 +1,5 @@
 use Rattle.std.proofs.Common.{◌≡◌, true, false, sym, ◌∙◌}
-use Rattle.pud_defs.proofs.Replay.{not_inside}
+use Rattle.pud_defs.proofs.Logging.Replay.{not_inside}
 use Rattle.hybrid_tx.proofs.Open.OpenKept.{IsOpenOn-kept}
 use Rattle.hybrid_tx.proofs.open_laws.transaction_stays_open_beside_calls.Goals as goal
 

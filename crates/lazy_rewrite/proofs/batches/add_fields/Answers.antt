@@ -1,10 +1,10 @@
 use Rattle.std.proofs.Common.{◌≡◌, ◌+◌, ◌<◌, ◌++◌, map, Some, refl, sym, ap, ◌∙◌, arith}
 use Rattle.pm_model.proofs.Reading.{OnlyReads-none, OnlyReads-then, still_reads}
 use Rattle.pud_defs.specs.declared.space.TheConstants.{SLOT_FIELDS_WORD}
-use Rattle.pud_defs.specs.Geometry.{puddle_slot_at}
-use Rattle.pud_defs.specs.Frames.{frame_at}
-use Rattle.pud_defs.specs.Graph.{field_count}
-use Rattle.pud_defs.specs.Stored.{stored_in}
+use Rattle.pud_defs.specs.Formats.Geometry.{puddle_slot_at}
+use Rattle.pud_defs.specs.Formats.Frames.{frame_at}
+use Rattle.pud_defs.specs.PoolGraphs.Graph.{field_count}
+use Rattle.pud_defs.specs.PoolGraphs.Stored.{stored_in}
 use Rattle.graph_laws.specs.Steps.{pointer_by}
 use Rattle.graph_laws.proofs.Words.{few_fields}
 use Rattle.graph_read.proofs.Passing.{field_count-least}

@@ -3,10 +3,10 @@ use Rattle.pm_model.specs.Words.{reads}
 use Rattle.pm_model.specs.Reads.{OnlyReads}
 use Rattle.pud_defs.specs.declared.layout.TheConstants.{LOG_ENTRY_WORDS, MAX_FIELDS}
 use Rattle.pud_defs.specs.declared.space.TheConstants.{SLOT_FIELDS_WORD}
-use Rattle.pud_defs.specs.Geometry.{puddle_slot_at}
-use Rattle.pud_defs.specs.Image.{Image}
-use Rattle.pud_defs.specs.Frames.{frame_at}
-use Rattle.pud_defs.specs.Stored.{stored_in}
+use Rattle.pud_defs.specs.Formats.Geometry.{puddle_slot_at}
+use Rattle.pud_defs.specs.Formats.Image.{Image}
+use Rattle.pud_defs.specs.Formats.Frames.{frame_at}
+use Rattle.pud_defs.specs.PoolGraphs.Stored.{stored_in}
 use Rattle.graph_laws.specs.Steps.{pointer_by}
 use Rattle.batch.specs.Batches.{word_count_of}
 use Rattle.lazy_rewrite.specs.Entries.{words_batch, IsToRewrite}

@@ -1,9 +1,9 @@
 use Rattle.std.proofs.Common.{◌≡◌, ◌+◌, false, ltb, ◌&&◌, eqb, ◌++◌, map, sym, ap, ◌∙◌, append-nil, ne_eqb}
 use Rattle.std.proofs.lemmas.Bool.{and_left, and_right}
 use Rattle.pud_defs.specs.declared.space.TheConstants.{ROOT_WORD}
-use Rattle.pud_defs.specs.Frames.{frame_at}
-use Rattle.pud_defs.specs.Types.{types_of}
-use Rattle.pud_defs.specs.Stored.{stored_in}
+use Rattle.pud_defs.specs.Formats.Frames.{frame_at}
+use Rattle.pud_defs.specs.RegistryTables.Types.{types_of}
+use Rattle.pud_defs.specs.PoolGraphs.Stored.{stored_in}
 use Rattle.graph_read.proofs.Pointed.{no_puddle}
 use Rattle.graph_laws.specs.Rewriting.{passes_root}
 use Rattle.lazy_rewrite.proofs.Gathered.{header-still, header-added}

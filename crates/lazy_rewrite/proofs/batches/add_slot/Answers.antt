@@ -2,11 +2,11 @@ use Rattle.std.proofs.Common.{◌≡◌, ◌+◌, ◌++◌, List, map, not, sym,
 use Rattle.std.specs.Result.{IfOk}
 use Rattle.pm_model.proofs.Reading.{still_reads}
 use Rattle.pud_defs.specs.declared.space.TheConstants.{SLOT_SERIAL_WORD, SLOT_TYPE_WORD}
-use Rattle.pud_defs.specs.Entries.{Entry}
-use Rattle.pud_defs.specs.Geometry.{puddle_slot_at}
-use Rattle.pud_defs.specs.Frames.{frame_at}
-use Rattle.pud_defs.specs.Types.{types_of, map_of}
-use Rattle.pud_defs.specs.Stored.{stored_in}
+use Rattle.pud_defs.specs.Logging.Entries.{Entry}
+use Rattle.pud_defs.specs.Formats.Geometry.{puddle_slot_at}
+use Rattle.pud_defs.specs.Formats.Frames.{frame_at}
+use Rattle.pud_defs.specs.RegistryTables.Types.{types_of, map_of}
+use Rattle.pud_defs.specs.PoolGraphs.Stored.{stored_in}
 use Rattle.puddle_header.proofs.Placed.{stored_word}
 use Rattle.lazy_rewrite.proofs.Gathered.{frame_below, live_by, slot-free, slot-unknown, slot-fields}
 use Rattle.lazy_rewrite.proofs.batches.add_slot.Goals as goal

@@ -4,7 +4,7 @@ use Rattle.std.proofs.lemmas.Option.{slice_get-get_or}
 use Rattle.std.proofs.lemmas.Result.{err_from_is_err_and}
 use Rattle.pm_model.specs.Words.{reads}
 use Rattle.pm_model.proofs.Reading.{still_size}
-use Rattle.pud_defs.specs.Stored.{IsOnDevice}
+use Rattle.pud_defs.specs.PoolGraphs.Stored.{IsOnDevice}
 use Rattle.graph_read.proofs.Pointed.{no_puddle}
 use Rattle.lazy_rewrite.proofs.Moved.{on_device-steps}
 use Rattle.lazy_rewrite.proofs.Gathered.{frame_below, gathered_from}

@@ -1,5 +1,5 @@
 use Rattle.std.proofs.Common.{map, Some, sym, ap}
-use Rattle.pud_defs.specs.Exported.{address_of}
+use Rattle.pud_defs.specs.PoolGraphs.Exported.{address_of}
 use Rattle.graph_read.specs.Checking.{content_of}
 use Rattle.lazy_rewrite.proofs.pointers.pointee_address.Goals as goal
 

@@ -1,7 +1,7 @@
 use Rattle.std.proofs.Common.{◌≡◌, ◌+◌, Some, None, refl, rules, sym, ap, ◌∙◌, arith}
 use Rattle.pm_model.specs.Words.{reads}
 use Rattle.pm_model.specs.Moments.{State}
-use Rattle.pud_defs.specs.Entries.{gate_used}
+use Rattle.pud_defs.specs.Logging.Entries.{gate_used}
 use Rattle.log_entry.specs.Reading.{Reading, entry_next}
 use Rattle.log_entry.proofs.Readings.{IsNext, next-too_many, next-few, next-none, next-found}
 use Rattle.log_entry.proofs.Left.{left_by}

@@ -1,8 +1,8 @@
 use Rattle.std.proofs.Common.{◌≡◌, false, is_some, sym, ap, ◌∙◌}
 use Rattle.std.proofs.lemmas.Bool.{and_left}
-use Rattle.pud_defs.specs.Image.{Image}
-use Rattle.pud_defs.specs.Entries.{entries_of}
-use Rattle.pud_defs.specs.Spaces.{is_closed_range}
+use Rattle.pud_defs.specs.Formats.Image.{Image}
+use Rattle.pud_defs.specs.Logging.Entries.{entries_of}
+use Rattle.pud_defs.specs.RegistryTables.Spaces.{is_closed_range}
 use Rattle.log_entry.proofs.closed.is_closed_log.Goals as goal
 
 pub returns-then-not-is_closed_range-clause-closed : goal.returns-then-not-is_closed_range-clause-closed

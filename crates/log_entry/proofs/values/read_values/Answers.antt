@@ -2,7 +2,7 @@ use Rattle.std.proofs.Common.{◌≡◌, ℕ, ◌+◌, List, [], ◌∷◌, ◌+
 use Rattle.std.proofs.lemmas.List.{take_more_set, length-set}
 use Rattle.pm_model.specs.Words.{reads}
 use Rattle.pm_model.specs.Moments.{State}
-use Rattle.pud_defs.proofs.Entries.{words_from-more, words_from-none}
+use Rattle.pud_defs.proofs.Logging.Entries.{words_from-more, words_from-none}
 use Rattle.pm_model.proofs.Reading.{OnlyReads-none, OnlyReads-then}
 use Rattle.log_entry.proofs.values.read_values.Goals as goal
 

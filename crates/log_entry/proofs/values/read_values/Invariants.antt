@@ -1,6 +1,6 @@
 use Rattle.std.proofs.Common.{None, ◌≡◌, length, take}
 use Rattle.pm_model.specs.Words.{reads}
-use Rattle.pud_defs.specs.Entries.{words_from}
+use Rattle.pud_defs.specs.Logging.Entries.{words_from}
 use Rattle.pm_model.specs.Reads.{OnlyReads}
 use Rattle.log_entry.proofs.values.read_values.Given as goal
 

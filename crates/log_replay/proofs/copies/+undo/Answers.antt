@@ -3,7 +3,7 @@ use Rattle.std.proofs.lemmas.Result.{err_from_is_err_and}
 use Rattle.pm_model.specs.Counts.{fault_of}
 use Rattle.pm_model.proofs.Changes.{Changes-still}
 use Rattle.pud_defs.specs.declared.log_words.TheConstants.{UNDO_ORDER}
-use Rattle.pud_defs.specs.Replay.{device_word, given_by, undo_value}
+use Rattle.pud_defs.specs.Logging.Replay.{device_word, given_by, undo_value}
 use Rattle.log_entry.specs.Reading.{entry_from}
 use Rattle.log_entry.specs.Copying.{image_of_copy}
 use Rattle.log_replay.specs.Replaying.{Anything}

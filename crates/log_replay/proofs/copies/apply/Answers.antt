@@ -1,10 +1,10 @@
 use Rattle.std.proofs.Common.{◌≡◌, ℕ, true, List, length, None, IsTrue, refl, sym, ap, subst, ◌∙◌, arith}
 use Rattle.pm_model.specs.Counts.{fault_of}
 use Rattle.pm_model.specs.Changes.{placed}
-use Rattle.pud_defs.specs.Entries.{Entry as LoggedEntry}
-use Rattle.pud_defs.specs.Replay.{device_word, given_by, is_in_range}
-use Rattle.pud_defs.proofs.Entries.{words_from-length}
-use Rattle.pud_defs.proofs.Replay.{given_by-out, given_by-other}
+use Rattle.pud_defs.specs.Logging.Entries.{Entry as LoggedEntry}
+use Rattle.pud_defs.specs.Logging.Replay.{device_word, given_by, is_in_range}
+use Rattle.pud_defs.proofs.Logging.Entries.{words_from-length}
+use Rattle.pud_defs.proofs.Logging.Replay.{given_by-out, given_by-other}
 use Rattle.log_entry.specs.Ranges.{HasRange}
 use Rattle.log_entry.specs.Reading.{entry_from}
 use Rattle.log_entry.specs.Copying.{image_of_copy}

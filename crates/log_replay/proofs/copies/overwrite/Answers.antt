@@ -1,9 +1,9 @@
 use Rattle.std.proofs.Common.{refl, ap, ◌∙◌}
 use Rattle.std.proofs.lemmas.Result.{err_from_is_err_and}
 use Rattle.pm_model.specs.Counts.{fault_of}
-use Rattle.pud_defs.specs.Entries.{Log}
-use Rattle.pud_defs.specs.Replay.{device_word, undo_value, redo_value, new_value}
-use Rattle.pud_defs.proofs.Replay.{new_value-of}
+use Rattle.pud_defs.specs.Logging.Entries.{Log}
+use Rattle.pud_defs.specs.Logging.Replay.{device_word, undo_value, redo_value, new_value}
+use Rattle.pud_defs.proofs.Logging.Replay.{new_value-of}
 use Rattle.log_entry.specs.Copying.{image_of_copy}
 use Rattle.log_entry.proofs.Left.{entries_left-start}
 use Rattle.log_replay.proofs.Applying.{AppliesEntries-joined, AppliesEntries-cut_short, size_then, any_then}

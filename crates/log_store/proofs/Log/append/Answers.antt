@@ -1,7 +1,7 @@
 use Rattle.std.proofs.Common.{◌+◌, [], ◌∷◌, length, refl, ap, arith}
 use Rattle.std.proofs.lemmas.Result.{err_from_is_err_and}
 use Rattle.pud_defs.specs.declared.layout.TheConstants.{ENTRY_HEADER_WORDS}
-use Rattle.pud_defs.specs.Entries.{Entry, IsLegalEntry}
+use Rattle.pud_defs.specs.Logging.Entries.{Entry, IsLegalEntry}
 use Rattle.log_store.specs.Store.{OpenLog, spelled_all, with_entry}
 use Rattle.log_store.proofs.Appending.{Persists-spelled, spells_one, changes_in_log, Appends-failed, Appends-done}
 use Rattle.log_store.proofs.Log.append.Goals as goal

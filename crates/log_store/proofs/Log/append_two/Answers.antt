@@ -1,6 +1,6 @@
 use Rattle.std.proofs.Common.{◌+◌, [], ◌∷◌, length, refl, ap, arith}
 use Rattle.std.proofs.lemmas.Result.{err_from_is_err_and}
-use Rattle.pud_defs.specs.Entries.{IsLegalEntry}
+use Rattle.pud_defs.specs.Logging.Entries.{IsLegalEntry}
 use Rattle.log_store.specs.Store.{OpenLog, spelled_all, with_words, undo_entry}
 use Rattle.log_store.proofs.Appending.{both_counted, Persists-spelled, spells_two, changes_in_log, Appends-failed, Appends-done}
 use Rattle.log_store.proofs.Log.append_two.Goals as goal

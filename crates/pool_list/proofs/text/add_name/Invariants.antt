@@ -1,5 +1,5 @@
 use Rattle.std.proofs.Common.{◌≡◌, ◌+◌, ◌≤◌, ◌++◌, length, take}
-use Rattle.pud_defs.specs.Listing.{name_text}
+use Rattle.pud_defs.specs.Output.Listing.{name_text}
 use Rattle.pool_list.proofs.text.add_name.Given as goal
 
 abbrev pub invariant-loop-byte : goal.invariant-loop-byte

@@ -1,6 +1,6 @@
 use Rattle.std.proofs.Common.{rules, ◌≡◌, ◌<◌, None, get_or, replicate, sym, ◌∙◌, arith}
 use Rattle.std.proofs.lemmas.List.{ext_get_or, get_or-replicate}
-use Rattle.pud_defs.specs.Settled.{ALL_LOGS}
+use Rattle.pud_defs.specs.Logging.Settled.{ALL_LOGS}
 use Rattle.pool_transaction.proofs.transaction.no_transactions.Goals as goal
 
 pub returns : goal.returns

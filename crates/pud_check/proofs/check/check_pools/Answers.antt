@@ -4,7 +4,7 @@ use Rattle.pm_model.specs.Counts.{fault_of}
 use Rattle.pm_model.specs.Calls.{Says}
 use Rattle.pm_model.proofs.Reading.{still_reads}
 use Rattle.pm_model.proofs.Saying.{Says-behind}
-use Rattle.pud_defs.specs.CheckText.{count_line}
+use Rattle.pud_defs.specs.Output.CheckText.{count_line}
 use Rattle.pud_check.proofs.Checking.{Says-uncounted, Says-checked, listed_check-sound}
 use Rattle.pud_check.proofs.check.check_pools.Goals as goal
 

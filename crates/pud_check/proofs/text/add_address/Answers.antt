@@ -1,5 +1,5 @@
 use Rattle.std.proofs.Common.{List, ℕ, ◌∷◌, [], ◌++◌, drop, take, ap, ap₂, ◌∙◌, append_assoc}
-use Rattle.pud_defs.specs.LayoutText.{address_text}
+use Rattle.pud_defs.specs.Output.LayoutText.{address_text}
 use Rattle.pud_check.proofs.Lines.{last_group}
 use Rattle.pud_check.proofs.text.add_address.Goals as goal
 

@@ -1,5 +1,5 @@
 use Rattle.std.proofs.Common.{[], ◌∷◌, length, ap, ◌∙◌, arith, length-append}
-use Rattle.pud_defs.specs.Identifiers.{puddle_uuid, uuid_text}
+use Rattle.pud_defs.specs.Formats.Identifiers.{puddle_uuid, uuid_text}
 use Rattle.pud_check.proofs.Lines.{length_uuid_text}
 use Rattle.pud_check.proofs.text.add_end.Goals as goal
 

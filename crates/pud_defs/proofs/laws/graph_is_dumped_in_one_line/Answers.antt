@@ -1,4 +1,4 @@
-use Rattle.pud_defs.proofs.DumpText.{in_one_line-dump_text}
+use Rattle.pud_defs.proofs.Output.DumpText.{in_one_line-dump_text}
 use Rattle.pud_defs.proofs.laws.graph_is_dumped_in_one_line.Goals as goal
 
 pub returns : goal.returns

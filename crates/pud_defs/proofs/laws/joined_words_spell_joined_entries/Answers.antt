@@ -1,4 +1,4 @@
-use Rattle.pud_defs.proofs.Entries.{entries_in-append}
+use Rattle.pud_defs.proofs.Logging.Entries.{entries_in-append}
 use Rattle.pud_defs.proofs.laws.joined_words_spell_joined_entries.Goals as goal
 
 pub returns : goal.returns

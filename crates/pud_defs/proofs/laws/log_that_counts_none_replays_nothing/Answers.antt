@@ -1,4 +1,4 @@
-use Rattle.pud_defs.proofs.Replay.{replayed-none}
+use Rattle.pud_defs.proofs.Logging.Replay.{replayed-none}
 use Rattle.pud_defs.proofs.laws.log_that_counts_none_replays_nothing.Goals as goal
 
 pub returns : goal.returns

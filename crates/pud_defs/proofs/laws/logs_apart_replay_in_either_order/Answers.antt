@@ -1,5 +1,5 @@
-use Rattle.pud_defs.specs.Replay.{new_value}
-use Rattle.pud_defs.proofs.Replay.{overwritten-either_order}
+use Rattle.pud_defs.specs.Logging.Replay.{new_value}
+use Rattle.pud_defs.proofs.Logging.Replay.{overwritten-either_order}
 use Rattle.pud_defs.proofs.laws.logs_apart_replay_in_either_order.Goals as goal
 
 pub returns : goal.returns

@@ -1,5 +1,5 @@
-use Rattle.pud_defs.specs.Replay.{new_value}
-use Rattle.pud_defs.proofs.Replay.{overwritten-stays}
+use Rattle.pud_defs.specs.Logging.Replay.{new_value}
+use Rattle.pud_defs.proofs.Logging.Replay.{overwritten-stays}
 use Rattle.pud_defs.proofs.laws.word_not_named_stays.Goals as goal
 
 pub returns : goal.returns

@@ -1,5 +1,5 @@
 use Rattle.std.proofs.Common.{refl}
-use Rattle.pud_defs.specs.Names.{name_by}
+use Rattle.pud_defs.specs.Formats.Names.{name_by}
 use Rattle.pud_defs.proofs.records.name_by.Goals as goal
 
 pub returns : goal.returns

@@ -1,4 +1,4 @@
-use Rattle.pud_defs.proofs.Settled.{gives_to-closed}
+use Rattle.pud_defs.proofs.Logging.Settled.{gives_to-closed}
 use Rattle.pud_defs.proofs.settling.closed_log_gives_nothing.Goals as goal
 
 pub returns : goal.returns

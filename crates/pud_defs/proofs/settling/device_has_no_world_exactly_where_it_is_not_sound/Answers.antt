@@ -1,4 +1,4 @@
-use Rattle.pud_defs.proofs.Worlds.{unsound_of_none, world_of-unsound}
+use Rattle.pud_defs.proofs.StateMachine.Worlds.{unsound_of_none, world_of-unsound}
 use Rattle.pud_defs.proofs.settling.device_has_no_world_exactly_where_it_is_not_sound.Goals as goal
 
 pub returns : goal.returns

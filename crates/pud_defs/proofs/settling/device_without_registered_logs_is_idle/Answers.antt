@@ -1,4 +1,4 @@
-use Rattle.pud_defs.proofs.Idle.{idle_world_of-unowned}
+use Rattle.pud_defs.proofs.Logging.Idle.{idle_world_of-unowned}
 use Rattle.pud_defs.proofs.settling.device_without_registered_logs_is_idle.Goals as goal
 
 pub returns : goal.returns

@@ -1,4 +1,4 @@
-use Rattle.pud_defs.proofs.Settled.{gives_to-refused}
+use Rattle.pud_defs.proofs.Logging.Settled.{gives_to-refused}
 use Rattle.pud_defs.proofs.settling.refused_log_gives_nothing.Goals as goal
 
 pub returns : goal.returns

@@ -1,10 +1,10 @@
 use Rattle.std.proofs.Common.{◌≡◌, ℕ, ◌*◌, List, length, Some, IfOk, ap, ap₂, subst, ◌∙◌}
 use Rattle.std.proofs.lemmas.List.{length-map}
 use Rattle.pud_defs.specs.declared.layout.TheConstants.{MACHINE_WORD}
-use Rattle.pud_defs.specs.ExportFile.{words_in, types_used, file_graph}
-use Rattle.pud_defs.specs.Exported.{exported_words}
-use Rattle.pud_defs.specs.Stored.{stored_in}
-use Rattle.pud_defs.specs.Types.{types_of}
+use Rattle.pud_defs.specs.PoolGraphs.ExportFile.{words_in, types_used, file_graph}
+use Rattle.pud_defs.specs.PoolGraphs.Exported.{exported_words}
+use Rattle.pud_defs.specs.PoolGraphs.Stored.{stored_in}
+use Rattle.pud_defs.specs.RegistryTables.Types.{types_of}
 use Rattle.graph_laws.proofs.Law.{file_graph-exported}
 use Rattle.pud_export.specs.Exporting.{types_among}
 use Rattle.pud_export.proofs.Both.{both_ok}

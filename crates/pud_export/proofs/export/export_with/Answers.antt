@@ -1,7 +1,7 @@
 use Rattle.std.proofs.Common.{◌≡◌, ap, ◌∙◌}
 use Rattle.pud_defs.specs.declared.layout.TheConstants.{MACHINE_WORD}
-use Rattle.pud_defs.specs.Exported.{exported_words}
-use Rattle.pud_defs.specs.Stored.{stored_in}
+use Rattle.pud_defs.specs.PoolGraphs.Exported.{exported_words}
+use Rattle.pud_defs.specs.PoolGraphs.Stored.{stored_in}
 use Rattle.pud_export.proofs.FrontRead.{file_whole}
 use Rattle.pm_model.proofs.Reading.{still_reads}
 use Rattle.pud_export.proofs.export.export_with.Goals as goal

@@ -1,5 +1,5 @@
 use Rattle.std.proofs.Common.{◌≡◌, OnOk, subst}
-use Rattle.pud_defs.specs.Stored.{stored_in}
+use Rattle.pud_defs.specs.PoolGraphs.Stored.{stored_in}
 use Rattle.pud_export.proofs.FramesRead.{frame_whole}
 use Rattle.pm_model.proofs.Reading.{still_reads}
 use Rattle.pud_export.proofs.frames.push_frame.Goals as goal

@@ -1,6 +1,6 @@
 use Rattle.std.proofs.Common.{rules}
-use Rattle.pud_defs.specs.Exported.{exported_frame}
-use Rattle.pud_defs.specs.Stored.{stored_in}
+use Rattle.pud_defs.specs.PoolGraphs.Exported.{exported_frame}
+use Rattle.pud_defs.specs.PoolGraphs.Stored.{stored_in}
 use Rattle.pud_export.proofs.FramesRead.{frames_more}
 use Rattle.pm_model.proofs.Reading.{still_reads}
 use Rattle.pud_export.proofs.frames.push_frames.Goals as goal

@@ -2,9 +2,9 @@ use Rattle.std.proofs.Common.{None, ◌≡◌, ◌++◌}
 use Rattle.std.specs.Prelude.{flat_map}
 use Rattle.std.specs.List.{range_with_len}
 use Rattle.pm_model.specs.Words.{reads}
-use Rattle.pud_defs.specs.Exported.{exported_frame}
-use Rattle.pud_defs.specs.Image.{Image}
-use Rattle.pud_defs.specs.Stored.{stored_in}
+use Rattle.pud_defs.specs.PoolGraphs.Exported.{exported_frame}
+use Rattle.pud_defs.specs.Formats.Image.{Image}
+use Rattle.pud_defs.specs.PoolGraphs.Stored.{stored_in}
 use Rattle.pud_export.specs.Exporting.{HasLowBases}
 use Rattle.pm_model.specs.Reads.{OnlyReads}
 use Rattle.pud_export.proofs.frames.push_frames.Given as goal

@@ -1,6 +1,6 @@
 use Rattle.std.proofs.Common.{rules, ◌≡◌, ◌++◌, subst, arith}
-use Rattle.pud_defs.specs.Geometry.{puddle_slots}
-use Rattle.pud_defs.specs.Stored.{stored_in}
+use Rattle.pud_defs.specs.Formats.Geometry.{puddle_slots}
+use Rattle.pud_defs.specs.PoolGraphs.Stored.{stored_in}
 use Rattle.pud_export.specs.Exporting.{slots_to}
 use Rattle.pud_export.proofs.FramesRead.{slots_to-none, slots_to-more}
 use Rattle.pm_model.proofs.Reading.{OnlyReads-none, still_reads}

@@ -1,6 +1,6 @@
 use Rattle.std.proofs.Common.{◌∙◌, arith}
 use Rattle.pud_defs.specs.declared.space.TheConstants.{NEXT_SERIAL_WORD, ROOT_WORD}
-use Rattle.pud_defs.specs.Stored.{stored_in}
+use Rattle.pud_defs.specs.PoolGraphs.Stored.{stored_in}
 use Rattle.pud_export.proofs.FramesRead.{header_word, header-first, root_read}
 use Rattle.pm_model.proofs.Reading.{still_reads}
 use Rattle.pud_export.proofs.frames.read_first_header.Goals as goal

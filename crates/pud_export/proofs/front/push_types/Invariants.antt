@@ -1,6 +1,6 @@
 use Rattle.std.proofs.Common.{◌≡◌, ◌++◌, take}
 use Rattle.std.specs.Prelude.{flat_map}
-use Rattle.pud_defs.specs.Exported.{type_words}
+use Rattle.pud_defs.specs.PoolGraphs.Exported.{type_words}
 use Rattle.pud_export.proofs.front.push_types.Given as goal
 
 abbrev pub invariant-loop-id : goal.invariant-loop-id

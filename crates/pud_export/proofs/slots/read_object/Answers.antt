@@ -1,8 +1,8 @@
 use Rattle.std.proofs.Common.{rules, ◌≡◌, ap, ◌∙◌, arith}
 use Rattle.std.specs.Prelude.{map}
-use Rattle.pud_defs.specs.Exported.{exported_value}
-use Rattle.pud_defs.specs.Graph.{field_count}
-use Rattle.pud_defs.specs.Stored.{stored_in}
+use Rattle.pud_defs.specs.PoolGraphs.Exported.{exported_value}
+use Rattle.pud_defs.specs.PoolGraphs.Graph.{field_count}
+use Rattle.pud_defs.specs.PoolGraphs.Stored.{stored_in}
 use Rattle.graph_read.proofs.Passing.{field_count-least}
 use Rattle.pud_export.proofs.SlotsRead.{object_more, object_whole}
 use Rattle.pm_model.proofs.Reading.{still_reads}

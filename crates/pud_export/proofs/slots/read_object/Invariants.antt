@@ -1,7 +1,7 @@
 use Rattle.std.proofs.Common.{None, ◌≡◌, length}
 use Rattle.pm_model.specs.Words.{reads}
-use Rattle.pud_defs.specs.Image.{Image}
-use Rattle.pud_defs.specs.Stored.{stored_in}
+use Rattle.pud_defs.specs.Formats.Image.{Image}
+use Rattle.pud_defs.specs.PoolGraphs.Stored.{stored_in}
 use Rattle.pud_export.specs.declared.slots.TheConstants.{SLOT}
 use Rattle.pud_export.specs.Exporting.{HasLowBases}
 use Rattle.pud_export.proofs.SlotsRead.{object_so_far}

@@ -1,8 +1,8 @@
 use Rattle.std.proofs.Common.{◌≡◌, ◌≢◌, Some, None, IfOk, sym, ap, subst, ◌∙◌}
 use Rattle.std.proofs.lemmas.Bool.{eqb-true, eqb-false}
 use Rattle.pud_defs.specs.declared.space.TheConstants.{SLOT_SERIAL_WORD}
-use Rattle.pud_defs.specs.Stored.{stored_in, place_word}
-use Rattle.pud_defs.specs.Types.{map_of}
+use Rattle.pud_defs.specs.PoolGraphs.Stored.{stored_in, place_word}
+use Rattle.pud_defs.specs.RegistryTables.Types.{map_of}
 use Rattle.pud_export.proofs.SlotsRead.{exported_slot-free, exported_slot-live}
 use Rattle.pm_model.proofs.Reading.{still_reads}
 use Rattle.pud_export.proofs.slots.read_slot.Goals as goal

@@ -1,8 +1,8 @@
 use Rattle.std.proofs.Common.{map, length, sym, ◌∙◌, arith, nat_cmp}
-use Rattle.pud_defs.specs.ExportFile.{under_base}
+use Rattle.pud_defs.specs.PoolGraphs.ExportFile.{under_base}
 use Rattle.pud_import.proofs.BasesApart.{are_distinct-more, are_distinct-fails}
 use Rattle.pud_import.proofs.bases.are_apart.Goals as goal
-use Rattle.pud_defs.proofs.Keyed.{are_distinct-end}
+use Rattle.pud_defs.proofs.KeyedTables.Keyed.{are_distinct-end}
 
 pub returns-then-has_base : goal.returns-then-has_base
 returns-then-has_base c = sym (c.loop-ordinal.invariant ∙ are_distinct-fails c.args.pool.now c.loop-ordinal.ordinal c.has_base.result c.loop-ordinal-test.true c.has_base.ensures c.if-has_base.true)

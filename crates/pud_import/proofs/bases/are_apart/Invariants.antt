@@ -1,7 +1,7 @@
 use Rattle.std.proofs.Common.{◌≡◌, ◌-◌, map, length}
 use Rattle.std.specs.Ordering.{nat_cmp}
-use Rattle.pud_defs.specs.ExportFile.{under_base}
-use Rattle.pud_defs.specs.Keyed.{are_distinct}
+use Rattle.pud_defs.specs.PoolGraphs.ExportFile.{under_base}
+use Rattle.pud_defs.specs.RegistryTables.Keyed.{are_distinct}
 use Rattle.pud_import.proofs.bases.are_apart.Given as goal
 
 abbrev pub invariant-loop-ordinal : goal.invariant-loop-ordinal

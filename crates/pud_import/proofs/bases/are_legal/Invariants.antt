@@ -1,6 +1,6 @@
 use Rattle.std.proofs.Common.{◌≡◌, drop}
 use Rattle.std.specs.List.{list_all}
-use Rattle.pud_defs.specs.Bases.{is_legal_base}
+use Rattle.pud_defs.specs.Formats.Bases.{is_legal_base}
 use Rattle.pud_import.proofs.bases.are_legal.Given as goal
 
 abbrev pub invariant-loop-puddle : goal.invariant-loop-puddle

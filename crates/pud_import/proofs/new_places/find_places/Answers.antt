@@ -5,11 +5,11 @@ use Rattle.std.proofs.lemmas.List.FromFn.{map-range_with_len_more}
 use Rattle.std.proofs.lemmas.Result.{err_from_is_err_and}
 use Rattle.pm_model.proofs.Reading.{OnlyReads-none, OnlyReads-then, still_reads}
 use Rattle.pud_defs.specs.declared.records.Puddle.{Puddle}
-use Rattle.pud_defs.specs.ExportFile.{file_puddle}
-use Rattle.pud_defs.specs.Keyed.{first_free, count_used}
-use Rattle.pud_defs.specs.Placement.{IsBaseFor, ArePlacedFrom}
-use Rattle.pud_defs.specs.Tables.{tables_of}
-use Rattle.pud_defs.proofs.TablesOf.{frames_of_tables}
+use Rattle.pud_defs.specs.PoolGraphs.ExportFile.{file_puddle}
+use Rattle.pud_defs.specs.RegistryTables.Keyed.{first_free, count_used}
+use Rattle.pud_defs.specs.RegistryTables.Placement.{IsBaseFor, ArePlacedFrom}
+use Rattle.pud_defs.specs.RegistryTables.Tables.{tables_of}
+use Rattle.pud_defs.proofs.RegistryTables.TablesOf.{frames_of_tables}
 use Rattle.registry.specs.declared.adding.NewPuddle.{NewPuddle}
 use Rattle.registry.specs.Adding.{IsAddedWithin}
 use Rattle.registry.specs.Placing.{puddle_of_added}

@@ -2,10 +2,10 @@ use Rattle.std.proofs.Common.{◌≡◌, None, [], length, map}
 use Rattle.std.specs.List.{range_with_len}
 use Rattle.pm_model.specs.Words.{reads}
 use Rattle.pm_model.specs.Reads.{OnlyReads}
-use Rattle.pud_defs.specs.ExportFile.{file_puddle}
-use Rattle.pud_defs.specs.Image.{Image}
-use Rattle.pud_defs.specs.Placement.{ArePlacedFrom}
-use Rattle.pud_defs.specs.Tables.{tables_of}
+use Rattle.pud_defs.specs.PoolGraphs.ExportFile.{file_puddle}
+use Rattle.pud_defs.specs.Formats.Image.{Image}
+use Rattle.pud_defs.specs.RegistryTables.Placement.{ArePlacedFrom}
+use Rattle.pud_defs.specs.RegistryTables.Tables.{tables_of}
 use Rattle.registry.specs.Placing.{puddle_of_added}
 use Rattle.pud_import.specs.Contents.{file_image, type_count_read, puddle_count_read}
 use Rattle.pud_import.proofs.FreeFrames.{HasCounted}

@@ -3,8 +3,8 @@ use Rattle.std.specs.Prelude.{IfSome, IfNone}
 use Rattle.arrayvec.specs.ArrayVec.{ArrayVec}
 use Rattle.pm_model.proofs.Reading.{still_reads}
 use Rattle.pud_defs.specs.declared.layout.TheConstants.{TYPE_RECORDS}
-use Rattle.pud_defs.specs.Step.{clashes_with}
-use Rattle.pud_defs.specs.Types.{types_of, used_types}
+use Rattle.pud_defs.specs.StateMachine.Step.{clashes_with}
+use Rattle.pud_defs.specs.RegistryTables.Types.{types_of, used_types}
 use Rattle.type_maps.specs.FreeRecords.{free_records}
 use Rattle.pud_import.specs.declared.placing.PlaceFault.TheVariants as faults
 use Rattle.pud_import.specs.Contents.{types_held}

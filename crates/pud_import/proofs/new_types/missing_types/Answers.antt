@@ -1,10 +1,10 @@
 use Rattle.std.proofs.Common.{ℕ, Bool, List, ◌≡◌, ◌++◌, [], ◌∷◌, length, None, is_none, refl, sym, ap, ap₂, ◌∙◌, arith}
 use Rattle.std.proofs.lemmas.Result.{err_from_is_err_and}
 use Rattle.pm_model.proofs.Reading.{OnlyReads-then, still_reads}
-use Rattle.pud_defs.specs.ExportFile.{file_types}
-use Rattle.pud_defs.specs.Imports.{types_missing}
-use Rattle.pud_defs.specs.Step.{is_clash, clashes_with}
-use Rattle.pud_defs.specs.Types.{map_of, types_of}
+use Rattle.pud_defs.specs.PoolGraphs.ExportFile.{file_types}
+use Rattle.pud_defs.specs.StateMachine.Imports.{types_missing}
+use Rattle.pud_defs.specs.StateMachine.Step.{is_clash, clashes_with}
+use Rattle.pud_defs.specs.RegistryTables.Types.{map_of, types_of}
 use Rattle.pud_import.specs.Contents.{file_image, type_count_read, types_held}
 use Rattle.pud_import.specs.declared.placing.PlaceFault.TheVariants as faults
 use Rattle.pud_import.proofs.Refusals.{refused_if, refused_with, not_refused}

@@ -1,11 +1,11 @@
 use Rattle.std.proofs.Common.{◌≡◌, ◌≤◌, false, None, length}
 use Rattle.pm_model.specs.Words.{reads}
 use Rattle.pm_model.specs.Reads.{OnlyReads}
-use Rattle.pud_defs.specs.Image.{Image}
-use Rattle.pud_defs.specs.ExportFile.{file_types}
-use Rattle.pud_defs.specs.Imports.{types_missing}
-use Rattle.pud_defs.specs.Step.{clashes_with}
-use Rattle.pud_defs.specs.Types.{types_of}
+use Rattle.pud_defs.specs.Formats.Image.{Image}
+use Rattle.pud_defs.specs.PoolGraphs.ExportFile.{file_types}
+use Rattle.pud_defs.specs.StateMachine.Imports.{types_missing}
+use Rattle.pud_defs.specs.StateMachine.Step.{clashes_with}
+use Rattle.pud_defs.specs.RegistryTables.Types.{types_of}
 use Rattle.pud_import.specs.Contents.{file_image}
 use Rattle.pud_import.proofs.new_types.missing_types.Given as goal
 

@@ -3,8 +3,8 @@ use Rattle.std.proofs.lemmas.Result.{err_from_is_err_and}
 use Rattle.pm_model.specs.Counts.{Counts, fault_of}
 use Rattle.pm_model.proofs.Changes.{Changes-wider, Changes-then}
 use Rattle.log_replay.specs.Replaying.{Anything}
-use Rattle.pud_defs.specs.Imports.{with_imported_pool}
-use Rattle.pud_defs.specs.Spaces.{owner}
+use Rattle.pud_defs.specs.StateMachine.Imports.{with_imported_pool}
+use Rattle.pud_defs.specs.RegistryTables.Spaces.{owner}
 use Rattle.pud_import.specs.Contents.{stored_held}
 use Rattle.pud_import.proofs.Imported.{ChangesPools-unfilled_import, ChangesPools-filled_import}
 use Rattle.pud_import.proofs.PlacedSomewhere.{PlacesSomewhere-unfilled, PlacesSomewhere-filled}

@@ -1,8 +1,8 @@
 use Rattle.std.proofs.Common.{ℕ, List, [], map, length, sym, ap, subst, ◌∙◌}
 use Rattle.std.proofs.lemmas.List.{length-map}
 use Rattle.std.proofs.lemmas.List.Elements.{All-same}
-use Rattle.pud_defs.specs.Placement.{ArePlacedFrom, ArePlaced}
-use Rattle.pud_defs.specs.Tables.{tables_of}
+use Rattle.pud_defs.specs.RegistryTables.Placement.{ArePlacedFrom, ArePlaced}
+use Rattle.pud_defs.specs.RegistryTables.Tables.{tables_of}
 use Rattle.registry.specs.declared.adding.NewPuddle.{NewPuddle}
 use Rattle.registry.specs.Adding.{IsAddedWithin}
 use Rattle.registry.specs.Placing.{puddle_of_added}

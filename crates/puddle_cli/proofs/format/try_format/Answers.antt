@@ -2,7 +2,7 @@ use Rattle.std.proofs.Common.{Some, None, sym, subst, ◌∙◌}
 use Rattle.std.proofs.lemmas.Result.{err_from_is_err_and}
 use Rattle.pm_model.specs.Words.{reads}
 use Rattle.pm_model.specs.Moments.{State}
-use Rattle.pud_defs.specs.Texts.{formatted_text}
+use Rattle.pud_defs.specs.Output.Texts.{formatted_text}
 use Rattle.puddle_cli.specs.Formatting.{LaysOut}
 use Rattle.puddle_cli.proofs.Formatted.{Formats-none, Formats-laid, Formats-said, not_refused}
 use Rattle.puddle_cli.proofs.format.try_format.Goals as goal

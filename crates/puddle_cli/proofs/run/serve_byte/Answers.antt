@@ -2,7 +2,7 @@ use Rattle.std.proofs.Common.{◌+◌, ◌≡◌, ◌∙◌, Bool, Result, Some,
 use Rattle.std.specs.Prelude.{List, ℕ}
 use Rattle.std.proofs.lemmas.Result.{err_from_is_err_and}
 use Rattle.pm_model.specs.Counts.{Counts}
-use Rattle.pud_defs.specs.Run.{last_world, open_rest}
+use Rattle.pud_defs.specs.StateMachine.Run.{last_world, open_rest}
 use Rattle.puddled.specs.declared.daemon.RunFault.{RunFault}
 use Rattle.puddled.specs.Faults.{of_host}
 use Rattle.puddled.proofs.Counted.{CountsToEnd-host, host_is_sound}

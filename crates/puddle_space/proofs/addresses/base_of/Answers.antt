@@ -1,9 +1,9 @@
 use Rattle.std.proofs.Common.{◌≡◌, ◌+◌, Some, ap, sym, ◌∙◌, option_map, arith}
 use Rattle.pm_model.proofs.Reading.{still_reads}
 use Rattle.pud_defs.specs.declared.records.TheConstants.{PUDDLE_BASE_WORD}
-use Rattle.pud_defs.specs.Image.{Image}
-use Rattle.pud_defs.specs.Puddles.{puddle_record_at}
-use Rattle.pud_defs.proofs.TablesOf.{puddle_at-free}
+use Rattle.pud_defs.specs.Formats.Image.{Image}
+use Rattle.pud_defs.specs.RegistryTables.Puddles.{puddle_record_at}
+use Rattle.pud_defs.proofs.RegistryTables.TablesOf.{puddle_at-free}
 use Rattle.puddle_space.specs.Nearby.{base_of_member}
 use Rattle.puddle_space.proofs.Records.{used_record}
 use Rattle.puddle_space.proofs.addresses.base_of.Goals as goal

@@ -1,9 +1,9 @@
 use Rattle.std.proofs.Common.{◌≡◌, ℕ, ◌-◌, ◌/◌, Option, Some, refl, ap, sym, subst, ◌∙◌, arith}
 use Rattle.pud_defs.specs.declared.space.TheConstants.{WORD_BYTES}
-use Rattle.pud_defs.specs.Tables.{tables_of}
-use Rattle.pud_defs.specs.Image.{Image}
-use Rattle.pud_defs.specs.Puddles.{puddle_at}
-use Rattle.pud_defs.specs.Places.{first_some, place_in_puddle}
+use Rattle.pud_defs.specs.RegistryTables.Tables.{tables_of}
+use Rattle.pud_defs.specs.Formats.Image.{Image}
+use Rattle.pud_defs.specs.RegistryTables.Puddles.{puddle_at}
+use Rattle.pud_defs.specs.RegistryTables.Places.{first_some, place_in_puddle}
 use Rattle.puddle_space.specs.Nearby.{AreNeighbours}
 use Rattle.puddle_space.proofs.Located.{located_by_records, first_some-passed, first_some-found, first_some-none, placed_by_base, nowhere_by_base, unplaced_by_base}
 use Rattle.pm_model.proofs.Reading.{OnlyReads-none, OnlyReads-then, still_reads}

@@ -1,10 +1,10 @@
 use Rattle.std.proofs.Common.{None, ◌≡◌, ℕ, ◌-◌}
 use Rattle.pm_model.specs.Words.{reads}
 use Rattle.pm_model.specs.Reads.{OnlyReads}
-use Rattle.pud_defs.specs.Image.{Image}
-use Rattle.pud_defs.specs.Puddles.{puddle_at}
-use Rattle.pud_defs.specs.Tables.{tables_of}
-use Rattle.pud_defs.specs.Places.{first_some, place_in_puddle, located}
+use Rattle.pud_defs.specs.Formats.Image.{Image}
+use Rattle.pud_defs.specs.RegistryTables.Puddles.{puddle_at}
+use Rattle.pud_defs.specs.RegistryTables.Tables.{tables_of}
+use Rattle.pud_defs.specs.RegistryTables.Places.{first_some, place_in_puddle, located}
 use Rattle.puddle_space.specs.Nearby.{IsInGap}
 use Rattle.puddle_space.proofs.addresses.search.Given as goal
 

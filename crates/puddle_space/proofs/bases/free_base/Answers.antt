@@ -1,6 +1,6 @@
 use Rattle.std.proofs.Common.{subst, sym}
-use Rattle.pud_defs.specs.Tables.{tables_of}
-use Rattle.pud_defs.specs.Places.{IsLowestBase}
+use Rattle.pud_defs.specs.RegistryTables.Tables.{tables_of}
+use Rattle.pud_defs.specs.RegistryTables.Places.{IsLowestBase}
 use Rattle.puddle_space.proofs.Lowest.{lowest_base, free_once_marked}
 use Rattle.puddle_space.proofs.bases.free_base.Goals as goal
 

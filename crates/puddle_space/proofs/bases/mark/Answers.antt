@@ -1,5 +1,5 @@
 use Rattle.std.proofs.Common.{ap, not, arith, ne_eqb}
-use Rattle.pud_defs.specs.Bases.{base_at}
+use Rattle.pud_defs.specs.Formats.Bases.{base_at}
 use Rattle.puddle_space.proofs.Kept.{LeavesFree-all, LeavesFree-one, one_less}
 use Rattle.puddle_space.proofs.bases.mark.Goals as goal
 

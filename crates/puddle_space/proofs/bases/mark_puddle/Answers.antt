@@ -1,11 +1,11 @@
 use Rattle.std.proofs.Common.{◌≡◌, ◌+◌, not, ◌&&◌, eqb, ap, ap₂, sym, ◌∙◌, arith}
 use Rattle.pm_model.specs.Words.{reads}
 use Rattle.pud_defs.specs.declared.records.TheConstants.{PUDDLE_BASE_WORD, PUDDLE_OLD_BASE_WORD}
-use Rattle.pud_defs.specs.Image.{Image}
-use Rattle.pud_defs.specs.Bases.{base_at}
-use Rattle.pud_defs.specs.Puddles.{puddle_record_at, puddle_at}
-use Rattle.pud_defs.specs.Places.{has_other_bases}
-use Rattle.pud_defs.proofs.TablesOf.{puddle_at-free}
+use Rattle.pud_defs.specs.Formats.Image.{Image}
+use Rattle.pud_defs.specs.Formats.Bases.{base_at}
+use Rattle.pud_defs.specs.RegistryTables.Puddles.{puddle_record_at, puddle_at}
+use Rattle.pud_defs.specs.RegistryTables.Places.{has_other_bases}
+use Rattle.pud_defs.proofs.RegistryTables.TablesOf.{puddle_at-free}
 use Rattle.puddle_space.proofs.Records.{used_record}
 use Rattle.puddle_space.proofs.Kept.{LeavesFree-all, LeavesFree-then}
 use Rattle.pm_model.proofs.Reading.{still_reads}

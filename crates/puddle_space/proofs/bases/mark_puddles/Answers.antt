@@ -1,9 +1,9 @@
 use Rattle.std.proofs.Common.{◌≡◌, ℕ, ◌+◌, subst, arith}
-use Rattle.pud_defs.specs.Bases.{base_at}
-use Rattle.pud_defs.specs.Spaces.{all_below}
-use Rattle.pud_defs.specs.Puddles.{puddle_at}
-use Rattle.pud_defs.specs.Places.{has_other_bases}
-use Rattle.pud_defs.proofs.Spaces.{all_below-from}
+use Rattle.pud_defs.specs.Formats.Bases.{base_at}
+use Rattle.pud_defs.specs.RegistryTables.Spaces.{all_below}
+use Rattle.pud_defs.specs.RegistryTables.Puddles.{puddle_at}
+use Rattle.pud_defs.specs.RegistryTables.Places.{has_other_bases}
+use Rattle.pud_defs.proofs.RegistryTables.Spaces.{all_below-from}
 use Rattle.puddle_space.specs.FreeRanges.{LeavesFree}
 use Rattle.puddle_space.proofs.Kept.{LeavesFree-all, LeavesFree-then, all_below-step}
 use Rattle.pm_model.proofs.Reading.{OnlyReads-none, OnlyReads-then, still_reads}

@@ -1,9 +1,9 @@
 use Rattle.std.proofs.Common.{None, ◌≡◌, ◌+◌, ◌*◌, ◌≤◌}
 use Rattle.pm_model.specs.Words.{reads}
-use Rattle.pud_defs.specs.Image.{Image}
-use Rattle.pud_defs.specs.Spaces.{all_below}
-use Rattle.pud_defs.specs.Puddles.{puddle_at}
-use Rattle.pud_defs.specs.Places.{has_other_bases}
+use Rattle.pud_defs.specs.Formats.Image.{Image}
+use Rattle.pud_defs.specs.RegistryTables.Spaces.{all_below}
+use Rattle.pud_defs.specs.RegistryTables.Puddles.{puddle_at}
+use Rattle.pud_defs.specs.RegistryTables.Places.{has_other_bases}
 use Rattle.puddle_space.specs.FreeRanges.{free_count, LeavesFree}
 use Rattle.pm_model.specs.Reads.{OnlyReads}
 use Rattle.puddle_space.proofs.bases.mark_puddles.Given as goal

@@ -1,7 +1,7 @@
 use Rattle.std.proofs.Common.{◌+◌, not, eqb, take, get_or, arith}
 use Rattle.std.specs.List.{list_all}
 use Rattle.std.proofs.lemmas.List.Folds.{list_all_more}
-use Rattle.pud_defs.specs.Bases.{base_at}
+use Rattle.pud_defs.specs.Formats.Bases.{base_at}
 use Rattle.puddle_space.proofs.Kept.{LeavesFree-then}
 use Rattle.puddle_space.proofs.bases.mark_taken.Goals as goal
 

@@ -1,10 +1,10 @@
 use Rattle.std.proofs.Common.{◌≡◌, ◌+◌, not, eqb, ap, sym, ◌∙◌, arith}
 use Rattle.pm_model.specs.Words.{reads}
 use Rattle.pud_defs.specs.declared.records.TheConstants.{PUDDLE_BASE_WORD}
-use Rattle.pud_defs.specs.Image.{Image}
-use Rattle.pud_defs.specs.Placement.{has_another_base}
-use Rattle.pud_defs.specs.Puddles.{puddle_record_at}
-use Rattle.pud_defs.proofs.TablesOf.{puddle_at-free}
+use Rattle.pud_defs.specs.Formats.Image.{Image}
+use Rattle.pud_defs.specs.RegistryTables.Placement.{has_another_base}
+use Rattle.pud_defs.specs.RegistryTables.Puddles.{puddle_record_at}
+use Rattle.pud_defs.proofs.RegistryTables.TablesOf.{puddle_at-free}
 use Rattle.puddle_space.proofs.Records.{used_record}
 use Rattle.puddle_space.proofs.HasBase.{not_twice}
 use Rattle.pm_model.proofs.Reading.{still_reads}

@@ -1,8 +1,8 @@
 use Rattle.std.proofs.Common.{◌≡◌, ℕ, true, sym, subst, ◌∙◌, arith}
-use Rattle.pud_defs.specs.Placement.{has_another_base}
-use Rattle.pud_defs.specs.Puddles.{puddle_at}
-use Rattle.pud_defs.specs.Spaces.{all_below}
-use Rattle.pud_defs.proofs.Spaces.{all_below-from, all_below-more}
+use Rattle.pud_defs.specs.RegistryTables.Placement.{has_another_base}
+use Rattle.pud_defs.specs.RegistryTables.Puddles.{puddle_at}
+use Rattle.pud_defs.specs.RegistryTables.Spaces.{all_below}
+use Rattle.pud_defs.proofs.RegistryTables.Spaces.{all_below-from, all_below-more}
 use Rattle.puddle_space.proofs.HasBase.{so, base_found, no_base_found}
 use Rattle.pm_model.proofs.Reading.{OnlyReads-none, OnlyReads-then, still_reads}
 use Rattle.puddle_space.proofs.taken.has_base.Goals as goal

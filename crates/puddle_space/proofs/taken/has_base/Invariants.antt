@@ -1,10 +1,10 @@
 use Rattle.std.proofs.Common.{None, true, ◌≡◌}
 use Rattle.pm_model.specs.Words.{reads}
 use Rattle.pm_model.specs.Reads.{OnlyReads}
-use Rattle.pud_defs.specs.Image.{Image}
-use Rattle.pud_defs.specs.Placement.{has_another_base}
-use Rattle.pud_defs.specs.Puddles.{puddle_at}
-use Rattle.pud_defs.specs.Spaces.{all_below}
+use Rattle.pud_defs.specs.Formats.Image.{Image}
+use Rattle.pud_defs.specs.RegistryTables.Placement.{has_another_base}
+use Rattle.pud_defs.specs.RegistryTables.Puddles.{puddle_at}
+use Rattle.pud_defs.specs.RegistryTables.Spaces.{all_below}
 use Rattle.puddle_space.proofs.taken.has_base.Given as goal
 
 abbrev pub invariant-loop-frame : goal.invariant-loop-frame

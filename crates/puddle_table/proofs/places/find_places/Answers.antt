@@ -1,8 +1,8 @@
 use Rattle.std.proofs.Common.{◌≡◌, ℕ, ◌-◌, sym, ap, ◌∙◌, subst, arith}
 use Rattle.pm_model.specs.Words.{reads}
 use Rattle.pm_model.specs.Moments.{State}
-use Rattle.pud_defs.specs.Image.{Image}
-use Rattle.pud_defs.specs.Puddles.{puddle_record_at}
+use Rattle.pud_defs.specs.Formats.Image.{Image}
+use Rattle.pud_defs.specs.RegistryTables.Puddles.{puddle_record_at}
 use Rattle.puddle_table.specs.Placed.{Placed}
 use Rattle.puddle_table.proofs.Placing.{HoldsFrom, few_used, HoldsFrom-start, HoldsFrom-next, HoldsPlaces-end}
 use Rattle.pm_model.proofs.Reading.{OnlyReads-none, OnlyReads-then}

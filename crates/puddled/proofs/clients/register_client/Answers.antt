@@ -2,8 +2,8 @@ use Rattle.std.proofs.Common.{Some, refl, sym, ◌∙◌}
 use Rattle.std.proofs.lemmas.Result.{err_from_is_err_and}
 use Rattle.pud_defs.specs.declared.machine.Command.TheVariants.{Client}
 use Rattle.pud_defs.specs.declared.machine.Refusal.TheVariants as refusals
-use Rattle.pud_defs.specs.Step.{world_by}
-use Rattle.pud_defs.proofs.Steps.{refused_answer, answer_is_ok}
+use Rattle.pud_defs.specs.StateMachine.Step.{world_by}
+use Rattle.pud_defs.proofs.StateMachine.Steps.{refused_answer, answer_is_ok}
 use Rattle.ready_daemon.proofs.Applying.{Applies-failed, Applies-refused, Applies-accepted}
 use Rattle.ready_daemon.proofs.Coming.{presence_read, taken, is_new}
 use Rattle.ready_daemon.proofs.Others.{others_absent}

@@ -3,8 +3,8 @@ use Rattle.std.specs.Prelude.{IfOk}
 use Rattle.std.proofs.lemmas.Option.{same_Some}
 use Rattle.pm_model.specs.Counts.{fault_of}
 use Rattle.pud_defs.specs.declared.machine.Command.{Command}
-use Rattle.pud_defs.specs.Step.{answer_by}
-use Rattle.pud_defs.specs.Step.Answer.{of_reply}
+use Rattle.pud_defs.specs.StateMachine.Step.{answer_by}
+use Rattle.pud_defs.specs.StateMachine.Step.Answer.{of_reply}
 use Rattle.known_pool.specs.Known.{Known}
 use Rattle.ready_daemon.specs.PoolKnowledge.{known_pool_in}
 use Rattle.ready_daemon.specs.ActiveTransactions.{IsActiveWithin}

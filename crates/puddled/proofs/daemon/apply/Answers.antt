@@ -2,7 +2,7 @@ use Rattle.std.proofs.Common.{◌≡◌, ℕ, Some, Ok, refl, sym, ap, subst, �
 use Rattle.pud_defs.specs.declared.machine.Command.{Command}
 use Rattle.pud_defs.specs.declared.machine.Command.TheVariants.{Client, Leave, Define, Chmod, Get, Begin, Commit, Abort, New, Set, Later, Root, Free, Import, Cut, Arm}
 use Rattle.pud_defs.specs.declared.machine.Command.TheVariants as commands
-use Rattle.pud_defs.specs.Grammar.{IsLegalCommand}
+use Rattle.pud_defs.specs.StateMachine.Grammar.{IsLegalCommand}
 use Rattle.ready_daemon.specs.Memory.{Memory}
 use Rattle.puddled.specs.declared.answers.LineAnswer.TheVariants as answers
 use Rattle.puddled.specs.Daemon.{CarriesOut}
@@ -10,7 +10,7 @@ use Rattle.ready_daemon.proofs.Keeping.{KeepsRest-still}
 use Rattle.puddled.proofs.Carrying.{ClosesLogs-leave, ClosesLogs-other, CarriesOut-plain, CarriesOut-led, CarriesOut-as, CarriesOut-listed, CarriesOut-lost, CarriesOut-armed}
 use Rattle.std.specs.Prelude.{IfOk}
 use Rattle.pm_model.specs.Words.{reads}
-use Rattle.pud_defs.specs.Step.{refusal_of}
+use Rattle.pud_defs.specs.StateMachine.Step.{refusal_of}
 use Rattle.puddled.specs.Rewriting.{DoesSteps}
 use Rattle.puddled.proofs.Rewritten.{steps_answered}
 use Rattle.puddled.proofs.daemon.apply.Goals as goal

@@ -6,10 +6,10 @@ use Rattle.pm_model.specs.Words.{reads}
 use Rattle.pud_defs.specs.declared.machine.Command.{Command}
 use Rattle.pud_defs.specs.declared.machine.Reply.TheVariants as replies
 use Rattle.pud_defs.specs.declared.machine.Refusal.TheVariants as refusals
-use Rattle.pud_defs.specs.Layout.{device_words}
-use Rattle.pud_defs.specs.World.{world_of}
-use Rattle.pud_defs.specs.Grammar.{command_of}
-use Rattle.pud_defs.specs.Changing.{file_in}
+use Rattle.pud_defs.specs.Formats.Layout.{device_words}
+use Rattle.pud_defs.specs.StateMachine.World.{world_of}
+use Rattle.pud_defs.specs.StateMachine.Grammar.{command_of}
+use Rattle.pud_defs.specs.StateMachine.Changing.{file_in}
 use Rattle.puddled.specs.Faults.{kind_of, CountsLine, CountsReply, HasLostPower}
 use Rattle.puddled.specs.declared.answers.LineAnswer.{LineAnswer}
 use Rattle.puddled.specs.declared.answers.LineAnswer.TheVariants as answers
@@ -22,7 +22,7 @@ use Rattle.puddled.proofs.LinesCarriedOut.{Settles-done}
 use Rattle.puddled.specs.Frontiers.{LeadFrontiers, MoveOnTheWay}
 use Rattle.puddled.proofs.Led.{LeadFrontiers-bad, MoveOnTheWay-done}
 use Rattle.std.proofs.lemmas.Option.{none-some, same_Some}
-use Rattle.pud_defs.specs.Step.{refusal_of}
+use Rattle.pud_defs.specs.StateMachine.Step.{refusal_of}
 use Rattle.pud_defs.specs.declared.machine.Command.TheVariants.{Rewrite}
 use Rattle.puddled.proofs.daemon.carry_out_line.Goals as goal
 

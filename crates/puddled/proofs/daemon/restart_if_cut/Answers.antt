@@ -8,8 +8,8 @@ use Rattle.pm_model.specs.Counts.{fault_of}
 use Rattle.puddled.specs.declared.answers.LineAnswer.{LineAnswer}
 use Rattle.puddled.specs.declared.answers.LineAnswer.TheVariants as answers
 use Rattle.pud_defs.specs.declared.machine.Reply.{Reply}
-use Rattle.pud_defs.specs.World.{world_of}
-use Rattle.pud_defs.specs.Grammar.{command_of}
+use Rattle.pud_defs.specs.StateMachine.World.{world_of}
+use Rattle.pud_defs.specs.StateMachine.Grammar.{command_of}
 use Rattle.ready_daemon.specs.Memory.{Memory}
 use Rattle.puddled.specs.Daemon.{CarriesOut}
 use Rattle.puddled.specs.declared.daemon.StartFault.{StartFault}

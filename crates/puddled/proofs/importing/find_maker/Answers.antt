@@ -1,7 +1,7 @@
 use Rattle.std.proofs.Common.{◌≡◌, true, false, Some, is_some, refl, sym, ap, ◌∙◌}
 use Rattle.pm_model.specs.Words.{reads}
 use Rattle.pm_model.specs.Moments.{State}
-use Rattle.pud_defs.specs.Tables.{tables_of, pool_in}
+use Rattle.pud_defs.specs.RegistryTables.Tables.{tables_of, pool_in}
 use Rattle.pud_defs.specs.declared.machine.Refusal.TheVariants as refusals
 use Rattle.ready_daemon.proofs.Pooling.{acting, absent}
 use Rattle.puddled.proofs.ImportRefusals.{import_client, import_exists, named_there, named_none}

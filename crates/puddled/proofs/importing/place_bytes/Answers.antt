@@ -1,7 +1,7 @@
 use Rattle.std.proofs.Common.{◌≡◌, ℕ, true, false, List, refl, sym, ap, ◌∙◌}
 use Rattle.std.specs.Prelude.{is_some}
 use Rattle.std.specs.Result.{is_ok}
-use Rattle.pud_defs.specs.ExportFile.{file_graph}
+use Rattle.pud_defs.specs.PoolGraphs.ExportFile.{file_graph}
 use Rattle.pud_import.specs.Contents.{stored_held}
 use Rattle.ready_daemon.proofs.Keeping.{KeepsRest-changes}
 use Rattle.puddled.proofs.ImportRefusals.{fault_of_placing}

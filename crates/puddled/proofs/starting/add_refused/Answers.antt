@@ -1,6 +1,6 @@
 use Rattle.std.proofs.Common.{length, ap, arith, length-append}
 use Rattle.std.proofs.lemmas.Str.{encode_ascii}
-use Rattle.pud_defs.proofs.StartText.{digits_of_log}
+use Rattle.pud_defs.proofs.Output.StartText.{digits_of_log}
 use Rattle.puddled.proofs.starting.add_refused.Goals as goal
 
 pub push_str-requires-2 : goal.push_str-requires-2

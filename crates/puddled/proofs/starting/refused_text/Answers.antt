@@ -1,8 +1,8 @@
 use Rattle.std.proofs.Common.{◌≡◌, ℕ, ◌++◌, List, [], Bool, cond, length, sym, ap, ◌∙◌, arith, append-nil}
 use Rattle.std.specs.Prelude.{slice_index_or}
-use Rattle.pud_defs.specs.Settled.{ALL_LOGS}
-use Rattle.pud_defs.specs.StartText.{refused_line}
-use Rattle.pud_defs.proofs.StartText.{first_lines, first_lines-none, first_lines-more, first_lines-all}
+use Rattle.pud_defs.specs.Logging.Settled.{ALL_LOGS}
+use Rattle.pud_defs.specs.Output.StartText.{refused_line}
+use Rattle.pud_defs.proofs.Output.StartText.{first_lines, first_lines-none, first_lines-more, first_lines-all}
 use Rattle.recover.specs.declared.judge.Mark.TheVariants.{Closed}
 use Rattle.recover.specs.Verdicts.{is_refused_mark}
 use Rattle.puddled.proofs.starting.refused_text.Goals as goal

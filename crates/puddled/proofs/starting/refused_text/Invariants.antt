@@ -3,7 +3,7 @@ use Rattle.std.specs.Prelude.{slice_index_or}
 use Rattle.recover.specs.declared.judge.Mark.TheVariants.{Closed}
 use Rattle.recover.specs.Verdicts.{is_refused_mark}
 use Rattle.puddled.specs.declared.starting.TheConstants.{LINE_LIMIT}
-use Rattle.pud_defs.proofs.StartText.{first_lines}
+use Rattle.pud_defs.proofs.Output.StartText.{first_lines}
 use Rattle.puddled.proofs.starting.refused_text.Given as goal
 
 abbrev pub invariant-loop-number : goal.invariant-loop-number

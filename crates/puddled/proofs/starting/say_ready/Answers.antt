@@ -1,4 +1,4 @@
-use Rattle.pud_defs.specs.Texts.{ready_text}
+use Rattle.pud_defs.specs.Output.Texts.{ready_text}
 use Rattle.puddled.proofs.starting.say_ready.Goals as goal
 
 pub returns-clause-says : goal.returns-clause-says

@@ -6,8 +6,8 @@ use Rattle.pm_model.specs.Moments.{State}
 use Rattle.pm_model.specs.Changes.{only, Persists, Changes, written}
 use Rattle.pm_model.proofs.Changes.{Changes-wider}
 use Rattle.pud_defs.specs.declared.log_words.TheConstants.{CLOSED_GATE}
-use Rattle.pud_defs.specs.Image.{Image}
-use Rattle.pud_defs.specs.Settled.{log_number_at}
+use Rattle.pud_defs.specs.Formats.Image.{Image}
+use Rattle.pud_defs.specs.Logging.Settled.{log_number_at}
 use Rattle.log_replay.specs.Replaying.{Anything}
 use Rattle.recover.proofs.Accepting.{of_closed, closed_gives_nothing}
 use Rattle.recover.proofs.LogRecovered.{TakesTurn-still, LeavesTurn-still, TakesTurn-closed, LeavesTurn-closed}

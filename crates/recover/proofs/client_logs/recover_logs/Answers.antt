@@ -5,7 +5,7 @@ use Rattle.std.proofs.lemmas.Result.{err_from_is_err_and}
 use Rattle.pm_model.specs.Words.{reads}
 use Rattle.pm_model.specs.Counts.{after_fault, fault_of}
 use Rattle.pm_model.proofs.Changes.{Changes-still, Changes-then}
-use Rattle.pud_defs.specs.Settled.{ALL_LOGS}
+use Rattle.pud_defs.specs.Logging.Settled.{ALL_LOGS}
 use Rattle.log_replay.specs.Replaying.{Anything}
 use Rattle.recover.specs.declared.judge.Mark.TheVariants.{Closed}
 use Rattle.recover.specs.Verdicts.{verdict_of, mark_of}

@@ -2,8 +2,8 @@ use Rattle.std.proofs.Common.{◌≡◌, ◌∙◌, ℕ, Some, None, true, false
 use Rattle.pm_model.specs.Words.{reads}
 use Rattle.pm_model.specs.Counts.{fault_of}
 use Rattle.pm_model.specs.Changes.{Leaves, Silently}
-use Rattle.pud_defs.specs.Image.{Image}
-use Rattle.pud_defs.specs.Settled.{log_number_at}
+use Rattle.pud_defs.specs.Formats.Image.{Image}
+use Rattle.pud_defs.specs.Logging.Settled.{log_number_at}
 use Rattle.log_replay.specs.declared.Target.TheVariants.{Puddles}
 use Rattle.log_replay.specs.Replaying.{address_map_of, IsPlacedCopy, IsReplayable, IsSettling, SettlesLog}
 use Rattle.recover.proofs.Accepting.{of_replayed, of_refused, not_accepted_gives_nothing, may_be_replayed}

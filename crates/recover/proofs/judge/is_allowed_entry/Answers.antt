@@ -3,9 +3,9 @@ use Rattle.std.proofs.lemmas.Bool.{and_left, le-leb, lt-leb}
 use Rattle.std.proofs.lemmas.Result.{IfOk-weaker}
 use Rattle.pud_defs.specs.declared.layout.TheConstants.{FRAME_WORDS}
 use Rattle.pud_defs.specs.declared.space.TheConstants.{WORD_BYTES}
-use Rattle.pud_defs.specs.Tables.{tables_of}
-use Rattle.pud_defs.specs.Allowed.{may_write_puddle, is_allowed_entry}
-use Rattle.pud_defs.proofs.Entries.{words_from-length}
+use Rattle.pud_defs.specs.RegistryTables.Tables.{tables_of}
+use Rattle.pud_defs.specs.Logging.Allowed.{may_write_puddle, is_allowed_entry}
+use Rattle.pud_defs.proofs.Logging.Entries.{words_from-length}
 use Rattle.log_entry.specs.Reading.{entry_from}
 use Rattle.recover.specs.Verdicts.{owner_by_record}
 use Rattle.recover.proofs.Writable.{allowed_by_place}

@@ -1,10 +1,10 @@
 use Rattle.std.proofs.Common.{◌≡◌, Some, None, option_map, sym, ap, ◌∙◌}
 use Rattle.pm_model.proofs.Reading.{still_reads}
-use Rattle.pud_defs.specs.Entries.{log_of}
-use Rattle.pud_defs.specs.Spaces.{owner_of}
-use Rattle.pud_defs.specs.Tables.{tables_of}
-use Rattle.pud_defs.specs.Allowed.{puddle_word}
-use Rattle.pud_defs.specs.Settled.{client_of_log, log_number_at}
+use Rattle.pud_defs.specs.Logging.Entries.{log_of}
+use Rattle.pud_defs.specs.RegistryTables.Spaces.{owner_of}
+use Rattle.pud_defs.specs.RegistryTables.Tables.{tables_of}
+use Rattle.pud_defs.specs.Logging.Allowed.{puddle_word}
+use Rattle.pud_defs.specs.Logging.Settled.{client_of_log, log_number_at}
 use Rattle.log_replay.specs.Placing.{placed_log}
 use Rattle.recover.specs.Verdicts.{owner_by_record, mark_for}
 use Rattle.recover.proofs.Judged.{verdict_of-free, verdict_of-registered}

@@ -1,9 +1,9 @@
 use Rattle.std.proofs.Common.{◌≡◌, ℕ, ◌<◌, ◌≤◌, false, option_map, refl, sym, ap, ◌∙◌, arith}
 use Rattle.std.proofs.lemmas.Bool.{cond-true, cond-false, le-leb, lt-leb}
 use Rattle.pm_model.proofs.Reading.{OnlyReads-none, OnlyReads-then, still_reads}
-use Rattle.pud_defs.specs.Entries.{gate_used, is_legal_gate}
-use Rattle.pud_defs.specs.Tables.{tables_of}
-use Rattle.pud_defs.specs.Allowed.{puddle_word}
+use Rattle.pud_defs.specs.Logging.Entries.{gate_used, is_legal_gate}
+use Rattle.pud_defs.specs.RegistryTables.Tables.{tables_of}
+use Rattle.pud_defs.specs.Logging.Allowed.{puddle_word}
 use Rattle.log_entry.specs.Reading.{Reading, entry_from, entries_left, PassesOne}
 use Rattle.log_entry.specs.Copying.{image_of_copy, log_copied, with_address}
 use Rattle.log_entry.proofs.Left.{IsReading-start, IsReading-more, entries_left-start}

@@ -2,10 +2,10 @@ use Rattle.std.proofs.Common.{None, Some, ◌≡◌, ◌-◌, List}
 use Rattle.pm_model.specs.Words.{reads}
 use Rattle.pm_model.specs.Reads.{OnlyReads}
 use Rattle.pud_defs.specs.declared.layout.TheConstants.{LOG_ENTRY_WORDS}
-use Rattle.pud_defs.specs.Image.{Image}
-use Rattle.pud_defs.specs.Entries.{Entry}
-use Rattle.pud_defs.specs.Tables.{tables_of}
-use Rattle.pud_defs.specs.Allowed.{puddle_word}
+use Rattle.pud_defs.specs.Formats.Image.{Image}
+use Rattle.pud_defs.specs.Logging.Entries.{Entry}
+use Rattle.pud_defs.specs.RegistryTables.Tables.{tables_of}
+use Rattle.pud_defs.specs.Logging.Allowed.{puddle_word}
 use Rattle.puddle_space.specs.Nearby.{IsNearby}
 use Rattle.log_entry.specs.Reading.{entries_left}
 use Rattle.log_entry.specs.Copying.{image_of_copy, log_copied}

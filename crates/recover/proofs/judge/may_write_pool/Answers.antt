@@ -1,12 +1,12 @@
 use Rattle.std.proofs.Common.{◌≡◌, true, ◌&&◌, ◌+◌, ◌-◌, not, eqb, ℕ, Bool, sym, ap, ap₂, ◌∙◌, arith, ne_eqb, eq-eqb}
 use Rattle.std.proofs.lemmas.Bool.{and_right}
 use Rattle.pud_defs.specs.declared.records.TheConstants.{POOL_OWNER_WORD, POOL_MODE_WORD}
-use Rattle.pud_defs.specs.Image.{Image}
-use Rattle.pud_defs.specs.Pools.{owner_uid, owner_gid, pool_record_at}
-use Rattle.pud_defs.specs.Spaces.{owner}
-use Rattle.pud_defs.specs.Rights.{may_write}
-use Rattle.pud_defs.specs.Tables.{tables_of}
-use Rattle.pud_defs.specs.Allowed.{may_write_record}
+use Rattle.pud_defs.specs.Formats.Image.{Image}
+use Rattle.pud_defs.specs.RegistryTables.Pools.{owner_uid, owner_gid, pool_record_at}
+use Rattle.pud_defs.specs.RegistryTables.Spaces.{owner}
+use Rattle.pud_defs.specs.Formats.Rights.{may_write}
+use Rattle.pud_defs.specs.RegistryTables.Tables.{tables_of}
+use Rattle.pud_defs.specs.Logging.Allowed.{may_write_record}
 use Rattle.recover.specs.Verdicts.{owner_by_record}
 use Rattle.recover.proofs.Writable.{may_write_used, may_write_free, may_write_beyond}
 use Rattle.pm_model.proofs.Reading.{still_reads}

@@ -4,11 +4,11 @@ use Rattle.std.proofs.lemmas.Result.{err_from_is_err_and}
 use Rattle.pm_model.specs.Words.{reads}
 use Rattle.pm_model.proofs.Changes.{Changes-then}
 use Rattle.pud_defs.specs.declared.layout.TheConstants.{DAEMON_LOG}
-use Rattle.pud_defs.specs.Image.{Image}
-use Rattle.pud_defs.specs.Replay.{settled_by}
-use Rattle.pud_defs.specs.Registry.{frames_of}
-use Rattle.pud_defs.specs.Settled.{ALL_LOGS}
-use Rattle.pud_defs.specs.World.{world_of}
+use Rattle.pud_defs.specs.Formats.Image.{Image}
+use Rattle.pud_defs.specs.Logging.Replay.{settled_by}
+use Rattle.pud_defs.specs.RegistryTables.Registry.{frames_of}
+use Rattle.pud_defs.specs.Logging.Settled.{ALL_LOGS}
+use Rattle.pud_defs.specs.StateMachine.World.{world_of}
 use Rattle.log_replay.specs.Replaying.{Anything}
 use Rattle.registry.specs.declared.DeviceGeometry.{DeviceGeometry}
 use Rattle.registry.specs.declared.LoadFault.{LoadFault}

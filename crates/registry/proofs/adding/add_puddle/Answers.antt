@@ -6,8 +6,8 @@ use Rattle.pm_model.specs.Masks.{masked_state, IsOff}
 use Rattle.pm_model.proofs.Changes.{Changes-wider, Changes-then}
 use Rattle.pm_model.proofs.Masks.{Changes-masked, Persists-masked}
 use Rattle.pud_defs.specs.declared.layout.TheConstants.{DAEMON_LOG}
-use Rattle.pud_defs.specs.Entries.{Entry}
-use Rattle.pud_defs.specs.Frames.{fresh_frame}
+use Rattle.pud_defs.specs.Logging.Entries.{Entry}
+use Rattle.pud_defs.specs.Formats.Frames.{fresh_frame}
 use Rattle.batch.specs.Batches.{ByBatch}
 use Rattle.log_replay.specs.Replaying.{Anything}
 use Rattle.registry.specs.Adding.{filling}

@@ -1,7 +1,7 @@
 use Rattle.std.proofs.Common.{refl, ap, ◌∙◌}
 use Rattle.std.proofs.lemmas.Result.{err_from_is_err_and}
-use Rattle.pud_defs.specs.Keyed.{first_free}
-use Rattle.pud_defs.specs.Tables.{tables_of}
+use Rattle.pud_defs.specs.RegistryTables.Keyed.{first_free}
+use Rattle.pud_defs.specs.RegistryTables.Tables.{tables_of}
 use Rattle.puddle_table.proofs.Search.{frame_found}
 use Rattle.registry.proofs.Placed.{all_frames, no_frame_found}
 use Rattle.pm_model.proofs.Reading.{still_reads}

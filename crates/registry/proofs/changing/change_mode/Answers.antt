@@ -2,9 +2,9 @@ use Rattle.std.proofs.Common.{List, refl, sym, subst, arith}
 use Rattle.pm_model.specs.Counts.{fault_of}
 use Rattle.pm_model.specs.Masks.{masked_state, IsOff}
 use Rattle.pud_defs.specs.declared.layout.TheConstants.{DAEMON_LOG}
-use Rattle.pud_defs.specs.Entries.{Entry}
+use Rattle.pud_defs.specs.Logging.Entries.{Entry}
 use Rattle.batch.specs.Batches.{ByBatch}
-use Rattle.pud_defs.specs.Puts.{mode_put}
+use Rattle.pud_defs.specs.RegistryTables.Puts.{mode_put}
 use Rattle.registry.specs.Pools.{changing}
 use Rattle.registry.proofs.Gathered.{first_put}
 use Rattle.registry.proofs.Changed.{changing_of}

@@ -5,18 +5,18 @@ use Rattle.pm_model.proofs.Masks.{reads-masked}
 use Rattle.pm_model.proofs.Reading.{still_size}
 use Rattle.pud_defs.specs.declared.layout.TheConstants.{DAEMON_LOG}
 use Rattle.pud_defs.specs.declared.records.TheConstants.{MAX_PUDDLES}
-use Rattle.pud_defs.specs.Entries.{Entry}
-use Rattle.pud_defs.specs.Keyed.{count_used}
+use Rattle.pud_defs.specs.Logging.Entries.{Entry}
+use Rattle.pud_defs.specs.RegistryTables.Keyed.{count_used}
 use Rattle.batch.specs.Batches.{ByBatch}
 use Rattle.registry.specs.Puts.{puts_batch}
 use Rattle.std.proofs.lemmas.Result.{err_from_is_err_and}
 use Rattle.pm_model.specs.Counts.{fault_of}
-use Rattle.pud_defs.specs.Tables.{Tables, tables_of, members}
+use Rattle.pud_defs.specs.RegistryTables.Tables.{Tables, tables_of, members}
 use Rattle.registry.specs.Pools.{dropping}
 use Rattle.registry.proofs.Moved.{ChangesPools-still}
 use Rattle.registry.proofs.Changed.{dropping_of}
 use Rattle.registry.proofs.Joined.{whole_batch, ChangesPools-dropped, Commits-puts}
-use Rattle.pud_defs.proofs.TablesOf.{frames_of_tables}
+use Rattle.pud_defs.proofs.RegistryTables.TablesOf.{frames_of_tables}
 use Rattle.registry.proofs.changing.drop_pool.Goals as goal
 
 pub returns-in_err-dropping-clause-changes : goal.returns-in_err-dropping-clause-changes

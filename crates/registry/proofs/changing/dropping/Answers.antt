@@ -1,10 +1,10 @@
 use Rattle.std.proofs.Common.{◌+◌, ◌≤◌, sym, ap, subst, ◌∙◌, arith}
 use Rattle.pm_model.specs.Counts.{Counts}
 use Rattle.pud_defs.specs.declared.records.TheConstants.{MAX_PUDDLES}
-use Rattle.pud_defs.specs.Keyed.{count_used}
-use Rattle.pud_defs.specs.Tables.{tables_of, members}
-use Rattle.pud_defs.specs.Puts.{free_pool_put, free_puddle_put}
-use Rattle.pud_defs.proofs.TablesOf.{frames_of_tables}
+use Rattle.pud_defs.specs.RegistryTables.Keyed.{count_used}
+use Rattle.pud_defs.specs.RegistryTables.Tables.{tables_of, members}
+use Rattle.pud_defs.specs.RegistryTables.Puts.{free_pool_put, free_puddle_put}
+use Rattle.pud_defs.proofs.RegistryTables.TablesOf.{frames_of_tables}
 use Rattle.registry.proofs.Gathered.{Gathers, Gathers-start, Gathers-other, Gathers-more, Gathers-end, Gathers-room, first_put, next_put, of_table}
 use Rattle.pm_model.proofs.Reading.{OnlyReads-none, OnlyReads-then, still_reads}
 use Rattle.registry.proofs.changing.dropping.Goals.{then-branch, else-branch}

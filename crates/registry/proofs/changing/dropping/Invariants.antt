@@ -2,9 +2,9 @@ use Rattle.std.proofs.Common.{None, ◌≡◌, ◌≤◌}
 use Rattle.pm_model.specs.Words.{reads}
 use Rattle.pm_model.specs.Reads.{OnlyReads}
 use Rattle.pud_defs.specs.declared.records.TheConstants.{MAX_PUDDLES}
-use Rattle.pud_defs.specs.Image.{Image}
-use Rattle.pud_defs.specs.Keyed.{count_used}
-use Rattle.pud_defs.specs.Tables.{tables_of, members}
+use Rattle.pud_defs.specs.Formats.Image.{Image}
+use Rattle.pud_defs.specs.RegistryTables.Keyed.{count_used}
+use Rattle.pud_defs.specs.RegistryTables.Tables.{tables_of, members}
 use Rattle.registry.proofs.Gathered.{Gathers}
 use Rattle.registry.proofs.changing.dropping.Given as goal
 

@@ -1,6 +1,6 @@
 use Rattle.std.proofs.Common.{nat_eq, ◌+◌, ap, ◌∙◌}
-use Rattle.pud_defs.specs.Image.{Image}
-use Rattle.pud_defs.specs.Puddles.{puddle_record_at}
+use Rattle.pud_defs.specs.Formats.Image.{Image}
+use Rattle.pud_defs.specs.RegistryTables.Puddles.{puddle_record_at}
 use Rattle.registry.proofs.Gathered.{of_read}
 use Rattle.registry.proofs.changing.is_of_pool.Goals as goal
 

@@ -1,7 +1,7 @@
 use Rattle.std.proofs.Common.{Err, refl, ap, ◌∙◌}
 use Rattle.std.proofs.lemmas.Result.{err_from_is_err_and}
 use Rattle.pud_defs.specs.declared.layout.TheConstants.{NEXT_NUMBER_WORD}
-use Rattle.pud_defs.specs.Image.{Image}
+use Rattle.pud_defs.specs.Formats.Image.{Image}
 use Rattle.registry.proofs.Placed.{refused_for_space, makes_first, first_is}
 use Rattle.pm_model.proofs.Reading.{still_reads}
 use Rattle.registry.proofs.making.find_first.Goals as goal

@@ -1,5 +1,5 @@
 use Rattle.std.proofs.Common.{refl}
-use Rattle.pud_defs.specs.Puts.{puddle_put}
+use Rattle.pud_defs.specs.RegistryTables.Puts.{puddle_put}
 use Rattle.registry.specs.declared.adding.NewPuddle.{NewPuddle}
 use Rattle.registry.proofs.PutsListed.{listed_more}
 use Rattle.registry.proofs.placing.add_puddles.Goals as goal

@@ -1,8 +1,8 @@
 -- The map word starts with the number of fields, and each field of the list adds its bit.
 use Rattle.std.proofs.Common.{◌≡◌, ◌<◌, ◌*◌, ◌^◌, ◌%◌, ◌∷◌, Some, false, codes, bytes_eq, sym, ap, ◌∙◌, arith}
 use Rattle.std.proofs.lemmas.Nat.{one_shl}
-use Rattle.pud_defs.specs.Grammar.{number_within}
-use Rattle.pud_defs.proofs.Commands.{number_within-bounds}
+use Rattle.pud_defs.specs.StateMachine.Grammar.{number_within}
+use Rattle.pud_defs.proofs.StateMachine.Commands.{number_within-bounds}
 use Rattle.script.specs.Pieces.{pieces_of}
 use Rattle.script.proofs.FieldLists.{map_behind, field_taken, pointers_listed, bit_fits}
 use Rattle.script.proofs.fields.read_map.Goals as goal

@@ -1,5 +1,5 @@
 use Rattle.std.proofs.Common.{◌≡◌, ◌≤◌, ℕ, ◌+◌, ◌*◌, ◌^◌, ◌<◌, length, List, Option, Some, None, Bor}
-use Rattle.pud_defs.specs.Grammar.{listed_map}
+use Rattle.pud_defs.specs.StateMachine.Grammar.{listed_map}
 use Rattle.script.specs.Pieces.{pieces_of}
 use Rattle.script.proofs.FieldLists.{map_behind}
 use Rattle.script.proofs.fields.read_map.Given as goal

@@ -1,5 +1,5 @@
 use Rattle.std.proofs.Common.{rules}
-use Rattle.pud_defs.specs.Grammar.{command_of}
+use Rattle.pud_defs.specs.StateMachine.Grammar.{command_of}
 use Rattle.script.proofs.Legal.{legal_of}
 use Rattle.script.proofs.lines.parse_line.Goals as goal
 

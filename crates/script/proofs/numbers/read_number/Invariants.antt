@@ -1,5 +1,5 @@
 use Rattle.std.proofs.Common.{◌≡◌, ◌^◌, ◌<◌, drop}
-use Rattle.pud_defs.specs.Grammar.{decimal_of}
+use Rattle.pud_defs.specs.StateMachine.Grammar.{decimal_of}
 use Rattle.script.proofs.Digits.{word_of, number_behind}
 use Rattle.script.proofs.numbers.read_number.Given as goal
 

@@ -1,5 +1,5 @@
 use Rattle.std.proofs.Common.{rules}
-use Rattle.pud_defs.specs.Texts.{reply_text}
+use Rattle.pud_defs.specs.Output.Texts.{reply_text}
 use Rattle.script.proofs.replies.print_reply.Goals as goal
 
 pub returns-in-Ref-clause-text : goal.returns-in-Ref-clause-text

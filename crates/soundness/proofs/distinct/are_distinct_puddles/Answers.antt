@@ -1,8 +1,8 @@
 use Rattle.std.proofs.Common.{◌&&◌, ◌∙◌}
 use Rattle.pud_defs.specs.declared.layout.TheConstants.{DAEMON_LOG}
-use Rattle.pud_defs.specs.Replay.{settled_by}
-use Rattle.pud_defs.specs.Tables.{tables_of}
-use Rattle.pud_defs.specs.SoundTables.{has_distinct_bases, has_distinct_old_bases, has_distinct_ordinals, has_counted_puddles}
+use Rattle.pud_defs.specs.Logging.Replay.{settled_by}
+use Rattle.pud_defs.specs.RegistryTables.Tables.{tables_of}
+use Rattle.pud_defs.specs.RegistryTables.SoundTables.{has_distinct_bases, has_distinct_old_bases, has_distinct_ordinals, has_counted_puddles}
 use Rattle.soundness.proofs.Marks.{bases_by_numbers, old_bases_by_numbers, in_groups}
 use Rattle.pm_model.proofs.Reading.{still_reads}
 use Rattle.soundness.proofs.distinct.are_distinct_puddles.Goals as goal

@@ -1,7 +1,7 @@
 use Rattle.std.proofs.Common.{◌+◌, ◌*◌, arith}
 use Rattle.soundness.proofs.Marks.{counts_stop, counts_more}
 use Rattle.soundness.proofs.distinct.counts_up.Goals as goal
-use Rattle.pud_defs.proofs.Spaces.{all_below-none}
+use Rattle.pud_defs.proofs.RegistryTables.Spaces.{all_below-none}
 
 pub loop-k-init : goal.loop-k-init
 loop-k-init c = all_below-none _

@@ -1,5 +1,5 @@
 use Rattle.std.proofs.Common.{◌≡◌, ◌+◌, true, not, ◌||◌}
-use Rattle.pud_defs.specs.Spaces.{all_below}
+use Rattle.pud_defs.specs.RegistryTables.Spaces.{all_below}
 use Rattle.soundness.specs.Distinct.{is_marked_at}
 use Rattle.soundness.proofs.distinct.counts_up.Given as goal
 

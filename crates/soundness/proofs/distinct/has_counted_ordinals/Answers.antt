@@ -3,10 +3,10 @@ use Rattle.std.proofs.lemmas.Bool.{and_left}
 use Rattle.std.proofs.lemmas.Result.{IfOk-weaker}
 use Rattle.pud_defs.specs.declared.layout.TheConstants.{DAEMON_LOG}
 use Rattle.pud_defs.specs.declared.records.TheConstants.{POOL_RECORDS}
-use Rattle.pud_defs.specs.Replay.{settled_by}
-use Rattle.pud_defs.specs.Spaces.{all_below}
-use Rattle.pud_defs.specs.Tables.{tables_of}
-use Rattle.pud_defs.specs.SoundTables.{has_counted_puddles}
+use Rattle.pud_defs.specs.Logging.Replay.{settled_by}
+use Rattle.pud_defs.specs.RegistryTables.Spaces.{all_below}
+use Rattle.pud_defs.specs.RegistryTables.Tables.{tables_of}
+use Rattle.pud_defs.specs.RegistryTables.SoundTables.{has_counted_puddles}
 use Rattle.soundness.specs.Distinct.{AreMarked, is_counted_by, has_counted_ordinals}
 use Rattle.soundness.proofs.Marks.{ordinals_by_places, counted_by_places}
 use Rattle.pm_model.proofs.Reading.{still_reads}

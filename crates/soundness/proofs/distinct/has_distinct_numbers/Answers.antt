@@ -1,8 +1,8 @@
 use Rattle.std.proofs.Common.{◌-◌, ℕ, List, drop, refl, sym, ap₂, ◌∙◌, arith, length-drop, take_all}
 use Rattle.std.specs.Prelude.{option_map}
 use Rattle.pud_defs.specs.declared.layout.TheConstants.{DAEMON_LOG, MAX_FRAMES}
-use Rattle.pud_defs.specs.Replay.{settled_by}
-use Rattle.pud_defs.specs.Tables.{tables_of}
+use Rattle.pud_defs.specs.Logging.Replay.{settled_by}
+use Rattle.pud_defs.specs.RegistryTables.Tables.{tables_of}
 use Rattle.soundness.specs.Distinct.{key_of, with_number}
 use Rattle.soundness.proofs.Numbers.{no_numbers, more_numbers}
 use Rattle.soundness.proofs.Marks.{decided}

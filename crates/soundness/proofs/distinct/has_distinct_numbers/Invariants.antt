@@ -2,9 +2,9 @@ use Rattle.std.proofs.Common.{None, ◌≡◌, ◌+◌, ◌-◌, ◌≤◌, leng
 use Rattle.std.specs.Prelude.{option_map}
 use Rattle.pm_model.specs.Words.{reads}
 use Rattle.pud_defs.specs.declared.layout.TheConstants.{DAEMON_LOG, MAX_FRAMES}
-use Rattle.pud_defs.specs.Image.{Image}
-use Rattle.pud_defs.specs.Replay.{settled_by}
-use Rattle.pud_defs.specs.Tables.{tables_of}
+use Rattle.pud_defs.specs.Formats.Image.{Image}
+use Rattle.pud_defs.specs.Logging.Replay.{settled_by}
+use Rattle.pud_defs.specs.RegistryTables.Tables.{tables_of}
 use Rattle.soundness.specs.Overlaying.{IsOverlay}
 use Rattle.soundness.specs.Distinct.{key_of}
 use Rattle.soundness.proofs.Numbers.{numbers_from}

@@ -1,9 +1,9 @@
 use Rattle.std.proofs.Common.{inr, Bool, ◌||◌, sym, ap, ◌∙◌, arith}
 use Rattle.std.proofs.lemmas.Bool.{or_left}
 use Rattle.pud_defs.specs.declared.layout.TheConstants.{DAEMON_LOG}
-use Rattle.pud_defs.specs.Replay.{settled_by}
-use Rattle.pud_defs.specs.Pools.{pool_record_at}
-use Rattle.pud_defs.proofs.Replay.{outside_log}
+use Rattle.pud_defs.specs.Logging.Replay.{settled_by}
+use Rattle.pud_defs.specs.RegistryTables.Pools.{pool_record_at}
+use Rattle.pud_defs.proofs.Logging.Replay.{outside_log}
 use Rattle.soundness.specs.Distinct.{is_marked_at, counts_up}
 use Rattle.soundness.proofs.Marks.{free_pool, used_pool}
 use Rattle.soundness.proofs.distinct.is_counted.Goals as goal

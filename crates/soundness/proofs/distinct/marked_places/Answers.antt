@@ -1,7 +1,7 @@
 use Rattle.std.proofs.Common.{◌-◌, ℕ, Option, refl, subst, arith}
 use Rattle.pud_defs.specs.declared.layout.TheConstants.{DAEMON_LOG}
-use Rattle.pud_defs.specs.Replay.{settled_by}
-use Rattle.pud_defs.specs.Tables.{tables_of}
+use Rattle.pud_defs.specs.Logging.Replay.{settled_by}
+use Rattle.pud_defs.specs.RegistryTables.Tables.{tables_of}
 use Rattle.soundness.specs.Distinct.{MarksMore}
 use Rattle.soundness.proofs.Marks.{unmarked, none_apart, marked_step, distinct_step, not_distinct, are_marked, not_marked}
 use Rattle.pm_model.proofs.Reading.{OnlyReads-none, OnlyReads-then, still_reads}

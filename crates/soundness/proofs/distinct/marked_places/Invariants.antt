@@ -2,10 +2,10 @@ use Rattle.std.proofs.Common.{None, ◌≡◌, ◌-◌, true, length}
 use Rattle.std.specs.Ordering.{nat_cmp}
 use Rattle.pm_model.specs.Words.{reads}
 use Rattle.pud_defs.specs.declared.layout.TheConstants.{DAEMON_LOG}
-use Rattle.pud_defs.specs.Image.{Image}
-use Rattle.pud_defs.specs.Keyed.{are_distinct}
-use Rattle.pud_defs.specs.Replay.{settled_by}
-use Rattle.pud_defs.specs.Tables.{tables_of}
+use Rattle.pud_defs.specs.Formats.Image.{Image}
+use Rattle.pud_defs.specs.RegistryTables.Keyed.{are_distinct}
+use Rattle.pud_defs.specs.Logging.Replay.{settled_by}
+use Rattle.pud_defs.specs.RegistryTables.Tables.{tables_of}
 use Rattle.soundness.specs.declared.distinct.TheConstants.{PLACES}
 use Rattle.soundness.specs.Overlaying.{IsOverlay}
 use Rattle.soundness.specs.Distinct.{mark_index, by_key, IsMarked}

@@ -2,9 +2,9 @@ use Rattle.std.proofs.Common.{inr, ℕ, Some, sym, ap, ap₂, ◌∙◌, arith}
 use Rattle.std.specs.Prelude.{option_map}
 use Rattle.pud_defs.specs.declared.layout.TheConstants.{DAEMON_LOG}
 use Rattle.pud_defs.specs.declared.records.TheConstants.{MAX_PUDDLES}
-use Rattle.pud_defs.specs.Replay.{settled_by}
-use Rattle.pud_defs.specs.Puddles.{puddle_record_at}
-use Rattle.pud_defs.proofs.Replay.{outside_log}
+use Rattle.pud_defs.specs.Logging.Replay.{settled_by}
+use Rattle.pud_defs.specs.RegistryTables.Puddles.{puddle_record_at}
+use Rattle.pud_defs.proofs.Logging.Replay.{outside_log}
 use Rattle.soundness.specs.Distinct.{joined_key, mark_index}
 use Rattle.soundness.proofs.Marks.{free_record, place_used}
 use Rattle.soundness.proofs.distinct.place_at.Goals as goal

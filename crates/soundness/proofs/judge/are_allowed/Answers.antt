@@ -1,7 +1,7 @@
 use Rattle.std.proofs.Common.{◌&&◌, Bool, false, sym, ap, ◌∙◌}
 use Rattle.std.specs.List.{list_all}
 use Rattle.std.proofs.lemmas.Bool.{and_left}
-use Rattle.pud_defs.specs.Registry.{is_loggable}
+use Rattle.pud_defs.specs.RegistryTables.Registry.{is_loggable}
 use Rattle.log_entry.specs.Copying.{image_of_copy, log_copied}
 use Rattle.log_entry.proofs.Left.{IsReading-start, IsReading-more, MakesWhole-start, MakesWhole-more, MakesWhole-decided, MakesWhole-end}
 use Rattle.soundness.proofs.judge.are_allowed.Goals as goal

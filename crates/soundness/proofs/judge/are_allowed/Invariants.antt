@@ -1,8 +1,8 @@
 use Rattle.std.proofs.Common.{◌≡◌, ◌-◌, List, Some}
 use Rattle.std.specs.List.{list_all}
 use Rattle.pud_defs.specs.declared.layout.TheConstants.{LOG_ENTRY_WORDS}
-use Rattle.pud_defs.specs.Entries.{Entry}
-use Rattle.pud_defs.specs.Registry.{is_loggable}
+use Rattle.pud_defs.specs.Logging.Entries.{Entry}
+use Rattle.pud_defs.specs.RegistryTables.Registry.{is_loggable}
 use Rattle.log_entry.specs.Copying.{image_of_copy, log_copied}
 use Rattle.log_entry.proofs.Left.{IsReading, MakesWhole}
 use Rattle.soundness.proofs.judge.are_allowed.Given as goal

@@ -1,8 +1,8 @@
 use Rattle.std.proofs.Common.{sym, ◌∙◌, arith}
 use Rattle.pud_defs.specs.declared.layout.TheConstants.{DAEMON_LOG, CLIENTS}
-use Rattle.pud_defs.specs.Replay.{settled_by}
-use Rattle.pud_defs.specs.Spaces.{is_legal_space}
-use Rattle.pud_defs.proofs.Spaces.{all_below-from, all_below-more, all_below-fails}
+use Rattle.pud_defs.specs.Logging.Replay.{settled_by}
+use Rattle.pud_defs.specs.RegistryTables.Spaces.{is_legal_space}
+use Rattle.pud_defs.proofs.RegistryTables.Spaces.{all_below-from, all_below-more, all_below-fails}
 use Rattle.pm_model.proofs.Reading.{OnlyReads-none, OnlyReads-then, still_reads}
 use Rattle.soundness.proofs.judge.are_legal_spaces.Goals as goal
 

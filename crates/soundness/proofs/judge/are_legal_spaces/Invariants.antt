@@ -1,9 +1,9 @@
 use Rattle.std.proofs.Common.{None, ◌≡◌, true}
 use Rattle.pm_model.specs.Words.{reads}
 use Rattle.pud_defs.specs.declared.layout.TheConstants.{DAEMON_LOG}
-use Rattle.pud_defs.specs.Image.{Image}
-use Rattle.pud_defs.specs.Replay.{settled_by}
-use Rattle.pud_defs.specs.Spaces.{all_below, is_legal_space}
+use Rattle.pud_defs.specs.Formats.Image.{Image}
+use Rattle.pud_defs.specs.Logging.Replay.{settled_by}
+use Rattle.pud_defs.specs.RegistryTables.Spaces.{all_below, is_legal_space}
 use Rattle.soundness.specs.Overlaying.{IsOverlay}
 use Rattle.pm_model.specs.Reads.{OnlyReads}
 use Rattle.soundness.proofs.judge.are_legal_spaces.Given as goal

@@ -1,7 +1,7 @@
 use Rattle.std.proofs.Common.{◌≡◌, ℕ, ◌&&◌, leb, eqb, Some, None, sym, arith}
 use Rattle.std.proofs.lemmas.Bool.{and_from, cond-true, eq-eqb, le-leb}
 use Rattle.pud_defs.specs.declared.layout.TheConstants.{DEVICE_MAGIC, VERSION, MIN_FRAMES, MAX_FRAMES}
-use Rattle.pud_defs.specs.Layout.{device_words}
+use Rattle.pud_defs.specs.Formats.Layout.{device_words}
 use Rattle.soundness.specs.Judging.{IsRoomFor, frames_by}
 use Rattle.soundness.proofs.judge.frames_of_header.Goals as goal
 

@@ -1,8 +1,8 @@
 use Rattle.std.proofs.Common.{ℕ, sym, ap, ap₂, ◌∙◌}
 use Rattle.std.specs.Prelude.{is_some}
 use Rattle.std.specs.List.{list_all}
-use Rattle.pud_defs.specs.Entries.{Log}
-use Rattle.pud_defs.specs.Registry.{is_loggable}
+use Rattle.pud_defs.specs.Logging.Entries.{Log}
+use Rattle.pud_defs.specs.RegistryTables.Registry.{is_loggable}
 use Rattle.soundness.proofs.Judged.{not_legal, is_well_formed}
 use Rattle.soundness.proofs.judge.has_legal_log.Goals as goal
 

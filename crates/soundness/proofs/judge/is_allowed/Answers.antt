@@ -1,6 +1,6 @@
 use Rattle.std.proofs.Common.{not, ◌||◌, Bool, length, sym, ap, ◌∙◌}
-use Rattle.pud_defs.specs.Registry.{may_be_logged}
-use Rattle.pud_defs.proofs.Entries.{words_from-length}
+use Rattle.pud_defs.specs.RegistryTables.Registry.{may_be_logged}
+use Rattle.pud_defs.proofs.Logging.Entries.{words_from-length}
 use Rattle.log_entry.specs.Reading.{entry_from}
 use Rattle.log_entry.specs.Copying.{image_of_copy, log_copied}
 use Rattle.soundness.proofs.judge.is_allowed.Goals as goal

@@ -3,7 +3,7 @@ use Rattle.std.specs.Prelude.{IfSome}
 use Rattle.pm_model.specs.Words.{reads}
 use Rattle.pm_model.proofs.Reading.{still_reads}
 use Rattle.pud_defs.specs.declared.layout.TheConstants.{DAEMON_LOG}
-use Rattle.pud_defs.specs.Entries.{log_of}
+use Rattle.pud_defs.specs.Logging.Entries.{log_of}
 use Rattle.log_entry.specs.Copying.{Copied, log_copied}
 use Rattle.soundness.proofs.Judged.{unsound_small, unsound_header}
 use Rattle.soundness.proofs.judge.judge_device.Goals as goal

@@ -1,6 +1,6 @@
 use Rattle.std.proofs.Common.{◌∙◌}
 use Rattle.pud_defs.specs.declared.layout.TheConstants.{DAEMON_LOG}
-use Rattle.pud_defs.specs.Replay.{settled_by}
+use Rattle.pud_defs.specs.Logging.Replay.{settled_by}
 use Rattle.soundness.proofs.NamesApart.{distinct_names}
 use Rattle.soundness.proofs.names.has_distinct_names.Goals as goal
 

@@ -3,9 +3,9 @@ use Rattle.std.proofs.lemmas.Bool.{cases_eq}
 use Rattle.std.proofs.lemmas.Grind.{get_or-set_at}
 use Rattle.std.proofs.lemmas.List.{get_or-set_other, length-set}
 use Rattle.pud_defs.specs.declared.layout.TheConstants.{DAEMON_LOG}
-use Rattle.pud_defs.specs.Replay.{settled_by}
-use Rattle.pud_defs.specs.Pools.{pool_record_at}
-use Rattle.pud_defs.proofs.Replay.{outside_log}
+use Rattle.pud_defs.specs.Logging.Replay.{settled_by}
+use Rattle.pud_defs.specs.RegistryTables.Pools.{pool_record_at}
+use Rattle.pud_defs.proofs.Logging.Replay.{outside_log}
 use Rattle.soundness.specs.declared.names.NameWords.{NameWords}
 use Rattle.soundness.specs.Named.{IsNameOf, no_name}
 use Rattle.pm_model.proofs.Reading.{OnlyReads-none, OnlyReads-then, still_reads}

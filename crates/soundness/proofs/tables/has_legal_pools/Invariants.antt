@@ -1,11 +1,11 @@
 use Rattle.std.proofs.Common.{None, ◌≡◌, ℕ, true}
 use Rattle.pm_model.specs.Words.{reads}
 use Rattle.pud_defs.specs.declared.layout.TheConstants.{DAEMON_LOG}
-use Rattle.pud_defs.specs.Image.{Image}
-use Rattle.pud_defs.specs.Replay.{settled_by}
-use Rattle.pud_defs.specs.Spaces.{all_below}
-use Rattle.pud_defs.specs.Tables.{tables_of}
-use Rattle.pud_defs.specs.SoundTables.{is_sound_pool}
+use Rattle.pud_defs.specs.Formats.Image.{Image}
+use Rattle.pud_defs.specs.Logging.Replay.{settled_by}
+use Rattle.pud_defs.specs.RegistryTables.Spaces.{all_below}
+use Rattle.pud_defs.specs.RegistryTables.Tables.{tables_of}
+use Rattle.pud_defs.specs.RegistryTables.SoundTables.{is_sound_pool}
 use Rattle.soundness.specs.Overlaying.{IsOverlay}
 use Rattle.pm_model.specs.Reads.{OnlyReads}
 use Rattle.soundness.proofs.tables.has_legal_pools.Given as goal

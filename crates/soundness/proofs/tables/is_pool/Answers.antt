@@ -1,8 +1,8 @@
 use Rattle.std.proofs.Common.{inr, not, eqb, ℕ, ◌-◌, ap, sym, ◌∙◌, arith}
 use Rattle.pud_defs.specs.declared.layout.TheConstants.{DAEMON_LOG}
-use Rattle.pud_defs.specs.Replay.{settled_by}
-use Rattle.pud_defs.specs.Pools.{pool_record_at}
-use Rattle.pud_defs.proofs.Replay.{outside_log}
+use Rattle.pud_defs.specs.Logging.Replay.{settled_by}
+use Rattle.pud_defs.specs.RegistryTables.Pools.{pool_record_at}
+use Rattle.pud_defs.proofs.Logging.Replay.{outside_log}
 use Rattle.soundness.proofs.Tabled.{pool_there, pool_zero, pool_beyond}
 use Rattle.soundness.proofs.tables.is_pool.Goals as goal
 use Rattle.soundness.proofs.tables.is_pool.Goals.{then-pool-eq0-via-then-pool-eq0, then-pool-eq0-via-else-pool-eq0+then-pool-gt-POOL_RECORDS}

@@ -1,8 +1,8 @@
 use Rattle.std.proofs.Common.{false, true, sym, ap, ◌∙◌}
 use Rattle.pud_defs.specs.declared.layout.TheConstants.{DAEMON_LOG}
-use Rattle.pud_defs.specs.Replay.{settled_by}
-use Rattle.pud_defs.specs.Tables.{tables_of}
-use Rattle.pud_defs.specs.SoundTables.{is_pool}
+use Rattle.pud_defs.specs.Logging.Replay.{settled_by}
+use Rattle.pud_defs.specs.RegistryTables.Tables.{tables_of}
+use Rattle.pud_defs.specs.RegistryTables.SoundTables.{is_pool}
 use Rattle.soundness.proofs.Tabled.{sound_free, sound_by_pool}
 use Rattle.soundness.proofs.tables.is_sound_puddle.Goals as goal
 

@@ -1,7 +1,7 @@
 use Rattle.std.proofs.Common.{List, ℕ, sym, ap, ◌∙◌}
 use Rattle.pud_defs.specs.declared.layout.TheConstants.{DAEMON_LOG}
-use Rattle.pud_defs.specs.Replay.{settled_by}
-use Rattle.pud_defs.specs.SoundTables.{is_sound_pool}
+use Rattle.pud_defs.specs.Logging.Replay.{settled_by}
+use Rattle.pud_defs.specs.RegistryTables.SoundTables.{is_sound_pool}
 use Rattle.soundness.specs.Tables.{pool_by_words}
 use Rattle.soundness.proofs.Tabled.{pool_here}
 use Rattle.soundness.proofs.tables.is_sound_slot.Goals as goal

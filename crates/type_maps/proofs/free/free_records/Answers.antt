@@ -4,9 +4,9 @@ use Rattle.std.proofs.lemmas.List.{length_push}
 use Rattle.std.proofs.lemmas.List.Elements.{All-nil, All-push}
 use Rattle.arrayvec.specs.ArrayVec.{ArrayVec}
 use Rattle.pud_defs.specs.declared.layout.TheConstants.{TYPE_RECORDS}
-use Rattle.pud_defs.specs.Image.{Image}
-use Rattle.pud_defs.specs.Types.{type_record_at, type_at}
-use Rattle.pud_defs.proofs.TypeTable.{type_at-free, type_at-used}
+use Rattle.pud_defs.specs.Formats.Image.{Image}
+use Rattle.pud_defs.specs.RegistryTables.Types.{type_record_at, type_at}
+use Rattle.pud_defs.proofs.RegistryTables.TypeTable.{type_at-free, type_at-used}
 use Rattle.type_maps.specs.FreeRecords.{free_places, free_records}
 use Rattle.type_maps.proofs.FreeRecords.{free_places_here, free_places_used, free_places_end, Gathers, Gathers-start, Gathers-more, Gathers-full, Gathers-end, fewer_free}
 use Rattle.pm_model.proofs.Reading.{OnlyReads-none, OnlyReads-then, still_reads}

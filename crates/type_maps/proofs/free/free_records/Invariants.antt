@@ -3,8 +3,8 @@ use Rattle.std.specs.Prelude.{All}
 use Rattle.pm_model.specs.Words.{reads}
 use Rattle.pm_model.specs.Reads.{OnlyReads}
 use Rattle.pud_defs.specs.declared.layout.TheConstants.{TYPE_RECORDS}
-use Rattle.pud_defs.specs.Image.{Image}
-use Rattle.pud_defs.specs.Types.{type_at}
+use Rattle.pud_defs.specs.Formats.Image.{Image}
+use Rattle.pud_defs.specs.RegistryTables.Types.{type_at}
 use Rattle.type_maps.specs.FreeRecords.{free_places, free_records}
 use Rattle.type_maps.proofs.FreeRecords.{Gathers}
 use Rattle.type_maps.proofs.free.free_records.Given as goal

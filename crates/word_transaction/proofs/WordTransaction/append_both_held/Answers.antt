@@ -4,7 +4,7 @@ use Rattle.std.proofs.lemmas.List.Elements.{All-nil, All-cons}
 use Rattle.pm_model.specs.Words.{reads}
 use Rattle.pm_model.specs.Moments.{State}
 use Rattle.pm_model.proofs.Reading.{OnlyReads-then, still_size, Changes-read}
-use Rattle.pud_defs.proofs.Entries.{words_from-length}
+use Rattle.pud_defs.proofs.Logging.Entries.{words_from-length}
 use Rattle.log_store.specs.Store.{undo_entry}
 use Rattle.word_transaction.specs.Running.{IsOneOf}
 use Rattle.word_transaction.proofs.Calls.{some_fault}

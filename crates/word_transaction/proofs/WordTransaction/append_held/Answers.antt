@@ -3,7 +3,7 @@ use Rattle.std.proofs.lemmas.Result.{err_from_is_err_and}
 use Rattle.std.proofs.lemmas.List.Elements.{All-nil, All-cons}
 use Rattle.pm_model.specs.Words.{reads}
 use Rattle.pm_model.proofs.Reading.{still_size}
-use Rattle.pud_defs.proofs.Entries.{words_from-length}
+use Rattle.pud_defs.proofs.Logging.Entries.{words_from-length}
 use Rattle.log_store.specs.Store.{undo_entry}
 use Rattle.word_transaction.specs.Running.{IsOneOf}
 use Rattle.word_transaction.proofs.Saved.{saved_by_one}

@@ -2,7 +2,7 @@ use Rattle.std.proofs.Common.{sym, ap, ◌∙◌}
 use Rattle.std.proofs.lemmas.Result.{err_from_is_err_and}
 use Rattle.pm_model.specs.Words.{reads}
 use Rattle.pm_model.proofs.Reading.{still_size, Changes-read}
-use Rattle.pud_defs.specs.Entries.{Log, entries_of}
+use Rattle.pud_defs.specs.Logging.Entries.{Log, entries_of}
 use Rattle.word_transaction.specs.Running.{IsOneOf}
 use Rattle.word_transaction.proofs.Covered.{covered_are_saved}
 use Rattle.word_transaction.proofs.Calls.{some_fault}

@@ -2,7 +2,7 @@ use Rattle.std.proofs.Common.{◌⊎◌, ◌≡◌, ℕ, inl, inr, sym, ap, ◌�
 use Rattle.std.proofs.lemmas.Result.{err_from_is_err_and}
 use Rattle.pm_model.specs.Words.{reads}
 use Rattle.pm_model.proofs.Reading.{OnlyReads-then, still_reads, still_size, Changes-read}
-use Rattle.pud_defs.specs.Entries.{Log, entries_of}
+use Rattle.pud_defs.specs.Logging.Entries.{Log, entries_of}
 use Rattle.word_transaction.specs.Running.{IsOneOf}
 use Rattle.word_transaction.proofs.Covered.{covered_are_saved, covered_one_is_saved}
 use Rattle.word_transaction.proofs.Calls.{some_fault}

@@ -1,7 +1,7 @@
 use Rattle.std.proofs.Common.{◌≡◌, ◌+◌, ◌*◌, ◌%◌, ◌^◌, ◌<◌, ◌≤◌, ℕ, sym, ap, ◌∙◌, arith}
 use Rattle.pm_model.proofs.Reading.{OnlyReads-none, OnlyReads-then, still_reads}
 use Rattle.pud_defs.specs.declared.space.TheConstants.{WORD_BYTES}
-use Rattle.pud_defs.proofs.Spaces.{all_below-none, all_below-more, all_below-fails, all_below-from, all_below-each}
+use Rattle.pud_defs.proofs.RegistryTables.Spaces.{all_below-none, all_below-more, all_below-fails, all_below-from, all_below-each}
 use Rattle.word_transaction.specs.Coverage.{is_covered}
 use Rattle.word_transaction.proofs.covering.are_covered.Goals as goal
 

@@ -2,9 +2,9 @@ use Rattle.std.proofs.Common.{◌≡◌, ◌+◌, ◌*◌, ◌^◌, ◌≤◌, t
 use Rattle.pm_model.specs.Words.{reads}
 use Rattle.pm_model.specs.Reads.{OnlyReads}
 use Rattle.pud_defs.specs.declared.space.TheConstants.{WORD_BYTES}
-use Rattle.pud_defs.specs.Image.{Image}
-use Rattle.pud_defs.specs.Entries.{Entry, entries_of}
-use Rattle.pud_defs.specs.Spaces.{all_below}
+use Rattle.pud_defs.specs.Formats.Image.{Image}
+use Rattle.pud_defs.specs.Logging.Entries.{Entry, entries_of}
+use Rattle.pud_defs.specs.RegistryTables.Spaces.{all_below}
 use Rattle.word_transaction.specs.Coverage.{is_covered}
 use Rattle.word_transaction.proofs.covering.are_covered.Given as goal
 

@@ -1,7 +1,7 @@
 use Rattle.std.proofs.Common.{◌≡◌, ◌/◌, ◌-◌, ◌%◌, Bool, true, ◌&&◌, ltb, refl, sym, ap, ◌∙◌, arith}
 use Rattle.std.proofs.lemmas.Bool.{eq-eqb, le-leb}
 use Rattle.pud_defs.specs.declared.log_words.TheConstants.{UNDO_ORDER}
-use Rattle.pud_defs.proofs.Entries.{words_from-length}
+use Rattle.pud_defs.proofs.Logging.Entries.{words_from-length}
 use Rattle.word_transaction.proofs.covering.covers.Goals as goal
 
 -- the last of four tests decides where the others hold

@@ -1,6 +1,6 @@
 use Rattle.std.proofs.Common.{◌||◌, Bool, List, sym, ap, ◌∙◌}
 use Rattle.pm_model.proofs.Reading.{OnlyReads-none, OnlyReads-then, still_reads}
-use Rattle.pud_defs.specs.Entries.{Entry}
+use Rattle.pud_defs.specs.Logging.Entries.{Entry}
 use Rattle.log_entry.proofs.Left.{IsReading-start, IsReading-more, MakesWhole-start, MakesWhole-more, MakesWhole-decided, MakesWhole-end}
 use Rattle.word_transaction.specs.Coverage.{is_covered}
 use Rattle.word_transaction.proofs.covering.is_covered.Goals as goal

@@ -1,5 +1,5 @@
 use Rattle.std.proofs.Common.{◌≡◌, true, false, sym, ◌∙◌}
-use Rattle.pud_defs.proofs.Replay.{not_inside}
+use Rattle.pud_defs.proofs.Logging.Replay.{not_inside}
 use Rattle.word_transaction.proofs.Growing.{settles_beside}
 use Rattle.word_transaction.proofs.laws.images_left_beside_calls_recover_to_the_beginning.Goals as goal
 

@@ -1,5 +1,5 @@
 use Rattle.std.proofs.Common.{◌≡◌, true, false, sym, ◌∙◌}
-use Rattle.pud_defs.proofs.Replay.{not_inside}
+use Rattle.pud_defs.proofs.Logging.Replay.{not_inside}
 use Rattle.word_transaction.proofs.Calls.{IsRunning-kept}
 use Rattle.word_transaction.proofs.laws.transaction_stays_open_beside_calls.Goals as goal
 

@@ -1,7 +1,7 @@
 use Rattle.std.proofs.Common.{◌<◌, length, slice_index, sym, ap, ◌∙◌}
 use Rattle.pm_model.proofs.Reading.{still_reads}
-use Rattle.pud_defs.specs.Graph.{named_by}
-use Rattle.pud_defs.specs.Types.{types_of}
+use Rattle.pud_defs.specs.PoolGraphs.Graph.{named_by}
+use Rattle.pud_defs.specs.RegistryTables.Types.{types_of}
 use Rattle.graph_read.specs.Checking.{content_of}
 use Rattle.graph_read.proofs.Referenced.{none_held}
 use Rattle.graph_read.proofs.IndexBuilt.{index_built}

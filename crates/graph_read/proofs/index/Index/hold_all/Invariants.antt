@@ -2,7 +2,7 @@ use Rattle.std.proofs.Common.{None, ◌≡◌, ◌*◌, slice_index}
 use Rattle.pm_model.specs.Words.{reads}
 use Rattle.pm_model.specs.Reads.{OnlyReads}
 use Rattle.pud_defs.specs.declared.layout.TheConstants.{MAX_FIELDS}
-use Rattle.pud_defs.specs.Image.{Image}
+use Rattle.pud_defs.specs.Formats.Image.{Image}
 use Rattle.graph_read.specs.Checking.{with_serials}
 use Rattle.graph_read.specs.Indexed.{Gains, HasAtMost, places_name}
 use Rattle.graph_read.specs.Reading.{table_in}

@@ -1,8 +1,8 @@
 use Rattle.std.proofs.Common.{◌≡◌, ◌+◌, ◌*◌, ℕ, slice_index, ap, subst, ◌∙◌, arith}
 use Rattle.pm_model.proofs.Reading.{OnlyReads-then, still_reads}
 use Rattle.pud_defs.specs.declared.layout.TheConstants.{MAX_FIELDS}
-use Rattle.pud_defs.specs.Graph.{content, field_count, named_by}
-use Rattle.pud_defs.specs.Stored.{stored_in}
+use Rattle.pud_defs.specs.PoolGraphs.Graph.{content, field_count, named_by}
+use Rattle.pud_defs.specs.PoolGraphs.Stored.{stored_in}
 use Rattle.graph_read.specs.Index.{names_one}
 use Rattle.graph_read.specs.Indexed.{Gains}
 use Rattle.graph_read.proofs.IndexBuilt.{Gains-then, HasAtMost-held, fields_name, fields_name-more}

@@ -2,8 +2,8 @@ use Rattle.std.proofs.Common.{None, ◌≡◌, ◌+◌, ◌*◌, slice_index}
 use Rattle.pm_model.specs.Words.{reads}
 use Rattle.pm_model.specs.Reads.{OnlyReads}
 use Rattle.pud_defs.specs.declared.layout.TheConstants.{MAX_FIELDS}
-use Rattle.pud_defs.specs.Image.{Image}
-use Rattle.pud_defs.specs.Stored.{stored_in}
+use Rattle.pud_defs.specs.Formats.Image.{Image}
+use Rattle.pud_defs.specs.PoolGraphs.Stored.{stored_in}
 use Rattle.graph_read.specs.Indexed.{Gains, HasAtMost}
 use Rattle.graph_read.proofs.IndexBuilt.{fields_name}
 use Rattle.graph_read.proofs.index.Index.hold_fields.Given as goal

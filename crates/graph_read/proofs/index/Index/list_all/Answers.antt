@@ -1,6 +1,6 @@
 use Rattle.std.proofs.Common.{option_map, nat_cmp, slice_index, sym, ap, ◌∙◌, arith}
-use Rattle.pud_defs.specs.Graph.{under_serial}
-use Rattle.pud_defs.proofs.Keyed.{first_from_end}
+use Rattle.pud_defs.specs.PoolGraphs.Graph.{under_serial}
+use Rattle.pud_defs.proofs.KeyedTables.Keyed.{first_from_end}
 use Rattle.graph_read.specs.Index.{kept_under}
 use Rattle.graph_read.specs.Indexed.{kept_of}
 use Rattle.graph_read.proofs.IndexBuilt.{listed_more}

@@ -1,6 +1,6 @@
 use Rattle.std.proofs.Common.{◌≡◌, ℕ, ◌-◌, nat_cmp, slice_index, option_map}
-use Rattle.pud_defs.specs.Graph.{under_serial}
-use Rattle.pud_defs.specs.Keyed.{first_from}
+use Rattle.pud_defs.specs.PoolGraphs.Graph.{under_serial}
+use Rattle.pud_defs.specs.RegistryTables.Keyed.{first_from}
 use Rattle.graph_read.specs.Index.{kept_under}
 use Rattle.graph_read.specs.Indexed.{kept_of}
 use Rattle.graph_read.proofs.index.Index.list_all.Given as goal

@@ -1,7 +1,7 @@
 use Rattle.std.proofs.Common.{◌≡◌, ◌+◌, Some, None, refl, rules, sym, ap, ap₂, subst, ◌∙◌, arith}
 use Rattle.std.specs.Prelude.{slice_index}
 use Rattle.log_entry.specs.declared.Entry.{Entry as Found}
-use Rattle.pud_defs.specs.Entries.{gate_used}
+use Rattle.pud_defs.specs.Logging.Entries.{gate_used}
 use Rattle.log_entry.specs.Reading.{Reading, entry_next, entry_from}
 use Rattle.log_entry.specs.Copying.{Copied, image_of_copy}
 use Rattle.log_entry.proofs.Readings.{IsNext, next-too_many, next-few, next-none, next-found}

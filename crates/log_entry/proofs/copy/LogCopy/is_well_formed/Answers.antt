@@ -1,5 +1,5 @@
 use Rattle.std.proofs.Common.{◌≡◌, false, is_some, sym, ap, ◌∙◌}
-use Rattle.pud_defs.specs.Entries.{is_legal_gate}
+use Rattle.pud_defs.specs.Logging.Entries.{is_legal_gate}
 use Rattle.log_entry.specs.Reading.{Reading}
 use Rattle.log_entry.specs.Copying.{Copied, image_of_copy}
 use Rattle.log_entry.proofs.Left.{entries_left-start, IsReading-start, not_formed}

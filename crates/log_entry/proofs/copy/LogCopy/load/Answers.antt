@@ -3,10 +3,10 @@ use Rattle.std.proofs.lemmas.List.{take_more_set, length-set}
 use Rattle.pm_model.specs.Words.{reads}
 use Rattle.pm_model.specs.Moments.{State}
 use Rattle.pm_model.proofs.Reading.{OnlyReads-none, OnlyReads-then}
-use Rattle.pud_defs.specs.Image.{Image}
+use Rattle.pud_defs.specs.Formats.Image.{Image}
 use Rattle.pud_defs.specs.declared.layout.TheConstants.{LOG_HEADER_WORDS, LOG_ENTRY_WORDS}
-use Rattle.pud_defs.specs.Entries.{gate_used, words_from}
-use Rattle.pud_defs.proofs.Entries.{words_from-more, words_from-none}
+use Rattle.pud_defs.specs.Logging.Entries.{gate_used, words_from}
+use Rattle.pud_defs.proofs.Logging.Entries.{words_from-more, words_from-none}
 use Rattle.log_entry.proofs.Copies.{copied_log}
 use Rattle.log_entry.proofs.copy.LogCopy.load.Goals as goal
 

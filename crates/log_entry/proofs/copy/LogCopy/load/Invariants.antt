@@ -2,7 +2,7 @@ use Rattle.std.proofs.Common.{None, ◌≡◌, ◌+◌, length, take}
 use Rattle.pm_model.specs.Words.{reads}
 use Rattle.pm_model.specs.Reads.{OnlyReads}
 use Rattle.pud_defs.specs.declared.layout.TheConstants.{LOG_HEADER_WORDS, LOG_ENTRY_WORDS}
-use Rattle.pud_defs.specs.Entries.{words_from}
+use Rattle.pud_defs.specs.Logging.Entries.{words_from}
 use Rattle.log_entry.proofs.copy.LogCopy.load.Given as goal
 
 abbrev pub invariant-loop-i : goal.invariant-loop-i

@@ -1,6 +1,6 @@
 use Rattle.std.proofs.Common.{◌≡◌, ◌+◌, ◌-◌, sym, ap, ◌∙◌, arith}
 use borrow.Rule.Slice.PartMut.{mid_of}
-use Rattle.pud_defs.specs.Entries.{words_from}
+use Rattle.pud_defs.specs.Logging.Entries.{words_from}
 use Rattle.log_entry.specs.Copying.{Copied, image_of_copy}
 use Rattle.log_entry.proofs.Copies.{copied_words}
 use Rattle.log_entry.proofs.copy.LogCopy.values.Goals as goal

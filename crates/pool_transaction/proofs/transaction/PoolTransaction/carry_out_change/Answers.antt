@@ -3,8 +3,8 @@ use Rattle.pm_model.specs.Counts.{fault_of}
 use Rattle.pm_model.specs.Words.{reads}
 use Rattle.pud_defs.specs.declared.machine.Command.TheVariants.{New}
 use Rattle.pud_defs.specs.declared.records.Puddle.{Puddle}
-use Rattle.pud_defs.specs.Step.{refusal_of, answer_by, world_by}
-use Rattle.pud_defs.specs.Step.Answer.{of_reply}
+use Rattle.pud_defs.specs.StateMachine.Step.{refusal_of, answer_by, world_by}
+use Rattle.pud_defs.specs.StateMachine.Step.Answer.{of_reply}
 use Rattle.known_pool.specs.Known.{Known, with_puddles}
 use Rattle.ready_daemon.specs.Memory.{Memory}
 use Rattle.pool_transaction.specs.declared.changing.Change.{Change}

@@ -1,5 +1,5 @@
 use Rattle.std.proofs.Common.{◌≡◌, IfOk, sym, subst}
-use Rattle.pud_defs.specs.Step.{refusal_of}
+use Rattle.pud_defs.specs.StateMachine.Step.{refusal_of}
 use Rattle.registry.specs.Places.{refusal_in}
 use Rattle.pool_transaction.specs.declared.changing.Update.{Update}
 use Rattle.pool_transaction.specs.Changing.{command_of_update, IsFoundBy}

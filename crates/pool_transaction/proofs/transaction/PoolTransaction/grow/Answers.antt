@@ -1,7 +1,7 @@
 use Rattle.std.proofs.Common.{refl, sym, ap, ◌∙◌}
 use Rattle.std.proofs.lemmas.Result.{err_from_is_err_and}
 use Rattle.pm_model.specs.Words.{reads}
-use Rattle.pud_defs.specs.Tables.{tables_of, puddles_in_turn}
+use Rattle.pud_defs.specs.RegistryTables.Tables.{tables_of, puddles_in_turn}
 use Rattle.ready_daemon.specs.Memory.{ActiveTransaction}
 use Rattle.pool_transaction.specs.Changing.{with_opened}
 use Rattle.pool_transaction.proofs.ActiveGrows.{grows_failed, grows_unread, grows_done, grows_longer}

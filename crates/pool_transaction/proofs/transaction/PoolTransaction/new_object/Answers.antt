@@ -5,8 +5,8 @@ use Rattle.pm_model.specs.Counts.{Counts, fault_of}
 use Rattle.pm_model.specs.Moments.{State}
 use Rattle.pm_model.specs.Words.{reads}
 use Rattle.pud_defs.specs.declared.machine.Command.TheVariants.{New}
-use Rattle.pud_defs.specs.Step.{refusal_of, grows, answer_by, world_by}
-use Rattle.pud_defs.specs.Step.Answer.{of_reply}
+use Rattle.pud_defs.specs.StateMachine.Step.{refusal_of, grows, answer_by, world_by}
+use Rattle.pud_defs.specs.StateMachine.Step.Answer.{of_reply}
 use Rattle.ready_daemon.specs.Memory.{ActiveTransaction}
 use Rattle.pool_transaction.specs.Changing.{IsActiveIn, with_opened, refusal_by_world}
 use Rattle.ready_daemon.specs.Ready.{IsReady}

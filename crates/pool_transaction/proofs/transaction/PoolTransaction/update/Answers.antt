@@ -2,8 +2,8 @@ use Rattle.std.proofs.Common.{◌≡◌, ℕ, List, None, sym, ◌∙◌, subst,
 use Rattle.std.proofs.lemmas.Result.{err_from_is_err_and}
 use Rattle.pm_model.specs.Counts.{fault_of}
 use Rattle.pud_defs.specs.declared.records.Puddle.{Puddle}
-use Rattle.pud_defs.specs.Stored.{IsOnDevice}
-use Rattle.pud_defs.specs.Step.{refusal_of, after}
+use Rattle.pud_defs.specs.PoolGraphs.Stored.{IsOnDevice}
+use Rattle.pud_defs.specs.StateMachine.Step.{refusal_of, after}
 use Rattle.lazy_rewrite.proofs.Spared.{HaveMoved}
 use Rattle.pool_transaction.specs.Changing.{IsActiveIn, with_opened, command_of_update}
 use Rattle.ready_daemon.specs.Memory.{ActiveTransaction}

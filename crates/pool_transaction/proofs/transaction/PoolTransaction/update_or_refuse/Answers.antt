@@ -4,8 +4,8 @@ use Rattle.std.proofs.lemmas.Result.{err_from_is_err_and}
 use Rattle.pm_model.proofs.Reading.{still_size}
 use Rattle.pm_model.specs.Words.{reads}
 use Rattle.pud_defs.specs.declared.records.Puddle.{Puddle}
-use Rattle.pud_defs.specs.Step.{refusal_of, world_by}
-use Rattle.pud_defs.proofs.Steps.{refused_answer}
+use Rattle.pud_defs.specs.StateMachine.Step.{refusal_of, world_by}
+use Rattle.pud_defs.proofs.StateMachine.Steps.{refused_answer}
 use Rattle.known_pool.specs.Known.{Known, IsKnown, with_puddles}
 use Rattle.known_pool.proofs.KnownKept.{IsKnown-puddles}
 use Rattle.registry.specs.Places.{refusal_in}

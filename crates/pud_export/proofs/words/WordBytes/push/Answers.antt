@@ -1,5 +1,5 @@
 use Rattle.std.proofs.Common.{◌≡◌, ℕ, ◌*◌, ◌++◌, [], ◌∷◌, List, length, ap, ◌∙◌, subst, sym}
-use Rattle.pud_defs.specs.ExportFile.{words_in}
+use Rattle.pud_defs.specs.PoolGraphs.ExportFile.{words_in}
 use Rattle.pud_export.proofs.Bytes.{words_in-more, whole-more}
 use Rattle.pud_export.proofs.words.WordBytes.push.Goals as goal
 

@@ -1,5 +1,5 @@
 use Rattle.std.proofs.Common.{◌≡◌}
-use Rattle.pud_defs.specs.ExportFile.{file_type, are_file_types}
+use Rattle.pud_defs.specs.PoolGraphs.ExportFile.{file_type, are_file_types}
 use Rattle.pud_import.specs.Sized.{image_of_file, types_in}
 use Rattle.pud_import.proofs.Numbered.{from_number}
 use Rattle.pud_import.proofs.TypesLegal.{rises}

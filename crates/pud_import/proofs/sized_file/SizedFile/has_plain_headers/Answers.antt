@@ -1,7 +1,7 @@
 use Rattle.std.proofs.Common.{sym, ap, ◌∙◌}
 use Rattle.pud_defs.specs.declared.space.TheConstants.{FRAME_HEADER_WORDS}
-use Rattle.pud_defs.specs.ExportFile.{is_zero, header_words_read}
-use Rattle.pud_defs.proofs.Spaces.{all_below-more, all_below-fails, all_below-none}
+use Rattle.pud_defs.specs.PoolGraphs.ExportFile.{is_zero, header_words_read}
+use Rattle.pud_defs.proofs.RegistryTables.Spaces.{all_below-more, all_below-fails, all_below-none}
 use Rattle.pud_import.specs.Sized.{stored_of}
 use Rattle.pud_import.proofs.sized_file.SizedFile.has_plain_headers.Goals as goal
 

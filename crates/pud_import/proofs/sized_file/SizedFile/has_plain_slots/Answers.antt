@@ -1,8 +1,8 @@
 use Rattle.std.proofs.Common.{ℕ, sym, ◌∙◌, arith}
-use Rattle.pud_defs.specs.Geometry.{places_among}
-use Rattle.pud_defs.specs.Stored.{place_words, place_word}
-use Rattle.pud_defs.specs.ExportFile.{is_zero, slot_words_read}
-use Rattle.pud_defs.proofs.Spaces.{all_below-more, all_below-fails, all_below-none}
+use Rattle.pud_defs.specs.Formats.Geometry.{places_among}
+use Rattle.pud_defs.specs.PoolGraphs.Stored.{place_words, place_word}
+use Rattle.pud_defs.specs.PoolGraphs.ExportFile.{is_zero, slot_words_read}
+use Rattle.pud_defs.proofs.RegistryTables.Spaces.{all_below-more, all_below-fails, all_below-none}
 use Rattle.pud_import.specs.Sized.{types_in, stored_of}
 use Rattle.pud_import.proofs.sized_file.SizedFile.has_plain_slots.Goals as goal
 

@@ -1,5 +1,5 @@
 use Rattle.std.proofs.Common.{not, sym, ap, ◌∙◌, arith}
-use Rattle.pud_defs.proofs.Spaces.{all_below-more, all_below-none}
+use Rattle.pud_defs.proofs.RegistryTables.Spaces.{all_below-more, all_below-none}
 use Rattle.graph_laws.specs.Slots.{is_of_type}
 use Rattle.pud_import.specs.Sized.{image_of_file, stored_of}
 use Rattle.pud_import.proofs.UsedPlaces.{places-file, is_used-there, is_used-none}

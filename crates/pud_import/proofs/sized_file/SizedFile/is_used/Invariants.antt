@@ -1,5 +1,5 @@
 use Rattle.std.proofs.Common.{◌≡◌, true, not}
-use Rattle.pud_defs.specs.Spaces.{all_below}
+use Rattle.pud_defs.specs.RegistryTables.Spaces.{all_below}
 use Rattle.graph_laws.specs.Slots.{is_of_type}
 use Rattle.pud_import.specs.Sized.{stored_of}
 use Rattle.pud_import.proofs.sized_file.SizedFile.is_used.Given as goal

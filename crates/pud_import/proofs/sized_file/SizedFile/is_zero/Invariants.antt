@@ -1,5 +1,5 @@
 use Rattle.std.proofs.Common.{◌≡◌, true}
-use Rattle.pud_defs.specs.ExportFile.{is_zero}
+use Rattle.pud_defs.specs.PoolGraphs.ExportFile.{is_zero}
 use Rattle.pud_import.specs.Sized.{stored_of}
 use Rattle.pud_import.proofs.sized_file.SizedFile.is_zero.Given as goal
 

@@ -1,6 +1,6 @@
 use Rattle.std.proofs.Common.{◌≡◌, ℕ, ◌+◌, ◌<◌, ◌≤◌, List, All, Some, None, slice_index_or, length, sym, ap, ◌∙◌, subst}
 use Rattle.pud_defs.specs.declared.records.Puddle.{Puddle}
-use Rattle.pud_defs.specs.Tables.{tables_of}
+use Rattle.pud_defs.specs.RegistryTables.Tables.{tables_of}
 use Rattle.puddle_table.specs.Placed.{Placed, frame_of_puddle}
 use Rattle.puddle_table.proofs.Turning.{ReadsOn, ReadsOn-none, ReadsOn-more, ReadsOn-end, frame_below, frames_more, one_more}
 use Rattle.pm_model.proofs.Reading.{OnlyReads-then, still_reads}

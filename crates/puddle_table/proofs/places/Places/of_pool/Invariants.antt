@@ -1,7 +1,7 @@
 use Rattle.std.proofs.Common.{None, ◌≡◌, ◌<◌, ◌≤◌, length, All}
 use Rattle.pm_model.specs.Words.{reads}
-use Rattle.pud_defs.specs.Image.{Image}
-use Rattle.pud_defs.specs.Tables.{tables_of}
+use Rattle.pud_defs.specs.Formats.Image.{Image}
+use Rattle.pud_defs.specs.RegistryTables.Tables.{tables_of}
 use Rattle.puddle_table.specs.Placed.{HoldsPlaces}
 use Rattle.puddle_table.proofs.Turning.{ReadsOn}
 use Rattle.pm_model.specs.Reads.{OnlyReads}

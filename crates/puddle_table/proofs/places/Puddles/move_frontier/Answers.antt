@@ -4,7 +4,7 @@ use Rattle.std.specs.List.{refill}
 use Rattle.std.proofs.lemmas.List.{append-nil, take_all, drop_all, length-set}
 use Rattle.std.proofs.lemmas.Option.{get_or_from_slice_get}
 use Rattle.pud_defs.specs.declared.records.Puddle.{Puddle}
-use Rattle.pud_defs.specs.Puddles.{moved_to}
+use Rattle.pud_defs.specs.RegistryTables.Puddles.{moved_to}
 use Rattle.puddle_table.proofs.places.Puddles.move_frontier.Goals as goal
 
 -- a list of which one element was set is as long

@@ -2,7 +2,7 @@ use Rattle.std.proofs.Common.{Some, None, refl, sym, ap, ◌∙◌}
 use Rattle.std.proofs.lemmas.Result.{err_from_is_err_and}
 use Rattle.pud_defs.specs.declared.machine.Command.TheVariants.{Abort}
 use Rattle.pud_defs.specs.declared.machine.Reply.TheVariants as replies
-use Rattle.pud_defs.proofs.Steps.{answer_is_ok}
+use Rattle.pud_defs.proofs.StateMachine.Steps.{answer_is_ok}
 use Rattle.ready_daemon.specs.Owning.{refusal_found}
 use Rattle.puddled.proofs.Commanding.{ready_read, CarriesOut-refused, CarriesOut-unread, CarriesOut-stopped, CarriesOut-done, abort_is_plain, abort_moves_none}
 use Rattle.pool_transaction.proofs.ActiveEnds.{Applies-own}

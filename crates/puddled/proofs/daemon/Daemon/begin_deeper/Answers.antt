@@ -1,9 +1,9 @@
 use Rattle.std.proofs.Common.{◌≡◌, List, Option, Some, Ok, Err, refl, sym, ap, subst, ◌∙◌}
 use Rattle.pud_defs.specs.declared.machine.Command.TheVariants.{Begin}
 use Rattle.pud_defs.specs.declared.machine.Refusal.{Refusal}
-use Rattle.pud_defs.specs.Step.{after, unless_refused}
-use Rattle.pud_defs.specs.World.{World}
-use Rattle.pud_defs.proofs.Steps.{answer_is_ok, refused_answer, done_world}
+use Rattle.pud_defs.specs.StateMachine.Step.{after, unless_refused}
+use Rattle.pud_defs.specs.StateMachine.World.{World}
+use Rattle.pud_defs.proofs.StateMachine.Steps.{answer_is_ok, refused_answer, done_world}
 use Rattle.nesting.specs.declared.EnterFault.TheVariants.{Deep}
 use Rattle.nesting.specs.declared.Session.{Session}
 use Rattle.nesting.specs.Sessions.{AreSessions}

@@ -7,8 +7,8 @@ use Rattle.pud_defs.specs.declared.layout.TheConstants.{CLIENT_LOGS, MAX_DEPTH}
 use Rattle.pud_defs.specs.declared.machine.Command.TheVariants.{Begin}
 use Rattle.pud_defs.specs.declared.machine.Refusal.{Refusal}
 use Rattle.pud_defs.specs.declared.machine.Refusal.TheVariants as refusals
-use Rattle.pud_defs.specs.Step.{after, world_by}
-use Rattle.pud_defs.proofs.Steps.{answer_is_ok, refused_answer}
+use Rattle.pud_defs.specs.StateMachine.Step.{after, world_by}
+use Rattle.pud_defs.proofs.StateMachine.Steps.{answer_is_ok, refused_answer}
 use Rattle.log_space.specs.FreeLogs.{first_closed}
 use Rattle.nesting.specs.declared.EnterFault.TheVariants.{Logs}
 use Rattle.nesting.specs.declared.Session.{Session}

@@ -2,7 +2,7 @@ use Rattle.std.proofs.Common.{List, Option, refl, sym, ap, subst, ◌∙◌, ari
 use Rattle.std.proofs.lemmas.Result.{err_from_is_err_and}
 use Rattle.pud_defs.specs.declared.machine.Command.TheVariants.{Commit}
 use Rattle.pud_defs.specs.declared.machine.Reply.TheVariants as replies
-use Rattle.pud_defs.proofs.Steps.{answer_is_ok}
+use Rattle.pud_defs.proofs.StateMachine.Steps.{answer_is_ok}
 use Rattle.ready_daemon.specs.Memory.{ActiveTransaction}
 use Rattle.ready_daemon.specs.OwnOnPool.{IsOwnTransactionOn}
 use Rattle.ready_daemon.specs.Owning.{refusal_found}

@@ -6,8 +6,8 @@ use Rattle.pm_model.specs.Words.{reads}
 use Rattle.pm_model.specs.Moments.{State}
 use Rattle.pud_defs.specs.declared.machine.Command.TheVariants as commands
 use Rattle.pud_defs.specs.declared.machine.Refusal.{Refusal}
-use Rattle.pud_defs.specs.Step.{world_by}
-use Rattle.pud_defs.proofs.Steps.{refused_answer, answer_is_ok}
+use Rattle.pud_defs.specs.StateMachine.Step.{world_by}
+use Rattle.pud_defs.proofs.StateMachine.Steps.{refused_answer, answer_is_ok}
 use Rattle.known_pool.specs.Known.{Known}
 use Rattle.ready_daemon.specs.Memory.{Memory}
 use Rattle.ready_daemon.specs.PoolKnowledge.{AreOnDevice}

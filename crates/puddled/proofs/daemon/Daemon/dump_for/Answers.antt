@@ -4,11 +4,11 @@ use Rattle.pm_model.specs.Words.{reads}
 use Rattle.pud_defs.specs.declared.machine.Command.TheVariants.{Dump}
 use Rattle.pud_defs.specs.declared.machine.Reply.TheVariants as replies
 use Rattle.pud_defs.specs.declared.machine.Refusal.TheVariants as refusals
-use Rattle.pud_defs.specs.DumpText.{dump_text}
-use Rattle.pud_defs.specs.Graph.{graph_of}
-use Rattle.pud_defs.specs.Stored.{stored_in}
-use Rattle.pud_defs.specs.Types.{types_of}
-use Rattle.pud_defs.specs.Step.Answer.{of_reply, of_text}
+use Rattle.pud_defs.specs.Output.DumpText.{dump_text}
+use Rattle.pud_defs.specs.PoolGraphs.Graph.{graph_of}
+use Rattle.pud_defs.specs.PoolGraphs.Stored.{stored_in}
+use Rattle.pud_defs.specs.RegistryTables.Types.{types_of}
+use Rattle.pud_defs.specs.StateMachine.Step.Answer.{of_reply, of_text}
 use Rattle.puddled.specs.declared.answers.LineAnswer.TheVariants as answers
 use Rattle.puddled.specs.declared.finding.Need.TheVariants as needs
 use Rattle.ready_daemon.specs.Memory.{Memory}

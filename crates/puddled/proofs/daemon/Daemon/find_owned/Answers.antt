@@ -2,8 +2,8 @@ use Rattle.std.proofs.Common.{Option, Some, None, cond, sym, ap, subst, ◌∙�
 use Rattle.pm_model.specs.Words.{reads}
 use Rattle.pm_model.specs.Moments.{State}
 use Rattle.pud_defs.specs.declared.machine.Refusal.TheVariants as refusals
-use Rattle.pud_defs.specs.Transactions.{is_own}
-use Rattle.pud_defs.specs.World.{Transaction}
+use Rattle.pud_defs.specs.StateMachine.Transactions.{is_own}
+use Rattle.pud_defs.specs.StateMachine.World.{Transaction}
 use Rattle.ready_daemon.specs.Owning.{refusal_found, IsRecordSlot}
 use Rattle.puddled.specs.declared.finding.Need.TheVariants as needs
 use Rattle.puddled.proofs.ExportLines.{own_is_open}

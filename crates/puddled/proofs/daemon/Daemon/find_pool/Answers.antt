@@ -4,7 +4,7 @@ use Rattle.pm_model.specs.Words.{reads}
 use Rattle.pm_model.specs.Moments.{State}
 use Rattle.pm_model.proofs.Reading.{still_reads}
 use Rattle.pud_defs.specs.declared.machine.Refusal.{Refusal}
-use Rattle.pud_defs.specs.Spaces.{owner}
+use Rattle.pud_defs.specs.RegistryTables.Spaces.{owner}
 use Rattle.nesting.specs.declared.Session.{Session}
 use Rattle.ready_daemon.specs.Memory.{Memory}
 use Rattle.ready_daemon.specs.PoolKnowledge.{known_puddles_in}

@@ -2,8 +2,8 @@ use Rattle.std.proofs.Common.{◌≡◌, true, false, Some, refl, sym, ◌∙◌
 use Rattle.std.proofs.lemmas.Result.{err_from_is_err_and}
 use Rattle.pud_defs.specs.declared.machine.Command.TheVariants.{Leave}
 use Rattle.pud_defs.specs.declared.machine.Refusal.TheVariants as refusals
-use Rattle.pud_defs.specs.Step.{world_by}
-use Rattle.pud_defs.proofs.Steps.{refused_answer, answer_is_ok}
+use Rattle.pud_defs.specs.StateMachine.Step.{world_by}
+use Rattle.pud_defs.proofs.StateMachine.Steps.{refused_answer, answer_is_ok}
 use Rattle.ready_daemon.proofs.Applying.{Applies-failed, Applies-refused}
 use Rattle.ready_daemon.proofs.Leaving.{presence_of, Applies-accepted_by}
 use Rattle.ready_daemon.proofs.Coming.{is_absent, is_there, ClosesBefore-idle, ClosesBefore-behind}

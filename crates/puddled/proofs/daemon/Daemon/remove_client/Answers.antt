@@ -2,9 +2,9 @@ use Rattle.std.proofs.Common.{◌≡◌, ℕ, true, Some, is_some, refl, sym, ap
 use Rattle.std.proofs.lemmas.Result.{err_from_is_err_and}
 use Rattle.pm_model.specs.Counts.{Counts, fault_of}
 use Rattle.pud_defs.specs.declared.machine.Command.TheVariants.{Leave}
-use Rattle.pud_defs.specs.Step.{after}
-use Rattle.pud_defs.specs.Transactions.{without_client}
-use Rattle.pud_defs.specs.World.{World}
+use Rattle.pud_defs.specs.StateMachine.Step.{after}
+use Rattle.pud_defs.specs.StateMachine.Transactions.{without_client}
+use Rattle.pud_defs.specs.StateMachine.World.{World}
 use Rattle.ready_daemon.specs.Ready.{Applies, ClosesBefore}
 use Rattle.ready_daemon.specs.ActiveTransactions.{AreOfOtherClients}
 use Rattle.ready_daemon.specs.Leaving.{BehindTables, world_without}

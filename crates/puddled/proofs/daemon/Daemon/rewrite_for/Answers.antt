@@ -6,8 +6,8 @@ use Rattle.pm_model.specs.Moments.{State}
 use Rattle.pm_model.proofs.Reading.{still_size}
 use Rattle.pud_defs.specs.declared.machine.Command.TheVariants as commands
 use Rattle.pud_defs.specs.declared.machine.Refusal.TheVariants as refusals
-use Rattle.pud_defs.specs.World.{World}
-use Rattle.pud_defs.proofs.Steps.{refused_answer, answer_is_ok}
+use Rattle.pud_defs.specs.StateMachine.World.{World}
+use Rattle.pud_defs.proofs.StateMachine.Steps.{refused_answer, answer_is_ok}
 use Rattle.ready_daemon.specs.Memory.{Memory}
 use Rattle.pud_defs.specs.declared.records.Puddle.{Puddle}
 use Rattle.known_pool.specs.Known.{with_puddles}

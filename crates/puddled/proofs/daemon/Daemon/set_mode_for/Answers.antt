@@ -5,9 +5,9 @@ use Rattle.pm_model.specs.Words.{reads}
 use Rattle.pm_model.specs.Moments.{State}
 use Rattle.pud_defs.specs.declared.machine.Command.TheVariants.{Chmod}
 use Rattle.pud_defs.specs.declared.machine.Refusal.{Refusal}
-use Rattle.pud_defs.specs.Step.{world_by}
-use Rattle.pud_defs.proofs.PoolRefusals.{refusal_of-owned}
-use Rattle.pud_defs.proofs.Steps.{refused_answer, answer_is_ok}
+use Rattle.pud_defs.specs.StateMachine.Step.{world_by}
+use Rattle.pud_defs.proofs.StateMachine.PoolRefusals.{refusal_of-owned}
+use Rattle.pud_defs.proofs.StateMachine.Steps.{refused_answer, answer_is_ok}
 use Rattle.ready_daemon.specs.Owning.{refusal_found, IsRecordSlot}
 use Rattle.ready_daemon.proofs.Applying.{Applies-failed, Applies-refused}
 use Rattle.ready_daemon.proofs.Pooling.{Applies-behind, Applies-mode}

@@ -2,8 +2,8 @@ use Rattle.std.proofs.Common.{ℕ, None, Some, refl, sym, ap, subst, ◌∙◌}
 use Rattle.std.proofs.lemmas.Result.{err_from_is_err_and}
 use Rattle.pm_model.specs.Words.{Words, reads}
 use Rattle.pm_model.proofs.Changes.{Changes-said}
-use Rattle.pud_defs.specs.Registry.{frames_of}
-use Rattle.pud_defs.specs.World.{world_of, closed, restart}
+use Rattle.pud_defs.specs.RegistryTables.Registry.{frames_of}
+use Rattle.pud_defs.specs.StateMachine.World.{world_of, closed, restart}
 use Rattle.ready_daemon.specs.Memory.{Memory}
 use Rattle.ready_daemon.specs.Ready.{IsReady}
 use Rattle.ready_daemon.proofs.Keeping.{KeepsRest-changes}

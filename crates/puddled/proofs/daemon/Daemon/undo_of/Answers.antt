@@ -2,7 +2,7 @@ use Rattle.std.proofs.Common.{◌≡◌, Some, refl, sym, ap, ◌∙◌, arith}
 use Rattle.std.proofs.lemmas.Result.{err_from_is_err_and}
 use Rattle.pm_model.specs.Counts.{Counts}
 use Rattle.pm_model.proofs.Changes.{Changes-then}
-use Rattle.pud_defs.specs.Settled.{client_of_log}
+use Rattle.pud_defs.specs.Logging.Settled.{client_of_log}
 use Rattle.ready_daemon.specs.Leaving.{BehindTables}
 use Rattle.ready_daemon.proofs.Leaving.{IsUndone-start, IsUndone-more, AreUndone-more, Applies-interrupted, Applies-all}
 use Rattle.ready_daemon.proofs.Keeping.{KeepsRest-still, KeepsRest-then}

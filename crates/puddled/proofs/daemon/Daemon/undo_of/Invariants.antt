@@ -1,5 +1,5 @@
 use Rattle.std.proofs.Common.{◌≡◌, ℕ}
-use Rattle.pud_defs.specs.World.{World}
+use Rattle.pud_defs.specs.StateMachine.World.{World}
 use Rattle.ready_daemon.specs.Ready.{KeepsRest, IsReady}
 use Rattle.ready_daemon.proofs.Leaving.{IsUndone, AreUndone}
 use Rattle.puddled.proofs.daemon.Daemon.undo_of.Given as goal

@@ -1,6 +1,6 @@
 use Rattle.std.proofs.Common.{subst, sym}
 use Rattle.pud_defs.specs.declared.records.TheConstants.{POOL_RECORDS}
-use Rattle.pud_defs.specs.Settled.{ALL_LOGS}
+use Rattle.pud_defs.specs.Logging.Settled.{ALL_LOGS}
 use Rattle.ready_daemon.specs.ActiveTransactions.{AreActiveWithin}
 use Rattle.ready_daemon.specs.PoolKnowledge.{AreOnDevice}
 use Rattle.ready_daemon.proofs.Known.{AreOnDevice-none}

@@ -1,5 +1,5 @@
 use Rattle.std.proofs.Common.{List, Option, rules, refl, sym, ap, subst, ◌∙◌}
-use Rattle.pud_defs.specs.Stored.{IsOnDevice}
+use Rattle.pud_defs.specs.PoolGraphs.Stored.{IsOnDevice}
 use Rattle.known_pool.specs.Known.{Known}
 use Rattle.ready_daemon.specs.PoolKnowledge.{known_pool_in}
 use Rattle.puddled.proofs.Changing.{known_there, on_device_there}

@@ -1,9 +1,9 @@
 use Rattle.std.proofs.Common.{◌≡◌, ℕ, List, Option, Some, rules, refl, sym, ap, subst, ◌∙◌}
 use Rattle.std.proofs.lemmas.Option.{none-some, same_Some}
 use Rattle.pud_defs.specs.declared.records.Puddle.{Puddle}
-use Rattle.pud_defs.specs.Graph.{graph_of}
-use Rattle.pud_defs.specs.Stored.{stored_in}
-use Rattle.pud_defs.specs.Types.{types_of}
+use Rattle.pud_defs.specs.PoolGraphs.Graph.{graph_of}
+use Rattle.pud_defs.specs.PoolGraphs.Stored.{stored_in}
+use Rattle.pud_defs.specs.RegistryTables.Types.{types_of}
 use Rattle.known_pool.specs.Known.{Known}
 use Rattle.ready_daemon.specs.PoolKnowledge.{known_pool_in, puddles_known}
 use Rattle.puddled.proofs.Changing.{known_there, on_device_there}

@@ -1,6 +1,6 @@
 use Rattle.std.proofs.Common.{inl, inr, ◌≡◌, ◌+◌, ◌-◌, leb, ltb, List, ℕ, length, get_or, sym, ap, ◌∙◌, arith}
 use Rattle.std.proofs.lemmas.Bool.{and_parts, leb-true, ltb-true}
-use Rattle.pud_defs.proofs.Entries.{words_from-length}
+use Rattle.pud_defs.proofs.Logging.Entries.{words_from-length}
 use Rattle.log_entry.specs.Copying.{image_of_copy, log_copied}
 use Rattle.soundness.proofs.Overlaid.{gives_nothing, gives_more, words_from-at}
 use Rattle.soundness.proofs.overlay.Overlay.add.Goals as goal

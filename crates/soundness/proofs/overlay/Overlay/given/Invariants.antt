@@ -1,6 +1,6 @@
 use Rattle.std.proofs.Common.{◌≡◌, ◌-◌, List, Some, None}
 use Rattle.pud_defs.specs.declared.layout.TheConstants.{LOG_ENTRY_WORDS}
-use Rattle.pud_defs.specs.Entries.{Entry}
+use Rattle.pud_defs.specs.Logging.Entries.{Entry}
 use Rattle.log_entry.specs.Copying.{image_of_copy, log_copied}
 use Rattle.log_entry.proofs.Left.{IsReading, MakesWhole}
 use Rattle.soundness.proofs.Overlaid.{given_then}

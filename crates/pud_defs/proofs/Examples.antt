@@ -1,0 +1,24 @@
+-- Worked examples of the definitions, proved by computation.
+pub mod Opened
+pub mod Grammar
+pub mod FileLines
+pub mod Image
+pub mod Run
+pub mod Pools
+pub mod Transactions
+pub mod Deferred
+pub mod Checks
+pub mod Rewriting
+pub mod Logs
+pub mod Settled
+pub mod Tables
+pub mod Layout
+pub mod Identifiers
+pub mod Places
+pub mod Graph
+pub mod Files
+pub mod Imports
+pub mod Placement
+pub mod Dump
+pub mod Rights
+pub mod OpenLogs

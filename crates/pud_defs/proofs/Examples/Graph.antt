@@ -1,0 +1,177 @@
+-- Small pools as they are stored, with the graphs that they are read as, and pools that are none.
+use Rattle.std.proofs.Common.{◌≡◌, ℕ, ◌+◌, ◌^◌, ◌==◌, cond, true, false, List, [], ◌∷◌, Some, None, refl}
+use Rattle.pud_defs.specs.declared.space.TheConstants.{FRAME_MAGIC, FRAME_MAGIC_WORD, FRAME_NUMBER_WORD, FRAME_ORDINAL_WORD, NEXT_SERIAL_WORD, ROOT_WORD}
+use Rattle.pud_defs.specs.declared.objects.FieldValue.TheVariants.{Num, Ref}
+use Rattle.pud_defs.specs.Formats.Image.{Image, image_with}
+use Rattle.pud_defs.specs.Formats.TypeMap.{map_fields, is_pointer}
+use Rattle.pud_defs.specs.Formats.Bases.{base_at}
+use Rattle.pud_defs.specs.Formats.Geometry.{puddle_slot_at}
+use Rattle.pud_defs.specs.Formats.Frames.{first_serial}
+use Rattle.pud_defs.specs.PoolGraphs.Stored.{Stored}
+use Rattle.pud_defs.specs.PoolGraphs.Graph.{Object, Graph, slot_address, graph_of, is_referenced, empty_graph}
+use Rattle.pud_defs.specs.PoolGraphs.Holdings.{Sound, Wild, held_by, read_anew}
+use Rattle.pud_defs.proofs.Examples.Opened.{opened}
+
+-- ---- small pools
+
+-- type 1 has two fields, of which the second is a pointer
+abbrev pub types : List (ℕ × ℕ)
+types = (1, 8589934594) ∷ []
+
+map_of_type_1 : (map_fields 8589934594 ≡ 2) × (is_pointer 8589934594 0 ≡ false) × (is_pointer 8589934594 1 ≡ true)
+map_of_type_1 = (refl, refl, refl)
+
+-- the words of the frame of a new puddle
+abbrev pub fresh : (number ordinal : ℕ) → Image
+fresh number ordinal = image_with FRAME_MAGIC_WORD FRAME_MAGIC (image_with FRAME_NUMBER_WORD number (image_with FRAME_ORDINAL_WORD ordinal (image_with NEXT_SERIAL_WORD (first_serial ordinal) (λ _. 0))))
+
+-- the frame with an object of type 1 in a slot
+abbrev pub with_slot : (slot serial value pointer : ℕ) → Image → Image
+with_slot slot serial value pointer frame = image_with (puddle_slot_at slot) serial (image_with (puddle_slot_at slot + 1) 1 (image_with (puddle_slot_at slot + 2) value (image_with (puddle_slot_at slot + 3) pointer frame)))
+
+-- a pool of one puddle, of number 7 in range 2
+abbrev pub alone : Image → Stored
+alone frame = record { puddles = record { number = 7; base = base_at 2; old_base = base_at 2; frontier = 63 } ∷ []; word = λ o. frame }
+
+-- the address of a slot of a puddle in a range
+abbrev pub address_in_range : (range slot : ℕ) → ℕ
+address_in_range range slot = slot_address (record { number = 0; base = base_at range; old_base = base_at range; frontier = 0 }) slot
+
+-- the address of a slot of that puddle
+abbrev address : (slot : ℕ) → ℕ
+address slot = address_in_range 2 slot
+
+-- an object of type 1
+abbrev pub object : (value serial : ℕ) → Object
+object value serial = record { type_id = 1; fields = Num value ∷ Ref serial ∷ [] }
+
+-- ---- graphs
+
+nothing_yet : graph_of types (alone (fresh 7 0)) ≡ Some empty_graph
+unfolding opened
+nothing_yet = refl
+
+-- one object with this pointer, and this next serial
+abbrev one : (next pointer : ℕ) → Stored
+one next pointer = alone (image_with NEXT_SERIAL_WORD next (with_slot 0 1 10 pointer (fresh 7 0)))
+
+abbrev one_graph : (next serial : ℕ) → Graph
+one_graph next serial = record { next_serial = next; root = 0; objects = (1, object 10 serial) ∷ [] }
+
+one_object : graph_of types (one 2 0) ≡ Some (one_graph 2 0)
+unfolding opened
+one_object = refl
+
+names_itself : graph_of types (one 2 (address 0)) ≡ Some (one_graph 2 1)
+unfolding opened
+names_itself = refl
+
+-- two objects that name each other, the younger in the lower slot, and the root names this one
+abbrev ring : Stored
+ring = alone (image_with NEXT_SERIAL_WORD 3 (image_with ROOT_WORD (address 3) (with_slot 3 2 20 (address 5) (with_slot 5 1 10 (address 3) (fresh 7 0)))))
+
+abbrev ring_graph : Graph
+ring_graph = record { next_serial = 3; root = 2; objects = (1, object 10 2) ∷ (2, object 20 1) ∷ [] }
+
+ring_of_two : graph_of types ring ≡ Some ring_graph
+unfolding opened
+ring_of_two = refl
+
+holders : (is_referenced 2 ring_graph ≡ true) × (is_referenced 1 ring_graph ≡ true) × (is_referenced 3 ring_graph ≡ false) × (is_referenced 1 (one_graph 2 0) ≡ false) × (is_referenced 1 (one_graph 2 1) ≡ true)
+unfolding opened
+holders = (refl, refl, refl, refl, refl)
+
+-- ---- no graphs, one reason each
+
+into_a_middle : graph_of types (one 2 (address 0 + 8)) ≡ None
+unfolding opened
+into_a_middle = refl
+
+into_a_free_slot : graph_of types (one 2 (address 1)) ≡ None
+unfolding opened
+into_a_free_slot = refl
+
+into_the_header : graph_of types (one 2 (base_at 2)) ≡ None
+unfolding opened
+into_the_header = refl
+
+behind_the_last_slot : graph_of types (one 2 (address 62)) ≡ None
+unfolding opened
+behind_the_last_slot = refl
+
+into_another_pool : graph_of types (one 2 (address_in_range 3 0)) ≡ None
+unfolding opened
+into_another_pool = refl
+
+root_is_wild : graph_of types (alone (image_with ROOT_WORD (address 0) (fresh 7 0))) ≡ None
+unfolding opened
+root_is_wild = refl
+
+serial_twice : graph_of types (alone (image_with NEXT_SERIAL_WORD 3 (with_slot 0 2 10 0 (with_slot 61 2 20 0 (fresh 7 0))))) ≡ None
+unfolding opened
+serial_twice = refl
+
+serial_is_the_next : graph_of types (one 1 0) ≡ None
+unfolding opened
+serial_is_the_next = refl
+
+next_serials : (graph_of types (one 0 0) ≡ None) × (graph_of types (one (2 ^ 63) 0) ≡ Some (one_graph (2 ^ 63) 0)) × (graph_of types (one (2 ^ 63 + 1) 0) ≡ None)
+unfolding opened
+next_serials = (refl, refl, refl)
+
+headers_of_others : (graph_of types (alone (fresh 8 0)) ≡ None) × (graph_of types (alone (image_with NEXT_SERIAL_WORD 1 (fresh 7 1))) ≡ None) × (graph_of types (alone (image_with FRAME_MAGIC_WORD 0 (fresh 7 0))) ≡ None)
+unfolding opened
+headers_of_others = (refl, refl, refl)
+
+-- ---- types that are defined later
+
+type_not_defined : held_by [] (one 2 0) ≡ Wild (one 2 0)
+unfolding opened
+type_not_defined = refl
+
+then_defined : read_anew types (held_by [] (one 2 0)) ≡ Sound (one_graph 2 0)
+unfolding opened
+then_defined = refl
+
+another_type_defined : read_anew ((2, 8589934594) ∷ []) (held_by [] (one 2 0)) ≡ Wild (one 2 0)
+unfolding opened
+another_type_defined = refl
+
+-- ---- a pool that moved
+
+-- Two puddles that moved by one range up, so that the base of the first is the old one of the second. The first holds the objects 1 and 2 in
+-- its slots 0 and 1, the second object 3 in slot 0. The root and the pointers of 1, 2 and 3 are these.
+abbrev pub moved : (frontier root first second third : ℕ) → Stored
+moved frontier root first second third = record {
+  puddles =
+      record { number = 7; base = base_at 1; old_base = base_at 0; frontier = frontier }
+      ∷ record { number = 8; base = base_at 2; old_base = base_at 1; frontier = 0 } ∷ [];
+  word = λ o. cond (o == 0) (image_with NEXT_SERIAL_WORD 4 (image_with ROOT_WORD root (with_slot 0 1 10 first (with_slot 1 2 20 second (fresh 7 0))))) (with_slot 0 3 30 third (fresh 8 1));
+}
+
+abbrev moved_graph : (root first second third : ℕ) → Graph
+moved_graph root first second third = record { next_serial = 4; root = root; objects = (1, object 10 first) ∷ (2, object 20 second) ∷ (3, object 30 third) ∷ [] }
+
+-- slot 0 of the first puddle by its base, and of the second by its old base
+abbrev pub of_both : ℕ
+of_both = address_in_range 1 0
+
+-- no pointer is rewritten: all stand over the old bases
+not_rewritten : graph_of types (moved 0 of_both of_both of_both of_both) ≡ Some (moved_graph 3 3 3 3)
+unfolding opened
+not_rewritten = refl
+
+-- the root and the pointer of object 1 are rewritten, and the graph is the same
+two_steps_rewritten : graph_of types (moved 2 (address_in_range 2 0) (address_in_range 2 0) of_both of_both) ≡ Some (moved_graph 3 3 3 3)
+unfolding opened
+two_steps_rewritten = refl
+
+-- the same words stand for the first puddle below the frontier, and for the second from there on
+frontier_decides : graph_of types (moved 2 of_both of_both of_both of_both) ≡ Some (moved_graph 1 1 3 3)
+unfolding opened
+frontier_decides = refl
+
+-- an old address below the frontier, and a new one from there on
+over_the_wrong_bases : (graph_of types (moved 2 (address_in_range 0 0) 0 0 0) ≡ None) × (graph_of types (moved 2 0 0 (address_in_range 2 0) 0) ≡ None)
+unfolding opened
+over_the_wrong_bases = (refl, refl)

@@ -1,0 +1,56 @@
+-- An open log on a device that is sound: replayed where it is registered, and judged behind the daemon log.
+use Rattle.std.proofs.Common.{ℕ, ◌≡◌, ◌+◌, ◌*◌, Bool, true, false, List, [], ◌∷◌, length, refl}
+use Rattle.pud_defs.specs.declared.layout.TheConstants.{DAEMON_LOG}
+use Rattle.pud_defs.specs.Formats.Image.{Image, image_with}
+use Rattle.pud_defs.specs.Formats.Bases.{base_at}
+use Rattle.pud_defs.specs.Formats.Frames.{frame_at}
+use Rattle.pud_defs.specs.Logging.Entries.{gate_word, entry_word}
+use Rattle.pud_defs.specs.Logging.Replay.{settled_by}
+use Rattle.pud_defs.specs.Logging.Settled.{settled, is_refused_log}
+use Rattle.pud_defs.specs.RegistryTables.Registry.{is_sound}
+use Rattle.pud_defs.proofs.Examples.Image.{blank}
+use Rattle.pud_defs.proofs.Examples.Logs.{holding}
+use Rattle.pud_defs.proofs.Examples.Tables.{pool_there, puddle_there}
+use Rattle.pud_defs.proofs.Examples.Opened.{opened}
+
+-- two pools that their owner 5 and 5 alone may write, with one puddle each: the first in frame 0 at range 2, the second in frame 1 at range 3
+abbrev two_pools : Image
+two_pools = pool_there 0 97 384 1 (puddle_there 0 0 0 2 (base_at 2) (base_at 2) 63 (pool_there 1 98 384 3 (puddle_there 1 1 0 4 (base_at 3) (base_at 3) 63 (image_with 4 5 blank))))
+
+-- client 0 is registered for this uid and gid, and its first log has this gate, and these words behind it
+abbrev with_log : (who gate : ℕ) → List ℕ → Image
+with_log who gate words = image_with 1472 1 (image_with 1473 who (image_with 1474 who (image_with 1568 gate (holding 1576 words two_pools))))
+
+-- an open log of these words
+abbrev open_log : (who : ℕ) → List ℕ → Image
+open_log who words = with_log who (gate_word 0 2 (length words)) words
+
+-- an undo entry of one word of a frame, by the range of its puddle
+abbrev undo_of : (range word value : ℕ) → List ℕ
+undo_of range word value = (base_at range + 8 * word) ∷ entry_word 1 1 0 ∷ value ∷ []
+
+-- the same word of frame 0, as a start leaves it
+abbrev left : Image → ℕ
+left image = settled 4 image (frame_at 4 0 + 100)
+
+-- the client's first log is not allowed
+abbrev refused : Image → Bool
+refused image = is_refused_log 4 (settled_by DAEMON_LOG image) 0
+
+-- the owner's log is replayed, on a device that is sound
+own_log : (is_sound 42528 (open_log 5 (undo_of 2 100 9)) ≡ true) × (refused (open_log 5 (undo_of 2 100 9)) ≡ false) × (left (open_log 5 (undo_of 2 100 9)) ≡ 9)
+unfolding opened
+own_log = (refl, refl, refl)
+
+-- nor is one that is not registered
+free_record : (refused (image_with 1472 0 (open_log 5 (undo_of 2 100 9))) ≡ false) × (left (image_with 1472 0 (open_log 5 (undo_of 2 100 9))) ≡ 0)
+unfolding opened
+free_record = (refl, refl)
+
+-- what a log may is told behind the daemon log: a batch under way lets others write the first pool
+abbrev with_batch : Image → Image
+with_batch image = image_with 64 (gate_word 2 4 3) (image_with 72 1219 (image_with 73 (entry_word 1 3 1) (image_with 74 390 image)))
+
+behind_the_daemon_log : (refused (with_batch (open_log 6 (undo_of 2 100 9))) ≡ false) × (left (with_batch (open_log 6 (undo_of 2 100 9))) ≡ 9)
+unfolding opened
+behind_the_daemon_log = (refl, refl)

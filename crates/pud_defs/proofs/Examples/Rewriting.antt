@@ -1,0 +1,39 @@
+-- Lines that rewrite pointers of a pool: what is answered, and the world behind them, which is the one before.
+use Rattle.std.proofs.Common.{◌≡◌, [], ◌∷◌, codes, None, refl}
+use Rattle.pud_defs.specs.StateMachine.World.{World}
+use Rattle.pud_defs.proofs.Examples.Opened.{opened}
+use Rattle.pud_defs.proofs.Examples.Pools.{said, behind, lines_said}
+use Rattle.pud_defs.proofs.Examples.Transactions.{nodes, world_with}
+use Rattle.pud_defs.proofs.Examples.Checks.{sound_and_wild}
+
+-- no client is there, and it is done as often as it is asked for
+steps_done : said sound_and_wild (codes "rewrite a 1" ∷ codes "rewrite a 1008" ∷ codes "rewrite a 1008" ∷ []) ≡ lines_said (codes "ok" ∷ codes "ok" ∷ codes "ok" ∷ [])
+unfolding opened said
+steps_done = refl
+
+world_stays : behind sound_and_wild (codes "rewrite a 1" ∷ codes "rewrite a 1008" ∷ codes "rewrite b 1" ∷ codes "rewrite z 1" ∷ codes "rewrite a 0" ∷ []) ≡ sound_and_wild
+unfolding opened behind
+world_stays = refl
+
+refused : said sound_and_wild (codes "rewrite a 1009" ∷ codes "rewrite z 1" ∷ codes "rewrite b 1" ∷ []) ≡ lines_said (codes "no bad" ∷ codes "no pool" ∷ codes "no wild" ∷ [])
+unfolding opened said
+refused = refl
+
+-- the type that makes a graph of what is stored of pool b
+behind_the_type : said sound_and_wild (codes "type 2 2 1" ∷ codes "rewrite b 1" ∷ []) ≡ lines_said (codes "ok" ∷ codes "ok" ∷ [])
+unfolding opened said
+behind_the_type = refl
+
+-- the pool `a` of clients 5:5 has one object whose pointer names it; nothing is open
+abbrev start : World
+start = world_with (nodes 1 10 1) None
+
+-- the transaction goes on as it was, with what it set and the units that it used
+beside_a_transaction : behind start (codes "begin 0 a" ∷ codes "set 0 a 1.0 11" ∷ codes "rewrite a 10" ∷ []) ≡ behind start (codes "begin 0 a" ∷ codes "set 0 a 1.0 11" ∷ [])
+unfolding opened behind
+beside_a_transaction = refl
+
+answered_beside_a_transaction : said start (codes "begin 0 a" ∷ codes "set 0 a 1.0 11" ∷ codes "rewrite a 10" ∷ codes "get 0 a 1.0" ∷ codes "abort 0 a" ∷ codes "get 0 a 1.0" ∷ [])
+    ≡ lines_said (codes "ok" ∷ codes "ok" ∷ codes "ok" ∷ codes "ok 11" ∷ codes "ok" ∷ codes "ok 10" ∷ [])
+unfolding opened said
+answered_beside_a_transaction = refl

@@ -1,0 +1,4 @@
+-- Words, images, and a device that was just formatted.
+pub mod Words
+pub mod Images
+pub mod Blank

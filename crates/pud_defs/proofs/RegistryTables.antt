@@ -1,0 +1,19 @@
+-- The tables of a registry: what is read of them, and what changes make of them.
+pub mod TablesOf
+pub mod PutsMade
+pub mod PoolsChanged
+pub mod SoundChanged
+pub mod PuddleMore
+pub mod PuddlesPlaced
+pub mod PoolMembers
+pub mod Exportable
+pub mod RecordsPlaced
+pub mod PoolsCounted
+pub mod PuddlesListed
+pub mod FrontiersMoved
+pub mod TypeLists
+pub mod TypeTable
+pub mod Spaces
+pub mod NoPools
+pub mod Definitions
+pub mod TypesDefined

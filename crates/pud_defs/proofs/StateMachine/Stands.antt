@@ -1,0 +1,42 @@
+-- The worlds that images stand for, turn by turn.
+use Rattle.std.proofs.Common.{◌≡◌, inl, ℕ, zero, suc, ◌+◌, ◌≤◌, List, [], ◌∷◌, ◌++◌, length, Some, arith, sym, ap, subst, ◌∙◌, zero-add}
+use Rattle.std.proofs.Math.Nat.{suc-add}
+use Rattle.pud_defs.specs.Formats.Image.{Image}
+use Rattle.pud_defs.specs.StateMachine.World.{World, world_of, closed}
+use Rattle.pud_defs.specs.StateMachine.Run.{Turn, last_world, newlines}
+use Rattle.pud_defs.specs.Output.Texts.{replies_text}
+use Rattle.pud_defs.specs.StateMachine.Stands.{StandsAfter, StandsWith, StandsBehind}
+use Rattle.pud_defs.proofs.StateMachine.Lines.{newlines-append}
+use Rattle.pud_defs.proofs.Output.Said.{newlines-replies_text}
+
+-- what stands for some turns stands for these and more
+pub StandsAfter-more : (size : ℕ) (w : World) (turns more : List Turn) (said : ℕ) (image : Image) → StandsAfter size w turns said image → StandsAfter size w (turns ++ more) said image
+StandsAfter-more size w [] [] zero image stands = stands
+StandsAfter-more size w [] (t ∷ more) zero image stands = inl stands
+StandsAfter-more size w [] more (suc said) image stands = absurd stands
+StandsAfter-more size w (t ∷ turns) more zero image stands = stands
+StandsAfter-more size w (t ∷ turns) more (suc said) image stands = StandsAfter-more size t.next turns more said image stands
+
+-- what stands behind the first turns
+pub StandsAfter-later : (size : ℕ) (w : World) (turns more : List Turn) (said : ℕ) (image : Image) → StandsAfter size (last_world w turns) more said image → StandsAfter size w (turns ++ more) (length turns + said) image
+StandsAfter-later size w [] more said image stands = rw zero-add stands
+StandsAfter-later size w (t ∷ turns) more said image stands = rw suc-add (StandsAfter-later size t.next turns more said image stands)
+
+-- the same by the bytes said
+pub StandsWith-later : (size : ℕ) (w : World) (turns more : List Turn) (bytes : List ℕ) (image : Image) → StandsWith size (last_world w turns) more bytes image → StandsWith size w (turns ++ more) (replies_text turns ++ bytes) image
+StandsWith-later size w turns more bytes image stands =
+    let count : newlines (replies_text turns ++ bytes) ≡ length turns + newlines bytes = newlines-append (replies_text turns) bytes ∙ ap (λ (n : ℕ). n + newlines bytes) (newlines-replies_text turns) in
+    subst (λ (n : ℕ). StandsAfter size w (turns ++ more) n image) (sym count) (StandsAfter-later size w turns more (newlines bytes) image stands)
+
+-- until the lines in front are whole the closed world stands
+pub StandsBehind-closed : (lines size : ℕ) (w : World) (turns : List Turn) (said : ℕ) (image : Image) → said ≤ lines → world_of size image ≡ Some (closed w) → StandsBehind lines size w turns said image
+StandsBehind-closed zero size w [] zero image few stands = stands
+StandsBehind-closed zero size w (t ∷ turns) zero image few stands = inl stands
+StandsBehind-closed zero size w turns (suc said) image few stands = absurd (omega arith)
+StandsBehind-closed (suc lines) size w turns zero image few stands = stands
+StandsBehind-closed (suc lines) size w turns (suc said) image few stands = StandsBehind-closed lines size w turns said image (omega arith) stands
+
+-- and behind them what stands after as many turns as reply lines
+pub StandsBehind-after : (lines size : ℕ) (w : World) (turns : List Turn) (said : ℕ) (image : Image) → StandsAfter size w turns said image → StandsBehind lines size w turns (lines + said) image
+StandsBehind-after zero size w turns said image stands = rw zero-add stands
+StandsBehind-after (suc lines) size w turns said image stands = rw suc-add (StandsBehind-after lines size w turns said image stands)

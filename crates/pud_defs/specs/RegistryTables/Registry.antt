@@ -1,0 +1,76 @@
+-- When an image is a sound registry.
+use Rattle.std.specs.Prelude.{ℕ, ◌+◌, Bool, false, not, ◌&&◌, ◌||◌, nat_le, ◌==◌, List, length, Option, Some, None}
+use Rattle.std.specs.List.{list_all}
+use Rattle.pud_defs.specs.declared.layout.TheConstants.{DEVICE_MAGIC, VERSION, MAGIC_WORD, VERSION_WORD, FRAMES_WORD, NEXT_NUMBER_WORD, DAEMON_LOG, TYPE_TABLE}
+use Rattle.pud_defs.specs.Formats.Image.{Image}
+use Rattle.pud_defs.specs.Formats.Identifiers.{is_number}
+use Rattle.pud_defs.specs.Formats.Layout.{tables_end, frames_at, device_words, is_legal_frame_count}
+use Rattle.pud_defs.specs.Logging.Entries.{Entry, Log, log_of}
+use Rattle.pud_defs.specs.Logging.Replay.{is_in_range, settled_by}
+use Rattle.pud_defs.specs.RegistryTables.Spaces.{are_legal_spaces, are_closed_logs}
+use Rattle.pud_defs.specs.RegistryTables.Types.{type_at, are_legal_types}
+use Rattle.pud_defs.specs.RegistryTables.Tables.{tables_of}
+use Rattle.pud_defs.specs.RegistryTables.SoundTables.{are_sound_tables}
+
+abbrev pub frames_of : Image → ℕ
+frames_of image = image FRAMES_WORD
+
+-- the device is formatted: word 0 is the device magic
+abbrev pub has_magic : Image → Bool
+has_magic image = image MAGIC_WORD == DEVICE_MAGIC
+
+abbrev pub has_version : Image → Bool
+has_version image = image VERSION_WORD == VERSION
+
+-- the number of frames is legal, and the device has the words that they need
+abbrev pub has_room : ℕ → Image → Bool
+has_room size image = is_legal_frame_count (frames_of image) && nat_le (device_words (frames_of image)) size
+
+abbrev pub has_legal_number : Image → Bool
+has_legal_number image = is_number (image NEXT_NUMBER_WORD)
+
+abbrev pub has_legal_types : Image → Bool
+has_legal_types image = are_legal_types (type_at image)
+
+-- the pools and puddles are sound, by the next UUID number
+abbrev pub has_sound_tables : Image → Bool
+has_sound_tables image = are_sound_tables (image NEXT_NUMBER_WORD) (tables_of (frames_of image) image)
+
+abbrev pub has_legal_spaces : Image → Bool
+has_legal_spaces image = are_legal_spaces image
+
+-- each log of a registered log space is closed
+abbrev pub has_all_logs_closed : Image → Bool
+has_all_logs_closed image = are_closed_logs image (frames_of image)
+
+-- what an image with nothing to replay holds is a sound registry, on a device of so many words: the clients' logs play no part
+unfoldable pub is_registry : ℕ → Image → Bool
+is_registry size image =
+    has_magic image && has_version image && has_room size image && has_legal_number image && has_legal_types image
+    && has_sound_tables image && has_legal_spaces image
+
+-- the same, where each registered log is closed besides
+unfoldable pub is_idle_registry : ℕ → Image → Bool
+is_idle_registry size image = is_registry size image && has_all_logs_closed image
+
+-- so many words from a word on lie wholly where the daemon log may write: the next number, the tables from that of the types on, the frames
+abbrev pub may_be_logged : ℕ → ℕ → ℕ → Bool
+may_be_logged F at n =
+    (at == NEXT_NUMBER_WORD && n == 1) || (nat_le TYPE_TABLE at && nat_le (at + n) (tables_end F)) || (nat_le (frames_at F) at && nat_le (at + n) (device_words F))
+
+-- the entry is out of range, or lies there
+abbrev pub is_loggable : ℕ → Log → Entry → Bool
+is_loggable F log e = not (is_in_range log e) || may_be_logged F e.address (length e.vals)
+
+-- all entries are there, and allowed
+abbrev pub are_loggable : ℕ → Log → Option (List Entry) → Bool
+are_loggable F log None = false
+are_loggable F log (Some es) = list_all (is_loggable F log) es
+
+-- the daemon log is well formed, and its entries in range lie where they may
+unfoldable pub has_legal_log : Image → Bool
+has_legal_log image = are_loggable (frames_of image) (log_of image DAEMON_LOG) (log_of image DAEMON_LOG).entries
+
+-- the image of a device of so many words is a sound registry, once the daemon log is replayed
+unfoldable pub is_sound : ℕ → Image → Bool
+is_sound size image = has_legal_log image && is_registry size (settled_by DAEMON_LOG image)
