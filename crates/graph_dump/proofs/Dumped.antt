@@ -10,7 +10,7 @@ use Rattle.pud_defs.specs.RegistryTables.Keyed.{keyed}
 use Rattle.pud_defs.specs.PoolGraphs.Graph.{Graph, Table, graph_of, live, serial_and_place, object_at, named_by, next_serial_of, root_of}
 use Rattle.pud_defs.specs.Output.DumpText.{dump_text, joined, object_text, pointer_text}
 use Rattle.pud_defs.proofs.KeyedTables.KeyedMaps.{of_entry}
-use Rattle.graph_laws.proofs.Places.{objects-placed}
+use Rattle.graph_laws.proofs.SameReads.Places.{objects-placed}
 use Rattle.puddle_header.specs.Places.{places_in}
 use Rattle.graph_read.specs.Reading.{table_in}
 use Rattle.graph_read.proofs.Found.{graph_is}

@@ -21,7 +21,7 @@ use Rattle.pud_defs.proofs.RegistryTables.TypeLists.{same_test}
 use Rattle.pud_defs.proofs.PoolGraphs.Graphs.{under_serial-free, under_serial-used, graph_of-each, distinct_live}
 use Rattle.pud_defs.proofs.RegistryTables.PoolsCounted.{sum_places-same, worth, sum-keyed}
 use Rattle.graph_laws.specs.ReferenceCounts.{times_named_by, pointers_to, reference_count}
-use Rattle.graph_laws.proofs.Words.{place_of_serial-some}
+use Rattle.graph_laws.proofs.SameReads.Words.{place_of_serial-some}
 use Rattle.puddle_header.specs.Places.{places_in}
 use Rattle.graph_read.specs.declared.index.Kept.{Kept}
 use Rattle.graph_read.specs.declared.index.Index.{Index}

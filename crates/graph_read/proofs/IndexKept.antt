@@ -12,7 +12,7 @@ use Rattle.pud_defs.specs.PoolGraphs.Stored.{stored_in}
 use Rattle.pud_defs.specs.PoolGraphs.Graph.{Object, Graph, object_in, is_referenced, graph_of}
 use Rattle.pud_defs.specs.PoolGraphs.GraphChanges.{blank_object, with_field, with_new, without_object, with_root}
 use Rattle.graph_laws.specs.ReferenceCounts.{times_named_by, reference_count}
-use Rattle.graph_laws.proofs.ReferenceCounts.{objects_sorted, next_unused, reference_count-field, reference_count-root, reference_count-new, reference_count-freed, held-reference_count}
+use Rattle.graph_laws.proofs.ObjectChanges.ReferenceCounts.{objects_sorted, next_unused, reference_count-field, reference_count-root, reference_count-new, reference_count-freed, held-reference_count}
 use Rattle.graph_read.specs.declared.index.Index.{Index}
 use Rattle.graph_read.specs.Index.{kept_under, KeepsBut, unreferenced_at, place_kept, references_kept, HasReference, MayBeReferenced, names_one, after_retarget}
 use Rattle.graph_read.specs.Indexed.{slot_at_place, kept_of, IsIndexBy, IsIndexOf, serial_named, references_left}

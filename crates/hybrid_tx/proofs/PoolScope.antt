@@ -15,7 +15,7 @@ use Rattle.pud_defs.specs.Formats.Frames.{frame_at}
 use Rattle.pud_defs.specs.RegistryTables.Places.{word_in}
 use Rattle.pud_defs.specs.Logging.Replay.{is_in_log}
 use Rattle.graph_laws.specs.Changes.{AreBases}
-use Rattle.graph_laws.proofs.Pointers.{behind}
+use Rattle.graph_laws.proofs.SameReads.Pointers.{behind}
 use Rattle.word_transaction.specs.Scope.{Spans, IsScope}
 use Rattle.hybrid_tx.specs.PoolScopes.{word_by, pool_place, has_words, pool_may_name, is_in_puddle, pool_has_word, pool_scope, ArePlacedPuddles}
 

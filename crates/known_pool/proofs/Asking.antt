@@ -7,7 +7,7 @@ use Rattle.pud_defs.specs.PoolGraphs.Stored.{stored_in}
 use Rattle.pud_defs.specs.RegistryTables.Types.{types_of}
 use Rattle.pud_defs.specs.PoolGraphs.Graph.{Graph, graph_of, is_referenced}
 use Rattle.graph_laws.specs.ReferenceCounts.{reference_count}
-use Rattle.graph_laws.proofs.Words.{place_of_serial-some}
+use Rattle.graph_laws.proofs.SameReads.Words.{place_of_serial-some}
 use Rattle.puddle_header.specs.Places.{places_in}
 use Rattle.graph_read.specs.declared.index.Index.{Index}
 use Rattle.graph_read.specs.Index.{kept_under, place_kept, references_kept, HasReference, MayBeReferenced}

@@ -20,7 +20,7 @@ use Rattle.pud_defs.proofs.KeyedTables.Keyed.{count_used_most}
 use Rattle.pud_defs.proofs.KeyedTables.KeyedEach.{each-keyed}
 use Rattle.pud_defs.proofs.RegistryTables.TypeLists.{same_number}
 use Rattle.graph_laws.specs.ReferenceCounts.{times_named_by, pointers_to, reference_count}
-use Rattle.graph_laws.proofs.Words.{few_fields}
+use Rattle.graph_laws.proofs.SameReads.Words.{few_fields}
 use Rattle.puddle_header.specs.Places.{place_of_slot}
 use Rattle.puddle_header.proofs.Placed.{place_ordinal, place_slot}
 use Rattle.graph_read.specs.declared.index.Index.{Index}

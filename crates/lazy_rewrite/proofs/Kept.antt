@@ -26,8 +26,8 @@ use Rattle.pud_defs.proofs.RegistryTables.TablesOf.{tables_of-same}
 use Rattle.pud_defs.proofs.Logging.Replay.{settled_by-idle, outside_log}
 use Rattle.graph_laws.specs.Changes.{AreBases}
 use Rattle.graph_laws.specs.Steps.{with_steps}
-use Rattle.graph_laws.proofs.Rewritten.{map-set}
-use Rattle.graph_laws.proofs.StoredImages.{stored_in-same}
+use Rattle.graph_laws.proofs.RewritingSteps.Rewritten.{map-set}
+use Rattle.graph_laws.proofs.SameReads.StoredImages.{stored_in-same}
 use Rattle.batch.specs.Batches.{batch_write, HasIdleGate, ByBatch, IsBatched}
 use Rattle.batch.proofs.Tables.{HasDurableTables-committed, reads_committed}
 use Rattle.lazy_rewrite.specs.Batches.{IsRewritten, ByRewriting, AreNextSteps, CommitsSteps, RewritesOnce, RewritesInTurn, Rewrites}

@@ -21,10 +21,10 @@ use Rattle.puddle_header.specs.Places.{places_in}
 use Rattle.graph_laws.specs.Reads.{HasDistinctFrames}
 use Rattle.graph_laws.specs.Rewriting.{advanced}
 use Rattle.graph_laws.specs.Steps.{with_passed, with_steps}
-use Rattle.graph_laws.proofs.Rewritten.{slice_get-set_there, slice_get-set_other}
-use Rattle.graph_laws.proofs.PassedWords.{RewritesSteps-passed}
-use Rattle.graph_laws.proofs.StoredImages.{stored_in-same}
-use Rattle.graph_laws.proofs.StepsStored.{stored_in-steps}
+use Rattle.graph_laws.proofs.RewritingSteps.Rewritten.{slice_get-set_there, slice_get-set_other}
+use Rattle.graph_laws.proofs.RewritingSteps.PassedWords.{RewritesSteps-passed}
+use Rattle.graph_laws.proofs.SameReads.StoredImages.{stored_in-same}
+use Rattle.graph_laws.proofs.RewritingSteps.StepsStored.{stored_in-steps}
 use Rattle.graph_read.specs.Reading.{place_in_pool}
 use Rattle.batch.specs.Batches.{batch_write}
 use Rattle.lazy_rewrite.specs.Batches.{AreNextSteps, CommitsSteps, RewritesOnce, RewritesInTurn, Rewrites}

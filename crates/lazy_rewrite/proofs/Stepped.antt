@@ -27,9 +27,9 @@ use Rattle.graph_laws.specs.Changes.{AreBases, with_words}
 use Rattle.graph_laws.specs.Reads.{HasDistinctFrames}
 use Rattle.graph_laws.specs.Rewriting.{passes_slot, anywhere, LeadSomewhere}
 use Rattle.graph_laws.specs.Steps.{steps_in, with_steps}
-use Rattle.graph_laws.proofs.Rewritten.{LeadSomewhere-graph}
-use Rattle.graph_laws.proofs.StoredImages.{word_in_frame-same}
-use Rattle.graph_laws.proofs.StepsStored.{write-frontier, write-other, graph_of-written_any, steps_in-same}
+use Rattle.graph_laws.proofs.RewritingSteps.Rewritten.{LeadSomewhere-graph}
+use Rattle.graph_laws.proofs.SameReads.StoredImages.{word_in_frame-same}
+use Rattle.graph_laws.proofs.RewritingSteps.StepsStored.{write-frontier, write-other, graph_of-written_any, steps_in-same}
 use Rattle.lazy_rewrite.specs.Batches.{AreNextSteps}
 use Rattle.lazy_rewrite.specs.Graphs.{graph_at}
 

@@ -17,8 +17,8 @@ use Rattle.pud_defs.specs.RegistryTables.Puddles.{moved_to, frontier_word}
 use Rattle.pud_defs.specs.RegistryTables.Types.{types_of}
 use Rattle.pud_defs.specs.PoolGraphs.Stored.{stored_in}
 use Rattle.graph_laws.specs.Steps.{steps_write, with_steps}
-use Rattle.graph_laws.proofs.Rewritten.{slice_get-set_there, slice_get-set_other}
-use Rattle.graph_laws.proofs.StepsStored.{write-other}
+use Rattle.graph_laws.proofs.RewritingSteps.Rewritten.{slice_get-set_there, slice_get-set_other}
+use Rattle.graph_laws.proofs.RewritingSteps.StepsStored.{write-other}
 use Rattle.batch.specs.Batches.{batch_write, HasIdleGate, ByBatch}
 use Rattle.lazy_rewrite.specs.Batches.{IsStepsWord, IsRewritten, ByRewriting, AreNextSteps, CommitsSteps, pool_behind, RewritesOnce, RewritesInTurn, Rewrites}
 

@@ -18,7 +18,7 @@ use Rattle.pud_defs.specs.RegistryTables.Types.{types_of}
 use Rattle.pud_defs.specs.PoolGraphs.Graph.{Graph}
 use Rattle.pud_defs.specs.StateMachine.World.{StoredWorld, idle_world_of}
 use Rattle.graph_laws.specs.Steps.{steps_in}
-use Rattle.graph_laws.proofs.StepsStored.{steps_in-same}
+use Rattle.graph_laws.proofs.RewritingSteps.StepsStored.{steps_in-same}
 use Rattle.batch.specs.Batches.{HasIdleGate, ByBatch}
 use Rattle.batch.specs.Worlds.{IsQuiescent}
 use Rattle.batch.proofs.Masked.{Commits-masked}

@@ -38,7 +38,7 @@ use Rattle.pud_defs.proofs.StateMachine.Parts.{StandsFor, standing_with_pools}
 use Rattle.pud_defs.proofs.StateMachine.Parts.Part.{Header, Types, Pools}
 use Rattle.pud_defs.proofs.StateMachine.IdleWorlds.{standing_of_idle_world, idle_registry_standing}
 use Rattle.graph_laws.specs.Steps.{with_steps}
-use Rattle.graph_laws.proofs.StoredImages as stored_images
+use Rattle.graph_laws.proofs.SameReads.StoredImages as stored_images
 use Rattle.batch.specs.Worlds.{IsBetween, Moves}
 use Rattle.batch.proofs.Worlds.{Moves-commits, stands_still}
 use Rattle.lazy_rewrite.specs.Batches.{AreNextSteps, CommitsSteps}

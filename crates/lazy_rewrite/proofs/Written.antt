@@ -25,8 +25,8 @@ use Rattle.pud_defs.proofs.Logging.Replay.{or_none, value_at-there, value_at-apa
 use Rattle.pud_defs.proofs.Logging.Logged.{may_be_logged-table, may_be_logged-frames, is_loggable-there}
 use Rattle.graph_laws.specs.Rewriting.{passes_slot, passes_root}
 use Rattle.graph_laws.specs.Steps.{passed_word, steps_write, with_steps}
-use Rattle.graph_laws.proofs.PassedWords.{passed-slot}
-use Rattle.graph_laws.proofs.StepsStored.{write-frame, write-frontier, write-other}
+use Rattle.graph_laws.proofs.RewritingSteps.PassedWords.{passed-slot}
+use Rattle.graph_laws.proofs.RewritingSteps.StepsStored.{write-frame, write-frontier, write-other}
 use Rattle.log_replay.specs.Replaying.{NamesApart}
 use Rattle.batch.specs.Batches.{batch_entry, batch_write, word_count_of, committed, IsBatchEntry, AreBatched, HasIdleGate, IsFree, Commits}
 use Rattle.batch.proofs.Writes.{batch_write-append, batch_write-single}

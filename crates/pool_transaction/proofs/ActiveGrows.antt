@@ -39,7 +39,7 @@ use Rattle.pud_defs.proofs.StateMachine.IdleWorlds.{standing_beside, standing_id
 use Rattle.pud_defs.proofs.KeyedTables.Keyed.{first_free_some}
 use Rattle.pud_defs.proofs.StateMachine.Parts.{Holds-same}
 use Rattle.pud_defs.proofs.StateMachine.Parts.Part.{Types}
-use Rattle.graph_laws.proofs.Grown.{slice_get-front, slice_get-push}
+use Rattle.graph_laws.proofs.FreshPuddles.Grown.{slice_get-front, slice_get-push}
 use Rattle.batch.specs.Batches.{HasIdleGate}
 use Rattle.registry.specs.declared.adding.NewPuddle.{NewPuddle}
 use Rattle.registry.specs.Puts.{puts_batch}
@@ -54,7 +54,7 @@ use Rattle.hybrid_tx.proofs.Open.ManyIdle.{one_ended, one_put}
 use Rattle.pud_defs.specs.declared.space.TheConstants.{SLOT_SERIAL_WORD}
 use Rattle.pud_defs.specs.Formats.Frames.{frame_at}
 use Rattle.pud_defs.specs.Formats.Geometry.{steps_of, ordinal_of, slot_of, puddle_slot_at}
-use Rattle.graph_laws.proofs.StoredImages.{stored_in-same}
+use Rattle.graph_laws.proofs.SameReads.StoredImages.{stored_in-same}
 use Rattle.hybrid_tx.proofs.PoolScope.{pool_has_word-from}
 use Rattle.pool_transaction.specs.Finishing.{IsLonger}
 use Rattle.ready_daemon.proofs.RestBeside.{rest_by_words, active_graph}

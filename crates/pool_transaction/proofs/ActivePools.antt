@@ -17,7 +17,7 @@ use Rattle.pud_defs.specs.StateMachine.World.{Transaction, World}
 use Rattle.pud_defs.proofs.RegistryTables.PoolsCounted.{few_members, length_puddles}
 use Rattle.pud_defs.proofs.RegistryTables.PuddlesListed.{puddles_in_turn-listed}
 use Rattle.graph_laws.specs.Slots.{AreAllLive}
-use Rattle.graph_laws.proofs.LiveSlots.{objects-most, objects-live}
+use Rattle.graph_laws.proofs.SameReads.LiveSlots.{objects-most, objects-live}
 use Rattle.registry.specs.Growth.{puddle_count, PoolHasGraph}
 use Rattle.registry.proofs.PuddlesCounted.{puddle_count_by_world}
 use Rattle.ready_daemon.specs.Memory.{ActiveTransaction, Memory, active_under}

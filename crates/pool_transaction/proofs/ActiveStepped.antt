@@ -25,8 +25,8 @@ use Rattle.pud_defs.specs.RegistryTables.Types.{types_of}
 use Rattle.pud_defs.specs.StateMachine.World.{World}
 use Rattle.pud_defs.proofs.Logging.Replay.{overwritten-stays, outside_log}
 use Rattle.graph_laws.specs.Steps.{steps_in, with_steps}
-use Rattle.graph_laws.proofs.Rewritten.{slice_get-set_other}
-use Rattle.graph_laws.proofs.StepsStored.{write-other, graph_of-written, steps_in-same}
+use Rattle.graph_laws.proofs.RewritingSteps.Rewritten.{slice_get-set_other}
+use Rattle.graph_laws.proofs.RewritingSteps.StepsStored.{write-other, graph_of-written, steps_in-same}
 use Rattle.batch.specs.Batches.{batch_write}
 use Rattle.batch.proofs.Tables.{reads_kept}
 use Rattle.lazy_rewrite.specs.Batches.{AreNextSteps, CommitsSteps}

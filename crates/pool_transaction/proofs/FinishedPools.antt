@@ -11,7 +11,7 @@ use Rattle.pud_defs.specs.declared.records.Puddle.{Puddle}
 use Rattle.pud_defs.specs.declared.records.Slot.{Slot}
 use Rattle.pud_defs.specs.Formats.Geometry.{steps_of}
 use Rattle.pud_defs.specs.RegistryTables.Puddles.{moved_to}
-use Rattle.graph_laws.proofs.Rewritten.{slice_get-set_there, slice_get-set_other}
+use Rattle.graph_laws.proofs.RewritingSteps.Rewritten.{slice_get-set_there, slice_get-set_other}
 use Rattle.puddle_header.specs.Places.{IsSlotOf}
 use Rattle.batch.specs.Batches.{HasIdleGate}
 use Rattle.lazy_rewrite.specs.Entries.{HasLowBases}

@@ -28,7 +28,7 @@ use Rattle.pud_defs.specs.StateMachine.World.{Transaction, StoredWorld, World}
 use Rattle.pud_defs.proofs.Logging.Replay.{outside_log}
 use Rattle.pud_defs.proofs.RegistryTables.TablesOf.{frames_of_tables}
 use Rattle.batch.specs.Worlds.{IsQuiescent}
-use Rattle.graph_laws.proofs.Grown.{slice_get-front, slice_get-push}
+use Rattle.graph_laws.proofs.FreshPuddles.Grown.{slice_get-front, slice_get-push}
 use Rattle.word_transaction.specs.Scope.{IsScope}
 use Rattle.word_transaction.proofs.Growing.{IsWider, IsRunning-values, IsRunning-wider}
 use Rattle.hybrid_tx.specs.PoolScopes.{is_in_puddle, pool_has_word, pool_scope, ArePlacedPuddles, finished_of}

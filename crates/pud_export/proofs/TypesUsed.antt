@@ -8,7 +8,7 @@ use Rattle.pud_defs.specs.PoolGraphs.ExportFile.{is_type_used, types_used}
 use Rattle.pud_defs.specs.PoolGraphs.Graph.{Graph, graph_of}
 use Rattle.pud_defs.specs.PoolGraphs.Stored.{Stored, places_of, place_word}
 use Rattle.graph_laws.specs.Slots.{is_of_type}
-use Rattle.graph_laws.proofs.UsedTypes.{is_type_used-scanned}
+use Rattle.graph_laws.proofs.SameReads.UsedTypes.{is_type_used-scanned}
 use Rattle.pud_export.specs.Exporting.{live_type, live_types, is_among, types_among}
 
 -- there is something, and it passes

@@ -25,7 +25,7 @@ use Rattle.pud_defs.specs.RegistryTables.Types.{type_record_at, type_at, types_o
 use Rattle.pud_defs.specs.PoolGraphs.ExportFile.{file_type, file_types, file_frames_at, file_frame_at, file_puddle, file_stored, are_file_types}
 use Rattle.pud_defs.proofs.KeyedTables.Keyed.{keyed-none}
 use Rattle.pud_defs.proofs.RegistryTables.TypeTable.{type_at-free, type_at-used}
-use Rattle.graph_laws.proofs.Within.{graph_of-within}
+use Rattle.graph_laws.proofs.SameReads.Within.{graph_of-within}
 use Rattle.graph_read.proofs.Pointed.{no_puddle}
 use Rattle.puddle_header.proofs.Placed.{stored_word}
 use Rattle.pud_import.proofs.TypesLegal.{legal_id}

@@ -24,8 +24,8 @@ use Rattle.pud_defs.proofs.KeyedTables.Keyed.{keyed-same, option_map_parts}
 use Rattle.pud_defs.proofs.RegistryTables.Spaces.{all_below-from, all_below-each}
 use Rattle.pud_defs.proofs.PoolGraphs.Graphs.{graph_of-each}
 use Rattle.graph_laws.specs.Placed.{AreFrontiers}
-use Rattle.graph_laws.proofs.Pointers.{there_is_puddle}
-use Rattle.graph_laws.proofs.Placed.{pointers-kept, pointers-moved, graph_of-placed}
+use Rattle.graph_laws.proofs.SameReads.Pointers.{there_is_puddle}
+use Rattle.graph_laws.proofs.Exporting.Placed.{pointers-kept, pointers-moved, graph_of-placed}
 use Rattle.registry.specs.declared.adding.NewPuddle.{NewPuddle}
 use Rattle.registry.specs.declared.placing.NewType.{NewType}
 use Rattle.registry.specs.Placing.{puddle_of_added, HasFreeRecords, IsPlacedFor}

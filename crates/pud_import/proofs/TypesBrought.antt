@@ -22,7 +22,7 @@ use Rattle.pud_defs.proofs.RegistryTables.TypeLists.{same_test, same_number, tru
 use Rattle.pud_defs.proofs.PoolGraphs.TypeMore.{defined_there}
 use Rattle.pud_defs.proofs.PoolGraphs.Graphs.{graph_of-each}
 use Rattle.graph_laws.specs.Slots.{is_of_type}
-use Rattle.graph_laws.proofs.UsedTypes.{is_type_used-scanned}
+use Rattle.graph_laws.proofs.SameReads.UsedTypes.{is_type_used-scanned}
 
 -- ---- types that are found
 

@@ -12,8 +12,8 @@ use Rattle.pud_defs.specs.Formats.Image.{Image}
 use Rattle.pud_defs.specs.RegistryTables.Keyed.{under}
 use Rattle.pud_defs.specs.PoolGraphs.Stored.{Stored, word_in_frame, stored_in, places_of, place_word, place_begins, slot_state}
 use Rattle.pud_defs.proofs.KeyedTables.Keyed.{first_from_at, first_from_some}
-use Rattle.graph_laws.proofs.Grown.{slice_get-front}
-use Rattle.graph_laws.proofs.Places.{object_in-place}
+use Rattle.graph_laws.proofs.FreshPuddles.Grown.{slice_get-front}
+use Rattle.graph_laws.proofs.SameReads.Places.{object_in-place}
 use Rattle.puddle_header.specs.Places.{places_in}
 use Rattle.graph_read.specs.Reading.{place_in_pool}
 use Rattle.registry.proofs.Grown.{still_holds}

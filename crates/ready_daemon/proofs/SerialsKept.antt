@@ -12,7 +12,7 @@ use Rattle.pud_defs.specs.declared.records.Slot.{Slot}
 use Rattle.pud_defs.specs.Formats.Frames.{frame_at}
 use Rattle.pud_defs.specs.Formats.Geometry.{puddle_slots, puddle_slot_at, ordinal_of, slot_of}
 use Rattle.pud_defs.specs.Formats.Layout.{frames_at}
-use Rattle.graph_laws.proofs.StoredImages.{word_in_frame-same}
+use Rattle.graph_laws.proofs.SameReads.StoredImages.{word_in_frame-same}
 use Rattle.batch.proofs.Tables.{reads_kept}
 use Rattle.hybrid_tx.specs.Objects.Stores.{ByPut, field_word}
 use Rattle.known_pool.proofs.KnownKept.{serial_in, KeepsSerials}

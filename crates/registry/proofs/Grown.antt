@@ -30,8 +30,8 @@ use Rattle.pud_defs.proofs.PoolGraphs.FreshGraph.{fresh_word, fresh_header_words
 use Rattle.pud_defs.proofs.KeyedTables.Keyed.{first_free_some}
 use Rattle.pud_defs.proofs.RegistryTables.PoolsCounted.{few_members, length_puddles}
 use Rattle.graph_laws.specs.Reads.{with_puddle, IsGrown}
-use Rattle.graph_laws.proofs.Grown.{slice_get-front, slice_get-push, graph_of-grown}
-use Rattle.graph_laws.proofs.StaysWild.{graph_of-wild}
+use Rattle.graph_laws.proofs.FreshPuddles.Grown.{slice_get-front, slice_get-push, graph_of-grown}
+use Rattle.graph_laws.proofs.FreshPuddles.StaysWild.{graph_of-wild}
 use Rattle.registry.specs.declared.adding.NewPuddle.{NewPuddle}
 use Rattle.registry.specs.Adding.{IsFilled, MakesPools, pools_next}
 use Rattle.registry.specs.Growth.{puddle_count, growing, IsGrowthFor, PoolHasGraph, PoolHasNoGraph, added_puddle, kept_longer, with_kept_longer, with_wild_grown}

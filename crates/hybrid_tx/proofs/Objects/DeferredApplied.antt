@@ -11,7 +11,7 @@ use Rattle.pud_defs.specs.Logging.Replay.{value_in, value_from, overwritten}
 use Rattle.pud_defs.specs.PoolGraphs.Stored.{stored_in}
 use Rattle.pud_defs.specs.PoolGraphs.Graph.{Graph, graph_of}
 use Rattle.pud_defs.specs.PoolGraphs.DeferredValues.{DeferredValue, with_deferred_value, with_deferred_set}
-use Rattle.graph_laws.proofs.Words.{few_fields}
+use Rattle.graph_laws.proofs.SameReads.Words.{few_fields}
 use Rattle.word_transaction.specs.Scope.{written_in_turn}
 use Rattle.hybrid_tx.specs.PoolScopes.{pool_place, finished_of, ArePlacedPuddles, IsRewrittenAt}
 use Rattle.hybrid_tx.specs.Objects.Stores.{field_word}

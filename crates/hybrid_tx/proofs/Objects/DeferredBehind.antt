@@ -25,9 +25,9 @@ use Rattle.pud_defs.proofs.KeyedTables.Keyed.{first_from_same}
 use Rattle.pud_defs.proofs.PoolGraphs.Graphs.{graph_of-each}
 use Rattle.graph_laws.specs.Changes.{with_word, with_words}
 use Rattle.graph_laws.specs.Reads.{HasDistinctFrames}
-use Rattle.graph_laws.proofs.Places.{object_in-place}
-use Rattle.graph_laws.proofs.TableChanges.{under_other}
-use Rattle.graph_laws.proofs.Words.{with_word-other, place_of_serial-some}
+use Rattle.graph_laws.proofs.SameReads.Places.{object_in-place}
+use Rattle.graph_laws.proofs.ObjectChanges.TableChanges.{under_other}
+use Rattle.graph_laws.proofs.SameReads.Words.{with_word-other, place_of_serial-some}
 use Rattle.puddle_header.specs.Places.{places_in, place_of_slot, IsSlotOf}
 use Rattle.graph_read.specs.Reading.{place_in_pool}
 use Rattle.hybrid_tx.specs.PoolScopes.{ArePlacedPuddles}

@@ -16,7 +16,7 @@ use Rattle.pud_defs.specs.PoolGraphs.Stored.{Stored, stored_in, place_word}
 use Rattle.pud_defs.specs.PoolGraphs.Graph.{slot_address, under_serial, Object, Graph, object_in}
 use Rattle.pud_defs.specs.PoolGraphs.DeferredValues.{DeferredValue}
 use Rattle.pud_defs.specs.PoolGraphs.Exported.{address_in}
-use Rattle.graph_laws.proofs.Words.{place_of_serial-some}
+use Rattle.graph_laws.proofs.SameReads.Words.{place_of_serial-some}
 use Rattle.puddle_header.specs.Places.{places_in}
 use Rattle.graph_read.specs.Reading.{place_in_pool, table_in}
 use Rattle.hybrid_tx.specs.Objects.Stores.{address_at, word_for}

@@ -23,8 +23,8 @@ use Rattle.log_entry.specs.declared.Entry.{Entry as Found}
 use Rattle.log_entry.specs.Reading.{Reading, entries_left, entry_from, left_before}
 use Rattle.log_entry.proofs.Left.{entries_left-start, taken, none_left}
 use Rattle.graph_laws.specs.Changes.{AreBases}
-use Rattle.graph_laws.proofs.Pointers.{target-there}
-use Rattle.graph_laws.proofs.Words.{few_fields, IsLive, place_of_serial-some}
+use Rattle.graph_laws.proofs.SameReads.Pointers.{target-there}
+use Rattle.graph_laws.proofs.SameReads.Words.{few_fields, IsLive, place_of_serial-some}
 use Rattle.puddle_header.specs.Places.{places_in, place_of_slot, IsSlotOf}
 use Rattle.graph_read.specs.Reading.{place_in_pool, table_in}
 use Rattle.puddle_header.proofs.Placed.{slot_at_place}

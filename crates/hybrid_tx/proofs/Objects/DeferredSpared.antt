@@ -20,7 +20,7 @@ use Rattle.pud_defs.specs.PoolGraphs.GraphChanges.{without_object}
 use Rattle.pud_defs.specs.PoolGraphs.DeferredValues.{DeferredValue, deferred_value_names, deferred_set_names}
 use Rattle.pud_defs.proofs.RegistryTables.TypeLists.{same_test, same_number}
 use Rattle.graph_laws.specs.Changes.{with_serial_word}
-use Rattle.graph_laws.proofs.Words.{place_of_serial-some, slot_word-there, slot_word-other}
+use Rattle.graph_laws.proofs.SameReads.Words.{place_of_serial-some, slot_word-there, slot_word-other}
 use Rattle.puddle_header.specs.Places.{places_in, place_of_slot, IsSlotOf}
 use Rattle.graph_read.specs.Reading.{place_in_pool, table_in}
 use Rattle.object_alloc.specs.Alloc.{serial_word_at}

@@ -26,7 +26,7 @@ use Rattle.pud_defs.specs.PoolGraphs.Graph.{Graph, graph_of}
 use Rattle.pud_defs.specs.PoolGraphs.GraphChanges.{with_field}
 use Rattle.pud_defs.specs.PoolGraphs.DeferredValues.{DeferredValue}
 use Rattle.pud_defs.specs.PoolGraphs.Exported.{address_in}
-use Rattle.graph_laws.proofs.Words.{few_fields}
+use Rattle.graph_laws.proofs.SameReads.Words.{few_fields}
 use Rattle.puddle_header.specs.Places.{place_of_slot, IsSlotOf}
 use Rattle.graph_read.specs.Reading.{place_in_pool}
 use Rattle.puddle_header.proofs.Placed.{place_ordinal, place_slot}

@@ -23,10 +23,10 @@ use Rattle.pud_defs.specs.PoolGraphs.GraphChanges.{with_field}
 use Rattle.graph_laws.specs.Changes.{with_word, with_words, with_field_word, IsAddress, IsField}
 use Rattle.graph_laws.specs.Reads.{HasDistinctFrames}
 use Rattle.pud_defs.specs.PoolGraphs.Exported.{address_in}
-use Rattle.graph_laws.proofs.Fields.{graph_of-number, graph_of-null, graph_of-reference}
-use Rattle.graph_laws.proofs.Places.{object_in-place}
-use Rattle.graph_laws.proofs.StoredImages.{stored_in-written}
-use Rattle.graph_laws.proofs.Words.{place_of_serial-some, few_fields}
+use Rattle.graph_laws.proofs.ObjectChanges.Fields.{graph_of-number, graph_of-null, graph_of-reference}
+use Rattle.graph_laws.proofs.SameReads.Places.{object_in-place}
+use Rattle.graph_laws.proofs.SameReads.StoredImages.{stored_in-written}
+use Rattle.graph_laws.proofs.SameReads.Words.{place_of_serial-some, few_fields}
 use Rattle.puddle_header.specs.Places.{place_of_slot, IsSlotOf}
 use Rattle.graph_read.specs.Reading.{place_in_pool}
 use Rattle.puddle_header.proofs.Placed.{place_ordinal, place_slot}

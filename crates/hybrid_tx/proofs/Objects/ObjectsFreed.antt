@@ -13,7 +13,7 @@ use Rattle.pud_defs.specs.PoolGraphs.Graph.{Graph, graph_of, is_referenced}
 use Rattle.pud_defs.specs.PoolGraphs.GraphChanges.{without_object}
 use Rattle.graph_laws.specs.Changes.{with_word, with_words, with_serial_word}
 use Rattle.graph_laws.specs.Reads.{HasDistinctFrames}
-use Rattle.graph_laws.proofs.FreedObjects.{graph_of-freed}
+use Rattle.graph_laws.proofs.ObjectChanges.FreedObjects.{graph_of-freed}
 use Rattle.puddle_header.specs.Places.{place_of_slot, IsSlotOf}
 use Rattle.graph_read.specs.Reading.{place_in_pool}
 use Rattle.puddle_header.proofs.Placed.{place_ordinal, place_slot}

@@ -21,8 +21,8 @@ use Rattle.pud_defs.proofs.PoolGraphs.Graphs.{graph_of-each}
 use Rattle.pud_defs.proofs.Logging.Replay.{overwritten-there, overwritten-stays, value_at-there, value_at-apart}
 use Rattle.pud_defs.specs.PoolGraphs.GraphChanges.{blank_object, with_new}
 use Rattle.graph_laws.specs.Changes.{IsMade}
-use Rattle.graph_laws.proofs.NewObjects.{graph_of-new}
-use Rattle.graph_laws.proofs.Words.{few_fields}
+use Rattle.graph_laws.proofs.ObjectChanges.NewObjects.{graph_of-new}
+use Rattle.graph_laws.proofs.SameReads.Words.{few_fields}
 use Rattle.puddle_header.specs.Places.{place_of_slot, IsSlotOf}
 use Rattle.puddle_header.proofs.Placed.{place_ordinal, place_slot, stored_word, stored_slot}
 use Rattle.hybrid_tx.specs.PoolScopes.{ArePlacedPuddles}

@@ -15,7 +15,7 @@ use Rattle.pud_defs.specs.Logging.Replay.{overwritten}
 use Rattle.pud_defs.specs.PoolGraphs.Stored.{stored_in}
 use Rattle.pud_defs.specs.PoolGraphs.Graph.{Graph, graph_of}
 use Rattle.pud_defs.specs.PoolGraphs.DeferredValues.{DeferredValue}
-use Rattle.graph_laws.proofs.StoredImages.{stored_in-same}
+use Rattle.graph_laws.proofs.SameReads.StoredImages.{stored_in-same}
 use Rattle.log_store.specs.Store.{OpenLog}
 use Rattle.word_transaction.specs.Scope.{IsScope}
 use Rattle.word_transaction.specs.Running.{IsIdle, ByTransaction, no_write, begun_log, KeepsRunning}

@@ -12,8 +12,8 @@ use Rattle.pud_defs.specs.PoolGraphs.Stored.{Stored, stored_in, places_of}
 use Rattle.pud_defs.specs.PoolGraphs.Graph.{table_of, Graph, graph_of}
 use Rattle.pud_defs.specs.PoolGraphs.GraphChanges.{with_root}
 use Rattle.graph_laws.specs.Changes.{with_root_word}
-use Rattle.graph_laws.proofs.Roots.{graph_of-no_root, graph_of-root}
-use Rattle.graph_laws.proofs.Words.{place_of_serial-some}
+use Rattle.graph_laws.proofs.ObjectChanges.Roots.{graph_of-no_root, graph_of-root}
+use Rattle.graph_laws.proofs.SameReads.Words.{place_of_serial-some}
 use Rattle.hybrid_tx.specs.PoolScopes.{ArePlacedPuddles, IsRewrittenAt}
 use Rattle.hybrid_tx.specs.Objects.Stores.{word_for}
 use Rattle.hybrid_tx.proofs.Objects.FieldsSet.{stored_in-one, place_is, address_of_place, word_of_reference}

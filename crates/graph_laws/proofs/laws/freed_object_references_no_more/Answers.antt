@@ -1,4 +1,4 @@
-use Rattle.graph_laws.proofs.ReferenceCounts.{objects_sorted, reference_count-freed}
+use Rattle.graph_laws.proofs.ObjectChanges.ReferenceCounts.{objects_sorted, reference_count-freed}
 use Rattle.graph_laws.proofs.laws.freed_object_references_no_more.Goals as goal
 
 pub returns : goal.returns

@@ -1,4 +1,4 @@
-use Rattle.graph_laws.proofs.Grown.{graph_of-grown}
+use Rattle.graph_laws.proofs.FreshPuddles.Grown.{graph_of-grown}
 use Rattle.graph_laws.proofs.laws.fresh_puddle_behind_others_keeps_the_graph.Goals as goal
 
 pub returns : goal.returns

@@ -1,4 +1,4 @@
-use Rattle.graph_laws.proofs.StaysWild.{graph_of-wild}
+use Rattle.graph_laws.proofs.FreshPuddles.StaysWild.{graph_of-wild}
 use Rattle.graph_laws.proofs.laws.fresh_puddle_behind_others_makes_no_graph.Goals as goal
 
 pub returns : goal.returns

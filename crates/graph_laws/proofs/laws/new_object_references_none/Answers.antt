@@ -1,4 +1,4 @@
-use Rattle.graph_laws.proofs.ReferenceCounts.{next_unused, reference_count-new}
+use Rattle.graph_laws.proofs.ObjectChanges.ReferenceCounts.{next_unused, reference_count-new}
 use Rattle.graph_laws.proofs.laws.new_object_references_none.Goals as goal
 
 pub returns : goal.returns

@@ -1,4 +1,4 @@
-use Rattle.graph_laws.proofs.LiveSlots.{objects-most}
+use Rattle.graph_laws.proofs.SameReads.LiveSlots.{objects-most}
 use Rattle.graph_laws.proofs.laws.objects_are_no_more_than_slots.Goals as goal
 
 pub returns : goal.returns

@@ -1,4 +1,4 @@
-use Rattle.graph_laws.proofs.Unread.{graph_of-header}
+use Rattle.graph_laws.proofs.SameReads.Unread.{graph_of-header}
 use Rattle.graph_laws.proofs.laws.other_header_words_are_not_read.Goals as goal
 
 pub returns : goal.returns

@@ -1,4 +1,4 @@
-use Rattle.graph_laws.proofs.Unread.{graph_of-free_word}
+use Rattle.graph_laws.proofs.SameReads.Unread.{graph_of-free_word}
 use Rattle.graph_laws.proofs.laws.other_words_of_a_free_slot_are_not_read.Goals as goal
 
 pub returns : goal.returns

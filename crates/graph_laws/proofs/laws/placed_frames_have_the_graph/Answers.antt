@@ -1,4 +1,4 @@
-use Rattle.graph_laws.proofs.Placed.{graph_of-placed}
+use Rattle.graph_laws.proofs.Exporting.Placed.{graph_of-placed}
 use Rattle.graph_laws.proofs.laws.placed_frames_have_the_graph.Goals as goal
 
 pub returns : goal.returns

@@ -1,4 +1,4 @@
-use Rattle.graph_laws.proofs.ReferenceCounts.{held-reference_count}
+use Rattle.graph_laws.proofs.ObjectChanges.ReferenceCounts.{held-reference_count}
 use Rattle.graph_laws.proofs.laws.referenced_object_is_counted.Goals as goal
 
 pub returns : goal.returns

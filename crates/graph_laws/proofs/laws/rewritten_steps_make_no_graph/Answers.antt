@@ -1,4 +1,4 @@
-use Rattle.graph_laws.proofs.Rewritten.{graph_of-steps_any}
+use Rattle.graph_laws.proofs.RewritingSteps.Rewritten.{graph_of-steps_any}
 use Rattle.graph_laws.proofs.laws.rewritten_steps_make_no_graph.Goals as goal
 
 pub returns : goal.returns

@@ -1,4 +1,4 @@
-use Rattle.graph_laws.proofs.Unread.{graph_of-read}
+use Rattle.graph_laws.proofs.SameReads.Unread.{graph_of-read}
 use Rattle.graph_laws.proofs.laws.same_words_read_are_the_same_graph.Goals as goal
 
 pub returns : goal.returns

@@ -1,4 +1,4 @@
-use Rattle.graph_laws.proofs.ReferenceCounts.{objects_sorted, reference_count-field}
+use Rattle.graph_laws.proofs.ObjectChanges.ReferenceCounts.{objects_sorted, reference_count-field}
 use Rattle.graph_laws.proofs.laws.set_field_moves_one_reference.Goals as goal
 
 pub returns : goal.returns

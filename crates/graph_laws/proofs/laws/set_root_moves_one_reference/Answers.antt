@@ -1,4 +1,4 @@
-use Rattle.graph_laws.proofs.ReferenceCounts.{reference_count-root}
+use Rattle.graph_laws.proofs.ObjectChanges.ReferenceCounts.{reference_count-root}
 use Rattle.graph_laws.proofs.laws.set_root_moves_one_reference.Goals as goal
 
 pub returns : goal.returns

@@ -1,4 +1,4 @@
-use Rattle.graph_laws.proofs.Roots.{graph_of-root}
+use Rattle.graph_laws.proofs.ObjectChanges.Roots.{graph_of-root}
 use Rattle.graph_laws.proofs.laws.stored_address_is_the_root.Goals as goal
 
 pub returns : goal.returns

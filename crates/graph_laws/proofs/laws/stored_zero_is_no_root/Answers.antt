@@ -1,4 +1,4 @@
-use Rattle.graph_laws.proofs.Roots.{graph_of-no_root}
+use Rattle.graph_laws.proofs.ObjectChanges.Roots.{graph_of-no_root}
 use Rattle.graph_laws.proofs.laws.stored_zero_is_no_root.Goals as goal
 
 pub returns : goal.returns

@@ -6,7 +6,7 @@ use Rattle.pud_defs.specs.Formats.Frames.{frame_at}
 use Rattle.pud_defs.specs.PoolGraphs.Graph.{field_count}
 use Rattle.pud_defs.specs.PoolGraphs.Stored.{stored_in}
 use Rattle.graph_laws.specs.Steps.{pointer_by}
-use Rattle.graph_laws.proofs.Words.{few_fields}
+use Rattle.graph_laws.proofs.SameReads.Words.{few_fields}
 use Rattle.graph_read.proofs.Passing.{field_count-least}
 use Rattle.puddle_header.proofs.Placed.{stored_word}
 use Rattle.lazy_rewrite.specs.Entries.{words_batch}

@@ -5,7 +5,7 @@ use Rattle.pud_defs.specs.PoolGraphs.ExportFile.{words_in, types_used, file_grap
 use Rattle.pud_defs.specs.PoolGraphs.Exported.{exported_words}
 use Rattle.pud_defs.specs.PoolGraphs.Stored.{stored_in}
 use Rattle.pud_defs.specs.RegistryTables.Types.{types_of}
-use Rattle.graph_laws.proofs.Law.{file_graph-exported}
+use Rattle.graph_laws.proofs.Exporting.Law.{file_graph-exported}
 use Rattle.pud_export.specs.Exporting.{types_among}
 use Rattle.pud_export.proofs.Both.{both_ok}
 use Rattle.pud_export.proofs.SlotsRead.{low_bases}

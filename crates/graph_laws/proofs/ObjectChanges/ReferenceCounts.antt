@@ -16,9 +16,9 @@ use Rattle.pud_defs.specs.PoolGraphs.GraphChanges.{blank_value, blank_object, ob
 use Rattle.pud_defs.proofs.KeyedTables.Keyed.{is_sorted-keyed}
 use Rattle.pud_defs.proofs.PoolGraphs.Graphs.{graph_of-each}
 use Rattle.graph_laws.specs.ReferenceCounts.{times_named_by, pointers_to, reference_count}
-use Rattle.graph_laws.proofs.KeyedSums.{sum-put_new, sum-without, sum-put_there}
-use Rattle.graph_laws.proofs.Places.{object_in-place}
-use Rattle.graph_laws.proofs.Words.{place_of_serial-some}
+use Rattle.graph_laws.proofs.ObjectChanges.KeyedSums.{sum-put_new, sum-without, sum-put_there}
+use Rattle.graph_laws.proofs.SameReads.Places.{object_in-place}
+use Rattle.graph_laws.proofs.SameReads.Words.{place_of_serial-some}
 
 -- ---- graphs that are read
 

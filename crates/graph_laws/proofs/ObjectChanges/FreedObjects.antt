@@ -12,9 +12,9 @@ use Rattle.pud_defs.specs.PoolGraphs.Graph.{Table, table_of, contents_or_none, p
 use Rattle.pud_defs.proofs.PoolGraphs.Graphs.{IsGraph, HasGraph, graph_of-each}
 use Rattle.pud_defs.specs.PoolGraphs.GraphChanges.{without_object}
 use Rattle.graph_laws.specs.Changes.{with_word, with_words, with_serial_word}
-use Rattle.graph_laws.proofs.ContentLists.{name_no_serial, names_no_root}
-use Rattle.graph_laws.proofs.TableChanges.{IsUnnamed, find-live, root-unnamed, IsGraph-unnamed, distinct-freed, objects-freed}
-use Rattle.graph_laws.proofs.Words.{slot_word-header, slot_word-there, slot_word-others, same_but, IsLive, place_of_serial-some, graph_of-words}
+use Rattle.graph_laws.proofs.ObjectChanges.ContentLists.{name_no_serial, names_no_root}
+use Rattle.graph_laws.proofs.ObjectChanges.TableChanges.{IsUnnamed, find-live, root-unnamed, IsGraph-unnamed, distinct-freed, objects-freed}
+use Rattle.graph_laws.proofs.SameReads.Words.{slot_word-header, slot_word-there, slot_word-others, same_but, IsLive, place_of_serial-some, graph_of-words}
 
 -- a test that fails of each entry fails of the one that is found
 none_of_found : {X : Type 0} (test : X → Bool) (es : List (ℕ × X)) (k : ℕ) (x : X) → list_any (λ (e : ℕ × X). test e.1) es ≡ false → find nat_cmp k es ≡ Some x → test x ≡ false

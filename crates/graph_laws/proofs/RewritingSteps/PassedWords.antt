@@ -12,7 +12,7 @@ use Rattle.pud_defs.specs.PoolGraphs.Graph.{field_count}
 use Rattle.graph_laws.specs.Changes.{with_words}
 use Rattle.graph_laws.specs.Rewriting.{rewritten, rewritten_field, passes_slot, is_passed, passes_root, RewritesSteps}
 use Rattle.graph_laws.specs.Steps.{pointer_by, slot_pointer, header_pointer, passed_word, with_passed}
-use Rattle.graph_laws.proofs.Words.{few_fields}
+use Rattle.graph_laws.proofs.SameReads.Words.{few_fields}
 
 -- ---- one word of a slot
 

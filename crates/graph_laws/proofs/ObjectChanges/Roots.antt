@@ -9,8 +9,8 @@ use Rattle.pud_defs.proofs.PoolGraphs.Contents.{names_only, pointee_at_within, c
 use Rattle.pud_defs.proofs.PoolGraphs.Graphs.{IsGraph, HasGraph, IsSameTable, IsGraph-same, graph_by-same, graph_of-each}
 use Rattle.pud_defs.specs.PoolGraphs.GraphChanges.{with_root}
 use Rattle.graph_laws.specs.Changes.{IsAddress, with_word, with_words, with_root_word}
-use Rattle.graph_laws.proofs.Words.{with_word-there, with_word-other, slot_contents-same, place_of_serial-some, graph_of-words}
-use Rattle.graph_laws.proofs.Pointers.{pointee_at-null, pointee_at-address}
+use Rattle.graph_laws.proofs.SameReads.Words.{with_word-there, with_word-other, slot_contents-same, place_of_serial-some, graph_of-words}
+use Rattle.graph_laws.proofs.SameReads.Pointers.{pointee_at-null, pointee_at-address}
 
 module _ (types : List (ℕ × ℕ)) (st : Stored) (v : ℕ) where
   abbrev later : ℕ → ℕ → ℕ

@@ -10,7 +10,7 @@ use Rattle.pud_defs.proofs.KeyedTables.Keyed.{HasDistinctKeys, IsSetAt, is_free_
 use Rattle.pud_defs.proofs.PoolGraphs.Graphs.{IsSoundPlace, IsGraph, under_serial-free, under_serial-used, distinct_live, live-alike}
 use Rattle.pud_defs.proofs.PoolGraphs.Contents.{names_only, name_only, stands-same, named_by-same, all_stand-same, values-same}
 use Rattle.pud_defs.specs.PoolGraphs.Stored.{slot_state}
-use Rattle.graph_laws.proofs.ContentLists.{is_other}
+use Rattle.graph_laws.proofs.ObjectChanges.ContentLists.{is_other}
 
 -- ---- a keyed list of which one record is changed, by what stands below its end
 

@@ -17,8 +17,8 @@ use Rattle.pud_defs.specs.RegistryTables.Types.{map_of}
 use Rattle.pud_defs.specs.PoolGraphs.Graph.{field_count}
 use Rattle.pud_defs.specs.PoolGraphs.ExportFile.{file_type_at, file_bases_at, file_frame_at, file_words, file_type, file_types, file_puddle, file_stored}
 use Rattle.pud_defs.specs.PoolGraphs.Exported.{exported_field, exported_object, exported_slot, uuid_number_of, exported_header, exported_frame, type_words, exported_words}
-use Rattle.graph_laws.proofs.Words.{few_fields}
-use Rattle.graph_laws.proofs.Chunks.{length-chunks, chunk, chunk-range, zeroes}
+use Rattle.graph_laws.proofs.SameReads.Words.{few_fields}
+use Rattle.graph_laws.proofs.Exporting.Chunks.{length-chunks, chunk, chunk-range, zeroes}
 
 -- ---- what is stored in a file
 

@@ -19,10 +19,10 @@ use Rattle.pud_defs.proofs.PoolGraphs.Contents.{few_puddles}
 use Rattle.pud_defs.proofs.PoolGraphs.TypeMore.{defined_there}
 use Rattle.pud_defs.proofs.PoolGraphs.Graphs.{IsGraph, HasGraph, graph_of-each}
 use Rattle.graph_laws.specs.Changes.{AreBases}
-use Rattle.graph_laws.proofs.Words.{few_fields}
-use Rattle.graph_laws.proofs.Pointers.{there_is_puddle, target-address}
-use Rattle.graph_laws.proofs.Same.{StandsSame, graph_of-kept, slot_contents-stands}
-use Rattle.graph_laws.proofs.Pieces.{at_rest, IsExported, slot-free, slot-live, object_field}
+use Rattle.graph_laws.proofs.SameReads.Words.{few_fields}
+use Rattle.graph_laws.proofs.SameReads.Pointers.{there_is_puddle, target-address}
+use Rattle.graph_laws.proofs.SameReads.Same.{StandsSame, graph_of-kept, slot_contents-stands}
+use Rattle.graph_laws.proofs.Exporting.Pieces.{at_rest, IsExported, slot-free, slot-live, object_field}
 
 -- ---- puddles at rest
 

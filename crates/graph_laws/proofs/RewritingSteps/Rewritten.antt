@@ -18,9 +18,9 @@ use Rattle.pud_defs.proofs.PoolGraphs.Graphs.{graph_of-each}
 use Rattle.graph_laws.specs.Changes.{AreBases}
 use Rattle.pud_defs.specs.RegistryTables.Puddles.{moved_to}
 use Rattle.graph_laws.specs.Rewriting.{rewritten, rewritten_field, with_some_puddle, with_frontier, advanced, passes_slot, is_passed, passes_root, RewritesSteps, anywhere, LeadSomewhere}
-use Rattle.graph_laws.proofs.Words.{slot_contents-each, has_header-same}
-use Rattle.graph_laws.proofs.Pointers.{target-address}
-use Rattle.graph_laws.proofs.Same.{StandsSame, graph_of-same, list_all-range_each}
+use Rattle.graph_laws.proofs.SameReads.Words.{slot_contents-each, has_header-same}
+use Rattle.graph_laws.proofs.SameReads.Pointers.{target-address}
+use Rattle.graph_laws.proofs.SameReads.Same.{StandsSame, graph_of-same, list_all-range_each}
 
 -- ---- a list of which one is set
 

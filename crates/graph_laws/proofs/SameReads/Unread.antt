@@ -8,8 +8,8 @@ use Rattle.pud_defs.specs.PoolGraphs.Stored.{Stored, places_of, place_word, plac
 use Rattle.pud_defs.specs.PoolGraphs.Graph.{slot_contents, field_count, pointee_at, graph_of}
 use Rattle.graph_laws.specs.Changes.{with_word, with_words, with_slot_word}
 use Rattle.graph_laws.specs.Reads.{ReadsSame}
-use Rattle.graph_laws.proofs.Words.{with_word-other, slot_word-header, slot_word-other, headers_fit-same, slot_contents-same, few_fields}
-use Rattle.graph_laws.proofs.Same.{StandsSame, graph_of-same}
+use Rattle.graph_laws.proofs.SameReads.Words.{with_word-other, slot_word-header, slot_word-other, headers_fit-same, slot_contents-same, few_fields}
+use Rattle.graph_laws.proofs.SameReads.Same.{StandsSame, graph_of-same}
 
 pub stands_same : (types : List (ℕ × ℕ)) (st : Stored) (word : ℕ → ℕ → ℕ) → ReadsSame types st word → StandsSame types st (with_words word st)
 stands_same types st word h = record {

@@ -10,7 +10,7 @@ use Rattle.pud_defs.specs.PoolGraphs.Stored.{stored_in, word_in_frame}
 use Rattle.pud_defs.proofs.Formats.Images.{written_there, written_other}
 use Rattle.graph_laws.specs.Changes.{with_word, with_words}
 use Rattle.graph_laws.specs.Reads.{AgreeOnFrames, HasDistinctFrames}
-use Rattle.graph_laws.proofs.Words.{with_word-there, with_word-other}
+use Rattle.graph_laws.proofs.SameReads.Words.{with_word-there, with_word-other}
 
 pub word_in_frame-same : (F : ℕ) (i j : Image) (k : ℕ) (e : Option (ℕ × Puddle)) → ((d : ℕ × Puddle) → e ≡ Some d → k < FRAME_WORDS → frame_word F d.0 k j ≡ frame_word F d.0 k i) → word_in_frame F j k e ≡ word_in_frame F i k e
 word_in_frame-same F i j k None same = refl

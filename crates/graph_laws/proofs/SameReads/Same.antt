@@ -9,7 +9,7 @@ use Rattle.pud_defs.specs.PoolGraphs.Stored.{Stored, places_of, place_word}
 use Rattle.pud_defs.specs.PoolGraphs.Graph.{Content, table_of, slot_contents, content, field_count, stands, all_stand, headers_fit, Graph, next_serial_of, root_of, graph_by, graph_of}
 use Rattle.pud_defs.proofs.PoolGraphs.Contents.{pointee_at_within, contents_by_within}
 use Rattle.pud_defs.proofs.PoolGraphs.Graphs.{IsGraph, IsSameTable, IsGraph-same, graph_by-same, graph_of-each, graph_of-from}
-use Rattle.graph_laws.proofs.Words.{map-range_same}
+use Rattle.graph_laws.proofs.SameReads.Words.{map-range_same}
 
 -- ---- fields that stand
 

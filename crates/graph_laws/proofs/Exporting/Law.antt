@@ -15,11 +15,11 @@ use Rattle.pud_defs.specs.PoolGraphs.Graph.{Graph, graph_of}
 use Rattle.pud_defs.specs.PoolGraphs.ExportFile.{words_in, file_words, file_types, file_stored, has_file_header, are_file_types, under_base, are_file_bases, is_plain, is_file, types_used, FileContents, contents_with, contents_by, contents_of, file_graph}
 use Rattle.pud_defs.specs.PoolGraphs.Exported.{exported_words, IsExportable}
 use Rattle.graph_laws.specs.Changes.{AreBases}
-use Rattle.graph_laws.proofs.Pieces.{at_rest, IsExported, length-words, types_read, is_exported}
-use Rattle.graph_laws.proofs.BasesApart.{are_bases}
-use Rattle.graph_laws.proofs.Moved.{graph_of-exported}
-use Rattle.graph_laws.proofs.UsedTypes.{graph_of-used, length-types_used, types_used-all, types_used-legal}
-use Rattle.graph_laws.proofs.Plain.{is_plain-exported}
+use Rattle.graph_laws.proofs.Exporting.Pieces.{at_rest, IsExported, length-words, types_read, is_exported}
+use Rattle.graph_laws.proofs.Exporting.BasesApart.{are_bases}
+use Rattle.graph_laws.proofs.Exporting.Moved.{graph_of-exported}
+use Rattle.graph_laws.proofs.SameReads.UsedTypes.{graph_of-used, length-types_used, types_used-all, types_used-legal}
+use Rattle.graph_laws.proofs.Exporting.Plain.{is_plain-exported}
 
 -- ---- bases at rest
 

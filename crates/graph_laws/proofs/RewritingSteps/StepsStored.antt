@@ -17,9 +17,9 @@ use Rattle.graph_laws.specs.Reads.{HasDistinctFrames}
 use Rattle.pud_defs.specs.RegistryTables.Puddles.{moved_to, frontier_word}
 use Rattle.graph_laws.specs.Rewriting.{with_some_puddle, with_frontier, advanced, passes_slot, LeadSomewhere}
 use Rattle.graph_laws.specs.Steps.{passed_word, with_passed, is_in_frame, steps_write, steps_in, with_steps}
-use Rattle.graph_laws.proofs.Rewritten.{slice_get-set_there, slice_get-set_other, map-set, LeadSomewhere-graph, graph_of-steps_any}
-use Rattle.graph_laws.proofs.StoredImages.{word_in_frame-same}
-use Rattle.graph_laws.proofs.PassedWords.{RewritesSteps-passed}
+use Rattle.graph_laws.proofs.RewritingSteps.Rewritten.{slice_get-set_there, slice_get-set_other, map-set, LeadSomewhere-graph, graph_of-steps_any}
+use Rattle.graph_laws.proofs.SameReads.StoredImages.{word_in_frame-same}
+use Rattle.graph_laws.proofs.RewritingSteps.PassedWords.{RewritesSteps-passed}
 
 -- ---- the three kinds of words
 

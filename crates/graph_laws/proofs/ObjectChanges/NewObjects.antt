@@ -14,10 +14,10 @@ use Rattle.pud_defs.proofs.PoolGraphs.Contents.{list_all-range}
 use Rattle.pud_defs.proofs.PoolGraphs.Graphs.{HasGraph, graph_of-each}
 use Rattle.pud_defs.specs.PoolGraphs.GraphChanges.{blank_value, blank_object, with_new}
 use Rattle.graph_laws.specs.Changes.{with_words, IsMade}
-use Rattle.graph_laws.proofs.ContentLists.{names_no_free, name_no_free}
-use Rattle.graph_laws.proofs.TableChanges.{IsSameBut, IsUnnamed, root-unnamed, IsGraph-unnamed, distinct-new, objects-new}
-use Rattle.graph_laws.proofs.Words.{map-range_same, KeepsOthers, same_but, graph_of-words}
-use Rattle.graph_laws.proofs.Pointers.{pointee_at-null}
+use Rattle.graph_laws.proofs.ObjectChanges.ContentLists.{names_no_free, name_no_free}
+use Rattle.graph_laws.proofs.ObjectChanges.TableChanges.{IsSameBut, IsUnnamed, root-unnamed, IsGraph-unnamed, distinct-new, objects-new}
+use Rattle.graph_laws.proofs.SameReads.Words.{map-range_same, KeepsOthers, same_but, graph_of-words}
+use Rattle.graph_laws.proofs.SameReads.Pointers.{pointee_at-null}
 
 -- ---- fields of 0
 

@@ -12,10 +12,10 @@ use Rattle.pud_defs.specs.PoolGraphs.Exported.{address_of, uuid_number_of, for_p
 use Rattle.pud_defs.proofs.RegistryTables.Spaces.{all_below-from}
 use Rattle.pud_defs.proofs.PoolGraphs.Graphs.{graph_of-each}
 use Rattle.graph_laws.specs.Changes.{AreBases}
-use Rattle.graph_laws.proofs.Chunks.{zeroes}
-use Rattle.graph_laws.proofs.Pieces.{at_rest, IsExported, slot-free, slot-live, object_rest}
-use Rattle.graph_laws.proofs.Moved.{map_there, serial-moved, type-moved}
-use Rattle.graph_laws.proofs.UsedTypes.{map_of-live}
+use Rattle.graph_laws.proofs.Exporting.Chunks.{zeroes}
+use Rattle.graph_laws.proofs.Exporting.Pieces.{at_rest, IsExported, slot-free, slot-live, object_rest}
+use Rattle.graph_laws.proofs.Exporting.Moved.{map_there, serial-moved, type-moved}
+use Rattle.graph_laws.proofs.SameReads.UsedTypes.{map_of-live}
 
 pub is_zero-from : (word : ℕ → ℕ) (from end : ℕ) → ((k : ℕ) → from ≤ k → k < end → word k ≡ 0) → is_zero word from end ≡ true
 is_zero-from word from end each = all_below-from (end - from) (λ i. eqb (word (from + i)) 0) (λ i below. eq-eqb _ 0 (each (from + i) (omega arith) (omega arith)))

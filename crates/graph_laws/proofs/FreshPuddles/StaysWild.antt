@@ -16,9 +16,9 @@ use Rattle.pud_defs.proofs.RegistryTables.Spaces.{all_below-each, all_below-from
 use Rattle.pud_defs.proofs.PoolGraphs.Contents.{name_only, names_only, place_in_within, pointee_at_within, contents_by_within}
 use Rattle.pud_defs.proofs.PoolGraphs.Graphs.{IsGraph, IsSameTable, IsGraph-same, graph_of-each, graph_of-from}
 use Rattle.graph_laws.specs.Reads.{with_puddle, IsGrown}
-use Rattle.graph_laws.proofs.Words.{has_header-same}
-use Rattle.graph_laws.proofs.Same.{slot_contents-stands}
-use Rattle.graph_laws.proofs.Grown.{slice_get-front}
+use Rattle.graph_laws.proofs.SameReads.Words.{has_header-same}
+use Rattle.graph_laws.proofs.SameReads.Same.{slot_contents-stands}
+use Rattle.graph_laws.proofs.FreshPuddles.Grown.{slice_get-front}
 
 -- ---- pointers over fewer bases
 

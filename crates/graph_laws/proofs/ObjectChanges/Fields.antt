@@ -17,10 +17,10 @@ use Rattle.pud_defs.specs.PoolGraphs.Graph.{Content, Number, Table, table_of, sl
 use Rattle.pud_defs.proofs.PoolGraphs.Graphs.{HasGraph, graph_of-each}
 use Rattle.pud_defs.specs.PoolGraphs.GraphChanges.{object_with, with_some_object, with_field}
 use Rattle.graph_laws.specs.Changes.{IsAddress, IsField, with_field_word, with_word, with_words}
-use Rattle.graph_laws.proofs.ContentLists.{list_all-set}
-use Rattle.graph_laws.proofs.TableChanges.{IsSameBut, find-live, serials_still, IsGraph-in_place, objects-in_place}
-use Rattle.graph_laws.proofs.Words.{slot_word-header, slot_word-there, slot_word-other, slot_word-others, few_fields, same_but, IsLive, place_of_serial-some, graph_of-words}
-use Rattle.graph_laws.proofs.Pointers.{pointee_at-null, pointee_at-address}
+use Rattle.graph_laws.proofs.ObjectChanges.ContentLists.{list_all-set}
+use Rattle.graph_laws.proofs.ObjectChanges.TableChanges.{IsSameBut, find-live, serials_still, IsGraph-in_place, objects-in_place}
+use Rattle.graph_laws.proofs.SameReads.Words.{slot_word-header, slot_word-there, slot_word-other, slot_word-others, few_fields, same_but, IsLive, place_of_serial-some, graph_of-words}
+use Rattle.graph_laws.proofs.SameReads.Pointers.{pointee_at-null, pointee_at-address}
 
 -- one of the values of a range is another
 map-range_set : {X : Type 0} (f g : ℕ → X) (n i : ℕ) → ((k : ℕ) → k < n → (k ≡ i → ⊥) → f k ≡ g k) → map f (range_with_len 0 n) ≡ set (map g (range_with_len 0 n)) i (f i)

@@ -5,8 +5,8 @@ use Rattle.pud_defs.specs.Formats.Geometry.{ordinal_of}
 use Rattle.pud_defs.specs.PoolGraphs.Stored.{Stored, place_begins}
 use Rattle.pud_defs.specs.PoolGraphs.Graph.{graph_of}
 use Rattle.graph_laws.specs.Changes.{with_words}
-use Rattle.graph_laws.proofs.Words.{few_fields}
-use Rattle.graph_laws.proofs.Unread.{graph_of-read}
+use Rattle.graph_laws.proofs.SameReads.Words.{few_fields}
+use Rattle.graph_laws.proofs.SameReads.Unread.{graph_of-read}
 
 pub graph_of-within : (types : List (ℕ × ℕ)) (st : Stored) (word : ℕ → ℕ → ℕ) → 0 < length st.puddles → ((o k : ℕ) → o < length st.puddles → k < FRAME_WORDS → word o k ≡ st.word o k) → graph_of types (with_words word st) ≡ graph_of types st
 graph_of-within types st word some same = graph_of-read types st word (record {

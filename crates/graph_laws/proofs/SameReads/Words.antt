@@ -21,7 +21,7 @@ use Rattle.pud_defs.proofs.RegistryTables.TypeLists.{same_test}
 use Rattle.pud_defs.proofs.KeyedTables.Keyed.{first_from_some}
 use Rattle.pud_defs.proofs.PoolGraphs.Graphs.{under_serial-free, under_serial-used, IsGraph, graph_of-from}
 use Rattle.graph_laws.specs.Changes.{with_word, with_words, with_slot_word}
-use Rattle.graph_laws.proofs.TableChanges.{IsSameBut}
+use Rattle.graph_laws.proofs.ObjectChanges.TableChanges.{IsSameBut}
 
 -- ---- one word
 

@@ -12,9 +12,9 @@ use Rattle.pud_defs.specs.PoolGraphs.Stored.{Stored, places_of, place_begins, pl
 use Rattle.pud_defs.specs.PoolGraphs.Graph.{Content, Number, Null, slot_contents, slot_in, place_in, at_place, target, over_old, puddles_by, pointee_at, content, field_count, Graph, graph_of}
 use Rattle.pud_defs.proofs.PoolGraphs.Graphs.{graph_of-each}
 use Rattle.graph_laws.specs.Placed.{ArePlacedFrames, AreFrontiers, KeepsBases, MovesBases}
-use Rattle.graph_laws.proofs.Words.{few_fields, map-range_same}
-use Rattle.graph_laws.proofs.Pointers.{there_is_puddle}
-use Rattle.graph_laws.proofs.Same.{graph_of-kept}
+use Rattle.graph_laws.proofs.SameReads.Words.{few_fields, map-range_same}
+use Rattle.graph_laws.proofs.SameReads.Pointers.{there_is_puddle}
+use Rattle.graph_laws.proofs.SameReads.Same.{graph_of-kept}
 
 -- ---- pointers
 

@@ -19,8 +19,8 @@ use Rattle.pud_defs.proofs.PoolGraphs.Contents.{pointee_at_within, contents_by_w
 use Rattle.pud_defs.proofs.PoolGraphs.Graphs.{under_serial-free, IsGraph, IsSameTable, IsGraph-same, graph_by-same, graph_of-each, graph_of-from}
 use Rattle.graph_laws.specs.Reads.{with_puddle, IsGrown}
 use Rattle.graph_laws.specs.Changes.{with_words}
-use Rattle.graph_laws.proofs.Words.{has_header-same}
-use Rattle.graph_laws.proofs.Same.{slot_contents-stands}
+use Rattle.graph_laws.proofs.SameReads.Words.{has_header-same}
+use Rattle.graph_laws.proofs.SameReads.Same.{slot_contents-stands}
 
 -- ---- a list with one more at its end
 

@@ -1,0 +1,3 @@
+-- Worked examples of the definitions, proved by computation.
+pub mod Graphs
+pub mod Steps

@@ -1,0 +1,3 @@
+-- A fresh puddle behind the others.
+pub mod Grown
+pub mod StaysWild
