@@ -10,10 +10,10 @@ use Rattle.known_pool.proofs.KnownKept.{IsKnown-puddles}
 use Rattle.ready_daemon.specs.PoolKnowledge.{known_puddles_in}
 use Rattle.ready_daemon.specs.Memory.{ActiveTransaction, Memory, with_active}
 use Rattle.ready_daemon.specs.Ready.{IsReady}
-use Rattle.ready_daemon.proofs.Applying.{IsReady-anew}
-use Rattle.ready_daemon.proofs.KnownOpen.{known_within}
-use Rattle.ready_daemon.proofs.ActiveUnder.{active_same}
-use Rattle.ready_daemon.proofs.Known.{pool_kept}
+use Rattle.ready_daemon.proofs.Commands.Applying.{IsReady-anew}
+use Rattle.ready_daemon.proofs.PoolsKnown.KnownOpen.{known_within}
+use Rattle.ready_daemon.proofs.OpenTransactions.ActiveUnder.{active_same}
+use Rattle.ready_daemon.proofs.PoolsKnown.Known.{pool_kept}
 use Rattle.pool_transaction.specs.Changing.{IsActiveIn, IsActiveWith, with_known, with_opened}
 
 -- the memory that knows the puddles of the pool in a slot, and nothing else of it

@@ -22,7 +22,7 @@ use Rattle.hybrid_tx.proofs.Open.ManyMasks.{open_masks_all, masks_of_record}
 use Rattle.hybrid_tx.proofs.Open.ManyIdle.{one_ended, one_put, others_open, others_records, opens_more, records_more, masks_elsewhere, masks_changed}
 use Rattle.ready_daemon.specs.Memory.{ActiveTransaction, active_under}
 use Rattle.ready_daemon.specs.ActiveTransactions.{open_transaction_of, IsActive, IsActiveUnder, AreActive, HasDurableFrames, HasIdleLogs, ByOthers}
-use Rattle.ready_daemon.proofs.Beside.{KeepsOne, others_apart, active_still, records_all}
+use Rattle.ready_daemon.proofs.Commands.Beside.{KeepsOne, others_apart, active_still, records_all}
 use Rattle.pool_transaction.proofs.OwnMore.{IsMaskedMore, masked_more, one_more, OpensAnew}
 
 -- the same world has the same of each

@@ -12,8 +12,8 @@ use Rattle.nesting.specs.Sessions.{session_in}
 use Rattle.pool_transaction.specs.Changing.{StaysOpen}
 use Rattle.ready_daemon.specs.Memory.{ActiveTransaction, active_under}
 use Rattle.ready_daemon.specs.ActiveTransactions.{IsActiveUnder, IsOpenUnder, IsActiveOn, AreActive, HasSessions}
-use Rattle.ready_daemon.proofs.ActiveUnder.{active_within, active_here, active_there, active_then}
-use Rattle.ready_daemon.proofs.OpenNames.{WereOpen}
+use Rattle.ready_daemon.proofs.OpenTransactions.ActiveUnder.{active_within, active_here, active_there, active_then}
+use Rattle.ready_daemon.proofs.OpenTransactions.OpenNames.{WereOpen}
 
 -- One on the pool of this one is held under the number.
 pub record HoldsSame (active : List (Option ActiveTransaction)) (number : ℕ) (now : ActiveTransaction) : Type 0 where

@@ -44,22 +44,22 @@ use Rattle.hybrid_tx.proofs.Objects.Opening.{stored_in-has_word}
 use Rattle.hybrid_tx.proofs.Open.OpenMasks.{mask_of_mine}
 use Rattle.hybrid_tx.proofs.PoolScope.{pool_has_word-each}
 use Rattle.hybrid_tx.proofs.FinishedPuddles.{none_of_finished}
-use Rattle.ready_daemon.proofs.RestBeside.{rest_unmasked}
+use Rattle.ready_daemon.proofs.PoolChanges.RestBeside.{rest_unmasked}
 use Rattle.ready_daemon.specs.Memory.{ActiveTransaction, Memory, active_under, with_active}
 use Rattle.ready_daemon.specs.Leaving.{BehindTables, world_without_log}
 use Rattle.ready_daemon.specs.ActiveTransactions.{open_pool_of, IsActive, IsOwnTransaction}
 use Rattle.ready_daemon.specs.Ready.{IsReady, Applies}
-use Rattle.ready_daemon.proofs.Applying.{Applies-idle}
-use Rattle.ready_daemon.proofs.Beneath.{table_reads}
-use Rattle.ready_daemon.proofs.Beside.{daemon_log_unmasked}
-use Rattle.ready_daemon.proofs.Committing.{idle_world_with_graph}
+use Rattle.ready_daemon.proofs.Commands.Applying.{Applies-idle}
+use Rattle.ready_daemon.proofs.Commands.Beneath.{table_reads}
+use Rattle.ready_daemon.proofs.Commands.Beside.{daemon_log_unmasked}
+use Rattle.ready_daemon.proofs.OpenTransactions.Committing.{idle_world_with_graph}
 use Rattle.pool_transaction.specs.Lifetime.{with_ended}
 use Rattle.pool_transaction.proofs.Ending.{EndsBy-closes, EndsBy-ends, mixed, is_active, own, rest, more, rest_masks, later, all_later, later_more, later_masks, records_there, idle_there, world_there, world_before, Applies-ended}
 use Rattle.pool_transaction.proofs.ActiveRuns.{active_placed}
-use Rattle.ready_daemon.proofs.InTurn.{active_in_turn}
-use Rattle.ready_daemon.proofs.PoolsApart.{found_beside_put}
-use Rattle.ready_daemon.proofs.PoolsBeside.{used_still}
-use Rattle.ready_daemon.proofs.TablesBeside.{header_read}
+use Rattle.ready_daemon.proofs.PoolChanges.InTurn.{active_in_turn}
+use Rattle.ready_daemon.proofs.PoolChanges.PoolsApart.{found_beside_put}
+use Rattle.ready_daemon.proofs.PoolChanges.PoolsBeside.{used_still}
+use Rattle.ready_daemon.proofs.PoolChanges.TablesBeside.{header_read}
 
 -- ---- pools of other names
 

@@ -36,13 +36,13 @@ use Rattle.known_pool.specs.Known.{by_puddles}
 use Rattle.ready_daemon.specs.PoolKnowledge.{puddles_known, known_puddles_in, KnowsAlone}
 use Rattle.ready_daemon.specs.Moves.{Stays, MovesTo, led_in}
 use Rattle.ready_daemon.specs.Ready.{IsReady, AppliesBy, Applies}
-use Rattle.ready_daemon.proofs.Applying.{Applies-closed, AppliesBy-then}
-use Rattle.ready_daemon.proofs.Beneath.{ready_gate}
-use Rattle.ready_daemon.proofs.Goals.{Joins-led_stays}
-use Rattle.ready_daemon.proofs.InTurn.{active_known, known_in_turn}
-use Rattle.ready_daemon.proofs.KnownOpen.{known_within}
-use Rattle.ready_daemon.proofs.Known.{pool_kept}
-use Rattle.ready_daemon.proofs.TablesBeside.{sound_read}
+use Rattle.ready_daemon.proofs.Commands.Applying.{Applies-closed, AppliesBy-then}
+use Rattle.ready_daemon.proofs.Commands.Beneath.{ready_gate}
+use Rattle.ready_daemon.proofs.PoolChanges.Goals.{Joins-led_stays}
+use Rattle.ready_daemon.proofs.PoolChanges.InTurn.{active_known, known_in_turn}
+use Rattle.ready_daemon.proofs.PoolsKnown.KnownOpen.{known_within}
+use Rattle.ready_daemon.proofs.PoolsKnown.Known.{pool_kept}
+use Rattle.ready_daemon.proofs.PoolChanges.TablesBeside.{sound_read}
 use Rattle.pool_transaction.specs.Changing.{both_finished}
 use Rattle.pool_transaction.specs.Finishing.{AppliesTo}
 use Rattle.pool_transaction.proofs.Arriving.{AreEnds, AppliesBy-used, narrowed, AppliesTo-known}

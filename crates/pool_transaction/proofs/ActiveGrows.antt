@@ -57,7 +57,7 @@ use Rattle.pud_defs.specs.Formats.Geometry.{steps_of, ordinal_of, slot_of, puddl
 use Rattle.graph_laws.proofs.SameReads.StoredImages.{stored_in-same}
 use Rattle.hybrid_tx.proofs.PoolScope.{pool_has_word-from}
 use Rattle.pool_transaction.specs.Finishing.{IsLonger}
-use Rattle.ready_daemon.proofs.RestBeside.{rest_by_words, active_graph}
+use Rattle.ready_daemon.proofs.PoolChanges.RestBeside.{rest_by_words, active_graph}
 use Rattle.ready_daemon.specs.Memory.{ActiveTransaction, Memory, active_under}
 use Rattle.ready_daemon.specs.ActiveTransactions.{open_transaction_of, IsActive, IsActiveUnder, AreActive, HasDurableFrames, ByOthers, LeavesMasked}
 use Rattle.ready_daemon.specs.KnownPools.{KnowsPools}
@@ -67,21 +67,21 @@ use Rattle.ready_daemon.specs.PoolKnowledge.{puddles_known, KnowsAlone}
 use Rattle.pool_transaction.specs.Changing.{with_opened, GrowsBy, with_puddle_added}
 use Rattle.ready_daemon.specs.Moves.{Stays, LeavesPuddles}
 use Rattle.ready_daemon.specs.Ready.{IsReady, StandsBetween, AppliesMasked, Applies}
-use Rattle.ready_daemon.proofs.Beside.{KeepsOne, holds_still, durable_frames_still, moments_beside}
-use Rattle.ready_daemon.proofs.Beneath.{ready_gate, keeps_tables}
-use Rattle.ready_daemon.proofs.PoolsBeside.{used_still}
-use Rattle.ready_daemon.proofs.RecordsApart.{LeavesPuddles-adds}
-use Rattle.ready_daemon.proofs.PoolsApart.{frame_below, found_beside_put, LeavesMasked-adds, AppliesMasked-pools}
-use Rattle.ready_daemon.proofs.TablesBeside.{HasDurableTables-masked, mask_beside, header_read, tables_read, under_durable}
+use Rattle.ready_daemon.proofs.Commands.Beside.{KeepsOne, holds_still, durable_frames_still, moments_beside}
+use Rattle.ready_daemon.proofs.Commands.Beneath.{ready_gate, keeps_tables}
+use Rattle.ready_daemon.proofs.PoolChanges.PoolsBeside.{used_still}
+use Rattle.ready_daemon.proofs.PoolChanges.RecordsApart.{LeavesPuddles-adds}
+use Rattle.ready_daemon.proofs.PoolChanges.PoolsApart.{frame_below, found_beside_put, LeavesMasked-adds, AppliesMasked-pools}
+use Rattle.ready_daemon.proofs.PoolChanges.TablesBeside.{HasDurableTables-masked, mask_beside, header_read, tables_read, under_durable}
 use Rattle.pool_transaction.proofs.ActiveRuns.{is_active}
 use Rattle.pool_transaction.proofs.ActivePools.{its_pool, its_graph, count_active, puddles_counted, some_active}
-use Rattle.ready_daemon.proofs.AllMembers.{all_members}
-use Rattle.ready_daemon.proofs.GraphLonger.{graph_longer}
-use Rattle.ready_daemon.proofs.InTurn.{active_known, active_in_turn}
-use Rattle.ready_daemon.proofs.KnownOpen.{IsShut, KnowsPools-grown}
-use Rattle.ready_daemon.proofs.KnownJudged.{KeepsPools-grow, words_grow}
-use Rattle.ready_daemon.proofs.PoolsGrown.{off_growing, grown_read}
-use Rattle.ready_daemon.proofs.KnownKept.{HasGraphIn, KeepsPools}
+use Rattle.ready_daemon.proofs.PoolChanges.AllMembers.{all_members}
+use Rattle.ready_daemon.proofs.PoolChanges.GraphLonger.{graph_longer}
+use Rattle.ready_daemon.proofs.PoolChanges.InTurn.{active_known, active_in_turn}
+use Rattle.ready_daemon.proofs.PoolsKnown.KnownOpen.{IsShut, KnowsPools-grown}
+use Rattle.ready_daemon.proofs.PoolsKnown.KnownJudged.{KeepsPools-grow, words_grow}
+use Rattle.ready_daemon.proofs.PoolChanges.PoolsGrown.{off_growing, grown_read}
+use Rattle.ready_daemon.proofs.PoolsKnown.KnownKept.{HasGraphIn, KeepsPools}
 use Rattle.pud_defs.specs.RegistryTables.Puts.{member_by, with_puddle_at}
 use Rattle.pud_defs.specs.declared.records.TheConstants.{POOL_RECORDS}
 use Rattle.pool_transaction.proofs.Widened.{GrowsHeld, opened_more, wide, holds_more, sessions_more, settled_more, rest_more, logs_more}

@@ -18,16 +18,16 @@ use Rattle.pud_defs.specs.StateMachine.World.{World, closed, open_on}
 use Rattle.pud_defs.proofs.StateMachine.Steps.{refused_answer}
 use Rattle.known_pool.specs.Known.{Known, by_puddles}
 use Rattle.ready_daemon.specs.PoolKnowledge.{puddles_known, KnowsAlone}
-use Rattle.ready_daemon.proofs.Known.{pool_kept}
+use Rattle.ready_daemon.proofs.PoolsKnown.Known.{pool_kept}
 use Rattle.ready_daemon.specs.Memory.{ActiveTransaction, Memory, active_under, with_active}
 use Rattle.registry.specs.declared.adding.NewPuddle.{NewPuddle}
 use Rattle.pool_transaction.specs.Changing.{IsActiveIn, with_opened, refusal_by_tables, GrowsBy, refusal_by_world, with_puddle_added, with_made}
 use Rattle.ready_daemon.specs.Moves.{led_in}
 use Rattle.ready_daemon.specs.Ready.{IsReady, Applies}
-use Rattle.ready_daemon.proofs.Applying.{Applies-refused, Applies-stopped, Applies-closed}
-use Rattle.ready_daemon.proofs.InTurn.{active_known}
-use Rattle.ready_daemon.proofs.KnownOpen.{known_within}
-use Rattle.ready_daemon.proofs.ActiveUnder.{active_within, active_here, active_same}
+use Rattle.ready_daemon.proofs.Commands.Applying.{Applies-refused, Applies-stopped, Applies-closed}
+use Rattle.ready_daemon.proofs.PoolChanges.InTurn.{active_known}
+use Rattle.ready_daemon.proofs.PoolsKnown.KnownOpen.{known_within}
+use Rattle.ready_daemon.proofs.OpenTransactions.ActiveUnder.{active_within, active_here, active_same}
 use Rattle.pool_transaction.specs.Finishing.{FinishesUnless, AppliesTo, AppliesFinishing}
 use Rattle.pool_transaction.proofs.ActiveGrows.{grown_frames}
 use Rattle.pool_transaction.proofs.Leading.{known_so, AppliesTo-then, finishing_failed, finishing_refused, finishing_unless, finishing_stopped}

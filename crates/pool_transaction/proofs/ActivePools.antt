@@ -23,9 +23,9 @@ use Rattle.registry.proofs.PuddlesCounted.{puddle_count_by_world}
 use Rattle.ready_daemon.specs.Memory.{ActiveTransaction, Memory, active_under}
 use Rattle.ready_daemon.specs.ActiveTransactions.{IsActive}
 use Rattle.ready_daemon.specs.Ready.{IsReady}
-use Rattle.ready_daemon.proofs.InTurn.{active_in_turn}
-use Rattle.ready_daemon.proofs.PoolsBeside.{used_still}
-use Rattle.ready_daemon.proofs.TablesBeside.{tables_read, world_under, sound_read}
+use Rattle.ready_daemon.proofs.PoolChanges.InTurn.{active_in_turn}
+use Rattle.ready_daemon.proofs.PoolChanges.PoolsBeside.{used_still}
+use Rattle.ready_daemon.proofs.PoolChanges.TablesBeside.{tables_read, world_under, sound_read}
 use Rattle.pool_transaction.proofs.ActiveRuns.{is_active}
 
 -- a pool that has this graph

@@ -29,7 +29,7 @@ use Rattle.hybrid_tx.specs.Objects.Transactions.{OpenTx, KeepsOpenOn}
 use Rattle.hybrid_tx.proofs.Open.OpenMasks.{open_record_place, mine_behind}
 use Rattle.hybrid_tx.proofs.Open.OpenPools.{open_on_device, placed_by_tables}
 use Rattle.pool_transaction.specs.Changing.{StaysOpen}
-use Rattle.ready_daemon.proofs.RestBeside.{active_graph}
+use Rattle.ready_daemon.proofs.PoolChanges.RestBeside.{active_graph}
 use Rattle.known_pool.specs.Known.{Known, by_puddles}
 use Rattle.known_pool.proofs.KnownKept.{IsKnown-puddles}
 use Rattle.ready_daemon.specs.PoolKnowledge.{KnowsAlone}
@@ -37,16 +37,16 @@ use Rattle.ready_daemon.specs.Memory.{ActiveTransaction, Memory, active_under, w
 use Rattle.ready_daemon.specs.ActiveTransactions.{open_pool_of, open_transaction_of, IsActive, IsActiveUnder, AreActive, HasDurableFrames, HasIdleLogs}
 use Rattle.ready_daemon.specs.KnownPools.{KnowsPools}
 use Rattle.ready_daemon.specs.Ready.{IsReady, RefusesNone, StandsBetween, Applies}
-use Rattle.ready_daemon.proofs.Beside.{IsApart, KeepsOne, Leaves-from, log_masked, own_masked, record_picked, left_apart, left_all, under_left, own_apart, active_still, names_none_idle, ready_idle}
-use Rattle.ready_daemon.proofs.Beneath.{ready_gate}
-use Rattle.ready_daemon.proofs.PuddlesLeft.{LeavesPuddles-behind}
-use Rattle.ready_daemon.proofs.OpenNames.{changed_there, changed_elsewhere, WereOpen, WereOpen-changed, Charges}
+use Rattle.ready_daemon.proofs.Commands.Beside.{IsApart, KeepsOne, Leaves-from, log_masked, own_masked, record_picked, left_apart, left_all, under_left, own_apart, active_still, names_none_idle, ready_idle}
+use Rattle.ready_daemon.proofs.Commands.Beneath.{ready_gate}
+use Rattle.ready_daemon.proofs.PoolChanges.PuddlesLeft.{LeavesPuddles-behind}
+use Rattle.ready_daemon.proofs.OpenTransactions.OpenNames.{changed_there, changed_elsewhere, WereOpen, WereOpen-changed, Charges}
 use Rattle.pool_transaction.proofs.ActiveChanged.{Holds-later, HasSessions-later}
-use Rattle.ready_daemon.proofs.PoolsBeside.{one_slot}
-use Rattle.ready_daemon.proofs.InTurn.{active_in_turn}
-use Rattle.ready_daemon.proofs.KnownKept.{HasGraphIn}
-use Rattle.ready_daemon.proofs.KnownOpen.{KeepsPools-active, graph_active_in, KnowsPools-later, rest_active}
-use Rattle.ready_daemon.proofs.TablesBeside.{sound_read, types_read}
+use Rattle.ready_daemon.proofs.PoolChanges.PoolsBeside.{one_slot}
+use Rattle.ready_daemon.proofs.PoolChanges.InTurn.{active_in_turn}
+use Rattle.ready_daemon.proofs.PoolsKnown.KnownKept.{HasGraphIn}
+use Rattle.ready_daemon.proofs.PoolsKnown.KnownOpen.{KeepsPools-active, graph_active_in, KnowsPools-later, rest_active}
+use Rattle.ready_daemon.proofs.PoolChanges.TablesBeside.{sound_read, types_read}
 
 -- it, with this transaction on the pool's objects
 abbrev pub with_tx : OpenTx → ActiveTransaction → ActiveTransaction

@@ -23,7 +23,7 @@ use Rattle.ready_daemon.specs.ActiveTransactions.{IsActive}
 use Rattle.ready_daemon.specs.Ready.{IsReady, Applies}
 use Rattle.pool_transaction.proofs.FieldsTyped.{may_change_unrefused}
 use Rattle.pool_transaction.proofs.ActiveRuns.{with_tx, is_active, active_placed, Applies-runs}
-use Rattle.ready_daemon.proofs.OpenNames.{Charges, Charges-charged, Charges-deferring}
+use Rattle.ready_daemon.proofs.OpenTransactions.OpenNames.{Charges, Charges-charged, Charges-deferring}
 
 -- what a call used that did not fail
 pub used_more : {X : Type 0} (done : Result X HostFault) (units now old : ℕ) → IfOk done (λ _. now ≡ old + units) → fault_of done ≡ None → now ≡ old + units

@@ -27,8 +27,8 @@ use Rattle.ready_daemon.specs.Memory.{ActiveTransaction, Memory}
 use Rattle.ready_daemon.specs.ActiveTransactions.{IsActive}
 use Rattle.ready_daemon.specs.Moves.{led_in}
 use Rattle.ready_daemon.specs.Ready.{IsReady}
-use Rattle.ready_daemon.proofs.ActiveUnder.{active_same}
-use Rattle.ready_daemon.proofs.InTurn.{active_known}
+use Rattle.ready_daemon.proofs.OpenTransactions.ActiveUnder.{active_same}
+use Rattle.ready_daemon.proofs.PoolChanges.InTurn.{active_known}
 use Rattle.pool_transaction.specs.Finishing.{end_of, AppliesTo}
 use Rattle.pool_transaction.proofs.Arriving.{AreEnds}
 use Rattle.pool_transaction.proofs.Leading.{ends_finished}

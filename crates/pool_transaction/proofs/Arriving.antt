@@ -32,10 +32,10 @@ use Rattle.ready_daemon.specs.PoolKnowledge.{known_puddles_in}
 use Rattle.ready_daemon.specs.Memory.{Memory}
 use Rattle.ready_daemon.specs.Moves.{MovesTo, led_to, led_in}
 use Rattle.ready_daemon.specs.Ready.{IsReady, AppliesBy}
-use Rattle.ready_daemon.proofs.Beneath.{ready_gate}
-use Rattle.ready_daemon.proofs.InTurn.{known_in_turn}
-use Rattle.ready_daemon.proofs.PuddlesLeft.{used_below}
-use Rattle.ready_daemon.proofs.TablesBeside.{sound_read}
+use Rattle.ready_daemon.proofs.Commands.Beneath.{ready_gate}
+use Rattle.ready_daemon.proofs.PoolChanges.InTurn.{known_in_turn}
+use Rattle.ready_daemon.proofs.PoolChanges.PuddlesLeft.{used_below}
+use Rattle.ready_daemon.proofs.PoolChanges.TablesBeside.{sound_read}
 use Rattle.pool_transaction.specs.Finishing.{Arrives, AppliesTo}
 
 -- ---- a record that is used stands under its ordinal

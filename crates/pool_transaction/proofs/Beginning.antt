@@ -62,19 +62,19 @@ use Rattle.ready_daemon.specs.Beginning.{MayBegin, begins_as}
 use Rattle.ready_daemon.specs.PoolKnowledge.{known_puddles_in}
 use Rattle.ready_daemon.specs.KnownPools.{KnowsPools}
 use Rattle.ready_daemon.specs.Ready.{IsReady, RefusesNone, StandsBetween, Applies}
-use Rattle.ready_daemon.proofs.Beside.{Leaves-from, ready_idle, IsApart, still_under, left_all, left_apart, names_none_idle, opened_as, others_apart, records_all, unmasked_by_all}
-use Rattle.ready_daemon.proofs.Beneath.{ready_gate, gate_kept, idle_kept}
-use Rattle.ready_daemon.proofs.PuddlesLeft.{LeavesPuddles-behind}
-use Rattle.ready_daemon.proofs.Counting.{log_free}
+use Rattle.ready_daemon.proofs.Commands.Beside.{Leaves-from, ready_idle, IsApart, still_under, left_all, left_apart, names_none_idle, opened_as, others_apart, records_all, unmasked_by_all}
+use Rattle.ready_daemon.proofs.Commands.Beneath.{ready_gate, gate_kept, idle_kept}
+use Rattle.ready_daemon.proofs.PoolChanges.PuddlesLeft.{LeavesPuddles-behind}
+use Rattle.ready_daemon.proofs.OpenTransactions.Counting.{log_free}
 use Rattle.pool_transaction.proofs.Ending.{world_now, left_stands, idle_now, records_now}
-use Rattle.ready_daemon.proofs.InTurn.{pool_in_slot}
-use Rattle.ready_daemon.proofs.KnownKept.{KeepsPools}
-use Rattle.ready_daemon.proofs.KnownOpen.{KeepsPools-begun, KnowsPools-begun}
-use Rattle.ready_daemon.proofs.TablesBeside.{header_read, types_read, sound_read, owner_under}
-use Rattle.ready_daemon.proofs.ActiveMore.{HasSessions-more, Holds-more, keeps_others, other_number}
-use Rattle.ready_daemon.proofs.OpenBeside.{not_named, pool_unmasked, unmasked_frames}
-use Rattle.ready_daemon.proofs.OpenNames.{open_there}
-use Rattle.ready_daemon.proofs.Sessions.{none_active, session_shut}
+use Rattle.ready_daemon.proofs.PoolChanges.InTurn.{pool_in_slot}
+use Rattle.ready_daemon.proofs.PoolsKnown.KnownKept.{KeepsPools}
+use Rattle.ready_daemon.proofs.PoolsKnown.KnownOpen.{KeepsPools-begun, KnowsPools-begun}
+use Rattle.ready_daemon.proofs.PoolChanges.TablesBeside.{header_read, types_read, sound_read, owner_under}
+use Rattle.ready_daemon.proofs.OpenTransactions.ActiveMore.{HasSessions-more, Holds-more, keeps_others, other_number}
+use Rattle.ready_daemon.proofs.OpenTransactions.OpenBeside.{not_named, pool_unmasked, unmasked_frames}
+use Rattle.ready_daemon.proofs.OpenTransactions.OpenNames.{open_there}
+use Rattle.ready_daemon.proofs.OpenTransactions.Sessions.{none_active, session_shut}
 use Rattle.log_space.specs.FreeLogs.{IsLogOf}
 use Rattle.nesting.specs.Sessions.{entered, session_in}
 use Rattle.pool_transaction.specs.Lifetime.{MayBeginIn, with_begun}

@@ -16,9 +16,9 @@ use Rattle.ready_daemon.specs.PoolKnowledge.{puddles_known}
 use Rattle.ready_daemon.specs.Memory.{ActiveTransaction, Memory}
 use Rattle.ready_daemon.specs.Moves.{led_in}
 use Rattle.ready_daemon.specs.Ready.{IsReady}
-use Rattle.ready_daemon.proofs.Applying.{IsReady-anew}
-use Rattle.ready_daemon.proofs.KnownOpen.{known_within}
-use Rattle.ready_daemon.proofs.Known.{known_kept_there}
+use Rattle.ready_daemon.proofs.Commands.Applying.{IsReady-anew}
+use Rattle.ready_daemon.proofs.PoolsKnown.KnownOpen.{known_within}
+use Rattle.ready_daemon.proofs.PoolsKnown.Known.{known_kept_there}
 use Rattle.pool_transaction.specs.declared.changing.FoundUpdate.{FoundUpdate}
 use Rattle.pool_transaction.specs.declared.changing.Update.{Update}
 use Rattle.pool_transaction.specs.Changing.{IsActiveIn, IsActiveWith, with_known, with_opened, command_of_update, IsFoundBy, IsFoundWithin, ordinal_written}

@@ -32,9 +32,9 @@ use Rattle.hybrid_tx.specs.PoolScopes.{IsRewrittenAt}
 use Rattle.ready_daemon.specs.Memory.{Memory}
 use Rattle.ready_daemon.specs.Moves.{Stays, MovesTo, still, led_to, led_in}
 use Rattle.ready_daemon.specs.Ready.{Applies}
-use Rattle.ready_daemon.proofs.Applying.{AppliesBy-then, AppliesBy-weaker}
-use Rattle.ready_daemon.proofs.Goals.{led_stays}
-use Rattle.ready_daemon.proofs.PuddlesLeft.{Joins-stays}
+use Rattle.ready_daemon.proofs.Commands.Applying.{AppliesBy-then, AppliesBy-weaker}
+use Rattle.ready_daemon.proofs.PoolChanges.Goals.{led_stays}
+use Rattle.ready_daemon.proofs.PoolChanges.PuddlesLeft.{Joins-stays}
 use Rattle.pool_transaction.specs.declared.changing.Update.{Update}
 use Rattle.pool_transaction.specs.declared.changing.FoundUpdate.{FoundUpdate}
 use Rattle.pool_transaction.specs.declared.changing.FoundUpdate.TheVariants.{Field, Root, Object}

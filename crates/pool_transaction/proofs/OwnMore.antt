@@ -30,8 +30,8 @@ use Rattle.hybrid_tx.proofs.Open.OpenPools.{open_on_device}
 use Rattle.hybrid_tx.proofs.Open.PoolPlaces.{are_puddles_in_turn}
 use Rattle.ready_daemon.specs.Memory.{ActiveTransaction}
 use Rattle.ready_daemon.specs.ActiveTransactions.{open_pool_of, open_transaction_of, IsActive}
-use Rattle.ready_daemon.proofs.Beside.{record_masked}
-use Rattle.ready_daemon.proofs.PoolsBeside.{used_still}
+use Rattle.ready_daemon.proofs.Commands.Beside.{record_masked}
+use Rattle.ready_daemon.proofs.PoolChanges.PoolsBeside.{used_still}
 
 -- ---- masks
 

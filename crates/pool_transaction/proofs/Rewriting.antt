@@ -37,16 +37,16 @@ use Rattle.ready_daemon.specs.Memory.{ActiveTransaction, Memory, active_under}
 use Rattle.ready_daemon.specs.ActiveTransactions.{open_pool_of, open_transaction_of, IsActive, KeepsActive, ByOthers}
 use Rattle.ready_daemon.specs.Moves.{Stays, MovesTo, led_in}
 use Rattle.ready_daemon.specs.Ready.{IsReady, AppliesMasked, AppliesBy}
-use Rattle.ready_daemon.proofs.Applying.{Applies-still, Applies-stopped, AppliesBy-then, AppliesBy-weaker, Applies-known}
-use Rattle.ready_daemon.proofs.Goals.{led_stays, Joins-led}
-use Rattle.ready_daemon.proofs.Beside.{active_is, opens_apart_from, moments_beside, durable_frames_still, Applies-beside}
-use Rattle.ready_daemon.proofs.InTurn.{active_there_known, known_in_turn, active_known}
-use Rattle.ready_daemon.proofs.KnownKept.{HasGraphIn, KeepsPools}
-use Rattle.ready_daemon.proofs.KnownOpen.{IsShut, known_within, AreKnownPools-own, KnowsPools-grown}
-use Rattle.ready_daemon.proofs.Known.{pool_kept, known_other}
-use Rattle.ready_daemon.proofs.PoolsBeside.{one_slot, used_still}
-use Rattle.ready_daemon.proofs.RestBeside.{active_graph, rest_beside}
-use Rattle.ready_daemon.proofs.TablesBeside.{types_read, sound_read}
+use Rattle.ready_daemon.proofs.Commands.Applying.{Applies-still, Applies-stopped, AppliesBy-then, AppliesBy-weaker, Applies-known}
+use Rattle.ready_daemon.proofs.PoolChanges.Goals.{led_stays, Joins-led}
+use Rattle.ready_daemon.proofs.Commands.Beside.{active_is, opens_apart_from, moments_beside, durable_frames_still, Applies-beside}
+use Rattle.ready_daemon.proofs.PoolChanges.InTurn.{active_there_known, known_in_turn, active_known}
+use Rattle.ready_daemon.proofs.PoolsKnown.KnownKept.{HasGraphIn, KeepsPools}
+use Rattle.ready_daemon.proofs.PoolsKnown.KnownOpen.{IsShut, known_within, AreKnownPools-own, KnowsPools-grown}
+use Rattle.ready_daemon.proofs.PoolsKnown.Known.{pool_kept, known_other}
+use Rattle.ready_daemon.proofs.PoolChanges.PoolsBeside.{one_slot, used_still}
+use Rattle.ready_daemon.proofs.PoolChanges.RestBeside.{active_graph, rest_beside}
+use Rattle.ready_daemon.proofs.PoolChanges.TablesBeside.{types_read, sound_read}
 use Rattle.pool_transaction.proofs.ActiveAnew.{opens_anew, was_one, then_one, wide, holds_anew, settled_anew, rest_anew, logs_anew}
 use Rattle.pool_transaction.proofs.ActiveStepped.{before, comes_stepped, active_stepped}
 use Rattle.pool_transaction.proofs.StepsBeside.{IsShutIn, cases_active, known_placed, steps_apply}

@@ -48,13 +48,13 @@ use Rattle.ready_daemon.specs.Memory.{ActiveTransaction, Memory, active_under}
 use Rattle.ready_daemon.specs.ActiveTransactions.{open_pool_of, IsActiveOn, LeavesMasked}
 use Rattle.ready_daemon.specs.PoolKnowledge.{known_puddles_in}
 use Rattle.ready_daemon.specs.Ready.{IsReady, AppliesMasked}
-use Rattle.ready_daemon.proofs.Beneath.{IsOff-each, LeavesMasked-commits, logs_kept, ready_gate}
-use Rattle.ready_daemon.proofs.Beside.{active_is, unmasked_front}
-use Rattle.ready_daemon.proofs.InTurn.{known_in_turn, active_known}
-use Rattle.ready_daemon.proofs.KnownKept.{HasGraphIn, graph_parts}
-use Rattle.ready_daemon.proofs.PoolsBeside.{unmasked_frame, unmasked_moving_record, unmasked_moving_frame}
-use Rattle.ready_daemon.proofs.RestBeside.{rest_unmasked}
-use Rattle.ready_daemon.proofs.TablesBeside.{tables_read, read_beside, under_durable, types_read, sound_read}
+use Rattle.ready_daemon.proofs.Commands.Beneath.{IsOff-each, LeavesMasked-commits, logs_kept, ready_gate}
+use Rattle.ready_daemon.proofs.Commands.Beside.{active_is, unmasked_front}
+use Rattle.ready_daemon.proofs.PoolChanges.InTurn.{known_in_turn, active_known}
+use Rattle.ready_daemon.proofs.PoolsKnown.KnownKept.{HasGraphIn, graph_parts}
+use Rattle.ready_daemon.proofs.PoolChanges.PoolsBeside.{unmasked_frame, unmasked_moving_record, unmasked_moving_frame}
+use Rattle.ready_daemon.proofs.PoolChanges.RestBeside.{rest_unmasked}
+use Rattle.ready_daemon.proofs.PoolChanges.TablesBeside.{tables_read, read_beside, under_durable, types_read, sound_read}
 
 -- none is held on the pool in the slot
 pub record IsShutIn (active : List (Option ActiveTransaction)) (slot : ℕ) : Type 0 where

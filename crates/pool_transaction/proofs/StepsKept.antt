@@ -39,11 +39,11 @@ use Rattle.lazy_rewrite.proofs.Gathered.{frame_below}
 use Rattle.lazy_rewrite.proofs.Spared.{batch_spares}
 use Rattle.ready_daemon.specs.PoolKnowledge.{known_puddles_in}
 use Rattle.ready_daemon.specs.Ready.{IsReady}
-use Rattle.ready_daemon.proofs.Beneath.{ready_gate}
-use Rattle.ready_daemon.proofs.InTurn.{known_in_turn}
-use Rattle.ready_daemon.proofs.KnownKept.{HasGraphIn, KeepsGraphs, KeepsPool, KeepsPools, KeepsPools-each, own_word, words_apart}
-use Rattle.ready_daemon.proofs.PoolsBeside.{unmasked_moving_frame}
-use Rattle.ready_daemon.proofs.TablesBeside.{sound_read}
+use Rattle.ready_daemon.proofs.Commands.Beneath.{ready_gate}
+use Rattle.ready_daemon.proofs.PoolChanges.InTurn.{known_in_turn}
+use Rattle.ready_daemon.proofs.PoolsKnown.KnownKept.{HasGraphIn, KeepsGraphs, KeepsPool, KeepsPools, KeepsPools-each, own_word, words_apart}
+use Rattle.ready_daemon.proofs.PoolChanges.PoolsBeside.{unmasked_moving_frame}
+use Rattle.ready_daemon.proofs.PoolChanges.TablesBeside.{sound_read}
 use Rattle.pool_transaction.proofs.StepsBeside.{known_graph, known_placed}
 
 -- the members of another pool do not go by the frontier of a puddle

@@ -30,9 +30,9 @@ use Rattle.ready_daemon.specs.PoolKnowledge.{known_puddles_in}
 use Rattle.ready_daemon.specs.Memory.{Memory}
 use Rattle.ready_daemon.specs.Moves.{MovesTo, LeavesPuddles, led_in}
 use Rattle.ready_daemon.specs.Ready.{IsReady}
-use Rattle.ready_daemon.proofs.Beneath.{ready_gate}
-use Rattle.ready_daemon.proofs.Goals.{led_stays, led_moved}
-use Rattle.ready_daemon.proofs.InTurn.{known_in_turn}
+use Rattle.ready_daemon.proofs.Commands.Beneath.{ready_gate}
+use Rattle.ready_daemon.proofs.PoolChanges.Goals.{led_stays, led_moved}
+use Rattle.ready_daemon.proofs.PoolChanges.InTurn.{known_in_turn}
 
 -- a goal, or the end of a puddle where that is nearer
 abbrev pub upto : (ℕ → ℕ) → ℕ → ℕ

@@ -28,7 +28,7 @@ use Rattle.pool_transaction.specs.Changing.{command_of_update}
 use Rattle.ready_daemon.specs.Memory.{ActiveTransaction}
 use Rattle.ready_daemon.specs.ActiveTransactions.{AreActive, IsActive, IsOwnTransaction}
 use Rattle.pool_transaction.specs.Refusing.{busy_unless}
-use Rattle.ready_daemon.proofs.Beside.{active_is}
+use Rattle.ready_daemon.proofs.Commands.Beside.{active_is}
 
 -- ---- by their parts
 

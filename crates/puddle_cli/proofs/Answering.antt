@@ -23,7 +23,7 @@ use Rattle.pud_defs.specs.StateMachine.Changing.{file_in, KeepsFiles}
 use Rattle.pud_defs.proofs.StateMachine.Changing.{KeepsFiles-still, KeepsUnwritable-still, KeepsUnwritable-then, KeepsUnwritable-line}
 use Rattle.pud_defs.proofs.StateMachine.Commands.{command_of-front}
 use Rattle.pud_defs.proofs.StateMachine.Lines.{open_rest-newline, open_rest-other, open_rest-nothing, lines_taken-nothing, lines_taken-newline, lines_taken-other, lines_taken-end, lines_among_empty, lines_among_line}
-use Rattle.ready_daemon.proofs.Beside.{ready_stands}
+use Rattle.ready_daemon.proofs.Commands.Beside.{ready_stands}
 use Rattle.pud_defs.proofs.StateMachine.Runs.{IsRun-append, last_world-append}
 use Rattle.pud_defs.proofs.Output.Said.{replies_text-append}
 use Rattle.pud_defs.proofs.StateMachine.Stands.{StandsAfter-more, StandsWith-later}

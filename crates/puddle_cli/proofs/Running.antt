@@ -14,7 +14,7 @@ use Rattle.pud_defs.specs.StateMachine.Run.{last_world, Turn, cuts_of, newlines}
 use Rattle.pud_defs.specs.Output.Texts.{replies_text}
 use Rattle.pud_defs.specs.Output.StartText.{start_text}
 use Rattle.pud_defs.specs.StateMachine.Stands.{StandsWith, StandsBehind}
-use Rattle.ready_daemon.proofs.Beside.{ready_stands}
+use Rattle.ready_daemon.proofs.Commands.Beside.{ready_stands}
 use Rattle.pud_defs.proofs.StateMachine.Changing.{KeepsFiles-still, KeepsUnwritable-still, KeepsUnwritable-then}
 use Rattle.pud_defs.proofs.StateMachine.Lines.{newlines-append, newlines_part, lines_taken-nothing}
 use Rattle.pud_defs.proofs.StateMachine.Stands.{StandsBehind-closed, StandsBehind-after}

@@ -29,7 +29,7 @@ use Rattle.pud_defs.proofs.PoolGraphs.Holdings.{pools_in-same, frame_among}
 use Rattle.pud_defs.proofs.RegistryTables.SoundChanged.{sound_from}
 use Rattle.pud_defs.proofs.StateMachine.Parts.{HoldsWorld}
 use Rattle.pud_defs.proofs.StateMachine.Worlds.{holding_of_world, frames_of_world}
-use Rattle.ready_daemon.proofs.Beside.{ready_stands}
+use Rattle.ready_daemon.proofs.Commands.Beside.{ready_stands}
 use Rattle.puddled.specs.declared.daemon.StartFault.{StartFault}
 use Rattle.puddled.specs.declared.daemon.StartFault.TheVariants as starts
 use Rattle.ready_daemon.specs.Memory.{Memory}

@@ -14,7 +14,7 @@ use Rattle.pud_defs.specs.StateMachine.World.{World, pools_in, stored_by, closed
 use Rattle.ready_daemon.specs.Memory.{Memory, ActiveTransaction, active_under}
 use Rattle.ready_daemon.specs.Ready.{IsReady}
 use Rattle.puddled.proofs.LinesCarriedOut.{frames_by}
-use Rattle.ready_daemon.proofs.TablesBeside.{header_read, types_read, world_under}
+use Rattle.ready_daemon.proofs.PoolChanges.TablesBeside.{header_read, types_read, world_under}
 
 -- ---- a run keeps the number of frames
 

@@ -31,8 +31,8 @@ use Rattle.ready_daemon.specs.Ready.{KeepsRest, IsReady, AppliesBy, Applies, Clo
 use Rattle.puddled.specs.Daemon.{KeepsAllBut, CarriesOut}
 use Rattle.puddled.specs.Frontiers.{AppliesAs}
 use Rattle.puddled.proofs.Frontiers.{MovesNone, leads_none, arrives_still, AppliesAs-none}
-use Rattle.ready_daemon.proofs.Applying.{Applies-idle, AppliesBy-weaker}
-use Rattle.ready_daemon.proofs.Goals.{stays_still}
+use Rattle.ready_daemon.proofs.Commands.Applying.{Applies-idle, AppliesBy-weaker}
+use Rattle.ready_daemon.proofs.PoolChanges.Goals.{stays_still}
 
 -- what keeps the shelf keeps each file
 pub keeps_line : (file : Option (List ℕ)) (old new : State) → KeepsRest old new → KeepsAllBut file old new

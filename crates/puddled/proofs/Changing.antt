@@ -23,21 +23,21 @@ use Rattle.pool_transaction.specs.declared.changing.Change.TheVariants as change
 use Rattle.pool_transaction.specs.Changing.{IsActiveWith, with_known, command_of_change}
 use Rattle.known_pool.specs.Known.{Known, IsKnown}
 use Rattle.ready_daemon.specs.PoolKnowledge.{puddles_known, known_pool_in, known_puddles_in, AreOnDevice, AreKnownPools}
-use Rattle.ready_daemon.proofs.KnownKept.{graph_parts}
-use Rattle.ready_daemon.proofs.KnownOpen.{known_again}
-use Rattle.ready_daemon.proofs.Known.{AreKnownPools-set}
+use Rattle.ready_daemon.proofs.PoolsKnown.KnownKept.{graph_parts}
+use Rattle.ready_daemon.proofs.PoolsKnown.KnownOpen.{known_again}
+use Rattle.ready_daemon.proofs.PoolsKnown.Known.{AreKnownPools-set}
 use Rattle.ready_daemon.specs.Memory.{ActiveTransaction, Memory, active_under}
 use Rattle.ready_daemon.specs.OwnOnPool.{IsOwnTransactionOn}
 use Rattle.ready_daemon.specs.Owning.{IsRecordSlot}
 use Rattle.ready_daemon.specs.Ready.{IsReady}
-use Rattle.ready_daemon.proofs.Beside.{active_is}
-use Rattle.ready_daemon.proofs.PoolsBeside.{used_still}
+use Rattle.ready_daemon.proofs.Commands.Beside.{active_is}
+use Rattle.ready_daemon.proofs.PoolChanges.PoolsBeside.{used_still}
 use Rattle.pool_transaction.specs.Finishing.{Finishes, FinishesUnless, AppliesFinishing}
-use Rattle.ready_daemon.proofs.InTurn.{known_in_turn}
+use Rattle.ready_daemon.proofs.PoolChanges.InTurn.{known_in_turn}
 use Rattle.puddled.specs.Frontiers.{AppliesAs}
 use Rattle.puddled.proofs.Frontiers.{AppliesAs-change}
 use Rattle.pool_transaction.proofs.TransactionRefusals.{refused_change, refused_new}
-use Rattle.ready_daemon.proofs.InTurn.{active_there_known}
+use Rattle.ready_daemon.proofs.PoolChanges.InTurn.{active_there_known}
 
 -- what was read in a slot of the list is what is known there
 pub known_there : (judged : List (Option Known)) (slot : ℕ) (read any : Option Known) → slot < length judged → read ≡ slice_index_or judged slot any → known_pool_in judged slot ≡ read

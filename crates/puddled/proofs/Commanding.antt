@@ -28,10 +28,10 @@ use Rattle.puddled.specs.Frontiers.{AppliesAs}
 use Rattle.puddled.specs.Faults.{kind_of}
 use Rattle.puddled.specs.Faults.Kind.{ordinary}
 use Rattle.ready_daemon.specs.Memory.{Memory}
-use Rattle.ready_daemon.proofs.Applying.{Applies-failed, Applies-refused}
-use Rattle.ready_daemon.proofs.PuddlesLeft.{LeavesPuddles-still}
-use Rattle.ready_daemon.proofs.Beside.{ready_stands}
-use Rattle.ready_daemon.proofs.Keeping.{KeepsRest-still}
+use Rattle.ready_daemon.proofs.Commands.Applying.{Applies-failed, Applies-refused}
+use Rattle.ready_daemon.proofs.PoolChanges.PuddlesLeft.{LeavesPuddles-still}
+use Rattle.ready_daemon.proofs.Commands.Beside.{ready_stands}
+use Rattle.ready_daemon.proofs.Commands.Keeping.{KeepsRest-still}
 use Rattle.puddled.proofs.Carrying.{ClosesLogs-other, CarriesOut-plain, CarriesOut-led}
 
 -- a daemon that is ready is so behind calls that read

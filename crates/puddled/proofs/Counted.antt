@@ -18,7 +18,7 @@ use Rattle.puddled.specs.declared.daemon.StartFault.TheVariants as starts
 use Rattle.puddled.specs.declared.daemon.RunFault.{RunFault}
 use Rattle.puddled.specs.declared.daemon.RunFault.TheVariants as faults
 use Rattle.ready_daemon.specs.Memory.{Memory}
-use Rattle.ready_daemon.proofs.Turns.{turn_of, no_cut_reply}
+use Rattle.ready_daemon.proofs.Commands.Turns.{turn_of, no_cut_reply}
 use Rattle.puddled.specs.Faults.Kind.{ordinary, loses, arms}
 use Rattle.puddled.specs.Faults.{start_fault, of_host, of_start, risen_by, RoseBy, after_cuts, CountsTurns, AreCuts, restart_cuts, run_fault, last_fault, IsCounted, Kind, kind_of, is_loss_kind, is_loss, CountsKind, CountsLine, CountsReply, CountsCommand, behind_loss, HasLostPower, Grows, CountsToEnd}
 

@@ -14,7 +14,7 @@ use Rattle.nesting.specs.Sessions.{lowered_session, session_depth, depth_in, lef
 use Rattle.ready_daemon.specs.Memory.{ActiveTransaction, Memory, active_under}
 use Rattle.ready_daemon.specs.OwnOnPool.{IsOwnTransactionOn}
 use Rattle.ready_daemon.specs.Ready.{IsReady, Applies}
-use Rattle.ready_daemon.proofs.AtDepth.{its, t, its_session, next, sessions_at, ready_at}
+use Rattle.ready_daemon.proofs.OpenTransactions.AtDepth.{its, t, its_session, next, sessions_at, ready_at}
 use Rattle.puddled.proofs.Commanding.{Applies-untouched}
 
 module _ (size : ℕ) (w : World) (memory : Memory) (s : State) (ready : IsReady size w memory s) (number : ℕ) (active : ActiveTransaction) (there : active_under memory.active number ≡ Some active) (client : ℕ)

@@ -28,9 +28,9 @@ use Rattle.ready_daemon.specs.Memory.{Memory}
 use Rattle.ready_daemon.specs.Ready.{IsReady}
 use Rattle.puddled.specs.declared.finding.Need.TheVariants as needs
 use Rattle.puddled.specs.Finding.{refusal_to, refusal_to_enter}
-use Rattle.ready_daemon.proofs.AtDepth.{its_session}
-use Rattle.ready_daemon.proofs.Counting.{counted, log_found}
-use Rattle.ready_daemon.proofs.Sessions.{session_shut}
+use Rattle.ready_daemon.proofs.OpenTransactions.AtDepth.{its_session}
+use Rattle.ready_daemon.proofs.OpenTransactions.Counting.{counted, log_found}
+use Rattle.ready_daemon.proofs.OpenTransactions.Sessions.{session_shut}
 use Rattle.puddled.proofs.Needs.{entering_refusal, refusal_of-begin}
 
 -- the client's own is as deep as it may be

@@ -31,7 +31,7 @@ use Rattle.ready_daemon.specs.Memory.{Memory}
 use Rattle.ready_daemon.specs.ActiveTransactions.{IsOwnTransaction}
 use Rattle.ready_daemon.specs.PoolKnowledge.{known_puddles_in}
 use Rattle.ready_daemon.specs.Ready.{IsReady, Applies}
-use Rattle.ready_daemon.proofs.OpenBeside.{open_here}
+use Rattle.ready_daemon.proofs.OpenTransactions.OpenBeside.{open_here}
 use Rattle.puddled.proofs.FileLines.{memory_of-export, memory_step, some_step, export_is_plain, export_moves_none, CarriesOut-read, CarriesOut-file, Applies-shelved, Applies-unwritten, KeepsFiles-shelved, exported_step, contents_are}
 
 -- ---- the client's own transaction is open on the pool

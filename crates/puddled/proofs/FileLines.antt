@@ -58,12 +58,12 @@ use Rattle.ready_daemon.specs.Memory.{Memory}
 use Rattle.ready_daemon.specs.ActiveTransactions.{KeepsActive}
 use Rattle.ready_daemon.specs.Moves.{Stays, MovesTo, LeavesPuddles, still}
 use Rattle.ready_daemon.specs.Ready.{IsReady, StandsBetween, Applies}
-use Rattle.ready_daemon.proofs.Beside.{ready_stands, holds_still, sessions_still}
+use Rattle.ready_daemon.proofs.Commands.Beside.{ready_stands, holds_still, sessions_still}
 use Rattle.puddled.proofs.Carrying.{ClosesLogs-other}
 use Rattle.puddled.proofs.Needs.{refusal_of-dump, refusal_of-export}
-use Rattle.ready_daemon.proofs.Applying.{Applies-still, AppliesBy-weaker}
-use Rattle.ready_daemon.proofs.Goals.{stays_still}
-use Rattle.ready_daemon.proofs.PuddlesLeft.{LeavesPuddles-still}
+use Rattle.ready_daemon.proofs.Commands.Applying.{Applies-still, AppliesBy-weaker}
+use Rattle.ready_daemon.proofs.PoolChanges.Goals.{stays_still}
+use Rattle.ready_daemon.proofs.PoolChanges.PuddlesLeft.{LeavesPuddles-still}
 
 -- ---- why they are refused
 

@@ -45,15 +45,15 @@ use Rattle.ready_daemon.specs.PoolKnowledge.{known_puddles_in, AreKnownPools, pu
 use Rattle.ready_daemon.specs.Owning.{refusal_found, IsRecordSlot}
 use Rattle.ready_daemon.specs.Beginning.{MayBegin}
 use Rattle.ready_daemon.specs.Ready.{IsReady}
-use Rattle.ready_daemon.proofs.Applying.{IsReady-beside}
-use Rattle.ready_daemon.proofs.Beside.{active_is}
-use Rattle.ready_daemon.proofs.Known.{judged_puddles}
-use Rattle.ready_daemon.proofs.InTurn.{active_there_known}
-use Rattle.ready_daemon.proofs.KnownOpen.{KnowsPools-read}
-use Rattle.ready_daemon.proofs.OpenBeside.{not_named, pool_unmasked}
-use Rattle.ready_daemon.proofs.Sessions.{IsSessionOf, own_on, session_open, session_shut}
-use Rattle.ready_daemon.proofs.TablesBeside.{types_read, sound_read}
-use Rattle.ready_daemon.proofs.Pooling.{IsNamed, no_record, named_by, pool_there}
+use Rattle.ready_daemon.proofs.Commands.Applying.{IsReady-beside}
+use Rattle.ready_daemon.proofs.Commands.Beside.{active_is}
+use Rattle.ready_daemon.proofs.PoolsKnown.Known.{judged_puddles}
+use Rattle.ready_daemon.proofs.PoolChanges.InTurn.{active_there_known}
+use Rattle.ready_daemon.proofs.PoolsKnown.KnownOpen.{KnowsPools-read}
+use Rattle.ready_daemon.proofs.OpenTransactions.OpenBeside.{not_named, pool_unmasked}
+use Rattle.ready_daemon.proofs.OpenTransactions.Sessions.{IsSessionOf, own_on, session_open, session_shut}
+use Rattle.ready_daemon.proofs.PoolChanges.TablesBeside.{types_read, sound_read}
+use Rattle.ready_daemon.proofs.PoolChanges.Pooling.{IsNamed, no_record, named_by, pool_there}
 use Rattle.pool_transaction.proofs.TransactionRefusals.{unless}
 use Rattle.puddled.specs.declared.finding.Need.{Need}
 use Rattle.puddled.specs.declared.finding.Need.TheVariants as needs
@@ -62,7 +62,7 @@ use Rattle.puddled.specs.Files.{IsStoredPool}
 use Rattle.puddled.specs.Finding.{needs_graph, lacks_graph, has_right, right_by, need_refusal, refusal_to, found_unless_busy, session_found, IsRecordOf, IsFound}
 use Rattle.puddled.specs.Reading.{SeesGraph}
 use Rattle.pud_defs.proofs.KeyedTables.DistinctKeys.{none_by_some}
-use Rattle.ready_daemon.proofs.GraphLonger.{graph_as}
+use Rattle.ready_daemon.proofs.PoolChanges.GraphLonger.{graph_as}
 
 -- ---- puddles that are judged as they were read
 

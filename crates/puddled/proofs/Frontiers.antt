@@ -29,9 +29,9 @@ use Rattle.ready_daemon.specs.Memory.{Memory}
 use Rattle.ready_daemon.specs.Moves.{Stays, IsOnTheWay, MovesTo, still, freed_in, led_in}
 use Rattle.ready_daemon.specs.Owning.{IsRecordSlot}
 use Rattle.ready_daemon.specs.Ready.{IsReady, AppliesBy, Applies}
-use Rattle.ready_daemon.proofs.Applying.{AppliesBy-weaker}
-use Rattle.ready_daemon.proofs.Goals.{stays_still, still_stays}
-use Rattle.ready_daemon.proofs.InTurn.{known_in_turn}
+use Rattle.ready_daemon.proofs.Commands.Applying.{AppliesBy-weaker}
+use Rattle.ready_daemon.proofs.PoolChanges.Goals.{stays_still, still_stays}
+use Rattle.ready_daemon.proofs.PoolChanges.InTurn.{known_in_turn}
 use Rattle.puddled.specs.Frontiers.{LeadsPool, MovesFrontiers, LeadsUnless, Leads, AppliesAs}
 
 -- ---- no frontier moves

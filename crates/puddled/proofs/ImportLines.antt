@@ -36,12 +36,12 @@ use Rattle.pud_import.proofs.FileParts.{file_graph-limit}
 use Rattle.pud_import.specs.Placing.{place_fault, refusal_in, refusal_by, PlacesSomewhere, MayImport}
 use Rattle.ready_daemon.specs.Memory.{Memory}
 use Rattle.ready_daemon.specs.Ready.{KeepsRest, IsReady, Applies}
-use Rattle.ready_daemon.proofs.Applying.{Applies-still}
-use Rattle.ready_daemon.proofs.Beneath.{ready_gate, keeps_tables}
-use Rattle.ready_daemon.proofs.KnownKept.{KeepsGraphs, KeepsPools}
-use Rattle.ready_daemon.proofs.PlacedPools.{KeepsActive-imported, KeepsGraphs-then, imported_frames, imported_types, type_beside, Applies-wider}
-use Rattle.ready_daemon.proofs.Pooling.{ChangesBeside, absent_apart}
-use Rattle.ready_daemon.proofs.TablesBeside.{HasDurableTables-masked, sound_read}
+use Rattle.ready_daemon.proofs.Commands.Applying.{Applies-still}
+use Rattle.ready_daemon.proofs.Commands.Beneath.{ready_gate, keeps_tables}
+use Rattle.ready_daemon.proofs.PoolsKnown.KnownKept.{KeepsGraphs, KeepsPools}
+use Rattle.ready_daemon.proofs.PoolChanges.PlacedPools.{KeepsActive-imported, KeepsGraphs-then, imported_frames, imported_types, type_beside, Applies-wider}
+use Rattle.ready_daemon.proofs.PoolChanges.Pooling.{ChangesBeside, absent_apart}
+use Rattle.ready_daemon.proofs.PoolChanges.TablesBeside.{HasDurableTables-masked, sound_read}
 use Rattle.puddled.specs.LineAnswers.{as_line_answer}
 use Rattle.puddled.specs.Daemon.{CarriesOut}
 use Rattle.puddled.specs.Importing.{MayMakeNamed, IsFrontOf, reply_of_placing}

@@ -38,7 +38,7 @@ use Rattle.pud_import.specs.declared.placing.PlaceFault.TheVariants as faults
 use Rattle.pud_import.specs.Placing.{place_fault, refusal_in, refusal_by}
 use Rattle.ready_daemon.specs.Memory.{Memory}
 use Rattle.ready_daemon.specs.Ready.{IsReady}
-use Rattle.ready_daemon.proofs.TablesBeside.{header_read, types_read, pools_read, sound_read}
+use Rattle.ready_daemon.proofs.PoolChanges.TablesBeside.{header_read, types_read, pools_read, sound_read}
 use Rattle.puddled.specs.Importing.{MayMakeNamed, reply_of_placing}
 
 -- ---- the line

@@ -25,7 +25,7 @@ use Rattle.pud_defs.proofs.RegistryTables.TablesOf.{tables_of-same}
 use Rattle.pud_defs.proofs.StateMachine.Worlds.{frames_of_world, settled-below}
 use Rattle.ready_daemon.specs.Memory.{Memory}
 use Rattle.ready_daemon.specs.Moves.{MovesTo, still}
-use Rattle.ready_daemon.proofs.Goals.{stays_still, still_stays}
+use Rattle.ready_daemon.proofs.PoolChanges.Goals.{stays_still, still_stays}
 use Rattle.puddled.specs.declared.answers.LineAnswer.{LineAnswer}
 use Rattle.puddled.specs.Daemon.{CarriesOut}
 use Rattle.puddled.specs.Frontiers.{LeadsUnless, Leads, LeadFrontiers, MoveOnTheWay}

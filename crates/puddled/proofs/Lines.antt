@@ -25,7 +25,7 @@ use Rattle.ready_daemon.specs.Memory.{Memory}
 use Rattle.puddled.specs.declared.answers.LineAnswer.{LineAnswer}
 use Rattle.puddled.specs.LineAnswers.{answer_of, said_text}
 use Rattle.puddled.specs.Faults.{run_fault, CountsLine}
-use Rattle.ready_daemon.proofs.Beside.{ready_stands}
+use Rattle.ready_daemon.proofs.Commands.Beside.{ready_stands}
 use Rattle.ready_daemon.specs.Ready.{KeepsRest, KeepsInput, IsReady, IsClosedIfFree, ClosesFirst, ClosesLogs, RefusesNone}
 use Rattle.puddled.specs.Saying.{EndsIn, SaysPart}
 use Rattle.puddled.specs.Daemon.{KeepsAllBut, KeepsLine, CarriesOutLine, spoken, IsAnswerText, SaysAnswer, Answers}

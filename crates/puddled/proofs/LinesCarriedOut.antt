@@ -33,7 +33,7 @@ use Rattle.puddled.specs.declared.answers.LineAnswer.TheVariants as answers
 use Rattle.ready_daemon.specs.Ready.{IsReady, AppliesBy, IsClosedIfFree, IsClosedIfNamed, ClosesFirst, ClosesBefore, ClosesLogs, RefusesNone, StandsBetween}
 use Rattle.puddled.specs.Starting.{Recovers}
 use Rattle.puddled.specs.Daemon.{CarriesOut, CarriesOutLine}
-use Rattle.ready_daemon.proofs.Turns.{turn_of, is_turn_of, cut_turn, is_cut_turn}
+use Rattle.ready_daemon.proofs.Commands.Turns.{turn_of, is_turn_of, cut_turn, is_cut_turn}
 use Rattle.puddled.proofs.Counted.{counted_step, counted_cut, kind_done, kind_faulty, kind_unstarted, host_is_sound}
 use Rattle.puddled.proofs.Carrying.{restart_line, lost_answer}
 use Rattle.puddled.proofs.Restarts.{closed_if_free}

@@ -18,7 +18,7 @@ use Rattle.puddled.specs.declared.answers.LineAnswer.{LineAnswer}
 use Rattle.puddled.specs.declared.answers.LineAnswer.TheVariants as answers
 use Rattle.puddled.specs.LineAnswers.{answer_of, IsOneLine, said_text}
 use Rattle.ready_daemon.specs.Ready.{IsReady}
-use Rattle.ready_daemon.proofs.TablesBeside.{tables_read, world_under, header_read}
+use Rattle.ready_daemon.proofs.PoolChanges.TablesBeside.{tables_read, world_under, header_read}
 
 pub said_when_ready : (size : ℕ) (w : World) (memory : Memory) (s : State) (answered : LineAnswer) → IsOneLine answered → IsReady size w memory s → said_text memory.frames (reads s.now.words) answered ≡ answer_text (answer_of w answered)
 said_when_ready size w memory s (answers.Reply reply) one ready = refl

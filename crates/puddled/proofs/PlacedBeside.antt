@@ -34,13 +34,13 @@ use Rattle.pud_import.specs.Filling.{IsFrameWord, ByFrames, filled_value, AreFil
 use Rattle.pud_import.specs.Placing.{Placement, PlacesSomewhere, IsOffPlacing}
 use Rattle.ready_daemon.specs.Memory.{ActiveTransaction}
 use Rattle.ready_daemon.specs.ActiveTransactions.{AreActive, LeavesMasked}
-use Rattle.ready_daemon.proofs.Beneath.{IsOff-each, LeavesMasked-changes, LeavesMasked-commits, LeavesMasked-then}
-use Rattle.ready_daemon.proofs.KnownKept.{KeepsGraphs, KeepsPools, KeepsPools-then, KeepsPools-still, KeepsPools-changes, types_same}
-use Rattle.ready_daemon.proofs.PlacedPools.{KeepsPools-placing}
-use Rattle.ready_daemon.proofs.PlacedWords.{IsFreeFrameWord, placed_frame, placing_words, free_unmasked, free_frame_unmasked, free_not_used, free_frame_not_record}
+use Rattle.ready_daemon.proofs.Commands.Beneath.{IsOff-each, LeavesMasked-changes, LeavesMasked-commits, LeavesMasked-then}
+use Rattle.ready_daemon.proofs.PoolsKnown.KnownKept.{KeepsGraphs, KeepsPools, KeepsPools-then, KeepsPools-still, KeepsPools-changes, types_same}
+use Rattle.ready_daemon.proofs.PoolChanges.PlacedPools.{KeepsPools-placing}
+use Rattle.ready_daemon.proofs.PoolChanges.PlacedWords.{IsFreeFrameWord, placed_frame, placing_words, free_unmasked, free_frame_unmasked, free_not_used, free_frame_not_record}
 use Rattle.ready_daemon.specs.Moves.{Stays, LeavesPuddles}
-use Rattle.ready_daemon.proofs.PoolsApart.{LeavesMasked-still}
-use Rattle.ready_daemon.proofs.PuddlesLeft.{record_mask, masked_record, used_below, LeavesPuddles-beside}
+use Rattle.ready_daemon.proofs.PoolChanges.PoolsApart.{LeavesMasked-still}
+use Rattle.ready_daemon.proofs.PoolChanges.PuddlesLeft.{record_mask, masked_record, used_below, LeavesPuddles-beside}
 
 -- ---- the frames that are filled
 

@@ -28,10 +28,10 @@ use Rattle.ready_daemon.specs.OwnOnPool.{IsOwnTransactionOn}
 use Rattle.known_pool.specs.Known.{Known}
 use Rattle.ready_daemon.specs.PoolKnowledge.{known_puddles_in, AreKnownPools}
 use Rattle.ready_daemon.specs.Ready.{IsReady, Applies}
-use Rattle.ready_daemon.proofs.Applying.{Applies-still}
-use Rattle.ready_daemon.proofs.InTurn.{active_there_known}
-use Rattle.ready_daemon.proofs.OpenBeside.{open_here}
-use Rattle.ready_daemon.proofs.TablesBeside.{types_read}
+use Rattle.ready_daemon.proofs.Commands.Applying.{Applies-still}
+use Rattle.ready_daemon.proofs.PoolChanges.InTurn.{active_there_known}
+use Rattle.ready_daemon.proofs.OpenTransactions.OpenBeside.{open_here}
+use Rattle.ready_daemon.proofs.PoolChanges.TablesBeside.{types_read}
 use Rattle.puddled.specs.declared.finding.Need.TheVariants as needs
 use Rattle.puddled.specs.declared.finding.FoundPool.{FoundPool}
 use Rattle.puddled.specs.Finding.{refusal_to, IsFound}

@@ -36,8 +36,8 @@ use Rattle.puddled.specs.declared.daemon.StartFault.{StartFault}
 use Rattle.puddled.specs.Faults.{start_fault, of_recover}
 use Rattle.ready_daemon.specs.Memory.{Memory}
 use Rattle.ready_daemon.specs.Ready.{IsReady, IsUsedAlone, IsClosedIfFree, IsClosedIfNamed, RefusesNone}
-use Rattle.ready_daemon.proofs.KnownOpen.{KnowsPools-none}
-use Rattle.ready_daemon.proofs.NoneActive.{AreActive-none, HasSessions-none}
+use Rattle.ready_daemon.proofs.PoolsKnown.KnownOpen.{KnowsPools-none}
+use Rattle.ready_daemon.proofs.OpenTransactions.NoneActive.{AreActive-none, HasSessions-none}
 use Rattle.puddled.specs.Starting.{first_memory, ByStart, DiffersByStart, IsReplayed, Recovers}
 use Rattle.puddled.proofs.Emptied.{settled_tables, IsBehindRecovery, IsEmptying, behind_recovery, idle_gate, used_closed, batched_still, third_may, single_d, cleared_d, reads_d, settled_d}
 

@@ -22,20 +22,20 @@ use Rattle.lazy_rewrite.specs.Frontiers.{steps_from, left_among}
 use Rattle.nesting.specs.declared.Session.{Session}
 use Rattle.known_pool.specs.Known.{Known, with_puddles}
 use Rattle.ready_daemon.specs.PoolKnowledge.{puddles_known, known_pool_in, known_puddles_in}
-use Rattle.ready_daemon.proofs.KnownOpen.{known_within}
-use Rattle.ready_daemon.proofs.Known.{known_kept_there}
+use Rattle.ready_daemon.proofs.PoolsKnown.KnownOpen.{known_within}
+use Rattle.ready_daemon.proofs.PoolsKnown.Known.{known_kept_there}
 use Rattle.ready_daemon.specs.Memory.{ActiveTransaction, Memory}
 use Rattle.ready_daemon.specs.Owning.{IsRecordSlot}
 use Rattle.ready_daemon.specs.Moves.{MovesTo, led_in}
 use Rattle.ready_daemon.specs.Ready.{IsReady, AppliesBy}
-use Rattle.ready_daemon.proofs.Applying.{AppliesBy-weaker}
-use Rattle.ready_daemon.proofs.Goals.{led_further}
+use Rattle.ready_daemon.proofs.Commands.Applying.{AppliesBy-weaker}
+use Rattle.ready_daemon.proofs.PoolChanges.Goals.{led_further}
 use Rattle.pud_defs.specs.declared.machine.Reply.{Reply}
 use Rattle.pud_defs.specs.Formats.Image.{Image}
 use Rattle.puddled.specs.declared.answers.LineAnswer.{LineAnswer}
 use Rattle.puddled.specs.LineAnswers.{as_line_answer}
 use Rattle.puddled.specs.Rewriting.{DoesSteps}
-use Rattle.ready_daemon.proofs.Beneath.{ready_gate}
+use Rattle.ready_daemon.proofs.Commands.Beneath.{ready_gate}
 use Rattle.pool_transaction.proofs.ActiveFinishes.{low_of_placed}
 use Rattle.pool_transaction.proofs.Rewriting.{Applies-rewrites}
 use Rattle.pool_transaction.proofs.StepsBeside.{known_placed}

@@ -2,8 +2,8 @@ use Rattle.std.proofs.Common.{[], ◌∷◌, refl, sym, ap, ◌∙◌, arith}
 use Rattle.std.proofs.lemmas.Result.{err_from_is_err_and}
 use Rattle.pm_model.specs.Counts.{Counts}
 use Rattle.pud_defs.specs.StateMachine.World.{closed}
-use Rattle.ready_daemon.proofs.Coming.{gates_apart, record_apart, gate_closed, Applies-unadmitted, Applies-admitted}
-use Rattle.ready_daemon.proofs.Keeping.{KeepsRest-changes, KeepsRest-then}
+use Rattle.ready_daemon.proofs.Commands.Coming.{gates_apart, record_apart, gate_closed, Applies-unadmitted, Applies-admitted}
+use Rattle.ready_daemon.proofs.Commands.Keeping.{KeepsRest-changes, KeepsRest-then}
 use Rattle.puddled.proofs.clients.close_and_register.Goals as goal
 
 pub returns-in_err-close_logs-clause-applies : goal.returns-in_err-close_logs-clause-applies

@@ -4,9 +4,9 @@ use Rattle.pud_defs.specs.declared.machine.Command.TheVariants.{Client}
 use Rattle.pud_defs.specs.declared.machine.Refusal.TheVariants as refusals
 use Rattle.pud_defs.specs.StateMachine.Step.{world_by}
 use Rattle.pud_defs.proofs.StateMachine.Steps.{refused_answer, answer_is_ok}
-use Rattle.ready_daemon.proofs.Applying.{Applies-failed, Applies-refused, Applies-accepted}
-use Rattle.ready_daemon.proofs.Coming.{presence_read, taken, is_new}
-use Rattle.ready_daemon.proofs.Others.{others_absent}
+use Rattle.ready_daemon.proofs.Commands.Applying.{Applies-failed, Applies-refused, Applies-accepted}
+use Rattle.ready_daemon.proofs.Commands.Coming.{presence_read, taken, is_new}
+use Rattle.ready_daemon.proofs.OpenTransactions.Others.{others_absent}
 use Rattle.puddled.proofs.clients.register_client.Goals as goal
 use Rattle.pm_model.proofs.Reading.{still_size}
 

@@ -6,7 +6,7 @@ use Rattle.pud_defs.specs.StateMachine.Grammar.{IsLegalCommand}
 use Rattle.ready_daemon.specs.Memory.{Memory}
 use Rattle.puddled.specs.declared.answers.LineAnswer.TheVariants as answers
 use Rattle.puddled.specs.Daemon.{CarriesOut}
-use Rattle.ready_daemon.proofs.Keeping.{KeepsRest-still}
+use Rattle.ready_daemon.proofs.Commands.Keeping.{KeepsRest-still}
 use Rattle.puddled.proofs.Carrying.{ClosesLogs-leave, ClosesLogs-other, CarriesOut-plain, CarriesOut-led, CarriesOut-as, CarriesOut-listed, CarriesOut-lost, CarriesOut-armed}
 use Rattle.std.specs.Prelude.{IfOk}
 use Rattle.pm_model.specs.Words.{reads}

@@ -5,7 +5,7 @@ use Rattle.pm_model.proofs.Changes.{Changes-said}
 use Rattle.pud_defs.specs.StateMachine.World.{world_of, closed, restart}
 use Rattle.ready_daemon.specs.Memory.{Memory}
 use Rattle.ready_daemon.specs.Ready.{IsReady}
-use Rattle.ready_daemon.proofs.Keeping.{KeepsRest-changes, KeepsRest-then}
+use Rattle.ready_daemon.proofs.Commands.Keeping.{KeepsRest-changes, KeepsRest-then}
 use Rattle.puddled.specs.declared.daemon.StartFault.TheVariants as starts
 use Rattle.puddled.proofs.Emptied.{behind_recovery}
 use Rattle.puddled.proofs.Restarts.{Recovers-failed, idle_gate_behind, Recovers-by, ready_behind, sound_recovery, recovered_any}

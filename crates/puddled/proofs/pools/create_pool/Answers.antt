@@ -9,9 +9,9 @@ use Rattle.registry.specs.Pools.{HasFreshFrame}
 use Rattle.pud_defs.specs.declared.machine.Command.TheVariants as commands
 use Rattle.pud_defs.specs.declared.machine.Refusal.TheVariants as refusals
 use Rattle.pud_defs.proofs.StateMachine.Steps.{refused_answer}
-use Rattle.ready_daemon.proofs.Applying.{Applies-failed, Applies-refused}
-use Rattle.ready_daemon.proofs.Pooling.{acting, absent, refused_pool_client, Applies-behind, reply_making, Applies-making}
-use Rattle.ready_daemon.proofs.Keeping.{KeepsRest-changes, KeepsRest-still, KeepsRest-then}
+use Rattle.ready_daemon.proofs.Commands.Applying.{Applies-failed, Applies-refused}
+use Rattle.ready_daemon.proofs.PoolChanges.Pooling.{acting, absent, refused_pool_client, Applies-behind, reply_making, Applies-making}
+use Rattle.ready_daemon.proofs.Commands.Keeping.{KeepsRest-changes, KeepsRest-still, KeepsRest-then}
 use Rattle.puddled.proofs.pools.create_pool.Goals as goal
 use Rattle.pm_model.proofs.Reading.{still_size}
 

@@ -27,9 +27,9 @@ use Rattle.ready_daemon.specs.Moves.{led_in}
 use Rattle.ready_daemon.specs.Ready.{IsReady}
 use Rattle.pool_transaction.specs.Finishing.{end_of_both, FinishesLowest, AppliesTo, AppliesFinishing}
 use Rattle.pool_transaction.proofs.Leading.{ends_both, finishes_lowest, finishing_failed, finishing_led}
-use Rattle.ready_daemon.proofs.Beneath.{ready_gate}
-use Rattle.ready_daemon.proofs.Applying.{Applies-stopped}
-use Rattle.ready_daemon.proofs.Keeping.{KeepsRest-still, KeepsRest-changes, KeepsRest-then}
+use Rattle.ready_daemon.proofs.Commands.Beneath.{ready_gate}
+use Rattle.ready_daemon.proofs.Commands.Applying.{Applies-stopped}
+use Rattle.ready_daemon.proofs.Commands.Keeping.{KeepsRest-still, KeepsRest-changes, KeepsRest-then}
 use Rattle.pool_transaction.specs.Changing.{with_opened, refusal_by_world, with_made, both_finished, MakesBehind}
 use Rattle.pool_transaction.proofs.FinishedPools.{HaveMoved-both, IsSlotOf-moved}
 use Rattle.pool_transaction.proofs.ActiveFinishes.{its_puddles, its_placed, its_frontiers, low_of_placed, memory_finished, MayMakeAt, Applies-unfinished, ready_finished, known_finished, Applies-behind, may_make_at}

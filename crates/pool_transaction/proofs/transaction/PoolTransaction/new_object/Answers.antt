@@ -10,7 +10,7 @@ use Rattle.pud_defs.specs.StateMachine.Step.Answer.{of_reply}
 use Rattle.ready_daemon.specs.Memory.{ActiveTransaction}
 use Rattle.pool_transaction.specs.Changing.{IsActiveIn, with_opened, refusal_by_world}
 use Rattle.ready_daemon.specs.Ready.{IsReady}
-use Rattle.ready_daemon.proofs.InTurn.{active_known}
+use Rattle.ready_daemon.proofs.PoolChanges.InTurn.{active_known}
 use Rattle.pool_transaction.proofs.ActiveNew.{refusal_found, refused_whatever}
 use Rattle.pool_transaction.proofs.ActiveLines.{new_failed, new_refused, reply_refused, new_made, reply_made, new_unmade, was_free, was_full}
 use Rattle.pool_transaction.proofs.transaction.PoolTransaction.new_object.Goals as goal

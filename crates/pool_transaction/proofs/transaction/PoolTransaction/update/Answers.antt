@@ -8,7 +8,7 @@ use Rattle.lazy_rewrite.proofs.Spared.{HaveMoved}
 use Rattle.pool_transaction.specs.Changing.{IsActiveIn, with_opened, command_of_update}
 use Rattle.ready_daemon.specs.Memory.{ActiveTransaction}
 use Rattle.ready_daemon.specs.ActiveTransactions.{IsActiveWithin}
-use Rattle.ready_daemon.proofs.Keeping.{KeepsRest-changes, KeepsRest-then}
+use Rattle.ready_daemon.proofs.Commands.Keeping.{KeepsRest-changes, KeepsRest-then}
 use Rattle.pool_transaction.proofs.ActiveRuns.{with_tx}
 use Rattle.pool_transaction.proofs.FinishedPools.{HaveMoved-finished}
 use Rattle.pool_transaction.proofs.FoundBehind.{found_within_behind}

@@ -12,7 +12,7 @@ use Rattle.registry.specs.Places.{refusal_in}
 use Rattle.pool_transaction.specs.Changing.{with_known, command_of_update, IsFoundWithin}
 use Rattle.ready_daemon.specs.Memory.{Memory}
 use Rattle.ready_daemon.specs.Ready.{IsReady}
-use Rattle.ready_daemon.proofs.Applying.{Applies-stopped, Applies-refused}
+use Rattle.ready_daemon.proofs.Commands.Applying.{Applies-stopped, Applies-refused}
 use Rattle.pool_transaction.proofs.ChangeAnswers.{change_answer}
 use Rattle.pool_transaction.proofs.ActiveAlone.{known_so, known_on}
 use Rattle.pool_transaction.proofs.HeldFound.{placed_on, Applies-found}

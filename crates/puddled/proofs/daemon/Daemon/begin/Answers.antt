@@ -18,7 +18,7 @@ use Rattle.puddled.proofs.Commanding.{ready_read, CarriesOut-refused, CarriesOut
 use Rattle.puddled.proofs.Entering.{there_is}
 use Rattle.puddled.proofs.Found.{finds, may_begin}
 use Rattle.puddled.proofs.Needs.{refused_begin}
-use Rattle.ready_daemon.proofs.Keeping.{KeepsRest-still}
+use Rattle.ready_daemon.proofs.Commands.Keeping.{KeepsRest-still}
 use Rattle.puddled.proofs.daemon.Daemon.begin.Goals as goal
 
 pub returns-in_err-refusal-clause-carries : goal.returns-in_err-refusal-clause-carries

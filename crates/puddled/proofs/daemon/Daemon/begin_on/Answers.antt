@@ -17,8 +17,8 @@ use Rattle.ready_daemon.specs.Beginning.{begins_as}
 use Rattle.ready_daemon.specs.ActiveTransactions.{IsActiveWithin, AreActiveWithin}
 use Rattle.ready_daemon.specs.Memory.{ActiveTransaction, Memory}
 use Rattle.ready_daemon.specs.Ready.{IsReady, Applies}
-use Rattle.ready_daemon.proofs.Applying.{Applies-failed, Applies-refused, Applies-closed, Applies-behind_reads}
-use Rattle.ready_daemon.proofs.ActiveUnder.{AreActiveWithin-set}
+use Rattle.ready_daemon.proofs.Commands.Applying.{Applies-failed, Applies-refused, Applies-closed, Applies-behind_reads}
+use Rattle.ready_daemon.proofs.OpenTransactions.ActiveUnder.{AreActiveWithin-set}
 use Rattle.puddled.proofs.Entering.{refused_without_log, refused_to_begin, begins_in}
 use Rattle.puddled.proofs.daemon.Daemon.begin_on.Goals as goal
 

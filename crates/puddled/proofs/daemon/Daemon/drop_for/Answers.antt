@@ -15,10 +15,10 @@ use Rattle.ready_daemon.specs.Owning.{refusal_found, IsRecordSlot}
 use Rattle.ready_daemon.specs.Moves.{MovesTo, freed_in}
 use Rattle.ready_daemon.specs.Ready.{IsReady, AppliesBy}
 use Rattle.puddled.proofs.Frontiers.{AppliesAs-failed, AppliesAs-refused, AppliesAs-drop}
-use Rattle.ready_daemon.proofs.Known.{AreOnDevice-forgotten}
-use Rattle.ready_daemon.proofs.Applying.{Applies-failed, Applies-refused}
-use Rattle.ready_daemon.proofs.Pooling.{Applies-behind, Applies-drop}
-use Rattle.ready_daemon.proofs.Keeping.{KeepsRest-changes, KeepsRest-still, KeepsRest-then}
+use Rattle.ready_daemon.proofs.PoolsKnown.Known.{AreOnDevice-forgotten}
+use Rattle.ready_daemon.proofs.Commands.Applying.{Applies-failed, Applies-refused}
+use Rattle.ready_daemon.proofs.PoolChanges.Pooling.{Applies-behind, Applies-drop}
+use Rattle.ready_daemon.proofs.Commands.Keeping.{KeepsRest-changes, KeepsRest-still, KeepsRest-then}
 use Rattle.puddled.proofs.daemon.Daemon.drop_for.Goals as goal
 use Rattle.pm_model.proofs.Reading.{still_size}
 

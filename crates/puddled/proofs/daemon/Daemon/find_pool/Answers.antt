@@ -10,7 +10,7 @@ use Rattle.ready_daemon.specs.Memory.{Memory}
 use Rattle.ready_daemon.specs.PoolKnowledge.{known_puddles_in}
 use Rattle.ready_daemon.specs.Owning.{refusal_found}
 use Rattle.ready_daemon.specs.Ready.{IsReady}
-use Rattle.ready_daemon.proofs.Pooling.{acting, absent}
+use Rattle.ready_daemon.proofs.PoolChanges.Pooling.{acting, absent}
 use Rattle.puddled.specs.declared.finding.FoundPool.{FoundPool}
 use Rattle.puddled.specs.Finding.{found_unless_busy, IsRecordOf, IsFound}
 use Rattle.puddled.proofs.Commanding.{ready_read}

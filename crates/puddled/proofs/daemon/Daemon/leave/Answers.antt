@@ -4,9 +4,9 @@ use Rattle.pud_defs.specs.declared.machine.Command.TheVariants.{Leave}
 use Rattle.pud_defs.specs.declared.machine.Refusal.TheVariants as refusals
 use Rattle.pud_defs.specs.StateMachine.Step.{world_by}
 use Rattle.pud_defs.proofs.StateMachine.Steps.{refused_answer, answer_is_ok}
-use Rattle.ready_daemon.proofs.Applying.{Applies-failed, Applies-refused}
-use Rattle.ready_daemon.proofs.Leaving.{presence_of, Applies-accepted_by}
-use Rattle.ready_daemon.proofs.Coming.{is_absent, is_there, ClosesBefore-idle, ClosesBefore-behind}
+use Rattle.ready_daemon.proofs.Commands.Applying.{Applies-failed, Applies-refused}
+use Rattle.ready_daemon.proofs.OpenTransactions.Leaving.{presence_of, Applies-accepted_by}
+use Rattle.ready_daemon.proofs.Commands.Coming.{is_absent, is_there, ClosesBefore-idle, ClosesBefore-behind}
 use Rattle.puddled.proofs.daemon.Daemon.leave.Goals as goal
 use Rattle.pm_model.proofs.Reading.{still_size}
 

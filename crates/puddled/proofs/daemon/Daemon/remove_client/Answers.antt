@@ -9,8 +9,8 @@ use Rattle.ready_daemon.specs.Ready.{Applies, ClosesBefore}
 use Rattle.ready_daemon.specs.ActiveTransactions.{AreOfOtherClients}
 use Rattle.ready_daemon.specs.Leaving.{BehindTables, world_without}
 use Rattle.ready_daemon.specs.Memory.{Memory}
-use Rattle.ready_daemon.proofs.Coming.{ClosesBefore-changes}
-use Rattle.ready_daemon.proofs.Leaving.{others_left, gone_world, Applies-then, Applies-cut_short, ClosesBefore-then}
+use Rattle.ready_daemon.proofs.Commands.Coming.{ClosesBefore-changes}
+use Rattle.ready_daemon.proofs.OpenTransactions.Leaving.{others_left, gone_world, Applies-then, Applies-cut_short, ClosesBefore-then}
 use Rattle.puddled.proofs.daemon.Daemon.remove_client.Goals as goal
 
 pub returns-in_err-undo_of-clause-applies : goal.returns-in_err-undo_of-clause-applies

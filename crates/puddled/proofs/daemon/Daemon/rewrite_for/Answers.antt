@@ -16,8 +16,8 @@ use Rattle.ready_daemon.specs.Moves.{MovesTo, led_in}
 use Rattle.ready_daemon.specs.Ready.{IsReady, AppliesBy}
 use Rattle.lazy_rewrite.specs.Frontiers.{steps_from, frontiers_of}
 use Rattle.puddled.proofs.Frontiers.{AppliesAs-failed, AppliesAs-refused, AppliesAs-rewrite}
-use Rattle.ready_daemon.proofs.Applying.{Applies-failed, Applies-refused}
-use Rattle.ready_daemon.proofs.Pooling.{Applies-behind}
+use Rattle.ready_daemon.proofs.Commands.Applying.{Applies-failed, Applies-refused}
+use Rattle.ready_daemon.proofs.PoolChanges.Pooling.{Applies-behind}
 use Rattle.puddled.specs.Finding.{IsRecordOf}
 use Rattle.puddled.proofs.Commanding.{ready_read}
 use Rattle.puddled.proofs.Found.{named, unnamed, slot_is}

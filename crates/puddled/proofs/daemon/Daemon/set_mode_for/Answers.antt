@@ -9,9 +9,9 @@ use Rattle.pud_defs.specs.StateMachine.Step.{world_by}
 use Rattle.pud_defs.proofs.StateMachine.PoolRefusals.{refusal_of-owned}
 use Rattle.pud_defs.proofs.StateMachine.Steps.{refused_answer, answer_is_ok}
 use Rattle.ready_daemon.specs.Owning.{refusal_found, IsRecordSlot}
-use Rattle.ready_daemon.proofs.Applying.{Applies-failed, Applies-refused}
-use Rattle.ready_daemon.proofs.Pooling.{Applies-behind, Applies-mode}
-use Rattle.ready_daemon.proofs.Keeping.{KeepsRest-changes, KeepsRest-still, KeepsRest-then}
+use Rattle.ready_daemon.proofs.Commands.Applying.{Applies-failed, Applies-refused}
+use Rattle.ready_daemon.proofs.PoolChanges.Pooling.{Applies-behind, Applies-mode}
+use Rattle.ready_daemon.proofs.Commands.Keeping.{KeepsRest-changes, KeepsRest-still, KeepsRest-then}
 use Rattle.puddled.proofs.daemon.Daemon.set_mode_for.Goals as goal
 use Rattle.pm_model.proofs.Reading.{still_size}
 

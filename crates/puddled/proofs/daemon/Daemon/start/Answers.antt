@@ -6,7 +6,7 @@ use Rattle.pud_defs.specs.RegistryTables.Registry.{frames_of}
 use Rattle.pud_defs.specs.StateMachine.World.{world_of, closed, restart}
 use Rattle.ready_daemon.specs.Memory.{Memory}
 use Rattle.ready_daemon.specs.Ready.{IsReady}
-use Rattle.ready_daemon.proofs.Keeping.{KeepsRest-changes}
+use Rattle.ready_daemon.proofs.Commands.Keeping.{KeepsRest-changes}
 use Rattle.puddled.specs.Starting.{AreMarks, IsReplayed}
 use Rattle.puddled.proofs.Emptied.{IsBehindRecovery, idle_gate, behind_recovery}
 use Rattle.puddled.proofs.Restarts.{ready_behind, sound_recovery, recovered_any}

@@ -2,8 +2,8 @@ use Rattle.std.proofs.Common.{sym, ap, subst, ◌∙◌, arith, rules}
 use Rattle.std.proofs.lemmas.Option.{none-some}
 use Rattle.ready_daemon.specs.PoolKnowledge.{AreOnDevice}
 use Rattle.ready_daemon.specs.Memory.{ActiveTransaction}
-use Rattle.ready_daemon.proofs.ActiveUnder.{AreActiveWithin-set, read_within}
-use Rattle.ready_daemon.proofs.Known.{AreOnDevice-alone}
+use Rattle.ready_daemon.proofs.OpenTransactions.ActiveUnder.{AreActiveWithin-set, read_within}
+use Rattle.ready_daemon.proofs.PoolsKnown.Known.{AreOnDevice-alone}
 use Rattle.puddled.proofs.daemon.Daemon.take_transaction.Goals as goal
 
 pub end-requires : goal.end-requires

@@ -4,8 +4,8 @@ use Rattle.pm_model.specs.Counts.{Counts}
 use Rattle.pm_model.proofs.Changes.{Changes-then}
 use Rattle.pud_defs.specs.Logging.Settled.{client_of_log}
 use Rattle.ready_daemon.specs.Leaving.{BehindTables}
-use Rattle.ready_daemon.proofs.Leaving.{IsUndone-start, IsUndone-more, AreUndone-more, Applies-interrupted, Applies-all}
-use Rattle.ready_daemon.proofs.Keeping.{KeepsRest-still, KeepsRest-then}
+use Rattle.ready_daemon.proofs.OpenTransactions.Leaving.{IsUndone-start, IsUndone-more, AreUndone-more, Applies-interrupted, Applies-all}
+use Rattle.ready_daemon.proofs.Commands.Keeping.{KeepsRest-still, KeepsRest-then}
 use Rattle.puddled.proofs.daemon.Daemon.undo_of.Goals as goal
 
 pub loop-number-init : goal.loop-number-init

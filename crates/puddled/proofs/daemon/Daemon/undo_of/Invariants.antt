@@ -1,7 +1,7 @@
 use Rattle.std.proofs.Common.{◌≡◌, ℕ}
 use Rattle.pud_defs.specs.StateMachine.World.{World}
 use Rattle.ready_daemon.specs.Ready.{KeepsRest, IsReady}
-use Rattle.ready_daemon.proofs.Leaving.{IsUndone, AreUndone}
+use Rattle.ready_daemon.proofs.OpenTransactions.Leaving.{IsUndone, AreUndone}
 use Rattle.puddled.proofs.daemon.Daemon.undo_of.Given as goal
 
 abbrev pub invariant-loop-number : goal.invariant-loop-number

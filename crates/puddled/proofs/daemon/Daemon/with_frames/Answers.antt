@@ -3,8 +3,8 @@ use Rattle.pud_defs.specs.declared.records.TheConstants.{POOL_RECORDS}
 use Rattle.pud_defs.specs.Logging.Settled.{ALL_LOGS}
 use Rattle.ready_daemon.specs.ActiveTransactions.{AreActiveWithin}
 use Rattle.ready_daemon.specs.PoolKnowledge.{AreOnDevice}
-use Rattle.ready_daemon.proofs.Known.{AreOnDevice-none}
-use Rattle.ready_daemon.proofs.NoneActive.{AreActiveWithin-none}
+use Rattle.ready_daemon.proofs.PoolsKnown.Known.{AreOnDevice-none}
+use Rattle.ready_daemon.proofs.OpenTransactions.NoneActive.{AreActiveWithin-none}
 use Rattle.puddled.proofs.daemon.Daemon.with_frames.Goals as goal
 
 pub invariant_of-result : goal.invariant_of-result

@@ -4,7 +4,7 @@ use Rattle.pud_defs.specs.PoolGraphs.Stored.{IsOnDevice}
 use Rattle.known_pool.specs.Known.{Known, by_puddles}
 use Rattle.known_pool.proofs.KnownKept.{IsKnown-puddles}
 use Rattle.ready_daemon.specs.PoolKnowledge.{AreOnDevice, AreKnownPools}
-use Rattle.ready_daemon.proofs.Known.{AreOnDevice-put, AreKnownPools-set}
+use Rattle.ready_daemon.proofs.PoolsKnown.Known.{AreOnDevice-put, AreKnownPools-set}
 use Rattle.puddled.proofs.known_pools.KnownPools.judge.Goals as goal
 
 pub returns-in-Some-clause-puddles : goal.returns-in-Some-clause-puddles

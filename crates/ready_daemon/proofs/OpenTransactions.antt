@@ -1,0 +1,13 @@
+-- The transactions that are active: one more, one less, and those that stay.
+pub mod ActiveUnder
+pub mod OpenNames
+pub mod Others
+pub mod OpenBeside
+pub mod Sessions
+pub mod NoneActive
+pub mod Committing
+pub mod ActiveMore
+pub mod OthersActive
+pub mod AtDepth
+pub mod Leaving
+pub mod Counting
