@@ -23,9 +23,9 @@ use Rattle.pool_transaction.specs.declared.changing.FoundUpdate.{FoundUpdate}
 use Rattle.pool_transaction.specs.declared.changing.Update.{Update}
 use Rattle.pool_transaction.specs.Changing.{IsActiveIn, IsActiveWith, with_known, with_opened, command_of_update, IsFoundBy, IsFoundWithin, ordinal_written}
 use Rattle.pool_transaction.specs.Finishing.{end_of, FinishesFor, FinishesUnless, AppliesTo, AppliesFinishing}
-use Rattle.pool_transaction.proofs.ActiveAlone.{memory_alone, active_alone, ready_alone, opened_alone}
-use Rattle.pool_transaction.proofs.ActiveFinishes.{its_placed}
-use Rattle.pool_transaction.proofs.Leading.{AppliesTo-behind_reads, finishes_found, finishing_free}
+use Rattle.pool_transaction.proofs.Lifetimes.ActiveAlone.{memory_alone, active_alone, ready_alone, opened_alone}
+use Rattle.pool_transaction.proofs.PuddlesFinished.ActiveFinishes.{its_placed}
+use Rattle.pool_transaction.proofs.PuddlesFinished.Leading.{AppliesTo-behind_reads, finishes_found, finishing_free}
 
 -- what the call owes that makes the update which was found, on the puddles that it is lent
 abbrev pub Updates : (F : ℕ) → (active now : ActiveTransaction) → (at later : List (ℕ × Puddle)) → Update → FoundUpdate → (size : ℕ) → World → Option HostFault → (old new : State) → Type 0

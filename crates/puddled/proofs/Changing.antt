@@ -36,7 +36,7 @@ use Rattle.pool_transaction.specs.Finishing.{Finishes, FinishesUnless, AppliesFi
 use Rattle.ready_daemon.proofs.PoolChanges.InTurn.{known_in_turn}
 use Rattle.puddled.specs.Frontiers.{AppliesAs}
 use Rattle.puddled.proofs.Frontiers.{AppliesAs-change}
-use Rattle.pool_transaction.proofs.TransactionRefusals.{refused_change, refused_new}
+use Rattle.pool_transaction.proofs.Updates.TransactionRefusals.{refused_change, refused_new}
 use Rattle.ready_daemon.proofs.PoolChanges.InTurn.{active_there_known}
 
 -- what was read in a slot of the list is what is known there

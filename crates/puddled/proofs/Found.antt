@@ -54,7 +54,7 @@ use Rattle.ready_daemon.proofs.OpenTransactions.OpenBeside.{not_named, pool_unma
 use Rattle.ready_daemon.proofs.OpenTransactions.Sessions.{IsSessionOf, own_on, session_open, session_shut}
 use Rattle.ready_daemon.proofs.PoolChanges.TablesBeside.{types_read, sound_read}
 use Rattle.ready_daemon.proofs.PoolChanges.Pooling.{IsNamed, no_record, named_by, pool_there}
-use Rattle.pool_transaction.proofs.TransactionRefusals.{unless}
+use Rattle.pool_transaction.proofs.Updates.TransactionRefusals.{unless}
 use Rattle.puddled.specs.declared.finding.Need.{Need}
 use Rattle.puddled.specs.declared.finding.Need.TheVariants as needs
 use Rattle.puddled.specs.declared.finding.FoundPool.{FoundPool}

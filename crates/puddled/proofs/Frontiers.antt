@@ -22,8 +22,8 @@ use Rattle.pool_transaction.specs.declared.changing.Change.TheVariants as change
 use Rattle.pool_transaction.specs.declared.changing.Update.TheVariants as updates
 use Rattle.pool_transaction.specs.Changing.{command_of_change}
 use Rattle.pool_transaction.specs.Finishing.{Finishes, FinishesUnless, IsAt, Arrives, UnlessFailed, AppliesFinishing}
-use Rattle.pool_transaction.proofs.Arriving.{HaveReached, became, AppliesTo-known}
-use Rattle.pool_transaction.proofs.Leading.{led_none, failed_alone}
+use Rattle.pool_transaction.proofs.PuddlesFinished.Arriving.{HaveReached, became, AppliesTo-known}
+use Rattle.pool_transaction.proofs.PuddlesFinished.Leading.{led_none, failed_alone}
 use Rattle.ready_daemon.specs.PoolKnowledge.{known_puddles_in}
 use Rattle.ready_daemon.specs.Memory.{Memory}
 use Rattle.ready_daemon.specs.Moves.{Stays, IsOnTheWay, MovesTo, still, freed_in, led_in}

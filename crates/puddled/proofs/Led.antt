@@ -38,7 +38,7 @@ use Rattle.pud_defs.specs.declared.machine.Reply.TheVariants as replies
 use Rattle.pud_defs.specs.StateMachine.Step.{refusal_of}
 use Rattle.std.proofs.lemmas.Option.{none-some}
 use Rattle.pool_transaction.specs.Finishing.{Arrives, UnlessFailed}
-use Rattle.pool_transaction.proofs.Arriving.{settled_gate}
+use Rattle.pool_transaction.proofs.PuddlesFinished.Arriving.{settled_gate}
 use Rattle.puddled.specs.declared.daemon.StartFault.{StartFault}
 use Rattle.puddled.specs.Starting.{IsReplayed, Recovers}
 use Rattle.puddled.proofs.Restarts.{below_logs}

@@ -12,7 +12,7 @@ use Rattle.pud_defs.specs.StateMachine.Step.{has_owner_right, has_read_right, ha
 use Rattle.pud_defs.specs.RegistryTables.Tables.{Pool}
 use Rattle.pud_defs.specs.StateMachine.Transactions.{is_own, is_others, depth_of}
 use Rattle.pud_defs.specs.StateMachine.World.{Transaction, World, open_on}
-use Rattle.pool_transaction.proofs.TransactionRefusals.{behind}
+use Rattle.pool_transaction.proofs.Updates.TransactionRefusals.{behind}
 use Rattle.puddled.specs.declared.finding.Need.TheVariants as needs
 use Rattle.puddled.specs.Finding.{refusal_to}
 

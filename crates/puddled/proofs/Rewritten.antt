@@ -36,10 +36,10 @@ use Rattle.puddled.specs.declared.answers.LineAnswer.{LineAnswer}
 use Rattle.puddled.specs.LineAnswers.{as_line_answer}
 use Rattle.puddled.specs.Rewriting.{DoesSteps}
 use Rattle.ready_daemon.proofs.Commands.Beneath.{ready_gate}
-use Rattle.pool_transaction.proofs.ActiveFinishes.{low_of_placed}
-use Rattle.pool_transaction.proofs.Rewriting.{Applies-rewrites}
-use Rattle.pool_transaction.proofs.StepsBeside.{known_placed}
-use Rattle.pool_transaction.proofs.StepsMoved.{upto}
+use Rattle.pool_transaction.proofs.PuddlesFinished.ActiveFinishes.{low_of_placed}
+use Rattle.pool_transaction.proofs.PuddlesFinished.Rewriting.{Applies-rewrites}
+use Rattle.pool_transaction.proofs.PuddlesFinished.StepsBeside.{known_placed}
+use Rattle.pool_transaction.proofs.PuddlesFinished.StepsMoved.{upto}
 
 -- ---- why it is refused
 

@@ -10,7 +10,7 @@ use Rattle.pud_defs.specs.StateMachine.World.{World}
 use Rattle.nesting.specs.declared.Session.{Session}
 use Rattle.nesting.specs.Sessions.{depth_in}
 use Rattle.pool_transaction.specs.Lifetime.{with_ended}
-use Rattle.pool_transaction.proofs.ActiveEnds.{Applies-unheld}
+use Rattle.pool_transaction.proofs.Lifetimes.ActiveEnds.{Applies-unheld}
 use Rattle.ready_daemon.specs.OwnOnPool.{IsOwnTransactionOn}
 use Rattle.ready_daemon.specs.Leaving.{sessions_behind, judged_behind, world_without_log}
 use Rattle.ready_daemon.specs.Memory.{ActiveTransaction, Memory, active_under}

@@ -2,7 +2,7 @@ use Rattle.std.proofs.Common.{Some, refl}
 use Rattle.std.proofs.lemmas.Result.{err_from_is_err_and}
 use Rattle.pm_model.specs.Counts.{fault_of}
 use Rattle.ready_daemon.proofs.Commands.Keeping.{KeepsRest-changes, KeepsRest-then}
-use Rattle.pool_transaction.proofs.FinishedPools.{Rewrites-first, Rewrites-both}
+use Rattle.pool_transaction.proofs.PuddlesFinished.FinishedPools.{Rewrites-first, Rewrites-both}
 use Rattle.pool_transaction.proofs.changing.finish_both.Goals as goal
 
 pub returns-in_err-finish-clause-rewrites : goal.returns-in_err-finish-clause-rewrites

@@ -2,7 +2,7 @@ use Rattle.std.proofs.Common.{sym, subst, ◌∙◌}
 use Rattle.pm_model.specs.Counts.{fault_of}
 use Rattle.ready_daemon.specs.Memory.{ActiveTransaction}
 use Rattle.ready_daemon.proofs.Commands.Keeping.{KeepsRest-changes}
-use Rattle.pool_transaction.proofs.ActiveEnds.{Undoes, Applies-aborted, undone_behind}
+use Rattle.pool_transaction.proofs.Lifetimes.ActiveEnds.{Undoes, Applies-aborted, undone_behind}
 use Rattle.pool_transaction.proofs.transaction.PoolTransaction.abort.Goals as goal
 
 pub returns-clause-applies : goal.returns-clause-applies

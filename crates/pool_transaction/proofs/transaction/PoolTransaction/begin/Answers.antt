@@ -1,7 +1,7 @@
 use Rattle.std.proofs.Common.{Some, None}
 use Rattle.std.proofs.lemmas.Result.{err_from_is_err_and}
 use Rattle.ready_daemon.proofs.Commands.Keeping.{KeepsRest-changes}
-use Rattle.pool_transaction.proofs.Beginning.{Applies-begins}
+use Rattle.pool_transaction.proofs.Lifetimes.Beginning.{Applies-begins}
 use Rattle.pool_transaction.proofs.transaction.PoolTransaction.begin.Goals as goal
 
 pub returns-in_err-tx-clause-applies : goal.returns-in_err-tx-clause-applies

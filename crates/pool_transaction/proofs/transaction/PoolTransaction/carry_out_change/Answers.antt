@@ -10,7 +10,7 @@ use Rattle.ready_daemon.specs.Memory.{Memory}
 use Rattle.pool_transaction.specs.declared.changing.Change.{Change}
 use Rattle.pool_transaction.specs.Changing.{IsActiveIn, with_known, with_opened, command_of_change}
 use Rattle.pool_transaction.specs.Finishing.{Finishes, FinishesTaken, FinishesUnless, AppliesFinishing}
-use Rattle.pool_transaction.proofs.ActiveAlone.{memory_alone, active_alone, ready_alone, opened_alone}
+use Rattle.pool_transaction.proofs.Lifetimes.ActiveAlone.{memory_alone, active_alone, ready_alone, opened_alone}
 use Rattle.pool_transaction.proofs.transaction.PoolTransaction.carry_out_change.Goals as goal
 
 pub returns-in-New-clause-reply : goal.returns-in-New-clause-reply

@@ -6,7 +6,7 @@ use Rattle.hybrid_tx.specs.PoolScopes.{ArePlacedPuddles}
 use Rattle.hybrid_tx.specs.Objects.Stores.{IsPlaceAndWord}
 use Rattle.ready_daemon.specs.Memory.{ActiveTransaction}
 use Rattle.ready_daemon.proofs.PoolChanges.InTurn.{active_known}
-use Rattle.pool_transaction.proofs.ActiveRefusals.{refused_unfound, refused_to_set}
+use Rattle.pool_transaction.proofs.Updates.ActiveRefusals.{refused_unfound, refused_to_set}
 use Rattle.ready_daemon.specs.PoolKnowledge.{puddles_known}
 use Rattle.pool_transaction.proofs.transaction.PoolTransaction.find_field.Goals as goal
 

@@ -10,8 +10,8 @@ use Rattle.puddle_header.specs.Places.{place_of_slot}
 use Rattle.graph_read.specs.Reading.{place_in_pool}
 use Rattle.ready_daemon.specs.Memory.{ActiveTransaction}
 use Rattle.ready_daemon.proofs.PoolChanges.InTurn.{active_known}
-use Rattle.pool_transaction.proofs.ActiveAlone.{known_so}
-use Rattle.pool_transaction.proofs.ActiveRefusals.{refused_none_to_free, refused_to_free}
+use Rattle.pool_transaction.proofs.Lifetimes.ActiveAlone.{known_so}
+use Rattle.pool_transaction.proofs.Updates.ActiveRefusals.{refused_none_to_free, refused_to_free}
 use Rattle.ready_daemon.specs.PoolKnowledge.{puddles_known}
 use Rattle.pool_transaction.proofs.transaction.PoolTransaction.find_free.Goals as goal
 

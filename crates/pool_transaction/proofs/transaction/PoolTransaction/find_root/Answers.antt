@@ -5,7 +5,7 @@ use Rattle.hybrid_tx.specs.PoolScopes.{ArePlacedPuddles}
 use Rattle.hybrid_tx.specs.Objects.Stores.{word_for}
 use Rattle.ready_daemon.specs.Memory.{ActiveTransaction}
 use Rattle.ready_daemon.proofs.PoolChanges.InTurn.{active_known}
-use Rattle.pool_transaction.proofs.ActiveRefusals.{refused_unrooted, refused_to_root}
+use Rattle.pool_transaction.proofs.Updates.ActiveRefusals.{refused_unrooted, refused_to_root}
 use Rattle.ready_daemon.specs.PoolKnowledge.{puddles_known}
 use Rattle.pool_transaction.proofs.transaction.PoolTransaction.find_root.Goals as goal
 

@@ -3,7 +3,7 @@ use Rattle.pud_defs.specs.StateMachine.Step.{refusal_of}
 use Rattle.registry.specs.Places.{refusal_in}
 use Rattle.pool_transaction.specs.declared.changing.Update.{Update}
 use Rattle.pool_transaction.specs.Changing.{command_of_update, IsFoundBy}
-use Rattle.pool_transaction.proofs.TransactionRefusals.{refusal_of-later}
+use Rattle.pool_transaction.proofs.Updates.TransactionRefusals.{refusal_of-later}
 use Rattle.pool_transaction.proofs.transaction.PoolTransaction.find_update.Goals as goal
 
 pub returns-in-Set-clause-refusal : goal.returns-in-Set-clause-refusal

@@ -4,7 +4,7 @@ use Rattle.pm_model.specs.Words.{reads}
 use Rattle.pud_defs.specs.RegistryTables.Tables.{tables_of, puddles_in_turn}
 use Rattle.ready_daemon.specs.Memory.{ActiveTransaction}
 use Rattle.pool_transaction.specs.Changing.{with_opened}
-use Rattle.pool_transaction.proofs.ActiveGrows.{grows_failed, grows_unread, grows_done, grows_longer}
+use Rattle.pool_transaction.proofs.NewObjects.ActiveGrows.{grows_failed, grows_unread, grows_done, grows_longer}
 use Rattle.ready_daemon.proofs.Commands.Keeping.{KeepsRest-changes, KeepsRest-still, KeepsRest-then}
 use Rattle.pool_transaction.proofs.transaction.PoolTransaction.grow.Goals as goal
 

@@ -5,14 +5,14 @@ use Rattle.std.proofs.lemmas.Result.{err_from_is_err_and}
 use Rattle.pm_model.specs.Words.{reads}
 use Rattle.registry.specs.Places.{refusal_in}
 use Rattle.pool_transaction.specs.Changing.{refusal_by_tables, GrowsBy, with_puddle_added}
-use Rattle.pool_transaction.proofs.ActiveLines.{memory_with, new_failed, new_refused, reply_refused, refused_by_tables, new_ungrown, active_then, with_frames, new_in_more, reply_in_more}
-use Rattle.pool_transaction.proofs.ActiveMakes.{units_fit}
+use Rattle.pool_transaction.proofs.NewObjects.ActiveLines.{memory_with, new_failed, new_refused, reply_refused, refused_by_tables, new_ungrown, active_then, with_frames, new_in_more, reply_in_more}
+use Rattle.pool_transaction.proofs.NewObjects.ActiveMakes.{units_fit}
 use Rattle.pool_transaction.proofs.transaction.PoolTransaction.make_in_new_puddle.Goals as goal
 use Rattle.pm_model.proofs.Reading.{still_size}
 use Rattle.pool_transaction.specs.Finishing.{end_of_both, FinishesLowest, FinishesTaken, IsLonger}
-use Rattle.pool_transaction.proofs.Leading.{finishes_more, finishes_grown}
-use Rattle.pool_transaction.proofs.ActiveMakes.{all_live}
-use Rattle.pool_transaction.proofs.ActiveFinishes.{its_puddles}
+use Rattle.pool_transaction.proofs.PuddlesFinished.Leading.{finishes_more, finishes_grown}
+use Rattle.pool_transaction.proofs.NewObjects.ActiveMakes.{all_live}
+use Rattle.pool_transaction.proofs.PuddlesFinished.ActiveFinishes.{its_puddles}
 
 pub returns-in_err-added-clause-applies : goal.returns-in_err-added-clause-applies
 returns-in_err-added-clause-applies g c =

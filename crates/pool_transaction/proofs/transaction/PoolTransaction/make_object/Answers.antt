@@ -26,15 +26,15 @@ use Rattle.ready_daemon.specs.Memory.{ActiveTransaction, active_under}
 use Rattle.ready_daemon.specs.Moves.{led_in}
 use Rattle.ready_daemon.specs.Ready.{IsReady}
 use Rattle.pool_transaction.specs.Finishing.{end_of_both, FinishesLowest, AppliesTo, AppliesFinishing}
-use Rattle.pool_transaction.proofs.Leading.{ends_both, finishes_lowest, finishing_failed, finishing_led}
+use Rattle.pool_transaction.proofs.PuddlesFinished.Leading.{ends_both, finishes_lowest, finishing_failed, finishing_led}
 use Rattle.ready_daemon.proofs.Commands.Beneath.{ready_gate}
 use Rattle.ready_daemon.proofs.Commands.Applying.{Applies-stopped}
 use Rattle.ready_daemon.proofs.Commands.Keeping.{KeepsRest-still, KeepsRest-changes, KeepsRest-then}
 use Rattle.pool_transaction.specs.Changing.{with_opened, refusal_by_world, with_made, both_finished, MakesBehind}
-use Rattle.pool_transaction.proofs.FinishedPools.{HaveMoved-both, IsSlotOf-moved}
-use Rattle.pool_transaction.proofs.ActiveFinishes.{its_puddles, its_placed, its_frontiers, low_of_placed, memory_finished, MayMakeAt, Applies-unfinished, ready_finished, known_finished, Applies-behind, may_make_at}
-use Rattle.pool_transaction.proofs.ActiveMakes.{all_live, not_live, serial_made, made_there, Applies-made}
-use Rattle.pool_transaction.proofs.ActiveRuns.{with_tx}
+use Rattle.pool_transaction.proofs.PuddlesFinished.FinishedPools.{HaveMoved-both, IsSlotOf-moved}
+use Rattle.pool_transaction.proofs.PuddlesFinished.ActiveFinishes.{its_puddles, its_placed, its_frontiers, low_of_placed, memory_finished, MayMakeAt, Applies-unfinished, ready_finished, known_finished, Applies-behind, may_make_at}
+use Rattle.pool_transaction.proofs.NewObjects.ActiveMakes.{all_live, not_live, serial_made, made_there, Applies-made}
+use Rattle.pool_transaction.proofs.Lifetimes.ActiveRuns.{with_tx}
 use Rattle.pool_transaction.proofs.transaction.PoolTransaction.make_object.Goals as goal
 
 -- ---- each slot is live

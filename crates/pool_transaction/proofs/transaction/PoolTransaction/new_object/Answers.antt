@@ -11,15 +11,15 @@ use Rattle.ready_daemon.specs.Memory.{ActiveTransaction}
 use Rattle.pool_transaction.specs.Changing.{IsActiveIn, with_opened, refusal_by_world}
 use Rattle.ready_daemon.specs.Ready.{IsReady}
 use Rattle.ready_daemon.proofs.PoolChanges.InTurn.{active_known}
-use Rattle.pool_transaction.proofs.ActiveNew.{refusal_found, refused_whatever}
-use Rattle.pool_transaction.proofs.ActiveLines.{new_failed, new_refused, reply_refused, new_made, reply_made, new_unmade, was_free, was_full}
+use Rattle.pool_transaction.proofs.NewObjects.ActiveNew.{refusal_found, refused_whatever}
+use Rattle.pool_transaction.proofs.NewObjects.ActiveLines.{new_failed, new_refused, reply_refused, new_made, reply_made, new_unmade, was_free, was_full}
 use Rattle.pool_transaction.proofs.transaction.PoolTransaction.new_object.Goals as goal
 use Rattle.pm_model.proofs.Reading.{still_size}
 use Rattle.pud_defs.specs.declared.records.Puddle.{Puddle}
 use Rattle.pool_transaction.specs.Finishing.{end_of_both, FinishesTaken, FinishesUnless, AppliesFinishing}
-use Rattle.pool_transaction.proofs.Leading.{finishes_more, finishing_taken}
-use Rattle.pool_transaction.proofs.ActiveMakes.{all_live}
-use Rattle.pool_transaction.proofs.ActiveFinishes.{its_puddles}
+use Rattle.pool_transaction.proofs.PuddlesFinished.Leading.{finishes_more, finishing_taken}
+use Rattle.pool_transaction.proofs.NewObjects.ActiveMakes.{all_live}
+use Rattle.pool_transaction.proofs.PuddlesFinished.ActiveFinishes.{its_puddles}
 use Rattle.ready_daemon.specs.PoolKnowledge.{puddles_known}
 use Rattle.std.specs.Prelude.{ℕ, List, length}
 

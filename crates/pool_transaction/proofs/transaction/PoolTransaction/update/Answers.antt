@@ -9,10 +9,10 @@ use Rattle.pool_transaction.specs.Changing.{IsActiveIn, with_opened, command_of_
 use Rattle.ready_daemon.specs.Memory.{ActiveTransaction}
 use Rattle.ready_daemon.specs.ActiveTransactions.{IsActiveWithin}
 use Rattle.ready_daemon.proofs.Commands.Keeping.{KeepsRest-changes, KeepsRest-then}
-use Rattle.pool_transaction.proofs.ActiveRuns.{with_tx}
-use Rattle.pool_transaction.proofs.FinishedPools.{HaveMoved-finished}
-use Rattle.pool_transaction.proofs.FoundBehind.{found_within_behind}
-use Rattle.pool_transaction.proofs.ActiveUpdates.{Applies-unfinished_update, Applies-update}
+use Rattle.pool_transaction.proofs.Lifetimes.ActiveRuns.{with_tx}
+use Rattle.pool_transaction.proofs.PuddlesFinished.FinishedPools.{HaveMoved-finished}
+use Rattle.pool_transaction.proofs.PuddlesFinished.FoundBehind.{found_within_behind}
+use Rattle.pool_transaction.proofs.Updates.ActiveUpdates.{Applies-unfinished_update, Applies-update}
 use Rattle.ready_daemon.specs.Moves.{led_in}
 use Rattle.pool_transaction.specs.Finishing.{end_of, AppliesTo}
 use Rattle.pool_transaction.specs.Changing.{ordinal_written}

@@ -5,7 +5,7 @@ use Rattle.ready_daemon.specs.Owning.{refusal_found}
 use Rattle.puddled.specs.declared.finding.Need.TheVariants as needs
 use Rattle.puddled.proofs.Found.{finds}
 use Rattle.puddled.proofs.Needs.{own_refused, own_none}
-use Rattle.pool_transaction.proofs.TransactionRefusals.{own_is_open}
+use Rattle.pool_transaction.proofs.Updates.TransactionRefusals.{own_is_open}
 use Rattle.puddled.proofs.daemon.Daemon.find_own.Goals as goal
 
 pub returns-in-Err-clause-refusal : goal.returns-in-Err-clause-refusal

@@ -28,10 +28,10 @@ use Rattle.ready_daemon.specs.Memory.{ActiveTransaction, Memory, active_under, w
 use Rattle.ready_daemon.specs.ActiveTransactions.{IsActive}
 use Rattle.pool_transaction.specs.Changing.{refusal_to_make, refusal_by_world, with_made}
 use Rattle.ready_daemon.specs.Ready.{IsReady, Applies}
-use Rattle.pool_transaction.proofs.ActiveRuns.{with_tx, is_active, active_placed, Applies-runs}
-use Rattle.pool_transaction.proofs.ActiveSets.{used_more, OwesRuns, told, owed}
+use Rattle.pool_transaction.proofs.Lifetimes.ActiveRuns.{with_tx, is_active, active_placed, Applies-runs}
+use Rattle.pool_transaction.proofs.Updates.ActiveSets.{used_more, OwesRuns, told, owed}
 use Rattle.ready_daemon.proofs.OpenTransactions.OpenNames.{Charges-charged}
-use Rattle.pool_transaction.proofs.ActivePools.{grows_live, grows_not}
+use Rattle.pool_transaction.proofs.NewObjects.ActivePools.{grows_live, grows_not}
 
 -- ---- what is not refused
 

@@ -29,9 +29,9 @@ use Rattle.ready_daemon.proofs.PoolChanges.InTurn.{active_known}
 use Rattle.ready_daemon.proofs.PoolsKnown.KnownOpen.{known_within}
 use Rattle.ready_daemon.proofs.OpenTransactions.ActiveUnder.{active_within, active_here, active_same}
 use Rattle.pool_transaction.specs.Finishing.{FinishesUnless, AppliesTo, AppliesFinishing}
-use Rattle.pool_transaction.proofs.ActiveGrows.{grown_frames}
-use Rattle.pool_transaction.proofs.Leading.{known_so, AppliesTo-then, finishing_failed, finishing_refused, finishing_unless, finishing_stopped}
-use Rattle.pool_transaction.proofs.ActiveNew.{refused_less, refused_more, answer_new, world_less, world_more, serial_is_some, grown_less, grown_refusal, grown_next}
+use Rattle.pool_transaction.proofs.NewObjects.ActiveGrows.{grown_frames}
+use Rattle.pool_transaction.proofs.PuddlesFinished.Leading.{known_so, AppliesTo-then, finishing_failed, finishing_refused, finishing_unless, finishing_stopped}
+use Rattle.pool_transaction.proofs.NewObjects.ActiveNew.{refused_less, refused_more, answer_new, world_less, world_more, serial_is_some, grown_less, grown_refusal, grown_next}
 
 -- what is known already of a pool may be kept once more
 pub known_same : (number slot : ℕ) (h : ActiveTransaction) (at : List (ℕ × Puddle)) (memory : Memory) → KnowsAlone memory.judged slot at → with_opened number slot h at memory ≡ with_active number (Some h) memory

@@ -41,7 +41,7 @@ use Rattle.ready_daemon.proofs.Commands.Beside.{IsApart, KeepsOne, Leaves-from, 
 use Rattle.ready_daemon.proofs.Commands.Beneath.{ready_gate}
 use Rattle.ready_daemon.proofs.PoolChanges.PuddlesLeft.{LeavesPuddles-behind}
 use Rattle.ready_daemon.proofs.OpenTransactions.OpenNames.{changed_there, changed_elsewhere, WereOpen, WereOpen-changed, Charges}
-use Rattle.pool_transaction.proofs.ActiveChanged.{Holds-later, HasSessions-later}
+use Rattle.pool_transaction.proofs.Lifetimes.ActiveChanged.{Holds-later, HasSessions-later}
 use Rattle.ready_daemon.proofs.PoolChanges.PoolsBeside.{one_slot}
 use Rattle.ready_daemon.proofs.PoolChanges.InTurn.{active_in_turn}
 use Rattle.ready_daemon.proofs.PoolsKnown.KnownKept.{HasGraphIn}

@@ -16,7 +16,7 @@ use Rattle.pool_transaction.specs.declared.changing.FoundUpdate.{FoundUpdate}
 use Rattle.pool_transaction.specs.declared.changing.FoundUpdate.TheVariants.{Field, Root, Object}
 use Rattle.pool_transaction.specs.declared.changing.Update.{Update}
 use Rattle.pool_transaction.specs.Changing.{IsFoundBy, IsFoundWithin}
-use Rattle.pool_transaction.proofs.FinishedPools.{IsSlotOf-moved}
+use Rattle.pool_transaction.proofs.PuddlesFinished.FinishedPools.{IsSlotOf-moved}
 
 -- what was found lies within the puddles still
 pub found_within_behind : (at later : List (ℕ × Puddle)) (found : FoundUpdate) → HaveMoved at later → IsFoundWithin at found → IsFoundWithin later found

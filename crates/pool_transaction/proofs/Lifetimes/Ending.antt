@@ -62,7 +62,7 @@ use Rattle.ready_daemon.proofs.Commands.Beside.{Leaves-from, names_none_idle, re
 use Rattle.ready_daemon.proofs.Commands.Beneath.{ready_gate, gate_kept, idle_kept}
 use Rattle.ready_daemon.proofs.PoolChanges.PuddlesLeft.{LeavesPuddles-behind}
 use Rattle.pool_transaction.specs.Lifetime.{with_ended}
-use Rattle.pool_transaction.proofs.ActiveRuns.{stands_within}
+use Rattle.pool_transaction.proofs.Lifetimes.ActiveRuns.{stands_within}
 use Rattle.ready_daemon.proofs.PoolChanges.InTurn.{active_in_turn, active_there_known}
 use Rattle.ready_daemon.proofs.PoolsKnown.KnownKept.{HasGraphIn}
 use Rattle.ready_daemon.proofs.PoolsKnown.KnownOpen.{KnowsPools-ended, KeepsPools-active, graph_active_in, rest_active}

@@ -54,8 +54,8 @@ use Rattle.ready_daemon.proofs.Commands.Beneath.{table_reads}
 use Rattle.ready_daemon.proofs.Commands.Beside.{daemon_log_unmasked}
 use Rattle.ready_daemon.proofs.OpenTransactions.Committing.{idle_world_with_graph}
 use Rattle.pool_transaction.specs.Lifetime.{with_ended}
-use Rattle.pool_transaction.proofs.Ending.{EndsBy-closes, EndsBy-ends, mixed, is_active, own, rest, more, rest_masks, later, all_later, later_more, later_masks, records_there, idle_there, world_there, world_before, Applies-ended}
-use Rattle.pool_transaction.proofs.ActiveRuns.{active_placed}
+use Rattle.pool_transaction.proofs.Lifetimes.Ending.{EndsBy-closes, EndsBy-ends, mixed, is_active, own, rest, more, rest_masks, later, all_later, later_more, later_masks, records_there, idle_there, world_there, world_before, Applies-ended}
+use Rattle.pool_transaction.proofs.Lifetimes.ActiveRuns.{active_placed}
 use Rattle.ready_daemon.proofs.PoolChanges.InTurn.{active_in_turn}
 use Rattle.ready_daemon.proofs.PoolChanges.PoolsApart.{found_beside_put}
 use Rattle.ready_daemon.proofs.PoolChanges.PoolsBeside.{used_still}

@@ -48,7 +48,7 @@ use Rattle.hybrid_tx.proofs.Open.OpenPools.{placed_by_tables}
 use Rattle.ready_daemon.specs.Memory.{ActiveTransaction}
 use Rattle.ready_daemon.specs.ActiveTransactions.{open_pool_of, open_transaction_of, IsActive, StaysSingle, ByOthers}
 use Rattle.ready_daemon.proofs.Commands.Beside.{own_masked, log_masked}
-use Rattle.pool_transaction.proofs.OwnMore.{OpensAnew, begun, own_begun, other_begun, FinishesMore, mine_later, wider_ground, comes_open}
+use Rattle.pool_transaction.proofs.Lifetimes.OwnMore.{OpensAnew, begun, own_begun, other_begun, FinishesMore, mine_later, wider_ground, comes_open}
 
 -- ---- puddles that are finished stay so, where they are
 

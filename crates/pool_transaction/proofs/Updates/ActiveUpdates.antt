@@ -30,16 +30,16 @@ use Rattle.ready_daemon.specs.Ready.{IsReady}
 use Rattle.ready_daemon.proofs.OpenTransactions.ActiveUnder.{active_same}
 use Rattle.ready_daemon.proofs.PoolChanges.InTurn.{active_known}
 use Rattle.pool_transaction.specs.Finishing.{end_of, AppliesTo}
-use Rattle.pool_transaction.proofs.Arriving.{AreEnds}
-use Rattle.pool_transaction.proofs.Leading.{ends_finished}
-use Rattle.pool_transaction.proofs.StepsMoved.{upto}
+use Rattle.pool_transaction.proofs.PuddlesFinished.Arriving.{AreEnds}
+use Rattle.pool_transaction.proofs.PuddlesFinished.Leading.{ends_finished}
+use Rattle.pool_transaction.proofs.PuddlesFinished.StepsMoved.{upto}
 use Rattle.known_pool.specs.Known.{by_puddles}
-use Rattle.pool_transaction.proofs.ActiveLines.{known_same}
-use Rattle.pool_transaction.proofs.ActiveRuns.{with_tx, is_active}
-use Rattle.pool_transaction.proofs.ActiveSets.{same_stored, Applies-line}
-use Rattle.pool_transaction.proofs.FinishedPools.{IsRewrittenAt-finished}
-use Rattle.pool_transaction.proofs.FoundBehind.{found_behind}
-use Rattle.pool_transaction.proofs.ActiveFinishes.{its_frontiers, Applies-unfinished, ready_finished, known_finished, spared_finished, Applies-behind}
+use Rattle.pool_transaction.proofs.NewObjects.ActiveLines.{known_same}
+use Rattle.pool_transaction.proofs.Lifetimes.ActiveRuns.{with_tx, is_active}
+use Rattle.pool_transaction.proofs.Updates.ActiveSets.{same_stored, Applies-line}
+use Rattle.pool_transaction.proofs.PuddlesFinished.FinishedPools.{IsRewrittenAt-finished}
+use Rattle.pool_transaction.proofs.PuddlesFinished.FoundBehind.{found_behind}
+use Rattle.pool_transaction.proofs.PuddlesFinished.ActiveFinishes.{its_frontiers, Applies-unfinished, ready_finished, known_finished, spared_finished, Applies-behind}
 
 -- what the call owes that makes the update which was found
 abbrev pub CarriesOut : (F : ℕ) → List (ℕ × Puddle) → FoundUpdate → (log now : OpenLog) → Option HostFault → State → State → Type 0

@@ -44,7 +44,7 @@ use Rattle.ready_daemon.proofs.PoolChanges.InTurn.{known_in_turn}
 use Rattle.ready_daemon.proofs.PoolsKnown.KnownKept.{HasGraphIn, KeepsGraphs, KeepsPool, KeepsPools, KeepsPools-each, own_word, words_apart}
 use Rattle.ready_daemon.proofs.PoolChanges.PoolsBeside.{unmasked_moving_frame}
 use Rattle.ready_daemon.proofs.PoolChanges.TablesBeside.{sound_read}
-use Rattle.pool_transaction.proofs.StepsBeside.{known_graph, known_placed}
+use Rattle.pool_transaction.proofs.PuddlesFinished.StepsBeside.{known_graph, known_placed}
 
 -- the members of another pool do not go by the frontier of a puddle
 members_moved : (t : Tables) (frame n slot other f : ℕ) (m : Member) → t.puddles frame ≡ Some m → m.pool ≡ slot + 1 → other ≢ slot → members (with_frontier_at frame n t) other f ≡ members t other f

@@ -73,8 +73,8 @@ use Rattle.ready_daemon.proofs.PoolChanges.PoolsBeside.{used_still}
 use Rattle.ready_daemon.proofs.PoolChanges.RecordsApart.{LeavesPuddles-adds}
 use Rattle.ready_daemon.proofs.PoolChanges.PoolsApart.{frame_below, found_beside_put, LeavesMasked-adds, AppliesMasked-pools}
 use Rattle.ready_daemon.proofs.PoolChanges.TablesBeside.{HasDurableTables-masked, mask_beside, header_read, tables_read, under_durable}
-use Rattle.pool_transaction.proofs.ActiveRuns.{is_active}
-use Rattle.pool_transaction.proofs.ActivePools.{its_pool, its_graph, count_active, puddles_counted, some_active}
+use Rattle.pool_transaction.proofs.Lifetimes.ActiveRuns.{is_active}
+use Rattle.pool_transaction.proofs.NewObjects.ActivePools.{its_pool, its_graph, count_active, puddles_counted, some_active}
 use Rattle.ready_daemon.proofs.PoolChanges.AllMembers.{all_members}
 use Rattle.ready_daemon.proofs.PoolChanges.GraphLonger.{graph_longer}
 use Rattle.ready_daemon.proofs.PoolChanges.InTurn.{active_known, active_in_turn}
@@ -84,7 +84,7 @@ use Rattle.ready_daemon.proofs.PoolChanges.PoolsGrown.{off_growing, grown_read}
 use Rattle.ready_daemon.proofs.PoolsKnown.KnownKept.{HasGraphIn, KeepsPools}
 use Rattle.pud_defs.specs.RegistryTables.Puts.{member_by, with_puddle_at}
 use Rattle.pud_defs.specs.declared.records.TheConstants.{POOL_RECORDS}
-use Rattle.pool_transaction.proofs.Widened.{GrowsHeld, opened_more, wide, holds_more, sessions_more, settled_more, rest_more, logs_more}
+use Rattle.pool_transaction.proofs.Lifetimes.Widened.{GrowsHeld, opened_more, wide, holds_more, sessions_more, settled_more, rest_more, logs_more}
 
 -- ---- the world
 

@@ -37,9 +37,9 @@ use Rattle.pool_transaction.specs.Changing.{command_of_update}
 use Rattle.pool_transaction.specs.Refusing.{room_refusal, field_refusal, refusal_to_free}
 use Rattle.ready_daemon.specs.Ready.{IsReady}
 use Rattle.ready_daemon.proofs.Commands.Beside.{active_is}
-use Rattle.pool_transaction.proofs.ActiveRuns.{active_placed}
+use Rattle.pool_transaction.proofs.Lifetimes.ActiveRuns.{active_placed}
 use Rattle.ready_daemon.proofs.PoolChanges.TablesBeside.{types_read}
-use Rattle.pool_transaction.proofs.TransactionRefusals.{change_refusal, refusal_of-change, own_is_open}
+use Rattle.pool_transaction.proofs.Updates.TransactionRefusals.{change_refusal, refusal_of-change, own_is_open}
 
 -- ---- what was read of a field, as the machine's causes
 

@@ -38,11 +38,11 @@ use Rattle.ready_daemon.specs.ActiveTransactions.{IsActive}
 use Rattle.pool_transaction.specs.Changing.{refusal_to_make, refusal_by_tables, refusal_by_world, with_puddle_added, with_made}
 use Rattle.ready_daemon.specs.Ready.{IsReady}
 use Rattle.ready_daemon.proofs.PoolChanges.TablesBeside.{header_read, types_read, pools_read, sound_read}
-use Rattle.pool_transaction.proofs.TransactionRefusals.{making_refusal, refusal_of-new, own_is_open}
-use Rattle.pool_transaction.proofs.ActiveRuns.{is_active, active_placed}
-use Rattle.pool_transaction.proofs.ActivePools.{its_pool, grows_by, objects_fit, puddles_counted}
-use Rattle.pool_transaction.proofs.ActiveGrows.{found_more}
-use Rattle.pool_transaction.proofs.ActiveMakes.{next_serial}
+use Rattle.pool_transaction.proofs.Updates.TransactionRefusals.{making_refusal, refusal_of-new, own_is_open}
+use Rattle.pool_transaction.proofs.Lifetimes.ActiveRuns.{is_active, active_placed}
+use Rattle.pool_transaction.proofs.NewObjects.ActivePools.{its_pool, grows_by, objects_fit, puddles_counted}
+use Rattle.pool_transaction.proofs.NewObjects.ActiveGrows.{found_more}
+use Rattle.pool_transaction.proofs.NewObjects.ActiveMakes.{next_serial}
 
 -- ---- numbers
 

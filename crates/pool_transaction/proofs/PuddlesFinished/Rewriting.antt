@@ -47,13 +47,13 @@ use Rattle.ready_daemon.proofs.PoolsKnown.Known.{pool_kept, known_other}
 use Rattle.ready_daemon.proofs.PoolChanges.PoolsBeside.{one_slot, used_still}
 use Rattle.ready_daemon.proofs.PoolChanges.RestBeside.{active_graph, rest_beside}
 use Rattle.ready_daemon.proofs.PoolChanges.TablesBeside.{types_read, sound_read}
-use Rattle.pool_transaction.proofs.ActiveAnew.{opens_anew, was_one, then_one, wide, holds_anew, settled_anew, rest_anew, logs_anew}
-use Rattle.pool_transaction.proofs.ActiveStepped.{before, comes_stepped, active_stepped}
-use Rattle.pool_transaction.proofs.StepsBeside.{IsShutIn, cases_active, known_placed, steps_apply}
-use Rattle.pool_transaction.proofs.OwnMore.{OpensAnew}
-use Rattle.pool_transaction.proofs.Arriving.{pool_used}
-use Rattle.pool_transaction.proofs.StepsMoved.{upto, LeavesPuddles-steps}
-use Rattle.pool_transaction.proofs.StepsKept.{listed_then, graph_then, known_then, tables_then, sound_then, KeepsPools-steps}
+use Rattle.pool_transaction.proofs.Lifetimes.ActiveAnew.{opens_anew, was_one, then_one, wide, holds_anew, settled_anew, rest_anew, logs_anew}
+use Rattle.pool_transaction.proofs.PuddlesFinished.ActiveStepped.{before, comes_stepped, active_stepped}
+use Rattle.pool_transaction.proofs.PuddlesFinished.StepsBeside.{IsShutIn, cases_active, known_placed, steps_apply}
+use Rattle.pool_transaction.proofs.Lifetimes.OwnMore.{OpensAnew}
+use Rattle.pool_transaction.proofs.PuddlesFinished.Arriving.{pool_used}
+use Rattle.pool_transaction.proofs.PuddlesFinished.StepsMoved.{upto, LeavesPuddles-steps}
+use Rattle.pool_transaction.proofs.PuddlesFinished.StepsKept.{listed_then, graph_then, known_then, tables_then, sound_then, KeepsPools-steps}
 
 -- what is known anyway is kept again
 set-known : (judged : List (Option Known)) (slot : ℕ) (known : Known) → known_pool_in judged slot ≡ Some known → set judged slot (Some known) ≡ judged

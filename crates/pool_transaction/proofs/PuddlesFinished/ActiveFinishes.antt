@@ -45,11 +45,11 @@ use Rattle.ready_daemon.proofs.PoolsKnown.Known.{pool_kept}
 use Rattle.ready_daemon.proofs.PoolChanges.TablesBeside.{sound_read}
 use Rattle.pool_transaction.specs.Changing.{both_finished}
 use Rattle.pool_transaction.specs.Finishing.{AppliesTo}
-use Rattle.pool_transaction.proofs.Arriving.{AreEnds, AppliesBy-used, narrowed, AppliesTo-known}
-use Rattle.pool_transaction.proofs.FinishedPools.{HasLegalFrontiers, HasNoneLeft, first_finished, other_finished, both_finished-none, Rewrites-none_left}
-use Rattle.pool_transaction.proofs.ActiveRuns.{is_active, active_placed}
-use Rattle.pool_transaction.proofs.Rewriting.{Applies-rewrites}
-use Rattle.pool_transaction.proofs.StepsMoved.{upto}
+use Rattle.pool_transaction.proofs.PuddlesFinished.Arriving.{AreEnds, AppliesBy-used, narrowed, AppliesTo-known}
+use Rattle.pool_transaction.proofs.PuddlesFinished.FinishedPools.{HasLegalFrontiers, HasNoneLeft, first_finished, other_finished, both_finished-none, Rewrites-none_left}
+use Rattle.pool_transaction.proofs.Lifetimes.ActiveRuns.{is_active, active_placed}
+use Rattle.pool_transaction.proofs.PuddlesFinished.Rewriting.{Applies-rewrites}
+use Rattle.pool_transaction.proofs.PuddlesFinished.StepsMoved.{upto}
 
 -- ---- what sound tables say of puddles
 

@@ -21,8 +21,8 @@ use Rattle.ready_daemon.specs.PoolKnowledge.{KnowsAlone}
 use Rattle.ready_daemon.specs.Memory.{ActiveTransaction, Memory, active_under, with_active}
 use Rattle.ready_daemon.specs.ActiveTransactions.{IsActive}
 use Rattle.ready_daemon.specs.Ready.{IsReady, Applies}
-use Rattle.pool_transaction.proofs.FieldsTyped.{may_change_unrefused}
-use Rattle.pool_transaction.proofs.ActiveRuns.{with_tx, is_active, active_placed, Applies-runs}
+use Rattle.pool_transaction.proofs.Updates.FieldsTyped.{may_change_unrefused}
+use Rattle.pool_transaction.proofs.Lifetimes.ActiveRuns.{with_tx, is_active, active_placed, Applies-runs}
 use Rattle.ready_daemon.proofs.OpenTransactions.OpenNames.{Charges, Charges-charged, Charges-deferring}
 
 -- what a call used that did not fail

@@ -40,9 +40,9 @@ use Rattle.pool_transaction.specs.declared.changing.FoundUpdate.{FoundUpdate}
 use Rattle.pool_transaction.specs.declared.changing.FoundUpdate.TheVariants.{Field, Root, Object}
 use Rattle.pool_transaction.specs.Changing.{both_finished, field_change, IsFoundBy, IsFoundWithin, ordinal_written}
 use Rattle.pool_transaction.specs.Finishing.{end_of, end_of_both, no_end, FinishesObject, FinishesFor, FinishesLowest, FinishesTaken, IsLonger, FinishesUnless, UnlessFailed, AppliesTo, AppliesFinishing}
-use Rattle.pool_transaction.proofs.Arriving.{HaveReached, AreEnds, became}
-use Rattle.pool_transaction.proofs.FinishedPools.{HasLegalFrontiers, HaveMoved-finished, finished-other, legal-finished, IsRewrittenAt-finished, first_finished, other_finished, one_no_lower}
-use Rattle.pool_transaction.proofs.StepsMoved.{upto}
+use Rattle.pool_transaction.proofs.PuddlesFinished.Arriving.{HaveReached, AreEnds, became}
+use Rattle.pool_transaction.proofs.PuddlesFinished.FinishedPools.{HasLegalFrontiers, HaveMoved-finished, finished-other, legal-finished, IsRewrittenAt-finished, first_finished, other_finished, one_no_lower}
+use Rattle.pool_transaction.proofs.PuddlesFinished.StepsMoved.{upto}
 
 -- ---- puddles at their ends
 

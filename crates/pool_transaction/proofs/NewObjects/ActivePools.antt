@@ -26,7 +26,7 @@ use Rattle.ready_daemon.specs.Ready.{IsReady}
 use Rattle.ready_daemon.proofs.PoolChanges.InTurn.{active_in_turn}
 use Rattle.ready_daemon.proofs.PoolChanges.PoolsBeside.{used_still}
 use Rattle.ready_daemon.proofs.PoolChanges.TablesBeside.{tables_read, world_under, sound_read}
-use Rattle.pool_transaction.proofs.ActiveRuns.{is_active}
+use Rattle.pool_transaction.proofs.Lifetimes.ActiveRuns.{is_active}
 
 -- a pool that has this graph
 pub record HasPool (found : Option Pool) (g : Graph) : Type 0 where

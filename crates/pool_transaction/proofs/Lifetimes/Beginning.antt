@@ -66,7 +66,7 @@ use Rattle.ready_daemon.proofs.Commands.Beside.{Leaves-from, ready_idle, IsApart
 use Rattle.ready_daemon.proofs.Commands.Beneath.{ready_gate, gate_kept, idle_kept}
 use Rattle.ready_daemon.proofs.PoolChanges.PuddlesLeft.{LeavesPuddles-behind}
 use Rattle.ready_daemon.proofs.OpenTransactions.Counting.{log_free}
-use Rattle.pool_transaction.proofs.Ending.{world_now, left_stands, idle_now, records_now}
+use Rattle.pool_transaction.proofs.Lifetimes.Ending.{world_now, left_stands, idle_now, records_now}
 use Rattle.ready_daemon.proofs.PoolChanges.InTurn.{pool_in_slot}
 use Rattle.ready_daemon.proofs.PoolsKnown.KnownKept.{KeepsPools}
 use Rattle.ready_daemon.proofs.PoolsKnown.KnownOpen.{KeepsPools-begun, KnowsPools-begun}

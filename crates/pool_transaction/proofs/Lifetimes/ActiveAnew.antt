@@ -23,7 +23,7 @@ use Rattle.hybrid_tx.proofs.Open.ManyIdle.{one_ended, one_put, others_open, othe
 use Rattle.ready_daemon.specs.Memory.{ActiveTransaction, active_under}
 use Rattle.ready_daemon.specs.ActiveTransactions.{open_transaction_of, IsActive, IsActiveUnder, AreActive, HasDurableFrames, HasIdleLogs, ByOthers}
 use Rattle.ready_daemon.proofs.Commands.Beside.{KeepsOne, others_apart, active_still, records_all}
-use Rattle.pool_transaction.proofs.OwnMore.{IsMaskedMore, masked_more, one_more, OpensAnew}
+use Rattle.pool_transaction.proofs.Lifetimes.OwnMore.{IsMaskedMore, masked_more, one_more, OpensAnew}
 
 -- the same world has the same of each
 keeps_all : (w : World) (h : ActiveTransaction) → KeepsOne w w h

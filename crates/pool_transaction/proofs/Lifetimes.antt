@@ -1,0 +1,10 @@
+-- A transaction begins, goes on beside others, comes to have more, and ends.
+pub mod ActiveChanged
+pub mod ActiveRuns
+pub mod OwnMore
+pub mod Widened
+pub mod ActiveAnew
+pub mod Beginning
+pub mod Ending
+pub mod ActiveEnds
+pub mod ActiveAlone

@@ -1,0 +1,7 @@
+-- Fields and roots that are set, values that are deferred, and objects that are freed.
+pub mod TransactionRefusals
+pub mod FieldsTyped
+pub mod ActiveSets
+pub mod ActiveUpdates
+pub mod ActiveRefusals
+pub mod ChangeAnswers
