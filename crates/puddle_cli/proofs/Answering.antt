@@ -30,7 +30,7 @@ use Rattle.pud_defs.proofs.StateMachine.Stands.{StandsAfter-more, StandsWith-lat
 use Rattle.puddled.specs.declared.daemon.RunFault.{RunFault}
 use Rattle.puddled.specs.declared.daemon.RunFault.TheVariants.{NotSound}
 use Rattle.puddled.specs.Faults.{of_host, run_fault, CountsLine, CountsReply, CountsTurns, Grows}
-use Rattle.puddled.proofs.Counted.{risen_grows, none_is_sound, counted_fault, lost_in_line, CountsTurns-one, CountsTurns-append}
+use Rattle.puddled.proofs.DeviceStarts.Counted.{risen_grows, none_is_sound, counted_fault, lost_in_line, CountsTurns-one, CountsTurns-append}
 use Rattle.ready_daemon.specs.Memory.{Memory}
 use Rattle.puddled.specs.Saying.{SaysPart}
 use Rattle.puddled.specs.Daemon.{KeepsLine, spoken, Answers}

@@ -19,7 +19,7 @@ use Rattle.pud_defs.specs.StateMachine.World.{world_of, blank_world, IsBlank}
 use Rattle.pud_defs.specs.Output.Texts.{formatted_text}
 use Rattle.pud_defs.proofs.StateMachine.Worlds.{world_of-no_magic}
 use Rattle.pud_defs.proofs.Formats.Blank.{world_of-blank}
-use Rattle.puddled.proofs.Lines.{SaysPart-says, SaysPart-nothing, words_said, script_said, shelf_said}
+use Rattle.puddled.proofs.LinesDone.Lines.{SaysPart-says, SaysPart-nothing, words_said, script_said, shelf_said}
 use Rattle.puddle_cli.specs.Formatting.{is_format_refused, HasNoMagic, BelowFrames, IsLaidOut, HasFramesOf, KeepsFrames, LaysOut, Formats}
 
 -- each image left is not sound, or stands for the empty world

@@ -32,8 +32,8 @@ use Rattle.puddled.specs.declared.daemon.StartFault.TheVariants as starts
 use Rattle.puddled.specs.Faults.{of_host}
 use Rattle.puddled.specs.Saying.{IsPart, SaysPart}
 use Rattle.puddled.specs.Starting.{Starts}
-use Rattle.puddled.proofs.Counted.{host_is_sound}
-use Rattle.puddled.proofs.Lines.{SaysPart-says, words_said, script_said, shelf_said}
+use Rattle.puddled.proofs.DeviceStarts.Counted.{host_is_sound}
+use Rattle.puddled.proofs.LinesDone.Lines.{SaysPart-says, words_said, script_said, shelf_said}
 use Rattle.puddle_cli.specs.Generated.{bytes_of}
 use Rattle.puddle_cli.specs.Status.{status_fault, run_fault_at, IsStatusOfMode}
 use Rattle.puddle_cli.specs.Serving.{StandsAmong, KeepsScript, CountsPending, file_under_way, TakesTo, TakesBy, HasServed, HasServedBy}

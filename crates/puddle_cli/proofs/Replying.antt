@@ -16,7 +16,7 @@ use Rattle.pm_model.specs.declared.host.HostFault.{HostFault}
 use Rattle.puddled.specs.Faults.{run_fault}
 use Rattle.puddled.specs.Saying.{SaysPart}
 use Rattle.puddled.specs.Daemon.{IsAnswerText, SaysAnswer}
-use Rattle.puddled.proofs.Lines.{is_answer_text}
+use Rattle.puddled.proofs.LinesDone.Lines.{is_answer_text}
 use Rattle.puddle_cli.specs.Status.{run_fault_at}
 use Rattle.puddle_cli.specs.Replying.{HearsLine, Hears, IsReplied, Heard, RunSays}
 use Rattle.puddle_cli.proofs.Answering.{nothing_from_take, kept_more}

@@ -23,8 +23,8 @@ use Rattle.independence.proofs.Runs.{independent_whole}
 use Rattle.puddled.specs.declared.daemon.RunFault.{RunFault}
 use Rattle.puddled.specs.declared.daemon.RunFault.TheVariants as faults
 use Rattle.puddled.specs.Faults.{risen_by, RoseBy, last_fault, CountsTurns}
-use Rattle.puddled.proofs.Beginning.{lines_of_start}
-use Rattle.puddled.proofs.Counted.{risen_by-more, CountsTurns-cuts, counted_ends, cuts_of_ends, lost_in_restart, cuts_after_fault}
+use Rattle.puddled.proofs.DeviceStarts.Beginning.{lines_of_start}
+use Rattle.puddled.proofs.DeviceStarts.Counted.{risen_by-more, CountsTurns-cuts, counted_ends, cuts_of_ends, lost_in_restart, cuts_after_fault}
 use Rattle.puddled.specs.declared.daemon.StartFault.{StartFault}
 use Rattle.puddled.specs.declared.daemon.StartFault.TheVariants as starts
 use Rattle.ready_daemon.specs.Memory.{Memory}

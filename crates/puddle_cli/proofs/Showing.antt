@@ -36,7 +36,7 @@ use Rattle.ready_daemon.specs.Memory.{Memory}
 use Rattle.ready_daemon.specs.Ready.{RefusesNone}
 use Rattle.puddled.specs.Saying.{SaysPart}
 use Rattle.puddled.specs.Starting.{IsReplayed, Starts}
-use Rattle.puddled.proofs.Lines.{SaysPart-says}
+use Rattle.puddled.proofs.LinesDone.Lines.{SaysPart-says}
 use Rattle.puddle_cli.specs.declared.show.View.{View}
 use Rattle.puddle_cli.specs.declared.show.View.TheVariants.{Layout, Check}
 use Rattle.puddle_cli.specs.Views.{text_of}

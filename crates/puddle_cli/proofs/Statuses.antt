@@ -8,7 +8,7 @@ use Rattle.pud_defs.specs.StateMachine.World.{StoredWorld, world_of}
 use Rattle.puddled.specs.declared.daemon.RunFault.{RunFault}
 use Rattle.puddled.specs.declared.daemon.RunFault.TheVariants as faults
 use Rattle.puddled.specs.Faults.{Grows, CountsToEnd}
-use Rattle.puddled.proofs.Counted.{Grows-still, risen_least}
+use Rattle.puddled.proofs.DeviceStarts.Counted.{Grows-still, risen_least}
 use Rattle.puddle_cli.specs.declared.status.TheConstants.{DONE, NOT_USABLE, DEVICE_FAULT, POWER_LOST, TOO_LONG}
 use Rattle.puddle_cli.specs.Status.{status_fault, run_fault_at, status_at, IsStatusOfMode, Causes}
 

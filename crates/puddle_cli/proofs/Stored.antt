@@ -13,7 +13,7 @@ use Rattle.pud_defs.specs.StateMachine.Step.{Answer}
 use Rattle.pud_defs.specs.StateMachine.World.{World, pools_in, stored_by, closed, nothing_open}
 use Rattle.ready_daemon.specs.Memory.{Memory, ActiveTransaction, active_under}
 use Rattle.ready_daemon.specs.Ready.{IsReady}
-use Rattle.puddled.proofs.LinesCarriedOut.{frames_by}
+use Rattle.puddled.proofs.LinesDone.LinesCarriedOut.{frames_by}
 use Rattle.ready_daemon.proofs.PoolChanges.TablesBeside.{header_read, types_read, world_under}
 
 -- ---- a run keeps the number of frames

@@ -181,7 +181,7 @@ fn arm<H: Host>(h: &mut H, step: u32, pick: u64) -> Result<Reply, HostFault>
 }
 
 /// Carries out the command, or refuses it, without a word.
-#[tactic(auto, using(crate::proofs::Carrying::keeps_line))]
+#[tactic(auto, using(crate::proofs::LinesDone::Carrying::keeps_line))]
 fn apply<H: Host>(
     daemon: &mut Daemon,
     alloc: Global,

@@ -1,7 +1,7 @@
 use mir.Val.{bool_byte}
 use Rattle.std.proofs.Common.{◌≡◌, Bool, [], true, false, cond, refl, sym, ◌∙◌}
 use Rattle.std.proofs.lemmas.Result.{err_from_is_err_and}
-use Rattle.puddled.proofs.Counted.{reply_ends}
+use Rattle.puddled.proofs.DeviceStarts.Counted.{reply_ends}
 use Rattle.puddle_cli.proofs.Answering.{AnswersLine-turn, AnswersLine-nothing, KeepsScript-still, KeepsScript-line}
 use Rattle.puddle_cli.proofs.Replying.{HearsLine-turn, HearsLine-nothing, says_nothing}
 use Rattle.puddle_cli.proofs.run.answer.Goals as goal

@@ -5,7 +5,7 @@ use Rattle.pm_model.specs.Counts.{Counts}
 use Rattle.pud_defs.specs.StateMachine.Run.{last_world, open_rest}
 use Rattle.puddled.specs.declared.daemon.RunFault.{RunFault}
 use Rattle.puddled.specs.Faults.{of_host}
-use Rattle.puddled.proofs.Counted.{CountsToEnd-host, host_is_sound}
+use Rattle.puddled.proofs.DeviceStarts.Counted.{CountsToEnd-host, host_is_sound}
 use Rattle.puddle_cli.specs.Source.{bytes_left}
 use Rattle.puddle_cli.specs.Serving.{TakesOne}
 use Rattle.puddle_cli.proofs.Answering.{counts_nothing_more, ready_read, AnswersLine-as, Answered-newline, Answered-so_far, Serves-line, Serves-byte, Takes-more, TakesAtMost-takes, KeepsScript-still, left_kept, took_aloud}

@@ -2,7 +2,7 @@ use Rattle.std.proofs.Common.{arith, true, false, Result, None, refl, sym, subst
 use Rattle.std.proofs.lemmas.Result.{err_from_is_err_and}
 use Rattle.pud_defs.specs.StateMachine.Run.{last_world, open_rest}
 use Rattle.puddled.specs.declared.daemon.RunFault.{RunFault}
-use Rattle.puddled.proofs.Counted.{none_is_sound, size_of_ends, Grows-still, Grows-then, CountsToEnd-none, CountsToEnd-then}
+use Rattle.puddled.proofs.DeviceStarts.Counted.{none_is_sound, size_of_ends, Grows-still, Grows-then, CountsToEnd-none, CountsToEnd-then}
 use Rattle.puddle_cli.specs.Source.{is_aloud, bytes_left}
 use Rattle.puddle_cli.specs.declared.run.Served.{Served}
 use Rattle.puddle_cli.specs.Serving.{HasServedBy}

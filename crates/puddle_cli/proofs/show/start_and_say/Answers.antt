@@ -2,7 +2,7 @@ use Rattle.std.proofs.Common.{Some, None, refl, ap, ◌∙◌}
 use Rattle.std.proofs.lemmas.Result.{err_from_is_err_and}
 use Rattle.pm_model.specs.Words.{reads}
 use Rattle.puddle_cli.specs.Views.{text_of}
-use Rattle.puddled.proofs.Lines.{KeepsInput-says, words_said}
+use Rattle.puddled.proofs.LinesDone.Lines.{KeepsInput-says, words_said}
 use Rattle.puddle_cli.proofs.Showing.{not_refused, shown, shown_in_the_end, SaysPart-started, world_at, Leaves-start, Leaves-shown, Allows-start, Allows-shown}
 use Rattle.puddle_cli.proofs.show.start_and_say.Goals as goal
 

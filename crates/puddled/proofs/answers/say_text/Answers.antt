@@ -1,6 +1,6 @@
 use Rattle.std.proofs.lemmas.Result.{err_from_is_err_and}
 use Rattle.pm_model.specs.Counts.{fault_of}
-use Rattle.puddled.proofs.Saying.{Says-unbegun, Says-unended, Says-text}
+use Rattle.puddled.proofs.LinesDone.Saying.{Says-unbegun, Says-unended, Says-text}
 use Rattle.puddled.proofs.answers.say_text.Goals as goal
 
 pub returns-in_err-say-clause-says : goal.returns-in_err-say-clause-says

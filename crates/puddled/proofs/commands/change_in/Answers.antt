@@ -10,7 +10,7 @@ use Rattle.ready_daemon.specs.PoolKnowledge.{known_pool_in}
 use Rattle.ready_daemon.specs.ActiveTransactions.{IsActiveWithin}
 use Rattle.ready_daemon.specs.Ready.{IsReady}
 use Rattle.ready_daemon.proofs.OpenTransactions.ActiveUnder.{AreActiveWithin-set, read_there, read_within}
-use Rattle.puddled.proofs.Changing.{known_there, on_device_there, is_known, active_in, asked, Applies-changed}
+use Rattle.puddled.proofs.TransactionLines.Changing.{known_there, on_device_there, is_known, active_in, asked, Applies-changed}
 use Rattle.puddled.proofs.commands.change_in.Goals as goal
 use Rattle.puddled.proofs.commands.change_in.Goals.{in-Some-pools, in-None-pools}
 

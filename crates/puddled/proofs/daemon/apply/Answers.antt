@@ -7,12 +7,12 @@ use Rattle.ready_daemon.specs.Memory.{Memory}
 use Rattle.puddled.specs.declared.answers.LineAnswer.TheVariants as answers
 use Rattle.puddled.specs.Daemon.{CarriesOut}
 use Rattle.ready_daemon.proofs.Commands.Keeping.{KeepsRest-still}
-use Rattle.puddled.proofs.Carrying.{ClosesLogs-leave, ClosesLogs-other, CarriesOut-plain, CarriesOut-led, CarriesOut-as, CarriesOut-listed, CarriesOut-lost, CarriesOut-armed}
+use Rattle.puddled.proofs.LinesDone.Carrying.{ClosesLogs-leave, ClosesLogs-other, CarriesOut-plain, CarriesOut-led, CarriesOut-as, CarriesOut-listed, CarriesOut-lost, CarriesOut-armed}
 use Rattle.std.specs.Prelude.{IfOk}
 use Rattle.pm_model.specs.Words.{reads}
 use Rattle.pud_defs.specs.StateMachine.Step.{refusal_of}
 use Rattle.puddled.specs.Rewriting.{DoesSteps}
-use Rattle.puddled.proofs.Rewritten.{steps_answered}
+use Rattle.puddled.proofs.PoolLines.Rewritten.{steps_answered}
 use Rattle.puddled.proofs.daemon.apply.Goals as goal
 
 pub returns-in-Client-clause-carries : goal.returns-in-Client-clause-carries

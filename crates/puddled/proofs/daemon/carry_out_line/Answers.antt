@@ -16,11 +16,11 @@ use Rattle.puddled.specs.declared.answers.LineAnswer.TheVariants as answers
 use Rattle.puddled.specs.declared.daemon.RunFault.{RunFault}
 use Rattle.puddled.specs.declared.daemon.RunFault.TheVariants as faults
 use Rattle.puddled.specs.Daemon.{KeepsAllBut, CarriesOut}
-use Rattle.puddled.proofs.Counted.{counted_nothing, bad_loses_nothing, size_of_command}
-use Rattle.puddled.proofs.Carrying.{CarriesOut-bad, KeepsAllBut-then}
-use Rattle.puddled.proofs.LinesCarriedOut.{Settles-done}
+use Rattle.puddled.proofs.DeviceStarts.Counted.{counted_nothing, bad_loses_nothing, size_of_command}
+use Rattle.puddled.proofs.LinesDone.Carrying.{CarriesOut-bad, KeepsAllBut-then}
+use Rattle.puddled.proofs.LinesDone.LinesCarriedOut.{Settles-done}
 use Rattle.puddled.specs.Frontiers.{LeadFrontiers, MoveOnTheWay}
-use Rattle.puddled.proofs.Led.{LeadFrontiers-bad, MoveOnTheWay-done}
+use Rattle.puddled.proofs.PoolLines.Led.{LeadFrontiers-bad, MoveOnTheWay-done}
 use Rattle.std.proofs.lemmas.Option.{none-some, same_Some}
 use Rattle.pud_defs.specs.StateMachine.Step.{refusal_of}
 use Rattle.pud_defs.specs.declared.machine.Command.TheVariants.{Rewrite}

@@ -7,8 +7,8 @@ use Rattle.ready_daemon.specs.Memory.{Memory}
 use Rattle.ready_daemon.specs.Ready.{IsReady}
 use Rattle.ready_daemon.proofs.Commands.Keeping.{KeepsRest-changes, KeepsRest-then}
 use Rattle.puddled.specs.declared.daemon.StartFault.TheVariants as starts
-use Rattle.puddled.proofs.Emptied.{behind_recovery}
-use Rattle.puddled.proofs.Restarts.{Recovers-failed, idle_gate_behind, Recovers-by, ready_behind, sound_recovery, recovered_any}
+use Rattle.puddled.proofs.DeviceStarts.Emptied.{behind_recovery}
+use Rattle.puddled.proofs.DeviceStarts.Restarts.{Recovers-failed, idle_gate_behind, Recovers-by, ready_behind, sound_recovery, recovered_any}
 use Rattle.puddled.proofs.daemon.restart.Goals as goal
 
 -- ---- the recovery failed

@@ -14,9 +14,9 @@ use Rattle.ready_daemon.specs.Memory.{Memory}
 use Rattle.puddled.specs.Daemon.{CarriesOut}
 use Rattle.puddled.specs.declared.daemon.StartFault.{StartFault}
 use Rattle.puddled.specs.Faults.{start_fault, kind_of, CountsCommand, behind_loss}
-use Rattle.puddled.proofs.Counted.{kind_done, kind_faulty, kind_restarted, kind_unstarted, no_power_lost}
-use Rattle.puddled.proofs.LinesCarriedOut.{Settles-done, Settles-failed, Settles-again, Settles-unstarted, restart_sound, found_world, found_stands, found_shelf}
-use Rattle.puddled.proofs.Led.{LeadFrontiers-done, LeadFrontiers-lost, MoveOnTheWay-done, MoveOnTheWay-lost}
+use Rattle.puddled.proofs.DeviceStarts.Counted.{kind_done, kind_faulty, kind_restarted, kind_unstarted, no_power_lost}
+use Rattle.puddled.proofs.LinesDone.LinesCarriedOut.{Settles-done, Settles-failed, Settles-again, Settles-unstarted, restart_sound, found_world, found_stands, found_shelf}
+use Rattle.puddled.proofs.PoolLines.Led.{LeadFrontiers-done, LeadFrontiers-lost, MoveOnTheWay-done, MoveOnTheWay-lost}
 use Rattle.std.specs.Prelude.{IfOk}
 use Rattle.pud_defs.specs.declared.machine.Command.{Command}
 use Rattle.puddled.specs.Rewriting.{DoesSteps}

@@ -1,5 +1,5 @@
 use Rattle.pud_export.proofs.SlotsRead.{low_bases}
-use Rattle.puddled.proofs.FileLines.{HoldsPool-put}
+use Rattle.puddled.proofs.FileTransfers.FileLines.{HoldsPool-put}
 use Rattle.puddled.proofs.exporting.write_file.Goals as goal
 use Rattle.pm_model.proofs.Saying.{LeavesFile-same}
 

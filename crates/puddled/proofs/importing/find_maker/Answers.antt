@@ -4,7 +4,7 @@ use Rattle.pm_model.specs.Moments.{State}
 use Rattle.pud_defs.specs.RegistryTables.Tables.{tables_of, pool_in}
 use Rattle.pud_defs.specs.declared.machine.Refusal.TheVariants as refusals
 use Rattle.ready_daemon.proofs.PoolChanges.Pooling.{acting, absent}
-use Rattle.puddled.proofs.ImportRefusals.{import_client, import_exists, named_there, named_none}
+use Rattle.puddled.proofs.FileTransfers.ImportRefusals.{import_client, import_exists, named_there, named_none}
 use Rattle.puddled.proofs.importing.find_maker.Goals as goal
 
 pub returns-in_default-clause-refused : goal.returns-in_default-clause-refused

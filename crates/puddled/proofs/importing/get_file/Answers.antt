@@ -1,7 +1,7 @@
 use Rattle.std.proofs.Common.{ℕ, List, ◌++◌, sym, ap, subst, ◌∙◌}
 use Rattle.std.specs.Str.{IsUtf8}
 use Rattle.pud_defs.specs.Output.Listing.{name_text}
-use Rattle.puddled.proofs.FileNames.{IsUtf8-name_text}
+use Rattle.puddled.proofs.FileTransfers.FileNames.{IsUtf8-name_text}
 use Rattle.puddled.proofs.importing.get_file.Goals as goal
 
 pub unreachable-requires : goal.unreachable-requires

@@ -6,8 +6,8 @@ use Rattle.pm_model.specs.Moments.{State}
 use Rattle.pud_defs.specs.declared.machine.Reply.TheVariants as replies
 use Rattle.puddled.specs.Importing.{MayMakeNamed}
 use Rattle.pud_defs.specs.declared.machine.Command.TheVariants.{Import}
-use Rattle.puddled.proofs.Commanding.{ready_read, CarriesOut-refused, CarriesOut-unread}
-use Rattle.puddled.proofs.ImportLines.{import_is_plain, CarriesOut-behind}
+use Rattle.puddled.proofs.TransactionLines.Commanding.{ready_read, CarriesOut-refused, CarriesOut-unread}
+use Rattle.puddled.proofs.FileTransfers.ImportLines.{import_is_plain, CarriesOut-behind}
 use Rattle.puddled.proofs.importing.import.Goals as goal
 
 pub returns-in_err-refusal-clause-carries : goal.returns-in_err-refusal-clause-carries

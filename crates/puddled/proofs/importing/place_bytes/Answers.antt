@@ -4,8 +4,8 @@ use Rattle.std.specs.Result.{is_ok}
 use Rattle.pud_defs.specs.PoolGraphs.ExportFile.{file_graph}
 use Rattle.pud_import.specs.Contents.{stored_held}
 use Rattle.ready_daemon.proofs.Commands.Keeping.{KeepsRest-changes}
-use Rattle.puddled.proofs.ImportRefusals.{fault_of_placing}
-use Rattle.puddled.proofs.ImportLines.{CarriesOut-bad_file, CarriesOut-view, stays_unplaced}
+use Rattle.puddled.proofs.FileTransfers.ImportRefusals.{fault_of_placing}
+use Rattle.puddled.proofs.FileTransfers.ImportLines.{CarriesOut-bad_file, CarriesOut-view, stays_unplaced}
 use Rattle.puddled.proofs.importing.place_bytes.Goals as goal
 
 pub returns-in_default-clause-carries : goal.returns-in_default-clause-carries

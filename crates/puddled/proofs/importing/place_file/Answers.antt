@@ -6,9 +6,9 @@ use Rattle.pud_defs.specs.declared.machine.Command.TheVariants.{Import}
 use Rattle.pud_defs.specs.declared.machine.Refusal.TheVariants as refusals
 use Rattle.pud_defs.specs.declared.machine.Reply.TheVariants as replies
 use Rattle.puddled.specs.Importing.{IsFrontOf}
-use Rattle.puddled.proofs.Commanding.{ready_read, CarriesOut-refused, CarriesOut-unread}
-use Rattle.puddled.proofs.ImportRefusals.{import_no_file}
-use Rattle.puddled.proofs.ImportLines.{import_is_plain, CarriesOut-behind, CarriesOut-memory, front_of, none_given, some_there}
+use Rattle.puddled.proofs.TransactionLines.Commanding.{ready_read, CarriesOut-refused, CarriesOut-unread}
+use Rattle.puddled.proofs.FileTransfers.ImportRefusals.{import_no_file}
+use Rattle.puddled.proofs.FileTransfers.ImportLines.{import_is_plain, CarriesOut-behind, CarriesOut-memory, front_of, none_given, some_there}
 use Rattle.puddled.proofs.importing.place_file.Goals as goal
 
 pub returns-in-Ok-Some-clause-carries : goal.returns-in-Ok-Some-clause-carries

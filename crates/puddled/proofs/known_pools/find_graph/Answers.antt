@@ -1,5 +1,5 @@
 use Rattle.std.proofs.Common.{Bool, Some, None, cond, sym, ap, ◌∙◌}
-use Rattle.puddled.proofs.Found.{puddles_judged}
+use Rattle.puddled.proofs.PoolLines.Found.{puddles_judged}
 use Rattle.pm_model.proofs.Reading.{still_reads}
 use Rattle.puddled.proofs.known_pools.find_graph.Goals as goal
 

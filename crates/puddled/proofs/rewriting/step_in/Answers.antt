@@ -10,8 +10,8 @@ use Rattle.ready_daemon.specs.PoolKnowledge.{known_pool_in, known_puddles_in}
 use Rattle.ready_daemon.specs.Moves.{MovesTo, led_in}
 use Rattle.ready_daemon.specs.Ready.{IsReady, AppliesBy}
 use Rattle.ready_daemon.proofs.Commands.Keeping.{KeepsRest-changes, KeepsRest-still}
-use Rattle.puddled.proofs.Changing.{known_there, on_device_there}
-use Rattle.puddled.proofs.Rewritten.{Applies-stepped, steps_known, steps_none, moves_known, moves_none}
+use Rattle.puddled.proofs.TransactionLines.Changing.{known_there, on_device_there}
+use Rattle.puddled.proofs.PoolLines.Rewritten.{Applies-stepped, steps_known, steps_none, moves_known, moves_none}
 use Rattle.puddled.proofs.rewriting.step_in.Goals as goal
 use Rattle.puddled.proofs.rewriting.step_in.Goals.{in-Some, in-None}
 

@@ -1,7 +1,7 @@
 use Rattle.std.proofs.Common.{◌≡◌, ℕ, List, length, sym, subst, ◌∙◌, eqb-true}
 use Rattle.pm_model.specs.Counts.{fault_of}
 use Rattle.pm_model.specs.Calls.{Says}
-use Rattle.puddled.proofs.Beginning.{text_by_marks, Says-nothing}
+use Rattle.puddled.proofs.DeviceStarts.Beginning.{text_by_marks, Says-nothing}
 use Rattle.puddled.proofs.starting.say_refused.Goals as goal
 use Rattle.std.proofs.lemmas.List.{nil_from_length}
 

@@ -4,7 +4,7 @@ use Rattle.pud_defs.specs.declared.machine.Command.TheVariants.{Abort}
 use Rattle.pud_defs.specs.declared.machine.Reply.TheVariants as replies
 use Rattle.pud_defs.proofs.StateMachine.Steps.{answer_is_ok}
 use Rattle.ready_daemon.specs.Owning.{refusal_found}
-use Rattle.puddled.proofs.Commanding.{ready_read, CarriesOut-refused, CarriesOut-unread, CarriesOut-stopped, CarriesOut-done, abort_is_plain, abort_moves_none}
+use Rattle.puddled.proofs.TransactionLines.Commanding.{ready_read, CarriesOut-refused, CarriesOut-unread, CarriesOut-stopped, CarriesOut-done, abort_is_plain, abort_moves_none}
 use Rattle.pool_transaction.proofs.Lifetimes.ActiveEnds.{Applies-own}
 use Rattle.pool_transaction.proofs.Updates.TransactionRefusals.{refusal_of-abort}
 use Rattle.puddled.proofs.daemon.Daemon.abort.Goals as goal

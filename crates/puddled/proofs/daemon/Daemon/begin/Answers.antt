@@ -13,11 +13,11 @@ use Rattle.ready_daemon.specs.Owning.{refusal_found}
 use Rattle.puddled.specs.declared.finding.FoundPool.{FoundPool}
 use Rattle.puddled.specs.declared.finding.Need.TheVariants as needs
 use Rattle.puddled.specs.Finding.{needs_graph, IsFound}
-use Rattle.puddled.proofs.Frontiers.{AppliesAs-none}
-use Rattle.puddled.proofs.Commanding.{ready_read, CarriesOut-refused, CarriesOut-unread, CarriesOut-replied, Applies-untouched, begin_is_plain, begin_moves_none}
-use Rattle.puddled.proofs.Entering.{there_is}
-use Rattle.puddled.proofs.Found.{finds, may_begin}
-use Rattle.puddled.proofs.Needs.{refused_begin}
+use Rattle.puddled.proofs.PoolLines.Frontiers.{AppliesAs-none}
+use Rattle.puddled.proofs.TransactionLines.Commanding.{ready_read, CarriesOut-refused, CarriesOut-unread, CarriesOut-replied, Applies-untouched, begin_is_plain, begin_moves_none}
+use Rattle.puddled.proofs.TransactionLines.Entering.{there_is}
+use Rattle.puddled.proofs.PoolLines.Found.{finds, may_begin}
+use Rattle.puddled.proofs.PoolLines.Needs.{refused_begin}
 use Rattle.ready_daemon.proofs.Commands.Keeping.{KeepsRest-still}
 use Rattle.puddled.proofs.daemon.Daemon.begin.Goals as goal
 

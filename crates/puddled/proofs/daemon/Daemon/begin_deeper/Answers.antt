@@ -11,7 +11,7 @@ use Rattle.ready_daemon.specs.Memory.{Memory}
 use Rattle.ready_daemon.specs.OwnOnPool.{IsOwnTransactionOn}
 use Rattle.ready_daemon.specs.Ready.{IsReady}
 use Rattle.ready_daemon.proofs.OpenTransactions.AtDepth.{ready_begun_again}
-use Rattle.puddled.proofs.Entering.{refused_deeper, begun_again}
+use Rattle.puddled.proofs.TransactionLines.Entering.{refused_deeper, begun_again}
 use Rattle.puddled.proofs.daemon.Daemon.begin_deeper.Goals as goal
 use Rattle.puddled.proofs.daemon.Daemon.begin_deeper.Goals.{in-Ok, in-Err}
 

@@ -19,7 +19,7 @@ use Rattle.ready_daemon.specs.Memory.{ActiveTransaction, Memory}
 use Rattle.ready_daemon.specs.Ready.{IsReady, Applies}
 use Rattle.ready_daemon.proofs.Commands.Applying.{Applies-failed, Applies-refused, Applies-closed, Applies-behind_reads}
 use Rattle.ready_daemon.proofs.OpenTransactions.ActiveUnder.{AreActiveWithin-set}
-use Rattle.puddled.proofs.Entering.{refused_without_log, refused_to_begin, begins_in}
+use Rattle.puddled.proofs.TransactionLines.Entering.{refused_without_log, refused_to_begin, begins_in}
 use Rattle.puddled.proofs.daemon.Daemon.begin_on.Goals as goal
 
 pub returns-in_err-number-clause-applies : goal.returns-in_err-number-clause-applies

@@ -6,8 +6,8 @@ use Rattle.ready_daemon.specs.OwnOnPool.{IsOwnTransactionOn}
 use Rattle.ready_daemon.specs.Memory.{ActiveTransaction, Memory}
 use Rattle.ready_daemon.specs.Owning.{refusal_found}
 use Rattle.ready_daemon.specs.Ready.{IsReady}
-use Rattle.puddled.proofs.Changing.{refused_line}
-use Rattle.puddled.proofs.Commanding.{ready_read, CarriesOut-refused, CarriesOut-unread, CarriesOut-replied, change_is_plain}
+use Rattle.puddled.proofs.TransactionLines.Changing.{refused_line}
+use Rattle.puddled.proofs.TransactionLines.Commanding.{ready_read, CarriesOut-refused, CarriesOut-unread, CarriesOut-replied, change_is_plain}
 use Rattle.puddled.proofs.daemon.Daemon.change_own.Goals as goal
 
 pub returns-in_err-refusal-clause-carries : goal.returns-in_err-refusal-clause-carries

@@ -6,8 +6,8 @@ use Rattle.pud_defs.proofs.StateMachine.Steps.{answer_is_ok}
 use Rattle.ready_daemon.specs.Memory.{ActiveTransaction}
 use Rattle.ready_daemon.specs.OwnOnPool.{IsOwnTransactionOn}
 use Rattle.ready_daemon.specs.Owning.{refusal_found}
-use Rattle.puddled.proofs.Commanding.{ready_read, CarriesOut-refused, CarriesOut-unread, CarriesOut-stopped, CarriesOut-done, commit_is_plain, commit_moves_none}
-use Rattle.puddled.proofs.Depth.{depth_by_world}
+use Rattle.puddled.proofs.TransactionLines.Commanding.{ready_read, CarriesOut-refused, CarriesOut-unread, CarriesOut-stopped, CarriesOut-done, commit_is_plain, commit_moves_none}
+use Rattle.puddled.proofs.TransactionLines.Depth.{depth_by_world}
 use Rattle.puddled.proofs.daemon.Daemon.commit.Goals as goal
 use Rattle.pm_model.proofs.Reading.{still_size}
 

@@ -4,8 +4,8 @@ use Rattle.pm_model.specs.Counts.{fault_of}
 use Rattle.nesting.specs.declared.Session.{Session}
 use Rattle.nesting.specs.Sessions.{depth_in, left}
 use Rattle.ready_daemon.specs.Memory.{Memory}
-use Rattle.puddled.proofs.Depth.{Applies-rises}
-use Rattle.puddled.proofs.TransactionTaken.{IsReleased, Applies-own_ended}
+use Rattle.puddled.proofs.TransactionLines.Depth.{Applies-rises}
+use Rattle.puddled.proofs.TransactionLines.TransactionTaken.{IsReleased, Applies-own_ended}
 use Rattle.puddled.proofs.daemon.Daemon.commit_own.Goals as goal
 
 pub returns-then-depth-gt1-clause-applies : goal.returns-then-depth-gt1-clause-applies

@@ -14,7 +14,7 @@ use Rattle.ready_daemon.specs.PoolKnowledge.{AreOnDevice}
 use Rattle.ready_daemon.specs.Owning.{refusal_found, IsRecordSlot}
 use Rattle.ready_daemon.specs.Moves.{MovesTo, freed_in}
 use Rattle.ready_daemon.specs.Ready.{IsReady, AppliesBy}
-use Rattle.puddled.proofs.Frontiers.{AppliesAs-failed, AppliesAs-refused, AppliesAs-drop}
+use Rattle.puddled.proofs.PoolLines.Frontiers.{AppliesAs-failed, AppliesAs-refused, AppliesAs-drop}
 use Rattle.ready_daemon.proofs.PoolsKnown.Known.{AreOnDevice-forgotten}
 use Rattle.ready_daemon.proofs.Commands.Applying.{Applies-failed, Applies-refused}
 use Rattle.ready_daemon.proofs.PoolChanges.Pooling.{Applies-behind, Applies-drop}

@@ -13,10 +13,10 @@ use Rattle.puddled.specs.declared.answers.LineAnswer.TheVariants as answers
 use Rattle.puddled.specs.declared.finding.Need.TheVariants as needs
 use Rattle.ready_daemon.specs.Memory.{Memory}
 use Rattle.ready_daemon.specs.Owning.{refusal_found}
-use Rattle.puddled.proofs.Found.{finds}
-use Rattle.puddled.proofs.Needs.{refusal_of-dump}
-use Rattle.puddled.proofs.Readable.{holds_found}
-use Rattle.puddled.proofs.FileLines.{memory_of-dump, refused_step, memory_step, some_step, dump_is_plain, dump_moves_none, CarriesOut-read, dump_fault, dump_unmade, dump_failed, dumped_step, one_line_dump}
+use Rattle.puddled.proofs.PoolLines.Found.{finds}
+use Rattle.puddled.proofs.PoolLines.Needs.{refusal_of-dump}
+use Rattle.puddled.proofs.PoolLines.Readable.{holds_found}
+use Rattle.puddled.proofs.FileTransfers.FileLines.{memory_of-dump, refused_step, memory_step, some_step, dump_is_plain, dump_moves_none, CarriesOut-read, dump_fault, dump_unmade, dump_failed, dumped_step, one_line_dump}
 use Rattle.puddled.proofs.daemon.Daemon.dump_for.Goals as goal
 
 pub returns-in_err-refusal-clause-carries : goal.returns-in_err-refusal-clause-carries

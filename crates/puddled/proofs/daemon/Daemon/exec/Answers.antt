@@ -5,7 +5,7 @@ use Rattle.pm_model.specs.Counts.{Counts}
 use Rattle.puddled.specs.declared.daemon.RunFault.{RunFault}
 use Rattle.puddled.specs.declared.daemon.RunFault.TheVariants as faults
 use Rattle.puddled.specs.Faults.{of_host, HasLostPower}
-use Rattle.puddled.proofs.Counted.{not_none, none_is_sound, counted_say, counted_same, counted_fault, one_reply, reply_said, reply_unsaid, cut_is_answered, host_is_sound}
+use Rattle.puddled.proofs.DeviceStarts.Counted.{not_none, none_is_sound, counted_say, counted_same, counted_fault, one_reply, reply_said, reply_unsaid, cut_is_answered, host_is_sound}
 use Rattle.ready_daemon.specs.Memory.{Memory}
 use Rattle.pud_defs.specs.declared.machine.Reply.TheVariants as replies
 use Rattle.pud_defs.specs.StateMachine.Grammar.{command_of}
@@ -15,9 +15,9 @@ use Rattle.pud_defs.specs.StateMachine.World.{World, no_clients, nothing_open}
 use Rattle.puddled.specs.declared.answers.LineAnswer.{LineAnswer}
 use Rattle.puddled.specs.declared.answers.LineAnswer.TheVariants as answers
 use Rattle.puddled.specs.LineAnswers.{answer_of}
-use Rattle.puddled.proofs.Listed.{said_by}
-use Rattle.puddled.proofs.Lines.{answer_last, nothing_last, Answers-fault, Answers-unsaid, Answers-said, KeepsLine-says, KeepsLine-unsaid, SaysAnswer-aloud, SaysAnswer-unsaid, SaysAnswer-failed, sound_said, words_said}
-use Rattle.puddled.proofs.Led.{LeadFrontiers-when, MoveOnTheWay-said, MoveOnTheWay-as}
+use Rattle.puddled.proofs.PoolLines.Listed.{said_by}
+use Rattle.puddled.proofs.LinesDone.Lines.{answer_last, nothing_last, Answers-fault, Answers-unsaid, Answers-said, KeepsLine-says, KeepsLine-unsaid, SaysAnswer-aloud, SaysAnswer-unsaid, SaysAnswer-failed, sound_said, words_said}
+use Rattle.puddled.proofs.PoolLines.Led.{LeadFrontiers-when, MoveOnTheWay-said, MoveOnTheWay-as}
 use Rattle.puddled.specs.Frontiers.{LeadFrontiers}
 use Rattle.puddled.specs.Rewriting.{DoesSteps}
 use Rattle.puddled.proofs.daemon.Daemon.exec.Goals as goal

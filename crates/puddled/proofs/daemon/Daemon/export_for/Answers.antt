@@ -18,9 +18,9 @@ use Rattle.puddled.specs.Files.{IsStoredPool, HoldsPool}
 use Rattle.ready_daemon.specs.Memory.{Memory}
 use Rattle.ready_daemon.specs.PoolKnowledge.{known_puddles_in}
 use Rattle.ready_daemon.specs.Owning.{refusal_found}
-use Rattle.puddled.proofs.FileLines.{memory_of-export, export_unread, export_open, export_free, refused_step, some_step, export_is_plain, export_moves_none, CarriesOut-read}
-use Rattle.puddled.proofs.Found.{finds, its_number, no_number}
-use Rattle.puddled.proofs.ExportLines.{own_is_open, stored_found, CarriesOut-written, HoldsOneOf-written}
+use Rattle.puddled.proofs.FileTransfers.FileLines.{memory_of-export, export_unread, export_open, export_free, refused_step, some_step, export_is_plain, export_moves_none, CarriesOut-read}
+use Rattle.puddled.proofs.PoolLines.Found.{finds, its_number, no_number}
+use Rattle.puddled.proofs.FileTransfers.ExportLines.{own_is_open, stored_found, CarriesOut-written, HoldsOneOf-written}
 use Rattle.puddled.proofs.daemon.Daemon.export_for.Goals as goal
 
 pub returns-in_err-refusal-clause-carries : goal.returns-in_err-refusal-clause-carries

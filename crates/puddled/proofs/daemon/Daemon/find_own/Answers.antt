@@ -3,8 +3,8 @@ use Rattle.ready_daemon.specs.Memory.{ActiveTransaction}
 use Rattle.ready_daemon.specs.OwnOnPool.{IsOwnTransactionOn}
 use Rattle.ready_daemon.specs.Owning.{refusal_found}
 use Rattle.puddled.specs.declared.finding.Need.TheVariants as needs
-use Rattle.puddled.proofs.Found.{finds}
-use Rattle.puddled.proofs.Needs.{own_refused, own_none}
+use Rattle.puddled.proofs.PoolLines.Found.{finds}
+use Rattle.puddled.proofs.PoolLines.Needs.{own_refused, own_none}
 use Rattle.pool_transaction.proofs.Updates.TransactionRefusals.{own_is_open}
 use Rattle.puddled.proofs.daemon.Daemon.find_own.Goals as goal
 

@@ -6,9 +6,9 @@ use Rattle.pud_defs.specs.StateMachine.Transactions.{is_own}
 use Rattle.pud_defs.specs.StateMachine.World.{Transaction}
 use Rattle.ready_daemon.specs.Owning.{refusal_found, IsRecordSlot}
 use Rattle.puddled.specs.declared.finding.Need.TheVariants as needs
-use Rattle.puddled.proofs.ExportLines.{own_is_open}
-use Rattle.puddled.proofs.Found.{finds, slot_is, its_number, no_number}
-use Rattle.puddled.proofs.Needs.{owner_refused, owner_free}
+use Rattle.puddled.proofs.FileTransfers.ExportLines.{own_is_open}
+use Rattle.puddled.proofs.PoolLines.Found.{finds, slot_is, its_number, no_number}
+use Rattle.puddled.proofs.PoolLines.Needs.{owner_refused, owner_free}
 use Rattle.puddled.proofs.daemon.Daemon.find_owned.Goals as goal
 
 pub returns-in-Err-clause-refusal : goal.returns-in-Err-clause-refusal

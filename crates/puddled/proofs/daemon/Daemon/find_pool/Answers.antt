@@ -13,8 +13,8 @@ use Rattle.ready_daemon.specs.Ready.{IsReady}
 use Rattle.ready_daemon.proofs.PoolChanges.Pooling.{acting, absent}
 use Rattle.puddled.specs.declared.finding.FoundPool.{FoundPool}
 use Rattle.puddled.specs.Finding.{found_unless_busy, IsRecordOf, IsFound}
-use Rattle.puddled.proofs.Commanding.{ready_read}
-use Rattle.puddled.proofs.Found.{need_client, need_pool, need_wild, need_denied, need_beside, refusal_beside_it, found_beside}
+use Rattle.puddled.proofs.TransactionLines.Commanding.{ready_read}
+use Rattle.puddled.proofs.PoolLines.Found.{need_client, need_pool, need_wild, need_denied, need_beside, refusal_beside_it, found_beside}
 use Rattle.puddled.proofs.daemon.Daemon.find_pool.Goals as goal
 
 pub returns-in_default-clause-refusal : goal.returns-in_default-clause-refusal

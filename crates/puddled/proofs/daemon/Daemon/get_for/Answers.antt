@@ -15,8 +15,8 @@ use Rattle.ready_daemon.specs.PoolKnowledge.{known_puddles_in}
 use Rattle.ready_daemon.specs.Owning.{refusal_found}
 use Rattle.ready_daemon.specs.Ready.{IsReady}
 use Rattle.puddled.specs.declared.finding.Need.TheVariants as needs
-use Rattle.puddled.proofs.Found.{finds, judged_ready}
-use Rattle.puddled.proofs.Readable.{get_refused, holds_found, some_known, ready_built, reply_when_read, Applies-get}
+use Rattle.puddled.proofs.PoolLines.Found.{finds, judged_ready}
+use Rattle.puddled.proofs.PoolLines.Readable.{get_refused, holds_found, some_known, ready_built, reply_when_read, Applies-get}
 use Rattle.puddled.proofs.daemon.Daemon.get_for.Goals as goal
 
 pub returns-in-Err-clause-reply : goal.returns-in-Err-clause-reply

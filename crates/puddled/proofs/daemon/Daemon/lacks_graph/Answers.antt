@@ -3,7 +3,7 @@ use Rattle.pm_model.specs.Words.{reads}
 use Rattle.ready_daemon.specs.Memory.{Memory}
 use Rattle.ready_daemon.specs.PoolKnowledge.{puddles_with_graph}
 use Rattle.ready_daemon.specs.Ready.{IsReady}
-use Rattle.puddled.proofs.Found.{judged_ready, judged_more, lacks_judged}
+use Rattle.puddled.proofs.PoolLines.Found.{judged_ready, judged_more, lacks_judged}
 use Rattle.puddled.proofs.daemon.Daemon.lacks_graph.Goals as goal
 
 pub returns-clause-lacks : goal.returns-clause-lacks

@@ -15,13 +15,13 @@ use Rattle.ready_daemon.specs.PoolKnowledge.{puddles_known, known_pool_in, known
 use Rattle.ready_daemon.specs.Moves.{MovesTo, led_in}
 use Rattle.ready_daemon.specs.Ready.{IsReady, AppliesBy}
 use Rattle.lazy_rewrite.specs.Frontiers.{steps_from, frontiers_of}
-use Rattle.puddled.proofs.Frontiers.{AppliesAs-failed, AppliesAs-refused, AppliesAs-rewrite}
+use Rattle.puddled.proofs.PoolLines.Frontiers.{AppliesAs-failed, AppliesAs-refused, AppliesAs-rewrite}
 use Rattle.ready_daemon.proofs.Commands.Applying.{Applies-failed, Applies-refused}
 use Rattle.ready_daemon.proofs.PoolChanges.Pooling.{Applies-behind}
 use Rattle.puddled.specs.Finding.{IsRecordOf}
-use Rattle.puddled.proofs.Commanding.{ready_read}
-use Rattle.puddled.proofs.Found.{named, unnamed, slot_is}
-use Rattle.puddled.proofs.Rewritten.{refused_unnamed, refused_by_graph, world_of_rewrite, is_there, DoesSteps-stepped, stepped_known}
+use Rattle.puddled.proofs.TransactionLines.Commanding.{ready_read}
+use Rattle.puddled.proofs.PoolLines.Found.{named, unnamed, slot_is}
+use Rattle.puddled.proofs.PoolLines.Rewritten.{refused_unnamed, refused_by_graph, world_of_rewrite, is_there, DoesSteps-stepped, stepped_known}
 use Rattle.puddled.proofs.daemon.Daemon.rewrite_for.Goals as goal
 
 -- ---- no pool has the name

@@ -8,10 +8,10 @@ use Rattle.ready_daemon.specs.Memory.{Memory}
 use Rattle.ready_daemon.specs.Ready.{IsReady}
 use Rattle.ready_daemon.proofs.Commands.Keeping.{KeepsRest-changes}
 use Rattle.puddled.specs.Starting.{AreMarks, IsReplayed}
-use Rattle.puddled.proofs.Emptied.{IsBehindRecovery, idle_gate, behind_recovery}
-use Rattle.puddled.proofs.Restarts.{ready_behind, sound_recovery, recovered_any}
-use Rattle.puddled.proofs.Lines.{words_said, shelf_said, IsReady-said, KeepsInput-rest, KeepsInput-then, KeepsInput-says}
-use Rattle.puddled.proofs.Beginning.{SaysPart-lines, SaysPart-behind_lines, SaysPart-ready, In-lines, In-emptied, In-ready, behind_lines, SaysPart-unsaid, Starts-refused}
+use Rattle.puddled.proofs.DeviceStarts.Emptied.{IsBehindRecovery, idle_gate, behind_recovery}
+use Rattle.puddled.proofs.DeviceStarts.Restarts.{ready_behind, sound_recovery, recovered_any}
+use Rattle.puddled.proofs.LinesDone.Lines.{words_said, shelf_said, IsReady-said, KeepsInput-rest, KeepsInput-then, KeepsInput-says}
+use Rattle.puddled.proofs.DeviceStarts.Beginning.{SaysPart-lines, SaysPart-behind_lines, SaysPart-ready, In-lines, In-emptied, In-ready, behind_lines, SaysPart-unsaid, Starts-refused}
 use Rattle.puddled.proofs.daemon.Daemon.start.Goals as goal
 
 -- ---- the device was not recovered

@@ -1,7 +1,7 @@
 use Rattle.std.proofs.Common.{sym, ap, ◌∙◌}
 use Rattle.pm_model.specs.Counts.{fault_of}
 use Rattle.ready_daemon.specs.Memory.{Memory}
-use Rattle.puddled.proofs.TransactionTaken.{IsReleased, Applies-undone, Applies-none}
+use Rattle.puddled.proofs.TransactionLines.TransactionTaken.{IsReleased, Applies-undone, Applies-none}
 use Rattle.puddled.proofs.daemon.Daemon.undo.Goals as goal
 
 pub returns-in-Some-clause-applies : goal.returns-in-Some-clause-applies

@@ -2,7 +2,7 @@ use Rattle.std.proofs.Common.{List, Option, rules, refl, sym, ap, subst, ◌∙�
 use Rattle.std.proofs.lemmas.List.{set-get_or}
 use Rattle.known_pool.specs.Known.{Known}
 use Rattle.ready_daemon.specs.PoolKnowledge.{known_puddles_in, AreOnDevice, AreKnownPools}
-use Rattle.puddled.proofs.Changing.{known_there, on_device_there, puddles_built, AreJudged-built}
+use Rattle.puddled.proofs.TransactionLines.Changing.{known_there, on_device_there, puddles_built, AreJudged-built}
 use Rattle.puddled.proofs.known_pools.KnownPools.build.Goals as goal
 use Rattle.puddled.proofs.known_pools.KnownPools.build.Goals.{in-Some, in-None}
 

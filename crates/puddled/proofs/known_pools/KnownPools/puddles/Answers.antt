@@ -2,7 +2,7 @@ use Rattle.std.proofs.Common.{List, Option, rules, refl, sym, ap, subst, ◌∙�
 use Rattle.pud_defs.specs.PoolGraphs.Stored.{IsOnDevice}
 use Rattle.known_pool.specs.Known.{Known}
 use Rattle.ready_daemon.specs.PoolKnowledge.{known_pool_in}
-use Rattle.puddled.proofs.Changing.{known_there, on_device_there}
+use Rattle.puddled.proofs.TransactionLines.Changing.{known_there, on_device_there}
 use Rattle.puddled.proofs.known_pools.KnownPools.puddles.Goals as goal
 
 pub returns-in-Some-clause-within : goal.returns-in-Some-clause-within

@@ -6,7 +6,7 @@ use Rattle.pud_defs.specs.PoolGraphs.Stored.{stored_in}
 use Rattle.pud_defs.specs.RegistryTables.Types.{types_of}
 use Rattle.known_pool.specs.Known.{Known}
 use Rattle.ready_daemon.specs.PoolKnowledge.{known_pool_in, puddles_known}
-use Rattle.puddled.proofs.Changing.{known_there, on_device_there}
+use Rattle.puddled.proofs.TransactionLines.Changing.{known_there, on_device_there}
 use Rattle.puddled.proofs.known_pools.KnownPools.read_field.Goals as goal
 
 pub read_field-requires-clause-known : goal.read_field-requires-clause-known

@@ -45,12 +45,12 @@ use Rattle.ready_daemon.proofs.PoolChanges.TablesBeside.{HasDurableTables-masked
 use Rattle.puddled.specs.LineAnswers.{as_line_answer}
 use Rattle.puddled.specs.Daemon.{CarriesOut}
 use Rattle.puddled.specs.Importing.{MayMakeNamed, IsFrontOf, reply_of_placing}
-use Rattle.puddled.proofs.Carrying.{ClosesLogs-other, CarriesOut-plain}
-use Rattle.puddled.proofs.Commanding.{IsPlain, CarriesOut-refused}
-use Rattle.puddled.proofs.FileLines.{CarriesOut-read, memory_step}
-use Rattle.puddled.proofs.Frontiers.{MovesNone}
-use Rattle.puddled.proofs.ImportRefusals.{found_some, import_bad, import_placed, import_gives, import_memory, as_refusal, no_host_by, refused_by_tables, absent_in, fault_of_placing, reply_placed}
-use Rattle.puddled.proofs.PlacedBeside.{off_placing, IsBeside-places, KeepsPools-places, LeavesPuddles-places}
+use Rattle.puddled.proofs.LinesDone.Carrying.{ClosesLogs-other, CarriesOut-plain}
+use Rattle.puddled.proofs.TransactionLines.Commanding.{IsPlain, CarriesOut-refused}
+use Rattle.puddled.proofs.FileTransfers.FileLines.{CarriesOut-read, memory_step}
+use Rattle.puddled.proofs.PoolLines.Frontiers.{MovesNone}
+use Rattle.puddled.proofs.FileTransfers.ImportRefusals.{found_some, import_bad, import_placed, import_gives, import_memory, as_refusal, no_host_by, refused_by_tables, absent_in, fault_of_placing, reply_placed}
+use Rattle.puddled.proofs.FileTransfers.PlacedBeside.{off_placing, IsBeside-places, KeepsPools-places, LeavesPuddles-places}
 
 pub import_is_plain : (client : ℕ) (name file : List ℕ) (mode : ℕ) → IsPlain (Import client name file mode)
 import_is_plain client name file mode = record { kind = refl; file = refl; stays = λ other is. cc }

@@ -31,7 +31,7 @@ use Rattle.puddled.specs.Finding.{refusal_to, refusal_to_enter}
 use Rattle.ready_daemon.proofs.OpenTransactions.AtDepth.{its_session}
 use Rattle.ready_daemon.proofs.OpenTransactions.Counting.{counted, log_found}
 use Rattle.ready_daemon.proofs.OpenTransactions.Sessions.{session_shut}
-use Rattle.puddled.proofs.Needs.{entering_refusal, refusal_of-begin}
+use Rattle.puddled.proofs.PoolLines.Needs.{entering_refusal, refusal_of-begin}
 
 -- the client's own is as deep as it may be
 deep_refused : (client elsewhere : ℕ) (t : Transaction) → t.client ≡ client → t.depth ≡ MAX_DEPTH → entering_refusal client (Some t) elsewhere ≡ Some refusals.Deep

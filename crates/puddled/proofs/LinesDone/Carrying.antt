@@ -30,7 +30,7 @@ use Rattle.ready_daemon.specs.Moves.{Stays, MovesTo, still}
 use Rattle.ready_daemon.specs.Ready.{KeepsRest, IsReady, AppliesBy, Applies, ClosesBefore, ClosesLogs}
 use Rattle.puddled.specs.Daemon.{KeepsAllBut, CarriesOut}
 use Rattle.puddled.specs.Frontiers.{AppliesAs}
-use Rattle.puddled.proofs.Frontiers.{MovesNone, leads_none, arrives_still, AppliesAs-none}
+use Rattle.puddled.proofs.PoolLines.Frontiers.{MovesNone, leads_none, arrives_still, AppliesAs-none}
 use Rattle.ready_daemon.proofs.Commands.Applying.{Applies-idle, AppliesBy-weaker}
 use Rattle.ready_daemon.proofs.PoolChanges.Goals.{stays_still}
 

@@ -15,7 +15,7 @@ use Rattle.ready_daemon.specs.Memory.{ActiveTransaction, Memory, active_under}
 use Rattle.ready_daemon.specs.OwnOnPool.{IsOwnTransactionOn}
 use Rattle.ready_daemon.specs.Ready.{IsReady, Applies}
 use Rattle.ready_daemon.proofs.OpenTransactions.AtDepth.{its, t, its_session, next, sessions_at, ready_at}
-use Rattle.puddled.proofs.Commanding.{Applies-untouched}
+use Rattle.puddled.proofs.TransactionLines.Commanding.{Applies-untouched}
 
 module _ (size : ℕ) (w : World) (memory : Memory) (s : State) (ready : IsReady size w memory s) (number : ℕ) (active : ActiveTransaction) (there : active_under memory.active number ≡ Some active) (client : ℕ)
     (deep : 1 < (t size w memory s ready number active there).depth) where

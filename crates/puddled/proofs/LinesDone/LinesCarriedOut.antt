@@ -34,9 +34,9 @@ use Rattle.ready_daemon.specs.Ready.{IsReady, AppliesBy, IsClosedIfFree, IsClose
 use Rattle.puddled.specs.Starting.{Recovers}
 use Rattle.puddled.specs.Daemon.{CarriesOut, CarriesOutLine}
 use Rattle.ready_daemon.proofs.Commands.Turns.{turn_of, is_turn_of, cut_turn, is_cut_turn}
-use Rattle.puddled.proofs.Counted.{counted_step, counted_cut, kind_done, kind_faulty, kind_unstarted, host_is_sound}
-use Rattle.puddled.proofs.Carrying.{restart_line, lost_answer}
-use Rattle.puddled.proofs.Restarts.{closed_if_free}
+use Rattle.puddled.proofs.DeviceStarts.Counted.{counted_step, counted_cut, kind_done, kind_faulty, kind_unstarted, host_is_sound}
+use Rattle.puddled.proofs.LinesDone.Carrying.{restart_line, lost_answer}
+use Rattle.puddled.proofs.DeviceStarts.Restarts.{closed_if_free}
 
 -- the images between the world before a turn and the one that it gives
 abbrev pub Between : (size : ℕ) → World → World → Image → Type 0

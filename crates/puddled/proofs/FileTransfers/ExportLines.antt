@@ -24,7 +24,7 @@ use Rattle.pud_defs.specs.StateMachine.Changing.{KeepsFiles}
 use Rattle.puddled.specs.declared.answers.LineAnswer.TheVariants as answers
 use Rattle.puddled.specs.declared.finding.FoundPool.{FoundPool}
 use Rattle.puddled.specs.declared.finding.Need.TheVariants as needs
-use Rattle.puddled.proofs.Found.{Finds, stored_pool}
+use Rattle.puddled.proofs.PoolLines.Found.{Finds, stored_pool}
 use Rattle.puddled.specs.Daemon.{CarriesOut}
 use Rattle.puddled.specs.Files.{file_answer, HoldsPool, IsStoredPool, HoldsOneOf}
 use Rattle.ready_daemon.specs.Memory.{Memory}
@@ -32,7 +32,7 @@ use Rattle.ready_daemon.specs.ActiveTransactions.{IsOwnTransaction}
 use Rattle.ready_daemon.specs.PoolKnowledge.{known_puddles_in}
 use Rattle.ready_daemon.specs.Ready.{IsReady, Applies}
 use Rattle.ready_daemon.proofs.OpenTransactions.OpenBeside.{open_here}
-use Rattle.puddled.proofs.FileLines.{memory_of-export, memory_step, some_step, export_is_plain, export_moves_none, CarriesOut-read, CarriesOut-file, Applies-shelved, Applies-unwritten, KeepsFiles-shelved, exported_step, contents_are}
+use Rattle.puddled.proofs.FileTransfers.FileLines.{memory_of-export, memory_step, some_step, export_is_plain, export_moves_none, CarriesOut-read, CarriesOut-file, Applies-shelved, Applies-unwritten, KeepsFiles-shelved, exported_step, contents_are}
 
 -- ---- the client's own transaction is open on the pool
 

@@ -41,8 +41,8 @@ use Rattle.pool_transaction.specs.Finishing.{Arrives, UnlessFailed}
 use Rattle.pool_transaction.proofs.PuddlesFinished.Arriving.{settled_gate}
 use Rattle.puddled.specs.declared.daemon.StartFault.{StartFault}
 use Rattle.puddled.specs.Starting.{IsReplayed, Recovers}
-use Rattle.puddled.proofs.Restarts.{below_logs}
-use Rattle.puddled.proofs.LinesCarriedOut.{found_world, found_stands, found_frames}
+use Rattle.puddled.proofs.DeviceStarts.Restarts.{below_logs}
+use Rattle.puddled.proofs.LinesDone.LinesCarriedOut.{found_world, found_stands, found_frames}
 
 -- nothing changed, at a line that is no command
 pub LeadFrontiers-bad : (w : World) (answered : Type 0) (image : Image) → LeadFrontiers w None answered image image

@@ -16,7 +16,7 @@ use Rattle.pud_defs.specs.StateMachine.World.{World}
 use Rattle.pud_defs.specs.StateMachine.Step.{refusal_of, after, answer_by, world_by}
 use Rattle.pud_defs.specs.StateMachine.Step.Answer.{of_reply}
 use Rattle.pud_defs.proofs.StateMachine.Steps.{refused_answer, done_world}
-use Rattle.puddled.proofs.Frontiers.{MovesNone, AppliesAs-refused, AppliesAs-failed}
+use Rattle.puddled.proofs.PoolLines.Frontiers.{MovesNone, AppliesAs-refused, AppliesAs-failed}
 use Rattle.puddled.specs.LineAnswers.{as_line_answer}
 use Rattle.pool_transaction.specs.declared.changing.Change.{Change}
 use Rattle.pool_transaction.specs.declared.changing.Change.TheVariants as changes
@@ -32,7 +32,7 @@ use Rattle.ready_daemon.proofs.Commands.Applying.{Applies-failed, Applies-refuse
 use Rattle.ready_daemon.proofs.PoolChanges.PuddlesLeft.{LeavesPuddles-still}
 use Rattle.ready_daemon.proofs.Commands.Beside.{ready_stands}
 use Rattle.ready_daemon.proofs.Commands.Keeping.{KeepsRest-still}
-use Rattle.puddled.proofs.Carrying.{ClosesLogs-other, CarriesOut-plain, CarriesOut-led}
+use Rattle.puddled.proofs.LinesDone.Carrying.{ClosesLogs-other, CarriesOut-plain, CarriesOut-led}
 
 -- a daemon that is ready is so behind calls that read
 pub ready_read : (size : ℕ) (w : World) (memory : Memory) (old new : State) → new ≡ old → IsReady size w memory old → IsReady size w memory new

@@ -39,7 +39,7 @@ use Rattle.ready_daemon.specs.Ready.{IsReady, IsUsedAlone, IsClosedIfFree, IsClo
 use Rattle.ready_daemon.proofs.PoolsKnown.KnownOpen.{KnowsPools-none}
 use Rattle.ready_daemon.proofs.OpenTransactions.NoneActive.{AreActive-none, HasSessions-none}
 use Rattle.puddled.specs.Starting.{first_memory, ByStart, DiffersByStart, IsReplayed, Recovers}
-use Rattle.puddled.proofs.Emptied.{settled_tables, IsBehindRecovery, IsEmptying, behind_recovery, idle_gate, used_closed, batched_still, third_may, single_d, cleared_d, reads_d, settled_d}
+use Rattle.puddled.proofs.DeviceStarts.Emptied.{settled_tables, IsBehindRecovery, IsEmptying, behind_recovery, idle_gate, used_closed, batched_still, third_may, single_d, cleared_d, reads_d, settled_d}
 
 -- a recovery's fault is the host's or none, at a start too
 pub fault_of_recover : (fault : RecoverFault) → start_fault {T = Memory} (Err (of_recover fault)) ≡ recover_fault {T = Report} (Err fault)

@@ -29,8 +29,8 @@ use Rattle.ready_daemon.proofs.Commands.Beside.{ready_stands}
 use Rattle.ready_daemon.specs.Ready.{KeepsRest, KeepsInput, IsReady, IsClosedIfFree, ClosesFirst, ClosesLogs, RefusesNone}
 use Rattle.puddled.specs.Saying.{EndsIn, SaysPart}
 use Rattle.puddled.specs.Daemon.{KeepsAllBut, KeepsLine, CarriesOutLine, spoken, IsAnswerText, SaysAnswer, Answers}
-use Rattle.puddled.proofs.Listed.{said_when_ready}
-use Rattle.puddled.proofs.LinesCarriedOut.{Between}
+use Rattle.puddled.proofs.PoolLines.Listed.{said_when_ready}
+use Rattle.puddled.proofs.LinesDone.LinesCarriedOut.{Between}
 use Rattle.pud_defs.proofs.StateMachine.Changing.{KeepsFiles-still, KeepsFiles-then}
 use Rattle.std.proofs.lemmas.Option.{none-some}
 

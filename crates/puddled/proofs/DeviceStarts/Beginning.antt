@@ -33,9 +33,9 @@ use Rattle.puddled.specs.declared.daemon.StartFault.TheVariants as starts
 use Rattle.puddled.specs.Faults.{start_fault, of_recover}
 use Rattle.puddled.specs.Saying.{SaysPart}
 use Rattle.puddled.specs.Starting.{AreMarks, ByStart, DiffersByStart, refused_text, StandsInStart, Starts}
-use Rattle.puddled.proofs.Emptied.{IsBehindRecovery, behind_recovery, batched_still, third_may, refuses_none_d}
-use Rattle.puddled.proofs.Lines.{SaysPart-says, SaysPart-nothing, said_all, words_said}
-use Rattle.puddled.proofs.Restarts.{wider_rights, refuses_none}
+use Rattle.puddled.proofs.DeviceStarts.Emptied.{IsBehindRecovery, behind_recovery, batched_still, third_may, refuses_none_d}
+use Rattle.puddled.proofs.LinesDone.Lines.{SaysPart-says, SaysPart-nothing, said_all, words_said}
+use Rattle.puddled.proofs.DeviceStarts.Restarts.{wider_rights, refuses_none}
 
 -- the text of a start is the lines on refused logs, and `ready`
 start_text-is : (image : Image) → start_text image ≡ refused_text image ++ ready_text

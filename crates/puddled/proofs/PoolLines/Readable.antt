@@ -36,8 +36,8 @@ use Rattle.puddled.specs.declared.finding.Need.TheVariants as needs
 use Rattle.puddled.specs.declared.finding.FoundPool.{FoundPool}
 use Rattle.puddled.specs.Finding.{refusal_to, IsFound}
 use Rattle.puddled.specs.Reading.{SeesGraph, reply_of_read}
-use Rattle.puddled.proofs.Found.{holds_graph, judged_ready, judged_more}
-use Rattle.puddled.proofs.Needs.{refusal_of-get as refusal_by_need}
+use Rattle.puddled.proofs.PoolLines.Found.{holds_graph, judged_ready, judged_more}
+use Rattle.puddled.proofs.PoolLines.Needs.{refusal_of-get as refusal_by_need}
 
 -- ---- the puddles of what was found
 

@@ -43,7 +43,7 @@ use Rattle.pud_defs.proofs.StateMachine.Steps.{refused_answer, refused_world, do
 use Rattle.graph_dump.specs.declared.fault.DumpFault.{DumpFault}
 use Rattle.graph_dump.specs.declared.fault.DumpFault.TheVariants as dumps
 use Rattle.graph_dump.specs.Faults.{fault_in as dump_fault_in}
-use Rattle.puddled.proofs.Frontiers.{MovesNone, leads_none, arrives_still}
+use Rattle.puddled.proofs.PoolLines.Frontiers.{MovesNone, leads_none, arrives_still}
 use Rattle.puddled.specs.declared.answers.LineAnswer.{LineAnswer}
 use Rattle.puddled.specs.declared.answers.LineAnswer.TheVariants as answers
 use Rattle.puddled.specs.LineAnswers.{answer_of, IsOneLine}
@@ -59,8 +59,8 @@ use Rattle.ready_daemon.specs.ActiveTransactions.{KeepsActive}
 use Rattle.ready_daemon.specs.Moves.{Stays, MovesTo, LeavesPuddles, still}
 use Rattle.ready_daemon.specs.Ready.{IsReady, StandsBetween, Applies}
 use Rattle.ready_daemon.proofs.Commands.Beside.{ready_stands, holds_still, sessions_still}
-use Rattle.puddled.proofs.Carrying.{ClosesLogs-other}
-use Rattle.puddled.proofs.Needs.{refusal_of-dump, refusal_of-export}
+use Rattle.puddled.proofs.LinesDone.Carrying.{ClosesLogs-other}
+use Rattle.puddled.proofs.PoolLines.Needs.{refusal_of-dump, refusal_of-export}
 use Rattle.ready_daemon.proofs.Commands.Applying.{Applies-still, AppliesBy-weaker}
 use Rattle.ready_daemon.proofs.PoolChanges.Goals.{stays_still}
 use Rattle.ready_daemon.proofs.PoolChanges.PuddlesLeft.{LeavesPuddles-still}

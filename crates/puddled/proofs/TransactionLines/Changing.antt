@@ -35,7 +35,7 @@ use Rattle.ready_daemon.proofs.PoolChanges.PoolsBeside.{used_still}
 use Rattle.pool_transaction.specs.Finishing.{Finishes, FinishesUnless, AppliesFinishing}
 use Rattle.ready_daemon.proofs.PoolChanges.InTurn.{known_in_turn}
 use Rattle.puddled.specs.Frontiers.{AppliesAs}
-use Rattle.puddled.proofs.Frontiers.{AppliesAs-change}
+use Rattle.puddled.proofs.PoolLines.Frontiers.{AppliesAs-change}
 use Rattle.pool_transaction.proofs.Updates.TransactionRefusals.{refused_change, refused_new}
 use Rattle.ready_daemon.proofs.PoolChanges.InTurn.{active_there_known}
 

@@ -1,0 +1,5 @@
+-- A line from its command to what is said of it.
+pub mod Saying
+pub mod Carrying
+pub mod LinesCarriedOut
+pub mod Lines

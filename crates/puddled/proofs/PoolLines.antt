@@ -1,0 +1,8 @@
+-- Lines that name a pool: what is found of it, what is read, and where its frontiers are led.
+pub mod Needs
+pub mod Found
+pub mod Rewritten
+pub mod Readable
+pub mod Frontiers
+pub mod Listed
+pub mod Led

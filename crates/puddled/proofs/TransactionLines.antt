@@ -1,0 +1,6 @@
+-- Lines on transactions.
+pub mod Depth
+pub mod Entering
+pub mod Changing
+pub mod TransactionTaken
+pub mod Commanding
