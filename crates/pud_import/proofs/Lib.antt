@@ -1,23 +1,3 @@
-pub mod AsDevice
-pub mod BasesApart
-mod ExamplesReturned
-pub mod FileParts
-pub mod FilledFrames
-pub mod FilledWorlds
-pub mod FreeFrames
-pub mod Numbered
-pub mod PlacedPuddles
-pub mod PlacedSomewhere
-pub mod PlacedWorlds
-pub mod Plainness
-pub mod Returned
-pub mod Refusals
-pub mod Spelled
-pub mod TypesBrought
-pub mod TypesFound
-pub mod TypesLegal
-pub mod TypesMissing
-pub mod TypesWider
-pub mod UsedPlaces
-pub mod Zeroes
-pub mod Imported
+pub mod FileChecks
+pub mod RoundTrip
+pub mod FilesPlaced

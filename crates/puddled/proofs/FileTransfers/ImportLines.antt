@@ -32,7 +32,7 @@ use Rattle.batch.specs.Batches.{HasIdleGate}
 use Rattle.registry.specs.Pools.{OrStill, ChangesMasked}
 use Rattle.pud_import.specs.declared.placing.PlaceFault.{PlaceFault}
 use Rattle.pud_import.specs.declared.placing.PlaceFault.TheVariants as faults
-use Rattle.pud_import.proofs.FileParts.{file_graph-limit}
+use Rattle.pud_import.proofs.FileChecks.FileParts.{file_graph-limit}
 use Rattle.pud_import.specs.Placing.{place_fault, refusal_in, refusal_by, PlacesSomewhere, MayImport}
 use Rattle.ready_daemon.specs.Memory.{Memory}
 use Rattle.ready_daemon.specs.Ready.{KeepsRest, IsReady, Applies}

@@ -1,6 +1,6 @@
 use Rattle.std.proofs.Common.{map, length, sym, ◌∙◌, arith, nat_cmp}
 use Rattle.pud_defs.specs.PoolGraphs.ExportFile.{under_base}
-use Rattle.pud_import.proofs.BasesApart.{are_distinct-more, are_distinct-fails}
+use Rattle.pud_import.proofs.FileChecks.BasesApart.{are_distinct-more, are_distinct-fails}
 use Rattle.pud_import.proofs.bases.are_apart.Goals as goal
 use Rattle.pud_defs.proofs.KeyedTables.Keyed.{are_distinct-end}
 

@@ -1,5 +1,5 @@
 use Rattle.std.proofs.Common.{◌&&◌, sym, ap, ◌∙◌}
-use Rattle.pud_import.proofs.BasesApart.{both_tests}
+use Rattle.pud_import.proofs.FileChecks.BasesApart.{both_tests}
 use Rattle.pud_import.proofs.bases.has_legal_bases.Goals as goal
 
 pub returns-then-legal : goal.returns-then-legal

@@ -1,7 +1,7 @@
 use Rattle.std.proofs.Common.{◌≡◌, true, is_some, sym, ap, ◌∙◌}
 use Rattle.pud_defs.specs.PoolGraphs.ExportFile.{file_graph}
 use Rattle.pud_import.specs.Contents.{type_count_read, puddle_count_read}
-use Rattle.pud_import.proofs.FileParts.{file_judged, file_refused, exportable, contents_of_file}
+use Rattle.pud_import.proofs.FileChecks.FileParts.{file_judged, file_refused, exportable, contents_of_file}
 use Rattle.pud_import.proofs.file_view.read_file.Goals as goal
 use Rattle.pud_import.proofs.file_view.read_file.Goals.{in_default-via-in-Some+else-is_sound, in_default-via-in_default}
 

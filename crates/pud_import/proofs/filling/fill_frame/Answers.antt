@@ -4,7 +4,7 @@ use Rattle.pm_model.specs.Counts.{fault_of}
 use Rattle.pud_defs.specs.declared.layout.TheConstants.{FRAME_WORDS}
 use Rattle.pud_import.specs.Contents.{stored_held}
 use Rattle.pud_import.specs.Filling.{filled_value}
-use Rattle.pud_import.proofs.FilledFrames.{FillsFrame-persisted}
+use Rattle.pud_import.proofs.FilesPlaced.FilledFrames.{FillsFrame-persisted}
 use Rattle.pud_import.proofs.filling.fill_frame.Goals as goal
 
 pub returns-clause-fills : goal.returns-clause-fills

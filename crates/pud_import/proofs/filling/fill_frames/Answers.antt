@@ -5,7 +5,7 @@ use Rattle.pm_model.specs.declared.host.HostFault.TheVariants.{Cut}
 use Rattle.pm_model.proofs.Changes.{Changes-still}
 use Rattle.pud_import.specs.Contents.{stored_held}
 use Rattle.pud_import.specs.Filling.{ByFrames}
-use Rattle.pud_import.proofs.FilledFrames.{Changes-frame, filled_more, filled_none, filled_all}
+use Rattle.pud_import.proofs.FilesPlaced.FilledFrames.{Changes-frame, filled_more, filled_none, filled_all}
 use Rattle.pud_import.proofs.filling.fill_frames.Goals as goal
 
 pub loop-ordinal-init : goal.loop-ordinal-init

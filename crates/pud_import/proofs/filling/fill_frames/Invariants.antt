@@ -3,7 +3,7 @@ use Rattle.pm_model.specs.Changes.{Changes}
 use Rattle.pud_import.specs.Contents.{stored_held}
 use Rattle.pud_import.specs.Filling.{ByFrames}
 use Rattle.pud_import.specs.Places.{FramesRise}
-use Rattle.pud_import.proofs.FilledFrames.{AreFilledBelow}
+use Rattle.pud_import.proofs.FilesPlaced.FilledFrames.{AreFilledBelow}
 use Rattle.pud_import.proofs.filling.fill_frames.Given as goal
 
 abbrev pub invariant-loop-ordinal : goal.invariant-loop-ordinal

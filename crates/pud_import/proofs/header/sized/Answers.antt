@@ -1,5 +1,5 @@
 use Rattle.std.proofs.Common.{sym, ◌∙◌, arith}
-use Rattle.pud_import.proofs.FileParts.{sized_whole}
+use Rattle.pud_import.proofs.FileChecks.FileParts.{sized_whole}
 use Rattle.pud_import.proofs.header.sized.Goals as goal
 
 pub returns-clause-sized : goal.returns-clause-sized

@@ -1,4 +1,4 @@
-use Rattle.pud_import.proofs.FileParts.{file_graph-limit}
+use Rattle.pud_import.proofs.FileChecks.FileParts.{file_graph-limit}
 use Rattle.pud_import.proofs.laws.front_of_a_file_decides.Goals as goal
 
 pub returns : goal.returns

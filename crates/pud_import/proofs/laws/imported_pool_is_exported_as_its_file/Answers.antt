@@ -1,4 +1,4 @@
-use Rattle.pud_import.proofs.Returned.{is_read, is_held, is_exported, is_ordered}
+use Rattle.pud_import.proofs.RoundTrip.Returned.{is_read, is_held, is_exported, is_ordered}
 use Rattle.pud_import.proofs.laws.imported_pool_is_exported_as_its_file.Goals as goal
 
 pub returns : goal.returns

@@ -16,9 +16,9 @@ use Rattle.registry.specs.Placing.{puddle_of_added}
 use Rattle.pud_import.specs.declared.placing.PlaceFault.TheVariants as faults
 use Rattle.pud_import.specs.Contents.{file_image, type_count_read, puddle_count_read}
 use Rattle.pud_import.specs.Places.{IsPuddleAt}
-use Rattle.pud_import.proofs.FreeFrames.{counted_none, counted_more, counted_end, counted_all}
-use Rattle.pud_import.proofs.PlacedPuddles.{AreFound, found_none, found_more, placed_next}
-use Rattle.pud_import.proofs.Refusals.{refused_if, refused_for_space}
+use Rattle.pud_import.proofs.FilesPlaced.FreeFrames.{counted_none, counted_more, counted_end, counted_all}
+use Rattle.pud_import.proofs.FilesPlaced.PlacedPuddles.{AreFound, found_none, found_more, placed_next}
+use Rattle.pud_import.proofs.FilesPlaced.Refusals.{refused_if, refused_for_space}
 use Rattle.pud_import.proofs.new_places.find_places.Goals as goal
 
 pub loop-ordinal-init : goal.loop-ordinal-init

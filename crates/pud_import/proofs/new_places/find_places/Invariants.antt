@@ -8,8 +8,8 @@ use Rattle.pud_defs.specs.RegistryTables.Placement.{ArePlacedFrom}
 use Rattle.pud_defs.specs.RegistryTables.Tables.{tables_of}
 use Rattle.registry.specs.Placing.{puddle_of_added}
 use Rattle.pud_import.specs.Contents.{file_image, type_count_read, puddle_count_read}
-use Rattle.pud_import.proofs.FreeFrames.{HasCounted}
-use Rattle.pud_import.proofs.PlacedPuddles.{AreFound}
+use Rattle.pud_import.proofs.FilesPlaced.FreeFrames.{HasCounted}
+use Rattle.pud_import.proofs.FilesPlaced.PlacedPuddles.{AreFound}
 use Rattle.pud_import.proofs.new_places.find_places.Given as goal
 
 abbrev pub invariant-loop-ordinal : goal.invariant-loop-ordinal

@@ -9,8 +9,8 @@ use Rattle.type_maps.specs.FreeRecords.{free_records}
 use Rattle.pud_import.specs.declared.placing.PlaceFault.TheVariants as faults
 use Rattle.pud_import.specs.Contents.{types_held}
 use Rattle.pud_import.specs.Placing.{lacks_records}
-use Rattle.pud_import.proofs.Refusals.{not_refused, refused_for_records, types_not_refused}
-use Rattle.pud_import.proofs.TypesMissing.{too_few_records, enough_records, records_in_turn, records_within}
+use Rattle.pud_import.proofs.FilesPlaced.Refusals.{not_refused, refused_for_records, types_not_refused}
+use Rattle.pud_import.proofs.FilesPlaced.TypesMissing.{too_few_records, enough_records, records_in_turn, records_within}
 use Rattle.pud_import.proofs.new_types.find_types.Goals as goal
 
 pub returns-in-None-clause-refusal : goal.returns-in-None-clause-refusal

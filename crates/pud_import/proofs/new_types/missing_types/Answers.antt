@@ -7,8 +7,8 @@ use Rattle.pud_defs.specs.StateMachine.Step.{is_clash, clashes_with}
 use Rattle.pud_defs.specs.RegistryTables.Types.{map_of, types_of}
 use Rattle.pud_import.specs.Contents.{file_image, type_count_read, types_held}
 use Rattle.pud_import.specs.declared.placing.PlaceFault.TheVariants as faults
-use Rattle.pud_import.proofs.Refusals.{refused_if, refused_with, not_refused}
-use Rattle.pud_import.proofs.TypesMissing.{missing_more, missing_same, clashes_same, clash_there}
+use Rattle.pud_import.proofs.FilesPlaced.Refusals.{refused_if, refused_with, not_refused}
+use Rattle.pud_import.proofs.FilesPlaced.TypesMissing.{missing_more, missing_same, clashes_same, clash_there}
 use Rattle.pud_import.proofs.new_types.missing_types.Goals as goal
 use Rattle.pud_import.proofs.new_types.missing_types.Goals.{then-branch, else-branch}
 

@@ -6,8 +6,8 @@ use Rattle.log_replay.specs.Replaying.{Anything}
 use Rattle.pud_defs.specs.StateMachine.Imports.{with_imported_pool}
 use Rattle.pud_defs.specs.RegistryTables.Spaces.{owner}
 use Rattle.pud_import.specs.Contents.{stored_held}
-use Rattle.pud_import.proofs.Imported.{ChangesPools-unfilled_import, ChangesPools-filled_import}
-use Rattle.pud_import.proofs.PlacedSomewhere.{PlacesSomewhere-unfilled, PlacesSomewhere-filled}
+use Rattle.pud_import.proofs.FilesPlaced.Imported.{ChangesPools-unfilled_import, ChangesPools-filled_import}
+use Rattle.pud_import.proofs.FilesPlaced.PlacedSomewhere.{PlacesSomewhere-unfilled, PlacesSomewhere-filled}
 use Rattle.pud_import.proofs.placing.fill_and_place.Goals as goal
 
 pub returns-in_err-fill_frames-clause-commits : goal.returns-in_err-fill_frames-clause-commits

@@ -11,8 +11,8 @@ use Rattle.pud_defs.specs.declared.layout.TheConstants.{TYPE_RECORDS}
 use Rattle.registry.specs.Adding.{IsAddedWithin}
 use Rattle.registry.proofs.Moved.{ChangesPools-still}
 use Rattle.pud_import.specs.Placing.{place_fault}
-use Rattle.pud_import.proofs.Imported.{types_of_file, placed_lists, import_behind}
-use Rattle.pud_import.proofs.PlacedSomewhere.{PlacesSomewhere-behind}
+use Rattle.pud_import.proofs.FilesPlaced.Imported.{types_of_file, placed_lists, import_behind}
+use Rattle.pud_import.proofs.FilesPlaced.PlacedSomewhere.{PlacesSomewhere-behind}
 use Rattle.pud_import.proofs.placing.place.Goals as goal
 
 pub returns-in_err-plan-clause-commits : goal.returns-in_err-plan-clause-commits

@@ -1,8 +1,8 @@
 use Rattle.std.proofs.Common.{None, refl, arith}
 use Rattle.std.proofs.lemmas.Result.{err_from_is_err_and}
 use Rattle.pm_model.proofs.Reading.{OnlyReads-then, still_reads}
-use Rattle.pud_import.proofs.Imported.{types_of_file}
-use Rattle.pud_import.proofs.Refusals.{refused_by_types, refused_by_slot, refused_by_number, refused_by_space}
+use Rattle.pud_import.proofs.FilesPlaced.Imported.{types_of_file}
+use Rattle.pud_import.proofs.FilesPlaced.Refusals.{refused_by_types, refused_by_slot, refused_by_number, refused_by_space}
 use Rattle.pud_import.proofs.plan.find_plan.Goals as goal
 
 pub returns-in_err-types-clause-refusal : goal.returns-in_err-types-clause-refusal

@@ -8,7 +8,7 @@ use Rattle.registry.specs.Adding.{IsAddedWithin}
 use Rattle.registry.specs.Placing.{puddle_of_added}
 use Rattle.pud_import.specs.Contents.{stored_held}
 use Rattle.pud_import.specs.Places.{at_frontier, AreMembers}
-use Rattle.pud_import.proofs.PlacedPuddles.{placed_whole, members_at, within_at}
+use Rattle.pud_import.proofs.FilesPlaced.PlacedPuddles.{placed_whole, members_at, within_at}
 use Rattle.pud_import.proofs.plan.find_puddles.Goals as goal
 
 pub returns-clause-placed : goal.returns-clause-placed

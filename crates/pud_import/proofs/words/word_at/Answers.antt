@@ -1,5 +1,5 @@
 use Rattle.std.proofs.Common.{◌∙◌}
-use Rattle.pud_import.proofs.Spelled.{word_read}
+use Rattle.pud_import.proofs.FileChecks.Spelled.{word_read}
 use Rattle.pud_import.proofs.words.word_at.Goals as goal
 
 pub returns : goal.returns

@@ -1,7 +1,7 @@
 use Rattle.std.proofs.Common.{ℕ, ◌<◌, ap, subst, sym, arith}
 use Rattle.pud_import.specs.Contents.{file_image, type_count_read}
-use Rattle.pud_import.proofs.FileParts.{types_legal}
-use Rattle.pud_import.proofs.TypesLegal.{legal_id}
+use Rattle.pud_import.proofs.FileChecks.FileParts.{types_legal}
+use Rattle.pud_import.proofs.FileChecks.TypesLegal.{legal_id}
 use Rattle.pud_import.proofs.file_view.FileView.type_at.Goals as goal
 
 pub overflow_cast-result : goal.overflow_cast-result

@@ -1,8 +1,8 @@
 use Rattle.std.proofs.Common.{sym, ap, ◌∙◌, arith}
 use Rattle.pud_defs.specs.PoolGraphs.ExportFile.{file_type}
 use Rattle.pud_import.specs.Sized.{image_of_file, types_in}
-use Rattle.pud_import.proofs.Numbered.{from_number-start, from_number-end}
-use Rattle.pud_import.proofs.TypesLegal.{rises, rises-start, rises-more, rises-fails}
+use Rattle.pud_import.proofs.FileChecks.Numbered.{from_number-start, from_number-end}
+use Rattle.pud_import.proofs.FileChecks.TypesLegal.{rises, rises-start, rises-more, rises-fails}
 use Rattle.pud_import.proofs.sized_file.SizedFile.has_legal_types.Goals as goal
 
 pub loop-i-init : goal.loop-i-init

@@ -1,6 +1,6 @@
 use Rattle.std.proofs.Common.{◌&&◌, sym, ap, ◌∙◌}
 use Rattle.pud_import.specs.Sized.{image_of_file, types_in}
-use Rattle.pud_import.proofs.Plainness.{is_plain-joined}
+use Rattle.pud_import.proofs.FileChecks.Plainness.{is_plain-joined}
 use Rattle.pud_import.proofs.sized_file.SizedFile.is_plain.Goals as goal
 
 pub returns-then-headers : goal.returns-then-headers

@@ -3,7 +3,7 @@ use Rattle.pud_defs.specs.Formats.Geometry.{ordinal_of, puddle_slot_at, puddle_s
 use Rattle.pud_defs.specs.PoolGraphs.ExportFile.{is_zero, slot_words_read}
 use Rattle.pud_defs.specs.PoolGraphs.Stored.{place_begins, place_words}
 use Rattle.pud_import.specs.Sized.{types_in, stored_of}
-use Rattle.pud_import.proofs.Zeroes.{is_zero-shifted}
+use Rattle.pud_import.proofs.FileChecks.Zeroes.{is_zero-shifted}
 use Rattle.pud_import.proofs.sized_file.SizedFile.is_plain_slot.Goals as goal
 
 pub returns : goal.returns

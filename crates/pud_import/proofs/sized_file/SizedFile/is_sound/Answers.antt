@@ -2,8 +2,8 @@ use Rattle.std.proofs.Common.{is_some, map, sym, ap, ◌∙◌, subst, arith}
 use Rattle.pud_defs.specs.PoolGraphs.Stored.{IsOnDevice}
 use Rattle.pud_defs.specs.PoolGraphs.ExportFile.{are_file_bases}
 use Rattle.pud_import.specs.Sized.{image_of_file}
-use Rattle.pud_import.proofs.AsDevice.{pool_on_device, graph_judged, puddles-pool}
-use Rattle.pud_import.proofs.FileParts.{joined}
+use Rattle.pud_import.proofs.FileChecks.AsDevice.{pool_on_device, graph_judged, puddles-pool}
+use Rattle.pud_import.proofs.FileChecks.FileParts.{joined}
 use Rattle.pud_import.proofs.sized_file.SizedFile.is_sound.Goals as goal
 
 pub has_graph-graph-requires : goal.has_graph-graph-requires

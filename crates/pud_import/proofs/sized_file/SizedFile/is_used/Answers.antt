@@ -2,7 +2,7 @@ use Rattle.std.proofs.Common.{not, sym, ap, ◌∙◌, arith}
 use Rattle.pud_defs.proofs.RegistryTables.Spaces.{all_below-more, all_below-none}
 use Rattle.graph_laws.specs.Slots.{is_of_type}
 use Rattle.pud_import.specs.Sized.{image_of_file, stored_of}
-use Rattle.pud_import.proofs.UsedPlaces.{places-file, is_used-there, is_used-none}
+use Rattle.pud_import.proofs.FileChecks.UsedPlaces.{places-file, is_used-there, is_used-none}
 use Rattle.pud_import.proofs.sized_file.SizedFile.is_used.Goals as goal
 
 pub loop-place-init : goal.loop-place-init

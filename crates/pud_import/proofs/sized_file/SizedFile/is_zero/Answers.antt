@@ -1,6 +1,6 @@
 use Rattle.std.proofs.Common.{sym, ◌∙◌, arith}
 use Rattle.pud_import.specs.Sized.{stored_of}
-use Rattle.pud_import.proofs.Zeroes.{is_zero-start, is_zero-more, is_zero-fails, is_zero-end}
+use Rattle.pud_import.proofs.FileChecks.Zeroes.{is_zero-start, is_zero-more, is_zero-fails, is_zero-end}
 use Rattle.pud_import.proofs.sized_file.SizedFile.is_zero.Goals as goal
 
 pub loop-k-init : goal.loop-k-init

@@ -2,8 +2,8 @@ use Rattle.std.proofs.Common.{sym, ap, ◌∙◌, arith}
 use Rattle.pud_defs.specs.PoolGraphs.ExportFile.{file_type}
 use Rattle.pud_defs.specs.RegistryTables.Types.{map_of}
 use Rattle.pud_import.specs.Sized.{image_of_file}
-use Rattle.pud_import.proofs.Numbered.{from_number-start, from_number-end}
-use Rattle.pud_import.proofs.TypesFound.{map_of-here, map_of-other}
+use Rattle.pud_import.proofs.FileChecks.Numbered.{from_number-start, from_number-end}
+use Rattle.pud_import.proofs.FileChecks.TypesFound.{map_of-here, map_of-other}
 use Rattle.pud_import.proofs.sized_file.SizedFile.map_of.Goals as goal
 
 pub loop-i-init : goal.loop-i-init

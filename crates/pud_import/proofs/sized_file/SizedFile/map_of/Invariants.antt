@@ -2,7 +2,7 @@ use Rattle.std.proofs.Common.{◌≡◌}
 use Rattle.pud_defs.specs.PoolGraphs.ExportFile.{file_type}
 use Rattle.pud_defs.specs.RegistryTables.Types.{map_of}
 use Rattle.pud_import.specs.Sized.{image_of_file, types_in}
-use Rattle.pud_import.proofs.Numbered.{from_number}
+use Rattle.pud_import.proofs.FileChecks.Numbered.{from_number}
 use Rattle.pud_import.proofs.sized_file.SizedFile.map_of.Given as goal
 
 abbrev pub invariant-loop-i : goal.invariant-loop-i

@@ -3,7 +3,7 @@ use Rattle.std.specs.List.{list_all}
 use Rattle.pud_defs.specs.PoolGraphs.ExportFile.{file_type}
 use Rattle.pud_import.specs.Contents.{is_used_in}
 use Rattle.pud_import.specs.Sized.{image_of_file, stored_of}
-use Rattle.pud_import.proofs.Numbered.{from_number-start, from_number-end, list_all-more, list_all-fails}
+use Rattle.pud_import.proofs.FileChecks.Numbered.{from_number-start, from_number-end, list_all-more, list_all-fails}
 use Rattle.pud_import.proofs.sized_file.SizedFile.uses_types.Goals as goal
 
 pub loop-i-init : goal.loop-i-init

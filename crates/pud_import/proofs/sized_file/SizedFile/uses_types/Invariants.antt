@@ -3,7 +3,7 @@ use Rattle.std.specs.List.{list_all}
 use Rattle.pud_defs.specs.PoolGraphs.ExportFile.{file_type}
 use Rattle.pud_import.specs.Contents.{is_used_in}
 use Rattle.pud_import.specs.Sized.{image_of_file, types_in, stored_of}
-use Rattle.pud_import.proofs.Numbered.{from_number}
+use Rattle.pud_import.proofs.FileChecks.Numbered.{from_number}
 use Rattle.pud_import.proofs.sized_file.SizedFile.uses_types.Given as goal
 
 abbrev pub invariant-loop-i : goal.invariant-loop-i

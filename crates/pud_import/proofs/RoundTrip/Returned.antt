@@ -37,7 +37,7 @@ use Rattle.pud_defs.proofs.StateMachine.PoolRefusals.{importing_refusal, refusal
 use Rattle.pud_defs.proofs.StateMachine.Changing.{is_sorted-after}
 use Rattle.pud_defs.proofs.StateMachine.Steps.{refused_world, done_world}
 use Rattle.pud_import.specs.Rewrites.{behind_rewrites}
-use Rattle.pud_import.proofs.TypesBrought.{types_used-later}
+use Rattle.pud_import.proofs.RoundTrip.TypesBrought.{types_used-later}
 
 -- ---- what a file holds
 

@@ -11,7 +11,7 @@ use Rattle.pud_defs.specs.Formats.TypeMap.{is_legal_map, is_legal_type_id}
 use Rattle.pud_defs.specs.RegistryTables.Types.{is_sound_type}
 use Rattle.pud_defs.specs.PoolGraphs.ExportFile.{file_type, file_types, are_file_types}
 use Rattle.pud_defs.proofs.RegistryTables.Spaces.{all_below-each, list_all-below}
-use Rattle.pud_import.proofs.Numbered.{from_number, from_number-more}
+use Rattle.pud_import.proofs.FileChecks.Numbered.{from_number, from_number-more}
 
 abbrev sound : ℕ × ℕ → Bool
 sound t = is_sound_type (Some t)

@@ -13,7 +13,7 @@ use Rattle.pud_defs.specs.PoolGraphs.Stored.{Stored}
 use Rattle.pud_defs.specs.PoolGraphs.Graph.{Graph, graph_of}
 use Rattle.pud_defs.specs.PoolGraphs.ExportFile.{words_in, file_words, file_type, file_puddle, file_types, file_stored, has_file_header, are_file_types, are_file_bases, is_plain, is_file, is_type_used, contents_with, contents_of, file_graph}
 use Rattle.graph_laws.proofs.SameReads.UsedTypes.{is_type_used-scanned}
-use Rattle.pud_import.proofs.Spelled.{length-words_in}
+use Rattle.pud_import.proofs.FileChecks.Spelled.{length-words_in}
 use Rattle.pud_import.specs.Contents.{file_image, type_count_read, puddle_count_read, types_held, stored_held, contents_read, is_used_in, is_sized, is_sound_file}
 
 -- ---- how many bytes there are

@@ -49,11 +49,11 @@ use Rattle.pud_import.specs.Filling.{IsFrameWord, ByFrames, AreFilled, filled_va
 use Rattle.pud_import.specs.declared.placing.PlaceFault.TheVariants as faults
 use Rattle.pud_import.specs.Places.{FramesRise}
 use Rattle.pud_import.specs.Placing.{Placement, MayImport}
-use Rattle.pud_import.proofs.FileParts.{exportable, contents_of_file}
-use Rattle.pud_import.proofs.FilledWorlds.{AreFree, not_before, IsSettled-frames, HasDurableTables-frames, ChangesPools-unfilled, ChangesPools-filled}
-use Rattle.pud_import.proofs.PlacedPuddles.{placed_rise}
-use Rattle.pud_import.proofs.PlacedWorlds.{IsPlacedFor-same, HoldFile, graph_of-filled}
-use Rattle.pud_import.proofs.TypesWider.{defined_then}
+use Rattle.pud_import.proofs.FileChecks.FileParts.{exportable, contents_of_file}
+use Rattle.pud_import.proofs.FilesPlaced.FilledWorlds.{AreFree, not_before, IsSettled-frames, HasDurableTables-frames, ChangesPools-unfilled, ChangesPools-filled}
+use Rattle.pud_import.proofs.FilesPlaced.PlacedPuddles.{placed_rise}
+use Rattle.pud_import.proofs.FilesPlaced.PlacedWorlds.{IsPlacedFor-same, HoldFile, graph_of-filled}
+use Rattle.pud_import.proofs.FilesPlaced.TypesWider.{defined_then}
 
 -- ---- what a file holds
 

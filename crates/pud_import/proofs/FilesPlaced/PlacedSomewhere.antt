@@ -16,7 +16,7 @@ use Rattle.registry.specs.Pools.{new_record, CommitsPuts}
 use Rattle.pud_import.specs.Filling.{ByFrames, AreFilled}
 use Rattle.pud_import.specs.Places.{FramesRise}
 use Rattle.pud_import.specs.Placing.{Placement, PlacesSomewhere}
-use Rattle.pud_import.proofs.PlacedPuddles.{placed_rise}
+use Rattle.pud_import.proofs.FilesPlaced.PlacedPuddles.{placed_rise}
 
 -- filling frames leaves the daemon log as it was
 pub HasIdleGate-frames : (F : ℕ) (puddles : List NewPuddle) (fault : Option HostFault) (a b : State) → Changes (ByFrames F puddles) fault a b → HasIdleGate DAEMON_LOG a.now.words → HasIdleGate DAEMON_LOG b.now.words

@@ -6,7 +6,7 @@ use Rattle.pud_defs.specs.Formats.Image.{Image}
 use Rattle.pud_defs.specs.RegistryTables.Spaces.{all_below}
 use Rattle.pud_defs.specs.PoolGraphs.Stored.{place_words, place_word}
 use Rattle.pud_defs.specs.PoolGraphs.ExportFile.{file_stored, is_zero, header_words_read, slot_words_read, is_plain}
-use Rattle.pud_import.proofs.UsedPlaces.{puddles-file, places-file}
+use Rattle.pud_import.proofs.FileChecks.UsedPlaces.{puddles-file, places-file}
 
 pub is_plain-joined : (types : List (ℕ × ℕ)) (words : Image) (T K : ℕ) (headers slots : Bool)
     → headers ≡ all_below K (λ o. is_zero ((file_stored words T K).word o) (header_words_read o) FRAME_HEADER_WORDS)

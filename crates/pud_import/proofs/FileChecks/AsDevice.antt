@@ -28,7 +28,7 @@ use Rattle.pud_defs.proofs.RegistryTables.TypeTable.{type_at-free, type_at-used}
 use Rattle.graph_laws.proofs.SameReads.Within.{graph_of-within}
 use Rattle.graph_read.proofs.Pointed.{no_puddle}
 use Rattle.puddle_header.proofs.Placed.{stored_word}
-use Rattle.pud_import.proofs.TypesLegal.{legal_id}
+use Rattle.pud_import.proofs.FileChecks.TypesLegal.{legal_id}
 use Rattle.pud_import.specs.Answers.{as_device, frame_and_puddle, file_pool}
 
 -- ---- a sorted list, place by place

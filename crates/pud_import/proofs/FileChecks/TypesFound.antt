@@ -3,7 +3,7 @@ use Rattle.std.proofs.Common.{◌≡◌, ℕ, ◌+◌, ◌<◌, ◌∷◌, Some,
 use Rattle.std.proofs.lemmas.Bool.{cond-true, cond-false}
 use Rattle.pud_defs.specs.RegistryTables.Types.{map_of}
 use Rattle.pud_defs.proofs.RegistryTables.TypeLists.{same_test}
-use Rattle.pud_import.proofs.Numbered.{from_number, from_number-more}
+use Rattle.pud_import.proofs.FileChecks.Numbered.{from_number, from_number-more}
 
 module _ (f : ℕ → ℕ × ℕ) (id i n : ℕ) (t : ℕ × ℕ) (below : i < n) (here : t ≡ f i) where
   in_front : map_of id (from_number f i n) ≡ map_of id (t ∷ from_number f (i + 1) n)

@@ -1,0 +1,11 @@
+-- A file placed on a device as a pool.
+pub mod FilledFrames
+pub mod FilledWorlds
+pub mod FreeFrames
+pub mod PlacedPuddles
+pub mod PlacedSomewhere
+pub mod PlacedWorlds
+pub mod Refusals
+pub mod TypesMissing
+pub mod TypesWider
+pub mod Imported
