@@ -283,7 +283,10 @@ fn lines_of_values_to_come_roots_and_freed_objects(rt: HostRuntime) {
         &[
             ("later 0 p 1.0 0", later(0, p, 1, 0, FieldValue::Num(0))),
             ("later 0 p 12.1 @0", later(0, p, 12, 1, FieldValue::Ref(0))),
-            ("later 1 p 12.1 @10", later(1, p, 12, 1, FieldValue::Ref(10))),
+            (
+                "later 1 p 12.1 @10",
+                later(1, p, 12, 1, FieldValue::Ref(10)),
+            ),
             (
                 "later 7 p 18446744073709551615.29 18446744073709551615",
                 later(7, p, u64::MAX, 29, FieldValue::Num(u64::MAX)),

@@ -16,7 +16,7 @@ use crate::places::find_serial;
 use crate::pointers::read_pointer;
 use pm_model::{HostFault, Loads};
 use pud_defs::layout::{MAX_FIELDS, MAX_FRAMES};
-use pud_defs::objects::{Pointee, FieldValue};
+use pud_defs::objects::{FieldValue, Pointee};
 use pud_defs::records::{Puddle, Slot};
 use pud_defs::type_map::{map_fields, map_is_pointer};
 use puddle_header::{slot_field, slot_serial, slot_type};

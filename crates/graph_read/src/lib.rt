@@ -8,18 +8,18 @@
 
 mod checking;
 mod fields;
-mod references;
 mod index;
 mod index_build;
 mod judge;
 mod places;
 mod pointers;
+mod references;
 mod serials;
 
 pub use checking::{field_word, type_at};
 pub use fields::{FieldRead, field_at, read_field, serial_behind, value_at};
-pub use references::is_referenced;
 pub use index::{Index, Kept};
 pub use judge::{Totals, pool_is_sound, pool_totals};
 pub use places::{find_place, find_serial};
 pub use pointers::read_pointer;
+pub use references::is_referenced;

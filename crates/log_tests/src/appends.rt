@@ -26,8 +26,8 @@ const LOST: u32 = 2;
 
 /// Appends an entry of these values.
 fn append<H: Host>(rt: &impl Abort, host: &mut H, log: &mut Log, vals: &[u64]) -> u32
-    requires { log.old.at ≡ 64 }
-    ensures { log.new.at ≡ 64 }
+    requires { log.old.gate_at ≡ 64 }
+    ensures { log.new.gate_at ≡ 64 }
 {
     assert!(rt; DAEMON_LOG + LOG_WORDS <= host.words() && 1 <= vals.len() && vals.len() <= 32);
     match log.append(host, ADDRESS, REDO_SEQ, REDO_ORDER, vals) {
@@ -40,8 +40,8 @@ fn append<H: Host>(rt: &impl Abort, host: &mut H, log: &mut Log, vals: &[u64]) -
 
 /// Appends two undo entries, of these values and of one value more.
 fn append_two<H: Host>(rt: &impl Abort, host: &mut H, log: &mut Log, vals: &[u64]) -> u32
-    requires { log.old.at ≡ 64 }
-    ensures { log.new.at ≡ 64 }
+    requires { log.old.gate_at ≡ 64 }
+    ensures { log.new.gate_at ≡ 64 }
 {
     assert!(rt; DAEMON_LOG + LOG_WORDS <= host.words() && 1 <= vals.len() && vals.len() <= 32);
     match log.append_two(host, ADDRESS, vals, ADDRESS + 8, 98) {

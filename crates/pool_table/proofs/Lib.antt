@@ -1,3 +1,3 @@
 pub mod Records
-pub mod LookUp
+pub mod Lookups
 pub mod Listing

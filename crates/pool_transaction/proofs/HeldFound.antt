@@ -42,7 +42,7 @@ module _ (F : ℕ) (active : ActiveTransaction) (known : Known) (memory : Memory
       its_placed size w (memory_alone active.slot known.puddles memory) active old active.log_number alone.there then F (sym alone.frames ∙ then.frames) known.puddles alone.known
 
   -- what is known behind the calls may be kept, where that is so of the device
-  module _ (goal : Member → Option ℕ) (next : World) (now : ActiveTransaction) (later : List (ℕ × Puddle)) (more : Known) (puddles : more.at ≡ later) (fault : Option HostFault) (from new : State) where
+  module _ (goal : Member → Option ℕ) (next : World) (now : ActiveTransaction) (later : List (ℕ × Puddle)) (more : Known) (puddles : more.puddles ≡ later) (fault : Option HostFault) (from new : State) where
     abbrev alone : Memory
     alone = with_opened active.log_number active.slot now later memory
 
@@ -77,7 +77,7 @@ module _ (F : ℕ) (active : ActiveTransaction) (known : Known) (memory : Memory
     abbrev led : ℕ → ℕ
     led = end_of (ordinal_written found)
 
-    pub Applies-found : (lent later : List (ℕ × Puddle)) (now : ActiveTransaction) (more : Known) (fault : Option HostFault) (mid new : State) → lent ≡ known.puddles → more.at ≡ later → mid ≡ old
+    pub Applies-found : (lent later : List (ℕ × Puddle)) (now : ActiveTransaction) (more : Known) (fault : Option HostFault) (mid new : State) → lent ≡ known.puddles → more.puddles ≡ later → mid ≡ old
         → Updates F active now lent later update found size w fault mid new → (fault ≡ None → IsKnown F (reads new.now.words) more)
         → AppliesFinishing active.slot (FinishesUnless (refusal_of w line) (FinishesFor F known.puddles (reads old.now.words) update)) size w (world_by w (Some line)) (with_known active.log_number active.slot now more memory) fault old new
     Applies-found lent later now more fault mid new same puddles still updates so =

@@ -3,8 +3,8 @@
 
 mod changing;
 mod lifetime;
-mod transaction;
 mod refusals;
+mod transaction;
 
 pub use changing::{Change, Update};
-pub use transaction::{PoolTransactions, PoolTransaction, lose, lose_all, no_transactions};
+pub use transaction::{PoolTransaction, PoolTransactions, lose, lose_all, no_transactions};

@@ -34,7 +34,8 @@ fn differ_in_kind(was: FieldValue, x: FieldValue) -> bool
     ensures { result ≡ differ_in_kind (Option.Some was) x }
 {
     match (was, x) {
-        (FieldValue::Num(_), FieldValue::Num(_)) | (FieldValue::Ref(_), FieldValue::Ref(_)) => false,
+        (FieldValue::Num(_), FieldValue::Num(_)) | (FieldValue::Ref(_), FieldValue::Ref(_)) =>
+            false,
         _ => true,
     }
 }
@@ -182,7 +183,9 @@ impl PoolTransaction {
             return Ok(Err(Refusal::Object));
         };
         let referenced = pool.is_referenced(h, frames, s)?;
-        let asked = self.tx.deferred_names_at(h, frames, pool.as_slice(), s, &at)?;
+        let asked = self
+            .tx
+            .deferred_names_at(h, frames, pool.as_slice(), s, &at)?;
         match refusal_to_free(referenced, asked, self.tx.units()) {
             Some(refusal) => Ok(Err(refusal)),
             None => Ok(Ok(FoundUpdate::Object { at })),

@@ -108,7 +108,12 @@ pub fn record_put(frame: u32, rec: PuddleRecord) -> Put
 ///
 /// The device has the puddle table of so many frames. `NoSpace` comes exactly where no such frame is free, where the host
 /// does not fail first. Nothing is written.
-pub fn add<H: Host>(h: &mut H, frames: u32, from: u32, rec: PuddleRecord) -> Result<Put, PuddleFault>
+pub fn add<H: Host>(
+    h: &mut H,
+    frames: u32,
+    from: u32,
+    rec: PuddleRecord,
+) -> Result<Put, PuddleFault>
     requires few { frames ≤ MAX_FRAMES }
     requires table { tables_end frames ≤ (H.counts h.old).size }
     requires known { rec.pool < POOL_RECORDS }

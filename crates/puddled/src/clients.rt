@@ -18,7 +18,13 @@ use pm_model::{Host, HostFault};
 use pud_defs::machine::{Refusal, Reply};
 
 /// Closes the client's logs, and then registers them for its owner.
-fn close_and_register<H: Host>(h: &mut H, frames: u32, client: u32, uid: u32, gid: u32) -> Result<(), HostFault>
+fn close_and_register<H: Host>(
+    h: &mut H,
+    frames: u32,
+    client: u32,
+    uid: u32,
+    gid: u32,
+) -> Result<(), HostFault>
     requires known { client < CLIENTS }
     requires uid_fits { uid ≤ MAX_OWNER_ID }
     requires gid_fits { gid ≤ MAX_OWNER_ID }

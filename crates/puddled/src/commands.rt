@@ -25,7 +25,7 @@ use crate::daemon::Daemon;
 use crate::finding::{Need, OwnTransaction};
 use crate::known_pools::KnownPools;
 use pm_model::{Host, HostFault};
-use pool_transaction::{PoolTransactions, Change};
+use pool_transaction::{Change, PoolTransactions};
 use pud_defs::machine::{Refusal, Reply};
 use pud_defs::records::Name;
 

@@ -29,7 +29,7 @@ use crate::types::define_type;
 use log_space::clear_spaces;
 use nesting::Sessions;
 use pm_model::{Host, HostFault};
-use pool_transaction::{PoolTransactions, Change, Update, lose_all, no_transactions};
+use pool_transaction::{Change, PoolTransactions, Update, lose_all, no_transactions};
 use pud_defs::machine::{Command, Refusal, Reply};
 use recover::{RecoverFault, recover};
 use script::parse_line;

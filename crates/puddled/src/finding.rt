@@ -86,7 +86,12 @@ fn has_right(need: Need, rec: &PoolRecord, who: Owner) -> bool
 }
 
 /// The pool that was found, where no other client's transaction is open on it by this session.
-fn found_unless_busy(session: Option<Session>, client: u8, slot: u32, number: u64) -> Result<FoundPool, Refusal>
+fn found_unless_busy(
+    session: Option<Session>,
+    client: u8,
+    slot: u32,
+    number: u64,
+) -> Result<FoundPool, Refusal>
     ensures { result ≡ found_unless_busy session client slot number }
 {
     match session {

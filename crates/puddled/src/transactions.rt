@@ -28,7 +28,7 @@ use crate::daemon::Daemon;
 use crate::finding::{OwnTransaction, refusal_to_enter};
 use log_space::free_log;
 use pm_model::{Host, HostFault};
-use pool_transaction::{PoolTransactions, PoolTransaction, lose};
+use pool_transaction::{PoolTransaction, PoolTransactions, lose};
 use pud_defs::layout::CLIENT_LOGS;
 use pud_defs::machine::{Refusal, Reply};
 use pud_defs::records::Name;

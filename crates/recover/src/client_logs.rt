@@ -65,7 +65,11 @@ fn settle_judged<H: Host>(
 
 /// Judges a log, and then replays and closes it if it is allowed. The answer is what was found of it, None where it is not registered:
 /// then nothing changes, nor where it is refused.
-fn recover_log<H: Host>(h: &mut H, frames: u32, number: LogNumber) -> Result<Option<Mark>, HostFault>
+fn recover_log<H: Host>(
+    h: &mut H,
+    frames: u32,
+    number: LogNumber,
+) -> Result<Option<Mark>, HostFault>
     requires few { frames ≤ MAX_FRAMES }
     requires known { number < ALL_LOGS }
     requires room { device_words frames ≤ (H.counts h.old).size }

@@ -4,9 +4,9 @@
 //! refused whole. The answers are right on every content of the device. No memory is taken.
 #![tactic(auto)]
 
+mod client_logs;
 mod judge;
 mod recovery;
-mod client_logs;
 
 pub use judge::Mark;
 pub use recovery::{RecoverFault, Report, recover};

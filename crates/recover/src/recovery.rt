@@ -17,8 +17,8 @@ ghost use Rattle.recover.specs.Verdicts.{verdict_of, mark_of, is_refused_mark};
 ghost use Rattle.recover.specs.RecoveredLogs.{RecoversLogs, RecoversLogsAtEachMoment};
 ghost use Rattle.recover.specs.Recovery.{recover_fault, ReplaysLogs, RecoversDevice};
 
-use crate::judge::Mark;
 use crate::client_logs::recover_logs;
+use crate::judge::Mark;
 use pm_model::{Host, HostFault};
 use pud_defs::layout::LOGS;
 use registry::{LoadFault, load_sound};

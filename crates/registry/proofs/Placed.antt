@@ -10,7 +10,7 @@ use Rattle.pud_defs.specs.RegistryTables.Tables.{Tables, tables_of, pool_in}
 use Rattle.pud_defs.proofs.RegistryTables.TablesOf.{frames_of_tables}
 use Rattle.pud_defs.specs.StateMachine.PoolChanges.{NUMBERS_DRAWN, lacks_numbers}
 use Rattle.pool_table.specs.LookUp.{slot_for}
-use Rattle.pool_table.proofs.LookUp.{slot_found, lowest_free, found_free}
+use Rattle.pool_table.proofs.Lookups.{slot_found, lowest_free, found_free}
 use Rattle.puddle_table.specs.declared.PuddleFault.{PuddleFault}
 use Rattle.puddle_table.specs.declared.PuddleFault.TheVariants as puddles
 use Rattle.puddle_table.specs.Records.{fault_in, frame_by}

@@ -1,4 +1,4 @@
-pub mod LookUp
+pub mod Lookups
 pub mod OneWord
 pub mod Moments
 pub mod FreeRecords

@@ -81,7 +81,7 @@ own_wider : (g wide : Scope) (es : List Entry) → IsWider g wide → All (IsInS
 own_wider g wide [] wider own = All-nil (IsInScope wide)
 own_wider g wide (e ∷ es) wider own =
     let first = All-head (IsInScope g) e es own in
-    All-cons (IsInScope wide) e es (record { may = wider.may_name e.address (length e.vals) first.may; kind = first.kind }) (own_wider g wide es wider (All-tail (IsInScope g) e es own))
+    All-cons (IsInScope wide) e es (record { may = wider.may e.address (length e.vals) first.may; kind = first.kind }) (own_wider g wide es wider (All-tail (IsInScope g) e es own))
 
 places_wider : (g wide : Scope) (es : List Entry) → IsWider g wide → All (IsInScope g) es → All (λ e. wide.place e.address ≡ g.place e.address) es
 places_wider g wide [] wider own = All-nil (λ e. wide.place e.address ≡ g.place e.address)

@@ -32,18 +32,18 @@ impl WordTransaction {
     /// Where nothing was asked for it takes no load, the gate is the only word written, and it takes three fences; else the loads
     /// of a replay, and four fences.
     pub fn commit<H: Host>(self, h: &mut H, frames: u32) -> Result<(), HostFault>
-        requires log { self.at + LOG_WORDS ≤ (H.counts h.old).size }
+        requires log { self.gate_at + LOG_WORDS ≤ (H.counts h.old).size }
         requires tables { HasPuddleTable frames (H.counts h.old).size }
-        ensures ends { H.tells → (size : ℕ) → size ≡ (H.counts h.old).size → (g : Scope) (es : List Entry) (before : Image) → IsScope size self.at g
+        ensures ends { H.tells → (size : ℕ) → size ≡ (H.counts h.old).size → (g : Scope) (es : List Entry) (before : Image) → IsScope size self.gate_at g
             → IsRunning g self es before (H.state h.old).now.words
-            → (defers es ≡ true → CanRedo g frames self.at (H.state h.old).now.words)
-            → CommitsTransaction g self.at before (overwritten (pending g.place es) (reads (H.state h.old).now.words)) (fault_of result) (H.state h.old) (H.state h.new) }
+            → (defers es ≡ true → CanRedo g frames self.gate_at (H.state h.old).now.words)
+            → CommitsTransaction g self.gate_at before (overwritten (pending g.place es) (reads (H.state h.old).now.words)) (fault_of result) (H.state h.old) (H.state h.new) }
         ensures gate { H.tells → (es : List Entry) → IsOpen self es (H.state h.old).now.words → defers es ≡ false → Changes (ByCommit self) (fault_of result) (H.state h.old) (H.state h.new) }
         ensures any { H.tells → Changes Anything (fault_of result) (H.state h.old) (H.state h.new) }
         ensures cause { H.counts h.new ≡ after_fault (fault_of result) (H.counts h.old) }
     {
         let WordTransaction { mut log } = self;
-        let at = log.gate_at();
+        let at = log.at();
         let asked = log.defers();
         h.fence()?;
         log.to_committing(h)?;
@@ -62,11 +62,11 @@ impl WordTransaction {
     ///
     /// Where no entry word counts it takes no load, and one fence; else the loads of a replay, and two fences.
     pub fn abort<H: Host>(self, h: &mut H, frames: u32) -> Result<(), HostFault>
-        requires log { self.at + LOG_WORDS ≤ (H.counts h.old).size }
+        requires log { self.gate_at + LOG_WORDS ≤ (H.counts h.old).size }
         requires tables { HasPuddleTable frames (H.counts h.old).size }
-        ensures closes { H.tells → (size : ℕ) → size ≡ (H.counts h.old).size → (g : Scope) (es : List Entry) (before : Image) → IsScope size self.at g
+        ensures closes { H.tells → (size : ℕ) → size ≡ (H.counts h.old).size → (g : Scope) (es : List Entry) (before : Image) → IsScope size self.gate_at g
             → IsRunning g self es before (H.state h.old).now.words → HasPlaces g (puddle_word (tables_of frames (reads (H.state h.old).now.words)))
-            → HasOneTable frames (H.state h.old).now.words → AbortsTransaction g self.at before (fault_of result) (H.state h.old) (H.state h.new) }
+            → HasOneTable frames (H.state h.old).now.words → AbortsTransaction g self.gate_at before (fault_of result) (H.state h.old) (H.state h.new) }
         ensures any { H.tells → Changes Anything (fault_of result) (H.state h.old) (H.state h.new) }
         ensures cause { H.counts h.new ≡ after_fault (fault_of result) (H.counts h.old) }
     {
@@ -75,7 +75,7 @@ impl WordTransaction {
         if used == 0 {
             return log.close(h);
         }
-        settle_log(h, log.gate_at(), Target::Puddles(frames))
+        settle_log(h, log.at(), Target::Puddles(frames))
     }
 
     /// Gives the transaction up where power was lost or the host failed. No device is touched.

@@ -138,6 +138,6 @@ impl WordTransaction {
     pub fn at(&self) -> u32
         ensures { result ≡ self.now.gate_at }
     {
-        self.log.gate_at()
+        self.log.at()
     }
 }

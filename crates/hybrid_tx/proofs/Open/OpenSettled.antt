@@ -91,7 +91,7 @@ record IsMineOf (F : ℕ) (opens : Opens) (w : ℕ) : Type 0 where
   number : ℕ
   transaction : OpenTransaction
   there : opens number ≡ Some transaction
-  mine : pool_has_word F (finished_of transaction.pool.puddles) w ≡ true
+  has_word : pool_has_word F (finished_of transaction.pool.puddles) w ≡ true
 
 module _ (F : ℕ) (opens : Opens) (w : ℕ) where
   abbrev IsNotOf : ℕ → Type 0

@@ -127,9 +127,9 @@ module _ (w : World) (all : List (Option ActiveTransaction)) (mask : Write) (old
 
   -- ---- what is held
 
-  module _ (it : (anew : Write) → ((k v : ℕ) → open_mask n q.pool before k ≡ Some v → anew k ≡ Some v) → (h : IsActive w active anew new.now.words) × (open_transaction_of active h.at h.rec h.who h.before ≡ q))
+  module _ (it : (anew : Write) → ((k v : ℕ) → open_mask n q.pool before k ≡ Some v → anew k ≡ Some v) → (h : IsActive w active anew new.now.words) × (open_transaction_of active h.puddles h.rec h.who h.before ≡ q))
       (rest : (m : ℕ) (g : ActiveTransaction) (has : active_under all m ≡ Some g) → m ≢ number → RestsAs n (holds.each m g has).is.puddles (holds.each m g has).is.before new.now.words) where
-    abbrev its : (h : IsActive w active wide new.now.words) × (open_transaction_of active h.at h.rec h.who h.before ≡ q)
+    abbrev its : (h : IsActive w active wide new.now.words) × (open_transaction_of active h.puddles h.rec h.who h.before ≡ q)
     its = it wide (λ k v is. masks_anew.has number q then_one.here k v is)
 
     it_anew : IsActiveUnder w opens_anew wide new.now.words number active

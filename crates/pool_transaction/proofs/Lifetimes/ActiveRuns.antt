@@ -128,7 +128,7 @@ module _ (size : ℕ) (w : World) (memory : Memory) (active : ActiveTransaction)
       records = λ k of.
           let place = open_record_place F p k is.pool.slot is.pool.known (open_on_device F p is.before is.pool) of in
           same_before k place.high ∙ record_picked w active ready.mask old.now.words is ready.tables o.before o.picked k of;
-      settles = subst (λ (n : ℕ). RecoversTo (pool_scope F (finished_of is.puddles)) n is.before image) is.gate settles;
+      recovers = subst (λ (n : ℕ). RecoversTo (pool_scope F (finished_of is.puddles)) n is.before image) is.gate settles;
     }
 
     -- each is left open: it by its log, and any other since none of its words was written

@@ -327,7 +327,7 @@ module _ (size : ℕ) (w : World) (memory : Memory) (old : State) (ready : IsRea
           unnamed = λ k v is. unnamed_idle j k gate_idle;
           records = (records_now size w.stored number o opens opens_then more are_then from.before j (idle_there from.before from.picked) (from_same j from) (records_there from.before from.picked)
               (world_there from.before from.picked)).each number o more.here;
-          settles = settles;
+          recovers = settles;
         })
 
     image_stands : (j : Image) → RecoversTo g gate now j → HasOrigin By old.now.words j → (world_of size j ≡ Some w.stored) × RefusesNone j

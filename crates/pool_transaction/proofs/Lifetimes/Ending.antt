@@ -300,7 +300,7 @@ module _ (size : ℕ) (w : World) (memory : Memory) (number : ℕ) (active : Act
     own_left values records settles = record {
       unnamed = λ k v is. unnamed_idle j k idle_left;
       records = records;
-      settles = subst (λ (at : ℕ). RecoversTo g at values j) is_active.gate settles;
+      recovers = subst (λ (at : ℕ). RecoversTo g at values j) is_active.gate settles;
     }
 
   -- all, with this one as it is

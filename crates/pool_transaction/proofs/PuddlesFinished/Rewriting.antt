@@ -158,9 +158,9 @@ module _ (size : ℕ) (w : World) (memory : Memory) (old new : State) (ready : I
         let other = active_is w memory.active ready.mask old.now.words ready.active i h has in
         record {
           each = λ k mine none.
-              let from = (pool_has_word-each n other.at k mine).low in
+              let from = (pool_has_word-each n other.puddles k mine).low in
               let was = other.running.rests.each k mine none in
-              let same = keeps_others.words h.slot other.at
+              let same = keeps_others.words h.slot other.puddles
               (λ it. apart (one_slot w memory.active ready.mask old.now.words ready.active i number h active has there (sym (same_Some active.slot h.slot it)))) (active_graph size w memory old ready i h has) k mine in
               subst (λ (v : ℕ). HasOnly (new.now.words k) v) (same ∙ HasOnly-newest (old.now.words k) (other.before k) was)
               ((applied.beside.single refl).each k (outside_log DAEMON_LOG k (inr (omega arith))) (HasOnly-own (old.now.words k) (other.before k) was));
@@ -191,7 +191,7 @@ module _ (size : ℕ) (w : World) (memory : Memory) (old new : State) (ready : I
     its_opened = comes_stepped w active ready.mask old new its goal o m e next c types_were applied.beside.changes (applied.beside.single refl) w.stored.next_number sound_after same_pools owner_then placed_its listed_its
 
     abbrev its_anew : (anew : Write) → ((k v : ℕ) → open_mask n (open_pool_of active stepped_its its.rec its.who) was_before k ≡ Some v → anew k ≡ Some v)
-        → (h : IsActive w active anew new.now.words) × (open_transaction_of active h.at h.rec h.who h.before ≡ open_transaction_of active stepped_its its.rec its.who was_before)
+        → (h : IsActive w active anew new.now.words) × (open_transaction_of active h.puddles h.rec h.who h.before ≡ open_transaction_of active stepped_its its.rec its.who was_before)
     its_anew anew masks =
         (active_stepped w active ready.mask old new its goal o m e next c types_were applied.beside.changes (applied.beside.single refl) w.stored.next_number sound_after same_pools owner_then placed_its listed_its anew masks, refl)
 

@@ -76,8 +76,8 @@ steps_known (Ok done) judged now slot n at same known counted = λ here is.
 
 -- they are those of the pool that is known
 pub moves_known : (result : Result ℕ HostFault) (judged now : List (Option Known)) (slot n : ℕ) (pool later : Known) → judged ≡ now → known_pool_in judged slot ≡ Some pool → later ≡ with_puddles later.puddles pool
-    → IfOk result (λ done. later.puddles ≡ steps_from n pool.at)
-    → IfOk result (λ done. (here : Known) → known_pool_in now slot ≡ Some here → set judged slot (Some later) ≡ set now slot (Some (with_puddles (steps_from n here.at) here)))
+    → IfOk result (λ done. later.puddles ≡ steps_from n pool.puddles)
+    → IfOk result (λ done. (here : Known) → known_pool_in now slot ≡ Some here → set judged slot (Some later) ≡ set now slot (Some (with_puddles (steps_from n here.puddles) here)))
 moves_known (Err fault) judged now slot n pool later same known rest moved = tt
 moves_known (Ok done) judged now slot n pool later same known rest moved = λ here is.
     let one : pool ≡ here = same_Some pool here (sym known ∙ ap (λ (js : List (Option Known)). known_pool_in js slot) same ∙ is) in
@@ -85,7 +85,7 @@ moves_known (Ok done) judged now slot n pool later same known rest moved = λ he
 
 -- of a pool that is not known none are
 pub moves_none : (judged now next : List (Option Known)) (slot n : ℕ) → judged ≡ now → known_pool_in judged slot ≡ None
-    → (here : Known) → known_pool_in now slot ≡ Some here → next ≡ set now slot (Some (with_puddles (steps_from n here.at) here))
+    → (here : Known) → known_pool_in now slot ≡ Some here → next ≡ set now slot (Some (with_puddles (steps_from n here.puddles) here))
 moves_none judged now next slot n same none here is = absurd (none-some here (sym none ∙ ap (λ (js : List (Option Known)). known_pool_in js slot) same ∙ is))
 
 pub steps_none : (judged now : List (Option Known)) (slot n done : ℕ) → judged ≡ now → known_puddles_in judged slot ≡ None → (here : List (ℕ × Puddle)) → known_puddles_in now slot ≡ Some here → done ≡ min n (left_among here)

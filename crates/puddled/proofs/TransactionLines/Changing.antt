@@ -49,7 +49,7 @@ on_device_there F judged slot known all is = all.each slot known.puddles (ap pud
 
 -- ---- an index of it is built
 
-module _ (judged : List (Option Known)) (slot : ℕ) (known more : Known) (is : known_pool_in judged slot ≡ Some known) (same : more.at ≡ known.puddles) where
+module _ (judged : List (Option Known)) (slot : ℕ) (known more : Known) (is : known_pool_in judged slot ≡ Some known) (same : more.puddles ≡ known.puddles) where
   -- all pools are known by the puddles by which they were
   pub puddles_built : (i : ℕ) → known_puddles_in (set judged slot (Some more)) i ≡ known_puddles_in judged i
   puddles_built i = known_again judged slot more (ap puddles_known is ∙ ap (λ (at : List (ℕ × Puddle)). Some at) (sym same)) i
@@ -75,7 +75,7 @@ module _ (size : ℕ) (w : World) (F : ℕ) (all : List (Option ActiveTransactio
 
   module _ (mine : ActiveTransaction) (there : active_under all number ≡ Some mine) (pool_is : Known) (known : known_pool_in judged slot ≡ Some pool_is) where
     abbrev at : List (ℕ × Puddle)
-    at = pool_is.at
+    at = pool_is.puddles
 
     same : mine ≡ own.own.active
     same = same_Some mine own.own.active (sym there ∙ own.own.is)

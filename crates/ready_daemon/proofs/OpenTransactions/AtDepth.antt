@@ -65,7 +65,7 @@ module _ (size : ℕ) (w : World) (memory : Memory) (s : State) (ready : IsReady
           is = record {
             rec = i.rec;
             who = i.who;
-            puddles = i.at;
+            puddles = i.puddles;
             before = i.before;
             graph_before = i.graph_before;
             transaction = x;
@@ -79,8 +79,8 @@ module _ (size : ℕ) (w : World) (memory : Memory) (s : State) (ready : IsReady
             stored = i.stored;
             pool = i.pool;
             records = i.records;
-            running = subst (λ (ls : List DeferredValue). IsOpenOn w.stored.frames i.at w.stored.types h.tx.log i.before i.graph_before x.now ls s.now.words) deferred
-                (subst (λ (g : Graph). IsOpenOn w.stored.frames i.at w.stored.types h.tx.log i.before i.graph_before g i.transaction.deferred s.now.words) now i.running);
+            running = subst (λ (ls : List DeferredValue). IsOpenOn w.stored.frames i.puddles w.stored.types h.tx.log i.before i.graph_before x.now ls s.now.words) deferred
+                (subst (λ (g : Graph). IsOpenOn w.stored.frames i.puddles w.stored.types h.tx.log i.before i.graph_before g i.transaction.deferred s.now.words) now i.running);
             masked = i.masked;
           };
           number_is = u.number_is;

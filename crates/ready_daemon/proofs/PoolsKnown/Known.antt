@@ -77,12 +77,12 @@ known_from judged slot put P kept before i here is =
 -- of a pool this is kept, wherever that is
 pub AreOnDevice-put : (F : ℕ) (judged : List (Option Known)) (slot : ℕ) (known : Known) → IsOnDevice F known.puddles → AreOnDevice F judged → AreOnDevice F (set judged slot (Some known))
 AreOnDevice-put F judged slot known kept before =
-    record { each = known_from judged slot (Some known) (λ i here. IsOnDevice F here) (λ k is. subst (λ (x : Known). IsOnDevice F x.at) (same_Some known k is) kept) before.each }
+    record { each = known_from judged slot (Some known) (λ i here. IsOnDevice F here) (λ k is. subst (λ (x : Known). IsOnDevice F x.puddles) (same_Some known k is) kept) before.each }
 
 pub AreKnownPools-set : (F : ℕ) (judged : List (Option Known)) (slot : ℕ) (known : Known) (image : Image) → puddles_with_graph F image slot ≡ Some known.puddles → IsKnown F image known → AreKnownPools F judged image
     → AreKnownPools F (set judged slot (Some known)) image
 AreKnownPools-set F judged slot known image has is before = record {
-  each = known_from judged slot (Some known) (λ i here. puddles_with_graph F image i ≡ Some here) (λ k same. subst (λ (x : Known). puddles_with_graph F image slot ≡ Some x.at) (same_Some known k same) has) before.each;
+  each = known_from judged slot (Some known) (λ i here. puddles_with_graph F image i ≡ Some here) (λ k same. subst (λ (x : Known). puddles_with_graph F image slot ≡ Some x.puddles) (same_Some known k same) has) before.each;
   known = pool_from judged slot (Some known) (λ i k. IsKnown F image k) (λ k same. subst (IsKnown F image) (same_Some known k same) is) before.known;
 }
 
@@ -94,8 +94,8 @@ AreOnDevice-forgotten F judged slot before = record { each = known_from judged s
 pub AreOnDevice-alone : (F : ℕ) (judged : List (Option Known)) (slot : ℕ) → AreOnDevice F judged → AreOnDevice F (alone_in slot judged)
 AreOnDevice-alone F judged slot before = record {
   each = known_from judged slot (option_map (λ (k : Known). by_puddles k.puddles) (known_pool_in judged slot)) (λ i here. IsOnDevice F here)
-      (λ k is. let of = option_map_parts (λ (x : Known). by_puddles x.at) (known_pool_in judged slot) k is in
-      subst (λ (x : Known). IsOnDevice F x.at) of.gives (before.each slot of.value.at (ap puddles_known of.is)))
+      (λ k is. let of = option_map_parts (λ (x : Known). by_puddles x.puddles) (known_pool_in judged slot) k is in
+      subst (λ (x : Known). IsOnDevice F x.puddles) of.gives (before.each slot of.value.puddles (ap puddles_known of.is)))
       before.each;
 }
 

@@ -2,7 +2,7 @@ use Rattle.std.proofs.Common.{sym, ap, ◌∙◌, arith}
 use Rattle.std.proofs.lemmas.Result.{err_from_is_err_and}
 use Rattle.pm_model.specs.Words.{reads}
 use Rattle.type_maps.specs.Define.{lookup_of}
-use Rattle.type_maps.proofs.LookUp.{full_refuses, free_accepts, same_accepts}
+use Rattle.type_maps.proofs.Lookups.{full_refuses, free_accepts, same_accepts}
 use Rattle.type_maps.proofs.Moments.{Defines-none}
 use Rattle.type_maps.proofs.define.Goals as goal
 

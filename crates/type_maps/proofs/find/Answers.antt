@@ -2,7 +2,7 @@ use Rattle.std.proofs.Common.{sym, ap, ◌∙◌}
 use Rattle.pm_model.specs.Words.{reads}
 use Rattle.pud_defs.specs.Formats.Image.{Image}
 use Rattle.pud_defs.specs.RegistryTables.Types.{map_of, types_of}
-use Rattle.type_maps.proofs.LookUp.{map_defined}
+use Rattle.type_maps.proofs.Lookups.{map_defined}
 use Rattle.type_maps.proofs.find.Goals as goal
 
 pub returns-in-Defined-clause-map : goal.returns-in-Defined-clause-map

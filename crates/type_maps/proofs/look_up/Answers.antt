@@ -5,7 +5,7 @@ use Rattle.pm_model.specs.Moments.{State}
 use Rattle.pud_defs.specs.declared.layout.TheConstants.{TYPE_RECORDS}
 use Rattle.pud_defs.specs.RegistryTables.Types.{type_record_at}
 use Rattle.type_maps.specs.Define.{lookup_by}
-use Rattle.type_maps.proofs.LookUp.{place_from, place_from-start, place_from-free, place_from-other, place_from-here, place_from-end, either_within}
+use Rattle.type_maps.proofs.Lookups.{place_from, place_from-start, place_from-free, place_from-other, place_from-here, place_from-end, either_within}
 use Rattle.pm_model.proofs.Reading.{OnlyReads-none, OnlyReads-then}
 use Rattle.type_maps.proofs.look_up.Goals as goal
 use Rattle.type_maps.proofs.look_up.Goals.{then-used_by-eq0, else-used_by-eq0+else-used_by-id}

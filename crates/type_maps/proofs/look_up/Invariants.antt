@@ -2,7 +2,7 @@ use Rattle.std.proofs.Common.{None, ◌≡◌, ◌<◌, IfSome}
 use Rattle.pm_model.specs.Words.{reads}
 use Rattle.pud_defs.specs.declared.layout.TheConstants.{TYPE_RECORDS}
 use Rattle.type_maps.specs.Define.{lookup_of}
-use Rattle.type_maps.proofs.LookUp.{place_from}
+use Rattle.type_maps.proofs.Lookups.{place_from}
 use Rattle.pm_model.specs.Reads.{OnlyReads}
 use Rattle.type_maps.proofs.look_up.Given as goal
 

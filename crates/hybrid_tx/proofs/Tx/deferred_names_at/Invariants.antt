@@ -19,7 +19,7 @@ invariant-loop-entry g l = record {
   reading : IsReading l.self.log.gate_at l.reader;
   only_reads : OnlyReads g.H.Host.tells g.H.Host.state g.H.Host.counts None l.fn.h l.h;
   names : g.H.Host.tells → (image : Image) → reads (g.H.Host.state l.fn.h).now.words ≡ image → (before : Image) (graph_before now : Graph) (deferred : List DeferredValue)
-      → ArePlacedPuddles l.frames l.pool → IsOpenOn l.frames l.pool (types_of image) l.self.log before graph_before now deferred (g.H.Host.state l.fn.h).now.words → l.s ≢ 0 → place_in_pool l.frames l.pool image l.s ≡ Some (place_of_slot l.gate_at)
+      → ArePlacedPuddles l.frames l.pool → IsOpenOn l.frames l.pool (types_of image) l.self.log before graph_before now deferred (g.H.Host.state l.fn.h).now.words → l.s ≢ 0 → place_in_pool l.frames l.pool image l.s ≡ Some (place_of_slot l.at)
       → NamesRest l.frames l.pool (types_of image) image now l.s l.reader (deferred_set_names l.s deferred);
 }
 

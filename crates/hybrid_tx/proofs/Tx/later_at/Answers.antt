@@ -4,8 +4,8 @@ use Rattle.pm_model.specs.Counts.{fault_of}
 use Rattle.hybrid_tx.proofs.Objects.FieldPut.{RunsOn-later}
 use Rattle.hybrid_tx.proofs.Tx.later_at.Goals as goal
 
-pub ask_in_frame-requires-clause-there : goal.defer_in_frame-requires-clause-there
-ask_in_frame-requires-clause-there g c = slice_get_within c.args.pool.now c.args.at.now.ordinal (c.args.at.now.frame, c.requires.within.puddle) c.requires.within.there
+pub defer_in_frame-requires-clause-there : goal.defer_in_frame-requires-clause-there
+defer_in_frame-requires-clause-there g c = slice_get_within c.args.pool.now c.args.at.now.ordinal (c.args.at.now.frame, c.requires.within.puddle) c.requires.within.there
 
 pub returns-clause-runs : goal.returns-clause-runs
 returns-clause-runs g c = λ t types before graph_before now deferred s x placed rewritten is_open may place word.

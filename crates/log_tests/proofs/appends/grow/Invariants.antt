@@ -3,7 +3,7 @@ use Rattle.std.proofs.Common.{◌≡◌}
 use Rattle.log_tests.proofs.appends.grow.Given as goal
 
 abbrev pub invariant-loop : goal.invariant-loop
-invariant-loop g l = l.log.at ≡ 64
+invariant-loop g l = l.log.gate_at ≡ 64
 
 abbrev pub invariant-loop-vals : goal.invariant-loop-vals
-invariant-loop-vals g l = l.log.at ≡ 64
+invariant-loop-vals g l = l.log.gate_at ≡ 64

@@ -3,4 +3,4 @@ use Rattle.std.proofs.Common.{◌≡◌}
 use Rattle.log_tests.proofs.appends.two_behind.Given as goal
 
 abbrev pub invariant-loop : goal.invariant-loop
-invariant-loop g l = l.log.at ≡ 64
+invariant-loop g l = l.log.gate_at ≡ 64

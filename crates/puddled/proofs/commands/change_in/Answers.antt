@@ -14,11 +14,11 @@ use Rattle.puddled.proofs.TransactionLines.Changing.{known_there, on_device_ther
 use Rattle.puddled.proofs.commands.change_in.Goals as goal
 use Rattle.puddled.proofs.commands.change_in.Goals.{in-Some-pools, in-None-pools}
 
-pub change-requires-clause-within : goal.carry_out_change-requires-clause-within
-change-requires-clause-within g c = read_within _ _ _ _ _ c.in-Some.opened c.requires.within (search rules) refl c.in-Some.is
+pub carry_out_change-requires-clause-within : goal.carry_out_change-requires-clause-within
+carry_out_change-requires-clause-within g c = read_within _ _ _ _ _ c.in-Some.opened c.requires.within (search rules) refl c.in-Some.is
 
-pub change-requires-clause-known : goal.carry_out_change-requires-clause-known
-change-requires-clause-known g c =
+pub carry_out_change-requires-clause-known : goal.carry_out_change-requires-clause-known
+carry_out_change-requires-clause-known g c =
     on_device_there c.args.frames c.args.judged.now c.args.own.slot c.in-Some-pools.pool c.requires.known
     (ap (λ (ps : List (Option Known)). known_pool_in ps c.args.own.slot) (sym c.judged.view_is) ∙ known_there c.judged.inside.pools c.args.own.slot _ c.index-judged-own.result (search rules) refl ∙ c.in-Some-pools.is)
 

@@ -29,14 +29,14 @@ returns-clause-applies g c = λ t size e at known w active sessions ready.
     elim c.match-judged-slot.branch [
       | in-Some b ↦
           let pool : Known = b.in-Some.pool in
-          let here : known_puddles_in pools c.args.slot ≡ Some pool.at = ap (option_map (λ (k : Known). k.puddles)) (read ∙ b.in-Some.is) in
-          let same : at ≡ pool.at = same_Some at pool.at (sym known ∙ ap (λ (ps : List (Option Known)). known_puddles_in ps c.args.slot) (sym c.judged.view_is) ∙ here) in
+          let here : known_puddles_in pools c.args.slot ≡ Some pool.puddles = ap (option_map (λ (k : Known). k.puddles)) (read ∙ b.in-Some.is) in
+          let same : at ≡ pool.puddles = same_Some at pool.puddles (sym known ∙ ap (λ (ps : List (Option Known)). known_puddles_in ps c.args.slot) (sym c.judged.view_is) ∙ here) in
           rw (b.result-is, b.judged-inside-is, b.h-is)
           (subst (λ (ps : List (ℕ × Puddle)). AppliesBy (MovesTo (led_in c.args.slot (frontiers_of (steps_from c.args.n ps)))) size w w
           (record { frames = c.args.frames; active = active; sessions = sessions; judged = set pools c.args.slot (Some b.step_pool.new.pool) }) (fault_of b.step_pool.result) s (g.H.Host.state b.step_pool.new.h)) (sym same)
-          (subst (λ (k : Known). AppliesBy (MovesTo (led_in c.args.slot (frontiers_of (steps_from c.args.n pool.at)))) size w w
+          (subst (λ (k : Known). AppliesBy (MovesTo (led_in c.args.slot (frontiers_of (steps_from c.args.n pool.puddles)))) size w w
           (record { frames = c.args.frames; active = active; sessions = sessions; judged = set pools c.args.slot (Some k) }) (fault_of b.step_pool.result) s (g.H.Host.state b.step_pool.new.h)) (sym b.step_pool.ensures.rest)
-          (Applies-stepped size w c.args.frames active sessions pools s then c.args.slot c.requires.slot pool (read ∙ b.in-Some.is) (frontiers_of (steps_from c.args.n pool.at)) b.step_pool.new.pool.at (fault_of b.step_pool.result)
+          (Applies-stepped size w c.args.frames active sessions pools s then c.args.slot c.requires.slot pool (read ∙ b.in-Some.is) (frontiers_of (steps_from c.args.n pool.puddles)) b.step_pool.new.pool.puddles (fault_of b.step_pool.result)
           (g.H.Host.state b.step_pool.new.h) (λ idle low. b.step_pool.ensures.rewrites t size e idle low))))
       | in-None b ↦ absurd (none-some at (sym (ap (option_map (λ (k : Known). k.puddles)) (read ∙ b.in-None.is)) ∙ ap (λ (ps : List (Option Known)). known_puddles_in ps c.args.slot) c.judged.view_is ∙ known))
     ]
@@ -65,6 +65,6 @@ returns-clause-steps g c =
     elim c.match-judged-slot.branch [
       | in-Some b ↦
           let pool : Known = b.in-Some.pool in
-          rw b.result-is (steps_known b.step_pool.result pools c.args.judged.now c.args.slot c.args.n pool.at c.judged.view_is (ap (option_map (λ (k : Known). k.puddles)) (read ∙ b.in-Some.is)) b.step_pool.ensures.steps)
+          rw b.result-is (steps_known b.step_pool.result pools c.args.judged.now c.args.slot c.args.n pool.puddles c.judged.view_is (ap (option_map (λ (k : Known). k.puddles)) (read ∙ b.in-Some.is)) b.step_pool.ensures.steps)
       | in-None b ↦ rw b.result-is (steps_none pools c.args.judged.now c.args.slot c.args.n 0 c.judged.view_is (ap (option_map (λ (k : Known). k.puddles)) (read ∙ b.in-None.is)))
     ]

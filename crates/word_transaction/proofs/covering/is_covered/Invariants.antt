@@ -10,9 +10,9 @@ use Rattle.word_transaction.proofs.covering.is_covered.Given as goal
 
 abbrev pub invariant-loop-entry : goal.invariant-loop-entry
 invariant-loop-entry g l = record {
-  reading : IsReading l.gate_at l.reader;
+  reading : IsReading l.at l.reader;
   only_reads : OnlyReads g.H.Host.tells g.H.Host.state g.H.Host.counts None l.fn.h l.h;
-  covered : g.H.Host.tells → (image : Image) → reads (g.H.Host.state l.fn.h).now.words ≡ image → (es : List Entry) → entries_of image l.gate_at ≡ Some es
+  covered : g.H.Host.tells → (image : Image) → reads (g.H.Host.state l.fn.h).now.words ≡ image → (es : List Entry) → entries_of image l.at ≡ Some es
       → MakesWhole (λ (u : Unit {0}) (left : List Entry). is_covered left l.address) image l.reader tt (is_covered es l.address);
 }
 

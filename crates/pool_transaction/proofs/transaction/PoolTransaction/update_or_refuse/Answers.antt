@@ -67,7 +67,7 @@ returns-in_err-update-clause-applies g c =
     let free = sym (k.refusal t size w memory its ready) ∙ ap refusal_in c.in-Ok.is in
     let by = rw c.in-Ok.is at (k.found t (reads old.now.words) refl (known_so F active known memory its size w old ready) (placed_on F active known memory its size w old ready)) in
     Applies-found F active known memory its size w old ready c.args.update c.in-Ok.found free (rw c.in-Ok.is at k.within) by c.pool.inside.puddles c.update.new.pool c.update.new.self _ (Some c.in_err-update.field-0.0) _ _
-    (ap (λ (x : Known). x.at) view) refl (k.only_reads.stays t) (c.in_err-update.ensures.applies t c.args.update size (still_size k.only_reads e) w) (λ none. absurd (none-some _ (sym none))))
+    (ap (λ (x : Known). x.puddles) view) refl (k.only_reads.stays t) (c.in_err-update.ensures.applies t c.args.update size (still_size k.only_reads e) w) (λ none. absurd (none-some _ (sym none))))
 
 pub returns-clause-applies : goal.returns-clause-applies
 returns-clause-applies g c = λ t size e w memory its ready.
@@ -80,5 +80,5 @@ returns-clause-applies g c = λ t size e w memory its ready.
     let free = sym (k.refusal t size w memory its ready) ∙ ap refusal_in c.in-Ok.is in
     let by = rw c.in-Ok.is at (k.found t (reads old.now.words) refl (known_so F active known memory its size w old ready) (placed_on F active known memory its size w old ready)) in
     Applies-found F active known memory its size w old ready c.args.update c.in-Ok.found free (rw c.in-Ok.is at k.within) by c.pool.inside.puddles c.update.new.pool c.update.new.self _ None _ _
-    (ap (λ (x : Known). x.at) view) refl (k.only_reads.stays t) (c.in_ok-update.ensures.applies t c.args.update size (still_size k.only_reads e) w)
+    (ap (λ (x : Known). x.puddles) view) refl (k.only_reads.stays t) (c.in_ok-update.ensures.applies t c.args.update size (still_size k.only_reads e) w)
     (λ none. subst (IsKnown F _) (sym (ap (with_puddles c.update.new.pool) view)) (IsKnown-puddles F c.update.new.pool _))
