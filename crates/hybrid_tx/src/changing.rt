@@ -26,7 +26,7 @@ ghost use Rattle.object_alloc.specs.Alloc.{serial_word_at};
 ghost use Rattle.word_transaction.specs.Running.{ByTransaction};
 ghost use Rattle.hybrid_tx.specs.PoolScopes.{pool_scope, finished_of, ArePlacedPuddles, IsRewrittenAt};
 ghost use Rattle.pud_defs.specs.PoolGraphs.DeferredValues.{DeferredValue, deferred_set_names};
-ghost use Rattle.hybrid_tx.specs.Objects.Stores.{address_at, word_for, IsPlaceAndWord, LacksPlaceOrWord, new_object_words, ByPutBoth};
+ghost use Rattle.hybrid_tx.specs.Objects.Stores.{address_at, word_for, field_word, IsPlaceAndWord, LacksPlaceOrWord, new_object_words, ByPut, ByPutBoth};
 ghost use Rattle.hybrid_tx.specs.Objects.Transactions.{MayName, MaySet, IsRewrittenFor, IsRewrittenAtLowest, MayFree, IsSaving, IsOpenOn, KeepsSaving, KeepsOpenOn, MakesIn};
 
 use crate::Tx;
@@ -43,7 +43,7 @@ use pud_defs::space::{
 use puddle_header::next_serial;
 
 /// The address of a slot, over the pool's bases.
-pub(crate) fn slot_address(pool: &[(u32, Puddle)], at: &Slot) -> u64
+pub fn slot_address(pool: &[(u32, Puddle)], at: &Slot) -> u64
     requires within { IsSlotOf pool.now at.now }
     ensures address { All (λ e. is_legal_base e.1.base ≡ true) pool.now → result ≡ address_at pool.now (place_of_slot at.now) }
 {
@@ -183,6 +183,8 @@ impl Tx {
         requires room { (self.old).units + SET_UNITS ≤ LOG_ENTRY_WORDS }
         ensures at { (self.new).log.gate_at ≡ (self.old).log.gate_at }
         ensures changes { H.tells → Changes (ByTransaction (pool_scope frames pool.now) (self.old).log.gate_at) (fault_of result) (H.state h.old) (H.state h.new) }
+        // Words of the log, and that of the field, are written alone.
+        ensures puts { H.tells → Changes (ByPut (self.old).log.gate_at (frame_at frames at.now.frame + field_word at.now f) (word ∷ [])) (fault_of result) (H.state h.old) (H.state h.new) }
         ensures runs { H.tells → (types : List (ℕ × ℕ)) (before : Image) (graph_before : Graph) (now : Graph) (deferred : List DeferredValue) (s : ℕ) (x : FieldValue) → ArePlacedPuddles frames pool.now
             → IsRewrittenFor frames pool.now (reads (H.state h.old).now.words) s → IsOpenOn frames pool.now types (self.old).log before graph_before now deferred (H.state h.old).now.words → MaySet types now s f x
             → place_in_pool frames pool.now (reads (H.state h.old).now.words) s ≡ Option.Some (place_of_slot at.now) → word_for frames pool.now (reads (H.state h.old).now.words) x ≡ Option.Some word

@@ -95,6 +95,13 @@ impl Tx {
         self.words.at()
     }
 
+    /// Whether values are asked for that come at the commit. No device is touched.
+    pub fn defers(&self) -> bool
+        ensures { result ≡ (self.now).log.defers }
+    {
+        self.words.defers()
+    }
+
     /// How many units it has taken, from 0 to 1,016.
     pub fn units(&self) -> u32
         ensures units { result ≡ (self.now).units }

@@ -19,7 +19,7 @@ pub mod laws;
 pub mod open_laws;
 mod running;
 
-pub use changing::{place_and_word, word_for};
+pub use changing::{place_and_word, slot_address, word_for};
 use std::marker::Model;
 use word_transaction::WordTransaction;
 

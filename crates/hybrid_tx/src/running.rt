@@ -145,6 +145,8 @@ impl Tx {
         ensures at { (self.new).log.gate_at ≡ (self.old).log.gate_at }
         ensures counts { IfOk result (λ _. (self.new).units ≡ (self.old).units + (length vals.now + ENTRY_HEADER_WORDS)) }
         ensures changes { H.tells → Changes (ByTransaction (pool_scope frames pool.now) (self.old).log.gate_at) (fault_of result) (H.state h.old) (H.state h.new) }
+        ensures puts { H.tells → (e : ℕ × Puddle) → slice_get pool.now ordinal ≡ Option.Some e
+            → Changes (ByPut (self.old).log.gate_at (frame_at frames e.0 + word) vals.now) (fault_of result) (H.state h.old) (H.state h.new) }
         ensures saves { H.tells → ArePlacedPuddles frames pool.now → (e : ℕ × Puddle) → slice_get pool.now ordinal ≡ Option.Some e → e.1.frontier ≡ steps_of e.1 → (before : Image) (redo : List Entry)
             → IsSaving frames (finished_of pool.now) (self.old).log before redo (H.state h.old).now.words
             → KeepsSaving frames (finished_of pool.now) (self.new).log before redo (placed (frame_at frames e.0 + word) vals.now) (fault_of result) (H.state h.old) (H.state h.new) }

@@ -140,4 +140,11 @@ impl WordTransaction {
     {
         self.log.at()
     }
+
+    /// Whether values are asked for that come at the commit. No device is touched.
+    pub fn defers(&self) -> bool
+        ensures { result ≡ self.now.defers }
+    {
+        self.log.defers()
+    }
 }

@@ -45,15 +45,19 @@ pub record IsLogBeside (F at : ℕ) : Type 0 where
 pub log_beside : (F number : ℕ) → number < ALL_LOGS → IsLogBeside F (log_number_at F number)
 log_beside F number known = record { low = omega arith; high = omega arith }
 
--- its gate is written where it begins
-pub KeepsPools-begun : (F number gate : ℕ) (old new : State) → number < ALL_LOGS → Persists (only (log_number_at F number) gate) None old new → KeepsPools F None (reads old.now.words) (reads new.now.words)
-KeepsPools-begun F number gate old new known p =
+-- its gate is written
+pub KeepsPools-gate : (F number : ℕ) (may : Footprint) (old new : State) → number < ALL_LOGS → ((k v : ℕ) → may k v → k ≡ log_number_at F number) → Changes may None old new → KeepsPools F None (reads old.now.words) (reads new.now.words)
+KeepsPools-gate F number may old new known here c =
     let beside = log_beside F number known in
     let low = beside.low in let high = beside.high in
-    let here : (k v : ℕ) → written (only (log_number_at F number) gate) k v → k ≡ log_number_at F number = λ k v may. only_at (log_number_at F number) gate k v may in
-    KeepsPools-apart F (written (only (log_number_at F number) gate)) old new p.changes
-    (record { types = λ k v from to may. let is = here k v may in absurd (omega arith); puddles = λ k v from to may. let is = here k v may in absurd (omega arith) })
-    (λ k v from may. let is = here k v may in absurd (omega arith))
+    KeepsPools-apart F may old new c
+    (record { types = λ k v from to wrote. let is = here k v wrote in absurd (omega arith); puddles = λ k v from to wrote. let is = here k v wrote in absurd (omega arith) })
+    (λ k v from wrote. let is = here k v wrote in absurd (omega arith))
+
+-- as where it begins
+pub KeepsPools-begun : (F number gate : ℕ) (old new : State) → number < ALL_LOGS → Persists (only (log_number_at F number) gate) None old new → KeepsPools F None (reads old.now.words) (reads new.now.words)
+KeepsPools-begun F number gate old new known p =
+    KeepsPools-gate F number (written (only (log_number_at F number) gate)) old new known (λ k v may. only_at (log_number_at F number) gate k v may) p.changes
 
 -- words of its log and of its pool's frames are written
 module _ (F slot log : ℕ) (at : List (ℕ × Puddle)) (old new : State) (beside : IsLogBeside F log) (has : EachIsOf (tables_of F (reads old.now.words)) slot at)

@@ -20,6 +20,12 @@ returns-clause-changes g c = λ t.
     ByPut-in_frame c.args.frames c.args.pool.now c.args.ordinal c.args.word log _ c.args.vals.now fault old new there c.requires.within
     (subst (λ (k : ℕ). Changes (ByPut log (k + c.args.word) c.args.vals.now) fault old new) c.frame_at.ensures (c.put.ensures.changes t))
 
+pub returns-clause-puts : goal.returns-clause-puts
+returns-clause-puts g c = λ t e there.
+    let same = get_or_from_slice_get c.args.pool.now c.args.ordinal e _ there in
+    subst (λ (k : ℕ). Changes (ByPut c.args.self.now.log.gate_at (k + c.args.word) c.args.vals.now) (fault_of c.put.result) (g.H.Host.state c.args.h.now) (g.H.Host.state c.put.new.h))
+    (c.frame_at.ensures ∙ ap (λ (d : ℕ × Puddle). frame_at c.args.frames d.0) same) (c.put.ensures.changes t)
+
 pub returns-clause-saves : goal.returns-clause-saves
 returns-clause-saves g c = λ t placed e there finished before redo s.
     let own = finished_of c.args.pool.now in
