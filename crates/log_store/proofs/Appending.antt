@@ -104,7 +104,7 @@ or_swap false b c = refl
 or_swap true false c = refl
 or_swap true true c = refl
 
--- one of more entries asks for values, or one of those before them
+-- one of more entries has deferred values, or one of those before them
 defers_with-none : (more : List Entry) → defers more ≡ defers_with more false
 defers_with-none [] = refl
 defers_with-none (e ∷ more) = ap (λ (b : Bool). is_redo e || b) (defers_with-none more)

@@ -13,7 +13,7 @@ use Rattle.pud_defs.specs.Logging.Replay.{IsInLog}
 use Rattle.log_store.specs.declared.AppendFault.{AppendFault}
 use Rattle.log_store.specs.declared.AppendFault.TheVariants as faults
 
--- the word of the gate, the range, how many entry words count, and whether an entry asks for values
+-- the word of the gate, the range, how many entry words count, and whether an entry has deferred values
 pub record OpenLog : Type 0 where
   pub gate_at : ℕ
   pub lo : ℕ
@@ -21,15 +21,15 @@ pub record OpenLog : Type 0 where
   pub used : ℕ
   pub defers : Bool
 
--- the entry asks for values to come
+-- the entry has deferred values
 abbrev pub is_redo : Entry → Bool
 is_redo e = e.order == REDO_ORDER
 
--- one of some entries does
+-- one of some entries has
 abbrev pub defers : List Entry → Bool
 defers es = list_any is_redo es
 
--- whether one of some entries does, or it was so before
+-- whether one of some entries has, or it was so before
 abbrev pub defers_with : List Entry → Bool → Bool
 defers_with [] was = was
 defers_with (e ∷ es) was = is_redo e || defers_with es was
@@ -38,11 +38,11 @@ defers_with (e ∷ es) was = is_redo e || defers_with es was
 abbrev pub undo_entry : (address : ℕ) → List ℕ → Entry
 undo_entry address vals = record { address = address; seq = UNDO_SEQ; order = UNDO_ORDER; vals = vals }
 
--- with so many words more that count, of entries that ask for nothing
+-- with so many words more that count, of entries without deferred values
 abbrev pub with_words : ℕ → OpenLog → OpenLog
 with_words words log = record log { used = log.used + words }
 
--- of one that asks for values
+-- of one with deferred values
 abbrev pub with_deferred_words : ℕ → OpenLog → OpenLog
 with_deferred_words words log = record log { used = log.used + words; defers = true }
 
@@ -61,7 +61,7 @@ committing log = record log { lo = COMMITTING_LO; hi = COMMITTING_HI }
 abbrev pub saying : OpenLog → List Entry → Log
 saying log es = record { lo = log.lo; hi = log.hi; entries = Some es }
 
--- the host's fault that an append answered
+-- the host's fault that an append returned
 abbrev pub append_fault : {T : Type 0} → Result T AppendFault → Option HostFault
 append_fault (Ok x) = None
 append_fault (Err faults.TooBig) = None
@@ -72,7 +72,7 @@ abbrev pub InLog : ℕ → Footprint
 InLog at k v = IsInLog at k
 
 -- The words hold this log with these entries: its gate and each entry word that counts have one value, and say this; and what is known of whether
--- one of them asks for values is so. What stands behind the words that count may be anything.
+-- one of them has deferred values is so. What stands behind the words that count may be anything.
 pub record IsOpen (log : OpenLog) (es : List Entry) (words : Words) : Type 0 where
   pub gate : HasOnly (words log.gate_at) (gate_word log.lo log.hi log.used)
   pub counted : (k : ℕ) → log.gate_at + LOG_HEADER_WORDS ≤ k → k < log.gate_at + LOG_HEADER_WORDS + log.used → HasOnly (words k) (words k).newest

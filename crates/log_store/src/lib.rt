@@ -43,7 +43,7 @@ impl From<HostFault> for AppendFault {
     }
 }
 
-/// A log that was opened: where it stands, its range, how many entry words count, and whether an entry asks for values.
+/// A log that was opened: where it stands, its range, how many entry words count, and whether an entry has deferred values.
 #[derive(Drop)]
 pub struct Log {
     gate_at: u32,
@@ -137,7 +137,7 @@ impl Log {
         self.used
     }
 
-    /// Whether one of its entries asks for values, by their order. No device is touched.
+    /// Whether one of its entries has deferred values, by their order. No device is touched.
     pub fn defers(&self) -> bool
         ensures { result ≡ self.now.defers }
     {

@@ -26,7 +26,7 @@ some_fault fault e = absurd (cc)
 pub not_cut : (fault : Option HostFault) → fault ≡ None → fault ≡ Some Cut → ⊥
 not_cut fault none cut = absurd (let it : None ≡ Some Cut = sym none ∙ cut in cc)
 
--- ---- words to which nothing comes
+-- ---- words that get no value
 
 -- one that is marked or has one value is so still
 pub marked_still : (may : Footprint) (fault : Option HostFault) (old new : State) (k : ℕ) → Changes may fault old new → ((v : ℕ) → may k v → ⊥)
@@ -64,7 +64,7 @@ KeepsRunning-still g log es before fault old new uncut same r =
       now = λ _ k out. ap (λ (x : State). reads x.now.words k) same;
     }
 
--- what failed did not do what was to come behind it
+-- what failed did not do what stands behind it
 pub KeepsRunning-failed : (g : Scope) (log behind : OpenLog) (es es_behind : List Entry) (before : Image) (write write_behind : Write) (fault : HostFault) (old new : State) → behind.gate_at ≡ log.gate_at
     → KeepsRunning g log es before write (Some fault) old new → KeepsRunning g behind es_behind before write_behind (Some fault) old new
 KeepsRunning-failed g log behind es es_behind before write write_behind fault old new at r =

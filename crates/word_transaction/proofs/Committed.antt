@@ -32,7 +32,7 @@ use Rattle.word_transaction.proofs.Ended.{reads_beside}
 pub mine_apart : (size at : ℕ) (g : Scope) (k : ℕ) → IsScope size at g → g.has_word k ≡ true → k ≡ at → ⊥
 mine_apart size at g k ground mine here = absurd (not_inside at k (ground.apart k mine) (record { low = omega arith; high = omega arith }))
 
--- what comes to the gate comes to a word of the log
+-- a value that the gate gets is one that a word of the log gets
 pub gate_by : (g : Scope) (at gate k v : ℕ) → written (only at gate) k v → ByTransaction g at k v
 gate_by g at gate k v new = let here = only_at at gate k v new in inl (record { low = omega arith; high = omega arith })
 
@@ -44,7 +44,7 @@ written_gate w x k v new make =
 
 -- ---- the log is closed
 
--- An image left while the log is closed: its own words settle to these values, and its gate is as it was or that of a closed log.
+-- An image left while the log is closed: its own words recover to these values, and its gate is as it was or that of a closed log.
 pub record IsShut (g : Scope) (at was : ℕ) (values image : Image) : Type 0 where
   pub recovers : RecoversTo g at values image
   pub gate : (image at ≡ was) ⊎ (image at ≡ CLOSED_GATE)
@@ -94,7 +94,7 @@ module _ (size at : ℕ) (g : Scope) (ground : IsScope size at g) (values : Imag
 
 -- ---- a fence
 
--- nothing may come to any word
+-- no word may get a value
 abbrev Nowhere : Footprint
 Nowhere k v = ⊥
 
@@ -127,7 +127,7 @@ gate_closes log fault a b c d m p =
 -- ---- the moments of an open transaction
 
 module _ (size : ℕ) (log : OpenLog) (es : List Entry) (g : Scope) (before : Image) (a : State) (ground : IsScope size log.gate_at g) (r : IsRunning g log es before a.now.words) where
-  -- what its own words come to hold: what they hold now, and over it what is asked for
+  -- what its own words hold at the end: what they hold now, and over it the deferred values
   abbrev after : Image
   after = overwritten (pending g.place es) (reads a.now.words)
 
@@ -151,7 +151,7 @@ module _ (size : ℕ) (log : OpenLog) (es : List Entry) (g : Scope) (before : Im
         hi_is = ap gate_hi is ∙ gate_hi-of COMMITTING_LO COMMITTING_HI log.used (omega arith) (omega arith) (omega arith);
       }
 
-  -- and settles to the end, as it does with that of a closed one
+  -- and recovers to the end, as it does with that of a closed one
   moved : (image : Image) → IsShut g log.gate_at (moved_gate log) after image → ByRange image
   moved image s = inr (record { range = elim s.gate [ inl gate ↦ inl (moved_range image gate) | inr shut ↦ inr shut ]; recovers = s.recovers })
 
@@ -209,7 +209,7 @@ module _ (size : ℕ) (log : OpenLog) (es : List Entry) (g : Scope) (before : Im
   pub moved_open : (b c : State) (m : Moves log None a b c) → IsOpen (committing log) es c.now.words
   moved_open b c m = IsOpen-moved COMMITTING_LO COMMITTING_HI log es b c (omega arith) (omega arith) (fence_open b m.fence) m.move
 
-  -- so each image settles to what they come to hold
+  -- so each image recovers to what they hold at the end
   moved_settles : (b c : State) (m : Moves log None a b c) (image : Image) → Picks c.now.words image → RecoversTo g log.gate_at after image
   moved_settles b c m image picked =
       RecoversTo-committing g log es (reads a.now.words) image r.own (IsOpen-log (committing log) es c.now.words image (moved_open b c m) picked)
@@ -255,7 +255,7 @@ module _ (size : ℕ) (log : OpenLog) (es : List Entry) (g : Scope) (before : Im
         durable = moved_single b c m;
       }
 
-  -- its log is closed, with all words as they come to be
+  -- its log is closed, with all words as they are at the end
   pub Ends-closes : (fault : Option HostFault) (b c d : State) → Moves log None a b c → Shuts g log.gate_at (moved_gate log) after fault c d → CommitsTransaction g log.gate_at before after fault a d
   Ends-closes fault b c d m shuts =
       let closes = shuts.closes in
@@ -271,7 +271,7 @@ module _ (size : ℕ) (log : OpenLog) (es : List Entry) (g : Scope) (before : Im
         stays = λ e k outside other. reads_beside g log.gate_at fault a d changes (not_cut fault e) k outside other;
       }
 
-  -- at once where nothing is asked for
+  -- at once where nothing is deferred
   pub Ends-close : (fault : Option HostFault) (b c d : State) → defers es ≡ false → Moves log None a b c → Persists (only log.gate_at CLOSED_GATE) fault c d → CommitsTransaction g log.gate_at before after fault a d
   Ends-close fault b c d none m p =
       Ends-closes fault b c d m

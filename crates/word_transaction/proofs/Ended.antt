@@ -16,7 +16,7 @@ use Rattle.word_transaction.proofs.Images.{RecoversTo-closed, closed_by_gate}
 
 -- ---- whatever its range
 
--- an image settles to one of the two
+-- an image recovers to one of the two
 pub settles_either : (g : Scope) (at : ℕ) (before after image : Image) → RecoversByRange g at before after image → RecoversTo g at before image ⊎ RecoversTo g at after image
 settles_either g at before after image (inl unmoved) = inl unmoved.recovers
 settles_either g at before after image (inr moved) = inr moved.recovers
@@ -51,7 +51,7 @@ module _ (g : Scope) (at : ℕ) (values : Image) (words : Words) (idle : IsIdle 
 
 -- ---- what stays meanwhile
 
--- nothing comes to a word that is none of the log's and not the transaction's own
+-- a word that is none of the log's and not the transaction's own gets no value
 pub beside_transaction : (g : Scope) (at k v : ℕ) → is_in_log at k ≡ false → g.has_word k ≡ false → ByTransaction g at k v → ⊥
 beside_transaction g at k v outside other (inl inside) = not_inside at k outside inside
 beside_transaction g at k v outside other (inr mine) = absurd (let it : true ≡ false = sym mine ∙ other in cc)

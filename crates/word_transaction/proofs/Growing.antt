@@ -23,7 +23,7 @@ use Rattle.word_transaction.proofs.Images.{RecoversTo-local, IsRunning-settles}
 
 -- ---- beside other calls
 
--- each image left by calls that give no value to a word of the log or to an own word settles to the values from the beginning
+-- each image left by calls that give no value to a word of the log or to an own word recovers to the values from the beginning
 pub settles_beside : (g : Scope) (log : OpenLog) (es : List Entry) (before : Image) (may : Footprint) (fault : Option HostFault) (old new : State) → Changes may fault old new
     → ((k v : ℕ) → InLog log.gate_at k v → may k v → ⊥) → ((k v : ℕ) → g.has_word k ≡ true → may k v → ⊥) → IsRunning g log es before old.now.words
     → Leaves (Silently (RecoversTo g log.gate_at before)) old new
@@ -37,7 +37,7 @@ settles_beside g log es before may fault old new c in_log own r =
 
 -- ---- the values from the beginning
 
--- they count on its own words alone
+-- they matter on its own words alone
 pub IsRunning-values : (size : ℕ) (g : Scope) (log : OpenLog) (es : List Entry) (before values : Image) (words : Words) → IsScope size log.gate_at g → ((k : ℕ) → g.has_word k ≡ true → before k ≡ values k)
     → IsRunning g log es before words → IsRunning g log es values words
 IsRunning-values size g log es before values words ground same r =
@@ -53,7 +53,7 @@ IsRunning-values size g log es before values words ground same r =
 
 -- ---- over more words
 
--- what the one may name the other may too, by the same places, and its words are among the other's
+-- what the one scope may name the other may too, at the same places, and its words are among the other's
 pub record IsWider (g wide : Scope) : Type 0 where
   pub may : (address count : ℕ) → g.may_name address count ≡ true → wide.may_name address count ≡ true
   pub place : (address count : ℕ) → g.may_name address count ≡ true → wide.place address ≡ g.place address
@@ -93,11 +93,11 @@ places_wider g wide (e ∷ es) wider own =
 pub saved-wider : (g wide : Scope) (es : List Entry) (k : ℕ) → IsWider g wide → All (IsInScope g) es → saved wide.place es k ≡ saved g.place es k
 saved-wider g wide es k wider own = undo_value-places g.place wide.place running_range es k (places_wider g wide es wider own)
 
--- and the same are asked for
+-- and the same values are deferred
 pub pending-wider : (g wide : Scope) (es : List Entry) (k : ℕ) → IsWider g wide → All (IsInScope g) es → pending wide.place es k ≡ pending g.place es k
 pending-wider g wide es k wider own = redo_value-places g.place wide.place committing_range es k (places_wider g wide es wider own)
 
--- an open transaction comes to own more words, each with one value, which it then has from the beginning
+-- an open transaction gets more words in its scope, each with one value, which is then the one from the beginning
 pub IsRunning-wider : (g wide : Scope) (log : OpenLog) (es : List Entry) (before : Image) (words : Words) → IsWider g wide
     → ((k : ℕ) → wide.has_word k ≡ true → g.has_word k ≡ false → HasOnly (words k) (before k)) → IsRunning g log es before words → IsRunning wide log es before words
 IsRunning-wider g wide log es before words wider fresh r =

@@ -52,13 +52,13 @@ RecoversTo-given g log es write values image own says given gives stays =
           ∙ unwrapped (write k) (image k) (values k) (λ v. gives k v mine) (stays k mine);
     }
 
--- what is saved has its value of the beginning, and what is not is as it was then
+-- what is saved has its value from the beginning, and what is not is as it was then
 pub RecoversTo-running : (g : Scope) (log : OpenLog) (es : List Entry) (before image : Image) → log.lo ≡ RUNNING_LO → log.hi ≡ RUNNING_HI → All (IsInScope g) es → log_of image log.gate_at ≡ saying log es
     → ((k v : ℕ) → g.has_word k ≡ true → saved g.place es k ≡ Some v → v ≡ before k) → ((k : ℕ) → g.has_word k ≡ true → saved g.place es k ≡ None → image k ≡ before k) → RecoversTo g log.gate_at before image
 RecoversTo-running g log es before image lo hi own says saves single =
     RecoversTo-given g log es (saved g.place es) before image own says (λ k. new_value-running g g.place (saying log es) es k lo hi refl own) saves single
 
--- each image that may be left while a transaction is open settles to the values from its beginning
+-- each image that may be left while a transaction is open recovers to the values from its beginning
 pub IsRunning-settles : (g : Scope) (log : OpenLog) (es : List Entry) (before image : Image) (words : Words) → IsRunning g log es before words → Picks words image → RecoversTo g log.gate_at before image
 IsRunning-settles g log es before image words r picked =
     RecoversTo-running g log es before image r.lo r.hi r.own (IsOpen-log log es words image r.opened picked)

@@ -1,4 +1,4 @@
--- What a call within a transaction keeps, of words that are kept already or not, and what is written behind it.
+-- What a call within a transaction saves, of words that are saved already or not, and what is written behind it.
 use Rattle.std.proofs.Common.{◌≡◌, ◌⊎◌, inl, inr, ℕ, true, List, [], ◌∷◌, ◌++◌, length, Option, Some, None, Result, Ok, Err, refl, sym, ap, subst, ◌∙◌, arith}
 use Rattle.std.specs.Prelude.{All, IfOk, OnErr}
 use Rattle.pm_model.specs.declared.host.HostFault.{HostFault}
@@ -32,9 +32,9 @@ saved_by_two place address first address2 second k word vals is also one none =
       | inr there ↦ saved_by_one place address2 second k (word ∷ []) also (omega arith, omega arith) (saved-none_more place (e ∷ []) (f ∷ []) k none)
     ]
 
--- ---- calls that keep
+-- ---- calls that save
 
--- nothing was done: all that was to be kept is so already, or the call failed
+-- nothing was done: all that was to be saved is so already, or the call failed
 pub SavesWords-still : (g : Scope) (log : OpenLog) (es : List Entry) (before : Image) (which : ℕ → Type 0) (fault : Option HostFault) (old new : State) → (fault ≡ Some Cut → ⊥) → new ≡ old
     → IsRunning g log es before old.now.words → (fault ≡ None → (k : ℕ) → which k → saved g.place es k ≡ None → ⊥) → SavesWords g log es before which fault old new
 SavesWords-still g log es before which fault old new uncut same r kept =
@@ -69,7 +69,7 @@ pub SavesWords-from : (g : Scope) (log now : OpenLog) (es : List Entry) (before 
 SavesWords-from g log now es before which fault s b t same r keeps =
     subst (λ (x : State). SavesWords g now es before which fault x t) same (keeps (subst (λ (x : State). IsRunning g log es before x.now.words) (sym same) r))
 
--- some of the words were kept before
+-- some of the words were saved before
 pub SavesWords-beside : (g : Scope) (now : OpenLog) (es : List Entry) (before : Image) (which also all : ℕ → Type 0) (fault : Option HostFault) (old new : State)
     → ((k : ℕ) → all k → which k ⊎ also k) → ((k : ℕ) → also k → saved g.place es k ≡ None → ⊥) → SavesWords g now es before which fault old new → SavesWords g now es before all fault old new
 SavesWords-beside g now es before which also all fault old new either was keeps =
@@ -83,12 +83,12 @@ SavesWords-beside g now es before which also all fault old new either was keeps 
 
 -- ---- words written behind them
 
--- own words that are kept are written
+-- own words that are saved are written
 pub record WritesKept (g : Scope) (which : ℕ → Type 0) (write : Write) : Type 0 where
   pub has_word : (k v : ℕ) → write k ≡ Some v → g.has_word k ≡ true
   pub kept : (k v : ℕ) → write k ≡ Some v → which k
 
--- values placed from the word of an address on, where its words are kept
+-- values placed from the word of an address on, where its words are saved
 pub WritesKept-placed : (size at : ℕ) (g : Scope) (address first : ℕ) (vals : List ℕ) → IsScope size at g → g.may_name address (length vals) ≡ true → g.place address ≡ Some first
     → WritesKept g (IsOneOf first (length vals)) (placed first vals)
 WritesKept-placed size at g address first vals ground may place =
@@ -100,7 +100,7 @@ WritesKept-placed size at g address first vals ground may place =
       kept = λ k v is. let within = placed_within first k v vals is in (within.0, within.1);
     }
 
--- where others are kept too
+-- where others are saved too
 pub WritesKept-among : (g : Scope) (which all : ℕ → Type 0) (write : Write) → ((k : ℕ) → which k → all k) → WritesKept g which write → WritesKept g all write
 WritesKept-among g which all write more writes = record { has_word = writes.has_word; kept = λ k v is. more k (writes.kept k v is) }
 
@@ -108,7 +108,7 @@ covered_by : (g : Scope) (log : OpenLog) (es : List Entry) (before : Image) (whi
     → IsCovered g keeps.entries write
 covered_by g log es before which write old new keeps writes = record { has_word = writes.has_word; kept = λ k v is none. keeps.kept refl k (writes.kept k v is) none }
 
--- the words were not kept, and so not written
+-- the words were not saved, and so not written
 pub SavesAndWrites-unkept : (g : Scope) (log now : OpenLog) (es : List Entry) (before : Image) (which : ℕ → Type 0) (write : Write) (fault : HostFault) (old new : State) → now.gate_at ≡ log.gate_at
     → SavesWords g log es before which (Some fault) old new → SavesAndWrites g now es before write (Some fault) old new
 SavesAndWrites-unkept g log now es before which write fault old new at keeps =

@@ -1,4 +1,4 @@
--- What the entries of a transaction ask for, and what an image with a committing log settles to.
+-- The deferred values of a transaction, and what an image with a committing log recovers to.
 use Rattle.std.proofs.Common.{◌≡◌, ◌⊎◌, inl, inr, ℕ, Bool, true, false, ◌&&◌, ◌||◌, ltb, eqb, List, [], ◌∷◌, ◌++◌, Option, Some, None, refl, sym, ap, ap₂, ◌∙◌, arith, eq-eqb}
 use Rattle.std.specs.Prelude.{All, unwrap_or}
 use Rattle.std.specs.Option.{option_or}
@@ -43,9 +43,9 @@ undo_value-committing g place (e ∷ es) k own =
     ] in first)
     (undo_value-committing g place es k (All-tail (IsInScope g) e es own))
 
--- ---- what is asked for
+-- ---- deferred values
 
--- undo entries ask for nothing
+-- undo entries defer nothing
 pub pending-undo : (place : AddressMap) (es : List Entry) (k : ℕ) → All IsUndo es → pending place es k ≡ None
 pending-undo place [] k undo = redo_value-none place committing_range k
 pending-undo place (e ∷ es) k undo =
@@ -61,7 +61,7 @@ pending-none place (e ∷ es) k none =
     redo_value-first place committing_range e es k
     ∙ ap₂ option_or (pending-none place es k parts.1) (given_by-other place committing_range REDO_ORDER e k (λ redo. absurd (let it : true ≡ false = sym (eq-eqb e.order REDO_ORDER redo) ∙ parts.0 in cc)))
 
--- there is none where no values are asked for
+-- there is none where no values are deferred
 pub defers-none : (es : List Entry) → deferred_entries es ≡ [] → defers es ≡ false
 defers-none [] none = refl
 defers-none (e ∷ es) none = elim (cases_Bool (is_redo e)) [
@@ -69,11 +69,11 @@ defers-none (e ∷ es) none = elim (cases_Bool (is_redo e)) [
   | inr other ↦ ap (λ (b : Bool). b || defers es) other ∙ defers-none es (sym (cond-false _ _ _ other) ∙ none)
 ]
 
--- behind entries that ask for nothing no more is asked for
+-- entries that defer nothing leave the deferred values as they are
 pub deferred_entries-undo : (es more : List Entry) → deferred_entries more ≡ [] → deferred_entries (es ++ more) ≡ deferred_entries es
 deferred_entries-undo es more none = filter-append is_redo es more ∙ ap (λ (l : List Entry). deferred_entries es ++ l) none ∙ append-nil (deferred_entries es)
 
--- behind a redo entry that one, last
+-- a redo entry is added to the deferred ones, last
 pub deferred_entries-redo : (es : List Entry) (address : ℕ) (vals : List ℕ) → deferred_entries (es ++ redo_entry address vals ∷ []) ≡ deferred_entries es ++ redo_entry address vals ∷ []
 deferred_entries-redo es address vals = filter-append is_redo es (redo_entry address vals ∷ [])
 
@@ -95,7 +95,7 @@ one_in_turn place e es image (inr redo) =
     ap (λ (w : ℕ → Option ℕ). written_in_turn place (deferred_entries es) (overwritten w image)) same
     ∙ ap (λ (xs : List Entry). written_in_turn place xs image) (sym (cond-true (is_redo e) (e ∷ deferred_entries es) (deferred_entries es) one))
 
--- what is asked for, over an image, is the values of the redo entries in turn
+-- the deferred values, over an image, are the values of the redo entries in turn
 pub pending-in_turn : (g : Scope) (place : AddressMap) (es : List Entry) (image : Image) → All (IsInScope g) es → overwritten (pending place es) image ≡ written_in_turn place (deferred_entries es) image
 pending-in_turn g place [] image own = overwritten-nothing (pending place []) image (λ k. redo_value-none place committing_range k)
 pending-in_turn g place (e ∷ es) image own =
@@ -108,7 +108,7 @@ pending-in_turn g place (e ∷ es) image own =
 
 -- ---- a committing log
 
--- it gives what its entries ask for
+-- it gives the deferred values of its entries
 pub new_value-committing : (g : Scope) (place : AddressMap) (log : Log) (es : List Entry) (k : ℕ) → log.lo ≡ COMMITTING_LO → log.hi ≡ COMMITTING_HI → log.entries ≡ Some es → All (IsInScope g) es
     → new_value place log k ≡ pending place es k
 new_value-committing g place log es k lo hi entries own =
@@ -116,7 +116,7 @@ new_value-committing g place log es k lo hi entries own =
     ∙ ap₂ option_or (redo_value-range place log committing_range es k lo hi) (undo_value-range place log committing_range es k lo hi ∙ undo_value-committing g place es k own)
     ∙ sym (or_none (pending place es k))
 
--- over what its own words hold an image settles to what they ask for
+-- an image recovers to the deferred values, over what the transaction's own words hold
 pub RecoversTo-committing : (g : Scope) (log : OpenLog) (es : List Entry) (was image : Image) → All (IsInScope g) es → log_of image log.gate_at ≡ saying (committing log) es
     → ((k : ℕ) → g.has_word k ≡ true → image k ≡ was k) → RecoversTo g log.gate_at (overwritten (pending g.place es) was) image
 RecoversTo-committing g log es was image own says same =

@@ -1,4 +1,4 @@
--- A transaction that asked for values committed: its log is replayed once the range is moved.
+-- A transaction with deferred values committed: its log is replayed once the range is moved.
 use Rattle.std.proofs.Common.{◌≡◌, ℕ, List, Option, None, refl, sym, subst, ◌∙◌, arith}
 use Rattle.pm_model.specs.declared.host.HostFault.{HostFault}
 use Rattle.pm_model.specs.Words.{reads, HasOnly}
@@ -49,7 +49,7 @@ module _ (size : ℕ) (log : OpenLog) (es : List Entry) (g : Scope) (before : Im
   abbrev after : Image
   after = overwritten write (reads a.now.words)
 
-  -- a committing log gives what is asked for
+  -- a committing log gives the deferred values
   gives : (b c : State) → Moves log None a b c → Gives g (committing log) es write after c.now.words
   gives b c m =
       record {

@@ -82,7 +82,7 @@ undone_is_mine size at g log (e ∷ es) k v ground own is =
       | inr later ↦ undone_is_mine size at g log es k v ground (All-tail (IsInScope g) e es own) later.1
     ]
 
--- or by redo entries
+-- and so is one to which it gives a value by redo entries
 pub redone_is_mine : (size at : ℕ) (g : Scope) (log : Log) (es : List Entry) (k v : ℕ) → IsScope size at g → All (IsInScope g) es → redo_value g.place log es k ≡ Some v → g.has_word k ≡ true
 redone_is_mine size at g log [] k v ground own is = absurd (some_not_none _ v is (redo_value-none g.place log k))
 redone_is_mine size at g log (e ∷ es) k v ground own is =

@@ -1,4 +1,4 @@
--- Entries of a transaction appended to its log under one gate: what words hold, which is saved, or what is asked for.
+-- Entries of a transaction appended to its log under one gate: what words hold, which is saved, or deferred values.
 use Rattle.std.proofs.Common.{◌≡◌, inl, inr, ℕ, ◌+◌, true, List, [], ◌∷◌, ◌++◌, length, Option, Some, None, Ok, Err, Result, refl, sym, ap, ap₂, ◌∙◌}
 use Rattle.std.specs.Prelude.{All}
 use Rattle.std.specs.Option.{option_or}
@@ -154,7 +154,7 @@ MayAppend-read size g log es more before words ground r read =
       ];
     }
 
--- ---- what is asked for
+-- ---- deferred values
 
 -- nothing more is saved by it
 pub MayAppend-redo : (g : Scope) (log : OpenLog) (es : List Entry) (before : Image) (address : ℕ) (vals : List ℕ) (words : Words) → g.may_name address (length vals) ≡ true

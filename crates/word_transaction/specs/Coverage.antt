@@ -1,4 +1,4 @@
--- Which words the undo entries of a log keep already, told by addresses alone.
+-- Which words the undo entries of a log cover already, told by addresses alone.
 use Rattle.std.specs.Prelude.{ℕ, ◌+◌, ◌-◌, ◌*◌, ◌/◌, ◌%◌, Bool, ◌&&◌, nat_le, nat_lt, ◌==◌, cond, List, length}
 use Rattle.std.specs.List.{list_any}
 use Rattle.pud_defs.specs.declared.layout.TheConstants.{ENTRY_HEADER_WORDS}
@@ -20,6 +20,6 @@ is_covered es address = list_any (covers address) es
 abbrev pub are_covered : List Entry → (address count : ℕ) → Bool
 are_covered es address count = all_below count (λ i. is_covered es (address + WORD_BYTES * i))
 
--- how many entry words it takes to keep so many words from that of an address on: those of one entry, or none where each word is covered
+-- how many entry words it takes to save so many words from that of an address on: those of one entry, or none where each word is covered
 abbrev pub words_to_keep : List Entry → (address count : ℕ) → ℕ
 words_to_keep es address count = cond (are_covered es address count) 0 (count + ENTRY_HEADER_WORDS)

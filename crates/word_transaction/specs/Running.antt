@@ -18,7 +18,7 @@ use Rattle.word_transaction.specs.Scope.{Scope, IsInScope, saved, deferred_entri
 
 -- ---- what is known between calls
 
--- The transaction is open: its log runs, with these entries, each of which it may write; a word that is saved is so with its value from the
+-- The transaction is open: its log runs, with these entries, each of which is in scope; a word that is saved is so with its value from the
 -- beginning, and one of its own that is not has that value alone; a fence makes each of its own words durable.
 pub record IsRunning (g : Scope) (log : OpenLog) (es : List Entry) (before : Image) (words : Words) : Type 0 where
   pub opened : IsOpen log es words
@@ -34,8 +34,7 @@ pub record IsIdle (g : Scope) (at : ℕ) (before : Image) (words : Words) : Type
   pub closed : (image : Image) → Picks words image → is_closed_log image at ≡ true
   pub single : (k : ℕ) → g.has_word k ≡ true → HasOnly (words k) (before k)
 
--- The entries may be appended: they are such as the transaction may write, and with them a word that is saved is so still with its value from the
--- beginning.
+-- The entries may be appended: they are in scope, and with them a word that is saved is so still with its value from the beginning.
 pub record MayAppend (g : Scope) (es : List Entry) (before : Image) (more : List Entry) : Type 0 where
   pub own : All (IsInScope g) more
   pub saves : (k v : ℕ) → saved g.place (es ++ more) k ≡ Some v → v ≡ before k
@@ -72,17 +71,17 @@ pub record HasGateRange (lo hi at : ℕ) (image : Image) : Type 0 where
   pub lo_is : gate_lo (image at) ≡ lo
   pub hi_is : gate_hi (image at) ≡ hi
 
--- The range of the log is that of a running one still, and the transaction's own words settle to these values.
+-- The range of the log is that of a running one still, and the transaction's own words recover to these values.
 pub record IsUnmoved (g : Scope) (at : ℕ) (values image : Image) : Type 0 where
   pub range : HasGateRange RUNNING_LO RUNNING_HI at image
   pub recovers : RecoversTo g at values image
 
--- The range of the log has moved to that of a committing one, or the log is closed, and the transaction's own words settle to these values.
+-- The range of the log has moved to that of a committing one, or the log is closed, and the transaction's own words recover to these values.
 pub record IsMoved (g : Scope) (at : ℕ) (values image : Image) : Type 0 where
   pub range : HasGateRange COMMITTING_LO COMMITTING_HI at image ⊎ (image at ≡ CLOSED_GATE)
   pub recovers : RecoversTo g at values image
 
--- Until the range moves an image settles to the values from the beginning, and from then on to the new ones: which of the two is told by its gate.
+-- Until the range moves an image recovers to the values from the beginning, and from then on to the new ones: which of the two is told by its gate.
 abbrev pub RecoversByRange : Scope → (at : ℕ) → (before after image : Image) → Type 0
 RecoversByRange g at before after image = IsUnmoved g at before image ⊎ IsMoved g at after image
 
@@ -97,7 +96,7 @@ pub record ByCommit (log : OpenLog) (k v : ℕ) : Type 0 where
   pub gate : k ≡ log.gate_at
   pub value : (v ≡ gate_word COMMITTING_LO COMMITTING_HI log.used) ⊎ (v ≡ CLOSED_GATE)
 
--- A call within the transaction: each image left meanwhile settles to the values from the beginning. Without a fault the transaction is open,
+-- A call within the transaction: each image left meanwhile recovers to the values from the beginning. Without a fault the transaction is open,
 -- with this log and these entries, and what is read outside the log is as it was but for these words.
 pub record KeepsRunning (g : Scope) (log : OpenLog) (es : List Entry) (before : Image) (write : Write) (fault : Option HostFault) (old new : State) : Type 0 where
   pub changes : Changes (ByTransaction g log.gate_at) fault old new
@@ -105,7 +104,7 @@ pub record KeepsRunning (g : Scope) (log : OpenLog) (es : List Entry) (before : 
   pub running : fault ≡ None → IsRunning g log es before new.now.words
   pub now : fault ≡ None → (k : ℕ) → is_in_log log.gate_at k ≡ false → reads new.now.words k ≡ overwritten write (reads old.now.words) k
 
--- A call that keeps words, and writes none: whatever entries there are behind it, they ask for what was asked for, what was saved is so still, and
+-- A call that saves words, and writes none: whatever entries there are behind it, the same values are deferred, what was saved is so still, and
 -- without a fault these words are saved.
 pub record SavesWords (g : Scope) (log : OpenLog) (es : List Entry) (before : Image) (which : ℕ → Type 0) (fault : Option HostFault) (old new : State) : Type 0 where
   pub entries : List Entry
@@ -114,13 +113,13 @@ pub record SavesWords (g : Scope) (log : OpenLog) (es : List Entry) (before : Im
   pub still : (k : ℕ) → saved g.place entries k ≡ None → saved g.place es k ≡ None
   pub kept : fault ≡ None → (k : ℕ) → which k → saved g.place entries k ≡ None → ⊥
 
--- A call that keeps words, and then writes these: whatever entries there are behind it, they ask for what was asked for.
+-- A call that saves words, and then writes these: whatever entries there are behind it, the same values are deferred.
 pub record SavesAndWrites (g : Scope) (log : OpenLog) (es : List Entry) (before : Image) (write : Write) (fault : Option HostFault) (old new : State) : Type 0 where
   pub entries : List Entry
   pub runs : KeepsRunning g log entries before write fault old new
   pub defers : deferred_entries entries ≡ deferred_entries es
 
--- The transaction is undone and its log closed: each image left meanwhile settles to these values. Without a fault each own word has its value
+-- The transaction is undone and its log closed: each image left meanwhile recovers to these values. Without a fault each own word has its value
 -- and no other, and the log is closed.
 pub record AbortsTransaction (g : Scope) (at : ℕ) (values : Image) (fault : Option HostFault) (old new : State) : Type 0 where
   pub changes : Changes (ByTransaction g at) fault old new
@@ -138,7 +137,7 @@ pub record MovesRange (g : Scope) (at : ℕ) (old new : State) : Type 0 where
   pub range : (image : Image) → Picks moment.words image → HasGateRange COMMITTING_LO COMMITTING_HI at image
   pub durable : (k : ℕ) → g.has_word k ≡ true → HasOnly (moment.words k) (reads old.now.words k)
 
--- The transaction is committed: each image left meanwhile settles to the values from the beginning until its range has moved, and to the new ones from then
+-- The transaction is committed: each image left meanwhile recovers to the values from the beginning until its range has moved, and to the new ones from then
 -- on. Without a fault the range moved once all that was written was durable, each own word has its new value and no other, the log is closed, and what
 -- is read of other words is as it was.
 pub record CommitsTransaction (g : Scope) (at : ℕ) (before after : Image) (fault : Option HostFault) (old new : State) : Type 0 where
@@ -149,7 +148,7 @@ pub record CommitsTransaction (g : Scope) (at : ℕ) (before after : Image) (fau
   pub closed : fault ≡ None → HasOnly (new.now.words at) CLOSED_GATE
   pub stays : fault ≡ None → (k : ℕ) → is_in_log at k ≡ false → g.has_word k ≡ false → reads new.now.words k ≡ reads old.now.words k
 
--- What places read of an image agree with those of the transaction on all that it may name.
+-- The address map agrees with that of the scope on all that entries may name.
 pub record HasPlaces (g : Scope) (place : AddressMap) : Type 0 where
   pub each : (address count : ℕ) → g.may_name address count ≡ true → place address ≡ g.place address
 
@@ -157,8 +156,8 @@ pub record HasPlaces (g : Scope) (place : AddressMap) : Type 0 where
 pub record HasOneTable (frames : ℕ) (words : Words) : Type 0 where
   pub each : (k : ℕ) → IsWithin PUDDLE_TABLE (tables_end frames) k → HasOnly (words k) (reads words k)
 
--- Values that are asked for can be given: the puddle table of so many frames stands in front of the log whose gate is this word, each word of it has
--- one value, and by it places are those of the transaction.
+-- Deferred values can be given: the puddle table of so many frames stands in front of the log whose gate is this word, each word of it has
+-- one value, and by it addresses name the words that they name in the scope.
 pub record CanRedo (g : Scope) (frames at : ℕ) (words : Words) : Type 0 where
   pub before : tables_end frames ≤ at
   pub table : HasOneTable frames words

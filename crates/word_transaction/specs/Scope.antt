@@ -1,4 +1,4 @@
--- What a transaction on words may name, and which words are its own.
+-- The undo scope of a transaction on words: what its entries may name, and which words are its own.
 use Rattle.std.specs.Prelude.{◌≡◌, ◌⊎◌, ℕ, ◌+◌, ◌*◌, ◌^◌, ◌<◌, ◌≤◌, Bool, true, false, List, [], ◌∷◌, length, Option, Some, None}
 use Rattle.std.specs.List.{filter}
 use Rattle.pud_defs.specs.declared.log_words.TheConstants.{UNDO_SEQ, UNDO_ORDER, REDO_SEQ, REDO_ORDER, RUNNING_LO, RUNNING_HI, COMMITTING_LO, COMMITTING_HI}
@@ -26,7 +26,7 @@ pub record Spans (size : ℕ) (g : Scope) (address count : ℕ) : Type 0 where
   pub within : first + count ≤ size
   pub own : (k : ℕ) → first ≤ k → k < first + count → g.has_word k ≡ true
 
--- What the transaction may name are its own words, and none of them is one of its log, whose gate is this word.
+-- What entries may name are words of the scope, and none of them is one of the log, whose gate is this word.
 pub record IsScope (size at : ℕ) (g : Scope) : Type 0 where
   pub named : (address count : ℕ) → g.may_name address count ≡ true → Spans size g address count
   pub apart : (k : ℕ) → g.has_word k ≡ true → is_in_log at k ≡ false
@@ -45,14 +45,14 @@ pub record IsRedo (e : Entry) : Type 0 where
   pub seq : e.seq ≡ REDO_SEQ
   pub order : e.order ≡ REDO_ORDER
 
--- an entry that the transaction may write: what words held, or what they are to hold
+-- an entry in the scope: what words of it held, or what they are to hold
 pub record IsInScope (g : Scope) (e : Entry) : Type 0 where
   pub may : g.may_name e.address (length e.vals) ≡ true
   pub kind : IsUndo e ⊎ IsRedo e
 
--- ---- what is asked for
+-- ---- deferred values
 
--- the entries among some that ask for values to come, the oldest first
+-- the entries among some that have deferred values, the oldest first
 abbrev pub deferred_entries : List Entry → List Entry
 deferred_entries es = filter is_redo es
 
@@ -70,10 +70,10 @@ running_range = record { lo = RUNNING_LO; hi = RUNNING_HI; entries = None }
 abbrev pub committing_range : Log
 committing_range = record { lo = COMMITTING_LO; hi = COMMITTING_HI; entries = None }
 
--- what the undo entries among some keep of a word
+-- what the undo entries among some save of a word
 abbrev pub saved : AddressMap → List Entry → ℕ → Option ℕ
 saved place es k = undo_value place running_range es k
 
--- what the redo entries among some ask for in a word
+-- what the redo entries among some give to a word
 abbrev pub pending : AddressMap → List Entry → ℕ → Option ℕ
 pending place es k = redo_value place committing_range es k

@@ -19,7 +19,7 @@ use pud_defs::space::WORD_BYTES;
 /// How many bytes of addresses a word takes.
 const ONE_WORD: u64 = WORD_BYTES as u64;
 
-/// Whether an entry keeps the word of an address: it is an undo entry, and one of its values is that of this word.
+/// Whether an entry covers the word of an address: it is an undo entry, and one of its values is that of this word.
 fn covers(entry: &Entry, address: u64) -> bool
     ensures { (image : Image) → result ≡ covers address (entry_from image entry.now) }
 {
@@ -33,7 +33,7 @@ fn covers(entry: &Entry, address: u64) -> bool
     behind % ONE_WORD == 0 && behind / ONE_WORD < u64::from(entry.n)
 }
 
-/// Whether an undo entry of the log whose gate is word `at` keeps the word of an address.
+/// Whether an undo entry of the log whose gate is word `at` covers the word of an address.
 ///
 /// The log lies in the device. Nothing changes, and the only errors are the host's own.
 fn is_covered<H: Host>(h: &mut H, at: u32, address: u64) -> Result<bool, HostFault>
@@ -51,7 +51,7 @@ fn is_covered<H: Host>(h: &mut H, at: u32, address: u64) -> Result<bool, HostFau
     Ok(false)
 }
 
-/// Whether undo entries of the log whose gate is word `at` keep each of `count` words from that of an address on.
+/// Whether undo entries of the log whose gate is word `at` cover each of `count` words from that of an address on.
 ///
 /// The log lies in the device. Nothing changes, and the only errors are the host's own.
 pub(crate) fn are_covered<H: Host>(

@@ -21,15 +21,15 @@ use log_replay::{Target, settle_log};
 use pm_model::{Host, HostFault};
 
 impl WordTransaction {
-    /// Commits the transaction: what it wrote is durable at `Ok`, and then what it asked for, the oldest first; its log is closed.
+    /// Commits the transaction: what it wrote is durable at `Ok`, and then its deferred values, the oldest first; its log is closed.
     ///
-    /// The log lies in the device, and so does the puddle table of so many frames, at most 1,024. Where values are asked for, that
+    /// The log lies in the device, and so does the puddle table of so many frames, at most 1,024. Where values are deferred, that
     /// table stands in front of the log, each word of it has one value, and the addresses that the log names are where the
     /// transaction took them to be. Each image left meanwhile is, with the log replayed, as at the beginning while its log has the
     /// range of a running one; once that is the range of a committing one, or the log is closed, it has all that was written and
-    /// asked for. At `Ok` the range moved when all that was written was durable. The only errors are the host's own.
+    /// deferred. At `Ok` the range moved when all that was written was durable. The only errors are the host's own.
     ///
-    /// Where nothing was asked for it takes no load, the gate is the only word written, and it takes three fences; else the loads
+    /// Where nothing was deferred it takes no load, the gate is the only word written, and it takes three fences; else the loads
     /// of a replay, and four fences.
     pub fn commit<H: Host>(self, h: &mut H, frames: u32) -> Result<(), HostFault>
         requires log { self.gate_at + LOG_WORDS ≤ (H.counts h.old).size }

@@ -1,4 +1,4 @@
-//! What words hold is kept in the log, where it is not kept already, before they are given other values.
+//! The values of words are saved in the log, where they are not saved already, before the words are written.
 
 ghost use Rattle.std.specs.Prelude.{◌≡◌, ◌⊎◌, ◌+◌, ◌*◌, ◌<◌, ◌≤◌, ◌^◌, ℕ, List, true, Option, IfOk, OnErr};
 ghost use Rattle.pm_model.specs.Words.{reads};
@@ -76,7 +76,7 @@ impl WordTransaction {
         self.append_two(h, address, &values[..count as usize], address2, word)
     }
 
-    /// Keeps in the log what `count` words from device word `first` on hold, from 1 to 32, as those of `address`: nothing is done
+    /// Saves in the log what `count` words from device word `first` on hold, from 1 to 32, as those of `address`: nothing is done
     /// where undo entries of the log cover each of these words already, and else an entry of all of them is appended.
     ///
     /// The log and the words lie in the device, and the log has room for the words and two more. At `Ok` each image left has
@@ -114,7 +114,7 @@ impl WordTransaction {
         self.append_held(h, address, first, count)
     }
 
-    /// Keeps in the log what `count` words from device word `first` on hold, from 1 to 32, as those of `address`, and what word
+    /// Saves in the log what `count` words from device word `first` on hold, from 1 to 32, as those of `address`, and what word
     /// `second` holds, as that of `address2`: of each of the two an entry is appended where undo entries of the log do not cover
     /// it already, and where both are, they are so under one gate.
     ///

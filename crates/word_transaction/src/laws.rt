@@ -18,7 +18,7 @@ pub fn transaction_stays_open_beside_calls()
         → Changes (λ k _. (is_in_log log.gate_at k ≡ false) × (g.has_word k ≡ false)) fault old new → IsRunning g log es before old.now.words → IsRunning g log es before new.now.words }
 {}
 
-/// Each image that may be left while a transaction is open settles to the values from its beginning.
+/// Each image that may be left while a transaction is open recovers to the values from its beginning.
 pub fn image_left_recovers_to_the_beginning()
     ensures { (g : Scope) (log : OpenLog) (es : List Entry) (before : Image) (image : Image) (words : Words) → IsRunning g log es before words → Picks words image
         → RecoversTo g log.gate_at before image }
@@ -31,19 +31,19 @@ pub fn images_left_beside_calls_recover_to_the_beginning()
         → Leaves (Silently (RecoversTo g log.gate_at before)) old new }
 {}
 
-/// What an image settles to is told by the words of the log and by the transaction's own words alone.
+/// What an image recovers to is told by the words of the log and by the transaction's own words alone.
 pub fn image_recovers_by_its_words_alone()
     ensures { (g : Scope) (at : ℕ) (values : Image) (i : Image) (j : Image) → ((k : ℕ) → (is_in_log at k ≡ true) ⊎ (g.has_word k ≡ true) → j k ≡ i k)
         → RecoversTo g at values i → RecoversTo g at values j }
 {}
 
-/// The values from the beginning count on the transaction's own words alone: it is open by any values that agree there.
+/// The values from the beginning matter on the transaction's own words alone: it is open by any values that agree there.
 pub fn values_count_on_own_words_alone()
     ensures { (size : ℕ) (g : Scope) (log : OpenLog) (es : List Entry) (before : Image) (values : Image) (words : Words) → IsScope size log.gate_at g
         → ((k : ℕ) → g.has_word k ≡ true → before k ≡ values k) → IsRunning g log es before words → IsRunning g log es values words }
 {}
 
-/// A transaction stays open as it comes to own more words, each of which has one value, that from the beginning: it may name what it might before, by the
+/// A transaction stays open as its scope gets more words, each of which has one value, that from the beginning: it may name what it might before, at the
 /// same places.
 pub fn transaction_stays_open_over_more_words()
     ensures { (g : Scope) (wide : Scope) (log : OpenLog) (es : List Entry) (before : Image) (words : Words)

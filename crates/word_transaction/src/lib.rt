@@ -1,4 +1,4 @@
-//! Transactions on words: what they held is kept in a log before they are written, and undone from it unless it is committed.
+//! Transactions on words: their old values are saved in a log before they are written, and restored from it unless the transaction is committed.
 #![tactic(auto)]
 
 mod covering;

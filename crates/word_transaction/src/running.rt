@@ -1,4 +1,4 @@
-//! How a transaction begins, what is written and asked for within it, and entries appended to its log.
+//! How a transaction begins, what is written and deferred within it, and how entries are appended to its log.
 #![tactic(auto)]
 
 ghost use Rattle.std.specs.Prelude.{◌≡◌, ◌+◌, ◌<◌, ◌≤◌, ◌^◌, ◌++◌, ◌∷◌, [], ℕ, List, true, Option, IfOk, OnErr, length};
@@ -97,7 +97,7 @@ impl WordTransaction {
         }
     }
 
-    /// Asks for these values, 1 to 32, in the words from that of `address` on: they come when the transaction is committed.
+    /// Defers these values, 1 to 32, of the words from that of `address` on: the words get them when the transaction is committed.
     ///
     /// The log lies in the device, and has room for the values and two more. Nothing changes that is read. At `Ok` each image
     /// left has the transaction's words with the log replayed as they were when it began, and so it has before. After an error
@@ -141,7 +141,7 @@ impl WordTransaction {
         self.log.at()
     }
 
-    /// Whether values are asked for that come at the commit. No device is touched.
+    /// Whether the transaction has deferred values, which words get at its commit. No device is touched.
     pub fn defers(&self) -> bool
         ensures { result ≡ self.now.defers }
     {

@@ -50,7 +50,7 @@ returns-in_err-to_committing-clause-any g c =
     any_wider (ByCommit c.self.inside.log) _ _ _
     (gate_moves _ _ _ _ _ (record { fence = c.in_ok-fence.ensures.state t; move = c.in_err-to_committing.ensures.persists t })))
 
--- ---- values are asked for: the log is replayed
+-- ---- values are deferred: the log is replayed
 
 pub returns-then-asked-clause-ends : goal.returns-then-asked-clause-ends
 returns-then-asked-clause-ends g c =
