@@ -68,7 +68,7 @@ batch_write-apart (e ∷ es) size at k apart inside =
 
 -- ---- a log that counts nothing
 
--- images whose log counts nothing, and that are the same beside it, settle the same
+-- images whose log counts nothing, and that are the same beside it, are the same with it replayed
 pub settled_by-idle_same : (at : ℕ) (i j : Image) → is_idle_gate (i at) ≡ true → is_idle_gate (j at) ≡ true → ((w : ℕ) → is_in_log at w ≡ false → i w ≡ j w) → settled_by at i ≡ settled_by at j
 settled_by-idle_same at i j idle_i idle_j same =
     let each : (w : ℕ) → settled_by at i w ≡ settled_by at j w = λ w. elim (cases_Bool (is_in_log at w)) [

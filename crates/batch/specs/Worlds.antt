@@ -13,7 +13,7 @@ use Rattle.pud_defs.specs.RegistryTables.Registry.{is_loggable}
 use Rattle.pud_defs.specs.StateMachine.World.{StoredWorld, idle_registry, idle_world_of}
 use Rattle.batch.specs.Batches.{batch_write, committed, IsBatched, Commits}
 
--- Each image that may be left stands for this world, with each registered log closed, and the daemon log counts nothing in it.
+-- The device is quiescent: each image that may be left stands for this world, with each registered log closed, and the daemon log counts nothing in it.
 pub record IsQuiescent (size : ℕ) (s : StoredWorld) (words : Words) : Type 0 where
   pub stands : (image : Image) → Picks words image → idle_world_of size image ≡ Some s
   pub idle : (v : ℕ) → Has (values (words DAEMON_LOG)) v → is_idle_gate v ≡ true

@@ -121,9 +121,10 @@ impl Batch {
     ///
     /// The device has the daemon log. Where that log counts nothing in each image, and the words of the batch lie in the
     /// device apart from it, each image left meanwhile stands, with the daemon log replayed, for the device before the
-    /// batch or behind it; at `Ok` the words have their new values and no other, and the daemon log is closed. Where each image stands for a world, the words lie where the daemon log may write, and each image with them
-    /// written stands for the next world, each image left meanwhile stands for the one or the other, and at `Ok` for the
-    /// next. The only errors are the host's own.
+    /// batch or behind it; at `Ok` the words have their new values and no other, and the daemon log is closed. Where each
+    /// image stands for a world, the words lie where the daemon log may write, and each image with them written stands for
+    /// the next world, each image left meanwhile stands for the one or the other, and at `Ok` for the next. The only errors
+    /// are the host's own.
     pub fn commit<H: Host>(self, h: &mut H) -> Result<(), HostFault>
         requires { DAEMON_LOG + LOG_WORDS ≤ (H.counts h.old).size }
         ensures commits { H.tells → (size : ℕ) → size ≡ (H.counts h.old).size → IsFree size DAEMON_LOG self (H.state h.old).now.words

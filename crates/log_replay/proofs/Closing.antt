@@ -77,7 +77,7 @@ module _ (to : Target) (size at : ℕ) (es : List Entry) (b : State) (replayable
   pub moments-replay : (c : State) → ReplaysAgain to size at es b c → Leaves (Silently (IsSettling to at b.now.words)) b c
   moments-replay c again = Leaves-weaker (Silently (ReplaysSame to at b.now.words)) (Silently (IsSettling to at b.now.words)) b c (λ bytes image p. (p.0, replaying image p.1)) again.moments
 
-  -- behind a whole replay the words named are in their places
+  -- behind a whole replay the words named have their values
   replayed_now : (c : State) → Replays to at None b c → ReplaysAgain to size at es b c → (image : Image) → Picks c.now.words image → ReplaysSame to at b.now.words image
   replayed_now c r again image picked =
       (Leaves-now (Silently (ReplaysSame to at b.now.words)) [] b c (Changes-said (Named (new_values to at (reads b.now.words))) None b c r.changes ∙ sym (append-nil b.now.said)) again.moments image picked).1

@@ -53,7 +53,7 @@ undo_value-apart place size at log es apart k inside = undo_value-nothing place 
 pub redo_value-apart : (place : AddressMap) (size at : ℕ) (log : Log) (es : List Entry) → AreApart place size at log es → (k : ℕ) → IsInLog at k → redo_value place log es k ≡ None
 redo_value-apart place size at log es apart k inside = redo_value-nothing place log es k (λ n d below within. value_from-apart size at k place (get_or es n d) (apart n d below within) inside)
 
--- ---- nor to those of which their places are read
+-- ---- nor to those from which the address map is read
 
 module _ (to : Target) (image : Image) (place : AddressMap) (same : address_map_of to image ≡ place) (log : Log) (k : ℕ) (placing : IsPlacing to k) where
   value_in-unplaced : (e : Entry) (o : Option ℕ) → place e.address ≡ o → value_from o e.vals k ≡ None

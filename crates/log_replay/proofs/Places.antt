@@ -1,4 +1,4 @@
--- Where the addresses of a target are: in no word of which the places themselves are read.
+-- The address map of a target: no address names a word from which the map itself is read.
 use Rattle.std.proofs.Common.{◌≡◌, inl, inr, ℕ, ◌<◌, ◌≤◌, Option, Some, None, option_map, refl, sym, ap, ◌∙◌, arith}
 use Rattle.std.proofs.lemmas.Bool.{cases_lt}
 use Rattle.pud_defs.specs.declared.layout.TheConstants.{PUDDLE_TABLE}
@@ -18,7 +18,7 @@ pub address_map_of-located : (F : ℕ) (image : Image) (address : ℕ) → puddl
 unfolding puddle_word tables_of
 address_map_of-located F image address = refl
 
--- ---- images that agree on the words of which places are read
+-- ---- images that agree on the words from which the address map is read
 
 puddles_same : (F : ℕ) (i j : Image) → ((k : ℕ) → IsWithin PUDDLE_TABLE (tables_end F) k → j k ≡ i k) → (frame : ℕ) → (tables_of F j).puddles frame ≡ (tables_of F i).puddles frame
 puddles_same F i j same frame = elim (cases_lt frame F) [
@@ -33,12 +33,12 @@ puddle_word-same : (F : ℕ) (i j : Image) → ((frame : ℕ) → (tables_of F j
 unfolding puddle_word tables_of
 puddle_word-same F i j same = λ p address. option_map (word_at F) (first_some (λ frame. place_in_puddle address frame (same frame p)) 0 F)
 
--- have the same places
+-- have the same address map
 pub places_same : (to : Target) (i j : Image) → ((k : ℕ) → IsPlacing to k → j k ≡ i k) → address_map_of to j ≡ address_map_of to i
 places_same targets.Words i j same = refl
 places_same (targets.Puddles F) i j same = puddle_word-same F i j (puddles_same F i j same)
 
--- ---- places lie above those words
+-- ---- addresses name words above those
 
 mapped_above : (F w : ℕ) (o : Option (ℕ × ℕ)) → option_map (word_at F) o ≡ Some w → frames_at F ≤ w
 mapped_above F w None is = absurd (cc)

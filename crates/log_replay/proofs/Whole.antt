@@ -21,7 +21,7 @@ use Rattle.log_replay.specs.Replaying.{address_map_of, IsPlacing, IsReplayable, 
 use Rattle.log_replay.proofs.Places.{places_same}
 use Rattle.log_replay.proofs.Left.{undo_value-apart, redo_value-apart, undone-unplaced, redone-unplaced}
 
--- ---- words that are read of the log, and of places
+-- ---- words that are read of the log, and from which the address map is read
 
 -- the log gives nothing to its own words
 pub new_values-apart : (to : Target) (size at : ℕ) (es : List Entry) (image : Image) → IsReplayable (address_map_of to image) size at es image → (k : ℕ) → IsInLog at k → new_values to at image k ≡ None
@@ -31,7 +31,7 @@ new_values-apart to size at es image r k inside =
     new_value-of place log es k r.spells
     ∙ ap₂ option_or (redo_value-apart place size at log es r.apart k inside) (undo_value-apart place size at log es r.apart k inside)
 
--- nor to those of which places are read
+-- nor to those from which the address map is read
 pub new_values-unplaced : (to : Target) (at : ℕ) (es : List Entry) (image : Image) → entries_of image at ≡ Some es → (k : ℕ) → IsPlacing to k → new_values to at image k ≡ None
 new_values-unplaced to at es image spells k placing =
     let place = address_map_of to image in

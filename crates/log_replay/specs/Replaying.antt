@@ -17,9 +17,9 @@ use Rattle.log_replay.specs.Placing.{placed_log}
 use Rattle.log_replay.specs.declared.Target.{Target}
 use Rattle.log_replay.specs.declared.Target.TheVariants as targets
 
--- ---- the places of addresses
+-- ---- the address map
 
--- which device word an address of the target is, as this image has it
+-- which device word an address of the target names, by this image
 abbrev pub address_map_of : Target → Image → AddressMap
 address_map_of targets.Words image = device_word
 address_map_of (targets.Puddles F) image = puddle_word (tables_of F image)
@@ -29,7 +29,7 @@ abbrev pub log_to : Target → Image → Log → Log
 log_to targets.Words image log = log
 log_to (targets.Puddles F) image log = placed_log (puddle_word (tables_of F image)) log
 
--- the places of the target are read of this word
+-- the address map of the target is read from this word
 abbrev pub IsPlacing : Target → ℕ → Type 0
 IsPlacing targets.Words k = ⊥
 IsPlacing (targets.Puddles F) k = IsWithin PUDDLE_TABLE (tables_end F) k
@@ -39,7 +39,7 @@ pub record HasPuddleTable (F size : ℕ) : Type 0 where
   pub few : F ≤ MAX_FRAMES
   pub table : tables_end F ≤ size
 
--- a device of this size has the words of which the places of the target are read
+-- a device of this size has the words from which the address map of the target is read
 abbrev pub HasTables : Target → ℕ → Type 0
 HasTables targets.Words size = ⊤
 HasTables (targets.Puddles F) size = HasPuddleTable F size
@@ -62,7 +62,7 @@ pub record IsReplayable (place : AddressMap) (size at : ℕ) (es : List Entry) (
   pub spells : entries_of image at ≡ Some es
   pub apart : AreApart place size at (log_of image at) es
 
--- each word that is read of the log whose gate is this word has one value, and each that places are read of
+-- each word that is read of the log whose gate is this word has one value, and each from which the address map is read
 pub record HasDurableLog (to : Target) (at : ℕ) (words : Words) : Type 0 where
   pub gate : HasOnly (words at) (reads words at)
   pub counted : (k : ℕ) → at + LOG_HEADER_WORDS ≤ k → k < at + LOG_HEADER_WORDS + gate_used (reads words at) → HasOnly (words k) (reads words k)
@@ -101,7 +101,7 @@ pub record AppliesEntries (write : Write) (fault : Option HostFault) (old new : 
   pub newest : fault ≡ None → (k v : ℕ) → write k ≡ Some v → (new.now.words k).newest ≡ v
   pub marked : fault ≡ None → (k v : ℕ) → write k ≡ Some v → (new.now.words k).kept ≡ []
 
--- An image that is one of these words but in words that the log names, with the same places and the same log, and replays to the same.
+-- An image that is one of these words but in words that the log names, with the same address map and the same log, and replays to the same.
 pub record ReplaysSame (to : Target) (at : ℕ) (words : Words) (image : Image) : Type 0 where
   pub before : Image
   pub picked : Picks words before

@@ -5,7 +5,7 @@
 //!
 //! In the daemon log an address is the number of a device word. In a client's log it is one of the global space: that of the
 //! word of a frame in whose puddle's range it lies, by the puddle table of the device. No such word is one of that table, so a
-//! replay leaves the places of addresses as they are.
+//! replay leaves the address map as it is.
 #![tactic(auto)]
 
 ghost use Rattle.std.specs.Prelude.{◌≡◌, ◌+◌, ◌<◌, ◌≤◌, ℕ, List, Option, option_map, IfOk, IfSome};
@@ -36,7 +36,7 @@ use puddle_space::Nearby;
 /// The number of no device word, which an entry in range gets that names none.
 pub const NO_WORD: u64 = u64::MAX;
 
-/// Which places the addresses of a log's entries are.
+/// Which words the addresses of a log's entries name.
 #[derive(Clone, Copy)]
 pub enum Target {
     /// Device words, by their numbers: the daemon log's.

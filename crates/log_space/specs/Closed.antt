@@ -12,7 +12,7 @@ use Rattle.pud_defs.specs.StateMachine.World.{StoredWorld, idle_world_of}
 use Rattle.batch.specs.Worlds.{IsQuiescent}
 use Rattle.log_space.specs.Records.{HasClosedLogs}
 
--- to each gate of the client's logs the one of a closed log may come
+-- each gate of the client's logs may become that of a closed log
 abbrev pub ByClosing : ℕ → ℕ → Footprint
 ByClosing F slot k v = IsGateOf F slot k × (v ≡ CLOSED_GATE)
 
@@ -27,7 +27,7 @@ pub record ClosesGates (F slot : ℕ) (fault : Option HostFault) (old new : Stat
   pub changes : Changes (ByClosing F slot) fault old new
   pub durable : fault ≡ None → (m : ℕ) → m < CLIENT_LOGS → HasOnly (new.now.words (log_at F slot m)) CLOSED_GATE
 
--- The client's logs are closed: at each moment each image stands for the world; without a fault they are closed in each, and the device is settled.
+-- The client's logs are closed: at each moment each image stands for the world; without a fault they are closed in each, and the device is quiescent.
 pub record ClosesClientLogs (size : ℕ) (s : StoredWorld) (slot : ℕ) (fault : Option HostFault) (old new : State) : Type 0 where
   pub changes : Changes (ByClosing s.frames slot) fault old new
   pub moments : Leaves (Silently (λ image. idle_world_of size image ≡ Some s)) old new

@@ -10,15 +10,15 @@ unfoldable pub first_from : ℕ → ℕ → (ℕ → Bool) → Option ℕ
 first_from k zero test = None
 first_from k (suc count) test = cond (test k) (Some k) (first_from (k + 1) count test)
 
--- which of the logs of a device a client's log is
+-- the log number of a client's log, by its index among the client's logs
 abbrev pub log_number : ℕ → ℕ → ℕ
 log_number slot k = CLIENT_LOGS * slot + k
 
--- the lowest of the client's logs that is closed, by its number among the logs of a device of so many frames
+-- the log number of the lowest of the client's logs that is closed, on a device of so many frames
 abbrev pub first_closed : Image → ℕ → ℕ → Option ℕ
 first_closed image F slot = option_map (log_number slot) (first_from 0 CLIENT_LOGS (λ k. is_closed_log image (log_at F slot k)))
 
--- the number is one of the client's logs
+-- the log number is that of one of the client's logs
 pub record IsLogOf (slot n : ℕ) : Type 0 where
   pub low : CLIENT_LOGS * slot ≤ n
   pub high : n < CLIENT_LOGS * slot + CLIENT_LOGS

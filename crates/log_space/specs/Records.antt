@@ -51,7 +51,7 @@ pub record HasOwner (slot : ℕ) (now : Option Owner) (es : List Entry) (words :
   pub table : owners image ≡ with_owner slot now (owners before)
 
 -- The client's record is changed by this batch, wholly or not at all: at each moment each image stands for the world, with the record as it
--- was or changed. Without a fault it is changed in each image that may be left and in what is read, and the device is settled.
+-- was or changed. Without a fault it is changed in each image that may be left and in what is read, and the device is quiescent.
 pub record ChangesOwner (size : ℕ) (s : StoredWorld) (slot : ℕ) (now : Option Owner) (es : List Entry) (fault : Option HostFault) (old new : State) : Type 0 where
   pub changes : Changes (ByBatch DAEMON_LOG es) fault old new
   pub moments : Leaves (Silently (MayHaveOwner size s slot now es old.now.words)) old new

@@ -71,7 +71,7 @@ pub fn register<H: Host>(h: &mut H, slot: u32, uid: u32, gid: u32) -> Result<(),
     write_record(h, slot, &[1, u64::from(uid), u64::from(gid)])
 }
 
-/// Frees the record of client `slot`, by one batch: its logs are registered no more.
+/// Frees the record of client `slot`, by one batch: its logs are unregistered.
 ///
 /// The device has the log-space table. Where the daemon log counts nothing in each image, each image left meanwhile has,
 /// with that log replayed, the record's first word new or old; at `Ok` it is new and durable, and the daemon log is closed.
@@ -160,7 +160,7 @@ pub fn owner<H: Host>(h: &mut H, slot: u32) -> Result<Option<Owner>, HostFault>
     Ok(owner_by(used, uid, gid))
 }
 
-/// The number of the lowest of the logs of client `slot` that is closed. None comes exactly where none of the four is.
+/// The log number of the lowest of the logs of client `slot` that is closed. None comes exactly where none of the four is.
 ///
 /// The device has so many frames and the words that they need; the rest of it may hold anything. Nothing changes, and the
 /// only errors are the host's own.
