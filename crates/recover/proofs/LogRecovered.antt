@@ -35,7 +35,7 @@ idle_gives_nothing F number image w idle =
 pub durable_log : (to : Target) (at : ℕ) (words : Words) → IsRested words → HasDurableLog to at words
 durable_log to at words rested = record { gate = rested.each at; counted = λ k low high. rested.each k; table = λ k placing. rested.each k }
 
--- an image is one of which the log was taken in no part
+-- an image is one in which nothing of the log was replayed
 ReplaysClientLog-itself : (F number : ℕ) (image other : Image) → other ≡ image → ReplaysClientLog F number image other
 ReplaysClientLog-itself F number image other same = record {
   stays = λ k apart none. ap (λ (i : Image). i k) same;

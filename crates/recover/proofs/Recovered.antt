@@ -137,7 +137,7 @@ module _ (size : ℕ) (s : StoredWorld) (a : State) (world : world_of size (read
     given_b : (number w : ℕ) → number < ALL_LOGS → given_by_log F m number w ≡ given_by_log F (settled_by DAEMON_LOG i) number w
     given_b number w few = sym (idle_given F m idle_b number w few) ∙ ap (λ (x : Image). given_by_log F x number w) now_b.settled
 
-    -- the words of the log-space table are as they settle to, and as they were where the daemon log gives them no value
+    -- the words of the log-space table are as the daemon log's replay makes them, and as they were where that log gives them no value
     plain_b : (k : ℕ) → is_in_log DAEMON_LOG k ≡ false → m k ≡ settled_by DAEMON_LOG i k
     plain_b k outside = sym (settled_by-idle DAEMON_LOG m k idle_b outside) ∙ settled_b k
 
@@ -213,7 +213,7 @@ module _ (size : ℕ) (s : StoredWorld) (a : State) (world : world_of size (read
       idle_c : is_idle_gate (n DAEMON_LOG) ≡ true
       idle_c = ap is_idle_gate gate_c
 
-      -- no log gives anything any more, so it settles to what it holds
+      -- no log gives anything any more, so the settled image is what the device holds
       plain_c : settled F n ≡ beside_logs F (settled_by DAEMON_LOG n)
       unfolding settled
       plain_c = settled_over-none F (settled_by DAEMON_LOG n) (λ number w few. idle_given F n idle_c number w few ∙ (turns.gone refl).each number w few)

@@ -14,7 +14,7 @@ use Rattle.pud_defs.specs.Logging.Settled.{ALL_LOGS, log_number_at, given_by_log
 use Rattle.pud_defs.specs.Logging.LogsReplayed.{ReplaysClientLog, GivesNothingBelow}
 use Rattle.log_replay.specs.Replaying.{IsNamed}
 
--- The log of a number is registered and allowed by the image, and the word is its gate, or one that it gives a value.
+-- The log with this log number is registered and allowed by the image, and the word is its gate, or one that it gives a value.
 pub record IsOfLog (F number : ℕ) (image : Image) (k : ℕ) : Type 0 where
   pub accepted : is_accepted_log F image number ≡ true
   pub place : (k ≡ log_number_at F number) ⊎ IsNamed (given_by_log F image number) k
@@ -33,20 +33,20 @@ abbrev pub ByClientLogs : (F count : ℕ) → Image → Footprint
 ByClientLogs F count image k v = IsOfLogs F count image k
 
 -- One log of a device that reads as this image was replayed and closed, where it is registered and allowed; else nothing changed. Without a
--- fault what is read is the image with that log taken, the log gives nothing any more, and one that is allowed has the gate of a closed log.
+-- fault what is read is the image with that log replayed and closed, the log gives nothing any more, and one that is allowed has the gate of a closed log.
 pub record RecoversLog (F number : ℕ) (image : Image) (fault : Option HostFault) (old new : State) : Type 0 where
   pub changes : Changes (ByClientLog F number image) fault old new
   pub takes : fault ≡ None → ReplaysClientLog F number image (reads new.now.words)
   pub gone : fault ≡ None → (w : ℕ) → given_by_log F (reads new.now.words) number w ≡ None
   pub closed : fault ≡ None → is_accepted_log F image number ≡ true → reads new.now.words (log_number_at F number) ≡ CLOSED_GATE
 
--- Of a rested device each image left at any moment has the log taken, wholly or in part; without a fault it is rested again.
+-- On a rested device each image left at any moment has the log replayed, wholly or in part; without a fault the device is rested again.
 pub record RecoversLogAtEachMoment (F number : ℕ) (image : Image) (fault : Option HostFault) (old new : State) : Type 0 where
   pub moments : Leaves (Silently (ReplaysClientLog F number image)) old new
   pub rested : fault ≡ None → IsRested new.now.words
 
--- An image from which a start makes the same: below the clients' logs it is the same, it settles to the same, the same logs are refused, and where
--- a client's logs were closed they are.
+-- An image that is recovered alike: below the clients' logs it is the same, its settled image is the same, the same logs are refused, and where a client's
+-- logs were closed they are.
 pub record IsRecoveredAlike (F : ℕ) (before image : Image) : Type 0 where
   pub below : (k : ℕ) → k < tables_end F → image k ≡ before k
   pub settled : settled_over F image ≡ settled_over F before
@@ -54,8 +54,8 @@ pub record IsRecoveredAlike (F : ℕ) (before image : Image) : Type 0 where
   pub closed : (client : ℕ) → client < CLIENTS → has_closed_logs before F client ≡ true → has_closed_logs image F client ≡ true
 
 -- The first logs of a device that reads as this image were replayed and closed in turn, those that are registered and allowed; nothing else
--- changed. Without a fault a start makes the same of what is read, none of them gives anything any more, those that are allowed have the gate
--- of a closed log, and those behind them are as they were.
+-- changed. Without a fault what is read is recovered alike, none of them gives anything any more, those that are allowed have the gate of a closed
+-- log, and those behind them are as they were.
 pub record RecoversLogs (F count : ℕ) (image : Image) (fault : Option HostFault) (old new : State) : Type 0 where
   pub changes : Changes (ByClientLogs F count image) fault old new
   pub alike : fault ≡ None → IsRecoveredAlike F image (reads new.now.words)
@@ -63,7 +63,7 @@ pub record RecoversLogs (F count : ℕ) (image : Image) (fault : Option HostFaul
   pub closed : fault ≡ None → (number : ℕ) → number < count → is_accepted_log F image number ≡ true → reads new.now.words (log_number_at F number) ≡ CLOSED_GATE
   pub left : fault ≡ None → (number : ℕ) → count ≤ number → number < ALL_LOGS → log_of (reads new.now.words) (log_number_at F number) ≡ log_of image (log_number_at F number)
 
--- Of a rested device a start makes the same of each image left at any moment; without a fault it is rested again.
+-- On a rested device each image left at any moment is recovered alike; without a fault the device is rested again.
 pub record RecoversLogsAtEachMoment (F : ℕ) (image : Image) (fault : Option HostFault) (old new : State) : Type 0 where
   pub moments : Leaves (Silently (IsRecoveredAlike F image)) old new
   pub rested : fault ≡ None → IsRested new.now.words

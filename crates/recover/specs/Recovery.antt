@@ -19,7 +19,7 @@ use Rattle.recover.specs.declared.recovery.RecoverFault.{RecoverFault}
 use Rattle.recover.specs.declared.recovery.RecoverFault.TheVariants as faults
 use Rattle.recover.specs.RecoveredLogs.{IsOfLogs}
 
--- the host's fault that a recovery answered
+-- the host's fault that a recovery returned
 abbrev pub recover_fault : {T : Type 0} → Result T RecoverFault → Option HostFault
 recover_fault (Ok x) = None
 recover_fault (Err faults.NotSound) = None
@@ -52,8 +52,8 @@ pub record KeepsRecord (client : ℕ) (start image : Image) : Type 0 where
   pub replayed : settled_by DAEMON_LOG image (space_record_at client) ≡ settled_by DAEMON_LOG start (space_record_at client)
   pub now : new_value device_word (log_of start DAEMON_LOG) (space_record_at client) ≡ None → image (space_record_at client) ≡ start (space_record_at client)
 
--- An image from which a start makes what it makes of another: it stands for the same world and settles to the same, the same logs are refused, a
--- client's logs that are closed in the other are closed in it, and the same clients' logs are registered.
+-- An image that stands as the one at the start, of which a recovery makes the same: it stands for the same world, its settled image is the same, the same
+-- logs are refused, a client's logs that are closed in the other are closed in it, and the same clients' logs are registered.
 pub record StandsAsStart (size : ℕ) (s : StoredWorld) (start image : Image) : Type 0 where
   pub stands : world_of size image ≡ Some s
   pub settles : (k : ℕ) → settled s.frames image k ≡ settled s.frames start k

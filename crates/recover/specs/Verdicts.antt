@@ -23,7 +23,7 @@ abbrev pub verdict_by : Tables → Option Owner → Log → Option Mark
 verdict_by t None log = None
 verdict_by t (Some who) log = Some (mark_for t who log)
 
--- the mark of the log of a number, judged by the tables of the same image
+-- the mark of the log with this log number, judged by the tables of the same image
 unfoldable pub verdict_of : (F : ℕ) → Image → (number : ℕ) → Option Mark
 verdict_of F image number = verdict_by (tables_of F image) (owner_of image (client_of_log number)) (log_of image (log_number_at F number))
 

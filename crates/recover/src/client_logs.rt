@@ -63,7 +63,7 @@ fn settle_judged<H: Host>(
     }
 }
 
-/// Judges a log, and then replays and closes it if it is allowed. The answer is what was found of it, None where it is not registered:
+/// Recovers a log: judges it, and then replays and closes it if it is allowed. The result is what was found of it, None where it is not registered:
 /// then nothing changes, nor where it is refused.
 fn recover_log<H: Host>(
     h: &mut H,
@@ -87,8 +87,8 @@ fn recover_log<H: Host>(
     Ok(Some(judged.mark))
 }
 
-/// Takes the logs in the order of their numbers: each is judged, and replayed and closed if it is allowed. The answer is the mark of each by its
-/// number, as it is by what the device reads at the start. It takes no memory.
+/// Recovers the logs in the order of their log numbers: each is judged, and replayed and closed if it is allowed. The result is the mark of each by its
+/// log number, as it is by what the device reads at the start. It takes no memory.
 ///
 /// A log that is not registered takes one load, and one that counts no word and is closed five. Of any other each entry word is loaded once, and one
 /// that is replayed takes two fences.

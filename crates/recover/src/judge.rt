@@ -220,7 +220,7 @@ pub(crate) struct JudgedLog {
     pub mark: Mark,
 }
 
-/// What a start finds of the log of a number, or None where it is not registered, on a device whose daemon log is replayed and closed.
+/// What a start finds of the log with this log number, or None where it is not registered, on a device whose daemon log is replayed and closed.
 /// It answers on every content of the device. Nothing changes, and the only errors are the host's own.
 ///
 /// The device has the logs of so many frames. A log that is not registered takes one load, and one that counts no word four. Of

@@ -28,7 +28,7 @@ use registry::{LoadFault, load_sound};
 pub struct Report {
     /// The number of the device's frames, 4 to 1,024.
     pub frames: u32,
-    /// What was found of each client's log, by its number: log `k` of client `c` has the number `4 * c + k`.
+    /// What was found of each client's log, by its log number: log `k` of client `c` has the log number `4 * c + k`.
     pub marks: [Mark; LOGS],
 }
 
@@ -67,7 +67,7 @@ impl From<LoadFault> for RecoverFault {
 }
 
 /// Recovers the device: applies what its daemon log names, and replays and closes each registered log that its owner may, in
-/// the order of their numbers. It takes no memory, and may be cut off anywhere and done again. Which logs are registered stays:
+/// the order of their log numbers. It takes no memory, and may be cut off anywhere and done again. Which logs are registered stays:
 /// what a start is to tell of them is told before they are forgotten.
 ///
 /// `NotSound` comes exactly where the device is not a sound registry, where the host does not fail first; then nothing
