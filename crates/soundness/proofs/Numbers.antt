@@ -1,4 +1,4 @@
--- The numbers of used records: in a list that a sort decides, and as marks.
+-- The keys of used records: in a list that a sort decides, and as marks.
 use Rattle.std.proofs.Common.{◌≡◌, ◌↔◌, ℕ, zero, suc, ◌+◌, ◌-◌, ◌*◌, ◌<◌, ◌≤◌, Bool, true, false, ◌&&◌, ◌||◌, eqb, List, [], ◌∷◌, length, get_or, Option, Some, None, is_some, refl, sym, ap, ap₂, subst, ◌∙◌, arith, add-one, eq-eqb}
 use Rattle.std.specs.Prelude.{option_map}
 use Rattle.std.specs.Option.{option_or}
@@ -16,7 +16,7 @@ use Rattle.pud_defs.proofs.KeyedTables.DistinctKeys.{same_tests, none_by_some, s
 use Rattle.soundness.specs.declared.distinct.TheConstants.{POOL_NUMBERS, OLD_BASES, PLACES}
 use Rattle.soundness.specs.Distinct.{joined_key, mark_index, with_number}
 
--- ---- two numbers in one
+-- ---- two numbers in one key
 
 joined_same : (n a b x y : ℕ) → a < POOL_NUMBERS → b < POOL_NUMBERS → x < n → y < n → joined_key n a x ≡ joined_key n b y → a * n + x ≡ b * n + y
 joined_same n a b x y pool_a pool_b low_a low_b same =

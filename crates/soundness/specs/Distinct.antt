@@ -1,4 +1,4 @@
--- What tells the puddles of a device apart: numbers of used records, and where a pool's ordinals are marked.
+-- What tells the puddles of a device apart: keys of used records, and where a pool's ordinals are marked.
 use Rattle.std.specs.Prelude.{◌≡◌, ℕ, ◌+◌, ◌*◌, ◌%◌, ◌<◌, Bool, true, false, not, ◌&&◌, ◌||◌, List, ◌∷◌, Option, Some, None, option_map, is_some, is_none, slice_index_or, slice_set}
 use Rattle.std.specs.Ordering.{nat_cmp}
 use Rattle.pud_defs.specs.RegistryTables.Keyed.{first_from, are_distinct}
@@ -11,7 +11,7 @@ use Rattle.soundness.specs.declared.distinct.Key.TheVariants.{Base, OldBase}
 use Rattle.soundness.specs.declared.distinct.TheConstants.{POOL_NUMBERS, OLD_BASES, PLACES}
 use Rattle.pud_defs.specs.declared.records.TheConstants.{MAX_PUDDLES, PUDDLE_BASE_WORD, PUDDLE_OLD_BASE_WORD}
 
--- one number of a pool and of a number below n, told apart where the pool is below 64
+-- one key made of a pool and of a number below n: where the pool is below 64 no other pair has it
 abbrev pub joined_key : (n pool low : ℕ) → ℕ
 joined_key n pool low = pool % POOL_NUMBERS * n + low % n
 
@@ -20,29 +20,29 @@ abbrev pub key_word : Key → ℕ
 key_word Base = PUDDLE_BASE_WORD
 key_word OldBase = PUDDLE_OLD_BASE_WORD
 
--- what a puddle of a pool is told apart by: its base, or its pool and its old base
+-- the key of a puddle of a pool: its base, or one made of its pool and its old base
 abbrev pub key_by : Key → (pool base : ℕ) → ℕ
 key_by Base pool base = base
 key_by OldBase pool base = joined_key OLD_BASES pool base
 
--- the same of a record
+-- the key of a record
 abbrev pub key_of : Key → Member → ℕ
 key_of Base m = key_by Base m.pool m.puddle.base
 key_of OldBase m = key_by OldBase m.pool m.puddle.old_base
 
--- the number of a record's pool and ordinal
+-- the index of a record's mark, made of its pool and its ordinal
 abbrev pub mark_index : Member → ℕ
 mark_index m = joined_key MAX_PUDDLES m.pool m.ordinal
 
--- the frame of a used record, under a number of the record
+-- the frame of a used record, under a key of the record
 abbrev pub by_key : (Member → ℕ) → Tables → ℕ → Option (ℕ × ℕ)
 by_key number t frame = option_map (λ m. (number m, frame)) (t.puddles frame)
 
--- no two used records have one number
+-- no two used records have the same key
 abbrev pub has_distinct_numbers : (Member → ℕ) → Tables → Bool
 has_distinct_numbers number t = are_distinct nat_cmp (by_key number t) 0 t.frames
 
--- a list with the number of a place, where it is used
+-- a list with a number in front, where there is one
 abbrev pub with_number : Option ℕ → List ℕ → List ℕ
 with_number None numbers = numbers
 with_number (Some n) numbers = n ∷ numbers
@@ -63,11 +63,11 @@ pub record MarksMore (before : List Bool) (place : Option ℕ) (answer : Bool) (
   pub apart : answer ≡ is_apart_from before place
   pub marks : answer ≡ true → after ≡ with_mark before place
 
--- the marks of the places that the used records have, among so many from a frame on
+-- the marks of the places of the used records, among so many from a frame on
 pub record IsMarked (t : Tables) (from count : ℕ) (marks : List Bool) : Type 0 where
   pub each : (n : ℕ) → n < PLACES → slice_index_or marks n false ≡ is_some (first_from nat_cmp n (by_key mark_index t) from count)
 
--- the marks are there where no two records have one place
+-- the marks are there where no two records have the same place
 abbrev pub AreMarked : Tables → Option (List Bool) → Type 0
 AreMarked t None = has_distinct_numbers mark_index t ≡ false
 AreMarked t (Some marks) = (has_distinct_numbers mark_index t ≡ true) × IsMarked t 0 t.frames marks

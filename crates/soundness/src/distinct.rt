@@ -24,7 +24,7 @@ use pud_defs::records::{
     member_ordinal, member_pool,
 };
 
-/// How many pools are told apart, at least, where one number is made of a pool and another number.
+/// How many pools are told apart, at least, where one key is made of a pool and another number.
 const POOL_NUMBERS: u64 = 64;
 
 /// How many old bases are, from 0 on: 2^45.
@@ -36,7 +36,7 @@ const ORDINALS: u64 = MAX_PUDDLES as u64;
 /// How many places there are, one for each ordinal of each pool.
 const PLACES: usize = (POOL_NUMBERS * ORDINALS) as usize;
 
-/// One number of a pool and of another number.
+/// One key made of a pool and of another number.
 fn joined(n: u64, pool: u32, low: u64) -> u64
     requires some { 0 < n }
     requires fits { n ≤ OLD_BASES }
@@ -66,7 +66,7 @@ impl Key {
         }
     }
 
-    /// The number that tells the puddle of this pool with this base or old base apart.
+    /// The key of the puddle of this pool with this base or old base.
     fn number(self, pool: u32, base: u64) -> u64
         ensures { result ≡ key_by self pool base }
     {
@@ -77,7 +77,7 @@ impl Key {
     }
 }
 
-/// The number that tells the puddle of a frame apart, where its record is used.
+/// The key of the puddle of a frame, where its record is used.
 fn number_at<H: Host>(
     h: &mut H,
     overlay: &Overlay,
@@ -127,7 +127,7 @@ fn are_distinct(numbers: &mut [u64]) -> bool
     true
 }
 
-/// Whether no two used records have one number. The table is read from its last record to its first.
+/// Whether no two used records have the same key. The table is read from its last record to its first.
 fn has_distinct_numbers<H: Host>(
     h: &mut H,
     overlay: &Overlay,
@@ -149,7 +149,7 @@ fn has_distinct_numbers<H: Host>(
     Ok(are_distinct(&mut numbers[left..]))
 }
 
-/// The place of the puddle of a frame, by its pool and ordinal, where its record is used.
+/// The place of the mark of a frame's puddle, by its pool and ordinal, where its record is used.
 fn place_at<H: Host>(h: &mut H, overlay: &Overlay, frame: u32) -> Result<Option<usize>, HostFault>
     requires few { frame < MAX_FRAMES }
     requires room { device_words (frame + 1) ≤ (H.counts h.old).size }

@@ -1,5 +1,5 @@
-//! The words of a device as its daemon log's replay makes them. Nothing is replayed: with each word that is asked for,
-//! the entries of a copy of the log are read.
+//! The words of a device as its daemon log's replay makes them. Nothing is replayed: for each word that is read, the
+//! entries of a copy of the log are read.
 ghost use Rattle.std.specs.Prelude.{◌≡◌, ◌+◌, ◌<◌, ◌≤◌, ◌==◌, false, cond, List, Option, IfOk, ◌&&◌, nat_lt, nat_le};
 ghost use Rattle.std.specs.Option.{option_or};
 ghost use Rattle.pm_model.specs.Words.{reads};
@@ -66,7 +66,7 @@ impl Overlay {
         Ok(Overlay { log })
     }
 
-    /// Takes in what an entry gives to word `w`.
+    /// Adds what an entry gives to word `w`.
     fn add(&self, entry: &Entry, w: u32, given: Given) -> Given
         requires { IsOfCopy entry.now }
         ensures { GivesWordMore (log_copied self.now.log) (entry_from (image_of_copy self.now.log) entry.now) w given result }
