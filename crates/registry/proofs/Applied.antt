@@ -155,7 +155,7 @@ module _ (size : ℕ) (s : StoredWorld) (a : State) (rested : IsRested a.now.wor
   durable_log : HasDurableLog targets.Words DAEMON_LOG a.now.words
   durable_log = record { gate = rested.each DAEMON_LOG; counted = λ k low high. rested.each k; table = λ k placing. absurd placing }
 
-  -- an image whose log is as it was, or closed, and that settles the same stands for the same world
+  -- an image whose log is as it was, or closed, and that is the same with the log replayed stands for the same world
   stands_still : (image : Image) → SettlesSame a.now.words DAEMON_LOG (log_of (reads a.now.words) DAEMON_LOG) image → StillStands size s (reads a.now.words) image
   stands_still image p =
       let i = reads a.now.words in
@@ -179,7 +179,7 @@ module _ (size : ℕ) (s : StoredWorld) (a : State) (rested : IsRested a.now.wor
       (λ v may. elim may [ inl gate ↦ other gate | inr named ↦ absurd (let it : None ≡ Some named.value = sym none ∙ named.is in cc) ])
       (rested.each k))
 
-  -- each word has one value again: the gate, those that the log named, and the others, to which nothing came
+  -- each word has one value again: the gate, those that the log named, and the others, which got no value
   rested_then : (b : State) → SettlesLog targets.Words DAEMON_LOG None a b → IsRested b.now.words
   rested_then b settles =
       let write = new_value device_word (log_of (reads a.now.words) DAEMON_LOG) in

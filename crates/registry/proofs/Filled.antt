@@ -87,7 +87,7 @@ module _ (F frame : ℕ) (words : List ℕ) (whole : length words ≡ FRAME_WORD
   pub filled_word : (b : State) → ((k v : ℕ) → write k ≡ Some v → HasOnly (b.now.words k) v) → (k : ℕ) → k < FRAME_WORDS → HasOnly (b.now.words (frame_at F frame + k)) (slice_index words k)
   filled_word b durable k below = durable (frame_at F frame + k) (slice_index words k) (placed_at (frame_at F frame) k (frame_at F frame + k) words refl (omega (arith, whole)))
 
-  -- ---- a world that stands still
+  -- ---- the world stays the same
 
   module _ (size : ℕ) (s : StoredWorld) (same : F ≡ s.frames) where
     abbrev stands : Image → Type 0

@@ -1,4 +1,4 @@
--- What the calls owe that change pools, from what their batches do.
+-- What calls that change pools owe, from what their batches do.
 use Rattle.std.proofs.Common.{◌≡◌, inl, inr, ℕ, ◌+◌, ◌-◌, ◌<◌, ◌≤◌, true, List, Option, Some, None, refl, sym, ap, subst, ◌∙◌, arith}
 use Rattle.std.specs.Prelude.{⊤}
 use Rattle.pm_model.specs.declared.host.HostFault.{HostFault}

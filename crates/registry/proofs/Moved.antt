@@ -120,7 +120,7 @@ module _ (size : ℕ) (s : StoredWorld) (number : ℕ) (ps : List (List ℕ × P
 
 -- ---- what a call owes
 
--- nothing happened, since a read failed
+-- nothing changed, since a read failed
 pub ChangesPools-still : (size : ℕ) (s next : StoredWorld) (also : Image → Type 0) (fault : Option HostFault) (old new : State) → IsQuiescent size s old.now.words → (fault ≡ Some Cut → ⊥) → (fault ≡ None → ⊥)
     → new ≡ old → ChangesPools size s next also fault old new
 ChangesPools-still size s next also fault old new settled not_cut not_none same = record {

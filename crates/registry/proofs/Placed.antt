@@ -83,7 +83,7 @@ module _ (F : ℕ) (image : Image) (name : List ℕ) (slot number : ℕ) (found 
   refused_for_space (puddles.Host fault) none told = absurd (let no : Some fault ≡ None = none in cc)
 
   module _ (a : NewPuddle) (new : IsNewPuddle t slot 0 (number + 1) a) where
-    -- nothing stands against it
+    -- nothing prevents it
     pub makes_first : None ≡ make_refusal t next name
     makes_first = sym (refused_by (Some a.frame) new.frame)
 

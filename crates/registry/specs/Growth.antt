@@ -88,8 +88,8 @@ abbrev pub IsGrownBy : List ℕ → StoredWorld → Puddle → StoredWorld → T
 IsGrownBy name s d next =
     ((g : Graph) × PoolHasGraph name s g × (next ≡ with_grown_pool name s)) ⊎ ((kept : Stored) × PoolHasNoGraph name s kept × (next ≡ with_wild_grown name d kept s))
 
--- With words masked that the puddle does not take, each image stands for a world, the tables are durable, and the puddle is the one by which a pool
--- grows that is there; with it more in that pool the world is the next.
+-- With words masked that the puddle does not take, the device is quiescent, the tables are durable, and the puddle is the one by which a pool grows that
+-- is there; with it more in that pool the world is the next.
 pub record GrowsAt (size : ℕ) (s next : StoredWorld) (F : ℕ) (a : NewPuddle) (mask : Write) (words : Words) : Type 0 where
   pub frames : F ≡ s.frames
   pub off : IsOffAdding mask F a (growing a)

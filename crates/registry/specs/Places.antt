@@ -14,7 +14,7 @@ use Rattle.registry.specs.declared.making.MakeFault.TheVariants as faults
 use Rattle.registry.specs.declared.adding.NewPuddle.{NewPuddle}
 use Rattle.registry.specs.Adding.{IsNewPuddle}
 
--- the host's fault that the making of a pool answered
+-- the host's fault that the making of a pool returned
 abbrev pub make_fault : {T : Type 0} → Result T MakeFault → Option HostFault
 make_fault (Ok x) = None
 make_fault (Err faults.Exists) = None
@@ -32,7 +32,7 @@ abbrev pub of_puddle_fault : PuddleFault → MakeFault
 of_puddle_fault puddles.NoSpace = faults.NoSpace
 of_puddle_fault (puddles.Host fault) = faults.Host fault
 
--- what a call answered in place of Ok
+-- the error that a call returned in place of Ok
 abbrev pub refusal_in : {T E : Type 0} → Result T E → Option E
 refusal_in (Ok x) = None
 refusal_in (Err fault) = Some fault

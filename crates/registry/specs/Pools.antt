@@ -52,7 +52,7 @@ dropping t slot = free_pool_put slot ∷ freeing t.puddles slot 0 t.frames
 
 -- ---- what each call does
 
--- this came about, or a read failed and nothing happened
+-- this was done, or a read failed and nothing changed
 abbrev pub OrStill : (Option HostFault → State → State → Type 0) → Option HostFault → State → State → Type 0
 OrStill Does fault old new = ((new ≡ old) × (fault ≢ None)) ⊎ Does fault old new
 
@@ -117,7 +117,7 @@ pub record ChangesPools (size : ℕ) (s next : StoredWorld) (also : Image → Ty
 abbrev pub ChangesMasked : Write → (size : ℕ) → (s next : StoredWorld) → (Image → Type 0) → Option HostFault → State → State → Type 0
 ChangesMasked mask size s next also fault old new = ChangesPools size s next also fault (masked_state mask old) (masked_state mask new)
 
--- With words masked that a new pool does not take, each image stands for a world and the tables are durable, and nothing stands against the pool.
+-- With words masked that a new pool does not take, each image stands for a world and the tables are durable, and nothing prevents the pool.
 pub record MayMake (size : ℕ) (s : StoredWorld) (F : ℕ) (name : List ℕ) (uid gid mode : ℕ) (mask : Write) (words : Words) : Type 0 where
   pub frames : F ≡ s.frames
   pub keeps : KeepsTables F mask (reads words)

@@ -12,7 +12,7 @@ use Rattle.batch.specs.Batches.{HasIdleGate}
 use Rattle.registry.specs.declared.LoadFault.{LoadFault}
 use Rattle.registry.specs.declared.LoadFault.TheVariants as faults
 
--- the host's fault that a load answered
+-- the host's fault that a load returned
 abbrev pub load_fault : {T : Type 0} → Result T LoadFault → Option HostFault
 load_fault (Ok x) = None
 load_fault (Err faults.NotSound) = None
