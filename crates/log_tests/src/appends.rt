@@ -15,13 +15,13 @@ const WORDS: u32 = 1_088;
 /// The place that the entries name.
 const ADDRESS: u64 = 17_592_186_044_944;
 
-/// The answer of an append that was done.
+/// The result of an append that was done.
 const DONE: u32 = 0;
 
-/// The answer of an append that is too big.
+/// The result of an append that is too big.
 const TOO_BIG: u32 = 1;
 
-/// The answer of an append in which power was lost.
+/// The result of an append in which power was lost.
 const LOST: u32 = 2;
 
 /// Appends an entry of these values.
@@ -131,7 +131,7 @@ fn append_cut<H: Host>(rt: &impl Abort, host: &mut H, step: u32, pick: u64, coun
     }
 }
 
-/// It on a device of its own.
+/// The same on a device of its own.
 fn append_cut_at(rt: &impl Abort, alloc: Global, step: u32, pick: u64, counted_from: u32) {
     let mut host = device_with(rt, alloc, WORDS, &[]);
     append_cut(rt, &mut host, step, pick, counted_from);
@@ -171,7 +171,7 @@ fn two_cut<H: Host>(rt: &impl Abort, host: &mut H, step: u32, pick: u64, counted
     }
 }
 
-/// It on a device of its own.
+/// The same on a device of its own.
 fn two_cut_at(rt: &impl Abort, alloc: Global, step: u32, pick: u64, counted_from: u32) {
     let mut host = device_with(rt, alloc, WORDS, &[]);
     two_cut(rt, &mut host, step, pick, counted_from);

@@ -12,7 +12,7 @@ use std::process::Abort;
 const WORDS: u32 = 1_200;
 
 /// Commits a batch of so many entries from word 1,095 on, with 32 values each that are its number, and then of these. Each
-/// of them has to be taken or not, as it says. The answer is whether power was lost.
+/// of them has to be added or be too big, as it says. The result is whether power was lost.
 fn is_cut<H: Host>(rt: &impl Abort, host: &mut H, full: u64, rows: &[(u32, &[u64], bool)]) -> bool {
     let mut batch = Batch::new();
     for round in 0..full {
@@ -142,7 +142,7 @@ const OLD: [(u32, u64); 6] = [
     (1_099, 1_099),
 ];
 
-/// It on a device of its own.
+/// The same on a device of its own.
 fn batch_cut_at(rt: &impl Abort, alloc: Global, step: u32, pick: u64, new_from: u32) {
     let mut host = device_with(rt, alloc, WORDS, &OLD);
     batch_cut(rt, &mut host, step, pick, new_from);

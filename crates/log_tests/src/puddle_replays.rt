@@ -67,7 +67,7 @@ fn replay<H: Host>(rt: &impl Abort, host: &mut H, named: &[u64; 3]) {
     leaves_named(rt, host, named);
 }
 
-/// It on a device of its own.
+/// The same on a device of its own.
 fn replay_on(rt: &impl Abort, alloc: Global, range: u64, words: &[u64], named: &[u64; 3]) {
     let mut host = device(rt, alloc, range, words);
     replay(rt, &mut host, named);
@@ -109,13 +109,13 @@ fn what_a_replay_to_puddles_makes_durable(rt: HostRuntime) {
     }
 }
 
-/// Replays and closes the log. The answer is whether power was lost.
+/// Replays and closes the log. The result is whether power was lost.
 fn is_settling_cut<H: Host>(rt: &impl Abort, host: &mut H) -> bool {
     assert!(rt; LOG + LOG_WORDS <= host.words());
     is_lost(rt, settle_log(host, LOG, Target::Puddles(FRAMES)))
 }
 
-/// It with a cut at this step, and again where it was cut off: the log is closed then, and these words are left.
+/// Replays and closes the log with a cut at this step, and again where it was cut off: the log is closed then, and these words are left.
 fn settle_cut<H: Host>(rt: &impl Abort, host: &mut H, step: u32, pick: u64, named: &[u64; 3]) {
     assert!(rt; step >= 1);
     host.arm(step, pick);
@@ -126,7 +126,7 @@ fn settle_cut<H: Host>(rt: &impl Abort, host: &mut H, step: u32, pick: u64, name
     has(rt, host, LOG, &[1_028]);
 }
 
-/// It on a device of its own.
+/// The same on a device of its own.
 fn settle_cut_on(rt: &impl Abort, alloc: Global, step: u32, pick: u64) {
     let words = [
         FIRST, UNDO_TWO, 1, 2, FIRST, UNDO, 7, LAST, REDO, 3, SECOND, REDO, 4,

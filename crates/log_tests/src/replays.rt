@@ -26,7 +26,7 @@ const NAMED: [(u32, u64); 5] = [
     (2_047, 14),
 ];
 
-/// Replays the log. The answer is whether power was lost.
+/// Replays the log. The result is whether power was lost.
 fn is_cut<H: Host>(rt: &impl Abort, host: &mut H) -> bool {
     assert!(rt; DAEMON_LOG + LOG_WORDS <= host.words());
     is_lost(rt, replay_range(host, DAEMON_LOG, Target::Words))

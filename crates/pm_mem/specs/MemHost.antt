@@ -36,7 +36,7 @@ mem_armed m = m.turns.armed
 abbrev pub mem_watch : MemHost → Watch
 mem_watch m = m.watch
 
--- what a call answers that fails by the plan or gives this
+-- the result of a call that fails by the plan or gives this
 abbrev pub call_result : {T : Type 0} → Bool → T → Result T HostFault
 call_result fails value = cond fails (Err faults.Failed) (Ok value)
 

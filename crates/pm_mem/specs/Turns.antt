@@ -78,12 +78,12 @@ before_step Done s = s
 before_step Failed s = s
 before_step (Cut pick) s = after_pick pick s
 
--- the fault that a device step answers
+-- the fault that a device step returns
 abbrev pub turn_fault : Turn → Option HostFault
 turn_fault Done = None
 turn_fault Failed = Some faults.Failed
 turn_fault (Cut pick) = Some faults.Cut
 
--- the fault that another call answers
+-- the fault that another call returns
 abbrev pub call_fault : Bool → Option HostFault
 call_fault fails = cond fails (Some faults.Failed) None

@@ -1,4 +1,4 @@
-//! A persistent-memory device in memory, with its script, its replies and its files. It tells everything, and answers
+//! A persistent-memory device in memory, with its script, its replies and its files. It tells everything, and returns
 //! a fault only where its plan, its room or an armed cut says so.
 #![tactic(auto)]
 

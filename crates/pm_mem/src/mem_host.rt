@@ -12,7 +12,7 @@ use std::alloc::{AllocError, Global};
 use std::collections::BTreeMap;
 
 /// A host in memory. Its device tells the values of each word at each moment, and all room that its calls need is
-/// reserved at the start, so that they fail only where its plan says so or more is asked than was reserved.
+/// reserved at the start, so that they fail only where its plan says so or more is needed than was reserved.
 ///
 /// A power loss with pick 0 leaves each word's durable value, with pick 1 each word's newest. With any other pick
 /// it leaves of word `i` the newest value where bit `i % 64` of the pick is set, and else the durable one.

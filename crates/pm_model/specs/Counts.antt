@@ -43,7 +43,7 @@ after_arm steps pick c = record c { arms = risen c.arms; arm_steps = steps; arm_
 abbrev pub after_loss_of : ℕ → Counts → Counts
 after_loss_of pick c = record c { losses = risen c.losses; loss_pick = pick }
 
--- the host's fault that a call answered
+-- the host's fault that a call returned
 abbrev pub fault_of : {T : Type 0} → Result T HostFault → Option HostFault
 fault_of (Ok x) = None
 fault_of (Err fault) = Some fault

@@ -5,7 +5,7 @@ use Rattle.pm_model.specs.declared.host.HostFault.TheVariants.{Cut}
 use Rattle.pm_model.specs.Moments.{State}
 use Rattle.pm_model.specs.Counts.{Counts, after_fault}
 
--- nothing changed, and what is counted is the fault that the call answered, which is no cut
+-- nothing changed, and what is counted is the fault that the call returned, which is no cut
 pub record OnlyReads {H : Type 0} (tells : Type 0) (state : H → State) (counts : H → Counts) (fault : Option HostFault) (old new : H) : Type 0 where
   pub stays : tells → state new ≡ state old
   pub cause : counts new ≡ after_fault fault (counts old)
