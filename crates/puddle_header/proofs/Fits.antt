@@ -21,7 +21,7 @@ header_by_words w0 w1 w2 w3 w4 magic number ordinal =
     as (λ b. is_header_of (cond b None (Some (record { pool = member_pool w0; ordinal = member_ordinal w0; puddle = record { number = w1; base = w2; old_base = w3; frontier = w4 } }))) magic number ordinal
     ≡ cond b false (is_header w1 (member_ordinal w0) magic number ordinal)) [ true ↦ refl | false ↦ refl ]
 
--- the header that a frame is asked for by the words of its record
+-- whether a frame has the header that the words of its record say
 abbrev pub header_asked : (F frame member given : ℕ) → Image → Bool
 header_asked F frame member given image = is_header given (member_ordinal member) (frame_word F frame FRAME_MAGIC_WORD image) (frame_word F frame FRAME_NUMBER_WORD image) (frame_word F frame FRAME_ORDINAL_WORD image)
 

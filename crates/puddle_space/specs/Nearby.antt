@@ -20,6 +20,6 @@ pub record IsInGap (gap : Gap) (address : ℕ) : Type 0 where
 pub record AreNeighbours (t : Tables) (n : Neighbours) : Type 0 where
   pub each : (address : ℕ) → n.from ≤ address → address < n.end → located t address ≡ Some (n.frame, (address - n.base) / WORD_BYTES)
 
--- each of the ranges that are kept is so
+-- each of the ranges that are kept lies so
 abbrev pub IsNearby : Tables → Nearby → Type 0
 IsNearby t n = All (AreNeighbours t) n.known

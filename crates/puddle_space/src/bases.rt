@@ -1,5 +1,5 @@
-//! The lowest free base, found among the first ranges of the space: at most two bases are held by each puddle, and so many
-//! that are taken otherwise, so that one of the first ranges is free.
+//! The lowest free base, found among the first ranges of the space: each puddle takes at most two bases, and so many are
+//! taken otherwise, so that one of the first ranges is free.
 
 ghost use Rattle.std.specs.Prelude.{◌≡◌, ◌≢◌, ◌+◌, ◌*◌, ◌<◌, ◌≤◌, ℕ, true, false, not, ◌==◌, length, IfOk, IfSome, IfNone};
 ghost use Rattle.std.specs.List.{list_all, position};
