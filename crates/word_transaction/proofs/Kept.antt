@@ -40,7 +40,7 @@ pub SavesWords-still : (g : Scope) (log : OpenLog) (es : List Entry) (before : I
 SavesWords-still g log es before which fault old new uncut same r kept =
     record { entries = es; runs = KeepsRunning-still g log es before fault old new uncut same r; defers = refl; still = λ k none. none; kept = kept }
 
--- the log behind a call, whatever it answered
+-- the log behind a call, whatever it returned
 pub KeepsRunning-now : (g : Scope) (log longer now : OpenLog) (es : List Entry) (before : Image) (result : Result (Unit {0}) HostFault) (old new : State) → longer.gate_at ≡ log.gate_at
     → IfOk result (λ _. now ≡ longer) → OnErr result (now ≡ log) → KeepsRunning g longer es before no_write (fault_of result) old new → KeepsRunning g now es before no_write (fault_of result) old new
 KeepsRunning-now g log longer now es before (Ok x) old new at ok err r = subst (λ (l : OpenLog). KeepsRunning g l es before no_write None old new) (sym ok) r

@@ -8,7 +8,7 @@ use Rattle.pud_defs.specs.Logging.Entries.{Entry, Log}
 use Rattle.pud_defs.specs.Logging.Replay.{AddressMap, value_in, undo_value, redo_value, overwritten, is_in_log}
 use Rattle.log_store.specs.Store.{is_redo}
 
--- Which word an address names; which entries the transaction may write, by their address and their number of values; and which words are its
+-- Which word an address names; which words an entry may name, by its address and its number of values; and which words are the transaction's
 -- own.
 pub record Scope : Type 0 where
   pub place : AddressMap
