@@ -10,13 +10,13 @@ use crate::records::Name;
 /// What a line asks for.
 #[derive(Clone, Copy, Debug, PartialEq, Eq)]
 pub enum Command {
-    /// `client C uid gid`: the client, from 0 to 7, comes and acts as this owner and this group, from 0 to 65,535.
+    /// `client C uid gid`: the client, from 0 to 7, is registered and acts as this owner and this group, from 0 to 65,535.
     Client {
         client: u8,
         uid: u32,
         gid: u32,
     },
-    /// `leave C`: the client, from 0 to 7, goes.
+    /// `leave C`: the client, from 0 to 7, is removed.
     Leave {
         client: u8,
     },
@@ -82,9 +82,9 @@ pub enum Command {
         f: u32,
         x: FieldValue,
     },
-    /// `later C P o.f x`: the client, from 0 to 7, asks in its transaction on the pool of this name that field `f`, from 0 to 29, of the
+    /// `later C P o.f x`: the client, from 0 to 7, defers a value in its transaction on the pool of this name: field `f`, from 0 to 29, of the
     /// object with serial `s`, at least 1, has the value `x` once the transaction is committed, behind all that is set in it and all that
-    /// was asked for before.
+    /// was deferred before.
     Later {
         client: u8,
         name: Name,
@@ -203,8 +203,8 @@ pub enum Refusal {
     Field,
     /// The value is a number and the field a pointer, or the other way round.
     Kind,
-    /// The root names the object, or a field of an object, itself included, or what was asked for and is to come at the commit, by the field
-    /// or by the value.
+    /// The object is referenced: by the root, by a field of an object, itself included, or by a deferred value, whose field is the object's or
+    /// which names it.
     Held,
     /// The client's transaction on the pool was begun 16 times.
     Deep,

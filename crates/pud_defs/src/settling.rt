@@ -13,12 +13,12 @@ ghost use Rattle.pud_defs.specs.Logging.Settled.{gives_to, ALL_LOGS, given_by_lo
 ghost use Rattle.pud_defs.specs.RegistryTables.Registry.{frames_of, is_sound};
 ghost use Rattle.pud_defs.specs.StateMachine.World.{StoredWorld, world_of, idle_world_of};
 
-/// A closed log settles nothing: where no entry can be in its range it gives no word a value.
+/// A closed log gives nothing: where no entry can be in its range it gives no word a value.
 pub fn closed_log_gives_nothing()
     ensures { (t : Tables) (who : Option Owner) (log : Log) (w : ℕ) → log.hi ≤ log.lo + 1 → gives_to t who log w ≡ Option.None }
 {}
 
-/// A log that is not allowed settles nothing, whatever its entries are.
+/// A log that is not allowed gives nothing, whatever its entries are.
 pub fn refused_log_gives_nothing()
     ensures { (t : Tables) (who : Owner) (log : Log) (w : ℕ) → is_allowed_log t who log ≡ false → gives_to t (Option.Some who) log w ≡ Option.None }
 {}
@@ -41,8 +41,7 @@ pub fn one_log_settles_beside_the_others()
         → settled_over F image ≡ beside_logs F (overwritten (given_by_others F image number) (log_alone F number image)) }
 {}
 
-/// Images that agree on the tables, and on all logs but one, have the same from these logs: they settle the same but for the
-/// one.
+/// Images that agree on the tables, and on all logs but one, are given the same by all but that one.
 pub fn images_beside_one_log_have_the_same_from_the_others()
     ensures { (F : ℕ) (number : ℕ) (i : Image) (j : Image) → IsBeside F number i j → given_by_others F j number ≡ given_by_others F i number }
 {}

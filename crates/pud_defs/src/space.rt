@@ -3,7 +3,7 @@
 //! Each puddle has a range of 16,384 addresses of the space and a frame of 2,048 words on the device. Word k of the frame
 //! has the eight addresses from `base + 8 * k` on.
 //!
-//! How many slots a puddle has, of how many words, and how many steps, is asked of this file alone. A place is a slot of a
+//! How many slots a puddle has, of how many words, and how many steps, is said by this file alone. A place is a slot of a
 //! pool, counted over its puddles by their ordinals, each with as many places as the largest puddle has slots: so a place
 //! says the ordinal and the slot, whichever puddles the pool has.
 

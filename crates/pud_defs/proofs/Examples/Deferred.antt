@@ -1,4 +1,4 @@
--- Lines on what comes at the commit, on roots, and on objects that are freed, each answered in turn.
+-- Lines on deferred values, on roots, and on objects that are freed, each answered in turn.
 use Rattle.std.proofs.Common.{◌≡◌, ℕ, List, [], ◌∷◌, codes, Option, Some, None, refl}
 use Rattle.pud_defs.specs.declared.objects.FieldValue.{FieldValue}
 use Rattle.pud_defs.specs.declared.objects.FieldValue.TheVariants.{Num, Ref}
@@ -24,7 +24,7 @@ begun_on g = used_on 0 g
 abbrev later : (s f : ℕ) → FieldValue → DeferredValue
 later s f x = record { s = s; f = f; x = x }
 
--- a transaction of client 0 that was begun once, has used so many units, sees this graph and has asked for this
+-- a transaction of client 0 that was begun once, has used so many units, sees this graph and has these deferred values
 abbrev asking : (units : ℕ) → Graph → List DeferredValue → Option Transaction
 asking units g deferred = Some (record { client = 0; depth = 1; units = units; now = g; deferred = deferred })
 
@@ -32,7 +32,7 @@ asking units g deferred = Some (record { client = 0; depth = 1; units = units; n
 abbrev node : (number pointer : ℕ) → Object
 node number pointer = record { type_id = 1; fields = Num number ∷ Ref pointer ∷ [] }
 
--- ---- what is asked for later is not seen before the commit, and comes behind all that is set
+-- ---- a deferred value is not seen before the commit, and is stored behind all that is set at once
 
 seen_at_commit : said one (codes "begin 0 a" ∷ codes "later 0 a 1.0 12" ∷ codes "get 0 a 1.0" ∷ codes "set 0 a 1.0 11" ∷ codes "get 0 a 1.0" ∷ codes "commit 0 a" ∷ codes "get 0 a 1.0" ∷ [])
     ≡ lines_said (codes "ok" ∷ codes "ok" ∷ codes "ok 10" ∷ codes "ok" ∷ codes "ok 11" ∷ codes "ok" ∷ codes "ok 12" ∷ [])
@@ -70,7 +70,7 @@ of_a_new_object : said (begun_on empty_graph) (codes "new 0 a 1" ∷ codes "late
 unfolding opened said
 of_a_new_object = refl
 
--- ---- it comes at the last commit alone, and not at all where the transaction is undone
+-- ---- it is stored at the last commit alone, and not at all where the transaction is undone
 
 comes_at_the_last_commit : said one (codes "begin 0 a" ∷ codes "later 0 a 1.0 12" ∷ codes "begin 0 a" ∷ codes "commit 0 a" ∷ codes "get 0 a 1.0" ∷ codes "commit 0 a" ∷ codes "get 0 a 1.0" ∷ [])
     ≡ lines_said (codes "ok" ∷ codes "ok" ∷ codes "ok" ∷ codes "ok" ∷ codes "ok 10" ∷ codes "ok" ∷ codes "ok 12" ∷ [])
@@ -125,7 +125,7 @@ root_is_undone : (behind one (codes "begin 0 a" ∷ codes "root 0 a 1" ∷ codes
 unfolding opened behind
 root_is_undone = refl
 
--- ---- an object is freed that nothing holds
+-- ---- an object is freed that is not referenced
 
 freed : said (begun_on (nodes 2 10 0)) (codes "free 0 a 1" ∷ codes "get 0 a 1.0" ∷ codes "free 0 a 1" ∷ codes "set 0 a 2.1 @1" ∷ codes "root 0 a 1" ∷ codes "commit 0 a" ∷ codes "get 0 a 1.0" ∷ codes "get 0 a 2.0" ∷ [])
     ≡ lines_said (codes "ok" ∷ codes "no object" ∷ codes "no object" ∷ codes "no object" ∷ codes "no object" ∷ codes "ok" ∷ codes "no object" ∷ codes "ok 10" ∷ [])
@@ -153,7 +153,7 @@ slot_is_free : said (begun_on (nodes 62 0 0)) (codes "free 0 a 5" ∷ codes "new
 unfolding opened said
 slot_is_free = refl
 
--- ---- what holds an object
+-- ---- what references an object
 
 held_by_itself : said (begun_on (nodes 1 10 1)) (codes "free 0 a 1" ∷ codes "set 0 a 1.1 @0" ∷ codes "free 0 a 1" ∷ [])
     ≡ lines_said (codes "no held" ∷ codes "ok" ∷ codes "ok" ∷ [])
@@ -176,13 +176,13 @@ held_in_a_circle : said (begun_on (nodes 2 10 0)) (codes "set 0 a 1.1 @2" ∷ co
 unfolding opened said
 held_in_a_circle = refl
 
--- as long as it is to come
+-- by the field of a deferred value, until the commit
 held_as_what_is_to_have_a_value : said (begun_on (nodes 1 10 0)) (codes "later 0 a 1.0 12" ∷ codes "free 0 a 1" ∷ codes "set 0 a 1.0 12" ∷ codes "free 0 a 1" ∷ codes "commit 0 a" ∷ codes "begin 0 a" ∷ codes "free 0 a 1" ∷ [])
     ≡ lines_said (codes "ok" ∷ codes "no held" ∷ codes "ok" ∷ codes "no held" ∷ codes "ok" ∷ codes "ok" ∷ codes "ok" ∷ [])
 unfolding opened said
 held_as_what_is_to_have_a_value = refl
 
--- as long as it is to come, and then by the field
+-- by a deferred value, and from the commit on by the field
 held_as_what_is_to_be_a_value : said (begun_on (nodes 2 10 0)) (codes "later 0 a 2.1 @1" ∷ codes "free 0 a 1" ∷ codes "free 0 a 2" ∷ codes "commit 0 a" ∷ codes "begin 0 a" ∷ codes "free 0 a 1" ∷ codes "free 0 a 2" ∷ codes "free 0 a 1" ∷ [])
     ≡ lines_said (codes "ok" ∷ codes "no held" ∷ codes "no held" ∷ codes "ok" ∷ codes "ok" ∷ codes "no held" ∷ codes "ok" ∷ codes "ok" ∷ [])
 unfolding opened said
@@ -193,7 +193,7 @@ null_to_come_holds_its_object : said (begun_on (nodes 2 10 0)) (codes "later 0 a
 unfolding opened said
 null_to_come_holds_its_object = refl
 
--- a field names what it held before the commit
+-- until the commit the field has its old value
 held_until_null_comes : said (begun_on (nodes 1 10 1)) (codes "later 0 a 1.1 @0" ∷ codes "free 0 a 1" ∷ codes "commit 0 a" ∷ codes "begin 0 a" ∷ codes "free 0 a 1" ∷ [])
     ≡ lines_said (codes "ok" ∷ codes "no held" ∷ codes "ok" ∷ codes "ok" ∷ codes "ok" ∷ [])
 unfolding opened said

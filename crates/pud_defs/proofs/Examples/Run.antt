@@ -87,7 +87,7 @@ clash_where_full : step_answer (of_types (first_types 64)) (codes "type 64 1 0")
 unfolding opened
 clash_where_full = refl
 
--- a client comes once, and one that is not there does not leave
+-- a client is registered once, and one that is not there does not leave
 comes : step_answer (of_types []) (codes "client 0 5 5") ≡ of_reply replies.Ok
 unfolding opened
 comes = refl

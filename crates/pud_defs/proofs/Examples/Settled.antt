@@ -149,7 +149,7 @@ nothing_counts = (refl, refl, refl)
 abbrev with_rights : (mode id : ℕ) → Image
 with_rights mode id = image_with (log_at 4 0 0) 197120 (holding (log_at 4 0 0 + 8) (0x100000000210 ∷ 65537 ∷ 99 ∷ []) (device mode id))
 
--- the right to write is asked, and not that to read
+-- the right to write decides, and not that to read
 write_alone : (is_refused_log 4 (with_rights 0x80 5) 0 ≡ false) × (is_refused_log 4 (with_rights 0x100 5) 0 ≡ true)
 unfolding opened_logs
 write_alone = (refl, refl)

@@ -35,7 +35,7 @@ world_with g open_there = record { stored = stored_with g; clients = λ _. Some 
 abbrev start : World
 start = world_with empty_graph None
 
--- a transaction of client 0 that was begun so often, has used so many units and sees this graph; nothing was asked for that is to come
+-- a transaction of client 0 that was begun so often, has used so many units and sees this graph, without a deferred value
 abbrev pub under_way : (depth units : ℕ) → Graph → Option Transaction
 under_way depth units g = Some (record { client = 0; depth = depth; units = units; now = g; deferred = [] })
 

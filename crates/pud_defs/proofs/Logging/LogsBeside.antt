@@ -1,4 +1,4 @@
--- What a start makes of images that agree beside the daemon log, and of those that settle to the same words.
+-- What a start makes of images that agree beside the daemon log, and of those that recover to the same words.
 use Rattle.std.proofs.Common.{◌≡◌, ◌⊎◌, inl, inr, ℕ, ◌<◌, ◌≤◌, true, false, Option, Some, sym, ap₂, subst, ◌∙◌, arith}
 use Rattle.std.specs.Prelude.{unwrap_or}
 use Rattle.std.proofs.lemmas.Bool.{cases_Bool, cond-true, cond-false}
@@ -44,7 +44,7 @@ module _ (F : ℕ) (i j : Image) (same : (k : ℕ) → TYPE_TABLE ≤ k → j k 
     pub agree_accepted : is_accepted_log F j number ≡ is_accepted_log F i number
     agree_accepted = λ p. is_accepted (agree_tables p) (agree_owner (client_of_log number) (omega arith) p) (agree_log p)
 
-  -- where they hold the same in a word they settle to the same in it
+  -- where they hold the same in a word they recover to the same in it
   pub agree_settled : (w : ℕ) → j w ≡ i w → settled_over F j w ≡ settled_over F i w
   unfolding settled_over
   agree_settled w here = elim (cases_Bool (is_in_logs F w)) [
@@ -70,12 +70,12 @@ module _ (F : ℕ) (image : Image) (idle : is_idle_gate (image DAEMON_LOG) ≡ t
   pub idle_accepted : (number : ℕ) → number < ALL_LOGS → is_accepted_log F (settled_by DAEMON_LOG image) number ≡ is_accepted_log F image number
   idle_accepted number known = agree_accepted F image (settled_by DAEMON_LOG image) behind number known
 
-  -- beside the daemon log it settles to what it settles to as it is
+  -- beside the daemon log it recovers to what it recovers to without that log
   pub idle_settled : (w : ℕ) → is_in_log DAEMON_LOG w ≡ false → settled F image w ≡ settled_over F image w
   unfolding settled
   idle_settled w outside = agree_settled F image (settled_by DAEMON_LOG image) behind w (settled_by-idle DAEMON_LOG image w idle outside)
 
--- ---- images that settle to the same words
+-- ---- images that recover to the same words
 
 -- the word is read by a world, and is none of the log-space table
 pub record IsReadBeside (F k : ℕ) : Type 0 where

@@ -76,7 +76,7 @@ not_a_gate F number w known outside here =
     let inside : is_in_logs F w ≡ true = and_from (nat_le (tables_end F) w) (nat_lt w (frames_at F)) (le-leb (tables_end F) w (omega arith)) (lt-ltb w (frames_at F) (omega arith)) in
     absurd (let it : true ≡ false = sym inside ∙ outside in cc)
 
--- ---- one log is taken
+-- ---- one log is replayed and closed
 
 module _ (F number : ℕ) (i j : Image) (known : number < ALL_LOGS) (takes : ReplaysClientLog F number i j) where
   -- below the frames nothing differs but the gate

@@ -4,7 +4,7 @@ use Rattle.pud_defs.specs.declared.log_words.TheConstants.{CLOSED_GATE}
 use Rattle.pud_defs.specs.Formats.Image.{Image}
 use Rattle.pud_defs.specs.Logging.Settled.{log_number_at, given_by_log, is_refused_log}
 
--- The log of a number is closed behind its replay: each word that it gives has its value. It was not one that is refused.
+-- The log of this number is replayed and closed: each word that it gives has its value. It was not one that is refused.
 pub record IsReplayedAndClosed (F number : ℕ) (i j : Image) : Type 0 where
   pub gate : j (log_number_at F number) ≡ CLOSED_GATE
   pub there : (k v : ℕ) → given_by_log F i number k ≡ Some v → j k ≡ v

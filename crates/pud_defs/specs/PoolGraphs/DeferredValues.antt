@@ -1,4 +1,4 @@
--- What is asked for within a transaction and comes when it is committed: values of fields.
+-- Deferred values: values of fields that a transaction sets when it is committed.
 use Rattle.std.specs.Prelude.{ℕ, Bool, ◌||◌, ◌==◌, List, [], ◌∷◌}
 use Rattle.std.specs.List.{list_any}
 use Rattle.pud_defs.specs.declared.objects.FieldValue.{FieldValue}
@@ -11,11 +11,11 @@ pub record DeferredValue : Type 0 where
   pub f : ℕ
   pub x : FieldValue
 
--- the graph with it
+-- the graph with the deferred value set
 abbrev pub with_deferred_value : DeferredValue → Graph → Graph
 with_deferred_value l g = with_field l.s l.f l.x g
 
--- with all of them, in turn
+-- with a deferred set: all of them, in turn
 abbrev pub with_deferred_set : List DeferredValue → Graph → Graph
 with_deferred_set [] g = g
 with_deferred_set (l ∷ ls) g = with_deferred_set ls (with_deferred_value l g)

@@ -199,7 +199,7 @@ graph_stored types st = graph_by (next_serial_of st) (root_of st) (table_of type
 unfoldable pub graph_of : List (ℕ × ℕ) → Stored → Option Graph
 graph_of types st = cond (has_graph types st) (Some (graph_stored types st)) None
 
--- ---- what is asked of a graph
+-- ---- objects of a graph and what references them
 
 -- the object of a serial
 abbrev pub object_in : ℕ → Graph → Option Object
@@ -210,7 +210,7 @@ abbrev pub names_serial : ℕ → FieldValue → Bool
 names_serial s (Num v) = false
 names_serial s (Ref r) = r == s
 
--- the root or a field of an object names the serial
+-- the object of the serial is referenced: the root or a field of an object names it
 unfoldable pub is_referenced : ℕ → Graph → Bool
 is_referenced s g = g.root == s || list_any (λ e. list_any (names_serial s) e.1.fields) g.objects
 

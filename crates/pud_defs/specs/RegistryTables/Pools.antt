@@ -43,7 +43,7 @@ next_name_word name = from_le_bytes w64 (drop 8 name)
 abbrev pub pool_words : PoolRecord → List ℕ
 pool_words r = name_word r.name ∷ next_name_word r.name ∷ owner_word r.uid r.gid ∷ r.mode ∷ r.number ∷ []
 
--- a record that its words hold: it has a legal name, and its uid has its own half of a word
+-- a record that words can encode: it has a legal name, and its uid has its own half of a word
 pub record IsEncodable (r : PoolRecord) : Type 0 where
   pub name : IsName r.name
   pub legal : is_legal_name r.name ≡ true

@@ -57,7 +57,7 @@ with_imported_pool name owner mode file s =
     let typed = with_types_defined (types_missing s.types file.types) s in
     record typed { next_number = s.next_number + numbers_drawn file.puddles; pools = put name_cmp name (imported_pool owner mode s.next_number file) typed.pools }
 
--- the world with the pool of what is held, where that is a file's
+-- the world with the pool of these contents, where they are a file's
 abbrev pub with_pool_of : Option FileContents → List ℕ → Owner → ℕ → StoredWorld → StoredWorld
 with_pool_of None name owner mode s = s
 with_pool_of (Some file) name owner mode s = with_imported_pool name owner mode file s

@@ -35,7 +35,7 @@ pub data Answer : Type 0 where
   of_reply : Reply → Answer
   of_text : List ℕ → Answer
 
--- ---- what is asked of a command, one row a command
+-- ---- what a command needs and may be refused for, one row a command
 
 -- the user is the owner of the pool
 abbrev pub has_owner_right : Option Owner → Option Pool → Bool
@@ -68,7 +68,7 @@ pub record Rule : Type 0 where
 abbrev pub rule_of_none : List Refusal → Rule
 rule_of_none causes = record { client = None; pool = None; causes = causes; right = has_owner_right; charge = 0 }
 
--- one of a client, who has to be present but to come
+-- one of a client, who has to be present, but for `client`
 abbrev pub rule_of_client : (client : ℕ) → List Refusal → Rule
 rule_of_client client causes = record { client = Some client; pool = None; causes = causes; right = has_owner_right; charge = 0 }
 
@@ -249,7 +249,7 @@ abbrev pub type_named : Command → ℕ
 type_named (New client name t) = t
 type_named c = 0
 
--- no object has the serial that is to be the value
+-- the value is dangling: it names a serial that no object has
 abbrev pub is_dangling : Option Graph → FieldValue → Bool
 is_dangling g (Num v) = false
 is_dangling g (Ref s) = not (s == 0) && is_none (object_of s g)
@@ -277,12 +277,12 @@ mixes_kinds w (Set client name s f x) = differ_in_kind (field_of f (object_of s 
 mixes_kinds w (Later client name s f x) = differ_in_kind (field_of f (object_of s (graph_for w (Later client name s f x)))) x
 mixes_kinds w c = false
 
--- the root or a field names the serial, where there is a graph
+-- the object of the serial is referenced by the root or a field, where there is a graph
 abbrev pub is_referenced_in : ℕ → Option Graph → Bool
 is_referenced_in s None = false
 is_referenced_in s (Some g) = is_referenced s g
 
--- the object that a command frees is named by the root, by a field, also its own, or by what was asked for and is to come
+-- the object that a command frees is referenced by the root, by a field, also its own, or by a deferred value
 abbrev pub frees_referenced : World → Command → Bool
 frees_referenced w (Free client name s) = is_referenced_in s (graph_for w (Free client name s)) || deferred_set_names s (deferred_of (open_for w (Free client name s)))
 frees_referenced w c = false

@@ -31,7 +31,7 @@ abbrev pub depth_of : Option Transaction → ℕ
 depth_of None = 0
 depth_of (Some t) = t.depth
 
--- what was asked for and is to come
+-- its deferred values
 abbrev pub deferred_of : Option Transaction → List DeferredValue
 deferred_of None = []
 deferred_of (Some t) = t.deferred
@@ -59,7 +59,7 @@ open_after_begin client g (Some t) = Some (record t { depth = t.depth + 1 })
 abbrev pub charged : (units : ℕ) → (Graph → Graph) → Transaction → Transaction
 charged units change t = record t { units = t.units + units; now = change t.now }
 
--- a value asked for, behind what was, and so many units more used: its graph is as it was
+-- one deferred value more, behind the others, and so many units more used: its graph is as it was
 abbrev pub deferring : (units : ℕ) → DeferredValue → Transaction → Transaction
 deferring units l t = record t { units = t.units + units; deferred = t.deferred ++ l ∷ [] }
 
@@ -74,7 +74,7 @@ lowered (Some t) = cond (nat_le t.depth 1) None (Some (record t { depth = t.dept
 abbrev pub holding_graph : Graph → Pool → Pool
 holding_graph g p = record p { holding = Sound g }
 
--- the pools behind a commit: where the transaction was begun once its pool has the graph that it made, with what was asked for
+-- the pools behind a commit: where the transaction was begun once its pool has the graph that it made, with its deferred values set
 abbrev pub committed_pools : List ℕ → Option Transaction → List (List ℕ × Pool) → List (List ℕ × Pool)
 committed_pools name None pools = pools
 committed_pools name (Some t) pools = cond (nat_le t.depth 1) (changed_pool name (holding_graph (with_deferred_set t.deferred t.now)) pools) pools

@@ -53,7 +53,7 @@ unfoldable pub idle_world_of : ℕ → Image → Option StoredWorld
 idle_world_of size image = cond (has_legal_log image) (idle_registry size (settled_by DAEMON_LOG image)) None
 
 -- A transaction that is open: whose it is, how often it was begun, how many units of its log it has used, the graph of its pool as its
--- client sees it, and what was asked for that comes when it is committed, oldest first.
+-- client sees it, and its deferred values, which are set when it is committed, oldest first.
 pub record Transaction : Type 0 where
   pub client : ℕ
   pub depth : ℕ
