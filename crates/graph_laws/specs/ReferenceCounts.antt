@@ -1,4 +1,4 @@
--- How many hold an object: the pointers of objects and the root that name it.
+-- The reference count of an object: how many pointers of objects name it, and the root where it does.
 use Rattle.std.specs.Prelude.{ℕ, ◌+◌, ◌==◌, cond, count_by, sum_by}
 use Rattle.pud_defs.specs.declared.objects.FieldValue.{FieldValue}
 use Rattle.pud_defs.specs.PoolGraphs.Graph.{Object, Graph, names_serial}
@@ -11,6 +11,6 @@ times_named_by s v = cond (names_serial s v) 1 0
 abbrev pub pointers_to : ℕ → Object → ℕ
 pointers_to s o = count_by (names_serial s) o.fields
 
--- how many hold the object of a serial
+-- how many references the object of a serial has
 unfoldable pub reference_count : ℕ → Graph → ℕ
 reference_count s g = cond (g.root == s) 1 0 + sum_by (λ e. pointers_to s e.1) g.objects

@@ -90,30 +90,30 @@ pub fn stored_address_is_the_root()
         → graph_of types (with_root_word v st) ≡ Option.Some (with_root s g) }
 {}
 
-/// Where a field of an object is set, the object that the field named has a holder fewer, and the one that it names now has
+/// Where a field of an object is set, the object that the field named has a reference fewer, and the one that it names now has
 /// one more.
 pub fn set_field_moves_one_reference()
     ensures { (types : List (ℕ × ℕ)) (st : Stored) (g : Graph) (q : ℕ) (s : ℕ) (f : ℕ) (x : FieldValue) (was : FieldValue) (o : Object) → graph_of types st ≡ Option.Some g → object_in s g ≡ Option.Some o → slice_get o.fields f ≡ Option.Some was
         → reference_count q (with_field s f x g) + times_named_by q was ≡ reference_count q g + times_named_by q x }
 {}
 
-/// Where the root is set, the object that it named has a holder fewer, and the one that it names now has one more.
+/// Where the root is set, the object that it named has a reference fewer, and the one that it names now has one more.
 pub fn set_root_moves_one_reference()
     ensures { (q : ℕ) (r : ℕ) (g : Graph) → reference_count q (with_root r g) + times_named_by q (Ref g.root) ≡ reference_count q g + times_named_by q (Ref r) }
 {}
 
-/// A new object holds none.
+/// A new object references none.
 pub fn new_object_references_none()
     ensures { (types : List (ℕ × ℕ)) (st : Stored) (g : Graph) (q : ℕ) (id : ℕ) (m : ℕ) → graph_of types st ≡ Option.Some g → q ≢ 0 → reference_count q (with_new (blank_object id m) g) ≡ reference_count q g }
 {}
 
-/// Where an object is freed, each has as many holders fewer as fields of it named it.
+/// Where an object is freed, each object has as many references fewer as fields of the freed one named it.
 pub fn freed_object_references_no_more()
     ensures { (types : List (ℕ × ℕ)) (st : Stored) (g : Graph) (q : ℕ) (s : ℕ) (o : Object) → graph_of types st ≡ Option.Some g → object_in s g ≡ Option.Some o
         → reference_count q (without_object s g) + pointers_to q o ≡ reference_count q g }
 {}
 
-/// An object is held exactly where it has a holder.
+/// An object is referenced exactly where its reference count is not 0.
 pub fn referenced_object_is_counted()
     ensures { (s : ℕ) (g : Graph) → is_referenced s g ≡ nat_lt 0 (reference_count s g) }
 {}

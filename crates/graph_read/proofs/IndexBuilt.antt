@@ -118,7 +118,7 @@ room_for n (Some k) low few = omega arith
 pub has_room : (n : ℕ) (x : Index) → HasAtMost n x → n + 1 < 2 ^ 32 → (s : ℕ) → IfSome (kept_under x s) HasRoom
 has_room n x few low s = room_for n (kept_under x s) low (few.each s)
 
--- what is listed is held by none
+-- what is listed has no reference yet
 none_held_of : (o : Option ℕ) → IfSome (option_map (kept_of 0) o) (λ k. k.references ≤ 0)
 none_held_of None = tt
 none_held_of (Some p) = omega arith
@@ -188,7 +188,7 @@ worth_named q t p some = elim (cases_eq (t.serial p) 0) [
       ∙ sym (place_names-live t p q used)
 ]
 
--- the holders in a graph are those that the slots of its pool and the root name
+-- the reference counts of a graph are those by the slots of its pool and the root
 reference_count-places : (types : List (ℕ × ℕ)) (st : Stored) (g : Graph) (q : ℕ) → graph_of types st ≡ Some g → (q ≡ 0 → ⊥)
     → places_name (table_of types st) (places_of st) q + names_one (named_by (serials_in st) (root_of st)) q ≡ reference_count q g
 unfolding reference_count

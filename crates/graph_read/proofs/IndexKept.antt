@@ -33,11 +33,11 @@ module _ (place : ℕ → Option ℕ) (count : ℕ → ℕ) (x : Index) (is : Is
   kept_by : (s p : ℕ) → place s ≡ Some p → kept_under x s ≡ Some (kept_of (count s) p)
   kept_by s p there = is.each s ∙ ap (option_map (kept_of (count s))) there
 
-  -- how many hold it
+  -- how many references it has
   pub counted_by : (s p : ℕ) → place s ≡ Some p → references_kept (kept_under x s) ≡ count s
   counted_by s p there = ap references_kept (kept_by s p there)
 
-  -- a pointer that names it may be let go, and one more may name it
+  -- a pointer that names it may be released, and one more may name it
   pub has_holder : (s p : ℕ) → place s ≡ Some p → 1 ≤ count s → HasReference (kept_under x s)
   has_holder s p there some = subst HasReference (sym (kept_by s p there)) some
 
@@ -76,7 +76,7 @@ module _ (place later : ℕ → Option ℕ) (count after : ℕ → ℕ) (s : ℕ
   other_kept : (q : ℕ) → (q ≡ s → ⊥) → kept_under x q ≡ option_map (kept_of (after q)) (later q)
   other_kept q other = is.each q ∙ recounted (count q) (after q) (place q) (λ p there. counts q p other there) ∙ ap (option_map (kept_of (after q))) (sym (others q other))
 
-  -- an object more, which none holds
+  -- an object more, which is not referenced
   pub IsIndexBy-inserted : (p : ℕ) → KeepsBut x y s (Some (unreferenced_at (slot_at_place p))) → later s ≡ Some p → after s ≡ 0 → IsIndexBy later after y
   IsIndexBy-inserted p kept there none = record {
     each = λ q. kept q ∙ elim (cases_eq q s) [
@@ -103,7 +103,7 @@ module _ (F : ℕ) (at : List (ℕ × Puddle)) (types : List (ℕ × ℕ)) (imag
   pub by_graph : IsIndexBy place (λ q. reference_count q g) x
   by_graph = subst (λ (k : Graph). IsIndexBy place (λ q. reference_count q k) x) (same_Some is.graph g (sym is.is ∙ stored)) is.index
 
-  -- an object is held where its count is not 0
+  -- an object is referenced where its count is not 0
   pub held_by_index : (s p : ℕ) → place s ≡ Some p → is_referenced s g ≡ ltb 0 (references_kept (kept_under x s))
   held_by_index s p there = held-reference_count s g ∙ ap (ltb 0) (sym (counted_by place (λ q. reference_count q g) x by_graph s p there))
 
@@ -167,7 +167,7 @@ module _ (F : ℕ) (at : List (ℕ × Puddle)) (types : List (ℕ × ℕ)) (imag
             (reference_count-new g.next_serial type_id m g (placed_used F at later g.next_serial p there) unused ∙ unnamed);
       }
 
-  -- ---- an object is freed: its fields are let go one after the other, and then its serial
+  -- ---- an object is freed: its fields are released one after the other, and then its serial is removed
 
   pub index_begins_to_free : (s : ℕ) (o : Object) → object_in s g ≡ Some o → IsIndexBy place (references_left g s o.fields) x
   index_begins_to_free s o there =

@@ -1,4 +1,4 @@
--- What is asked of a slot, field by field.
+-- The checks of a slot, field by field.
 use Rattle.std.proofs.Common.{◌≡◌, ◌≢◌, ℕ, ◌+◌, Bool, true, false, ◌&&◌, ◌||◌, List, Option, Some, None, cond, eqb, min, slice_get, refl, ap, ap₂, ◌∙◌, arith, eq-eqb, ne_eqb}
 use Rattle.pud_defs.specs.declared.space.TheConstants.{SLOT_FIELDS_WORD}
 use Rattle.pud_defs.specs.declared.records.Puddle.{Puddle}

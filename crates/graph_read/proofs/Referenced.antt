@@ -1,4 +1,4 @@
--- Who holds an object, by what was read of each slot.
+-- Whether an object is referenced, by what was read of each slot.
 use Rattle.std.proofs.Common.{◌≡◌, ℕ, Bool, true, false, not, ◌&&◌, ◌||◌, cond, eqb, nat_cmp, List, [], ◌∷◌, map, length, Option, Some, None, refl, sym, ap, ap₂, ◌∙◌}
 use Rattle.std.specs.List.{list_any, list_all}
 use Rattle.std.proofs.lemmas.Bool.{and_parts}
@@ -55,7 +55,7 @@ has_distinct types st has =
     let front = (and_parts (is_next_serial (next_serial_of st) && stands t.serial (root_of st) && serials) (all_below (places_of st) (is_sound_place (next_serial_of st) t)) graph).0 in
     (and_parts (is_next_serial (next_serial_of st) && stands t.serial (root_of st)) serials front).1
 
--- what was read of a pool that stores a graph tells who holds an object
+-- what was read of a pool that stores a graph tells whether an object is referenced
 pub held : (types : List (ℕ × ℕ)) (st : Stored) (g : Graph) (s : ℕ) (serial : ℕ → ℕ) (root : ℕ) (slots : Bool) → graph_of types st ≡ Some g → serial ≡ serials_in st → root ≡ named_by serial (root_of st)
     → slots ≡ all_below (places_of st) (place_passes (LacksPointerTo s) (with_serials serial (table_of types st))) → (eqb root s || not slots) ≡ is_referenced s g
 unfolding graph_of is_referenced

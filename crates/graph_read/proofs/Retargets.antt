@@ -3,7 +3,7 @@ use Rattle.std.proofs.Common.{◌≡◌, ℕ, Option, Some, None, IfSome, sym, s
 use Rattle.graph_read.specs.declared.index.Kept.{Kept}
 use Rattle.graph_read.specs.Index.{HasRoom, MayBeReferenced, after_release}
 
--- a holder fewer leaves room for one more
+-- a reference fewer leaves room for one more
 room_kept : (from to : ℕ) (old : Option Kept) → MayBeReferenced old → IfSome (after_release from to old) HasRoom
 room_kept from to None none = absurd none
 room_kept from to (Some k) room = omega arith

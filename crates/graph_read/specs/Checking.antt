@@ -1,4 +1,4 @@
--- What is asked of the slots of a pool, over serials that were read before.
+-- The checks of the slots of a pool, over serials that were read before.
 use Rattle.std.specs.Prelude.{ℕ, Bool, true, false, not, ◌&&◌, ◌||◌, nat_lt, List, Option, Some, None}
 use Rattle.std.specs.List.{list_all}
 use Rattle.pud_defs.specs.declared.space.TheConstants.{SLOT_SERIAL_WORD}

@@ -14,7 +14,7 @@ KeepsBut old new s now = (q : ℕ) → kept_under new q ≡ cond (nat_eq s q) no
 
 -- ---- what is kept of one serial
 
--- an object at this place that none holds yet
+-- an object at this place that is not referenced yet
 abbrev pub unreferenced_at : ℕ × ℕ → Kept
 unreferenced_at place = record { ordinal = place.0; slot = place.1; references = 0 }
 
@@ -22,25 +22,25 @@ unreferenced_at place = record { ordinal = place.0; slot = place.1; references =
 abbrev pub place_kept : Kept → ℕ × ℕ
 place_kept k = (k.ordinal, k.slot)
 
--- how many hold it, 0 where nothing is kept
+-- how many references it has, 0 where nothing is kept
 abbrev pub references_kept : Option Kept → ℕ
 references_kept None = 0
 references_kept (Some k) = k.references
 
--- the same at its place, with so many holders
+-- the same at its place, with so many references
 abbrev pub with_references : ℕ → Kept → Kept
 with_references n k = record { ordinal = k.ordinal; slot = k.slot; references = n }
 
--- it has a holder
+-- it is kept, and has a reference
 abbrev pub HasReference : Option Kept → Type 0
 HasReference None = ⊥
 HasReference (Some k) = 1 ≤ k.references
 
--- a holder more can be counted
+-- a reference more can be counted
 abbrev pub HasRoom : Kept → Type 0
 HasRoom k = k.references + 1 < 2 ^ 32
 
--- it is kept, and a holder more can be counted
+-- it is kept, and a reference more can be counted
 abbrev pub MayBeReferenced : Option Kept → Type 0
 MayBeReferenced None = ⊥
 MayBeReferenced (Some k) = HasRoom k
@@ -51,7 +51,7 @@ MayBeReferenced (Some k) = HasRoom k
 abbrev pub names_one : (named s : ℕ) → ℕ
 names_one named s = cond (named == s && not (s == 0)) 1 0
 
--- the same with so many holders more, and with so many fewer
+-- the same with so many references more, and with so many fewer
 abbrev pub with_more_references : ℕ → Kept → Kept
 with_more_references n k = with_references (k.references + n) k
 

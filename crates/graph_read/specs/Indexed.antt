@@ -19,7 +19,7 @@ use Rattle.graph_read.specs.Reading.{place_in_pool}
 abbrev pub slot_at_place : ℕ → ℕ × ℕ
 slot_at_place p = (ordinal_of p, slot_of p)
 
--- what is kept of an object at a place with so many holders
+-- what is kept of an object at a place with so many references
 abbrev pub kept_of : (n p : ℕ) → Kept
 kept_of n p = record { ordinal = ordinal_of p; slot = slot_of p; references = n }
 
@@ -27,7 +27,7 @@ kept_of n p = record { ordinal = ordinal_of p; slot = slot_of p; references = n 
 pub record IsIndexBy (place : ℕ → Option ℕ) (count : ℕ → ℕ) (x : Index) : Type 0 where
   pub each : (q : ℕ) → kept_under x q ≡ option_map (kept_of (count q)) (place q)
 
--- The index is what a scan of the pool gives: the place of each object, and how many hold it.
+-- The index is what a scan of the pool gives: the place of each object, and its reference count.
 pub record IsIndexOf (F : ℕ) (at : List (ℕ × Puddle)) (types : List (ℕ × ℕ)) (image : Image) (x : Index) : Type 0 where
   pub graph : Graph
   pub is : graph_of types (stored_in F at image) ≡ Some graph
@@ -40,7 +40,7 @@ abbrev pub serial_named : FieldValue → ℕ
 serial_named (Num v) = 0
 serial_named (Ref s) = s
 
--- how many hold an object while one is freed, of whose fields these are still to be let go
+-- how many references an object has while one is freed, of whose fields these are still to be released
 abbrev pub references_left : Graph → (freed : ℕ) → List FieldValue → ℕ → ℕ
 references_left g freed left q = reference_count q (without_object freed g) + count_by (names_serial q) left
 
@@ -50,11 +50,11 @@ references_left g freed left q = reference_count q (without_object freed g) + co
 abbrev pub after_list : (serial place s : ℕ) → Option Kept → Option Kept
 after_list serial place s kept = cond (serial == s && not (s == 0)) (Some (kept_of 0 place)) kept
 
--- Each serial that is kept has so many holders more.
+-- Each serial that is kept has so many references more.
 pub record Gains (more : ℕ → ℕ) (old new : Index) : Type 0 where
   pub each : (q : ℕ) → kept_under new q ≡ option_map (with_more_references (more q)) (kept_under old q)
 
--- Each has at most so many holders.
+-- Each has at most so many references.
 pub record HasAtMost (n : ℕ) (x : Index) : Type 0 where
   pub each : (q : ℕ) → IfSome (kept_under x q) (λ k. k.references ≤ n)
 

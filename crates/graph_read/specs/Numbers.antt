@@ -1,4 +1,4 @@
--- The sum of the numbers that a pool holds, field by field and slot by slot, and what is summed where all that is asked passes.
+-- The sum of the numbers that a pool holds, field by field and slot by slot, and what is summed where all checks pass.
 use Rattle.std.specs.Prelude.{ℕ, ◌%◌, ◌^◌, List, length, sum_by, Option, Some, None}
 use Rattle.std.specs.Bool.{then_some}
 use Rattle.std.specs.List.{range_with_len}

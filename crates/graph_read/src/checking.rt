@@ -1,4 +1,4 @@
-//! What is asked of each slot of a pool, slot by slot and field by field, and the sum of the numbers that the slots hold.
+//! The checks of each slot of a pool, slot by slot and field by field, and the sum of the numbers that the slots hold.
 
 ghost use Rattle.std.specs.Prelude.{◌≡◌, ◌+◌, ◌<◌, ◌≤◌, length, map, slice_index, Option, IfOk};
 ghost use Rattle.pm_model.specs.Words.{reads};
@@ -24,7 +24,7 @@ use pud_defs::type_map::{map_fields, map_is_pointer};
 use puddle_header::{slot_at_place, slot_field, slot_type};
 use type_maps::find;
 
-/// What is asked of a slot that is not free.
+/// A check of a slot that is not free.
 #[derive(Clone, Copy)]
 pub(crate) enum SlotCheck {
     /// Whether its serial is below this next one, its type is defined, and each of its fields stands for something.

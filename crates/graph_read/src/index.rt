@@ -1,4 +1,4 @@
-//! An index of a pool, kept in memory: where each live object stands, and how many hold it.
+//! An index of a pool, kept in memory: where each live object stands, and its reference count.
 
 ghost use Rattle.std.specs.Prelude.{◌≡◌, ◌≢◌, ℕ, true, false, Option, option_map, IfSome};
 ghost use Rattle.graph_read.specs.Index.{kept_under, KeepsBut, unreferenced_at, place_kept, references_kept, HasReference, HasRoom, MayBeReferenced, after_release, after_retain, after_retarget};
@@ -13,7 +13,7 @@ pub struct Kept {
     ordinal: u32,
     /// Its slot of that puddle, from 0 to 61.
     slot: u32,
-    /// How many pointers name it, the root among them.
+    /// The reference count: how many pointers name it, the root among them.
     references: u32,
 }
 
@@ -41,8 +41,8 @@ impl Index {
         self.map.get(&s).map(|kept| (kept.ordinal, kept.slot))
     }
 
-    /// How many hold the object of serial `s`: the pointers of live objects and the root that name it; 0 where the index does
-    /// not have it.
+    /// The reference count of the object of serial `s`: how many pointers of live objects name it, the root among them; 0 where
+    /// the index does not have it.
     pub fn references(&self, s: u64) -> u32
         ensures { result ≡ references_kept (kept_under self.now s) }
     {
@@ -52,7 +52,7 @@ impl Index {
         }
     }
 
-    /// Keeps an object that none holds yet, of serial `s`, at this ordinal and slot, in place of what was kept of the serial.
+    /// Keeps an object of serial `s` without a reference, at this ordinal and slot, in place of what was kept of the serial.
     /// False is want of memory, and then nothing changes.
     pub fn insert(&mut self, s: u64, place: (u32, u32)) -> bool
         ensures kept { result ≡ true → KeepsBut self.old self.new s (Option.Some (unreferenced_at place)) }
@@ -74,7 +74,7 @@ impl Index {
         self.map.swap_remove(&s);
     }
 
-    /// Counts a holder fewer of serial `s`, unless it is 0.
+    /// Counts a reference fewer to serial `s`, unless it is 0.
     fn release(&mut self, s: u64)
         requires held { s ≢ 0 → HasReference (kept_under self.old s) }
         ensures { (q : ℕ) → kept_under self.new q ≡ after_release s q (kept_under self.old q) }
@@ -87,7 +87,7 @@ impl Index {
         }
     }
 
-    /// Counts a holder more of serial `s`, unless it is 0 or not kept.
+    /// Counts a reference more to serial `s`, unless it is 0 or not kept.
     pub(crate) fn retain(&mut self, s: u64)
         requires room { s ≢ 0 → IfSome (kept_under self.old s) HasRoom }
         ensures { (q : ℕ) → kept_under self.new q ≡ after_retain s q (kept_under self.old q) }
@@ -101,7 +101,7 @@ impl Index {
     }
 
     /// Counts that a pointer which named serial `from` names `to` instead; 0 is null, and names none. Each of the two that is
-    /// not 0 is in the index: `from` has a holder, and `to` fewer than 2^32 - 1. No memory is taken.
+    /// not 0 is in the index: `from` has a reference, and `to` fewer than 2^32 - 1. No memory is taken.
     pub fn retarget(&mut self, from: u64, to: u64)
         requires held { from ≢ 0 → HasReference (kept_under self.old from) }
         requires room { to ≢ 0 → MayBeReferenced (kept_under self.old to) }

@@ -60,7 +60,7 @@ impl Index {
         is_free(serial) || self.insert(serial, (ordinal_of(place), slot_of(place)))
     }
 
-    /// An index of the live places among so many, none of which is held yet, or None for want of memory. The places are listed
+    /// An index of the live places among so many, without references yet, or None for want of memory. The places are listed
     /// from the last one on, so that of two with one serial the lower counts.
     fn list_all(alloc: Global, serials: &Serials, count: u32) -> Option<Index>
         requires within { count ≤ PLACES }
@@ -75,7 +75,7 @@ impl Index {
         Some(index)
     }
 
-    /// Counts what the fields of the slot at a place name, by the map of its type. At most 30 fields are read.
+    /// Counts the references that the fields of the slot at a place are, by the map of its type. At most 30 fields are read.
     fn hold_fields<H: Loads>(
         &mut self,
         h: &mut H,
@@ -102,7 +102,7 @@ impl Index {
         Ok(())
     }
 
-    /// Counts what the slot at a place names, where it is live.
+    /// Counts the references that the slot at a place has, where it is live.
     fn hold_place<H: Loads>(
         &mut self,
         h: &mut H,
@@ -131,7 +131,7 @@ impl Index {
         }
     }
 
-    /// Counts what the slots of a pool name.
+    /// Counts the references that the slots of a pool have.
     fn hold_all<H: Loads>(
         &mut self,
         h: &mut H,
@@ -154,7 +154,7 @@ impl Index {
         Ok(())
     }
 
-    /// The index of a pool that stores a graph: each object with its ordinal and slot, and with how many hold it. None is want
+    /// The index of a pool that stores a graph: each object with its ordinal and slot, and with its reference count. None is want
     /// of memory. Where the pool stores no graph, what the index has says nothing.
     ///
     /// Each serial and each field is read once. The memory is that of `alloc`, which the index keeps.

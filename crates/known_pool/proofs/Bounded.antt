@@ -1,4 +1,4 @@
--- How many hold an object of a pool: few enough to be counted, and none where the serial was not given yet.
+-- The reference count of an object of a pool: small enough to be kept, and 0 where the serial was not given yet.
 use Rattle.std.proofs.Common.{◌≡◌, ℕ, ◌+◌, ◌*◌, ◌<◌, ◌≤◌, Bool, true, false, true≢false, not, cond, eqb, ltb, leb-true, List, [], ◌∷◌, length, map, count_by, sum_by, Option, Some, None, nat_cmp, refl, sym, ap, ap₂, subst, ◌∙◌, arith, ne_eqb}
 use Rattle.std.specs.List.{AllByRecursion, list_all}
 use Rattle.std.proofs.lemmas.Bool.{and_parts, cond-false, cond_both, ltb-true}
@@ -71,7 +71,7 @@ reference_count-most types st g q is =
     let same = ap (λ (k : Graph). sum_by (λ (e : ℕ × Object). pointers_to q e.1) k.objects) h.is in
     omega (arith, sum, used, length-live t n h.graph.distinct, root, same)
 
--- ---- none of a serial that is to come
+-- ---- no reference to a serial that was not given yet
 
 module _ (types : List (ℕ × ℕ)) (st : Stored) (g : Graph) (is : graph_of types st ≡ Some g) where
   abbrev serial : ℕ → ℕ

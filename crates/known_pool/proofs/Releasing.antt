@@ -1,4 +1,4 @@
--- An index lets go what the fields of an object name, one after the other.
+-- An index releases what the fields of an object name, one after the other.
 use Rattle.std.proofs.Common.{◌≡◌, ℕ, suc, ◌+◌, ◌-◌, ◌<◌, ◌≤◌, List, ◌∷◌, map, Option, Some, None, option_map, refl, sym, ap, subst, ◌∙◌, arith}
 use Rattle.std.specs.List.{range_with_len}
 use Rattle.std.proofs.lemmas.Option.{same_Some}
@@ -32,11 +32,11 @@ module _ (F : ℕ) (at : List (ℕ × Puddle)) (image : Image) (p : ℕ) where
   abbrev fields_from : (m f count : ℕ) → List FieldValue
   fields_from m f count = map (value_of serial) (map (field_content (stored_in F at image) p m) (range_with_len f count))
 
-  -- what is left to be let go from one field on
+  -- what is left to be released from one field on
   abbrev left_from : (m f : ℕ) → List FieldValue
   left_from m f = fields_from m f (field_count m - f)
 
-  -- Each index that is kept has let go what the fields before this one name, of whatever object stands there.
+  -- Each index that is kept has released what the fields before this one name, of whatever object stands there.
   pub record LetsFirst (m f : ℕ) (index : Option (List (ℕ × Kept))) : Type 0 where
     pub each : (g : Graph) (s : ℕ) → graph_of (types_of image) (stored_in F at image) ≡ Some g → place s ≡ Some p → (x : Index) → index ≡ Some (index_entries x) → IsIndexBy place (references_left g s (left_from m f)) x
 

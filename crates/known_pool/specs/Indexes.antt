@@ -23,7 +23,7 @@ pub record Follows (change : ℕ → Option Kept → Option Kept) (old new : Opt
 abbrev pub after_move : (was now : FieldValue) → (q : ℕ) → Option Kept → Option Kept
 after_move was now q kept = after_retarget (serial_named was) (serial_named now) q kept
 
--- an object of this serial is kept in a slot, and none holds it
+-- an object of this serial is kept in a slot, without a reference
 abbrev pub after_made : (s : ℕ) → Slot → (q : ℕ) → Option Kept → Option Kept
 after_made s slot q kept = cond (nat_eq s q) (Some (unreferenced_at (slot.ordinal, slot.slot))) kept
 
@@ -32,11 +32,11 @@ pub record MayMove (was now : FieldValue) (x : Index) : Type 0 where
   pub held : serial_named was ≢ 0 → HasReference (kept_under x (serial_named was))
   pub room : serial_named now ≢ 0 → MayBeReferenced (kept_under x (serial_named now))
 
--- Each that is kept has let go what the object of this serial names.
+-- Each that is kept has released what the object of this serial names.
 pub record HasReleased (place : ℕ → Option ℕ) (g : Graph) (s : ℕ) (index : Option (List (ℕ × Kept))) : Type 0 where
   pub each : (x : Index) → index ≡ Some (index_entries x) → IsIndexBy place (references_left g s []) x
 
--- It has let go what the object of this serial names, and then the object: what it had before that is the places, and the holders without the object.
+-- It has released what the object of this serial names, and then the object: what it had before that is the places, and the references without the object.
 pub record Releases (place : ℕ → Option ℕ) (g : Graph) (s : ℕ) (now : Index) : Type 0 where
   pub before : Index
   pub left : IsIndexBy place (references_left g s []) before

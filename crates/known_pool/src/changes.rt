@@ -49,7 +49,7 @@ fn place_of_slot(pool: &[(u32, Puddle)], at: &Slot) -> u32
     place_at(at.ordinal, at.slot) as u32
 }
 
-/// Whether the index has the serial with a holder, unless it is 0.
+/// Whether the index has the serial with a reference, unless it is 0.
 fn may_release(index: &Index, s: u64) -> bool
     ensures only { result ≡ true → s ≢ 0 → HasReference (kept_under index.now s) }
     ensures may { (s ≢ 0 → HasReference (kept_under index.now s)) → result ≡ true }
@@ -57,7 +57,7 @@ fn may_release(index: &Index, s: u64) -> bool
     s == 0 || index.references(s) > 0
 }
 
-/// Whether the index has the serial and can count a holder more of it, unless it is 0.
+/// Whether the index has the serial and can count a reference more to it, unless it is 0.
 fn may_hold(index: &Index, s: u64) -> bool
     ensures only { result ≡ true → s ≢ 0 → MayBeReferenced (kept_under index.now s) }
     ensures may { (s ≢ 0 → MayBeReferenced (kept_under index.now s)) → result ≡ true }
@@ -65,8 +65,8 @@ fn may_hold(index: &Index, s: u64) -> bool
     s == 0 || (index.find(s).is_some() && index.references(s) < u32::MAX)
 }
 
-/// Counts that a pointer which had one value has the other, where an index is kept. It goes where that cannot be: where what the
-/// one value names has no holder there, or what the other names is not there.
+/// Counts that a pointer which had one value has the other, where an index is kept. The index goes where that cannot be: where what the
+/// one value names has no reference there, or what the other names is not there.
 fn retarget(index: &mut Option<Index>, was: FieldValue, now: FieldValue)
     ensures follows { Follows (after_move was now) (option_map index_entries index.old) (option_map index_entries index.new) }
     ensures kept { (x : Index) → index.old ≡ Option.Some x → MayMove was now x → is_some index.new ≡ true }
@@ -85,7 +85,7 @@ fn retarget(index: &mut Option<Index>, was: FieldValue, now: FieldValue)
     }
 }
 
-/// Lets go what the object in a slot names, where an index is kept: its fields are read.
+/// Releases what the object in a slot names, where an index is kept: its fields are read.
 fn release_fields<H: Loads>(
     index: &mut Option<Index>,
     h: &mut H,
@@ -120,7 +120,7 @@ fn release_fields<H: Loads>(
 
 impl KnownPool {
     /// The root, or a field of an object, that had one value has the other. The index goes where that cannot be: where what the one
-    /// value names has no holder there, or what the other names is not there.
+    /// value names has no reference there, or what the other names is not there.
     pub fn moved(&mut self, was: FieldValue, now: FieldValue)
         ensures follows { Follows (after_move was now) self.old.index self.new.index }
         ensures kept { (x : Index) → self.old.index ≡ Option.Some (index_entries x) → MayMove was now x → is_some self.new.index ≡ true }
@@ -148,7 +148,7 @@ impl KnownPool {
         }
     }
 
-    /// The object of serial `s` in a slot, which nothing holds, is about to be freed. Its fields are read, where an index is
+    /// The object of serial `s` in a slot, which is not referenced, is about to be freed. Its fields are read, where an index is
     /// kept.
     ///
     /// The only errors are the host's own.

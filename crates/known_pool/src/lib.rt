@@ -1,9 +1,9 @@
 //! What the daemon keeps in memory of a pool that was found to have a graph: its puddles, an index where there is memory
 //! for one, and from where on a free slot is looked for.
 //!
-//! What is asked of the pool is answered by the index where one is kept, and else by a scan: the answers are the same. Want
-//! of memory for an index changes none. Each call that reads takes the number of the device's frames, at most 1,024, on a
-//! device that has the words which so many frames need, and answers on every content of the device.
+//! Queries of the pool are answered by the index where one is kept, and else by a scan: the answers are the same. Want of memory
+//! for an index changes none. Each call that reads takes the number of the device's frames, at most 1,024, on a device that has
+//! the words which so many frames need, and answers on every content of the device.
 #![tactic(auto)]
 
 mod changes;

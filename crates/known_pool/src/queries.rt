@@ -1,4 +1,4 @@
-//! What is asked of a pool: by the index where one is kept, else by a scan.
+//! Queries of a pool: answered by the index where one is kept, else by a scan.
 
 ghost use Rattle.std.specs.Prelude.{◌≡◌, ◌<◌, ◌≤◌, ℕ, length, Option, option_map, is_none, IfOk, IfSome};
 ghost use Rattle.pm_model.specs.Words.{reads};
@@ -94,9 +94,9 @@ impl KnownPool {
         }
     }
 
-    /// Whether the root or a pointer of a live object names the object of serial `s`, where the pool stores a graph and what is
-    /// kept is so of the device: with 0 for `s`, whether one of them is null. Nothing is read where an index is kept that has
-    /// the object, and else each serial and each field once.
+    /// Whether the object of serial `s` is referenced, by the root or by a pointer of a live object, where the pool stores a graph
+    /// and what is kept is so of the device: with 0 for `s`, whether one of them is null. Nothing is read where an index is kept
+    /// that has the object, and else each serial and each field once.
     pub fn is_referenced<H: Loads>(&self, h: &mut H, frames: u32, s: u64) -> Result<bool, HostFault>
         requires few { frames ≤ MAX_FRAMES }
         requires room { device_words frames ≤ (H.counts h.old).size }

@@ -1,4 +1,4 @@
--- How many hold an object when a graph changes.
+-- Reference counts when a graph changes.
 use Rattle.std.proofs.Common.{◌≡◌, ℕ, zero, suc, ◌+◌, Bool, true, false, ◌||◌, cond, eqb, ltb, List, [], ◌∷◌, map, set, count_by, sum_by, Option, Some, None, option_map, nat_cmp, T, refl, sym, ap, ap₂, subst, ◌∙◌, arith, zero-add, ne_eqb}
 use Rattle.std.specs.Prelude.{slice_get}
 use Rattle.std.specs.List.{list_any, range_with_len}
@@ -89,7 +89,7 @@ pub reference_count-freed : (q s : ℕ) (o : Object) (g : Graph) → T (is_sorte
 unfolding reference_count
 reference_count-freed q s o g sorted there = omega (arith, sum-without (pointers_to q) s o g.objects sorted there)
 
--- ---- held or not
+-- ---- referenced or not
 
 positive_sum : (a b : ℕ) → (ltb 0 a || ltb 0 b) ≡ ltb 0 (a + b)
 positive_sum zero b = ap (ltb 0) (sym (zero-add b))
@@ -104,7 +104,7 @@ once_positive : (b : Bool) → b ≡ ltb 0 (cond b 1 0)
 once_positive true = refl
 once_positive false = refl
 
--- an object is held where it has holders
+-- an object is referenced where its reference count is not 0
 pub held-reference_count : (s : ℕ) (g : Graph) → is_referenced s g ≡ ltb 0 (reference_count s g)
 unfolding reference_count is_referenced
 held-reference_count s g =
