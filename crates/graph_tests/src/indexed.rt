@@ -1,4 +1,4 @@
-//! The index of a pool: where its objects stand, and how many hold each.
+//! The index of a pool: where its objects stand, and their reference counts.
 use crate::moved::{NEW, moved, words};
 use crate::pools::{FRAME_1, Placed, Row, SLOT_0, SLOT_BYTES, START, index_of};
 use pud_defs::records::Puddle;

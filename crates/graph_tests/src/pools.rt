@@ -1,4 +1,4 @@
-//! Pools as they are poked, what is asked of them, and what is answered.
+//! Pools as they are poked, the queries of them, and the answers.
 ghost use Rattle.std.specs.Prelude.{IsTrue};
 ghost use Rattle.pud_defs.specs.PoolGraphs.Stored.{IsOnDevice};
 
@@ -50,18 +50,18 @@ const WORDS: [Row; 8] = [
     (FRAME_2 + 2, 1),
 ];
 
-/// What is asked of a pool.
+/// A query of a pool.
 #[derive(Clone, Copy)]
 pub enum Asked {
     /// Whether it is a graph.
     Sound,
-    /// Whether the object of this serial is held.
+    /// Whether the object of this serial is referenced.
     Held(u64),
     /// What the object of this serial has in this field.
     Field(u64, u32),
 }
 
-/// What is answered.
+/// The answer to a query.
 #[derive(Clone, Copy, PartialEq, Eq)]
 pub enum Answer {
     Yes,
@@ -98,7 +98,7 @@ fn is_on_device(frames: u32, pool: &[Placed]) -> bool
     pool.len() <= MAX_PUDDLES as usize && pool.iter().all(|(frame, _)| *frame < frames)
 }
 
-/// What is answered of a pool on a device of so many frames.
+/// The answer to a query of a pool on a device of so many frames.
 fn ask<H: Host>(
     rt: &impl Abort,
     host: &mut H,
@@ -126,7 +126,7 @@ fn poked(rt: &impl Abort, alloc: Global, words: &[Row]) -> MemHost {
     host
 }
 
-/// What is answered of a pool on the smallest device, which has those words and then these.
+/// The answer to a query of a pool on the smallest device, which has those words and then these.
 pub fn asked_of(
     rt: &impl Abort,
     alloc: Global,

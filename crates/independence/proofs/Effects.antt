@@ -19,7 +19,7 @@ use Rattle.pud_defs.specs.StateMachine.Step.{name_in, graph_in, graph_seen, is_a
 use Rattle.independence.specs.Shares.{unnumbered, seen, Share, share}
 use Rattle.independence.proofs.Shares.{kept, seen_put, seen_without, seen_changed, seen_kept, seen_changed_if, committed, seen_committed, seen_read, reread, types_with, seen_typed, types_typed}
 
--- ---- what is asked of a pool asks for no number
+-- ---- what a command reads of a pool does not depend on its UUID number
 
 pub graph_in-seen : (o : Option Pool) → graph_in (seen o) ≡ graph_in o
 graph_in-seen None = refl

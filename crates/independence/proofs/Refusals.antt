@@ -114,7 +114,7 @@ contents_in-inner None = refl
 contents_in-inner (Some bytes) = refl
 
 module _ (w v : World) (c : Command) (same : LooksSame w v c) where
-  -- what asks for no number is told the same of the pool
+  -- what does not depend on the pool's UUID number is the same in both
   alike : {A : Type 0} (f : Option Pool → A) → ((o : Option Pool) → f (seen o) ≡ f o) → f (pool_for w c) ≡ f (pool_for v c)
   alike f each = sym (each (pool_for w c)) ∙ ap f same.pool ∙ each (pool_for v c)
 

@@ -77,7 +77,7 @@ record AreSame (S : Names) (F : List ℕ → Bool) (w : World) (turns : List Tur
   answers : answers_to S others ≡ answers_to S turns
   agree : Agree S F (last_world w turns) (last_world v others)
 
--- what the runs from these worlds on owe
+-- each run over the set's own lines from a world that agrees with this one is the same for the set, where it meets no limit
 abbrev FollowSame : Names → (List ℕ → Bool) → World → List Turn → Type 0
 FollowSame S F w turns = (v : World) (others : List Turn) → Agree S F w v → IsRun v others → map (λ (t : Turn). t.line) others ≡ lines_of_set S (map (λ (t : Turn). t.line) turns) → MeetNoLimit S v others → AreSame S F w turns v others
 

@@ -69,7 +69,7 @@ seen-cond : (b : Bool) (x y : Option Pool) → seen (cond b x y) ≡ cond b (see
 seen-cond true x y = refl
 seen-cond false x y = refl
 
--- a change that goes by no number is one of what is seen
+-- a change that does not depend on the UUID number is one of what is seen
 seen-mapped : (change : Pool → Pool) → ((p : Pool) → unnumbered (change p) ≡ change (unnumbered p)) → (o : Option Pool) → seen (option_map change o) ≡ option_map change (seen o)
 seen-mapped change each None = refl
 seen-mapped change each (Some p) = ap (λ (x : Pool). Some x) (each p)

@@ -17,7 +17,7 @@ is_full_by_itself w None = false
 is_full_by_itself w (Some (New client name t)) = is_full_graph (graph_for w (New client name t))
 is_full_by_itself w (Some c) = false
 
--- Power was lost, or the answer tells of what no pool has by itself: frames, logs, memory, or room in the tables and UUID numbers. It is told whether
+-- Power was lost, or the answer tells of what no pool has by itself: frames, logs, memory, or room in the tables and UUID numbers. `full` says whether
 -- the pool is full by itself.
 abbrev pub is_limit : (full : Bool) → Answer → Bool
 is_limit full (of_reply replies.Cut) = true

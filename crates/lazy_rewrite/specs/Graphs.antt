@@ -75,7 +75,7 @@ pub record MayRewrite (size : ℕ) (s : StoredWorld) (slot : ℕ) (at : List (�
   pub stop : MayStop at goal
   pub pool : IsRewritableIn size s slot at g (masked mask words)
 
--- Each image left stands for the same world, and without a fault the device is as settled as before.
+-- Each image left stands for the same world, and without a fault the device is quiescent, as it was before.
 pub record KeepsWorld (size : ℕ) (s : StoredWorld) (fault : Option HostFault) (old new : State) : Type 0 where
   pub moments : Leaves (Silently (λ image. idle_world_of size image ≡ Some s)) old new
   pub settled : fault ≡ None → IsQuiescent size s new.now.words

@@ -31,7 +31,7 @@ use pud_defs::records::{
 /// Why a puddle was not added. Nothing changed.
 #[derive(Clone, Copy, Debug, PartialEq, Eq, thiserror::Error)]
 pub enum PuddleFault {
-    /// No frame is free from the one on that was asked for.
+    /// No frame is free from the given one on.
     #[error("no frame is free")]
     NoSpace,
     /// The host's own fault.
