@@ -1,4 +1,4 @@
--- The ground of a pool: where addresses lie, which words are its own, and that it is one.
+-- The scope of a pool: where addresses lie, which words are its own, and that it is one.
 use Rattle.std.proofs.Common.{◌≡◌, inl, inr, ℕ, zero, suc, ◌+◌, ◌-◌, ◌*◌, ◌/◌, ◌%◌, ◌<◌, ◌≤◌, Bool, true, false, ◌||◌, List, [], ◌∷◌, All, map, Option, Some, None, option_map, refl, sym, ap, subst, ◌∙◌, arith, eqb, leb, ltb, eq-eqb}
 use Rattle.std.specs.Prelude.{slice_get}
 use Rattle.std.specs.List.{list_any}
@@ -142,7 +142,7 @@ pub pool_has_word-from : (F : ℕ) (at : List (ℕ × Puddle)) (k : ℕ) → IsM
 unfolding pool_has_word
 pool_has_word-from F at k m = element_passes (is_in_puddle F k) at m.ordinal m.puddle m.there (and_from _ _ (le-leb _ _ m.low) (lt-ltb _ _ m.high))
 
--- ---- the ground
+-- ---- the scope
 
 -- a base lies in the space
 pub base_below : (base : ℕ) → is_legal_base base ≡ true → base < SPACE_START + SPACE_BYTES

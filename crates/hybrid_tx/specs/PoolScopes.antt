@@ -1,4 +1,4 @@
--- The ground of a transaction on a pool: its words are those of its puddles' frames, named by global addresses.
+-- The scope of a transaction on a pool: its words are those of its puddles' frames, named by global addresses.
 use Rattle.std.specs.Prelude.{◌≡◌, ℕ, ◌+◌, ◌*◌, ◌%◌, Bool, true, ◌&&◌, nat_le, nat_lt, ◌==◌, List, [], ◌∷◌, All, map, slice_get, Option, Some, None, option_map}
 use Rattle.std.specs.List.{list_any, filter}
 use Rattle.std.specs.Option.{option_or}
@@ -44,7 +44,7 @@ is_in_puddle F k e = nat_le (frame_at F e.0) k && nat_lt k (frame_at F e.0 + FRA
 unfoldable pub pool_has_word : ℕ → List (ℕ × Puddle) → ℕ → Bool
 pool_has_word F at k = list_any (is_in_puddle F k) at
 
--- the ground of a transaction on these puddles
+-- the scope of a transaction on these puddles
 abbrev pub pool_scope : ℕ → List (ℕ × Puddle) → Scope
 pool_scope F at = record { place = pool_place F at; may_name = pool_may_name at; has_word = pool_has_word F at }
 

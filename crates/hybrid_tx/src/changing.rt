@@ -123,8 +123,8 @@ impl Tx {
     /// Gives field `f` of the object of serial `s` another value.
     ///
     /// The field is below 30, the log lies before the frames, and three units are left. Where the object is live, its
-    /// puddle is rewritten, its type has the field and the field may hold the value, the pool's graph has it so at `Ok`, and what
-    /// is asked for later stays; each image left until the transaction is committed is, with the log replayed, as at the
+    /// puddle is rewritten, its type has the field and the field may hold the value, the pool's graph has it so at `Ok`, and the
+    /// deferred values stay; each image left until the transaction is committed is, with the log replayed, as at the
     /// beginning. Where no object has the serial, or none has the one that is to be named, nothing is done. The only errors are
     /// the host's own. At most two fences.
     pub fn set<H: Host>(
@@ -283,7 +283,7 @@ impl Tx {
     /// one of the pool, or 0 where no slot is free, and then nothing is done.
     ///
     /// The log lies before the frames, and 37 units are left. Where the type is defined and the next serial is below 2^63,
-    /// the pool's graph has the object at `Ok`, and what is asked for later stays; each image left until the transaction is
+    /// the pool's graph has the object at `Ok`, and the deferred values stay; each image left until the transaction is
     /// committed is, with the log replayed, as at the beginning. Outside the log only the words of that slot and the next serial
     /// are written. The only errors are the host's own. At most two fences.
     pub fn new<H: Host>(
@@ -382,10 +382,10 @@ impl Tx {
 
     /// Frees the object of serial `s`: its slot may hold a new one from then on.
     ///
-    /// The log lies before the frames, and three units are left. Where the object is live, nothing holds it, and nothing
-    /// that is asked for later names it, the pool's graph is without it at `Ok`, and what is asked for stays; each image left
-    /// until the transaction is committed is, with the log replayed, as at the beginning. Where no object has the serial nothing
-    /// is done. The only errors are the host's own. At most two fences.
+    /// The log lies before the frames, and three units are left. Where the object is live and not referenced, and no deferred
+    /// value names it, the pool's graph is without it at `Ok`, and the deferred values stay; each image left until the
+    /// transaction is committed is, with the log replayed, as at the beginning. Where no object has the serial nothing is done.
+    /// The only errors are the host's own. At most two fences.
     pub fn free<H: Host>(
         &mut self,
         h: &mut H,
@@ -419,8 +419,8 @@ impl Tx {
     /// Makes the object of serial `s` the pool's root, or takes the root away with 0.
     ///
     /// The log lies before the frames, and three units are left. Where `s` is 0 or its object is live, and the puddle of
-    /// ordinal 0 is rewritten, it is the root of the pool's graph at `Ok`, and what is asked for later stays; each image left
-    /// until the transaction is committed is, with the log replayed, as at the beginning. Where no object has the serial, or the
+    /// ordinal 0 is rewritten, it is the root of the pool's graph at `Ok`, and the deferred values stay; each image left until
+    /// the transaction is committed is, with the log replayed, as at the beginning. Where no object has the serial, or the
     /// pool has no puddle, nothing is done. The only errors are the host's own. At most two fences.
     pub fn root<H: Host>(
         &mut self,

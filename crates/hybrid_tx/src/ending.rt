@@ -24,19 +24,18 @@ use crate::Tx;
 use pm_model::{Host, HostFault};
 
 impl Tx {
-    /// Commits the transaction: what it set and made is durable at `Ok`, and then the values that it asked for later, in turn; its
-    /// log is closed.
+    /// Commits the transaction: what it set and made is durable at `Ok`, and then the values that it deferred, in turn; its log is
+    /// closed.
     ///
     /// The log lies in the device, before the frames, and so does the puddle table of so many frames, at most 1,024. Where values
-    /// are asked for later, that table stands in front of the log, each word of it has one value, the addresses of the pool's
-    /// ranges are by it where the transaction took them to be, and the puddles in whose fields the values come are rewritten. Each
-    /// image left meanwhile is, with the log replayed, as at the beginning while its log has the range of a running one; once that
-    /// is the range of a committing one, or the log is closed, it has all that was changed and asked for. At `Ok` the range moved
-    /// when all that was changed was durable, and before any value that was asked for was given. The only errors are the host's
-    /// own.
+    /// are deferred, that table stands in front of the log, each word of it has one value, the addresses of the pool's ranges are
+    /// by it where the transaction took them to be, and the puddles whose fields get the values are rewritten. Each image left
+    /// meanwhile is, with the log replayed, as at the beginning while its log has the range of a running one; once that is the
+    /// range of a committing one, or the log is closed, it has all that was changed and deferred. At `Ok` the range moved when all
+    /// that was changed was durable, and before any deferred value was written. The only errors are the host's own.
     ///
-    /// Where no value is asked for later it takes no load, the only word written is the log's gate, and it takes three fences; else
-    /// the loads of a replay, and four fences.
+    /// Where no value is deferred it takes no load, the only word written is the log's gate, and it takes three fences; else the
+    /// loads of a replay, and four fences.
     pub fn commit<H: Host>(self, h: &mut H, frames: u32) -> Result<(), HostFault>
         requires log { self.log.gate_at + LOG_WORDS ≤ (H.counts h.old).size }
         requires tables { HasPuddleTable frames (H.counts h.old).size }
@@ -61,7 +60,7 @@ impl Tx {
     /// of that table has one value, and the addresses of the pool's ranges are by it where the transaction took them to be. Each
     /// image left meanwhile is, with the log replayed, as at the beginning. The only errors are the host's own.
     ///
-    /// Where nothing was set, made or asked for it takes no load, and one fence; else the loads of a replay, and two fences.
+    /// Where nothing was set, made or deferred it takes no load, and one fence; else the loads of a replay, and two fences.
     pub fn abort<H: Host>(self, h: &mut H, frames: u32) -> Result<(), HostFault>
         requires log { self.log.gate_at + LOG_WORDS ≤ (H.counts h.old).size }
         requires tables { HasPuddleTable frames (H.counts h.old).size }
@@ -95,7 +94,7 @@ impl Tx {
         self.words.at()
     }
 
-    /// Whether values are asked for that come at the commit. No device is touched.
+    /// Whether values are deferred, which the commit writes. No device is touched.
     pub fn defers(&self) -> bool
         ensures { result ≡ (self.now).log.defers }
     {

@@ -1,4 +1,4 @@
-//! What is asked for within a transaction and comes when it is committed: values of fields, and whether one names an object.
+//! Values of fields that a transaction defers until it is committed, and whether one of them names an object.
 #![tactic(auto)]
 
 ghost use Rattle.std.specs.Prelude.{◌≡◌, ◌≢◌, ◌⊎◌, ◌+◌, ◌<◌, ◌≤◌, ◌++◌, ◌∷◌, [], ℕ, List, true, false, All, map, Option, IfOk, IfSome, length};
@@ -86,7 +86,7 @@ fn field_of(pool: &[(u32, Puddle)], address: u64) -> Option<(Slot, u32)>
     None
 }
 
-/// Whether an entry asks for the value of a field, and has the object of serial `s`, whose slot has this address, as the field's
+/// Whether an entry defers the value of a field, and has the object of serial `s`, whose slot has this address, as the field's
 /// object or as the value.
 fn names<H: Host>(
     h: &mut H,
@@ -128,13 +128,13 @@ fn names<H: Host>(
 }
 
 impl Tx {
-    /// Asks for another value of field `f` of the object of serial `s`: it comes when the transaction is committed, behind what is
-    /// set and what was asked for before.
+    /// Defers another value of field `f` of the object of serial `s`: the field gets it when the transaction is committed, after
+    /// what is set and what was deferred before.
     ///
-    /// The field is below 30, the log lies before the frames, and three units are left. Where the object is live, its
-    /// type has the field and the field may hold the value, it is asked for at `Ok`; the pool's graph stays, and each image left
-    /// until the transaction is committed is, with the log replayed, as at the beginning. Where no object has the serial, or none
-    /// has the one that is to be named, nothing is done. The only errors are the host's own. Two fences.
+    /// The field is below 30, the log lies before the frames, and three units are left. Where the object is live, its puddle is
+    /// rewritten, its type has the field and the field may hold the value, the value is deferred at `Ok`; the pool's graph stays,
+    /// and each image left until the transaction is committed is, with the log replayed, as at the beginning. Where no object has
+    /// the serial, or none has the one that is to be named, nothing is done. The only errors are the host's own. Two fences.
     pub fn later<H: Host>(
         &mut self,
         h: &mut H,
@@ -169,9 +169,9 @@ impl Tx {
         }
     }
 
-    /// Asks for the value for which the word stands, of field `f` of the object in a slot, as `later` does, but for the search.
+    /// Defers the value for which the word stands, of field `f` of the object in a slot, as `later` does, but for the search.
     ///
-    /// The field is below 30, the log lies before the frames, and three units are left. What it asks for is said for each serial that the slot
+    /// The field is below 30, the log lies before the frames, and three units are left. What it defers is said for each serial that the slot
     /// has, and each value for which the word stands. Two fences.
     pub fn later_at<H: Host>(
         &mut self,
@@ -202,7 +202,7 @@ impl Tx {
         self.defer_in_frame(h, pool, at.ordinal, field, word)
     }
 
-    /// Whether a value that is asked for later is one of a field of the object of serial `s`, or names that object.
+    /// Whether a deferred value is one of a field of the object of serial `s`, or names that object.
     ///
     /// The log lies in the device, and the serial is not 0. Where no object has it the answer is no. Nothing changes, and the only
     /// errors are the host's own. It looks the object up, and then reads the log's entries, up to the first that names it.

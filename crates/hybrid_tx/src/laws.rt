@@ -59,27 +59,27 @@ pub fn stored_word_is_the_root()
         → graph_of types (stored_in frames at (overwritten (placed (frame_at frames first.0 + ROOT_WORD) (v ∷ [])) image)) ≡ Option.Some (with_root s g) }
 {}
 
-/// A slot whose serial is cleared is no object any more, where nothing held it.
+/// A slot whose serial is cleared is no object any more, where its object was not referenced.
 pub fn cleared_serial_frees_the_object()
     ensures { (types : List (ℕ × ℕ)) (frames : ℕ) (at : List (ℕ × Puddle)) (image : Image) (g : Graph) → graph_of types (stored_in frames at image) ≡ Option.Some g
         → ArePlacedPuddles frames at → (s : ℕ) (slot : Slot) → IsSlotOf at slot → place_in_pool frames at image s ≡ Option.Some (place_of_slot slot) → is_referenced s g ≡ false
         → graph_of types (stored_in frames at (overwritten (placed (serial_word_at frames slot) (0 ∷ [])) image)) ≡ Option.Some (without_object s g) }
 {}
 
-/// The redo entries of what is asked for later, written in turn over an image, make its graph the one with what is asked for.
+/// The redo entries of the deferred values, written in turn over an image, make its graph the one with these values.
 pub fn deferred_entries_make_the_graph()
     ensures { (frames : ℕ) (at : List (ℕ × Puddle)) (types : List (ℕ × ℕ)) → ArePlacedPuddles frames at → (deferred : List DeferredValue) (redo : List Entry) (image : Image) (now : Graph)
         → graph_of types (stored_in frames at image) ≡ Option.Some now → AreDeferredEntries frames at types image now deferred redo
         → graph_of types (stored_in frames at (written_in_turn (pool_place frames (finished_of at)) redo image)) ≡ Option.Some (with_deferred_set deferred now) }
 {}
 
-/// Behind a call within a transaction on a pool that did not fail one is open, on the next graph, with what is asked for later.
+/// Behind a call within a transaction on a pool that did not fail one is open, on the next graph, with the deferred values.
 pub fn transaction_stays_open()
     ensures { (frames : ℕ) (at : List (ℕ × Puddle)) (types : List (ℕ × ℕ)) (log : OpenLog) (before : Image) (graph_before : Graph) (next : Graph) (deferred : List DeferredValue) (old : State) (new : State)
         → KeepsOpenOn frames at types log before graph_before next deferred Option.None old new → IsOpenOn frames at types log before graph_before next deferred new.now.words }
 {}
 
-/// With the log replayed an image has the graph of the words that it settles to, where the words of the puddles that are not finished are these too.
+/// With the log replayed an image has the graph of the words that it recovers to, where the words of the puddles that are not finished are these too.
 pub fn settled_pool_has_the_graph()
     ensures { (frames : ℕ) (at : List (ℕ × Puddle)) (types : List (ℕ × ℕ)) (size : ℕ) (log : ℕ) (values : Image) (image : Image) (g : Graph) → IsScope size log (pool_scope frames (finished_of at))
         → RecoversTo (pool_scope frames (finished_of at)) log values image → ((k : ℕ) → pool_has_word frames at k ≡ true → pool_has_word frames (finished_of at) k ≡ false → image k ≡ values k)
@@ -92,7 +92,7 @@ pub fn committed_pool_is_at_rest()
         → CommitsOnPool frames at types log before graph_before next Option.None old new → IsAtRest frames at types log next new.now.words }
 {}
 
-/// Where a transaction was undone none is open any more, and the pool has the graph from the beginning.
+/// Where a transaction was undone none is open any more, and the pool has the graph before the transaction.
 pub fn undone_pool_is_at_rest()
     ensures { (frames : ℕ) (at : List (ℕ × Puddle)) (types : List (ℕ × ℕ)) (log : ℕ) (before : Image) (graph_before : Graph) (old : State) (new : State)
         → AbortsOnPool frames at types log before graph_before Option.None old new → IsAtRest frames at types log graph_before new.now.words }

@@ -8,8 +8,8 @@
 //! frames need, and the pool: the frames and the records of its puddles by their ordinals, at most 16. They answer on every
 //! content of the device; the only errors are the host's own.
 //!
-//! What is defined and proved lies in two rooms: `Objects` has the calls on objects and `laws`, `Open` what an image stands for
-//! that is left while pools have open transactions, and `open_laws`.
+//! The definitions and proofs have two parts: `Objects` is about the calls on objects, and has the laws in `laws`; `Open` says
+//! what an image stands for that is left while pools have open transactions, and has the laws in `open_laws`.
 #![tactic(auto)]
 
 mod changing;

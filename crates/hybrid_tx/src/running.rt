@@ -157,7 +157,7 @@ impl Tx {
         self.put(h, address, frame_at(frames, frame) + word, vals)
     }
 
-    /// Asks for a value in word `word` of a puddle's frame.
+    /// Defers a value of word `word` of a puddle's frame.
     pub(crate) fn defer_in_frame<H: Host>(
         &mut self,
         h: &mut H,

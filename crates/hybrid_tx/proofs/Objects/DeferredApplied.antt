@@ -1,4 +1,4 @@
--- A transaction on a pool that asked for values later is committed: its redo entries make the graph with them.
+-- A transaction on a pool that deferred values is committed: its redo entries make the graph with them.
 use Rattle.std.proofs.Common.{◌≡◌, ℕ, ◌+◌, List, [], ◌∷◌, Option, Some, sym, ap, subst, ◌∙◌, arith}
 use Rattle.std.proofs.lemmas.Option.{same_Some}
 use Rattle.pm_model.specs.Changes.{placed}
@@ -66,7 +66,7 @@ module _ (F : ℕ) (at : List (ℕ × Puddle)) (types : List (ℕ × ℕ)) (is_p
     others_stay : (ls : List DeferredValue) (es : List Entry) → AreDeferredEntries F at types image now ls es → AreDeferredEntries F at types behind (with_deferred_value l now) ls es
     others_stay ls es are = AreDeferredEntries-kept F at types image behind now (with_deferred_value l now) places_stay (KeepsObjects-field l.s l.f l.x now) ls es are
 
-  -- the entries written in turn make the graph with what is asked for
+  -- the entries written in turn make the graph with the deferred values
   pub laters_applied : (deferred : List DeferredValue) (redo : List Entry) (image : Image) (now : Graph) → graph_of types (stored_in F at image) ≡ Some now → AreDeferredEntries F at types image now deferred redo
       → graph_of types (stored_in F at (written_in_turn (pool_place F (finished_of at)) redo image)) ≡ Some (with_deferred_set deferred now)
   laters_applied [] [] image now is are = is

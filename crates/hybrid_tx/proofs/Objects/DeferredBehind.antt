@@ -1,4 +1,4 @@
--- What is asked for later stays so when a field or the root is set and when an object is made.
+-- The deferred values stay so when a field or the root is set and when an object is made.
 use Rattle.std.proofs.Common.{◌≡◌, inl, inr, ℕ, ◌+◌, ◌<◌, cond, eqb, List, [], ◌∷◌, Option, Some, None, option_map, nat_cmp, refl, sym, ap, ◌∙◌, arith, eq-eqb, ne_eqb}
 use Rattle.std.specs.Prelude.{slice_get}
 use Rattle.std.specs.FinMap.Entries.{find, put, find-put}
@@ -96,7 +96,7 @@ module _ (types : List (ℕ × ℕ)) (st : Stored) (g : Graph) (is : graph_of ty
   pub serial_of_live : (s : ℕ) (o : Object) → object_in s g ≡ Some o → IsSerial g s
   serial_of_live s o live = serial_at s o (place_of_serial s (table_of types st) (places_of st)) refl (sym (object_in-place types st g s is) ∙ live)
 
--- ---- places, when a word is written that holds no serial
+-- ---- places, when a word is written that has no serial
 
 -- the word of a frame is that of no slot's serial
 abbrev IsNoSerial : (k : ℕ) → Type 0

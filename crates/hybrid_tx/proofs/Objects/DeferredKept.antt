@@ -1,4 +1,4 @@
--- What is asked for later stays so while the pool's objects stay where they are, of their types.
+-- The deferred values stay so while the pool's objects stay where they are, of their types.
 use Rattle.std.proofs.Common.{◌≡◌, inl, inr, ℕ, zero, suc, ◌<◌, true, false, cond, eqb, List, [], ◌∷◌, ◌++◌, length, Option, Some, None, is_some, option_map, nat_cmp, refl, sym, ap, ◌∙◌, arith, eq-eqb, ne_eqb}
 use Rattle.std.specs.Prelude.{slice_get}
 use Rattle.std.proofs.lemmas.Bool.{cases_eq, cond-true, cond-false}
@@ -109,7 +109,7 @@ address_by at q e there =
     ap (λ (o : Option Puddle). address_in o (slot_of q))
     (slice_get-map (λ (d : ℕ × Puddle). d.1) at (ordinal_of q) ∙ ap (option_map (λ (d : ℕ × Puddle). d.1)) there)
 
--- ---- what is asked for
+-- ---- deferred values
 
 module _ (F : ℕ) (at wide : List (ℕ × Puddle)) (types more : List (ℕ × ℕ)) (i j : Image) (now next : Graph) (keeps : KeepsFinished at wide) (defined : KeepsTypes types more)
     (places : KeepsPlaces F at wide i j now) (objects : KeepsObjects now next) where
@@ -181,7 +181,7 @@ AreDeferredEntries-more F at types image now l e later [] (d ∷ ds) are = absur
 AreDeferredEntries-more F at types image now l e later (k ∷ ks) [] are = absurd are
 AreDeferredEntries-more F at types image now l e later (k ∷ ks) (d ∷ ds) are = (are.0, AreDeferredEntries-more F at types image now l e later ks ds are.1)
 
--- where nothing is asked for there is no entry
+-- where nothing is deferred there is no entry
 pub AreDeferredEntries-none : (F : ℕ) (at : List (ℕ × Puddle)) (types : List (ℕ × ℕ)) (image : Image) (now : Graph) (deferred : List DeferredValue) (redo : List Entry) → deferred ≡ [] → AreDeferredEntries F at types image now deferred redo
     → redo ≡ []
 AreDeferredEntries-none F at types image now [] [] none are = refl

@@ -1,4 +1,4 @@
--- Whether a redo entry of what is asked for later names an object, by its address and its value; and all of them in turn.
+-- Whether the redo entry of a deferred value names an object, by its address and its value; and all of them in turn.
 use Rattle.std.proofs.Common.{◌≡◌, ◌⊎◌, inl, inr, ℕ, ◌+◌, ◌%◌, ◌<◌, Bool, true, false, ◌||◌, cond, eqb, List, [], ◌∷◌, map, length, Option, Some, None, option_map, refl, sym, ap, ap₂, subst, ◌∙◌, arith, eq-eqb, ne_eqb}
 use Rattle.std.specs.Prelude.{slice_get}
 use Rattle.std.proofs.lemmas.Bool.{cases_eq, cond-true, cond-false}
@@ -199,7 +199,7 @@ value_found image found address v is =
 
 -- ---- all entries, in turn
 
--- What is left to read of the log asks for the last of what is asked for later; whether one of all names the serial goes by these alone.
+-- What is left to read of the log has the last of the deferred values; whether one of all names the serial goes by these alone.
 pub record NamesRest (F : ℕ) (at : List (ℕ × Puddle)) (types : List (ℕ × ℕ)) (image : Image) (now : Graph) (s : ℕ) (r : Reading) (whole : Bool) : Type 0 where
   pub rest : List Entry
   pub left : entries_left image r ≡ Some rest
@@ -207,7 +207,7 @@ pub record NamesRest (F : ℕ) (at : List (ℕ × Puddle)) (types : List (ℕ ×
   pub are : AreDeferredEntries F at types image now ls (deferred_entries rest)
   pub same : deferred_set_names s ls ≡ whole
 
--- the entry asks for one of them, or for nothing
+-- the entry defers one of them, or none
 pub record NamesOne (F : ℕ) (at : List (ℕ × Puddle)) (types : List (ℕ × ℕ)) (image : Image) (now : Graph) (s : ℕ) (r : Reading) (e : Entry) (whole : Bool) : Type 0 where
   pub l : DeferredValue
   pub later : IsDeferredEntry F at types image now l e

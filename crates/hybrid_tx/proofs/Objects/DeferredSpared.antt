@@ -1,4 +1,4 @@
--- What is asked for later stays so when an object goes that it does not name.
+-- The deferred values stay so when an object is freed that none of them names.
 use Rattle.std.proofs.Common.{◌≡◌, inl, inr, ℕ, false, not, cond, eqb, List, [], ◌∷◌, Option, Some, None, is_some, nat_cmp, refl, sym, ap, ◌∙◌, arith, eq-eqb, ne_eqb}
 use Rattle.std.specs.Ordering.{eq_by_cmp}
 use Rattle.std.specs.List.{list_any}

@@ -1,4 +1,4 @@
--- Words of frames are kept and written, or asked for, by the puddles' ordinals.
+-- Words of frames are kept and written, or their values deferred, by the puddles' ordinals.
 use Rattle.std.proofs.Common.{◌≡◌, inl, inr, ℕ, ◌+◌, ◌*◌, ◌%◌, ◌^◌, ◌<◌, ◌≤◌, true, List, [], ◌∷◌, ◌++◌, length, Option, Some, None, Result, Ok, Err, IfOk, sym, ap, ap₂, subst, ◌∙◌, arith}
 use Rattle.std.specs.Prelude.{slice_get}
 use Rattle.pm_model.specs.declared.host.HostFault.{HostFault}
@@ -65,7 +65,7 @@ no_wrap base word legal below =
 
 -- ---- calls in turn
 
--- what failed did not do what was to come behind it
+-- a call that failed did nothing of what was to follow it
 pub KeepsSaving-failed : (F : ℕ) (at : List (ℕ × Puddle)) (log behind : OpenLog) (before : Image) (redo : List Entry) (same : behind.gate_at ≡ log.gate_at) (write later : Write) (fault : HostFault) (old new : State)
     → KeepsSaving F at log before redo write (Some fault) old new → KeepsSaving F at behind before redo later (Some fault) old new
 KeepsSaving-failed F at log behind before redo same write later fault old new s =
@@ -136,7 +136,7 @@ PutsAt F at o word vals log behind fault old new =
     (e : ℕ × Puddle) → slice_get at o ≡ Some e → e.1.frontier ≡ steps_of e.1 → (b : Image) (redo : List Entry) → IsSaving F (finished_of at) log b redo old.now.words
     → KeepsSaving F (finished_of at) behind b redo (placed (frame_at F e.0 + word) vals) fault old new
 
--- ---- a value asked for in a frame
+-- ---- a value of a word of a frame is deferred
 
 -- by the log behind the call, which at Ok has one entry more
 pub KeepsSaving-asked : (F size : ℕ) (at : List (ℕ × Puddle)) (word : ℕ) (e : ℕ × Puddle) (o : ℕ) (log now : OpenLog) (before : Image) (redo : List Entry) (address value : ℕ) (result : Result (Unit {0}) HostFault) (old new : State)

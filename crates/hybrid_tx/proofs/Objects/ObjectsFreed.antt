@@ -1,4 +1,4 @@
--- The serial of an object that nothing holds is cleared in an image of a pool: its graph is without the object.
+-- The serial of an object that is not referenced is cleared in an image of a pool: its graph is without the object.
 use Rattle.std.proofs.Common.{◌≡◌, ℕ, ◌+◌, ◌<◌, false, List, [], ◌∷◌, Some, sym, ap, ap₂, ◌∙◌, arith}
 use Rattle.pm_model.specs.Changes.{placed}
 use Rattle.pud_defs.specs.declared.layout.TheConstants.{FRAME_WORDS}

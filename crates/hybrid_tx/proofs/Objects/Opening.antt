@@ -74,7 +74,7 @@ module _ (F size : ℕ) (at : List (ℕ × Puddle)) (types : List (ℕ × ℕ)) 
         are = tt;
       }
 
-  -- words that are written make the graph that images have over which they are written, and so of what is asked for later
+  -- words that are written make the graph that images have over which they are written, and so of the deferred values
   pub RunsOn-saves : (log behind : OpenLog) (graph_before now next : Graph) (deferred more : List DeferredValue) (redo : List Entry) (write : Write) (fault : Option HostFault) (old new : State)
       → IsScope size behind.gate_at (pool_scope F at) → IsOpenOn F at types log before graph_before now deferred old.now.words → KeepsSaving F (finished_of at) behind before redo write fault old new
       → graph_of types (stored_in F at (overwritten write (reads old.now.words))) ≡ Some next → AreDeferredEntries F at types (overwritten write (reads old.now.words)) next more redo
@@ -92,7 +92,7 @@ module _ (F size : ℕ) (at : List (ℕ × Puddle)) (types : List (ℕ × ℕ)) 
         are = λ none. AreDeferredEntries-stored F at types (overwritten write (reads old.now.words)) (reads new.now.words) next (stored none) more redo are;
       }
 
-  -- what is saved and written, or asked for, behind calls that only read
+  -- what is saved and written, or deferred, behind calls that only read
   pub RunsOn-write : (log behind : OpenLog) (graph_before now next : Graph) (deferred more : List DeferredValue) (redo : List Entry) (write : Write) (fault : Option HostFault) (old mid new : State)
       → ArePlacedPuddles F at → device_words F ≤ size → log.gate_at + LOG_WORDS ≤ frames_at F → behind.gate_at ≡ log.gate_at → mid ≡ old → (is_open : IsOpenOn F at types log before graph_before now deferred old.now.words)
       → (IsSaving F (finished_of at) log before is_open.redo mid.now.words → KeepsSaving F (finished_of at) behind before redo write fault mid new)

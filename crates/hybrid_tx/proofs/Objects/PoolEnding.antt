@@ -1,4 +1,4 @@
--- A transaction on a pool ends, and what images left meanwhile settle to.
+-- A transaction on a pool ends, and what images left meanwhile recover to.
 use Rattle.std.proofs.Common.{◌≡◌, ◌≢◌, inl, inr, ℕ, ◌+◌, ◌≤◌, Bool, true, false, List, [], Option, Some, None, refl, sym, ap, subst, ◌∙◌}
 use Rattle.std.specs.Prelude.{unwrap_or}
 use Rattle.std.proofs.lemmas.Bool.{cases_Bool}
@@ -31,7 +31,7 @@ use Rattle.hybrid_tx.proofs.Objects.DeferredKept.{AreDeferredEntries-none}
 use Rattle.hybrid_tx.proofs.Objects.DeferredApplied.{laters_applied}
 use Rattle.hybrid_tx.proofs.Open.OwnEntries.{new_value_own}
 
--- a value that comes to own words alone is none where a word is none of them
+-- where only own words get values, a word that is none of them gets none
 off_own : (write : Option ℕ) (mine : Bool) → ((v : ℕ) → write ≡ Some v → mine ≡ true) → mine ≡ false → (w : ℕ) → unwrap_or write w ≡ w
 off_own None mine own other w = refl
 off_own (Some v) mine own other w = absurd (let it : true ≡ false = sym (own v refl) ∙ other in cc)
@@ -47,7 +47,7 @@ module _ (F size : ℕ) (at : List (ℕ × Puddle)) (types : List (ℕ × ℕ)) 
   own_ground : IsScope size log.gate_at own
   own_ground = is_ground F size log.gate_at (finished_of at) (finished_placed F at is_placed) device apart
 
-  -- what is asked for is the redo entries in turn
+  -- the deferred values are those of the redo entries in turn
   in_turn : after ≡ written_in_turn (pool_place F (finished_of at)) is_open.redo (reads old.now.words)
   in_turn =
       let s = is_open.saving in
@@ -98,7 +98,7 @@ module _ (F : ℕ) (at : List (ℕ × Puddle)) (types : List (ℕ × ℕ)) where
       → (k : ℕ) → pool_has_word F at k ≡ true → P k
   each_mine P own others k mine = elim (cases_Bool (pool_has_word F (finished_of at) k)) [ inl here ↦ own k here | inr other ↦ others k mine other ]
 
-  -- with the log replayed the pool has the graph of what the image settles to
+  -- with the log replayed the pool has the graph of what the image recovers to
   pub settled_graph : (size log : ℕ) (values image : Image) (g : Graph) → IsScope size log (pool_scope F (finished_of at)) → RecoversTo (pool_scope F (finished_of at)) log values image
       → ((k : ℕ) → pool_has_word F at k ≡ true → pool_has_word F (finished_of at) k ≡ false → image k ≡ values k)
       → graph_of types (stored_in F at values) ≡ Some g → graph_of types (stored_in F at (replayed (pool_place F (finished_of at)) (log_of image log) image)) ≡ Some g

@@ -82,7 +82,7 @@ module _ (F : ℕ) (p : OpenPool) (before image : Image) (opened : IsOpenPool F 
       (λ q. owner_by (e0 q) (e1 q) (e2 q)) ∙ opened.owned
 
   module _ (next : ℕ) (sound : HasSoundTables next (tables_of F image)) where
-    -- the puddles lie as those of a ground
+    -- the puddles lie as those of a scope
     pub open_placed : ArePlacedPuddles F (finished_of p.puddles)
     open_placed =
         subst (λ (n : ℕ). ArePlacedPuddles n (finished_of p.puddles)) (frames_of_tables F image)
@@ -97,7 +97,7 @@ module _ (F : ℕ) (p : OpenPool) (before image : Image) (opened : IsOpenPool F 
     open_ground : IsScope (device_words F) (log_number_at F p.log_number) (pool_scope F (finished_of p.puddles))
     open_ground = let few = opened.known in is_ground F (device_words F) (log_number_at F p.log_number) (finished_of p.puddles) open_placed (omega arith) (omega arith)
 
-    -- where it settles to the values from the beginning, its log is allowed and gives them
+    -- where it recovers to the values from the beginning, its log is allowed and gives them
     pub gives_own : RecoversTo (pool_scope F (finished_of p.puddles)) (log_number_at F p.log_number) before image → GivesOwn F p before image
     gives_own s =
         let log = log_of image (log_number_at F p.log_number) in
@@ -109,7 +109,7 @@ module _ (F : ℕ) (p : OpenPool) (before image : Image) (opened : IsOpenPool F 
           settled = λ w mine. ap (λ (o : Option ℕ). unwrap_or o (image w)) (same w) ∙ s.settled w mine;
         }
 
--- the puddles that sound tables have of a pool lie as those of a ground
+-- the puddles that sound tables have of a pool lie as those of a scope
 pub placed_by_tables : (next F : ℕ) (image : Image) (slot : ℕ) (at : List (ℕ × Puddle)) → HasSoundTables next (tables_of F image) → puddles_in_turn (tables_of F image) slot ≡ at → ArePlacedPuddles F at
 placed_by_tables next F image slot at sound is =
     subst (λ puddles. ArePlacedPuddles F puddles) is

@@ -1,4 +1,4 @@
--- An image that is left while transactions are open, beside the masked one: both settle to the same, and neither has a log that is refused.
+-- An image that is left while transactions are open, beside the masked one: a start leaves the same of both, and refuses no log of either.
 use Rattle.std.proofs.Common.{◌≡◌, ◌≢◌, ◌⊎◌, inl, inr, ℕ, zero, suc, ◌+◌, ◌*◌, ◌<◌, true, false, not, Option, Some, None, refl, sym, ap, ◌∙◌, arith}
 use Rattle.std.specs.Prelude.{unwrap_or, nat_le, nat_lt}
 use Rattle.std.proofs.lemmas.Bool.{cases_Bool, cases_eq, cases_lt, cond-false, and_from, le-leb, lt-ltb}
@@ -184,7 +184,7 @@ module _ (F : ℕ) (opens : Opens) (d m : Image) (are : AreOpenPools F opens) (l
             frames = λ n o there. none n (known n o there) o there;
           }))
 
-      -- where each registered log is closed in the masked image, both settle to the same beside the clients' logs
+      -- where each registered log is closed in the masked image, a start leaves the same of both beside the clients' logs
       pub settled_alike : (w : ℕ) → is_in_logs F w ≡ false → settled_over F d w ≡ settled_over F m w
       unfolding settled_over
       settled_alike w outside =

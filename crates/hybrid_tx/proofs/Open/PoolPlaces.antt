@@ -1,4 +1,4 @@
--- A pool's puddles in sound tables: they lie as those of a ground, whose places are those of the tables, and apart from those of another pool.
+-- A pool's puddles in sound tables: they lie as those of a scope, whose places are those of the tables, and apart from those of another pool.
 use Rattle.std.proofs.Common.{◌≡◌, ◌≢◌, inl, inr, ℕ, ◌%◌, ◌≤◌, true, false, List, length, map, get_or, Option, Some, None, option_map, refl, sym, ap, ◌∙◌, arith}
 use Rattle.std.specs.Prelude.{All, slice_get}
 use Rattle.std.proofs.lemmas.Bool.{cases_Bool}
@@ -91,11 +91,11 @@ module _ (next : ℕ) (t : Tables) (sound : HasSoundTables next t) (slot : ℕ) 
     are_legal : All (λ (e : ℕ × Puddle). is_legal_base e.1.base ≡ true) at
     are_legal n d below = legal_of_puddle n (get_or at n d) (slice_get-get_or at n d below)
 
-    -- so they lie as those of a ground
+    -- so they lie as those of a scope
     pub placed_of_puddles : ArePlacedPuddles t.frames at
     placed_of_puddles = record { on_device = on_device_of_puddles t slot at are; frames = are.apart; legal = are_legal; bases = are_bases }
 
-    -- what the ground may name lies where the tables have it
+    -- what the scope may name lies where the tables have it
     named_place : (address count : ℕ) → IsNamed at address count → puddle_word t address ≡ pool_place t.frames at address
     named_place address count named =
         let e = named.puddle in

@@ -1,4 +1,4 @@
--- Addresses of fields, by which redo entries name what is asked for.
+-- Addresses of fields, by which redo entries name the fields of deferred values.
 use Rattle.std.specs.Prelude.{◌≡◌, ℕ, ◌+◌, ◌*◌, ◌<◌, List}
 use Rattle.pud_defs.specs.declared.layout.TheConstants.{MAX_FIELDS}
 use Rattle.pud_defs.specs.Formats.Geometry.{slots_of, slot_at}

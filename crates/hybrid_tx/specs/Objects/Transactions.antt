@@ -67,15 +67,15 @@ pub record IsRewrittenFor (F : ℕ) (at : List (ℕ × Puddle)) (image : Image) 
 pub record IsRewrittenAtLowest (F : ℕ) (at : List (ℕ × Puddle)) (image : Image) : Type 0 where
   pub each : (slot : Slot) → IsSlotOf at slot → IsLowestFreeSlot (stored_in F at image) (place_of_slot slot) → IsRewrittenAt at slot.ordinal
 
--- The object of a serial is live, and nothing holds it: neither the root nor a pointer field of an object, itself included, names it.
+-- The object of a serial is live, and not referenced: neither the root nor a pointer field of an object, itself included, names it.
 pub record MayFree (g : Graph) (s : ℕ) : Type 0 where
   pub object : Object
   pub live : object_in s g ≡ Some object
   pub spared : is_referenced s g ≡ false
 
--- ---- what is asked for later
+-- ---- deferred values
 
--- By this image of the pool, which has the graph, the redo entry is that of what is asked for: it names the word of the field, and has the word that
+-- By this image of the pool, which has the graph, the redo entry is that of the deferred value: it names the word of the field, and has the word that
 -- stands for the value; the field may be set so; and the puddle is finished.
 pub record IsDeferredEntry (F : ℕ) (at : List (ℕ × Puddle)) (types : List (ℕ × ℕ)) (image : Image) (now : Graph) (l : DeferredValue) (e : Entry) : Type 0 where
   pub slot : Slot
@@ -87,13 +87,13 @@ pub record IsDeferredEntry (F : ℕ) (at : List (ℕ × Puddle)) (types : List (
   pub may : MaySet types now l.s l.f l.x
   pub is : e ≡ redo_entry (of.puddle.base + WORD_BYTES * field_word slot l.f) (value ∷ [])
 
--- each of the entries is that of what is asked for in its place
+-- each of the entries is that of the deferred value at its place
 abbrev pub AreDeferredEntries : (F : ℕ) → List (ℕ × Puddle) → List (ℕ × ℕ) → Image → Graph → List DeferredValue → List Entry → Type 0
 AreDeferredEntries F at types image now deferred redo = AllZip (IsDeferredEntry F at types image now) deferred redo
 
 -- ---- what is known between calls
 
--- A transaction on the words of these puddles' frames is open, which saves words by what they held at the beginning, and asks for others by these redo
+-- A transaction on the words of these puddles' frames is open, which saves words by what they held at the beginning, and defers values by these redo
 -- entries, the oldest first.
 pub record IsSaving (F : ℕ) (at : List (ℕ × Puddle)) (log : OpenLog) (before : Image) (redo : List Entry) (words : Words) : Type 0 where
   pub es : List Entry
@@ -104,9 +104,9 @@ pub record IsSaving (F : ℕ) (at : List (ℕ × Puddle)) (log : OpenLog) (befor
 pub record RestsAs (F : ℕ) (at : List (ℕ × Puddle)) (before : Image) (words : Words) : Type 0 where
   pub each : (k : ℕ) → pool_has_word F at k ≡ true → pool_has_word F (finished_of at) k ≡ false → HasOnly (words k) (before k)
 
--- A transaction on the pool of these puddles is open: one on the words of the finished ones is, and those of the others rest. The pool had the graph that
--- comes back if the transaction is undone when the words held what they held at the beginning, by what is read it has another now, and these values of
--- fields are asked for, the oldest first.
+-- A transaction on the pool of these puddles is open: one on the words of the finished ones is, and those of the others rest. By the values of the
+-- beginning the pool had the graph before the transaction, which it has again if the transaction is undone; by what is read it has the graph now; and
+-- these values of fields are deferred, the oldest first.
 pub record IsOpenOn (F : ℕ) (at : List (ℕ × Puddle)) (types : List (ℕ × ℕ)) (log : OpenLog) (before : Image) (graph_before now : Graph) (deferred : List DeferredValue) (words : Words) : Type 0 where
   pub redo : List Entry
   pub saving : IsSaving F (finished_of at) log before redo words
@@ -123,15 +123,15 @@ pub record IsAtRest (F : ℕ) (at : List (ℕ × Puddle)) (types : List (ℕ × 
 
 -- ---- what calls do
 
--- A call within a transaction on these words, behind which this is its log: at each moment each image settles to what the words held at the
--- beginning. Without a fault these words are written, and the transaction asks for words by these redo entries.
+-- A call within a transaction on these words, behind which this is its log: at each moment each image recovers to what the words held at the
+-- beginning. Without a fault these words are written, and the transaction defers values by these redo entries.
 pub record KeepsSaving (F : ℕ) (at : List (ℕ × Puddle)) (log : OpenLog) (before : Image) (redo : List Entry) (write : Write) (fault : Option HostFault) (old new : State) : Type 0 where
   pub es : List Entry
   pub runs : KeepsRunning (pool_scope F at) log es before write fault old new
   pub defers : deferred_entries es ≡ redo
 
--- A call within a transaction on the pool: it runs on the words of its finished puddles, and those of the others rest. Without a fault the pool has the next graph by what is read, and these values of
--- fields are asked for.
+-- A call within a transaction on the pool: it runs on the words of its finished puddles, and those of the others rest. Without a fault the pool has the
+-- next graph by what is read, and these values of fields are deferred.
 pub record KeepsOpenOn (F : ℕ) (at : List (ℕ × Puddle)) (types : List (ℕ × ℕ)) (log : OpenLog) (before : Image) (graph_before next : Graph) (deferred : List DeferredValue) (fault : Option HostFault) (old new : State)
     : Type 0 where
   pub write : Write
@@ -152,14 +152,14 @@ pub record MakesIn (F : ℕ) (at : List (ℕ × Puddle)) (log_at : ℕ) (slot : 
   pub now : fault ≡ None → (k : ℕ) → is_in_log log_at k ≡ false
       → reads new.now.words k ≡ overwritten (new_object_write F first.0 slot (next_serial_of (stored_in F at (reads old.now.words))) type_id) (reads old.now.words) k
 
--- The transaction is undone, and its log, whose gate is this word, closed: each image settles to what the words held at the beginning.
+-- The transaction is undone, and its log, whose gate is this word, closed: each image recovers to what the words held at the beginning.
 pub record AbortsOnPool (F : ℕ) (at : List (ℕ × Puddle)) (types : List (ℕ × ℕ)) (log_at : ℕ) (before : Image) (graph_before : Graph) (fault : Option HostFault) (old new : State) : Type 0 where
   pub closes : AbortsTransaction (pool_scope F (finished_of at)) log_at before fault old new
   pub rests : fault ≡ None → RestsAs F at before new.now.words
   pub was : graph_of types (stored_in F at before) ≡ Some graph_before
 
--- The transaction is committed, and its log closed: until the range of the log moves each image settles to what the words held at the beginning, and from
--- then on to what they come to hold, by which the pool has the new graph; the words of the puddles that are not finished stay.
+-- The transaction is committed, and its log closed: until the range of the log moves each image recovers to what the words held at the beginning, and from
+-- then on to their new values, by which the pool has the new graph; the words of the puddles that are not finished stay.
 pub record CommitsOnPool (F : ℕ) (at : List (ℕ × Puddle)) (types : List (ℕ × ℕ)) (log_at : ℕ) (before : Image) (graph_before next : Graph) (fault : Option HostFault) (old new : State) : Type 0 where
   pub after : Image
   pub ends : CommitsTransaction (pool_scope F (finished_of at)) log_at before after fault old new

@@ -34,7 +34,7 @@ mask_of F (Some o) k = open_mask F o.pool o.before k
 unfoldable pub open_masks : ℕ → Opens → Write
 open_masks F opens k = first_some (λ number. mask_of F (opens number) k) 0 ALL_LOGS
 
--- this one gives the word the value
+-- one of these transactions masks the word with the value
 pub record IsMaskedBy (F : ℕ) (opens : Opens) (k v : ℕ) : Type 0 where
   pub number : ℕ
   pub transaction : OpenTransaction
