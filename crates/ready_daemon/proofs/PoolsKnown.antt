@@ -1,4 +1,4 @@
--- What is known of pools that were judged.
+-- What is known of pools.
 pub mod KnownKept
 pub mod KnownLines
 pub mod KnownJudged

@@ -1,4 +1,4 @@
--- What the open transactions that the daemon holds stand for: parts of the world, and words of the device.
+-- What the active transactions in the daemon's memory stand for: parts of the world, and words of the device.
 use Rattle.std.specs.Prelude.{◌≡◌, ◌≢◌, ◌<◌, ◌≤◌, ℕ, true, false, List, Option, Some, None, is_some}
 use Rattle.pm_model.specs.Words.{Words, reads, HasOnly}
 use Rattle.pm_model.specs.declared.host.HostFault.{HostFault}
@@ -59,20 +59,21 @@ pub record IsActive (w : World) (active : ActiveTransaction) (mask : Write) (wor
   pub running : IsOpenOn w.stored.frames puddles w.stored.types active.tx.log before graph_before transaction.now transaction.deferred words
   pub masked : (k v : ℕ) → open_mask w.stored.frames (open_pool_of active puddles rec who) before k ≡ Some v → mask k ≡ Some v
 
--- It is held under this number, that of its log, and is one of these that are open.
+-- It is active under this number, that of its log, and is one of these that are open.
 pub record IsActiveUnder (w : World) (opens : Opens) (mask : Write) (words : Words) (number : ℕ) (active : ActiveTransaction) : Type 0 where
   pub is : IsActive w active mask words
   pub number_is : active.log_number ≡ number
   pub opened : opens number ≡ Some (open_transaction_of active is.puddles is.rec is.who is.before)
 
--- one is held on the pool of the name
+-- one is active on the pool of the name
 pub record IsOpenUnder (active : List (Option ActiveTransaction)) (name : List ℕ) : Type 0 where
   pub number : ℕ
   pub active : ActiveTransaction
   pub is : active_under active number ≡ Some active
   pub name_is : active.name ≡ name
 
--- What is held, each under the number of its log, is what is open in the world, each on a pool of its own, and the words of all are masked.
+-- The active transactions, each under the number of its log, are those that are open in the world, each on a pool of its own, and the words of all are
+-- masked.
 pub record AreActive (w : World) (active : List (Option ActiveTransaction)) (mask : Write) (words : Words) : Type 0 where
   pub opens : Opens
   pub are : AreOpenPools w.stored.frames opens
@@ -82,7 +83,7 @@ pub record AreActive (w : World) (active : List (Option ActiveTransaction)) (mas
   pub known : (name : List ℕ) (t : Transaction) → open_on name w ≡ Some t → IsOpenUnder active name
   pub names : (n m : ℕ) (h g : ActiveTransaction) → active_under active n ≡ Some h → active_under active m ≡ Some g → h.name ≡ g.name → n ≡ m
 
--- one is held under the number, on the pool whose record has this slot
+-- one is active under the number, on the pool whose record has this slot
 pub record IsActiveOn (active : List (Option ActiveTransaction)) (slot number : ℕ) : Type 0 where
   pub active : ActiveTransaction
   pub is : active_under active number ≡ Some active
@@ -92,12 +93,12 @@ pub record IsActiveOn (active : List (Option ActiveTransaction)) (slot number : 
 abbrev pub session_of : (number : ℕ) → Transaction → Session
 session_of number t = record { client = t.client; log_number = number; depth = t.depth }
 
--- Each transaction that is held has the session of its pool, of its client, with its log, and begun as often as it was; and there is no other.
+-- Each active transaction has the session of its pool, of its client, with its log, and begun as often as it was; and there is no other.
 pub record HasSessions (w : World) (active : List (Option ActiveTransaction)) (sessions : List (Option Session)) : Type 0 where
   pub each : (number : ℕ) (h : ActiveTransaction) (t : Transaction) → active_under active number ≡ Some h → open_on h.name w ≡ Some t → session_in sessions h.slot ≡ Some (session_of number t)
   pub only : (slot : ℕ) (s : Session) → session_in sessions slot ≡ Some s → IsActiveOn active slot s.log_number
 
--- A transaction that is held lies in a device of so many frames: its pool's slot is one of the table, and its log is that of its number, one of its
+-- An active transaction lies in a device of so many frames: its pool's slot is one of the table, and its log is that of its number, one of its
 -- client's. It has taken no more units than there are.
 pub record IsActiveWithin (F : ℕ) (active : ActiveTransaction) : Type 0 where
   pub slot : active.slot < POOL_RECORDS
@@ -106,18 +107,18 @@ pub record IsActiveWithin (F : ℕ) (active : ActiveTransaction) : Type 0 where
   pub gate : active.tx.log.gate_at ≡ log_number_at F active.log_number
   pub units : active.tx.units ≤ LOG_ENTRY_WORDS
 
--- and so does each that is held
+-- and so does each active one
 pub record AreActiveWithin (F : ℕ) (active : List (Option ActiveTransaction)) : Type 0 where
   pub each : (number : ℕ) (h : ActiveTransaction) → active_under active number ≡ Some h → IsActiveWithin F h
 
--- the client's own transaction is open on the pool of the name, and held under this number
+-- the client's own transaction is open on the pool of the name, and active under this number
 pub record IsOwnTransaction (client : ℕ) (name : List ℕ) (number : ℕ) (active : List (Option ActiveTransaction)) : Type 0 where
   pub active : ActiveTransaction
   pub is : active_under active number ≡ Some active
   pub whose : active.client ≡ client
   pub pool : active.name ≡ name
 
--- each transaction that is held is another client's
+-- each active transaction is another client's
 pub record AreOfOtherClients (client : ℕ) (active : List (Option ActiveTransaction)) : Type 0 where
   pub each : (number : ℕ) (h : ActiveTransaction) → active_under active number ≡ Some h → h.client ≢ client
 
@@ -149,8 +150,8 @@ pub record LeavesMasked (mask : Write) (fault : Option HostFault) (old new : Sta
   pub names : Leaves (Silently (NamesNone mask)) old new
   pub single : fault ≡ None → StaysSingle old new
 
--- The next world has the same of what is held: the transactions, and of each its client, its pool's graph of the beginning, and what its words stand
--- for, by types that are defined still.
+-- The next world has the same of the active transactions: the transactions, and of each its client, the graph of its pool before it, and what its words
+-- stand for, by types that are defined still.
 pub record KeepsActive (w next : World) (active : List (Option ActiveTransaction)) : Type 0 where
   pub frames : next.stored.frames ≡ w.stored.frames
   pub transactions : next.transactions ≡ w.transactions

@@ -1,4 +1,4 @@
--- What is known of a pool on which a transaction is to begin, and what is held as it begins.
+-- What is known of a pool on which a transaction is to begin, and what is active as it begins.
 use Rattle.std.specs.Prelude.{◌≡◌, ℕ, true, List, Some}
 use Rattle.pud_defs.specs.declared.records.PoolRecord.{PoolRecord}
 use Rattle.pud_defs.specs.declared.records.Puddle.{Puddle}
@@ -25,7 +25,7 @@ pub record MayBegin (F client : ℕ) (name : List ℕ) (image : Image) (slot : �
   pub owned : owner_of image client ≡ Some who
   pub right : may_write rec.mode (owner rec.uid rec.gid) who ≡ true
 
--- ---- what is held
+-- ---- what is active
 
 -- as it begins, in the log of a number on a device of so many frames
 abbrev pub begins_as : (client : ℕ) → (name : List ℕ) → (slot : ℕ) → (F number : ℕ) → ActiveTransaction

@@ -14,7 +14,7 @@ abbrev pub sessions_behind : Option ActiveTransaction → List (Option Session) 
 sessions_behind None sessions = sessions
 sessions_behind (Some active) sessions = set sessions active.slot None
 
--- what is known of pools, of its own the puddles alone
+-- what is known of pools, of the one's own pool the puddles alone
 abbrev pub judged_behind : Option ActiveTransaction → List (Option Known) → List (Option Known)
 judged_behind None judged = judged
 judged_behind (Some active) judged = alone_in active.slot judged

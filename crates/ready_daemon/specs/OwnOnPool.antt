@@ -1,9 +1,9 @@
--- What of the transactions that are held is open on the pool in a slot.
+-- Which of the active transactions is the client's own on the pool in a slot.
 use Rattle.std.specs.Prelude.{◌≡◌, ℕ, List, Option}
 use Rattle.ready_daemon.specs.Memory.{ActiveTransaction}
 use Rattle.ready_daemon.specs.ActiveTransactions.{IsOwnTransaction}
 
--- the client's own transaction is open on the pool of the name in the slot, and held under this number
+-- the client's own transaction is open on the pool of the name in the slot, and active under this number
 pub record IsOwnTransactionOn (client : ℕ) (name : List ℕ) (slot number : ℕ) (active : List (Option ActiveTransaction)) : Type 0 where
   pub own : IsOwnTransaction client name number active
   pub slot_is : own.active.slot ≡ slot

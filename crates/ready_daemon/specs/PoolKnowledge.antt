@@ -1,4 +1,4 @@
--- What the daemon knows of pools that it judged.
+-- What the daemon knows of pools.
 use Rattle.std.specs.Prelude.{◌≡◌, ℕ, List, Option, Some, None, slice_index_or, set, option_map}
 use Rattle.pud_defs.specs.declared.records.Puddle.{Puddle}
 use Rattle.pud_defs.specs.Formats.Image.{Image}

@@ -35,11 +35,11 @@ pub record KeepsInput (old new : State) : Type 0 where
   pub script : new.script ≡ old.script
   pub shelf : new.shelf ≡ old.shelf
 
--- What the daemon needs of a device between two lines. With the words masked of the transactions that it holds each image that may be left
--- stands for the closed world with nothing under way, each registered log and the daemon log closed in it, and the daemon log counts no word. The
+-- What the daemon needs of a device between two lines. With the words of the active transactions masked the device is quiescent: each image that may be
+-- left stands for the closed world with nothing under way, each registered log and the daemon log closed in it, and the daemon log counts no word. The
 -- tables are durable, and what is read of them has the clients that are present. Masked, each word of the frames has one value, and each log of a
--- client that is present counts nothing. The number of frames is the one that the daemon holds, and the shelf is the world's. Each transaction has its
--- session. What it knows of pools that it judged is what a scan gives, and it knows each on which a transaction is open.
+-- client that is present counts nothing. The number of frames is the one that the daemon has in memory, and the shelf is the world's. Each transaction
+-- has its session. What the daemon knows of pools is what a scan gives, and it knows each on which a transaction is open.
 pub record IsReady (size : ℕ) (w : World) (memory : Memory) (s : State) : Type 0 where
   pub mask : Write
   pub settled : IsQuiescent size (closed w) (masked mask s.now.words)
@@ -61,8 +61,8 @@ pub record RefusesNone (image : Image) : Type 0 where
 abbrev pub StandsBetween : (size : ℕ) → (w next : World) → Image → Type 0
 StandsBetween size w next image = ((world_of size image ≡ Some (closed w)) ⊎ (world_of size image ≡ Some (closed next))) × RefusesNone image
 
--- A command was carried out beside what is held, whose words are masked: masked, at every moment the images stand for the world before it or for
--- the one that it gives, idle, and without a fault for that one, with tables that are durable and have its clients, whose logs count nothing.
+-- A command was carried out beside the active transactions, whose words are masked: masked, at every moment the images stand for the world before it or
+-- for the one that it gives, idle, and without a fault for that one, with tables that are durable and have its clients, whose logs count nothing.
 pub record AppliesMasked (size : ℕ) (w next : World) (mask : Write) (fault : Option HostFault) (old new : State) : Type 0 where
   pub beside : LeavesMasked mask fault old new
   pub moments : Leaves (Silently (λ image. (idle_world_of size image ≡ Some (closed w)) ⊎ (idle_world_of size image ≡ Some (closed next)))) (masked_state mask old) (masked_state mask new)
@@ -112,6 +112,6 @@ ClosesFirst F client old new = Leaves (λ bytes image. IsClosedIfFree F client i
 abbrev pub ClosesBefore : ℕ → ℕ → State → State → Type 0
 ClosesBefore F client old new = Leaves (λ bytes image. IsClosedIfNamed F client image) old new
 
--- Where the command lets a client go that is present, its logs are closed first, in the sense given.
+-- Where the command removes a client that is present, its logs are closed first, in the sense given.
 pub record ClosesLogs (closes : ℕ → ℕ → State → State → Type 0) (w : World) (command : Option Command) (old new : State) : Type 0 where
   pub first : (client : ℕ) → command ≡ Some (Leave client) → true ≡ is_some (w.clients client) → closes w.stored.frames client old new

@@ -1,3 +1,3 @@
-//! The ready daemon: what the daemon holds in memory between two lines, what its device has then, and what a command does that is carried out
-//! beside the transactions that are open. Definitions and laws, and no code.
+//! The ready daemon: what the daemon has in memory between two lines, what its device has then, and what a command does that is carried out
+//! beside the active transactions. Definitions and laws, and no code.
 #![tactic(auto)]

@@ -93,7 +93,7 @@ names_none-commits mask es fault old new off batched c =
     Leaves-weaker (Silently (IsBatched old.now.words DAEMON_LOG es)) (Silently (NamesNone mask)) old new
     (λ bytes image m. (m.0, names_none_batched mask es old.now.words image off batched m.1)) c.moments
 
--- ---- calls beside what is held
+-- ---- calls beside the active transactions
 
 -- no word that may be written is masked
 pub IsOff-each : (mask : Write) (may : Footprint) → ((k v : ℕ) → may k v → mask k ≡ None) → IsOff mask may

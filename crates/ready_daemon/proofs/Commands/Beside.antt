@@ -1,4 +1,4 @@
--- What a command does beside the transactions that are open, from what it does with their words masked.
+-- What a command does beside the active transactions, from what it does with their words masked.
 use Rattle.std.proofs.Common.{◌≡◌, ◌≢◌, ◌⊎◌, inl, inr, ℕ, ◌+◌, ◌<◌, true, false, List, Option, Some, None, refl, sym, ap, subst, ◌∙◌, arith}
 use Rattle.std.proofs.lemmas.Bool.{and_from, le-leb, lt-ltb, or_left, or_right, cases_Bool}
 use Rattle.std.proofs.lemmas.Option.{none-some, same_Some}
@@ -72,7 +72,7 @@ pub record IsApart (F : ℕ) (active : ActiveTransaction) (p : OpenPool) (may : 
   pub has_word : (k v : ℕ) → may k v → pool_has_word F (finished_of p.puddles) k ≡ true → ⊥
   pub records : (k v : ℕ) → may k v → is_open_record p k ≡ true → ⊥
 
--- The next world has the same of one transaction that is held.
+-- The next world has the same of one active transaction.
 pub record KeepsOne (w next : World) (active : ActiveTransaction) : Type 0 where
   pub frames : next.stored.frames ≡ w.stored.frames
   pub transaction : open_on active.name next ≡ open_on active.name w
@@ -150,7 +150,7 @@ module _ (w : World) (active : ActiveTransaction) (mask : Write) (words : Words)
             (IsRunning-settles (pool_scope F (finished_of is.puddles)) active.tx.log is.running.saving.es is.before o.before words is.running.saving.running o.picked));
       }
 
--- ---- what is held stays
+-- ---- the active transactions stay
 
 module _ (w next : World) (active : ActiveTransaction) (mask anew : Write) (old new : State) (is : IsActive w active mask old.now.words) (keeps : KeepsOne w next active) (may : Footprint)
     (apart : IsApart w.stored.frames active (open_pool_of active is.puddles is.rec is.who) may) (c : Changes may None old new)
@@ -213,13 +213,13 @@ module _ (w next : World) (active : ActiveTransaction) (mask anew : Write) (old 
         masked = subst (λ (m : ℕ). (k v : ℕ) → open_mask m (open_pool_of active is.puddles is.rec is.who) is.before k ≡ Some v → anew k ≡ Some v) back masked_so;
       }
 
-  -- and it is held so under its number, where it is open under that
+  -- and it is active so under its number, where it is open under that
   abbrev pub still_under : (opens : Opens) (number : ℕ) → active.log_number ≡ number → opens number ≡ Some (open_transaction_of active is.puddles is.rec is.who is.before) → IsActiveUnder next opens anew new.now.words number active
   still_under opens number its opened = record { is = active_still; number_is = its; opened = opened }
 
--- ---- all that is held
+-- ---- all active transactions
 
--- what is open under a number is what is held there
+-- what is open under a number is what is active there
 pub record IsOpenAs (w : World) (opens : Opens) (active : List (Option ActiveTransaction)) (mask : Write) (words : Words) (number : ℕ) (o : OpenTransaction) : Type 0 where
   pub one : ActiveTransaction
   pub there : active_under active number ≡ Some one
@@ -243,13 +243,13 @@ module _ (w : World) (active : List (Option ActiveTransaction)) (mask : Write) (
   pub opened_as : (number : ℕ) (o : OpenTransaction) → holds.opens number ≡ Some o → IsOpenAs w holds.opens active mask words number o
   opened_as number o there = opened_by number o (active_under active number) refl there
 
-  -- none is open on a pool on which none is held
+  -- none is open on a pool on which none is active
   pub opens_apart_from : (slot : ℕ) → ((number : ℕ) (h : ActiveTransaction) → active_under active number ≡ Some h → h.slot ≢ slot) → (number : ℕ) (o : OpenTransaction) → holds.opens number ≡ Some o → o.pool.slot ≢ slot
   opens_apart_from slot apart number o there same =
       let a = opened_as number o there in
       apart number a.one a.there (ap (λ (t : OpenTransaction). t.pool.slot) a.same ∙ same)
 
-  -- each is open in the image, where each that is held is
+  -- each is open in the image, where each that is active is
   module _ (image : Image) (each : (number : ℕ) (h : ActiveTransaction) (there : active_under active number ≡ Some h) (under : IsActiveUnder w holds.opens mask words number h) → IsLeftOpen N (open_pool_of h under.is.puddles under.is.rec under.is.who) under.is.before image) where
     pub left_all : AreLeftOpen N holds.opens image
     left_all = record {
@@ -349,9 +349,9 @@ module _ (w : World) (active : List (Option ActiveTransaction)) (mask : Write) (
 pub daemon_log_unmasked : (w : World) (active : List (Option ActiveTransaction)) (mask : Write) (words : Words) → AreActive w active mask words → mask DAEMON_LOG ≡ None
 daemon_log_unmasked w active mask words holds = unmasked_front w active mask words holds DAEMON_LOG (omega arith)
 
--- ---- what is held stays beside others
+-- ---- the active transactions stay beside others
 
--- The words of the puddles that are not finished rest, of each that is held.
+-- The words of the puddles that are not finished rest, of each active transaction.
 pub record RestBehind (w : World) (active : List (Option ActiveTransaction)) (mask : Write) (words : Words) (holds : AreActive w active mask words) (after : Words) : Type 0 where
   pub each : (number : ℕ) (h : ActiveTransaction) (there : active_under active number ≡ Some h) → RestsAs w.stored.frames (holds.each number h there).is.puddles (holds.each number h there).is.before after
 
@@ -422,7 +422,7 @@ module _ (size : ℕ) (w next : World) (memory : Memory) (fault : Option HostFau
 
 module _ (size : ℕ) (w next : World) (memory : Memory) (fault : Option HostFault) (old new : State) (ready : IsReady size w memory old) (keeps : KeepsActive w next memory.active)
     (a : AppliesMasked size w next ready.mask fault old new) where
-  -- with this memory behind it, which holds the same
+  -- with this memory behind it, which is the same but for what is known of pools
   pub Applies-beside : (becomes : Member → Option Member → Type 0) → LeavesPuddles w.stored.frames becomes old new → (behind : Memory) → behind.frames ≡ memory.frames → behind.active ≡ memory.active → behind.sessions ≡ memory.sessions
       → (fault ≡ None → KnowsPools w.stored.frames behind.judged ready.active.opens (reads new.now.words))
       → (fault ≡ None → RestBehind w memory.active ready.mask old.now.words ready.active new.now.words)

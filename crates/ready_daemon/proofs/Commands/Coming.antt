@@ -1,4 +1,4 @@
--- Clients that come and go: their logs closed, and then their record of the log-space table changed.
+-- Clients that are registered and removed: their logs closed, and then their record of the log-space table changed.
 use Rattle.std.proofs.Common.{◌≡◌, ◌⊎◌, inl, inr, ⊎_elim, ℕ, ◌<◌, ◌≤◌, Bool, true, false, eqb, cond, List, [], ◌∷◌, length, Option, Some, None, refl, sym, ap, ap₂, subst, ◌∙◌, arith, ne_eqb}
 use Rattle.std.specs.Prelude.{is_some}
 use Rattle.std.proofs.lemmas.List.{append-nil}
@@ -223,7 +223,7 @@ module _ (size : ℕ) (w : World) (memory : Memory) (slot : ℕ) (known : slot <
           let committed = subst (λ (f : Option HostFault). Commits DAEMON_LOG es f b c) none k in
           subst (λ (n : ℕ). KeepsPools n None (reads a.now.words) (reads c.now.words)) is (KeepsPools-client F slot vals a b c known few gates committed)
 
-      -- each pool that was judged stays
+      -- what is known of pools stays so
       knows_changed : fault ≡ None → KnowsPools w.stored.frames memory.judged ready.active.opens (reads c.now.words)
       knows_changed none = KnowsPools-all w.stored.frames memory.judged ready.active.opens (reads a.now.words) (reads c.now.words) (pools_changed none) ready.knows
 
@@ -242,7 +242,7 @@ module _ (size : ℕ) (w : World) (memory : Memory) (slot : ℕ) (known : slot <
         shelf = refl;
       }) Stays (LeavesPuddles-beside w.stored.frames fault a c ready.tables apart_changed) memory refl refl refl knows_changed rest_changed
 
-  -- a client came
+  -- a client was registered, its logs closed first
   pub Applies-unadmitted : (F uid gid : ℕ) (fault : HostFault) (b : State) → F ≡ w.stored.frames → ClosesGates F slot (Some fault) a b
       → ClosesClientLogs size (closed w) slot (Some fault) (masked_state ready.mask a) (masked_state ready.mask b) → Applies size w (after w (Client slot uid gid)) memory (Some fault) a b
   unfolding after
@@ -254,7 +254,7 @@ module _ (size : ℕ) (w : World) (memory : Memory) (slot : ℕ) (known : slot <
   unfolding after
   Applies-admitted F uid gid fault b c is gates p k r = changed F (Some (owner uid gid)) (1 ∷ uid ∷ gid ∷ []) (omega arith) b c is gates p fault k r.table
 
-  -- a client went
+  -- a client was unregistered, its logs closed first
   to_gone : (fault : Option HostFault) (c : State) → Applies size w (after_this w slot None) memory fault a c → Applies size w (after w (Leave slot)) memory fault a c
   to_gone fault c applies = subst (λ (v : World). Applies size w v memory fault a c) (sym (gone w memory.active ready.mask a.now.words slot ready.active others)) applies
 
@@ -272,7 +272,7 @@ pub gate_closed : (size : ℕ) (w : World) (memory : Memory) (F slot : ℕ) (a b
 gate_closed size w memory F slot a b ready gates =
     gate_kept (ByClosing F slot) None a b gates.changes (λ v gate. no_gate F slot DAEMON_LOG v (omega arith) gate) (ready_gate size w memory a ready)
 
--- ---- a client that goes
+-- ---- a client that is removed
 
 module _ (size : ℕ) (w : World) (memory : Memory) (slot : ℕ) (known : slot < CLIENTS) where
   -- where the daemon log is closed, it gives a record that is used no value

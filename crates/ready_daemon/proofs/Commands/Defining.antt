@@ -235,7 +235,7 @@ module _ (size : ℕ) (w : World) (id map r : ℕ) (old : State) (settled : IsQu
     ],
   )) d.moments
 
--- ---- what is held stays
+-- ---- the active transactions stay
 
 active_kept : (more : List (ℕ × ℕ)) (h : Holding) (g : Graph) → graph_held h ≡ Some g → graph_held (read_anew more h) ≡ Some g
 active_kept more (Sound other) g is = is

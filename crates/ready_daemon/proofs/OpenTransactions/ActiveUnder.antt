@@ -1,4 +1,4 @@
--- What is held under a number, once another transaction is held under one, or none.
+-- What is active under a number, once another transaction is active under one, or none.
 use Rattle.std.proofs.Common.{◌≡◌, ◌≢◌, inl, inr, ℕ, ◌<◌, ◌⊎◌, List, length, length-set, Option, Some, None, sym, ap, ◌∙◌, arith}
 use Rattle.std.specs.Prelude.{set, slice_index_or}
 use Rattle.std.proofs.lemmas.Bool.{cases_lt, cases_eq}
@@ -14,7 +14,7 @@ nothing_there xs i = elim (cases_lt i (length xs)) [
   | inr past ↦ get_or_past (set xs i None) i None (omega (arith, past, length-set xs i None))
 ]
 
--- a number under which something is held lies within the list
+-- a number under which a transaction is active lies within the list
 pub active_within : (active : List (Option ActiveTransaction)) (number : ℕ) (h : ActiveTransaction) → active_under active number ≡ Some h → number < length active
 active_within active number h there = elim (cases_lt number (length active)) [
   | inl within ↦ within
@@ -33,7 +33,7 @@ module _ (active : List (Option ActiveTransaction)) (number : ℕ) (now : Option
   pub active_there : (other : ℕ) → other ≢ number → active_under (set active number now) other ≡ active_under active other
   active_there other apart = get_or-set_other active number other now None apart
 
-  -- so what is held then is this one, or was held before under another
+  -- so what is active then is this one, or was active before under another
   pub active_then : (other : ℕ) (h : ActiveTransaction) → active_under (set active number now) other ≡ Some h → ((other ≡ number) × (now ≡ Some h)) ⊎ ((other ≢ number) × (active_under active other ≡ Some h))
   active_then other h there = elim (cases_eq other number) [
     | inl same ↦ inl (same, sym (active_here (active_within_set other h there same)) ∙ ap (active_under (set active number now)) (sym same) ∙ there)
@@ -46,7 +46,7 @@ AreActiveWithin-set F active number now within its = record {
   each = λ other h there. elim (active_then active number now other h there) [ inl here ↦ its h here.1 | inr still ↦ within.each other h still.1 ];
 }
 
--- what was read under a number is held there
+-- what was read under a number is active there
 pub read_there : (active : List (Option ActiveTransaction)) (number : ℕ) (read any : Option ActiveTransaction) (h : ActiveTransaction) → number < length active → read ≡ slice_index_or active number any → read ≡ Some h → active_under active number ≡ Some h
 read_there active number read any h within is there = get_or_default active number None any within ∙ sym is ∙ there
 
@@ -55,7 +55,7 @@ pub read_within : (F : ℕ) (active : List (Option ActiveTransaction)) (number :
     → IsActiveWithin F h
 read_within F active number read any h are within is there = are.each number h (read_there active number read any h within is there)
 
--- with what is held there already it is the same memory
+-- with what is active there already it is the same memory
 pub active_same : (memory : Memory) (number : ℕ) (h : ActiveTransaction) → active_under memory.active number ≡ Some h → with_active number (Some h) memory ≡ memory
 active_same memory number h there =
     ap (λ (o : Option ActiveTransaction). with_active number o memory) (sym there) ∙ ap (λ (active : List (Option ActiveTransaction)). record memory { active = active }) (set-get_or memory.active number None)

@@ -1,4 +1,4 @@
--- A transaction that is held, of which only changes how often it was begun: no word changes, and its session says the same.
+-- An active transaction of which only changes how often it was begun: no word changes, and its session says the same.
 use Rattle.std.proofs.Common.{◌≡◌, ◌≢◌, inl, inr, ℕ, ◌+◌, ◌<◌, bytes_eq, List, length, Option, Some, None, refl, sym, ap, ap₂, subst, ◌∙◌}
 use Rattle.std.specs.Prelude.{set}
 use Rattle.std.proofs.lemmas.Bool.{cases_Bool, cases_eq, cases_lt}
@@ -38,7 +38,7 @@ module _ (size : ℕ) (w : World) (memory : Memory) (s : State) (ready : IsReady
     | inr past ↦ absurd (none-some (session_of number t) (sym (get_or_past memory.sessions active.slot None past) ∙ its_session))
   ]
 
-  -- each other that is held is so on another pool
+  -- each other that is active is so on another pool
   other_name : (m : ℕ) (h : ActiveTransaction) → active_under memory.active m ≡ Some h → m ≢ number → h.name ≢ active.name
   other_name m h is apart same = apart (ready.active.names m number h active is there same)
 
@@ -56,7 +56,7 @@ module _ (size : ℕ) (w : World) (memory : Memory) (s : State) (ready : IsReady
     abbrev pub next : World
     next = record w { transactions = with_open active.name (Some (record t { depth = depth })) w.transactions }
 
-    -- each is held as it was
+    -- each is active as it was
     under_as : (m : ℕ) (h : ActiveTransaction) (u : IsActiveUnder w ready.active.opens ready.mask s.now.words m h) (x : Transaction) → open_on h.name next ≡ Some x → x.client ≡ u.is.transaction.client
         → x.units ≡ u.is.transaction.units → u.is.transaction.now ≡ x.now → u.is.transaction.deferred ≡ x.deferred → IsActiveUnder next ready.active.opens ready.mask s.now.words m h
     under_as m h u x is client units now deferred =

@@ -1,4 +1,4 @@
--- A client goes of whom transactions may be held: each is undone, and then its logs are closed and its record freed.
+-- A client is removed of whom transactions may be active: each is undone, and then its logs are closed and its record freed.
 use Rattle.std.proofs.Common.{◌≡◌, ◌≢◌, inl, inr, ⊎_elim, ℕ, ◌+◌, ◌*◌, ◌<◌, ◌≤◌, Bool, true, false, cond, List, [], bytes_eq, Option, Some, None, is_some, refl, sym, ap, subst, ◌∙◌, arith, eq-eqb}
 use Rattle.std.specs.Prelude.{set}
 use Rattle.std.proofs.lemmas.Bool.{cases_Bool, cases_eq, cond-true, cond-false}
@@ -59,7 +59,7 @@ left_by client o t is = λ own. elim (cases_Bool (is_own client o)) [
       let it : true ≡ false = sym (eq-eqb t.client client own) ∙ ap (is_own client) (sym same) ∙ other in cc
 ]
 
--- whoever is held in the world without them is another client's
+-- whatever is active in the world without them is another client's
 pub others_left : (size : ℕ) (w : World) (client : ℕ) (memory : Memory) (s : State) → IsReady size (world_without client w) memory s → AreOfOtherClients client memory.active
 others_left size w client memory s ready = record {
   each = λ number h there own.
@@ -100,7 +100,7 @@ Applies-cut_short size w next ts behind fault a b p = record {
 
 -- ---- one behind another is undone
 
--- The client's transactions are undone that are held under some of its numbers: without its own, what is open is what was.
+-- The client's transactions are undone that are active under some of its numbers: without its own, what is open is what was.
 pub record IsUndone (size : ℕ) (w : World) (client : ℕ) (memory : Memory) (old new : State) : Type 0 where
   pub left : OpenTransactions
   pub same : without_client client left ≡ without_client client w.transactions
@@ -116,7 +116,7 @@ IsUndone-start size w client memory s ready = record {
   behind = Changes-still (BehindTables w.stored.frames) None s s (λ cut. absurd (let no : None ≡ Some Cut = cut in cc)) refl;
 }
 
--- nothing is held under the client's numbers in front of this one
+-- nothing is active under the client's numbers in front of this one
 pub record AreUndone (client upto : ℕ) (active : List (Option ActiveTransaction)) : Type 0 where
   pub each : (number : ℕ) → CLIENT_LOGS * client ≤ number → number < upto → active_under active number ≡ None
 
@@ -193,14 +193,14 @@ once_more_by client o false is = ap (λ (b : Bool). cond b None o) is
 once_more : (client : ℕ) (o : Option Transaction) → cond (is_own client (cond (is_own client o) None o)) None (cond (is_own client o) None o) ≡ cond (is_own client o) None o
 once_more client o = once_more_by client o (is_own client o) refl
 
--- the client goes from it as from the world
+-- the client is removed from it as from the world
 pub gone_world : (w : World) (client : ℕ) → after (world_without client w) (Leave client) ≡ after w (Leave client)
 unfolding after
 gone_world w client =
     let each : (name : List ℕ) → without_client client (without_client client w.transactions) name ≡ without_client client w.transactions name = λ name. once_more client (open_on name w) in
     ap (λ (o : OpenTransactions). record (after w (Leave client)) { transactions = o }) (λ p name. each name p)
 
--- ---- the client goes
+-- ---- the client is removed
 
 -- the table that is read, by a number that is the client's, tells whether the client is present
 pub presence_of : (size : ℕ) (w : World) (memory : Memory) (s : State) (client asked : ℕ) (registered : Bool) → asked ≡ client → client < CLIENTS → IsReady size w memory s

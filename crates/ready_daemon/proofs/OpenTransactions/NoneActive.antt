@@ -1,4 +1,4 @@
--- Where no transaction is held, and none is open.
+-- Where no transaction is active, and none is open.
 use Rattle.std.proofs.Common.{◌≡◌, inl, inr, ℕ, replicate, Option, Some, None, refl, sym, ap, ◌∙◌, arith}
 use Rattle.std.proofs.lemmas.Bool.{cases_lt}
 use Rattle.std.proofs.lemmas.List.{get_or_past, get_or-replicate, length-replicate}

@@ -30,7 +30,7 @@ use Rattle.ready_daemon.proofs.PoolChanges.PoolsBeside.{used_still, puddles_stil
 
 -- ---- which pool it is
 
--- A transaction of this client is open on the pool of the name, which had a graph when it began, and has by what is read the one that it shows.
+-- A transaction of this client is open on the pool of the name, which had a graph before it, and has by what is read the one that it shows.
 pub record IsOpenHere (w : World) (at : List (ℕ × Puddle)) (image : Image) (name : List ℕ) (client : ℕ) : Type 0 where
   pub transaction : Transaction
   pub is : open_on name w ≡ Some transaction
@@ -39,7 +39,7 @@ pub record IsOpenHere (w : World) (at : List (ℕ × Puddle)) (image : Image) (n
   pub stored : graph_in (pool_named name w.stored) ≡ Some graph_before
   pub now : graph_of w.stored.types (stored_in w.stored.frames at image) ≡ Some transaction.now
 
--- where its own is held
+-- where its own is active
 pub open_here : (w : World) (active : List (Option ActiveTransaction)) (mask : Write) (words : Words) (name : List ℕ) (client number : ℕ) (holds : AreActive w active mask words) (own : IsOwnTransaction client name number active)
     → IsOpenHere w (active_is w active mask words holds number own.active own.is).puddles (reads words) name client
 open_here w active mask words name client number holds own =
@@ -53,7 +53,7 @@ open_here w active mask words name client number holds own =
       now = is.running.is;
     }
 
--- none is held on a name under which none is open
+-- none is active on a name under which none is open
 pub not_named : (w : World) (active : List (Option ActiveTransaction)) (mask : Write) (words : Words) (name : List ℕ) → AreActive w active mask words → open_on name w ≡ None
     → (number : ℕ) (h : ActiveTransaction) → active_under active number ≡ Some h → h.name ≢ name
 not_named w active mask words name holds none number h there same =
@@ -76,7 +76,7 @@ module _ (w : World) (active : ActiveTransaction) (mask : Write) (words : Words)
   p = open_pool_of active is.puddles is.rec is.who
 
   module _ (slot : ℕ) (r : PoolRecord) (used : t.pools slot ≡ Some r) (other : r.name ≢ active.name) where
-    -- it does not stand in the slot of the held one
+    -- it does not stand in the slot of the active one's
     pub other_slot : slot ≡ active.slot → ⊥
     other_slot same = other (ap (λ (x : PoolRecord). x.name) (same_Some r is.rec (sym used ∙ ap t.pools same ∙ used_still w active mask words is)) ∙ is.name)
 
@@ -99,7 +99,7 @@ module _ (w : World) (active : ActiveTransaction) (mask : Write) (words : Words)
         let few = is.pool.known in
         mask_of_others F p is.before k (outside_log (log_number_at F active.log_number) k (inr (omega arith))) (not_mine k mine) (not_record k (is_open_record p k) refl mine)
 
--- what a pool stores on which none is held is read as it is
+-- what a pool stores on which none is active is read as it is
 pub pool_unmasked : (w : World) (active : List (Option ActiveTransaction)) (mask : Write) (words : Words) (name : List ℕ) (slot : ℕ) (r : PoolRecord) → AreActive w active mask words
     → ((number : ℕ) (h : ActiveTransaction) → active_under active number ≡ Some h → h.name ≢ name) → (tables_of w.stored.frames (reads words)).pools slot ≡ Some r → r.name ≡ name
     → stored_in w.stored.frames (puddles_in_turn (tables_of w.stored.frames (reads words)) slot) (masked_image mask (reads words))

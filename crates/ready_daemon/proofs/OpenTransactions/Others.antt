@@ -1,4 +1,5 @@
--- A client of whose transactions none is held: the words of its logs and of its record are not masked, and what is held stays as the client comes and goes.
+-- A client of whose transactions none is active: the words of its logs and of its record are not masked, and the active transactions stay as the client is
+-- registered and removed.
 use Rattle.std.proofs.Common.{◌≡◌, inl, inr, ℕ, ◌+◌, ◌*◌, ◌<◌, ◌≤◌, true, false, ◌||◌, leb, ltb, cond, List, length, Option, Some, None, refl, sym, ap, ◌∙◌, arith, ne_eqb}
 use Rattle.std.specs.Prelude.{is_some}
 use Rattle.std.proofs.lemmas.Bool.{cases_lt, cond-false, or_cases, and_parts, leb-true, ltb-true, false_from_ne_true}
@@ -36,7 +37,7 @@ use Rattle.ready_daemon.proofs.Commands.Beneath.{IsOff-each}
 
 -- ---- whose they are
 
--- a client that is not there holds none
+-- a client that is not there has none
 pub others_absent : (w : World) (active : List (Option ActiveTransaction)) (mask : Write) (words : Words) (client : ℕ) → AreActive w active mask words → false ≡ is_some (w.clients client) → AreOfOtherClients client active
 others_absent w active mask words client holds absent = record {
   each = λ number h there own.
@@ -111,7 +112,7 @@ module _ (w : World) (active : ActiveTransaction) (mask : Write) (words : Words)
         ]
       ]
 
--- none of these words is masked by any that is held
+-- none of these words is masked by any that is active
 module _ (w : World) (active : List (Option ActiveTransaction)) (mask : Write) (words : Words) (client : ℕ) (holds : AreActive w active mask words) (known : client < CLIENTS) where
   pub off_gates : AreOfOtherClients client active → IsOff mask (ByClosing w.stored.frames client)
   off_gates others =
@@ -125,7 +126,7 @@ module _ (w : World) (active : List (Option ActiveTransaction)) (mask : Write) (
 
 -- ---- the world
 
--- what is held stays as it comes or goes
+-- the active transactions stay as it is registered or removed
 pub keeps_active : (w : World) (active : List (Option ActiveTransaction)) (client : ℕ) (now : Option Owner) → AreOfOtherClients client active → KeepsActive w (record w { clients = with_owner client now w.clients }) active
 keeps_active w active client now others = record {
   frames = refl;

@@ -1,4 +1,4 @@
--- What is held still once one transaction has ended: all others, each with its words masked, its session, and what is known beside it.
+-- What is still active once one transaction has ended: all others, each with its words masked, its session, and what is known beside it.
 use Rattle.std.proofs.Common.{◌≡◌, ◌≢◌, inl, inr, ℕ, List, Option, Some, None, refl, sym, ap, ◌∙◌}
 use Rattle.std.specs.Prelude.{set}
 use Rattle.std.proofs.lemmas.Bool.{cases_eq}
@@ -35,7 +35,7 @@ open_beside name other opened t is = λ same. none-some t (sym (open_there name 
 
 -- ---- the others
 
--- one that is held under another number than this one, on another pool
+-- one that is active under another number than this one, on another pool
 pub record IsAnother (list : List (Option ActiveTransaction)) (number : ℕ) (active : ActiveTransaction) (m : ℕ) (h : ActiveTransaction) : Type 0 where
   pub apart : m ≢ number
   pub was : active_under list m ≡ Some h
@@ -73,7 +73,7 @@ module _ (w : World) (list : List (Option ActiveTransaction)) (mask : Write) (ol
     slot = λ same. apart (one_slot w list mask old.now.words holds m number h active was there same);
   }
 
-  -- one that is held still is one of the others
+  -- one that is still active is one of the others
   pub was_active : (m : ℕ) (h : ActiveTransaction) → active_under (set list number None) m ≡ Some h → IsAnother list number active m h
   was_active m h e = elim (cases_eq m number) [
     | inl same ↦ absurd (none-some h (sym (nothing_there list number) ∙ ap (active_under (set list number None)) (sym same) ∙ e))

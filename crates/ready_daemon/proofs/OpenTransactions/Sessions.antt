@@ -27,7 +27,7 @@ use Rattle.ready_daemon.proofs.Commands.Beside.{active_is}
 use Rattle.ready_daemon.proofs.PoolChanges.PoolsBeside.{used_still}
 use Rattle.ready_daemon.proofs.PoolChanges.TablesBeside.{sound_read}
 
--- The session in the slot is that of a transaction on the pool of the name, which is held under its number.
+-- The session in the slot is that of a transaction on the pool of the name, which is active under its number.
 pub record IsSessionOf (w : World) (active : List (Option ActiveTransaction)) (name : List ℕ) (slot : ℕ) (session : Session) : Type 0 where
   pub active : ActiveTransaction
   pub is : active_under active session.log_number ≡ Some active
@@ -88,7 +88,7 @@ module _ (w : World) (active : List (Option ActiveTransaction)) (mask : Write) (
         let is = active_is w active mask words holds number h there in
         has.each number h is.transaction there is.is
 
-    -- none is held on a pool that has no session
+    -- none is active on a pool that has no session
     pub none_active : (slot : ℕ) → session_in sessions slot ≡ None → (number : ℕ) (h : ActiveTransaction) → active_under active number ≡ Some h → h.slot ≢ slot
     none_active slot none number h there same =
         none-some (session_of number (active_is w active mask words holds number h there).transaction) (sym none ∙ ap (session_in sessions) (sym same) ∙ session_active number h there)

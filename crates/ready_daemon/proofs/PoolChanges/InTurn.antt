@@ -25,7 +25,7 @@ use Rattle.ready_daemon.proofs.PoolChanges.TablesBeside.{sound_read, pools_read}
 
 -- ---- a daemon that is ready
 
--- the world's pool of a record that is used, with the words masked of what is held
+-- the world's pool of a record that is used, with the words of the active transactions masked
 pub record IsPoolOf (w : World) (hold : Reader) (t : Tables) (slot : ℕ) (r : PoolRecord) : Type 0 where
   pub named : pool_named r.name w.stored ≡ Some (pool_of hold r (puddles_of t slot))
   pub in_turn : puddles_in_turn t slot ≡ listed (puddles_of t slot)
@@ -47,7 +47,7 @@ module _ (size : ℕ) (w : World) (memory : Memory) (s : State) (ready : IsReady
   pub known_in_turn : (slot : ℕ) (at : List (ℕ × Puddle)) → known_puddles_in memory.judged slot ≡ Some at → puddles_in_turn t slot ≡ at
   known_in_turn slot at known = (graph_parts w.stored.frames slot (reads s.now.words) at (ready.knows.judged.each slot at known)).turn
 
-  -- a pool on which a transaction is held is known by the puddles on which it is open
+  -- a pool on which a transaction is active is known by the puddles on which it is open
   pub active_there_known : (number : ℕ) (active : ActiveTransaction) (there : active_under memory.active number ≡ Some active)
       → known_puddles_in memory.judged active.slot ≡ Some (active_is w memory.active ready.mask s.now.words ready.active number active there).puddles
   active_there_known number active there =

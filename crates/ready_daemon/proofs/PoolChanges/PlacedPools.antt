@@ -1,4 +1,4 @@
--- A pool that is placed beside what is held: the world that it gives keeps what is held, and each pool that has a graph keeps it, and its puddles.
+-- A pool that is placed beside the active transactions: the world that it gives keeps these, and each pool that has a graph keeps it, and its puddles.
 use Rattle.std.proofs.Common.{◌≡◌, ◌≢◌, inl, inr, ℕ, suc, ◌+◌, ◌-◌, ◌<◌, ◌≤◌, true, false, eqb, List, [], ◌∷◌, ◌++◌, map, length, Option, Some, None, is_none, nat_cmp, refl, sym, ap, subst, ◌∙◌, arith, ne_eqb}
 use Rattle.std.specs.Prelude.{slice_get, ⊤}
 use Rattle.std.specs.FinMap.Entries.{put, find-put}
@@ -147,7 +147,7 @@ module _ (name : List ℕ) (who : Owner) (mode : ℕ) (file : FileContents) (s :
       let typed = with_types_defined (types_missing s.types file.types) s in
       ap graph_in (found_beside_put name other (imported_pool who mode s.next_number file) typed.pools apart) ∙ pools_still (types_missing s.types file.types) s other g is
 
--- has what is held
+-- has the active transactions
 pub KeepsActive-imported : (w : World) (active : List (Option ActiveTransaction)) (mask : Write) (words : Words) (name : List ℕ) (who : Owner) (mode : ℕ) (file : FileContents) → AreActive w active mask words → IsNotNamed name active
     → KeepsActive w (record w { stored = with_imported_pool name who mode file w.stored }) active
 KeepsActive-imported w active mask words name who mode file holds apart = record {
@@ -323,7 +323,7 @@ module _ (F : ℕ) (image : Image) (file : List (ℕ × ℕ)) (wanted : List ℕ
 
 -- ---- the line
 
--- it is carried out beside what is held: the next world has all that is held, and each pool that has a graph keeps it
+-- it is carried out beside the active transactions: the next world has all of them, and each pool that has a graph keeps it
 pub Applies-wider : (size : ℕ) (w : World) (memory : Memory) (c : Command) (next : StoredWorld) (also : Image → Type 0) (fault : Option HostFault) (old new : State) (ready : IsReady size w memory old)
     → LeavesPuddles w.stored.frames Stays old new → refusal_of w c ≡ None → after w c ≡ record w { stored = next } → next.frames ≡ w.stored.frames → KeepsActive w (record w { stored = next }) memory.active
     → ChangesBeside size w.stored next also ready.mask fault old new → (fault ≡ None → KeepsPools w.stored.frames None (reads old.now.words) (reads new.now.words))

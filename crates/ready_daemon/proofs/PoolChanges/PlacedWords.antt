@@ -161,7 +161,7 @@ module _ (F : ℕ) (image : Image) (file : List (ℕ × ℕ)) (wanted : List ℕ
   placing_words k v (inl log) = let high = log.high in inl (omega arith)
   placing_words k v (inr named) = words_written (IsFreeWord F t) (placing slot r types puddles) k named.value placed_words named.is
 
--- ---- beside what is held
+-- ---- beside the active transactions
 
 -- no word that is free is masked
 module _ (w : World) (active : List (Option ActiveTransaction)) (mask : Write) (words : Words) (holds : AreActive w active mask words) where

@@ -196,18 +196,18 @@ module _ (size : ℕ) (w : World) (memory : Memory) (s : State) (ready : IsReady
 
 -- ---- what a batch of pools does to a ready daemon
 
--- pools are changed beside what is held
+-- pools are changed beside the active transactions
 pub record ChangesBeside (size : ℕ) (s next : StoredWorld) (also : Image → Type 0) (mask : Write) (fault : Option HostFault) (old new : State) : Type 0 where
   pub beside : LeavesMasked mask fault old new
   pub pools : ChangesPools size s next also fault (masked_state mask old) (masked_state mask new)
 
--- the next world has the same frames and types, and each pool on which a transaction is held as it was
+-- the next world has the same frames and types, and each pool on which a transaction is active as it was
 pub record KeepsPool (s next : StoredWorld) (active : List (Option ActiveTransaction)) : Type 0 where
   pub frames : next.frames ≡ s.frames
   pub types : next.types ≡ s.types
   pub pool : (number : ℕ) (h : ActiveTransaction) → active_under active number ≡ Some h → pool_named h.name next ≡ pool_named h.name s
 
--- no transaction is held on a pool of this name
+-- no transaction is active on a pool of this name
 abbrev pub IsNotNamed : List ℕ → List (Option ActiveTransaction) → Type 0
 IsNotNamed name active = (number : ℕ) (h : ActiveTransaction) → active_under active number ≡ Some h → h.name ≢ name
 
@@ -225,7 +225,7 @@ Applies-pools becomes size w memory c next also fault old new ready puddles free
     (AppliesMasked-pools size w memory next also fault old new ready b.beside b.pools keeps.frames)
     becomes puddles behind refl refl refl knows (λ none. rest_beside size w memory old ready but new apart (stay none) (b.beside.single none)))
 
--- each pool that was judged stays
+-- what is known of pools stays so
 knows_still : (size : ℕ) (w : World) (memory : Memory) (old new : State) (ready : IsReady size w memory old) → KeepsPools w.stored.frames None (reads old.now.words) (reads new.now.words)
     → KnowsPools w.stored.frames memory.judged ready.active.opens (reads new.now.words)
 knows_still size w memory old new ready keeps = KnowsPools-all w.stored.frames memory.judged ready.active.opens (reads old.now.words) (reads new.now.words) keeps ready.knows
@@ -236,7 +236,7 @@ pub Applies-behind : {becomes : Member → Option Member → Type 0} (size : ℕ
 Applies-behind {becomes} size w next memory behind fault a b d same applies ready =
     subst (λ (s : State). AppliesBy becomes size w next behind fault s d) same (applies (subst (λ (s : State). IsReady size w memory s) (sym same) ready))
 
--- a pool more, of another name than those that are held
+-- a pool more, of another name than those on which one is active
 keeps_made : (s : StoredWorld) (name : List ℕ) (who : spaces.Owner) (mode : ℕ) (active : List (Option ActiveTransaction)) → IsNotNamed name active → KeepsPool s (with_new_pool name who mode s) active
 unfolding with_new_pool
 keeps_made s name who mode active apart = record {
@@ -266,7 +266,7 @@ keeps_drop s name active apart = record {
   pool = λ number h there. found_beside_without name h.name s.pools (apart number h there);
 }
 
--- no transaction is held on a pool that is not there
+-- no transaction is active on a pool that is not there
 pub absent_apart : (w : World) (active : List (Option ActiveTransaction)) (mask : Write) (words : Words) (name : List ℕ) → AreActive w active mask words → pool_named name w.stored ≡ None → IsNotNamed name active
 absent_apart w active mask words name holds none number h there same =
     let is = active_is w active mask words holds number h there in
@@ -465,7 +465,7 @@ module _ (size : ℕ) (w : World) (memory : Memory) (s : State) (ready : IsReady
   owned_refusal : refusal_of w asked ≡ owned (w.clients client) (pool_named name w.stored)
   owned_refusal = refusal_of-drop w client name
 
-  -- so none is held on the pool
+  -- so none is active on the pool
   pub active_apart : refusal_of w asked ≡ None → IsNotNamed name memory.active
   active_apart free =
       not_named w memory.active ready.mask s.now.words name ready.active

@@ -95,7 +95,7 @@ module _ (w : World) (active : List (Option ActiveTransaction)) (mask : Write) (
 
   -- ---- a pool is made
 
-  -- a slot that is free is not that of a pool that is held
+  -- a slot that is free is not that of a pool on which one is active
   pub free_apart : (slot : ℕ) → t.pools slot ≡ None → (number : ℕ) (h : ActiveTransaction) → active_under active number ≡ Some h → slot ≡ h.slot → ⊥
   free_apart slot free number h there same =
       let pool = active_pool w active mask words holds number h there in
@@ -147,7 +147,7 @@ module _ (w : World) (active : List (Option ActiveTransaction)) (mask : Write) (
         };
   }
 
-  -- ---- a pool that is not held is changed, or dropped
+  -- ---- a pool on which none is active is changed, or dropped
 
   module _ (slot : ℕ) (within : slot < POOL_RECORDS) (apart : (number : ℕ) (h : ActiveTransaction) → active_under active number ≡ Some h → slot ≡ h.slot → ⊥) where
     pub off_changing : (mode : ℕ) → IsOff mask (ByBatch DAEMON_LOG (puts_batch (changing slot mode)))
@@ -230,7 +230,7 @@ module _ (size : ℕ) (w : World) (memory : Memory) (next : StoredWorld) (also :
     shelf = refl;
   }
 
--- ---- what stays of the pools that are held
+-- ---- what stays of the pools on which one is active
 
 pub KeepsActive-stored : (w : World) (next : StoredWorld) (active : List (Option ActiveTransaction)) → next.frames ≡ w.stored.frames → next.types ≡ w.stored.types
     → ((number : ℕ) (h : ActiveTransaction) → active_under active number ≡ Some h → pool_named h.name next ≡ pool_named h.name w.stored) → KeepsActive w (record w { stored = next }) active

@@ -161,15 +161,15 @@ module _ (w : World) (active : ActiveTransaction) (mask : Write) (words : Words)
             let to = puddle.within.high in absurd (omega arith)
       ]))
 
--- ---- whatever is held
+-- ---- whatever is active
 
--- a member that is none of the pools on which one is held
+-- a member that is none of the pools on which one is active
 abbrev pub IsOfOthers : List (Option ActiveTransaction) → Option Member → Type 0
 IsOfOthers active m = (number : ℕ) (h : ActiveTransaction) → active_under active number ≡ Some h → is_of_pool h.slot m ≡ false
 
 -- no word of these is masked:
 module _ (w : World) (active : List (Option ActiveTransaction)) (mask : Write) (words : Words) (holds : AreActive w active mask words) where
-  -- of the record of a pool on which none is held
+  -- of the record of a pool on which none is active
   pub unmasked_pool : (slot k : ℕ) → slot < POOL_RECORDS → ((number : ℕ) (h : ActiveTransaction) → active_under active number ≡ Some h → slot ≡ h.slot → ⊥)
       → pool_record_at slot ≤ k → k < pool_record_at (slot + 1) → mask k ≡ None
   unmasked_pool slot k within apart low high =
@@ -199,7 +199,7 @@ module _ (w : World) (active : List (Option ActiveTransaction)) (mask : Write) (
   unmasked_moving_frame frame k m below used moving low high =
       unmasked_by_all w active mask words holds k (λ number h there is. other_frame w h mask words is frame k below (moving_apart w h mask words is frame m used moving) low high)
 
--- no two are held on the pool of one slot
+-- no two are active on the pool of one slot
 pub one_slot : (w : World) (active : List (Option ActiveTransaction)) (mask : Write) (words : Words) → AreActive w active mask words → (n m : ℕ) (h g : ActiveTransaction) → active_under active n ≡ Some h → active_under active m ≡ Some g
     → h.slot ≡ g.slot → n ≡ m
 one_slot w active mask words holds n m h g here there same =

@@ -1,4 +1,4 @@
--- A pool grows by a puddle beside what is held: it writes no masked word, and the puddle is fresh.
+-- A pool grows by a puddle beside the active transactions: it writes no masked word, and the puddle is fresh.
 use Rattle.std.proofs.Common.{◌≡◌, ◌⊎◌, inl, inr, ℕ, ◌+◌, ◌<◌, ◌≤◌, List, [], ◌∷◌, length, Option, Some, None, refl, sym, ap, subst, ◌∙◌, arith}
 use Rattle.std.proofs.lemmas.Option.{none-some}
 use Rattle.pm_model.specs.declared.host.HostFault.{HostFault}
@@ -32,7 +32,7 @@ use Rattle.ready_daemon.specs.ActiveTransactions.{AreActive}
 use Rattle.ready_daemon.proofs.Commands.Beside.{unmasked_front}
 use Rattle.ready_daemon.proofs.PoolChanges.PoolsApart.{IsOff-puts, frame_below, new_frame, filling_off}
 
--- ---- beside what is held
+-- ---- beside the active transactions
 
 -- no word that a puddle more takes is masked
 pub off_growing : (w : World) (active : List (Option ActiveTransaction)) (mask : Write) (words : Words) → AreActive w active mask words → (a : NewPuddle)

@@ -1,4 +1,4 @@
--- The words of puddles that are not finished rest, of each pool on which a transaction is held, beside calls that leave pools as they are.
+-- The words of puddles that are not finished rest, of each pool on which a transaction is active, beside calls that leave pools as they are.
 use Rattle.std.proofs.Common.{◌≡◌, ◌≢◌, inr, ℕ, true, false, Option, Some, None, sym, ap, subst, ◌∙◌, arith, List, inl}
 use Rattle.pm_model.specs.Words.{HasOnly, reads}
 use Rattle.pm_model.specs.Moments.{State}
@@ -28,7 +28,7 @@ module _ (size : ℕ) (w : World) (memory : Memory) (old : State) (ready : IsRea
   abbrev is_active : (number : ℕ) (h : ActiveTransaction) → active_under memory.active number ≡ Some h → IsActive w h ready.mask old.now.words
   is_active = active_is w memory.active ready.mask old.now.words ready.active
 
-  -- a pool on which one is held has a graph as it is read
+  -- a pool on which one is active has a graph as it is read
   pub active_graph : (number : ℕ) (h : ActiveTransaction) (there : active_under memory.active number ≡ Some h) → HasGraphIn w.stored.frames h.slot (reads old.now.words) (is_active number h there).puddles
   active_graph number h there =
       let under = ready.active.each number h there in
@@ -62,7 +62,7 @@ module _ (size : ℕ) (w : World) (memory : Memory) (old : State) (ready : IsRea
   pub rest_still : RestBehind w memory.active ready.mask old.now.words ready.active old.now.words
   rest_still = record { each = λ number h there. (is_active number h there).running.rests }
 
-  -- what rests of one that is held is masked by none
+  -- what rests of an active one is masked by none
   module _ (number : ℕ) (active : ActiveTransaction) (there : active_under memory.active number ≡ Some active) (k : ℕ) (mine : pool_has_word w.stored.frames (is_active number active there).puddles k ≡ true)
       (other : pool_has_word w.stored.frames (finished_of (is_active number active there).puddles) k ≡ false) where
     abbrev F : ℕ

@@ -1,5 +1,5 @@
--- Pools that have a graph keep it, and their puddles, where the records of the puddles, the words of their frames and the types stay; and so does what is
--- known of pools that were judged.
+-- Pools that have a graph keep it, and their puddles, where the records of the puddles, the words of their frames and the types stay; and what is known of
+-- pools stays so.
 use Rattle.std.proofs.Common.{◌≡◌, ◌≢◌, ℕ, ◌+◌, ◌<◌, ◌≤◌, true, List, Option, Some, None, option_map, refl, sym, ap, ◌∙◌, subst, arith}
 use Rattle.std.specs.Ordering.{nat_cmp}
 use Rattle.std.specs.FinMap.Entries.{find}

@@ -1,4 +1,4 @@
--- Pools that have a graph keep it, and their puddles, where a client comes or goes, and where a type is defined.
+-- Pools that have a graph keep it, and their puddles, where a client is registered or removed, and where a type is defined.
 use Rattle.std.proofs.Common.{◌≡◌, ◌⊎◌, inl, inr, ℕ, ◌+◌, ◌<◌, ◌≤◌, Bool, true, false, cond, leb-true, List, length, Option, Some, None, is_some, unwrap_or, eqb, refl, sym, ap, ◌∙◌, arith}
 use Rattle.std.specs.Ordering.{nat_cmp}
 use Rattle.std.proofs.lemmas.Bool.{cases_lt, and_parts}
@@ -27,7 +27,7 @@ use Rattle.log_space.proofs.Writing.{writes_elsewhere}
 use Rattle.type_maps.specs.Define.{place_for, record_write, half_defined, defined, Defines}
 use Rattle.ready_daemon.proofs.PoolsKnown.KnownKept.{KeepsGraphs, KeepsPools, SparesTables, KeepsPools-each, KeepsPools-then, KeepsPools-apart, types_same, puddles_same, own_word}
 
--- ---- a client comes or goes
+-- ---- a client is registered or removed
 
 -- its logs are closed
 gates_spare : (F client : ℕ) → SparesTables F (ByClosing F client)

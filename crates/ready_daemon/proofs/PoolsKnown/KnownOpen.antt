@@ -110,7 +110,7 @@ known_again judged slot known was i = elim (cases_eq i slot) [
 pub KnowsPools-none : (F n : ℕ) (image : Image) → KnowsPools F (replicate n None) none_open image
 KnowsPools-none F n image = record { judged = AreKnownPools-none F n image; open_pools = λ number o there. absurd (none-some o there) }
 
--- some more are judged
+-- more pools are known
 pub KnowsPools-read : (F : ℕ) (judged next : List (Option Known)) (opens : Opens) (image : Image) → AreKnownPools F next image
     → ((slot : ℕ) (at : List (ℕ × Puddle)) → known_puddles_in judged slot ≡ Some at → known_puddles_in next slot ≡ Some at) → KnowsPools F judged opens image → KnowsPools F next opens image
 KnowsPools-read F judged next opens image right kept knows = record { judged = right; open_pools = λ number o there. kept o.pool.slot o.pool.puddles (knows.open_pools number o there) }
@@ -127,7 +127,7 @@ KnowsPools-forgotten F slot judged opens image shut knows = record {
   open_pools = λ number o there. known_other judged slot o.pool.slot None (shut number o there) ∙ knows.open_pools number o there;
 }
 
--- ---- lines that leave what is held
+-- ---- lines that leave the active transactions
 
 -- each pool stays
 pub KnowsPools-all : (F : ℕ) (judged : List (Option Known)) (opens : Opens) (before after : Image) → KeepsPools F None before after → KnowsPools F judged opens before
@@ -141,7 +141,7 @@ KnowsPools-dropped F slot judged opens before after shut keeps knows =
     let less = KnowsPools-forgotten F slot judged opens before shut knows in
     record { judged = AreKnownPools-but F slot (set judged slot None) before after keeps (ap (option_map (λ (k : Known). k.puddles)) (nothing_there judged slot)) less.judged; open_pools = less.open_pools }
 
--- ---- a transaction begins, goes on and ends
+-- ---- a transaction begins, keeps running and ends
 
 -- its pool has a graph, and this is known of it then; each other stays
 pub AreKnownPools-own : (F slot : ℕ) (judged : List (Option Known)) (known : Known) (before after : Image) → KeepsPools F (Some slot) before after → HasGraphIn F slot after known.puddles → IsKnown F after known
@@ -167,7 +167,7 @@ KnowsPools-begun F judged number one others opens before after more keeps known 
   open_pools = each_opened number one others opens more (λ o. known_puddles_in judged o.pool.slot ≡ Some o.pool.puddles) known knows.open_pools;
 }
 
--- one goes on, on the same puddles or on more, on which no other is open: its pool has a graph, and this is known of it then
+-- one keeps running, on the same puddles or on more, on which no other is open: its pool has a graph, and this is known of it then
 pub KnowsPools-grown : (F : ℕ) (judged : List (Option Known)) (number : ℕ) (one more : OpenTransaction) (others opens then : Opens) (known : Known) (before after : Image) → IsOneMore number one others opens
     → IsOneMore number more others then → more.pool.slot ≡ one.pool.slot → known.puddles ≡ more.pool.puddles → IsShut others one.pool.slot → KeepsPools F (Some one.pool.slot) before after
     → HasGraphIn F one.pool.slot after more.pool.puddles → IsKnown F after known → KnowsPools F judged opens before → KnowsPools F (set judged one.pool.slot (Some known)) then after
@@ -193,7 +193,7 @@ KnowsPools-ended F judged number one others opens known before after more puddle
       ];
     }
 
--- one goes on, on the same puddles
+-- one keeps running, on the same puddles
 pub KnowsPools-later : (F : ℕ) (judged : List (Option Known)) (number : ℕ) (one : OpenTransaction) (opens : Opens) (known : Known) (before after : Image) → opens number ≡ Some one → known.puddles ≡ one.pool.puddles
     → KeepsPools F (Some one.pool.slot) before after → HasGraphIn F one.pool.slot after one.pool.puddles → IsKnown F after known → KnowsPools F judged opens before → KnowsPools F (set judged one.pool.slot (Some known)) opens after
 KnowsPools-later F judged number one opens known before after there puddles keeps has is knows =
