@@ -12,7 +12,7 @@ fn enter(
     if let Some(holder) = sessions.holder(pool) {
         assert!(rt; holder == client);
     }
-    // The number of the log is that of the pool: only that it is one of the 32 counts here.
+    // The log number is the slot of the pool: all that counts here is that it is below 32.
     sessions.enter(client, pool, pool)
 }
 
