@@ -40,10 +40,10 @@ pub record KeepsAllBut (file : Option (List ℕ)) (old new : State) : Type 0 whe
   pub script : new.script ≡ old.script
   pub files : KeepsFiles file old.shelf new.shelf
 
--- What each command owes, before the daemon goes on behind it: a step of the machine was made, and answered so, in one line, and at every moment
+-- What each command owes, before a restart behind it: a step of the machine was made, and answered so, in one line, and at every moment
 -- each frontier is on its way to where the line leads it, and without a fault there; only a file that it
--- names was written, and it names none where power was lost, in which case the world is one that it gives where memory is not refused; a client that
--- goes has its logs closed first; it was counted by its kind.
+-- names was written, and it names none where power was lost, in which case the world is one that it gives where memory is not refused; a client that is
+-- removed has its logs closed first; it was counted by its kind.
 pub record CarriesOut (size : ℕ) (w : World) (memory : Memory) (command : Option Command) (done : Result LineAnswer HostFault) (before after : Counts) (old new : State) : Type 0 where
   pub said : Answer
   pub under : World
@@ -62,7 +62,7 @@ pub record CarriesOut (size : ℕ) (w : World) (memory : Memory) (command : Opti
 
 -- A line was carried out, or refused, or cut off and the daemon started again, all without a word: at every moment the images stand for the
 -- world before it or the one that it gives, and without a fault the daemon is ready, with this memory, in the world from which the run goes on.
--- A client that goes has its logs closed first. In no image a registered log is refused.
+-- A client that is removed has its logs closed first. In no image a registered log is refused.
 pub record CarriesOutLine (size : ℕ) (w : World) (line : List ℕ) (result : Result LineAnswer RunFault) (memory : Memory) (before after : Counts) (old new : State) : Type 0 where
   pub turn : Turn
   pub of_line : turn.line ≡ line
@@ -99,8 +99,8 @@ pub record SaysAnswer (frames : ℕ) (aloud : Bool) (result : Result Bool RunFau
   pub says : SaysPart (cond aloud text []) (run_fault result) old new
 
 -- One line is one turn of the machine: at every moment the images stand for the world before it or the one that it gives, with its reply said
--- only once that one is durable; without a fault the reply is whole and the daemon, with this memory, ready for the next line. A client that
--- goes has its logs closed first. In no image left at any moment a registered log is refused: a restart refuses none. Without a fault a cut was
+-- only once that one is durable; without a fault the reply is whole and the daemon, with this memory, ready for the next line. A client that is
+-- removed has its logs closed first. In no image left at any moment a registered log is refused: a restart refuses none. Without a fault a cut was
 -- counted where the reply is `cut`, and nowhere else. A line that names a pool leaves each other pool, with what is open on it, where it defines no
 -- type and power was not lost.
 pub record Answers (size : ℕ) (w : World) (line : List ℕ) (aloud : Bool) (result : Result Bool RunFault) (memory : Memory) (before after : Counts) (old new : State) : Type 0 where

@@ -1,4 +1,4 @@
--- What is answered to a line that was settled, and what is said of it.
+-- What is answered to a line that was carried out or refused, and what is said of it.
 use Rattle.std.specs.Prelude.{◌≡◌, ℕ, List, ◌++◌, codes, Result, Ok, Err}
 use Rattle.pm_model.specs.declared.host.HostFault.{HostFault}
 use Rattle.pud_defs.specs.declared.layout.TheConstants.{MACHINE_WORD}

@@ -24,7 +24,7 @@ use Rattle.puddled.specs.declared.daemon.StartFault.{StartFault}
 use Rattle.puddled.specs.Faults.{start_fault}
 use Rattle.puddled.specs.Saying.{IsPart, SaysPart}
 
--- what the daemon holds in memory behind a start: no transaction is open, and no pool was judged
+-- what the daemon holds in memory behind a start: no transaction is open, and no pool is known
 abbrev pub first_memory : (frames : ℕ) → Memory
 first_memory frames = record { frames = frames; active = replicate ALL_LOGS None; sessions = replicate POOL_RECORDS None; judged = replicate POOL_RECORDS None }
 

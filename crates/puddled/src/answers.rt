@@ -46,7 +46,7 @@ impl Text {
     }
 }
 
-/// What is answered to a line that was settled.
+/// What is answered to a line that was carried out or refused.
 #[derive(Drop)]
 pub(crate) enum LineAnswer {
     /// This reply.

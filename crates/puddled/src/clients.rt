@@ -1,4 +1,4 @@
-//! Clients that come and go.
+//! Clients that are registered and removed.
 ghost use Rattle.std.specs.Prelude.{◌≡◌, ◌<◌, ◌≤◌, ℕ, true, IfOk, is_some, Option};
 ghost use Rattle.pm_model.specs.Words.{IsRested};
 ghost use Rattle.pm_model.specs.Counts.{after_fault, fault_of};
@@ -40,7 +40,7 @@ fn close_and_register<H: Host>(
     register(h, client, uid, gid)
 }
 
-/// Lets the client come as this owner and this group, or refuses to. Its logs are closed durably before they are registered.
+/// Registers the client with this owner and this group, or refuses to. Its logs are closed durably before they are registered.
 /// A refused one changes nothing. The device has so many frames.
 pub(crate) fn register_client<H: Host>(
     h: &mut H,
@@ -69,7 +69,7 @@ pub(crate) fn register_client<H: Host>(
     Ok(Reply::Ok)
 }
 
-/// Closes the logs of client `slot`, and then registers them no more.
+/// Closes the logs of client `slot`, and then unregisters them.
 fn close_and_unregister<H: Host>(h: &mut H, frames: u32, slot: u32) -> Result<(), HostFault>
     requires known { slot < CLIENTS }
     requires few { frames ≤ MAX_FRAMES }
@@ -88,7 +88,7 @@ fn close_and_unregister<H: Host>(h: &mut H, frames: u32, slot: u32) -> Result<()
 }
 
 impl Daemon {
-    /// Undoes the client's own transactions, closes its logs, and then registers them no more.
+    /// Undoes the client's own transactions, closes its logs, and then unregisters them.
     fn remove_client<H: Host>(&mut self, h: &mut H, client: u8) -> Result<(), HostFault>
         requires known { client < CLIENTS }
         requires room { device_words (self.old).frames ≤ (H.counts h.old).size }
@@ -106,7 +106,7 @@ impl Daemon {
         close_and_unregister(h, self.frames, u32::from(client))
     }
 
-    /// Lets the client go, or refuses to. Its own transactions are undone, and its logs are closed durably before they are registered no more. A
+    /// Removes the client, or refuses to. Its own transactions are undone, and its logs are closed durably before they are unregistered. A
     /// refused one changes nothing.
     pub(crate) fn leave<H: Host>(&mut self, h: &mut H, client: u8) -> Result<Reply, HostFault>
         requires known { client < CLIENTS }

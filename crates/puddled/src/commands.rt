@@ -1,5 +1,5 @@
 //! The calls that answer the commands of a transaction: it is begun, committed and undone, an object is made or freed in it, a field or the root is
-//! set, and a field's value asked for later.
+//! set, and a field's value deferred.
 ghost use Rattle.std.specs.Prelude.{◌≡◌, ◌<◌, ◌≤◌, ℕ, List, Option, IfOk};
 ghost use Rattle.pm_model.specs.Words.{IsRested};
 ghost use Rattle.pm_model.specs.Counts.{after_fault, fault_of};
@@ -29,7 +29,7 @@ use pool_transaction::{Change, PoolTransactions};
 use pud_defs::machine::{Refusal, Reply};
 use pud_defs::records::Name;
 
-/// Makes the change in the transaction that is held under the number, on the pool that is known in the slot.
+/// Makes the change in the transaction that is active under the log number, on the pool that is known in the slot.
 ///
 /// The device has so many frames. The only errors are the host's own.
 fn change_in<H: Host>(
@@ -167,8 +167,8 @@ impl Daemon {
         Ok(Reply::Ok)
     }
 
-    /// Makes the change in the client's own transaction on the pool of this name: the client sees it at once, and others once it is committed; but what is
-    /// asked for later comes at the commit, behind all that is set in it and all that was asked for before, and nobody sees it until then. An object that
+    /// Makes the change in the client's own transaction on the pool of this name: the client sees it at once, and others once it is committed; but a
+    /// deferred value comes at the commit, behind all that is set in it and all that was deferred before, and nobody sees it until then. An object that
     /// is made has each field zero or null; where the pool has no free slot it grows by a puddle first, which it keeps also where the transaction is
     /// undone. The client is one of 0 to 7. The reply is `Ok`, or the serial of the object that was made, or says why nothing changes, by the first of
     /// these that holds: `Client`, the client is not present; `Pool`, there is no pool of the name; `Wild`, the pool has no graph; `Busy`, another
@@ -176,8 +176,8 @@ impl Daemon {
     /// transaction's log has no room for 37 units more; `Full`, the pool has no serial left, or as many objects as it may have, or is to grow where no
     /// UUID is left; `Space`, it is to grow and no frame is free; and of an update: `Object`, there is no object of the serial that is named, or of that
     /// which is to be the value; `Field`, the object has no such field; `Kind`, the field holds a number and the value is a reference, or the other way
-    /// round; `ActiveTransaction`, the object is to be freed and the root is it, or a pointer of an object, itself included, leads to it, or a value that was asked for
-    /// later is one of its fields or leads to it; `TooBig`, the transaction's log has no room for three units more.
+    /// round; `Held`, the object is to be freed and the root is it, or a pointer of an object, itself included, leads to it, or a deferred value is for
+    /// one of its fields or leads to it; `TooBig`, the transaction's log has no room for three units more.
     ///
     /// The only errors are the host's own: `Failed` where a call of it failed, `Cut` where power was lost. At either the device stands for what it
     /// stood for before the call or for what the line gives, and the daemon is to be stopped, and to start anew.

@@ -106,7 +106,7 @@ pub struct Daemon {
     pub(crate) opened: PoolTransactions,
     /// Whose transactions they are, with which logs, and how often each was begun, by the slots of their pools' records.
     pub(crate) sessions: Sessions,
-    /// Which pools were judged since the start, those on which a transaction is open among them, and their puddles.
+    /// Which pools are known to have a graph, those on which a transaction is open among them, and their puddles.
     pub(crate) judged: KnownPools,
 }
 
@@ -278,7 +278,7 @@ fn reply_behind_loss(command: Command) -> Reply
     }
 }
 
-/// Goes on behind the command: where power was lost in it, the daemon starts again.
+/// Restarts the daemon where power was lost in the command.
 fn restart_if_cut<H: Host>(
     daemon: &mut Daemon,
     h: &mut H,
@@ -368,7 +368,7 @@ impl Daemon {
     ghost use Rattle.puddled.specs.Starting.{first_memory, Starts};
     ghost use Rattle.puddled.specs.Daemon.{spoken, SaysAnswer, Answers};
 
-    /// The daemon of a device of so many frames behind a start: no transaction is open, and no pool was judged.
+    /// The daemon of a device of so many frames behind a start: no transaction is open, and no pool is known.
     fn with_frames(frames: u32) -> Daemon
         requires some { MIN_FRAMES ≤ frames }
         requires no_more { frames ≤ MAX_FRAMES }
@@ -426,7 +426,7 @@ impl Daemon {
     ///
     /// Where power is lost in the line the daemon starts again within the call, and the reply is `cut`: the line was
     /// done wholly or not at all, and no client is present. At a line `cut N` power is lost at once, the daemon starts again,
-    /// and the reply is `ok`. In a line that lets a client go each of its logs is closed in every image in which its record
+    /// and the reply is `ok`. In a line that removes a client each of its logs is closed in every image in which its record
     /// is free. The device is the one that this daemon started on: it has the words that `frames` need.
     /// `Failed` comes where a call of the host failed, `CutInStart` where power was lost in that restart too, `NotSound`
     /// where the restart read a registry that is not sound; then no further line is to be given.

@@ -1,4 +1,4 @@
-//! Which pools were judged, and what is kept of them.
+//! Which pools are known to have a graph, and what else is known of them.
 ghost use Rattle.std.specs.Prelude.{◌≡◌, ◌≢◌, ◌<◌, ◌≤◌, ℕ, List, true, false, replicate, set, is_some, unwrap_or, [], Option, IfOk, IfSome};
 ghost use Rattle.pm_model.specs.Words.{reads};
 ghost use Rattle.pm_model.specs.Counts.{fault_of};
@@ -26,7 +26,7 @@ use std::alloc::Global;
 use std::array;
 use std::marker::Model;
 
-/// What is kept of the pools that were found to have a graph, by the slots of the pools' records.
+/// What is known of the pools that were found to have a graph, by the slots of the pools' records.
 #[derive(Drop)]
 pub(crate) struct KnownPools {
     pub(crate) pools: [Option<KnownPool>; POOL_RECORDS as usize],
@@ -59,7 +59,7 @@ fn find_graph<H: Host>(h: &mut H, frames: u32, slot: u32) -> Result<Option<Puddl
 }
 
 impl KnownPools {
-    /// No pool was judged yet.
+    /// No pool is known yet.
     pub(crate) fn none() -> KnownPools
         ensures { result ≡ replicate POOL_RECORDS Option.None }
     {

@@ -34,7 +34,7 @@ use pud_defs::machine::{Refusal, Reply};
 use pud_defs::records::Name;
 use std::mem;
 
-/// Holds a transaction under the number. What was held there, if anything, is given up.
+/// Puts a transaction under the number of its log. What was active there, if anything, is given up.
 fn put_transaction(all: &mut PoolTransactions, number: u32, opened: PoolTransaction)
     requires { number < ALL_LOGS }
     ensures held { all.new ≡ set all.old number (Option.Some opened) }
@@ -66,7 +66,7 @@ impl Daemon {
         }
     }
 
-    /// Begins a transaction of the client on the pool of this name, in the lowest closed log of the client, and holds it; or says why not: each log of
+    /// Begins a transaction of the client on the pool of this name, in the lowest closed log of the client; or says why not: each log of
     /// the client has an open transaction. The pool's record has this slot, the pool is known to have a graph, and none is open on it.
     pub(crate) fn begin_on<H: Host>(
         &mut self,
@@ -102,7 +102,7 @@ impl Daemon {
         Ok(Reply::Ok)
     }
 
-    /// Lets go of what is held under the number: its session ends. Of its pool the puddles alone are known still.
+    /// Takes out the transaction that is active under the log number, where one is: its session ends. Of its pool the puddles alone are known still.
     fn take_transaction(&mut self, number: u32) -> Option<PoolTransaction>
         requires { number < ALL_LOGS }
         ensures opened { result ≡ active_under (self.old).active number }
@@ -120,8 +120,8 @@ impl Daemon {
         opened
     }
 
-    /// Commits the client's own transaction on the pool of the name. Where it was begun more often than once it is held still, begun
-    /// once less often, and no device is touched; else what it asked for later comes with the rest, and it is held no more.
+    /// Commits the client's own transaction on the pool of the name. Where it was begun more often than once it stays active, begun
+    /// once less often, and no device is touched; else its deferred values come with the rest, and it is active no more.
     pub(crate) fn commit_own<H: Host>(
         &mut self,
         h: &mut H,
@@ -153,7 +153,7 @@ impl Daemon {
         }
     }
 
-    /// Undoes the transaction that is held under the number, where one is, however often it was begun: it is held no more, and its session ends.
+    /// Undoes the transaction that is active under the log number, where one is, however often it was begun: it is active no more, and its session ends.
     pub(crate) fn undo<H: Host>(&mut self, h: &mut H, number: u32) -> Result<(), HostFault>
         requires room { device_words (self.old).frames ≤ (H.counts h.old).size }
         requires number { number < ALL_LOGS }

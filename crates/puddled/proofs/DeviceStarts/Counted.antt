@@ -127,7 +127,7 @@ counted_loss pick starts.NotSound before after last = (refl, last)
 counted_loss pick (starts.Host hosts.Failed) before after last = (refl, last)
 counted_loss pick (starts.Host hosts.Cut) before after last = (refl, last)
 
--- ---- a command, and what goes on behind it
+-- ---- a command, and the restart behind it
 
 -- it was carried out, or refused
 pub kind_done : (kind : Kind) (before after : Counts) → CountsCommand kind None before after → CountsKind kind None 0 before after

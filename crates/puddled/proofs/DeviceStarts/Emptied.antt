@@ -80,7 +80,7 @@ in_table k v is = elim (cases_lt k SPACE_TABLE) [
   ]
 ]
 
--- images that settle to the same beside the log-space table have the same pools and puddles
+-- images whose settled images are the same beside the log-space table have the same pools and puddles
 pub settled_tables : (F : ℕ) (i j : Image) → ((k : ℕ) → IsReadBeside F k → settled F j k ≡ settled F i k) → tables_of F (settled_by DAEMON_LOG j) ≡ tables_of F (settled_by DAEMON_LOG i)
 settled_tables F i j same = tables_of-same F (settled_by DAEMON_LOG j) (settled_by DAEMON_LOG i) (λ k low high. word k (inl high) (omega arith) (omega arith)) (λ k low high. word k (inr low) (omega arith) high)
   where
@@ -196,7 +196,7 @@ module _ (size : ℕ) (s : StoredWorld) (i : Image) (world : world_of size i ≡
       nobody : (client : ℕ) → client < CLIENTS → owner_of (settled_by DAEMON_LOG image) client ≡ None
       nobody client few = free_record (settled_by DAEMON_LOG image) client (record_free client few)
 
-      -- beside the table it settles to the same
+      -- beside the table its settled image is the same
       settles_beside : (k : ℕ) → IsReadBeside F k → settled F image k ≡ settled F i k
       unfolding settled
       settles_beside k read =
@@ -247,7 +247,7 @@ module _ (size : ℕ) (s : StoredWorld) (i : Image) (world : world_of size i ≡
     pub cleared_d : (client : ℕ) → client < CLIENTS → reads d.now.words (space_record_at client) ≡ 0
     cleared_d client few = HasOnly-newest (d.now.words (space_record_at client)) 0 (empties.commits.durable refl (space_record_at client) 0 (clearing-there CLIENTS client few))
 
-    -- beside the logs and the table it reads as it settles to
+    -- beside the logs and the table it reads as the settled image
     pub reads_d : (k : ℕ) → is_in_log DAEMON_LOG k ≡ false → is_in_logs F k ≡ false → (k < SPACE_TABLE) ⊎ (PUDDLE_TABLE ≤ k) → reads d.now.words k ≡ settled F i k
     reads_d k outside beside spaces = kept_d k outside (clearing-outside CLIENTS k (omega arith) spaces) ∙ behind.reads_so k outside beside
 

@@ -1,4 +1,4 @@
--- A file that is placed beside what is held: its calls write no masked word, and each pool that has a graph keeps it.
+-- A file that is placed beside active transactions: its calls write no masked word, and each pool that has a graph keeps it.
 use Rattle.std.proofs.Common.{◌≡◌, ◌⊎◌, inl, inr, ℕ, zero, suc, ◌+◌, ◌-◌, ◌<◌, ◌≤◌, List, [], ◌∷◌, map, Option, Some, None, refl, sym, ap, subst, ◌∙◌, arith}
 use Rattle.std.specs.Prelude.{slice_get}
 use Rattle.std.proofs.lemmas.Bool.{cases_lt}
@@ -98,7 +98,7 @@ module _ (F : ℕ) (image : Image) (file : List (ℕ × ℕ)) (wanted : List ℕ
 
 -- ---- no masked word is written
 
--- whatever is held, and wherever the pool is placed
+-- whichever transactions are active, and wherever the pool is placed
 pub off_placing : (w : World) (active : List (Option ActiveTransaction)) (mask : Write) (words : Words) → AreActive w active mask words → (file : Stored) (types : List (ℕ × ℕ)) (name : List ℕ) (uid gid mode : ℕ)
     → IsOffPlacing mask w.stored.frames (reads words) file types name uid gid mode
 off_placing w active mask words holds file types name uid gid mode = record {

@@ -94,7 +94,7 @@ lost_answer w command pick said next is step_made = absurd (let no : ordinary �
 pub plain_step : (w : World) (c : Option Command) → file_in c ≡ None → StepBy w c (answer_by w c) (world_by w c)
 plain_step w c none = inl (record { answered = refl; gives = Gives-plain w c none })
 
--- ---- a client that goes
+-- ---- a client that is removed
 
 -- its own call closes its logs first
 pub ClosesLogs-leave : (w : World) (client : ℕ) (old new : State) → (true ≡ is_some (w.clients client) → ClosesBefore w.stored.frames client old new) → ClosesLogs ClosesBefore w (Some (Leave client)) old new
@@ -104,7 +104,7 @@ ClosesLogs-leave w client old new closes = record {
       subst (λ (n : ℕ). ClosesBefore w.stored.frames n old new) same (closes (subst (λ (n : ℕ). true ≡ is_some (w.clients n)) (sym same) present));
 }
 
--- no other command lets one go
+-- no other command removes one
 pub ClosesLogs-other : (w : World) (command : Option Command) (old new : State) → ((client : ℕ) → command ≡ Some (Leave client) → ⊥) → ClosesLogs ClosesBefore w command old new
 ClosesLogs-other w command old new other = record { first = λ client is present. absurd (other client is) }
 

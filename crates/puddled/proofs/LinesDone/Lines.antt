@@ -155,7 +155,7 @@ front_of_answer answer front prefix =
     let whole = ap newlines (sym prefix.is) ∙ newlines-answer_text answer in
     omega arith
 
--- the line was settled, and its reply is said
+-- the line was carried out or refused, and its reply is said
 module _ (size : ℕ) (w : World) (memory : Memory) (line : List ℕ) (answered : LineAnswer) (before between after : Counts) (old mid new : State) (s : CarriesOutLine size w line (Ok answered) memory before between old mid) where
   said_moments : (fault : Option HostFault) → Says (answer_text s.turn.answer) fault mid new → Leaves (StandsWith size w (s.turn ∷ [])) old new
   said_moments fault says =

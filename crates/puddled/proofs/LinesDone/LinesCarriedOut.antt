@@ -1,4 +1,4 @@
--- A line without a word: its command carried out, and what goes on behind it.
+-- A line without a word: its command carried out, and the restart behind it where power was lost.
 use Rattle.std.proofs.Common.{◌≡◌, ◌≢◌, ◌⊎◌, inl, inr, ℕ, List, [], Option, Some, None, Result, Ok, Err, refl, sym, ap, subst, ◌∙◌}
 use Rattle.std.proofs.lemmas.List.{append-nil}
 use Rattle.pm_model.specs.declared.host.HostFault.{HostFault}
@@ -210,7 +210,7 @@ module _ (size : ℕ) (w : World) (memory : Memory) (line : List ℕ) (before be
       (allowed_applied size w k.under memory (Some hosts.Cut) old mid k.applies)
       (r.allowed read_image.1)
 
-  -- a client that goes has its logs closed, or its record used, as power is lost, and so the restart leaves it
+  -- a client that is removed has its logs closed, or its record used, as power is lost, and so the restart leaves it
   closes_behind : (result : Result Memory StartFault) (new : State) → Recovers size found_world result mid new → ClosesLogs ClosesFirst w (command_of line) old new
   closes_behind result new r = record {
     first = λ client is present.

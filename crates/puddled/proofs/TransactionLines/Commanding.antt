@@ -40,7 +40,7 @@ ready_read size w memory old new same ready = subst (IsReady size w memory) (sym
 
 -- ---- what a line owes
 
--- The command is to lose no power, writes no file, and lets no client go.
+-- The command is to lose no power, writes no file, and removes no client.
 pub record IsPlain (c : Command) : Type 0 where
   pub kind : kind_of (Some c) ≡ ordinary
   pub file : file_of c ≡ None

@@ -1,4 +1,4 @@
--- A transaction that is held is committed where it was begun more than once: no word changes, and its depth does.
+-- An active transaction is committed where it was begun more than once: no word changes, and its depth does.
 use Rattle.std.proofs.Common.{◌≡◌, ℕ, ◌-◌, ◌<◌, false, leb, List, Option, Some, None, sym, ap, ap₂, subst, ◌∙◌, arith}
 use Rattle.std.specs.Prelude.{set}
 use Rattle.std.proofs.lemmas.Bool.{cond-false, lt-leb}

@@ -1,4 +1,4 @@
--- What is held under a number is let go, and ends on the device.
+-- The transaction that is active under a log number is taken out, and ends on the device.
 use Rattle.std.proofs.Common.{◌≡◌, ℕ, ◌≤◌, List, Option, Some, None, set, sym, ap, ap₂, subst, ◌∙◌}
 use Rattle.std.proofs.lemmas.Option.{same_Some}
 use Rattle.pm_model.specs.declared.host.HostFault.{HostFault}
@@ -16,7 +16,7 @@ use Rattle.ready_daemon.specs.Leaving.{sessions_behind, judged_behind, world_wit
 use Rattle.ready_daemon.specs.Memory.{ActiveTransaction, Memory, active_under}
 use Rattle.ready_daemon.specs.Ready.{IsReady, Applies}
 
--- The memory is the other, in which what was held under the number is held no more and has no session, and of its pool the puddles alone are known.
+-- The memory is the other, in which what was active under the log number is active no more and has no session, and of its pool the puddles alone are known.
 pub record IsReleased (number : ℕ) (memory behind : Memory) : Type 0 where
   pub active : behind.active ≡ set memory.active number None
   pub sessions : behind.sessions ≡ sessions_behind (active_under memory.active number) memory.sessions
@@ -24,7 +24,7 @@ pub record IsReleased (number : ℕ) (memory behind : Memory) : Type 0 where
   pub frames : behind.frames ≡ memory.frames
 
 module _ (number : ℕ) (memory behind : Memory) (released : IsReleased number memory behind) where
-  -- so it is known by what was held
+  -- so it is known by what was active
   behind_is : (o : Option ActiveTransaction) → active_under memory.active number ≡ o → record memory { active = set memory.active number None; sessions = sessions_behind o memory.sessions; judged = judged_behind o memory.judged } ≡ behind
   behind_is o there =
       ap (λ (f : ℕ). record { frames = f; active = set memory.active number None; sessions = sessions_behind o memory.sessions; judged = judged_behind o memory.judged }) (sym released.frames)
@@ -34,7 +34,7 @@ module _ (number : ℕ) (memory behind : Memory) (released : IsReleased number m
       ∙ ap (λ js. record { frames = behind.frames; active = behind.active; sessions = behind.sessions; judged = js }) (ap (λ (x : Option ActiveTransaction). judged_behind x memory.judged) (sym there) ∙ sym released.judged)
 
   module _ (size : ℕ) (w : World) (fault : Option HostFault) (old new : State) where
-    -- a transaction that was held has ended
+    -- a transaction that was active has ended
     pub Applies-released : (mine : ActiveTransaction) (next : World) → active_under memory.active number ≡ Some mine → Applies size w next (with_ended number mine memory) fault old new → Applies size w next behind fault old new
     Applies-released mine next there applies = subst (λ (m : Memory). Applies size w next m fault old new) (behind_is (Some mine) there) applies
 

@@ -30,7 +30,7 @@ returns-in-Some-clause-applies g c = λ t size e w name ready own.
     Applies-own_ended c.args.own.log_number c.args.self.now c.take_transaction.new.self released size w (fault_of c.commit.result) _ _ c.in-Some.opened c.args.client name c.args.own.slot there own (omega (arith, depth, is, last))
     (c.commit.ensures.applies t size e w c.args.self.now c.args.own.log_number (ap (λ (m : Memory). m.frames) (sym c.self.view_is)) there ready)
 
--- the client's own is held
+-- the client's own is active
 pub returns-in-None-clause-applies : goal.returns-in-None-clause-applies
 returns-in-None-clause-applies g c = λ t size e w name ready own. absurd (none-some own.own.active (sym (sym c.take_transaction.ensures.opened ∙ c.in-None.is) ∙ own.own.is))
 
