@@ -1,4 +1,4 @@
--- A line that updates a transaction that is held, of which was found what it updates: the update is made on the puddles alone, and then all that is kept of
+-- A line that updates an active transaction, of which was found what it updates: the update is made on the puddles alone, and then all that is kept of
 -- the pool is known of it.
 use Rattle.std.proofs.Common.{◌≡◌, ◌<◌, ℕ, List, length, Option, Some, None, sym, ap, subst, ◌∙◌}
 use Rattle.std.proofs.lemmas.List.{set-set}
@@ -34,7 +34,7 @@ Updates F active now at later update found size w fault old new =
     → AppliesTo (led_in active.slot (end_of (ordinal_written found))) size w (after w (command_of_update update active.client active.name)) (with_opened active.log_number active.slot now later memory) fault old new
 
 module _ (F : ℕ) (active : ActiveTransaction) (known : Known) (memory : Memory) (its : IsActiveWith F active known memory) (size : ℕ) (w : World) (old : State) (ready : IsReady size w memory old) where
-  -- its puddles lie as those of a ground
+  -- its puddles lie as those of a scope
   pub placed_on : ArePlacedPuddles F known.puddles
   placed_on =
       let alone = active_alone F active known memory its in

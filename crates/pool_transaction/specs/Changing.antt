@@ -1,4 +1,4 @@
--- What a line changes in a transaction that is held, and what stays of it while it goes on; why an object is not made in it, and what making one leaves.
+-- What a line changes in an active transaction, and what stays of it while it keeps running; why an object is not made in it, and what making one leaves.
 use Rattle.std.specs.Prelude.{◌≡◌, ◌≢◌, ◌⊎◌, ℕ, Bool, ◌+◌, ◌<◌, ◌≤◌, false, nat_le, nat_lt, cond, List, length, set, Option, Some, None, is_none}
 use Rattle.pm_model.specs.declared.host.HostFault.{HostFault}
 use Rattle.pm_model.specs.Moments.{State}
@@ -38,25 +38,25 @@ use Rattle.known_pool.specs.Known.{Known, by_puddles}
 use Rattle.ready_daemon.specs.PoolKnowledge.{known_pool_in, KnowsAlone}
 use Rattle.ready_daemon.specs.Memory.{ActiveTransaction, Memory, active_under}
 
--- ---- where it is held
+-- ---- where it is active
 
--- The memory of a device of so many frames holds the transaction under its number, and knows its pool by these puddles alone.
+-- In the memory of a device of so many frames the transaction is active under its log number, and its pool is known by these puddles alone.
 pub record IsActiveIn (F : ℕ) (active : ActiveTransaction) (at : List (ℕ × Puddle)) (memory : Memory) : Type 0 where
   pub frames : memory.frames ≡ F
   pub there : active_under memory.active active.log_number ≡ Some active
   pub known : KnowsAlone memory.judged active.slot at
 
--- The memory holds it so, and this is known of its pool.
+-- It is active there so, and this is known of its pool.
 pub record IsActiveWith (F : ℕ) (active : ActiveTransaction) (kept : Known) (memory : Memory) : Type 0 where
   pub frames : memory.frames ≡ F
   pub there : active_under memory.active active.log_number ≡ Some active
   pub known : known_pool_in memory.judged active.slot ≡ Some kept
 
--- the memory that holds this one under the number, and knows this of the pool in the slot
+-- the memory in which this one is active under the log number, and this is known of the pool in the slot
 abbrev pub with_known : (number slot : ℕ) → ActiveTransaction → Known → Memory → Memory
 with_known number slot active known memory = record memory { active = set memory.active number (Some active); judged = set memory.judged slot (Some known) }
 
--- the memory that holds this one under the number, and knows the pool in the slot by these puddles alone
+-- the memory in which this one is active under the log number, and the pool in the slot is known by these puddles alone
 abbrev pub with_opened : (number slot : ℕ) → ActiveTransaction → List (ℕ × Puddle) → Memory → Memory
 with_opened number slot active at memory = with_known number slot active (by_puddles at) memory
 
@@ -92,7 +92,7 @@ changed_by (Later s f x) = deferring SET_UNITS (record { s = s; f = f; x = x })
 changed_by (Root s) = charged SET_UNITS (with_root s)
 changed_by (Free s) = charged SET_UNITS (without_object s)
 
--- By the graph of the transaction, and by what is asked for later, the change may be made.
+-- By the graph of the transaction, and by its deferred set, the change may be made.
 abbrev pub MayChange : List (ℕ × ℕ) → Transaction → Update → Type 0
 MayChange types t (Set s f x) = MaySet types t.now s f x
 MayChange types t (Later s f x) = MaySet types t.now s f x
@@ -105,7 +105,7 @@ MayChange types t (Free s) = MayFree t.now s × (deferred_set_names s t.deferred
 abbrev pub field_change : (later : Bool) → (s f : ℕ) → FieldValue → Update
 field_change later s f x = cond later (Later s f x) (Set s f x)
 
--- A field is to be set, or its value asked for: by this image of the pool the slot is that of its object, and the word stands for the value.
+-- A field is to be set, or its value deferred: by this image of the pool the slot is that of its object, and the word stands for the value.
 pub record IsFieldFound (F : ℕ) (at : List (ℕ × Puddle)) (image : Image) (change : Update) (slot : Slot) (f word : ℕ) (later : Bool) : Type 0 where
   pub s : ℕ
   pub x : FieldValue
@@ -142,7 +142,7 @@ IsFoundWithin at (founds.Field slot f word later) = IsSlotOf at slot × (f < MAX
 IsFoundWithin at (founds.Root word) = Unit {0}
 IsFoundWithin at (founds.Object slot) = IsSlotOf at slot
 
--- ---- a transaction goes on
+-- ---- a transaction keeps running
 
 -- It is the same client's, on the pool of the same name in the same slot, and has the same log.
 pub record StaysOpen (old new : ActiveTransaction) : Type 0 where

@@ -18,11 +18,11 @@ pub record MayBeginIn (memory : Memory) (image : Image) (client : ℕ) (name : L
   pub may : MayBegin memory.frames client name image slot at
   pub fits : slot < length memory.sessions
 
--- the memory in which this one has begun: it is held under its number, and has its session
+-- the memory in which this one has begun: it is active under its log number, and has its session
 abbrev pub with_begun : ActiveTransaction → Memory → Memory
 with_begun active memory = record memory { active = set memory.active active.log_number (Some active); sessions = entered active.client active.slot active.log_number memory.sessions }
 
--- the memory in which this one, which was held under the number, has ended: it is held no more, its session has ended, and of its pool the puddles alone
+-- the memory in which this one, which was active under the log number, has ended: it is active no more, its session has ended, and of its pool the puddles alone
 -- are known
 abbrev pub with_ended : (number : ℕ) → ActiveTransaction → Memory → Memory
 with_ended number active memory = record memory { active = set memory.active number None; sessions = set memory.sessions active.slot None; judged = alone_in active.slot memory.judged }

@@ -22,6 +22,6 @@ field_refusal NoObject x units = Some refusals.Object
 field_refusal NoField x units = Some refusals.Field
 field_refusal (Value was) x units = cond (differ_in_kind (Some was) x) (Some refusals.Kind) (room_refusal units)
 
--- why an object that is there is not freed, by whether the root or a field names it, and whether what is asked for later does
+-- why an object that is there is not freed, by whether the root or a field names it, and whether a deferred value does
 abbrev pub refusal_to_free : (referenced asked : Bool) → (units : ℕ) → Option Refusal
 refusal_to_free referenced asked units = cond (referenced || asked) (Some refusals.Held) (room_refusal units)

@@ -1,4 +1,4 @@
-//! What a transaction that is open changes of its pool: a field or the root is set, or a field's value asked for later, and an object is freed or made.
+//! What a transaction that is open changes of its pool: a field or the root is set, or a field's value deferred, and an object is freed or made.
 ghost use Rattle.std.specs.Prelude.{◌≡◌, ◌+◌, ◌<◌, ◌≤◌, ℕ, List, true, false, Option, IfOk, IfNone};
 ghost use Rattle.pm_model.specs.Words.{IsRested, reads};
 ghost use Rattle.pm_model.specs.Counts.{after_fault, fault_of};
@@ -64,7 +64,7 @@ pub enum Change {
 pub enum Update {
     /// Field `f` of the object of serial `s` gets the value.
     Set { s: u64, f: u32, x: FieldValue },
-    /// It gets it at the commit, behind all that is set and all that was asked for before.
+    /// It gets it at the commit, behind all that is set and all that was deferred before.
     Later { s: u64, f: u32, x: FieldValue },
     /// The object of serial `s` is made the root; with 0 there is none.
     Root { s: u64 },
@@ -361,7 +361,7 @@ impl PoolTransaction {
         made
     }
 
-    /// Adds the puddle to the pool, and to those that are known of it. The transaction goes on with it.
+    /// Adds the puddle to the pool, and to those that are known of it. The transaction keeps running with it.
     fn grow<H: Host>(
         &self,
         h: &mut H,

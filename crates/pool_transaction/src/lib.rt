@@ -1,4 +1,4 @@
-//! A transaction that is open on a pool, as the daemon holds it: how it begins and ends, why a line in it is refused, and what the line changes.
+//! An active transaction on a pool, as the daemon keeps it in memory: how it begins and ends, why a line in it is refused, and what the line changes.
 #![tactic(auto)]
 
 mod changing;

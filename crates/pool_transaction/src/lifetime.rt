@@ -60,9 +60,9 @@ impl PoolTransaction {
         })
     }
 
-    /// Commits the transaction, where it was begun once: what it asked for later comes with all that it changed.
+    /// Commits the transaction, where it was begun once: its deferred values come with all that it changed.
     ///
-    /// The device has so many frames. The only errors are the host's own. Three fences, and four where something was asked for later.
+    /// The device has so many frames. The only errors are the host's own. Three fences, and four where something was deferred.
     pub fn commit<H: Host>(self, h: &mut H, frames: u32) -> Result<(), HostFault>
         requires few { frames ≤ MAX_FRAMES }
         requires room { device_words frames ≤ (H.counts h.old).size }
@@ -86,7 +86,7 @@ impl PoolTransaction {
 
     /// Undoes the transaction, however often it was begun.
     ///
-    /// The device has so many frames. The only errors are the host's own. One fence, and two where something was set, made or asked for later.
+    /// The device has so many frames. The only errors are the host's own. One fence, and two where something was set, made or deferred.
     pub fn abort<H: Host>(self, h: &mut H, frames: u32) -> Result<(), HostFault>
         requires few { frames ≤ MAX_FRAMES }
         requires room { device_words frames ≤ (H.counts h.old).size }

@@ -71,7 +71,7 @@ fn field_refusal(read: FieldRead, x: FieldValue, units: u32) -> Option<Refusal>
     }
 }
 
-/// Why an object that is there is not freed, by whether the root or a field names it, whether what is asked for later does, and by how many units
+/// Why an object that is there is not freed, by whether the root or a field names it, whether a deferred value does, and by how many units
 /// are used.
 fn refusal_to_free(referenced: bool, asked: bool, units: u32) -> Option<Refusal>
     requires { units ≤ LOG_ENTRY_WORDS }
@@ -85,7 +85,7 @@ fn refusal_to_free(referenced: bool, asked: bool, units: u32) -> Option<Refusal>
 }
 
 impl PoolTransaction {
-    /// The slot of the object of serial `s` and the word of the value, by which its field `f`, 0 to 29, is set, or its value asked for later; or why
+    /// The slot of the object of serial `s` and the word of the value, by which its field `f`, 0 to 29, is set, or its value deferred; or why
     /// it may not be. The device has so many frames. Each object is looked up once.
     ///
     /// The only errors are the host's own, and nothing changes.
@@ -192,7 +192,7 @@ impl PoolTransaction {
         }
     }
 
-    /// What was found of the update, or why it is not made. What is asked for later is refused as what is set. The device has so many frames.
+    /// What was found of the update, or why it is not made. A deferred value is refused as what is set. The device has so many frames.
     ///
     /// The only errors are the host's own, and nothing changes.
     pub(crate) fn find_update<H: Host>(

@@ -1,4 +1,4 @@
-//! Transactions that are open, as the daemon holds them.
+//! Active transactions, as the daemon keeps them in memory.
 
 ghost use Rattle.std.specs.Prelude.{◌≡◌, Option, replicate};
 ghost use Rattle.pud_defs.specs.Logging.Settled.{ALL_LOGS};

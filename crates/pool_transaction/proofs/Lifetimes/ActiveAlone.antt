@@ -1,4 +1,4 @@
--- What is known of a pool on which a transaction is held is so, and all but the puddles is forgotten before the pool is changed.
+-- What is known of a pool on which a transaction is active is so, and all but the puddles is forgotten before the pool is changed.
 use Rattle.std.proofs.Common.{◌≡◌, ℕ, List, set, Option, Some, None, option_map, sym, ap, subst, ◌∙◌}
 use Rattle.std.proofs.lemmas.List.{set-set, set-get_or}
 use Rattle.pm_model.specs.Words.{reads}
@@ -34,7 +34,7 @@ module _ (F : ℕ) (active : ActiveTransaction) (known : Known) (memory : Memory
       ap (λ (js : List (Option Known)). record (with_active active.log_number (Some active) memory) { judged = js }) (ap (set memory.judged active.slot) (sym its.known) ∙ set-get_or memory.judged active.slot None)
       ∙ active_same memory active.log_number active its.there
 
-  -- it is held there still
+  -- it is active there still
   pub active_alone : IsActiveIn F active known.puddles (memory_alone active.slot known.puddles memory)
   active_alone = record { frames = its.frames; there = its.there; known = pool_kept memory.judged active.slot (Some (by_puddles known.puddles)) (known_within memory.judged active.slot known.puddles puddles_its) }
 

@@ -1,4 +1,4 @@
--- One of the transactions that are held comes to have another list of puddles and another beginning, beside the others, over calls that write no masked
+-- One of the active transactions comes to have another list of puddles and another beginning, beside the others, over calls that write no masked
 -- word: the words of all are then masked by what they are, and what was so with the words masked is so still.
 use Rattle.std.proofs.Common.{◌≡◌, ◌≢◌, inl, inr, ℕ, true, List, Option, Some, None, refl, sym, ap, subst, ◌∙◌}
 use Rattle.std.proofs.lemmas.Bool.{cases_eq}
@@ -125,7 +125,7 @@ module _ (w : World) (all : List (Option ActiveTransaction)) (mask : Write) (old
     | inr fresh ↦ one_wider k (mask k) refl fresh.0 (masks_anew.has number q then_one.here k (image k) fresh.1)
   ]
 
-  -- ---- what is held
+  -- ---- what is active
 
   module _ (it : (anew : Write) → ((k v : ℕ) → open_mask n q.pool before k ≡ Some v → anew k ≡ Some v) → (h : IsActive w active anew new.now.words) × (open_transaction_of active h.puddles h.rec h.who h.before ≡ q))
       (rest : (m : ℕ) (g : ActiveTransaction) (has : active_under all m ≡ Some g) → m ≢ number → RestsAs n (holds.each m g has).is.puddles (holds.each m g has).is.before new.now.words) where
@@ -160,7 +160,7 @@ module _ (w : World) (all : List (Option ActiveTransaction)) (mask : Write) (old
       | inr apart ↦ other_is m apart ∙ holds.none m free
     ]
 
-    -- all are held so
+    -- all are active so
     abbrev pub holds_anew : AreActive w all wide new.now.words
     holds_anew = record {
       opens = opens_anew;

@@ -1,4 +1,4 @@
--- One of the transactions that are held goes on under its number, on its pool, and the others stay.
+-- One of the active transactions keeps running under its log number, on its pool, and the others stay.
 use Rattle.std.proofs.Common.{◌≡◌, ◌≢◌, inl, inr, ℕ, List, Option, Some, None, refl, sym, ap, subst, ◌∙◌}
 use Rattle.std.specs.Prelude.{set}
 use Rattle.std.proofs.lemmas.Bool.{cases_eq}
@@ -15,7 +15,7 @@ use Rattle.ready_daemon.specs.ActiveTransactions.{IsActiveUnder, IsOpenUnder, Is
 use Rattle.ready_daemon.proofs.OpenTransactions.ActiveUnder.{active_within, active_here, active_there, active_then}
 use Rattle.ready_daemon.proofs.OpenTransactions.OpenNames.{WereOpen}
 
--- One on the pool of this one is held under the number.
+-- One on the pool of this one is active under the log number.
 pub record HoldsSame (active : List (Option ActiveTransaction)) (number : ℕ) (now : ActiveTransaction) : Type 0 where
   pub one : ActiveTransaction
   pub there : active_under active number ≡ Some one
@@ -39,14 +39,14 @@ module _ (active : List (Option ActiveTransaction)) (number : ℕ) (h later : Ac
   pub was_active : (n : ℕ) (g : ActiveTransaction) → active_under next n ≡ Some g → HoldsSame active n g
   was_active = each_later (HoldsSame active) (record { one = h; there = there; name = stays.name; slot = stays.slot }) (λ n g apart is. record { one = g; there = is; name = refl; slot = refl })
 
-  -- none is held but where none was
+  -- none is active but where none was
   pub none_later : (n : ℕ) → active_under next n ≡ None → (n ≢ number) × (active_under active n ≡ None)
   none_later n none = elim (cases_eq n number) [
     | inl same ↦ absurd (none-some later (sym none ∙ ap (active_under next) same ∙ later_here))
     | inr apart ↦ (apart, sym (active_there active number (Some later) n apart) ∙ none)
   ]
 
-  -- what was held there, under the number or another, is held there still, on the same pool
+  -- what was active there, under the log number or another, is active there still, on the same pool
   pub still_active : (n : ℕ) (g : ActiveTransaction) → active_under active n ≡ Some g → HoldsSame next n g
   still_active n g is = elim (cases_eq n number) [
     | inl same ↦
@@ -62,7 +62,7 @@ module _ (active : List (Option ActiveTransaction)) (number : ℕ) (h later : Ac
   active_on_later slot n o = let still = still_active n o.active o.is in record { active = still.one; is = still.there; slot_is = sym still.slot ∙ o.slot_is }
 
   module _ (w then : World) (were : WereOpen w.transactions then.transactions) where
-    -- what is held then stands for what is open then
+    -- what is active then stands for what is open then
     abbrev pub Holds-later : (mask anew : Write) (words after : Words) (holds : AreActive w active mask words) (opens : Opens) → AreOpenPools then.stored.frames opens → MasksAll then.stored.frames opens anew
         → IsActiveUnder then opens anew after number later → ((n : ℕ) (g : ActiveTransaction) → n ≢ number → active_under active n ≡ Some g → IsActiveUnder then opens anew after n g)
         → ((n : ℕ) → n ≢ number → holds.opens n ≡ None → opens n ≡ None) → AreActive then next anew after

@@ -1,4 +1,4 @@
--- What is held is committed or undone: what the calls that do so ask of the device, and the world that they give.
+-- An active transaction is committed or undone: what the calls that do so ask of the device, and the world that they give.
 use Rattle.std.proofs.Common.{◌≡◌, ◌≢◌, inl, inr, ℕ, ◌+◌, ◌<◌, ◌≤◌, true, false, ◌||◌, cond, leb, eqb, List, [], Option, Some, None, option_map, refl, sym, ap, ap₂, subst, ◌∙◌, arith}
 use Rattle.std.specs.Prelude.{unwrap_or}
 use Rattle.std.specs.FinMap.Entries.{find, put}
@@ -167,7 +167,7 @@ module _ (size : ℕ) (w : World) (memory : Memory) (number : ℕ) (active : Act
   masked_tables : (i : Image) → Picks old.now.words i → tables_of n (masked_image ready.mask i) ≡ tables_of n now
   masked_tables i picked = tables_of-same n (masked_image ready.mask i) now (λ k low high. masked_table i picked k (omega arith) (omega arith)) (λ k low high. masked_table i picked k (omega arith) high)
 
-  -- the graph that it makes, with what it asked for
+  -- the graph that it makes, with its deferred set
   abbrev made : Graph
   made = with_deferred_set is.transaction.deferred is.transaction.now
 
@@ -261,7 +261,7 @@ pub Applies-own : (size : ℕ) (w : World) (client : ℕ) (name : List ℕ) (num
 Applies-own size w client name number memory first behind fault old new own same applies =
     subst (λ (v : World). Applies size w v behind fault old new) (ap (λ (l : List (Option ActiveTransaction)). world_without_log (active_under l number) w) same ∙ aborted_world w client name number memory.active own) applies
 
--- where nothing is held under the number, nothing is undone
+-- where nothing is active under the log number, nothing is undone
 pub Applies-unheld : (size : ℕ) (w : World) (memory : Memory) (number : ℕ) (s : State) → IsReady size w memory s → active_under memory.active number ≡ None
     → Applies size w (world_without_log (active_under memory.active number) w) (with_active number None memory) None s s
 Applies-unheld size w memory number s ready none =

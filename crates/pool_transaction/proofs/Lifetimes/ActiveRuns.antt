@@ -1,4 +1,4 @@
--- Calls of a transaction that is held: every word that they write is masked, and no other transaction's, so that each image left stands for the world before.
+-- Calls of an active transaction: every word that they write is masked, and no other transaction's, so that each image left stands for the world before.
 use Rattle.std.proofs.Common.{◌≡◌, ◌≢◌, inl, inr, ℕ, ◌+◌, ◌<◌, true, false, Option, Some, None, refl, sym, ap, subst, ◌∙◌, arith}
 use Rattle.std.specs.Prelude.{List, set}
 use Rattle.std.proofs.lemmas.Bool.{cases_eq}
@@ -52,7 +52,7 @@ use Rattle.ready_daemon.proofs.PoolChanges.TablesBeside.{sound_read, types_read}
 abbrev pub with_tx : OpenTx → ActiveTransaction → ActiveTransaction
 with_tx tx active = record active { tx = tx }
 
--- ---- a daemon that is ready, and holds it
+-- ---- a daemon that is ready, with it active
 
 module _ (size : ℕ) (w : World) (memory : Memory) (active : ActiveTransaction) (old : State) (number : ℕ) (there : active_under memory.active number ≡ Some active) (ready : IsReady size w memory old) where
   abbrev F : ℕ
@@ -73,7 +73,7 @@ module _ (size : ℕ) (w : World) (memory : Memory) (active : ActiveTransaction)
   abbrev now : Image
   now = reads old.now.words
 
-  -- its puddles lie as those of a ground
+  -- its puddles lie as those of a scope
   pub active_placed : ArePlacedPuddles F is.puddles
   active_placed = placed_by_tables w.stored.next_number F now active.slot is.puddles (sound_read size w memory old ready) (active_in_turn size w memory old ready number active there)
 
@@ -95,7 +95,7 @@ module _ (size : ℕ) (w : World) (memory : Memory) (active : ActiveTransaction)
       absurd (omega arith)
   own_behind k v below (inr mine) = let no : true ≡ false = sym mine ∙ mine_behind F (finished_of is.puddles) k (omega arith) in cc
 
-  -- and none is one of another that is held
+  -- and none is one of another that is active
   its_own : (n : ℕ) (g : ActiveTransaction) (has : active_under memory.active n ≡ Some g) → n ≢ number
       → IsApart F g (open_pool_of g (ready.active.each n g has).is.puddles (ready.active.each n g has).is.rec (ready.active.each n g has).is.who) own
   its_own n g has apart = own_apart w memory.active ready.mask old.now.words ready.active number n active g there has (λ same. apart (sym same))

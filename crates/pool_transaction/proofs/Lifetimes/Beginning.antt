@@ -1,4 +1,4 @@
--- A transaction begins beside others: each image left meanwhile stands for the world, and behind it the daemon that is ready holds it too.
+-- A transaction begins beside others: each image left meanwhile stands for the world, and behind it the daemon is ready with it active too.
 use Rattle.std.proofs.Common.{◌≡◌, ◌≢◌, inl, inr, ℕ, ◌+◌, ◌*◌, ◌/◌, ◌<◌, ◌≤◌, true, false, leb, ltb, List, [], length, Option, Some, None, refl, sym, ap, ap₂, subst, ◌∙◌, arith}
 use Rattle.std.specs.Prelude.{unwrap_or, set}
 use Rattle.std.proofs.lemmas.Bool.{cases_eq, cases_lt, and_from, le-leb, lt-ltb, false_from_ne_true}
@@ -415,7 +415,7 @@ module _ (size : ℕ) (w : World) (memory : Memory) (old : State) (ready : IsRea
       knows_begun : KnowsPools n memory.judged opens_then (reads new.now.words)
       knows_begun = KnowsPools-begun n memory.judged number o opens opens_then now (reads new.now.words) more keeps vacant.is_known ready.knows
 
-      -- ---- what is held then
+      -- ---- what is active then
 
       abbrev begun_active : ActiveTransaction
       begun_active = begins_as client name slot n number

@@ -1,4 +1,4 @@
--- A transaction that is held ends, committed or undone: what each image stands for that may be left meanwhile, and the daemon that is ready behind it.
+-- An active transaction ends, committed or undone: what each image stands for that may be left meanwhile, and the daemon that is ready behind it.
 use Rattle.std.proofs.Common.{◌≡◌, ◌≢◌, ◌⊎◌, inl, inr, ℕ, ◌+◌, ◌*◌, ◌<◌, ◌≤◌, true, false, cond, List, Option, Some, None, refl, sym, ap, subst, ◌∙◌, arith}
 use Rattle.std.specs.Prelude.{unwrap_or}
 use Rattle.std.proofs.lemmas.Bool.{cases_Bool, cases_eq, cases_lt, cond-true, false_from_ne_true}
@@ -128,7 +128,7 @@ module _ (size : ℕ) (s : StoredWorld) (number : ℕ) (o : OpenTransaction) (ot
 
 -- ---- the calls that end one
 
--- Each image left meanwhile settles to the values from the beginning or to others. Without a fault each own word has its other value and no other, and
+-- Each image left meanwhile recovers to the values from the beginning or to others. Without a fault each own word has its other value and no other, and
 -- the log is closed.
 pub record EndsBy (g : Scope) (at : ℕ) (before after : Image) (fault : Option HostFault) (old new : State) : Type 0 where
   pub changes : Changes (ByTransaction g at) fault old new
@@ -295,7 +295,7 @@ module _ (size : ℕ) (w : World) (memory : Memory) (number : ℕ) (active : Act
           (names_none_idle ready.mask j idle_left));
     }
 
-    -- and this one is, as if it had begun with the values to which it settles
+    -- and this one is, as if it had begun with the values to which it recovers
     own_left : (values : Image) → ((k : ℕ) → is_open_record pool k ≡ true → j k ≡ values k) → RecoversTo g active.tx.log.gate_at values j → IsLeftOpen n pool values j
     own_left values records settles = record {
       unnamed = λ k v is. unnamed_idle j k idle_left;
@@ -355,7 +355,7 @@ module _ (size : ℕ) (w : World) (memory : Memory) (number : ℕ) (active : Act
       abbrev next : World
       next = record w { stored = s; transactions = with_open active.name None w.transactions }
 
-      -- an image that settles to them stands for the next world
+      -- an image that recovers to them stands for the next world
       stands_after : (j : Image) → HasOrigin may old.now.words j → RecoversTo g active.tx.log.gate_at after j → (world_of size j ≡ Some s) × RefusesNone j
       stands_after j f settles =
           left_stands size s number later others all_later later_more later_are f.before j (idle_there f.before f.picked) (from_number j f) (later_records f.before f.picked) (stands f.before f.picked)

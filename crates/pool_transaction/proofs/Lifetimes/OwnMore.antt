@@ -1,4 +1,4 @@
--- A transaction that is held comes to have more own words, as puddles of its pool that are finished are more: those that were its own stay so, with the
+-- An active transaction comes to have more own words, as puddles of its pool that are finished are more: those that were its own stay so, with the
 -- values of their beginning, and the others begin as they are read.
 use Rattle.std.proofs.Common.{◌≡◌, ◌⊎◌, inl, inr, ℕ, ◌<◌, true, false, cond, ◌||◌, List, Option, Some, None, sym, ap, subst, ◌∙◌, arith}
 use Rattle.std.specs.Prelude.{slice_get}

@@ -1,4 +1,4 @@
--- A transaction that is held comes to have a puddle more: a fresh one, which is the last of its pool by what is read of the tables. The others stay.
+-- An active transaction comes to have a puddle more: a fresh one, which is the last of its pool by what is read of the tables. The others stay.
 use Rattle.std.proofs.Common.{◌≡◌, ◌≢◌, inl, inr, ℕ, ◌+◌, ◌<◌, ◌≤◌, true, false, ◌||◌, List, [], ◌∷◌, ◌++◌, length, Option, Some, None, refl, sym, ap, subst, ◌∙◌, arith}
 use Rattle.std.specs.Prelude.{set, slice_get}
 use Rattle.std.proofs.lemmas.Bool.{cases_Bool, cases_eq, or_cases, or_left, or_right}
@@ -57,9 +57,9 @@ use Rattle.pool_transaction.proofs.Lifetimes.ActiveChanged.{Holds-later, HasSess
 use Rattle.ready_daemon.proofs.OpenTransactions.OpenNames.{WereOpen, WereOpen-same}
 use Rattle.ready_daemon.proofs.PoolChanges.PoolsBeside.{puddles_still}
 
--- ---- what is held
+-- ---- what is active
 
--- The next world has the same of what is held, while its pool has one puddle more.
+-- The next world has the same of the active transaction, while its pool has one puddle more.
 pub record GrowsHeld (w next : World) (active : ActiveTransaction) : Type 0 where
   pub frames : next.stored.frames ≡ w.stored.frames
   pub types : next.stored.types ≡ w.stored.types
@@ -207,7 +207,7 @@ module _ (w : World) (active : ActiveTransaction) (mask : Write) (words : Words)
                 (places_longer w.stored.types F now is.puddles e is.transaction.now r.is) (KeepsObjects-same is.transaction.now) is.transaction.deferred r.redo r.are;
           }
 
-      -- The next world holds it with that puddle, where its words are masked.
+      -- It is active in the next world with that puddle, where its words are masked.
       abbrev pub active_more : (next : World) → GrowsHeld w next active → (anew : Write) → ((k v : ℕ) → open_mask F q before k ≡ Some v → anew k ≡ Some v) → IsActive next active anew words
       active_more next grows anew masks =
           let back = sym grows.frames in
@@ -233,7 +233,7 @@ module _ (w : World) (active : ActiveTransaction) (mask : Write) (words : Words)
             masked = subst (λ (m : ℕ). (k v : ℕ) → open_mask m q before k ≡ Some v → anew k ≡ Some v) back masks;
           }
 
--- ---- all that is held
+-- ---- all that are active
 
 module _ (w : World) (all : List (Option ActiveTransaction)) (mask : Write) (s : State) (holds : AreActive w all mask s.now.words) (active : ActiveTransaction) (number : ℕ) (there : active_under all number ≡ Some active) (e : ℕ × Puddle)
     (next_number : ℕ) (sound : HasSoundTables next_number (tables_of w.stored.frames (reads s.now.words))) (owners : owner_of (reads s.now.words) active.client ≡ w.clients active.client)
@@ -336,7 +336,7 @@ module _ (w : World) (all : List (Option ActiveTransaction)) (mask : Write) (s :
           opened = opened;
         }
 
-    -- The next world holds it with that puddle, and the others as they are.
+    -- In the next world it is active with that puddle, and the others as they are.
     abbrev pub holds_more : AreActive next (set all number (Some active)) wide s.now.words
     holds_more =
         let back = sym grows.frames in

@@ -1,4 +1,4 @@
--- The pool on which a transaction is held grows by a puddle, and the transaction then has it too; the others stay.
+-- The pool on which a transaction is active grows by a puddle, and the transaction then has it too; the others stay.
 use Rattle.std.proofs.Common.{◌≡◌, ◌≢◌, inl, inr, ℕ, ◌+◌, ◌<◌, List, [], ◌∷◌, ◌++◌, length, Option, Some, None, refl, sym, ap, subst, ◌∙◌, arith}
 use Rattle.std.specs.Prelude.{set, slice_get}
 use Rattle.std.specs.FinMap.Entries.{find, find-put}
@@ -113,7 +113,7 @@ pub found_beside_more : (name other : List ℕ) (s : StoredWorld) (p : Pool) →
 unfolding with_grown_pool
 found_beside_more name other s p there apart = ap (find name_cmp other) (changed_there name with_puddle_more s.pools p there) ∙ found_beside_put name other (with_puddle_more p) s.pools apart
 
--- ---- a daemon that is ready, and holds it
+-- ---- a daemon that is ready, with it active
 
 module _ (size : ℕ) (w : World) (memory : Memory) (active : ActiveTransaction) (old : State) (number : ℕ) (there : active_under memory.active number ≡ Some active) (ready : IsReady size w memory old) (a : NewPuddle) where
   abbrev F : ℕ
@@ -216,7 +216,7 @@ module _ (size : ℕ) (w : World) (memory : Memory) (active : ActiveTransaction)
     done : AppliesMasked size w next ready.mask None old new
     done = masks by None new grows worlds
 
-    -- what is held is so of the world before still
+    -- what is active is so of the world before still
     abbrev holds_then : AreActive w memory.active ready.mask words
     holds_then =
         holds_still w w memory.active ready.mask old new ready.active

@@ -1,4 +1,4 @@
--- The line that makes an object in a transaction that is held, call by call.
+-- The line that makes an object in an active transaction, call by call.
 use Rattle.std.proofs.Common.{◌≡◌, inl, inr, ℕ, ◌<◌, ◌≤◌, true, false, List, set, Option, Some, None, refl, sym, ap, ap₂, subst, ◌∙◌, arith}
 use Rattle.std.proofs.lemmas.Bool.{cases_Bool}
 use Rattle.std.proofs.lemmas.List.{set-get_or, set-set}
@@ -157,7 +157,7 @@ module _ (size : ℕ) (w : World) (memory : Memory) (active : ActiveTransaction)
           after_growth : Applies size w grown (memory_with active pool) None old mid
           after_growth = has_grown pool None start mid still grows_so
 
-          -- it is held there then, on the puddles that are known
+          -- it is active there then, on the puddles that are known
           pub active_then : IsActiveIn memory.frames active pool (memory_with active pool)
           active_then = record {
             frames = refl;

@@ -1,4 +1,4 @@
--- An object is made within a transaction that is held, where a slot is free.
+-- An object is made within an active transaction, where a slot is free.
 use Rattle.std.proofs.Common.{◌≡◌, ℕ, ◌+◌, ◌<◌, ◌≤◌, Bool, true, false, leb, ltb, cond, List, Option, Some, None, Result, is_none, refl, sym, ap, subst}
 use Rattle.std.specs.Prelude.{IfOk, unwrap_or}
 use Rattle.std.proofs.lemmas.Bool.{leb-false, ltb-false}

@@ -1,4 +1,4 @@
--- The line that makes an object in a transaction that is held: why it is refused, by what is read, and the world that it gives.
+-- The line that makes an object in an active transaction: why it is refused, by what is read, and the world that it gives.
 use Rattle.std.proofs.Common.{◌≡◌, inl, inr, ℕ, ◌+◌, ◌≤◌, Bool, true, false, not, ◌&&◌, ◌||◌, leb, ltb, ◌==◌, cond, List, length, Option, Some, None, is_none, sum_by, refl, sym, ap, ap₂, ◌∙◌, arith, eqb-true, eq-eqb, ne_eqb}
 use Rattle.std.specs.Option.{option_or}
 use Rattle.std.proofs.lemmas.Bool.{cases_lt, and_parts, leb-true, le-leb, lt-leb, lt-ltb, le-ltb}
@@ -80,7 +80,7 @@ joined false false false many out lacks false room none less more frames = ap (�
 joined false false false many out lacks true room none less more frames =
     ap₂ (λ (full : Bool) (space : Bool). cond full (Some refusals.Full) (cond space (Some refusals.Space) None)) (more refl) frames
 
--- ---- a daemon that is ready, and holds it
+-- ---- a daemon that is ready, with it active
 
 module _ (size : ℕ) (w : World) (memory : Memory) (active : ActiveTransaction) (s : State) (number : ℕ) (there : active_under memory.active number ≡ Some active) (ready : IsReady size w memory s) (id : ℕ) where
   abbrev F : ℕ

@@ -1,4 +1,4 @@
--- The pool of a transaction that is held: what the world has of it, and whether it has a free slot.
+-- The pool of an active transaction: what the world has of it, and whether it has a free slot.
 use Rattle.std.proofs.Common.{◌≡◌, ℕ, ◌≤◌, true, false, ◌==◌, List, length, Option, Some, None, refl, sym, ap, ap₂, ◌∙◌, arith, eqb-true, eq-eqb}
 use Rattle.std.proofs.lemmas.List.{length-map}
 use Rattle.std.proofs.lemmas.Option.{none-some, same_Some}

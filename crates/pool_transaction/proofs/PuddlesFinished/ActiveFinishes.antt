@@ -1,4 +1,4 @@
--- Puddles of the pool of a transaction that is held are rewritten to their ends, before it writes there.
+-- Puddles of the pool of an active transaction are rewritten to their ends, before it writes there.
 use Rattle.std.proofs.Common.{◌≡◌, ℕ, ◌+◌, ◌%◌, ◌^◌, ◌≤◌, true, ◌&&◌, leb, ltb, eqb, List, set, Option, Some, None, refl, sym, ap, ◌∙◌, subst, arith}
 use Rattle.std.proofs.lemmas.Bool.{and_parts, leb-true, ltb-true}
 use Rattle.std.proofs.lemmas.List.{length-map}
@@ -76,7 +76,7 @@ low_base v legal =
 pub low_of_placed : (F : ℕ) (at : List (ℕ × Puddle)) → ArePlacedPuddles F at → HasLowBases at
 low_of_placed F at placed = record { low = All-weaker (λ (e : ℕ × Puddle). is_legal_base e.1.base ≡ true) (λ (e : ℕ × Puddle). e.1.base + RANGE_BYTES ≤ 2 ^ 64) (λ e. low_base e.1.base) at placed.legal }
 
--- ---- a daemon that is ready, and holds it
+-- ---- a daemon that is ready, with it active
 
 -- an object may be made in the slot: its puddle and the first one are finished, and it is free
 pub record MayMakeAt (F : ℕ) (at : List (ℕ × Puddle)) (image : Image) (slot : Slot) : Type 0 where

@@ -1,4 +1,4 @@
--- A transaction that is held while steps of a puddle of its pool are rewritten, which is not finished before and may be behind: it stays open, and its
+-- An active transaction while steps of a puddle of its pool are rewritten, which is not finished before and may be behind: it stays open, and its
 -- own words are then those of the puddles that are finished then.
 use Rattle.std.proofs.Common.{◌≡◌, inl, inr, ℕ, ◌+◌, ◌-◌, ◌<◌, true, false, List, map, Option, Some, None, refl, sym, ap, subst, ◌∙◌, arith}
 use Rattle.std.specs.Prelude.{slice_get, unwrap_or}
@@ -254,7 +254,7 @@ module _ (w : World) (active : ActiveTransaction) (mask : Write) (old new : Stat
               is.transaction.deferred r.redo r.are;
         }
 
-    -- It is held so, where its words are masked.
+    -- It is active so, where its words are masked.
     abbrev pub active_stepped : (anew : Write) → ((k v : ℕ) → open_mask F q before k ≡ Some v → anew k ≡ Some v) → IsActive w active anew new.now.words
     active_stepped anew masks = record {
       rec = is.rec;

@@ -1,4 +1,4 @@
--- Frontiers of a pool move on beside what is held, on the pool itself too: the world stays.
+-- Frontiers of a pool move on beside active transactions, on the pool itself too: the world stays.
 use Rattle.std.proofs.Common.{◌≡◌, ◌≢◌, inl, inr, ℕ, zero, suc, ◌<◌, List, Option, Some, None, refl, sym, ap, subst, ◌∙◌, arith}
 use Rattle.std.specs.Prelude.{set}
 use Rattle.std.proofs.lemmas.List.{set-get_or, set-set}
@@ -59,7 +59,7 @@ use Rattle.pool_transaction.proofs.PuddlesFinished.StepsKept.{listed_then, graph
 set-known : (judged : List (Option Known)) (slot : ℕ) (known : Known) → known_pool_in judged slot ≡ Some known → set judged slot (Some known) ≡ judged
 set-known judged slot known is = ap (set judged slot) (sym is) ∙ set-get_or judged slot None
 
--- what is held is so of the same world
+-- what is active is so of the same world
 keeps_world : (w : World) (active : List (Option ActiveTransaction)) → KeepsActive w w active
 keeps_world w active = record { frames = refl; transactions = refl; present = λ n h there. refl; stored = λ n h there. refl; types = λ id m is. is; graphs = λ st g is. is }
 
@@ -109,7 +109,7 @@ module _ (size : ℕ) (w : World) (memory : Memory) (slot : ℕ) (kept : Known) 
     graph_then_is : HasGraphIn F slot now with_them
     graph_then_is = graph_then size w memory slot at old new ready known goal o m e next c
 
-    -- ---- none is held on the pool
+    -- ---- none is active on the pool
 
     Applies-shut : IsShutIn memory.active slot → AppliesBy (MovesTo (led_in slot (upto goal))) size w w behind None old new
     Applies-shut shut =
@@ -125,7 +125,7 @@ module _ (size : ℕ) (w : World) (memory : Memory) (slot : ℕ) (kept : Known) 
         })
         (λ _. rest_beside size w memory old ready (Some slot) new (λ number h there same. shut.each number h there (sym (same_Some slot h.slot same))) keeps (done.beside.single refl))
 
--- ---- one batch, with a transaction held on the pool
+-- ---- one batch, with a transaction active on the pool
 
 module _ (size : ℕ) (w : World) (memory : Memory) (old new : State) (ready : IsReady size w memory old) (number : ℕ) (active : ActiveTransaction) (there : active_under memory.active number ≡ Some active) (kept : Known)
     (is_kept : known_pool_in memory.judged active.slot ≡ Some kept) where
@@ -256,7 +256,7 @@ module _ (size : ℕ) (w : World) (slot : ℕ) (low : slot < POOL_RECORDS) (goal
       let of = member_of_pool w.stored.frames slot at (reads old.now.words) (known_in_turn size w memory old ready slot at known) o e next.here in
       pool_used w.stored.next_number (tables_of w.stored.frames (reads old.now.words)) (sound_read size w memory old ready) slot low e.0 of.member of.below of.used of.pool
 
-  -- whichever transaction is held on it, or none
+  -- whichever transaction is active on it, or none
   Applies-batch : (memory : Memory) (kept : Known) (o m : ℕ) (e : ℕ × Puddle) (old new : State) (ready : IsReady size w memory old) → known_pool_in memory.judged slot ≡ Some kept → AreNextSteps kept.puddles goal o m e
       → CommitsSteps w.stored.frames kept.puddles o m e None old new → AppliesBy Led size w w (knowing memory (with_puddles (with_steps o m e kept.puddles) kept)) None old new
   Applies-batch memory kept o m e old new ready is_kept next c = elim (cases_active size w memory slot kept.puddles old ready (ap puddles_known is_kept)) [

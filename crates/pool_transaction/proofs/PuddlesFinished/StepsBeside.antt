@@ -1,4 +1,4 @@
--- A batch of steps of a pool that is known, beside what is held, on that pool too: it writes no masked word, and the world stays.
+-- A batch of steps of a pool that is known, beside active transactions, on that pool too: it writes no masked word, and the world stays.
 use Rattle.std.proofs.Common.{◌≡◌, ◌≢◌, ◌⊎◌, inl, inr, ℕ, ◌+◌, ◌<◌, ◌≤◌, true, eqb, cond, List, Option, Some, None, refl, sym, ap, subst, ◌∙◌, arith, eq-eqb, ne_eqb}
 use Rattle.std.specs.Prelude.{slice_get}
 use Rattle.std.proofs.lemmas.Bool.{cases_Bool, cases_eq, cond-true, cond-false, le-leb}
@@ -56,7 +56,7 @@ use Rattle.ready_daemon.proofs.PoolChanges.PoolsBeside.{unmasked_frame, unmasked
 use Rattle.ready_daemon.proofs.PoolChanges.RestBeside.{rest_unmasked}
 use Rattle.ready_daemon.proofs.PoolChanges.TablesBeside.{tables_read, read_beside, under_durable, types_read, sound_read}
 
--- none is held on the pool in the slot
+-- none is active on the pool in the slot
 pub record IsShutIn (active : List (Option ActiveTransaction)) (slot : ℕ) : Type 0 where
   pub each : (number : ℕ) (h : ActiveTransaction) → active_under active number ≡ Some h → h.slot ≢ slot
 
@@ -97,7 +97,7 @@ module _ (size : ℕ) (w : World) (memory : Memory) (slot : ℕ) (at : List (ℕ
   member : (o : ℕ) (e : ℕ × Puddle) → slice_get at o ≡ Some e → IsMemberOf t slot o e
   member o e there = member_of_pool F slot at image turn o e there
 
-  -- whether one is held on it
+  -- whether one is active on it
   active_or_shut : (session : Option Session) → session_in memory.sessions slot ≡ session → ((s : Session) × IsActiveOn memory.active slot s.log_number) ⊎ IsShutIn memory.active slot
   active_or_shut None none = inr (record {
     each = λ number h there same.
@@ -115,7 +115,7 @@ module _ (size : ℕ) (w : World) (memory : Memory) (slot : ℕ) (at : List (ℕ
   types_masked : types_of (reads under) ≡ types_of image
   types_masked = types_of-same image (reads under) (λ k low high. read_beside size w memory old ready k (omega arith))
 
-  -- where none is held on it, each word of its frames is read as it is
+  -- where none is active on it, each word of its frames is read as it is
   shut_word : IsShutIn memory.active slot → (k : ℕ) → pool_has_word F at k ≡ true → reads under k ≡ image k
   shut_word shut k mine =
       let own = pool_has_word-each F at k mine in

@@ -1,4 +1,4 @@
--- Lines on a transaction that is held: which of them are refused.
+-- Lines on an active transaction: which of them are refused.
 use Rattle.std.proofs.Common.{◌≡◌, inl, inr, ℕ, ◌+◌, Bool, true, false, not, cond, ◌&&◌, ◌||◌, ltb, eqb, Option, Some, None, is_none, option_map, refl, sym, ap, subst, ◌∙◌}
 use Rattle.std.specs.Prelude.{slice_get, List, IfSome}
 use Rattle.std.specs.Option.{option_or}
@@ -82,7 +82,7 @@ module _ (size : ℕ) (w : World) (memory : Memory) (s : State) (ready : IsReady
   graph_active : (frames : ℕ) → frames ≡ w.stored.frames → graph_of (types_of image) (stored_in frames is.puddles image) ≡ Some is.transaction.now
   graph_active frames on = (λ p. graph_of ((types_read size w memory s ready).types p) (stored_in (on p) is.puddles image)) ∙ is.running.is
 
-  -- and lie as those of a ground
+  -- and lie as those of a scope
   pub placed_at : (frames : ℕ) → frames ≡ w.stored.frames → ArePlacedPuddles frames is.puddles
   placed_at frames on = subst (λ (n : ℕ). ArePlacedPuddles n is.puddles) (sym on) (active_placed size w memory active s number there ready)
 
@@ -103,7 +103,7 @@ module _ (size : ℕ) (w : World) (memory : Memory) (s : State) (ready : IsReady
     object_is : (serial : ℕ) → object_in serial now ≡ option_map (object_at (table_in frames at image)) (place_in_pool frames at image serial)
     object_is = object_by_place (types_of image) frames at image now graph_at
 
-    -- an object is missed where no word stands for the value
+    -- the value is dangling where no word stands for it
     missed_is : (x : FieldValue) → is_dangling (Some now) x ≡ is_none (word_for frames at image x)
     missed_is (Num v) = refl
     missed_is (Ref r) =
@@ -165,7 +165,7 @@ module _ (size : ℕ) (w : World) (memory : Memory) (s : State) (ready : IsReady
   abbrev pub IsOpenIn : State → ℕ → List (ℕ × Puddle) → List (ℕ × ℕ) → OpenLog → Type 0
   IsOpenIn then frames at types log = IsOpenOn frames at types log is.before is.graph_before is.transaction.now is.transaction.deferred then.now.words
 
-  -- so it is by the types that are read, and its puddles lie as those of a ground
+  -- so it is by the types that are read, and its puddles lie as those of a scope
   open_read : (then : State) (frames : ℕ) (at : List (ℕ × Puddle)) (log : OpenLog) → then ≡ s → frames ≡ w.stored.frames → at ≡ is.puddles → log ≡ active.tx.log
       → ArePlacedPuddles frames at × IsOpenIn then frames at (types_of image) log
   open_read then frames at log still on same logged =

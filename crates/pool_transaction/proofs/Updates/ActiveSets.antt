@@ -1,4 +1,4 @@
--- A change is made within a transaction that is held.
+-- A change is made within an active transaction.
 use Rattle.std.proofs.Common.{◌≡◌, ℕ, ◌+◌, List, Option, Some, None, Result, Ok, Err, refl, sym, ap, subst}
 use Rattle.std.specs.Prelude.{IfOk}
 use Rattle.pm_model.specs.declared.host.HostFault.{HostFault}

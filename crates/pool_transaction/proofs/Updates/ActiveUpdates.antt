@@ -1,4 +1,4 @@
--- A line that updates a transaction that is held: the puddle that it writes is rewritten to its end, and then the update is made.
+-- A line that updates an active transaction: the puddle that it writes is rewritten to its end, and then the update is made.
 use Rattle.std.proofs.Common.{◌≡◌, ℕ, ◌+◌, List, set, Option, Some, None, Result, sym, ap, subst, ◌∙◌}
 use Rattle.std.specs.Prelude.{IfOk}
 use Rattle.pm_model.specs.declared.host.HostFault.{HostFault}
@@ -54,7 +54,7 @@ CountsOut F at tx now done old =
     (types : List (ℕ × ℕ)) (before : Image) (graph_before : Graph) (seen : Graph) (deferred : List DeferredValue) → IsOpenOn F at types tx.log before graph_before seen deferred old.now.words
     → IfOk done (λ _. now.units ≡ tx.units + SET_UNITS)
 
--- the memory that holds it on the puddles by which it knows the pool is the same
+-- the memory in which it is active on the puddles by which the pool is known is the same
 pub opened_same : (F : ℕ) (active : ActiveTransaction) (at : List (ℕ × Puddle)) (memory : Memory) → IsActiveIn F active at memory → with_opened active.log_number active.slot active at memory ≡ memory
 opened_same F active at memory its = known_same active.log_number active.slot active at memory its.known ∙ active_same memory active.log_number active its.there
 

@@ -53,7 +53,7 @@ setting_refusal g units s f x =
 abbrev pub rooting_refusal : Option Graph → (units s : ℕ) → Option Refusal
 rooting_refusal g units s = cond (is_dangling g (Ref s)) (Some refusals.Object) (cond (ltb LOG_ENTRY_WORDS (units + SET_UNITS)) (Some refusals.TooBig) None)
 
--- of `free`, also by what is asked for later
+-- of `free`, also by the deferred set
 abbrev pub freeing_refusal : Option Graph → List DeferredValue → (units s : ℕ) → Option Refusal
 freeing_refusal g deferred units s =
     cond (is_none (object_of s g)) (Some refusals.Object)
@@ -103,7 +103,7 @@ module _ (w : World) (client : ℕ) (name : List ℕ) where
   unfolding refusal_of cause_holds
   refusal_of-abort = refl
 
-  -- what is asked for later is refused as what is set
+  -- a deferred value is refused as what is set
   pub refusal_of-later : (s f : ℕ) (x : FieldValue) → refusal_of w (commands.Later client name s f x) ≡ refusal_of w (Set client name s f x)
   unfolding refusal_of cause_holds
   refusal_of-later s f x = refl
@@ -160,7 +160,7 @@ own_refusal-open who (Some pool) g client t stored =
     ap (λ (h : Option Graph). cond (is_none h) (Some refusals.Wild) (cond (not (eqb t.client client)) (Some refusals.Busy) (cond (not (eqb t.client client)) (Some refusals.Tx) None))) stored
     ∙ by_own (eqb t.client client)
 
--- no line on the pool on which it is held is refused before what it asks is looked at
+-- no line on the pool on which it is active is refused before what it asks is looked at
 own_by : (w : World) (active : ActiveTransaction) (mask : Write) (words : Words) → IsActive w active mask words → refusal_of w (Commit active.client active.name) ≡ None
 own_by w active mask words is =
     refusal_of-commit w active.client active.name
