@@ -499,7 +499,7 @@ pub unsound_line : (command : Option Command) (cut : Bool) (fault : RunFault) (b
 unsound_line command cut fault before after now counted unsound is =
     record { lost = lost_in_line command 0 before after (subst (λ (f : RunFault). CountsLine command (Some f) 0 before after) is (counted_fault command fault cut before after counted)); unsound = unsound is }
 
--- behind lines that went on
+-- behind lines after which the run continued
 pub unsound_behind : (a b c : Counts) (now : State) → Grows a b → IsUnsoundBehindLoss b c now → IsUnsoundBehindLoss a c now
 unsound_behind a b c now grew u = record {
   lost = ⊎_elim

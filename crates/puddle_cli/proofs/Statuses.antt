@@ -13,7 +13,7 @@ use Rattle.puddle_cli.specs.declared.status.TheConstants.{DONE, NOT_USABLE, DEVI
 use Rattle.puddle_cli.specs.Status.{status_fault, run_fault_at, status_at, IsStatusOfMode, Causes}
 
 module _ (old new : Counts) where
-  -- lines went on
+  -- the run continued behind lines
   pub Causes-grows : (status : ℕ) → (status ≡ DEVICE_FAULT → ⊥) → (status ≡ POWER_LOST → Rose old.cuts new.cuts) → Grows old new → Causes status old new
   Causes-grows status no_fault lost g =
       record { faults = λ e. absurd (no_fault e); no_faults = λ _. g.faults; cuts = lost; kept = g.cuts; arms = g.arms; losses = g.losses; size = g.size }

@@ -21,7 +21,7 @@ pub record HearsLine (line : List ℕ) (fault : Option RunFault) (old new : Stat
   pub says : SaysPart (concat texts) fault old new
   pub script : new.script ≡ old.script
 
--- Each line that the bytes taken close has one answer said, in turn, and nothing else was said. The bytes behind them are the piece under way, of
+-- Each line that the bytes taken close has one answer said, in turn, and nothing else was said. The bytes behind them are those of the line under way, of
 -- which the first are kept.
 pub record Hears (start now : State) (piece : List ℕ) : Type 0 where
   pub taken : List ℕ

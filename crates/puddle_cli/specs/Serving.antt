@@ -130,7 +130,7 @@ pub record AnswersLine (size : ℕ) (w : World) (aloud : Bool) (line : List ℕ)
   pub script : new.script ≡ old.script
   pub files : KeepsFiles (file_under_way turns) w.shelf new.shelf
 
--- Of all bytes these are left. The lines that those taken close were answered, each by a turn of the machine, and the bytes behind them are the piece
+-- Of all bytes these are left. The lines that those taken close were answered, each by a turn of the machine, and the bytes behind them are those of the line
 -- under way, of which the first are kept: one more than a line may have. So many replies do not begin with `ok`.
 pub record Serves (size : ℕ) (w : World) (aloud : Bool) (all : List ℕ) (before : Counts) (start : State) (counts : Counts) (memory : Memory) (now : State) (left piece : List ℕ) (refused : ℕ) : Type 0 where
   pub taken : List ℕ

@@ -1,4 +1,4 @@
-//! The piece of a line that was read so far.
+//! The bytes of a line that were read so far.
 ghost use Rattle.std.specs.Prelude.{◌≡◌, ◌↔◌, ◌++◌, ◌∷◌, [], ℕ, take, length, IsTrue};
 
 use pud_defs::layout::LINE_LIMIT;

@@ -42,7 +42,7 @@ use pud_defs::machine::Command;
 #[error("the line is no command")]
 pub struct Bad;
 
-/// The coming of a client by its arguments.
+/// The registering of a client by its arguments.
 #[tactic(auto, unfolding(pud_defs::specs::StateMachine::Grammar::client_by))]
 fn read_client(mut arguments: Arguments) -> Option<Command>
     ensures { result ≡ client_by arguments.entry }
@@ -53,7 +53,7 @@ fn read_client(mut arguments: Arguments) -> Option<Command>
     arguments.end(Command::Client { client, uid, gid })
 }
 
-/// The leaving of a client.
+/// The removing of a client.
 #[tactic(auto, unfolding(pud_defs::specs::StateMachine::Grammar::leave_by))]
 fn read_leave(mut arguments: Arguments) -> Option<Command>
     ensures { result ≡ leave_by arguments.entry }
@@ -164,7 +164,7 @@ fn read_set(mut arguments: Arguments) -> Option<Command>
     })
 }
 
-/// The asking for a value of a field.
+/// The deferring of a value of a field.
 #[tactic(auto, unfolding(pud_defs::specs::StateMachine::Grammar::later_by))]
 fn read_later(mut arguments: Arguments) -> Option<Command>
     ensures { result ≡ later_by arguments.entry }

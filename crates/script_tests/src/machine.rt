@@ -30,7 +30,7 @@ struct Object {
     is_freed: bool,
 }
 
-/// A value that comes at the commit.
+/// A deferred value, which comes at the commit.
 #[derive(Clone, Copy)]
 struct Later {
     serial: u64,
@@ -221,7 +221,7 @@ impl Pool {
         self.refusal_by_units()
     }
 
-    /// Whether the root, a pointer of an object, or what is asked for later holds the object.
+    /// Whether the root or a pointer of an object references the object, or a deferred value names it.
     fn is_held(&self, serial: u64) -> bool {
         if self.objects.iter().any(|object| object.names(serial)) {
             return true;
@@ -308,7 +308,7 @@ impl Pool {
         }
     }
 
-    /// What is asked for later comes, in turn, and the transaction ends.
+    /// The deferred values come, in order, and the transaction ends.
     fn end(&mut self) {
         if let Some(open) = self.open.take() {
             for later in open.laters.iter() {

@@ -109,7 +109,7 @@ pub fn go_on(
 }
 
 /// What is asked of a pool by the client of its owner's uid: each field of its first objects and its last ones, and beyond them; and then
-/// which of the first are held.
+/// which of the first are referenced.
 fn read_pool(rt: &impl Abort, lines: &mut Vec<Line>, at: u8, uid: u8, objects: u64) {
     let client = uid.saturating_sub(5);
     for number in 1..10u64 {
