@@ -173,9 +173,9 @@ module _ (F : ℕ) (at : List (ℕ × Puddle)) (types : List (ℕ × ℕ)) (imag
   index_begins_to_free s o there =
       IsIndexBy-same place place (λ q. reference_count q g) (references_left g s o.fields) x (λ q. refl) (λ q p known. reference_count-freed q s o g (objects_sorted types (stored_in F at image) g stored) there) by_graph
 
-pub index_lets_go : (F : ℕ) (at : List (ℕ × Puddle)) (image : Image) (g : Graph) (s : ℕ) (v : FieldValue) (left : List FieldValue) (x y : Index) → ((q : ℕ) → kept_under y q ≡ after_retarget (serial_named v) 0 q (kept_under x q))
+pub index_releases : (F : ℕ) (at : List (ℕ × Puddle)) (image : Image) (g : Graph) (s : ℕ) (v : FieldValue) (left : List FieldValue) (x y : Index) → ((q : ℕ) → kept_under y q ≡ after_retarget (serial_named v) 0 q (kept_under x q))
     → IsIndexBy (place_in_pool F at image) (references_left g s (v ∷ left)) x → IsIndexBy (place_in_pool F at image) (references_left g s left) y
-index_lets_go F at image g s v left x y moved is =
+index_releases F at image g s v left x y moved is =
     IsIndexBy-moved (place_in_pool F at image) (references_left g s (v ∷ left)) (references_left g s left) (serial_named v) 0 x y moved
     (λ q p there. let once = named_once q v (placed_used F at image q p there) in let sum = sum_by-cons (times_named_by q) v left in omega (arith, once, sum))
     (λ q p there.

@@ -76,7 +76,7 @@ impl Index {
 
     /// Counts a reference fewer to serial `s`, unless it is 0.
     fn release(&mut self, s: u64)
-        requires held { s ≢ 0 → HasReference (kept_under self.old s) }
+        requires referenced { s ≢ 0 → HasReference (kept_under self.old s) }
         ensures { (q : ℕ) → kept_under self.new q ≡ after_release s q (kept_under self.old q) }
     {
         if s == 0 {
@@ -103,7 +103,7 @@ impl Index {
     /// Counts that a pointer which named serial `from` names `to` instead; 0 is null, and names none. Each of the two that is
     /// not 0 is in the index: `from` has a reference, and `to` fewer than 2^32 - 1. No memory is taken.
     pub fn retarget(&mut self, from: u64, to: u64)
-        requires held { from ≢ 0 → HasReference (kept_under self.old from) }
+        requires referenced { from ≢ 0 → HasReference (kept_under self.old from) }
         requires room { to ≢ 0 → MayBeReferenced (kept_under self.old to) }
         ensures { (q : ℕ) → kept_under self.new q ≡ after_retarget from to q (kept_under self.old q) }
     {

@@ -37,7 +37,7 @@ pub fn is_referenced<H: Loads>(
     requires few { frames ≤ MAX_FRAMES }
     requires room { device_words frames ≤ (H.counts h.old).size }
     requires known { IsOnDevice frames pool.now }
-    ensures held { H.tells → (image : Image) → reads (H.state h.old).now.words ≡ image → (g : Graph)
+    ensures referenced { H.tells → (image : Image) → reads (H.state h.old).now.words ≡ image → (g : Graph)
         → graph_of (types_of image) (stored_in frames pool.now image) ≡ Option.Some g → IfOk result (λ held. held ≡ is_referenced s g) }
     ensures only_reads { OnlyReads H.tells H.state H.counts (fault_of result) h.old h.new }
 {

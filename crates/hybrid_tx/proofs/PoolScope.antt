@@ -176,8 +176,8 @@ module _ (F size log : ℕ) (at : List (ℕ × Puddle)) (placed : ArePlacedPuddl
   outside_log : (k : ℕ) → IsMine F at k → is_in_log log k ≡ false
   outside_log k m = let low = m.low in and_right (leb log k) (ltb k (log + LOG_WORDS)) (le-ltb k (log + LOG_WORDS) (omega arith))
 
-  pub is_ground : IsScope size log (pool_scope F at)
-  is_ground = record {
+  pub is_scope : IsScope size log (pool_scope F at)
+  is_scope = record {
     named = λ address count may. spans address count (pool_may_name-named at address count may);
     apart = λ k mine. outside_log k (pool_has_word-each F at k mine);
   }

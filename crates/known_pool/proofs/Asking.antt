@@ -62,5 +62,5 @@ module _ (F : ℕ) (image : Image) (known : Known) (k : IsKnown F image known) (
     held_by g stored (Some p) there some = sym (held_by_index F known.puddles (types_of image) image g stored x index_is s p there)
 
     -- of an object that it has it tells whether it is referenced
-    pub held_there : (g : Graph) → graph_of (types_of image) (stored_in F known.puddles image) ≡ Some g → is_some (option_map place_kept (kept_under x s)) ≡ true → ltb 0 (references_kept (kept_under x s)) ≡ is_referenced s g
-    held_there g stored some = held_by g stored place refl (sym (ap is_some found_place) ∙ some)
+    pub referenced_there : (g : Graph) → graph_of (types_of image) (stored_in F known.puddles image) ≡ Some g → is_some (option_map place_kept (kept_under x s)) ≡ true → ltb 0 (references_kept (kept_under x s)) ≡ is_referenced s g
+    referenced_there g stored some = held_by g stored place refl (sym (ap is_some found_place) ∙ some)

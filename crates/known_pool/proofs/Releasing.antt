@@ -15,7 +15,7 @@ use Rattle.graph_read.specs.declared.index.Kept.{Kept}
 use Rattle.graph_read.specs.Indexed.{IsIndexBy, IsIndexOf, references_left}
 use Rattle.graph_read.specs.Reading.{table_in, place_in_pool}
 use Rattle.graph_read.proofs.Found.{object_in-place}
-use Rattle.graph_read.proofs.IndexKept.{index_begins_to_free, index_lets_go}
+use Rattle.graph_read.proofs.IndexKept.{index_begins_to_free, index_releases}
 use Rattle.graph_read.proofs.Numbers.{field_content}
 use Rattle.known_pool.specs.Known.{index_entries}
 use Rattle.known_pool.proofs.KnownKept.{IsIndexOf-entries}
@@ -37,7 +37,7 @@ module _ (F : ℕ) (at : List (ℕ × Puddle)) (image : Image) (p : ℕ) where
   left_from m f = fields_from m f (field_count m - f)
 
   -- Each index that is kept has released what the fields before this one name, of whatever object stands there.
-  pub record LetsFirst (m f : ℕ) (index : Option (List (ℕ × Kept))) : Type 0 where
+  pub record ReleasesFirst (m f : ℕ) (index : Option (List (ℕ × Kept))) : Type 0 where
     pub each : (g : Graph) (s : ℕ) → graph_of (types_of image) (stored_in F at image) ≡ Some g → place s ≡ Some p → (x : Index) → index ≡ Some (index_entries x) → IsIndexBy place (references_left g s (left_from m f)) x
 
   -- before the first one
@@ -57,7 +57,7 @@ module _ (F : ℕ) (at : List (ℕ × Puddle)) (image : Image) (p : ℕ) where
         → (object_at (table_in F at image) p).fields ≡ map (value_of serial) (contents_or_none (slot_contents (stored_in F at image) p type))
     fields_by type is_type = ap (λ (t : Option ℕ). map (value_of serial) (contents_or_none (slot_contents (stored_in F at image) p t))) is_type
 
-    pub LetsFirst-start : (m : ℕ) → map_of (place_word (stored_in F at image) p SLOT_TYPE_WORD) (types_of image) ≡ Some m → LetsFirst m 0 (option_map index_entries index)
+    pub LetsFirst-start : (m : ℕ) → map_of (place_word (stored_in F at image) p SLOT_TYPE_WORD) (types_of image) ≡ Some m → ReleasesFirst m 0 (option_map index_entries index)
     LetsFirst-start m is_type = record {
       each = λ g s stored there x kept.
           let all : field_count m ≡ field_count m - 0 = omega arith in
@@ -70,18 +70,18 @@ module _ (F : ℕ) (at : List (ℕ × Puddle)) (image : Image) (p : ℕ) where
     lets_none none g s stored there = record { each = λ x kept. subst (λ (vals : List FieldValue). IsIndexBy place (references_left g s vals) x) (fields_by None none) (begins g s stored there x kept) }
 
   -- one more
-  pub LetsFirst-more : (m f : ℕ) (was : FieldValue) (old new : Option (List (ℕ × Kept))) → f < field_count m → was ≡ value_of serial (field_content (stored_in F at image) p m f) → Follows (after_move was (Num 0)) old new → LetsFirst m f old
-      → LetsFirst m (f + 1) new
+  pub LetsFirst-more : (m f : ℕ) (was : FieldValue) (old new : Option (List (ℕ × Kept))) → f < field_count m → was ≡ value_of serial (field_content (stored_in F at image) p m f) → Follows (after_move was (Num 0)) old new → ReleasesFirst m f old
+      → ReleasesFirst m (f + 1) new
   LetsFirst-more m f was old new below is follows lets = record {
     each = λ g s stored there y kept.
         let from = follows.each y kept in
         let one : field_count m - f ≡ suc (field_count m - (f + 1)) = omega (arith, below) in
-        index_lets_go F at image g s was (left_from m (f + 1)) from.before y from.each
+        index_releases F at image g s was (left_from m (f + 1)) from.before y from.each
         (subst (λ (vals : List FieldValue). IsIndexBy place (references_left g s vals) from.before) (ap (fields_from m f) one ∙ ap (λ (v : FieldValue). v ∷ left_from m (f + 1)) (sym is)) (lets.each g s stored there from.before from.was));
   }
 
   -- and all
-  pub LetsFirst-end : (m f : ℕ) (index : Option (List (ℕ × Kept))) → field_count m ≤ f → LetsFirst m f index → (g : Graph) (s : ℕ) → graph_of (types_of image) (stored_in F at image) ≡ Some g → place s ≡ Some p → HasReleased place g s index
+  pub LetsFirst-end : (m f : ℕ) (index : Option (List (ℕ × Kept))) → field_count m ≤ f → ReleasesFirst m f index → (g : Graph) (s : ℕ) → graph_of (types_of image) (stored_in F at image) ≡ Some g → place s ≡ Some p → HasReleased place g s index
   LetsFirst-end m f index past lets g s stored there =
       let none : field_count m - f ≡ 0 = omega (arith, past) in
       record { each = λ x kept. subst (λ (vals : List FieldValue). IsIndexBy place (references_left g s vals) x) (ap (fields_from m f) none) (lets.each g s stored there x kept) }

@@ -97,7 +97,7 @@ fn release_fields<H: Loads>(
     requires room { device_words frames ≤ (H.counts h.old).size }
     requires known { IsOnDevice frames pool.now }
     requires within { IsSlotOf pool.now at.now }
-    ensures lets_go { H.tells → (image : Image) → reads (H.state h.old).now.words ≡ image
+    ensures releases { H.tells → (image : Image) → reads (H.state h.old).now.words ≡ image
         → (g : Graph) → graph_of (types_of image) (stored_in frames pool.now image) ≡ Option.Some g
         → (s : ℕ) → place_in_pool frames pool.now image s ≡ Option.Some (place_of_slot at.now)
         → ((x : Index) → index.old ≡ Option.Some x → IsIndexOf frames pool.now (types_of image) image x)
@@ -163,7 +163,7 @@ impl KnownPool {
         requires room { device_words frames ≤ (H.counts h.old).size }
         requires known { IsOnDevice frames self.old.puddles }
         requires within { IsSlotOf self.old.puddles at.now }
-        ensures lets_go { H.tells → (image : Image) → reads (H.state h.old).now.words ≡ image
+        ensures releases { H.tells → (image : Image) → reads (H.state h.old).now.words ≡ image
             → (g : Graph) → graph_of (types_of image) (stored_in frames self.old.puddles image) ≡ Option.Some g
             → place_in_pool frames self.old.puddles image s ≡ Option.Some (place_of_slot at.now) → IsKnown frames image self.old
             → IfOk result (λ _. (x : Index) → self.new.index ≡ Option.Some (index_entries x) → Releases (place_in_pool frames self.old.puddles image) g s x) }

@@ -101,7 +101,7 @@ impl KnownPool {
         requires few { frames ≤ MAX_FRAMES }
         requires room { device_words frames ≤ (H.counts h.old).size }
         requires known { IsOnDevice frames self.now.puddles }
-        ensures held { H.tells → (image : Image) → reads (H.state h.old).now.words ≡ image → IsKnown frames image self.now → (g : Graph)
+        ensures referenced { H.tells → (image : Image) → reads (H.state h.old).now.words ≡ image → IsKnown frames image self.now → (g : Graph)
             → graph_of (types_of image) (stored_in frames self.now.puddles image) ≡ Option.Some g → IfOk result (λ held. held ≡ is_referenced s g) }
         ensures only_reads { OnlyReads H.tells H.state H.counts (fault_of result) h.old h.new }
     {

@@ -63,8 +63,8 @@ module _ (to : Target) (image : Image) (place : AddressMap) (same : address_map_
   pub undone-unplaced : (es : List Entry) → undo_value place log es k ≡ None
   undone-unplaced es = undo_value-nothing place log es k (λ n d below within. value_in-unplaced (get_or es n d) (place (get_or es n d).address) refl)
 
-  pub redone-unplaced : (es : List Entry) → redo_value place log es k ≡ None
-  redone-unplaced es = redo_value-nothing place log es k (λ n d below within. value_in-unplaced (get_or es n d) (place (get_or es n d).address) refl)
+  pub redo_value-unplaced : (es : List Entry) → redo_value place log es k ≡ None
+  redo_value-unplaced es = redo_value-nothing place log es k (λ n d below within. value_in-unplaced (get_or es n d) (place (get_or es n d).address) refl)
 
 -- ---- one entry of a copy is read
 
@@ -95,8 +95,8 @@ module _ (size : ℕ) (log : Log) (image : Image) (entry : Found) (now : Reading
   pub undone-found : (w : ℕ) → undo_value device_word log es w ≡ over (undo_value device_word log f.behind) (given_by device_word log UNDO_ORDER (entry_from image entry)) w
   undone-found w = ap (λ (fs : List Entry). undo_value device_word log fs w) f.is ∙ undo_value-first device_word log (entry_from image entry) f.behind w
 
-  pub redone-found : (w : ℕ) → redo_value device_word log es w ≡ over (given_by device_word log REDO_ORDER (entry_from image entry)) (redo_value device_word log f.behind) w
-  redone-found w = ap (λ (fs : List Entry). redo_value device_word log fs w) f.is ∙ redo_value-first device_word log (entry_from image entry) f.behind w
+  pub redo_value-found : (w : ℕ) → redo_value device_word log es w ≡ over (given_by device_word log REDO_ORDER (entry_from image entry)) (redo_value device_word log f.behind) w
+  redo_value-found w = ap (λ (fs : List Entry). redo_value device_word log fs w) f.is ∙ redo_value-first device_word log (entry_from image entry) f.behind w
 
 pub undo_value-end : (log : Log) (old now : Reading) (found : Option Found) (es : List Entry) (image : Image) → found ≡ None → entries_left image old ≡ left_before image found now
     → entries_left image old ≡ Some es → (w : ℕ) → undo_value device_word log es w ≡ None

@@ -19,7 +19,7 @@ use Rattle.pud_defs.proofs.Logging.Replay.{overwritten-again, new_value-of}
 use Rattle.log_replay.specs.declared.Target.{Target}
 use Rattle.log_replay.specs.Replaying.{address_map_of, IsPlacing, IsReplayable, HasDurableLog, AreApart, new_values, Named, AppliesEntries, ReplaysSame, Replays, ReplaysAgain}
 use Rattle.log_replay.proofs.Places.{places_same}
-use Rattle.log_replay.proofs.Left.{undo_value-apart, redo_value-apart, undone-unplaced, redone-unplaced}
+use Rattle.log_replay.proofs.Left.{undo_value-apart, redo_value-apart, undone-unplaced, redo_value-unplaced}
 
 -- ---- words that are read of the log, and from which the address map is read
 
@@ -37,7 +37,7 @@ new_values-unplaced to at es image spells k placing =
     let place = address_map_of to image in
     let log = log_of image at in
     new_value-of place log es k spells
-    ∙ ap₂ option_or (redone-unplaced to image place refl log k placing es) (undone-unplaced to image place refl log k placing es)
+    ∙ ap₂ option_or (redo_value-unplaced to image place refl log k placing es) (undone-unplaced to image place refl log k placing es)
 
 -- an image of these words has the log that they read
 pub log_of_picked : (to : Target) (at : ℕ) (words : Words) (image : Image) → HasDurableLog to at words → Picks words image → log_of image at ≡ log_of (reads words) at

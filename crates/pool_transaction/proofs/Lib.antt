@@ -2,4 +2,3 @@ pub mod Updates
 pub mod Lifetimes
 pub mod PuddlesFinished
 pub mod NewObjects
-pub mod HeldFound

@@ -5,3 +5,4 @@ pub mod ActiveSets
 pub mod ActiveUpdates
 pub mod ActiveRefusals
 pub mod ChangeAnswers
+pub mod ActiveFound

@@ -300,7 +300,7 @@ impl PoolTransaction {
     ) -> Result<Result<NewPuddle, Refusal>, HostFault>
         requires few { frames ≤ MAX_FRAMES }
         requires room { device_words frames ≤ (H.counts h.old).size }
-        requires held { IsActiveWithin frames self.now }
+        requires active { IsActiveWithin frames self.now }
         requires known { IsOnDevice frames pool.now }
         ensures refusal { H.tells → (image : Image) → reads (H.state h.old).now.words ≡ image → (self.now).tx.units + NEW_UNITS ≤ LOG_ENTRY_WORDS
             → IfOk result (λ found. refusal_in found ≡ refusal_by_tables frames pool.now image) }

@@ -143,7 +143,7 @@ impl Daemon {
         ensures judged { H.tells → (image : Image) → reads (H.state h.old).now.words ≡ image → AreKnownPools (self.old).frames (self.old).judged image → AreKnownPools (self.old).frames (self.new).judged image }
         ensures unjudged { needs_graph need ≡ false → (self.new).judged ≡ (self.old).judged }
         ensures frames { (self.new).frames ≡ (self.old).frames }
-        ensures held { (self.new).active ≡ (self.old).active }
+        ensures active { (self.new).active ≡ (self.old).active }
         ensures sessions { (self.new).sessions ≡ (self.old).sessions }
         ensures only_reads { OnlyReads H.tells H.state H.counts (fault_of result) h.old h.new }
     {
@@ -183,7 +183,7 @@ impl Daemon {
         ensures judged { H.tells → (image : Image) → reads (H.state h.old).now.words ≡ image → AreKnownPools (self.old).frames (self.old).judged image → AreKnownPools (self.old).frames (self.new).judged image }
         ensures unjudged { needs_graph need ≡ false → (self.new).judged ≡ (self.old).judged }
         ensures frames { (self.new).frames ≡ (self.old).frames }
-        ensures held { (self.new).active ≡ (self.old).active }
+        ensures active { (self.new).active ≡ (self.old).active }
         ensures sessions { (self.new).sessions ≡ (self.old).sessions }
         ensures only_reads { OnlyReads H.tells H.state H.counts (fault_of result) h.old h.new }
     {
@@ -220,7 +220,7 @@ impl Daemon {
         ensures finds { IfOk result (λ found. IfOk found (FindsOwn client self.old)) }
         ensures ready { H.tells → (size : ℕ) → (w : World) → IsReady size w self.old (H.state h.old) → IsReady size w self.new (H.state h.old) }
         ensures frames { (self.new).frames ≡ (self.old).frames }
-        ensures held { (self.new).active ≡ (self.old).active }
+        ensures active { (self.new).active ≡ (self.old).active }
         ensures sessions { (self.new).sessions ≡ (self.old).sessions }
         ensures only_reads { OnlyReads H.tells H.state H.counts (fault_of result) h.old h.new }
     {

@@ -83,7 +83,7 @@ impl Daemon {
         ensures ready { H.tells → (size : ℕ) → (w : World) → IsReady size w self.old (H.state h.old) → IsReady size w self.new (H.state h.old) }
         ensures judged { (self.new).judged ≡ (self.old).judged }
         ensures frames { (self.new).frames ≡ (self.old).frames }
-        ensures held { (self.new).active ≡ (self.old).active }
+        ensures active { (self.new).active ≡ (self.old).active }
         ensures sessions { (self.new).sessions ≡ (self.old).sessions }
         ensures only_reads { OnlyReads H.tells H.state H.counts (fault_of result) h.old h.new }
     {
@@ -141,7 +141,7 @@ impl Daemon {
         ensures keeps { H.tells → (size : ℕ) → (w : World) → IsReady size w self.old (H.state h.old) → refusal_of w (commands.Drop client name) ≢ Option.None → (self.new).judged ≡ (self.old).judged }
         ensures forgets { H.tells → (size : ℕ) → (w : World) → IsReady size w self.old (H.state h.old) → refusal_of w (commands.Drop client name) ≡ Option.None
             → IfOk result (λ reply. ForgetsPool w.stored.frames name (reads (H.state h.old).now.words) (self.old).judged (self.new).judged) }
-        ensures held { (self.new).active ≡ (self.old).active }
+        ensures active { (self.new).active ≡ (self.old).active }
         ensures sessions { (self.new).sessions ≡ (self.old).sessions }
         ensures frames { (self.new).frames ≡ (self.old).frames }
         ensures rest { H.tells → KeepsRest (H.state h.old) (H.state h.new) }

@@ -64,7 +64,7 @@ impl Daemon {
             → IfOk result (λ reply. of_reply reply ≡ answer_by w (Option.Some (Get client name s f))) }
         ensures applies { H.tells → (size : ℕ) → (w : World) → IsReady size w self.old (H.state h.old)
             → Applies size w (world_by w (Option.Some (Get client name s f))) self.new (fault_of result) (H.state h.old) (H.state h.new) }
-        ensures held { (self.new).active ≡ (self.old).active }
+        ensures active { (self.new).active ≡ (self.old).active }
         ensures sessions { (self.new).sessions ≡ (self.old).sessions }
         ensures frames { (self.new).frames ≡ (self.old).frames }
         ensures only_reads { OnlyReads H.tells H.state H.counts (fault_of result) h.old h.new }

@@ -110,7 +110,7 @@ impl Daemon {
             → AppliesAs size w (world_by w (Option.Some (commands.Rewrite name n))) (Option.Some (commands.Rewrite name n)) self.new (fault_of result) (H.state h.old) (H.state h.new) }
         ensures moves { H.tells → (size : ℕ) → size ≡ (H.counts h.old).size → (w : World) → IsReady size w self.old (H.state h.old) → refusal_of w (commands.Rewrite name n) ≡ Option.None
             → IfOk result (λ _. DoesSteps w.stored.frames name n (reads (H.state h.old).now.words) (reads (H.state h.new).now.words)) }
-        ensures held { (self.new).active ≡ (self.old).active }
+        ensures active { (self.new).active ≡ (self.old).active }
         ensures sessions { (self.new).sessions ≡ (self.old).sessions }
         ensures frames { (self.new).frames ≡ (self.old).frames }
         ensures rest { H.tells → KeepsRest (H.state h.old) (H.state h.new) }

@@ -37,7 +37,7 @@ use std::mem;
 /// Puts a transaction under the number of its log. What was active there, if anything, is given up.
 fn put_transaction(all: &mut PoolTransactions, number: u32, opened: PoolTransaction)
     requires { number < ALL_LOGS }
-    ensures held { all.new ≡ set all.old number (Option.Some opened) }
+    ensures active { all.new ≡ set all.old number (Option.Some opened) }
     ensures within { number < length all.old }
 {
     lose(mem::replace(&mut all[number as usize], Some(opened)));
@@ -56,7 +56,7 @@ impl Daemon {
             → refusal_to w needs.Write client name ≡ Option.None → of_reply result ≡ answer_by w (Option.Some (commands.Begin client name)) }
         ensures ready { (size : ℕ) → (w : World) → (name : List ℕ) → (s : State) → IsReady size w self.old s → IsOwnTransactionOn client name slot number (self.old).active
             → refusal_to w needs.Write client name ≡ Option.None → IsReady size (world_by w (Option.Some (commands.Begin client name))) self.new s }
-        ensures held { (self.new).active ≡ (self.old).active }
+        ensures active { (self.new).active ≡ (self.old).active }
         ensures judged { (self.new).judged ≡ (self.old).judged }
         ensures frames { (self.new).frames ≡ (self.old).frames }
     {
@@ -107,7 +107,7 @@ impl Daemon {
         requires { number < ALL_LOGS }
         ensures opened { result ≡ active_under (self.old).active number }
         ensures within { IfSome result (IsActiveWithin (self.old).frames) }
-        ensures held { (self.new).active ≡ set (self.old).active number Option.None }
+        ensures active { (self.new).active ≡ set (self.old).active number Option.None }
         ensures sessions { (self.new).sessions ≡ sessions_behind (active_under (self.old).active number) (self.old).sessions }
         ensures judged { (self.new).judged ≡ judged_behind (active_under (self.old).active number) (self.old).judged }
         ensures frames { (self.new).frames ≡ (self.old).frames }
@@ -162,7 +162,7 @@ impl Daemon {
         // No word in front of the clients' logs changes.
         ensures behind { H.tells → (size : ℕ) → size ≡ (H.counts h.old).size → (w : World) → IsReady size w self.old (H.state h.old)
             → Changes (BehindTables w.stored.frames) (fault_of result) (H.state h.old) (H.state h.new) }
-        ensures held { (self.new).active ≡ set (self.old).active number Option.None }
+        ensures active { (self.new).active ≡ set (self.old).active number Option.None }
         ensures frames { (self.new).frames ≡ (self.old).frames }
         ensures rest { H.tells → KeepsRest (H.state h.old) (H.state h.new) }
         ensures rests { H.tells → fault_of result ≡ Option.Some HostFault.Cut → IsRested (H.state h.new).now.words }

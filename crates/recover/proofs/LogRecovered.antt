@@ -55,9 +55,9 @@ module _ (F number : ℕ) (image : Image) (old : State) (is : reads old.now.word
 
   -- ---- nothing happens to the log
 
-  pub TakesTurn-still : (fault : Option HostFault) (new : State) → (fault ≡ Some Cut → ⊥) → new ≡ old → ((w : ℕ) → given_by_log F image number w ≡ None)
+  pub RecoversLog-still : (fault : Option HostFault) (new : State) → (fault ≡ Some Cut → ⊥) → new ≡ old → ((w : ℕ) → given_by_log F image number w ≡ None)
       → (fault ≡ None → is_accepted_log F image number ≡ true → image at ≡ CLOSED_GATE) → RecoversLog F number image fault old new
-  TakesTurn-still fault new uncut same nothing closed =
+  RecoversLog-still fault new uncut same nothing closed =
       let now : reads new.now.words ≡ image = ap (λ (s : State). reads s.now.words) same ∙ is in
       record {
         changes = Changes-still (ByClientLog F number image) fault old new uncut same;
@@ -66,8 +66,8 @@ module _ (F number : ℕ) (image : Image) (old : State) (is : reads old.now.word
         closed = λ none accepted. ap (λ (i : Image). i at) now ∙ closed none accepted;
       }
 
-  pub LeavesTurn-still : IsRested old.now.words → (fault : Option HostFault) (new : State) → new ≡ old → RecoversLogAtEachMoment F number image fault old new
-  LeavesTurn-still rested fault new same = record {
+  pub RecoversLogAtEachMoment-still : IsRested old.now.words → (fault : Option HostFault) (new : State) → new ≡ old → RecoversLogAtEachMoment F number image fault old new
+  RecoversLogAtEachMoment-still rested fault new same = record {
     moments = Leaves-still (Silently (ReplaysClientLog F number image)) old new (λ other picked. (refl, ReplaysClientLog-itself F number image other (the_image rested other picked))) same;
     rested = λ none. subst (λ (s : State). IsRested s.now.words) (sym same) rested;
   }
@@ -82,8 +82,8 @@ module _ (F number : ℕ) (image : Image) (old : State) (is : reads old.now.word
     uncut : fault ≡ None → fault ≡ Some Cut → ⊥
     uncut none cut = absurd (let it : None ≡ Some Cut = sym none ∙ cut in cc)
 
-    pub TakesTurn-closed : RecoversLog F number image fault old new
-    TakesTurn-closed = record {
+    pub RecoversLog-closed : RecoversLog F number image fault old new
+    RecoversLog-closed = record {
       changes = Changes-wider (written (only at CLOSED_GATE)) (ByClientLog F number image) fault old new (λ k v new. record { accepted = accepted; place = inl (only_at at CLOSED_GATE k v new) }) p.changes;
       takes = λ none. record {
         stays = λ k apart gives. (p.changes.keeps (uncut none) k (λ v new. apart (only_at at CLOSED_GATE k v new))).newest ∙ ap (λ (i : Image). i k) is;
@@ -93,8 +93,8 @@ module _ (F number : ℕ) (image : Image) (old : State) (is : reads old.now.word
       closed = λ none a. shut_gate none;
     }
 
-    pub LeavesTurn-closed : IsRested old.now.words → RecoversLogAtEachMoment F number image fault old new
-    LeavesTurn-closed rested = record {
+    pub RecoversLogAtEachMoment-closed : IsRested old.now.words → RecoversLogAtEachMoment F number image fault old new
+    RecoversLogAtEachMoment-closed rested = record {
       moments = Leaves-changes (ReplaysClientLog F number image) (written (only at CLOSED_GATE)) fault old new (λ before other picked from.
           elim (one_word at CLOSED_GATE before other from) [
             | inl same ↦ ReplaysClientLog-itself F number image other (same ∙ the_image rested before picked)
@@ -126,8 +126,8 @@ module _ (F number : ℕ) (image : Image) (old : State) (is : reads old.now.word
     settled_gate : fault ≡ None → reads new.now.words at ≡ CLOSED_GATE
     settled_gate none = HasOnly-newest (new.now.words at) CLOSED_GATE (s.closed none)
 
-    pub TakesTurn-settled : RecoversLog F number image fault old new
-    TakesTurn-settled = record {
+    pub RecoversLog-settled : RecoversLog F number image fault old new
+    RecoversLog-settled = record {
       changes = Changes-wider (ByOneLog at write) (ByClientLog F number image) fault old new (λ k v by. record {
         accepted = accepted;
         place = elim by [ inl here ↦ inl here | inr named ↦ inr (record { value = named.value; is = given_values accepted k ∙ named.is }) ];
@@ -144,8 +144,8 @@ module _ (F number : ℕ) (image : Image) (old : State) (is : reads old.now.word
       closed = λ none a. settled_gate none;
     }
 
-    pub LeavesTurn-settled : IsRested old.now.words → Leaves (Silently (IsSettling (Puddles F) at old.now.words)) old new → RecoversLogAtEachMoment F number image fault old new
-    LeavesTurn-settled rested moments = record {
+    pub RecoversLogAtEachMoment-settled : IsRested old.now.words → Leaves (Silently (IsSettling (Puddles F) at old.now.words)) old new → RecoversLogAtEachMoment F number image fault old new
+    RecoversLogAtEachMoment-settled rested moments = record {
       moments = Leaves-weaker (Silently (IsSettling (Puddles F) at old.now.words)) (Silently (ReplaysClientLog F number image)) old new (λ bytes other q.
           let p = q.1 in
           let from : p.before ≡ image = the_image rested p.before p.picked in

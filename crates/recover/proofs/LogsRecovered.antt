@@ -114,8 +114,8 @@ module _ (F number : ℕ) (image : Image) (old mid : State) (known : number < AL
     still_closed : fault ≡ None → (n : ℕ) → n < number → m (log_number_at F n) ≡ CLOSED_GATE → reads new.now.words (log_number_at F n) ≡ CLOSED_GATE
     still_closed none n below was = beside_gate F number m (reads new.now.words) known (turn.takes none) (log_number_at F n) (omega arith) (λ same. absurd (omega arith)) ∙ was
 
-    pub TakesTurns-turn : RecoversLogs F (number + 1) image fault old new
-    TakesTurns-turn = record {
+    pub RecoversLogs-turn : RecoversLogs F (number + 1) image fault old new
+    RecoversLogs-turn = record {
       changes = Changes-then (ByClientLogs F (number + 1) image) fault old mid new
           (Changes-wider (ByClientLogs F number image) (ByClientLogs F (number + 1) image) None old mid widened first.changes)
           (Changes-wider (ByClientLog F number m) (ByClientLogs F (number + 1) image) fault mid new of_this turn.changes);
@@ -129,8 +129,8 @@ module _ (F number : ℕ) (image : Image) (old mid : State) (known : number < AL
       left = λ none n low few. other_log F number m (reads new.now.words) known (turn.takes none) n few (λ same. absurd (omega arith)) ∙ first.left refl n (omega arith) few;
     }
 
-    pub LeavesTurns-turn : RecoversLogsAtEachMoment F image None old mid → RecoversLogAtEachMoment F number m fault mid new → RecoversLogsAtEachMoment F image fault old new
-    LeavesTurns-turn so_far last = record {
+    pub RecoversLogsAtEachMoment-turn : RecoversLogsAtEachMoment F image None old mid → RecoversLogAtEachMoment F number m fault mid new → RecoversLogsAtEachMoment F image fault old new
+    RecoversLogsAtEachMoment-turn so_far last = record {
       moments = Leaves-then (Silently (IsRecoveredAlike F image)) (Silently (IsRecoveredAlike F image)) (Silently (IsRecoveredAlike F image)) [] old mid new (said_mid ∙ sym (append-nil old.now.said))
           (λ front other q. q) (λ more other q. q) so_far.moments
           (Leaves-weaker (Silently (ReplaysClientLog F number m)) (Silently (IsRecoveredAlike F image)) mid new (λ bytes other q. (q.0, alike_then other q.1)) last.moments);

@@ -110,8 +110,8 @@ module _ (F frame : ℕ) (words : List ℕ) (whole : length words ≡ FRAME_WORD
     pub Leaves-filled : (fault : Option HostFault) (a b : State) → IsQuiescent size s a.now.words → IsFreeFrame F frame a.now.words → Changes (written write) fault a b → Leaves (Silently stands) a b
     Leaves-filled fault a b settled is c = Leaves-changes stands (written write) fault a b (still a.now.words settled is) c
 
-    pub IsSettled-filled : (fault : Option HostFault) (a b : State) → IsQuiescent size s a.now.words → IsFreeFrame F frame a.now.words → Changes (written write) fault a b → IsQuiescent size s b.now.words
-    IsSettled-filled fault a b settled is c = record {
+    pub IsQuiescent-filled : (fault : Option HostFault) (a b : State) → IsQuiescent size s a.now.words → IsFreeFrame F frame a.now.words → Changes (written write) fault a b → IsQuiescent size s b.now.words
+    IsQuiescent-filled fault a b settled is c = record {
       stands = λ image picked. (Leaves-now (Silently stands) [] a b (Changes-said (written write) fault a b c ∙ sym (append-nil a.now.said)) (Leaves-filled fault a b settled is c) image picked).1;
       idle = (HasIdleGate-filled fault a b c (record { each = settled.idle })).each;
     }

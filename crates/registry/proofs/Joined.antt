@@ -43,7 +43,7 @@ use Rattle.registry.proofs.Moved.{ReadsWorld, reads_world, MovesBy-puts, Changes
 use Rattle.registry.proofs.Changed.{MakesPools-mode, mode_world, MakesPools-drop, drop_world}
 use Rattle.registry.proofs.Made.{MakesPools-made, made_world}
 use Rattle.registry.proofs.Grown.{MakesPools-grown, MakesPools-wild, grown_world, wild_world}
-use Rattle.registry.proofs.Filled.{length-fresh_frame, not_filled, IsSettled-filled, HasDurableTables-filled, IsFreeFrame, filled_before, filled_behind, ChangesPools-filled}
+use Rattle.registry.proofs.Filled.{length-fresh_frame, not_filled, IsQuiescent-filled, HasDurableTables-filled, IsFreeFrame, filled_before, filled_behind, ChangesPools-filled}
 
 -- the batch of changes that makes these pools
 changes_by : (size : ℕ) (s next : StoredWorld) (number : ℕ) (ps : List (List ℕ × Pool)) (puts : List Put) (has also : Image → Type 0) (fault : Option HostFault) (a b : State) → pools_next s number ps ≡ next
@@ -135,7 +135,7 @@ module _ (size : ℕ) (s next : StoredWorld) (F : ℕ) (a : NewPuddle) (es : Lis
       let words = fresh_frame a.puddle.number a.puddle.ordinal in
       let whole = length-fresh_frame a.puddle.number a.puddle.ordinal in
       let is_free : IsFreeFrame F a.frame start.now.words = record { tables = adds.tables; free = adds.free } in
-      let settled_then = IsSettled-filled F a.frame words whole known size s refl None start filled adds.settled is_free fills.changes in
+      let settled_then = IsQuiescent-filled F a.frame words whole known size s refl None start filled adds.settled is_free fills.changes in
       let tables_then = HasDurableTables-filled F a.frame words whole known size s refl None start filled fills.changes adds.tables in
       let kept : (k : ℕ) → k < tables_end F → reads filled.now.words k ≡ reads start.now.words k = λ k below.
       reads_kept (written (filling F a)) start filled k fills.changes (λ v. not_filled F a.frame words whole known k v (omega arith)) in

@@ -18,7 +18,7 @@ use Rattle.log_store.specs.Store.{OpenLog, InLog}
 use Rattle.log_store.proofs.Open.{IsOpen-kept}
 use Rattle.word_transaction.specs.Scope.{Scope}
 use Rattle.word_transaction.specs.Running.{IsRunning, no_write, RecoversTo, ByTransaction, KeepsRunning}
-use Rattle.word_transaction.proofs.Images.{IsRunning-settles}
+use Rattle.word_transaction.proofs.Images.{IsRunning-recovers}
 
 pub some_fault : (fault : HostFault) → Some fault ≡ None → ⊥
 some_fault fault e = absurd (cc)
@@ -59,7 +59,7 @@ pub KeepsRunning-still : (g : Scope) (log : OpenLog) (es : List Entry) (before :
 KeepsRunning-still g log es before fault old new uncut same r =
     record {
       changes = Changes-still (ByTransaction g log.gate_at) fault old new uncut same;
-      moments = Leaves-still (Silently (RecoversTo g log.gate_at before)) old new (λ image picked. (refl, IsRunning-settles g log es before image old.now.words r picked)) same;
+      moments = Leaves-still (Silently (RecoversTo g log.gate_at before)) old new (λ image picked. (refl, IsRunning-recovers g log es before image old.now.words r picked)) same;
       running = λ _. subst (λ (x : State). IsRunning g log es before x.now.words) (sym same) r;
       now = λ _ k out. ap (λ (x : State). reads x.now.words k) same;
     }

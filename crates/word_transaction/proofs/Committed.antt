@@ -21,7 +21,7 @@ use Rattle.log_store.specs.Store.{OpenLog, IsOpen, defers, saying, committing}
 use Rattle.log_store.proofs.Open.{IsOpen-fits, IsOpen-log, IsOpen-kept, IsOpen-moved, log_of-moving, only_here}
 use Rattle.word_transaction.specs.Scope.{Scope, IsScope, pending}
 use Rattle.word_transaction.specs.Running.{IsRunning, RecoversTo, HasGateRange, RecoversByRange, ByTransaction, ByCommit, AbortsTransaction, MovesRange, CommitsTransaction}
-use Rattle.word_transaction.proofs.Images.{RecoversTo-running, RecoversTo-idle, IsRunning-settles}
+use Rattle.word_transaction.proofs.Images.{RecoversTo-running, RecoversTo-idle, IsRunning-recovers}
 use Rattle.word_transaction.proofs.Calls.{some_fault, not_cut}
 use Rattle.word_transaction.proofs.Pending.{pending-none, RecoversTo-committing}
 use Rattle.word_transaction.proofs.Ended.{reads_beside}
@@ -140,7 +140,7 @@ module _ (size : ℕ) (log : OpenLog) (es : List Entry) (g : Scope) (before : Im
   unmoved image says recovers = inl (record { range = record { lo_is = ap (λ (l : Log). l.lo) says ∙ r.lo; hi_is = ap (λ (l : Log). l.hi) says ∙ r.hi }; recovers = recovers })
 
   start_image : (image : Image) → Picks a.now.words image → ByRange image
-  start_image image picked = unmoved image (IsOpen-log log es a.now.words image r.opened picked) (IsRunning-settles g log es before image a.now.words r picked)
+  start_image image picked = unmoved image (IsOpen-log log es a.now.words image r.opened picked) (IsRunning-recovers g log es before image a.now.words r picked)
 
   -- with this gate it has that of a committing log
   moved_range : (image : Image) → image log.gate_at ≡ moved_gate log → HasGateRange COMMITTING_LO COMMITTING_HI log.gate_at image

@@ -19,7 +19,7 @@ use Rattle.log_store.specs.Store.{OpenLog, InLog}
 use Rattle.word_transaction.specs.Scope.{Scope, IsScope, IsInScope, running_range, committing_range, saved, pending}
 use Rattle.word_transaction.specs.Running.{IsRunning, IsCovered, RecoversTo}
 use Rattle.word_transaction.proofs.Saved.{saved_is_mine}
-use Rattle.word_transaction.proofs.Images.{RecoversTo-local, IsRunning-settles}
+use Rattle.word_transaction.proofs.Images.{RecoversTo-local, IsRunning-recovers}
 
 -- ---- beside other calls
 
@@ -33,7 +33,7 @@ settles_beside g log es before may fault old new c in_log own r =
     RecoversTo-local g log.gate_at before was image
     (λ k inside. (let it : image k ≡ was k = elim (from.each k) [ inl same ↦ same | inr new ↦ absurd (in_log k (image k) inside new) ] in it))
     (λ k mine. (let it : image k ≡ was k = elim (from.each k) [ inl same ↦ same | inr new ↦ absurd (own k (image k) mine new) ] in it))
-    (IsRunning-settles g log es before was old.now.words r picked)) c
+    (IsRunning-recovers g log es before was old.now.words r picked)) c
 
 -- ---- the values from the beginning
 

@@ -59,8 +59,8 @@ RecoversTo-running g log es before image lo hi own says saves single =
     RecoversTo-given g log es (saved g.place es) before image own says (λ k. new_value-running g g.place (saying log es) es k lo hi refl own) saves single
 
 -- each image that may be left while a transaction is open recovers to the values from its beginning
-pub IsRunning-settles : (g : Scope) (log : OpenLog) (es : List Entry) (before image : Image) (words : Words) → IsRunning g log es before words → Picks words image → RecoversTo g log.gate_at before image
-IsRunning-settles g log es before image words r picked =
+pub IsRunning-recovers : (g : Scope) (log : OpenLog) (es : List Entry) (before image : Image) (words : Words) → IsRunning g log es before words → Picks words image → RecoversTo g log.gate_at before image
+IsRunning-recovers g log es before image words r picked =
     RecoversTo-running g log es before image r.lo r.hi r.own (IsOpen-log log es words image r.opened picked)
     (λ k v mine is. r.saves k v is) (λ k mine none. (r.single k mine none).each (image k) (picked.each k))
 

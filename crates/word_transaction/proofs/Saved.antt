@@ -74,12 +74,12 @@ either_some None b v is = inr (refl, is)
 either_some (Some x) b v is = inl is
 
 -- a word to which a log gives a value by undo entries is one of the transaction's own
-pub undone_is_mine : (size at : ℕ) (g : Scope) (log : Log) (es : List Entry) (k v : ℕ) → IsScope size at g → All (IsInScope g) es → undo_value g.place log es k ≡ Some v → g.has_word k ≡ true
-undone_is_mine size at g log [] k v ground own is = absurd (some_not_none _ v is (undo_value-none g.place log k))
-undone_is_mine size at g log (e ∷ es) k v ground own is =
+pub undo_value_in_scope : (size at : ℕ) (g : Scope) (log : Log) (es : List Entry) (k v : ℕ) → IsScope size at g → All (IsInScope g) es → undo_value g.place log es k ≡ Some v → g.has_word k ≡ true
+undo_value_in_scope size at g log [] k v ground own is = absurd (some_not_none _ v is (undo_value-none g.place log k))
+undo_value_in_scope size at g log (e ∷ es) k v ground own is =
     elim (either_some (given_by g.place log UNDO_ORDER e k) (undo_value g.place log es k) v (sym (undo_value-first g.place log e es k) ∙ is)) [
       | inl first ↦ named_is_mine size at g e k v ground (All-head (IsInScope g) e es own) (value_of_given g.place log UNDO_ORDER e k v first)
-      | inr later ↦ undone_is_mine size at g log es k v ground (All-tail (IsInScope g) e es own) later.1
+      | inr later ↦ undo_value_in_scope size at g log es k v ground (All-tail (IsInScope g) e es own) later.1
     ]
 
 -- and so is one to which it gives a value by redo entries
@@ -92,7 +92,7 @@ redone_is_mine size at g log (e ∷ es) k v ground own is =
     ]
 
 pub saved_is_mine : (size at : ℕ) (g : Scope) (es : List Entry) (k v : ℕ) → IsScope size at g → All (IsInScope g) es → saved g.place es k ≡ Some v → g.has_word k ≡ true
-saved_is_mine size at g es k v ground own is = undone_is_mine size at g running_range es k v ground own is
+saved_is_mine size at g es k v ground own is = undo_value_in_scope size at g running_range es k v ground own is
 
 pub pending_is_mine : (size at : ℕ) (g : Scope) (es : List Entry) (k v : ℕ) → IsScope size at g → All (IsInScope g) es → pending g.place es k ≡ Some v → g.has_word k ≡ true
 pending_is_mine size at g es k v ground own is = redone_is_mine size at g committing_range es k v ground own is

@@ -15,7 +15,7 @@ use Rattle.log_store.proofs.Open.{IsOpen-words}
 use Rattle.word_transaction.specs.Scope.{Scope, IsScope, running_range, saved}
 use Rattle.word_transaction.specs.Running.{IsRunning, AbortsTransaction}
 use Rattle.word_transaction.proofs.Saved.{new_value-running, saved_is_mine}
-use Rattle.word_transaction.proofs.Images.{IsRunning-settles}
+use Rattle.word_transaction.proofs.Images.{IsRunning-recovers}
 use Rattle.word_transaction.proofs.Growing.{undo_value-places}
 use Rattle.word_transaction.proofs.Committed.{Closes-shut}
 use Rattle.word_transaction.proofs.Settled.{Gives}
@@ -28,7 +28,7 @@ pub AbortsTransaction-empty : (size : ℕ) (log : OpenLog) (es : List Entry) (g 
     → IsRunning g log es before a.now.words → log.used ≡ 0 → Persists (only log.gate_at CLOSED_GATE) fault a b → AbortsTransaction g log.gate_at before fault a b
 AbortsTransaction-empty size log es g before fault a b ground r none p =
     let empty = no_words es (reads a.now.words) (log.gate_at + LOG_HEADER_WORDS) log.used none (IsOpen-words log es a.now.words r.opened) in
-    Closes-shut size log.gate_at g ground before fault a b (λ image picked. IsRunning-settles g log es before image a.now.words r picked)
+    Closes-shut size log.gate_at g ground before fault a b (λ image picked. IsRunning-recovers g log es before image a.now.words r picked)
     (λ k mine. r.single k mine (ap (λ (fs : List Entry). saved g.place fs k) empty ∙ undo_value-none g.place running_range k)) p
 
 -- a running log gives what is saved

@@ -67,12 +67,12 @@ module _ (F : ℕ) (at : List (ℕ × Puddle)) (types : List (ℕ × ℕ)) (is_p
     others_stay ls es are = AreDeferredEntries-kept F at types image behind now (with_deferred_value l now) places_stay (KeepsObjects-field l.s l.f l.x now) ls es are
 
   -- the entries written in turn make the graph with the deferred values
-  pub laters_applied : (deferred : List DeferredValue) (redo : List Entry) (image : Image) (now : Graph) → graph_of types (stored_in F at image) ≡ Some now → AreDeferredEntries F at types image now deferred redo
+  pub deferred_applied : (deferred : List DeferredValue) (redo : List Entry) (image : Image) (now : Graph) → graph_of types (stored_in F at image) ≡ Some now → AreDeferredEntries F at types image now deferred redo
       → graph_of types (stored_in F at (written_in_turn (pool_place F (finished_of at)) redo image)) ≡ Some (with_deferred_set deferred now)
-  laters_applied [] [] image now is are = is
-  laters_applied [] (e ∷ es) image now is are = absurd are
-  laters_applied (l ∷ ls) [] image now is are = absurd are
-  laters_applied (l ∷ ls) (e ∷ es) image now is are =
+  deferred_applied [] [] image now is are = is
+  deferred_applied [] (e ∷ es) image now is are = absurd are
+  deferred_applied (l ∷ ls) [] image now is are = absurd are
+  deferred_applied (l ∷ ls) (e ∷ es) image now is are =
       ap (λ (i : Image). graph_of types (stored_in F at (written_in_turn (pool_place F (finished_of at)) es i))) (entry_image image now l e are.0)
-      ∙ laters_applied ls es (behind image now l e are.0) (with_deferred_value l now) (entry_graph image now l e are.0 is)
+      ∙ deferred_applied ls es (behind image now l e are.0) (with_deferred_value l now) (entry_graph image now l e are.0 is)
       (others_stay image now l e are.0 ls es are.1)

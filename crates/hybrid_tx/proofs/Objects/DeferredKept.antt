@@ -142,8 +142,8 @@ module _ (F : ℕ) (at wide : List (ℕ × Puddle)) (types more : List (ℕ × �
     ]
   ]
 
-  IsLater-kept : (l : DeferredValue) (e : Entry) → IsDeferredEntry F at types i now l e → IsDeferredEntry F wide more j next l e
-  IsLater-kept l e later =
+  IsDeferredEntry-kept : (l : DeferredValue) (e : Entry) → IsDeferredEntry F at types i now l e → IsDeferredEntry F wide more j next l e
+  IsDeferredEntry-kept l e later =
       record {
         slot = later.slot;
         of = record { puddle = later.of.puddle; there = keeps.finished later.slot.ordinal (later.slot.frame, later.of.puddle) later.of.there later.finished; below = later.of.below };
@@ -155,17 +155,17 @@ module _ (F : ℕ) (at wide : List (ℕ × Puddle)) (types more : List (ℕ × �
         is = later.is;
       }
 
-  pub AreLaters-wider : (deferred : List DeferredValue) (redo : List Entry) → AreDeferredEntries F at types i now deferred redo → AreDeferredEntries F wide more j next deferred redo
-  AreLaters-wider [] [] are = tt
-  AreLaters-wider [] (e ∷ es) are = absurd are
-  AreLaters-wider (l ∷ ls) [] are = absurd are
-  AreLaters-wider (l ∷ ls) (e ∷ es) are = (IsLater-kept l e are.0, AreLaters-wider ls es are.1)
+  pub AreDeferredEntries-wider : (deferred : List DeferredValue) (redo : List Entry) → AreDeferredEntries F at types i now deferred redo → AreDeferredEntries F wide more j next deferred redo
+  AreDeferredEntries-wider [] [] are = tt
+  AreDeferredEntries-wider [] (e ∷ es) are = absurd are
+  AreDeferredEntries-wider (l ∷ ls) [] are = absurd are
+  AreDeferredEntries-wider (l ∷ ls) (e ∷ es) are = (IsDeferredEntry-kept l e are.0, AreDeferredEntries-wider ls es are.1)
 
 -- in the same puddles, by the same types
 pub AreDeferredEntries-kept : (F : ℕ) (at : List (ℕ × Puddle)) (types : List (ℕ × ℕ)) (i j : Image) (now next : Graph) → KeepsPlaces F at at i j now → KeepsObjects now next → (deferred : List DeferredValue) (redo : List Entry)
     → AreDeferredEntries F at types i now deferred redo → AreDeferredEntries F at types j next deferred redo
 AreDeferredEntries-kept F at types i j now next places objects deferred redo are =
-    AreLaters-wider F at at types types i j now next (keeps_front at at (λ o e there. there)) (record { each = λ id m is. is }) places objects deferred redo are
+    AreDeferredEntries-wider F at at types types i j now next (keeps_front at at (λ o e there. there)) (record { each = λ id m is. is }) places objects deferred redo are
 
 -- images that store the same of the pool
 pub AreDeferredEntries-stored : (F : ℕ) (at : List (ℕ × Puddle)) (types : List (ℕ × ℕ)) (i j : Image) (now : Graph) → stored_in F at j ≡ stored_in F at i → (deferred : List DeferredValue) (redo : List Entry)

@@ -57,8 +57,8 @@ module _ (F : ℕ) (at : List (ℕ × Puddle)) (types : List (ℕ × ℕ)) (imag
     ],
   )
 
-  IsLater-spared : (l : DeferredValue) (e : Entry) → deferred_value_names s l ≡ false → IsDeferredEntry F at types image g l e → IsDeferredEntry F at types image (without_object s g) l e
-  IsLater-spared l e other later =
+  IsDeferredEntry-spared : (l : DeferredValue) (e : Entry) → deferred_value_names s l ≡ false → IsDeferredEntry F at types image g l e → IsDeferredEntry F at types image (without_object s g) l e
+  IsDeferredEntry-spared l e other later =
       let parts = or_parts (eqb l.s s) (names_serial s l.x) other in
       let may = later.may in
       record {
@@ -79,13 +79,13 @@ module _ (F : ℕ) (at : List (ℕ × Puddle)) (types : List (ℕ × ℕ)) (imag
         is = later.is;
       }
 
-  AreLaters-spared : (deferred : List DeferredValue) (redo : List Entry) → deferred_set_names s deferred ≡ false → AreDeferredEntries F at types image g deferred redo → AreDeferredEntries F at types image (without_object s g) deferred redo
-  AreLaters-spared [] [] other are = tt
-  AreLaters-spared [] (e ∷ es) other are = absurd are
-  AreLaters-spared (l ∷ ls) [] other are = absurd are
-  AreLaters-spared (l ∷ ls) (e ∷ es) other are =
+  AreDeferredEntries-spared : (deferred : List DeferredValue) (redo : List Entry) → deferred_set_names s deferred ≡ false → AreDeferredEntries F at types image g deferred redo → AreDeferredEntries F at types image (without_object s g) deferred redo
+  AreDeferredEntries-spared [] [] other are = tt
+  AreDeferredEntries-spared [] (e ∷ es) other are = absurd are
+  AreDeferredEntries-spared (l ∷ ls) [] other are = absurd are
+  AreDeferredEntries-spared (l ∷ ls) (e ∷ es) other are =
       let parts = or_parts (deferred_value_names s l) (list_any (deferred_value_names s) ls) other in
-      (IsLater-spared l e parts.0 are.0, AreLaters-spared ls es parts.1 are.1)
+      (IsDeferredEntry-spared l e parts.0 are.0, AreDeferredEntries-spared ls es parts.1 are.1)
 
 -- ---- when the slot is freed
 
@@ -114,7 +114,7 @@ module _ (types : List (ℕ × ℕ)) (F : ℕ) (at : List (ℕ × Puddle)) (imag
             place_beside F at image freed (place_of_slot slot) other_serial r (λ same. apart (sym same ∙ there.is)) (λ same. known.used (sym same ∙ now_free));
       }
 
-  pub AreLaters-freed : (deferred : List DeferredValue) (redo : List Entry) → deferred_set_names s deferred ≡ false → AreDeferredEntries F at types image now deferred redo → AreDeferredEntries F at types freed (without_object s now) deferred redo
-  AreLaters-freed deferred redo unnamed are =
+  pub AreDeferredEntries-freed : (deferred : List DeferredValue) (redo : List Entry) → deferred_set_names s deferred ≡ false → AreDeferredEntries F at types image now deferred redo → AreDeferredEntries F at types freed (without_object s now) deferred redo
+  AreDeferredEntries-freed deferred redo unnamed are =
       AreDeferredEntries-kept F at types image freed (without_object s now) (without_object s now) KeepsPlaces-freed (KeepsObjects-same (without_object s now)) deferred redo
-      (AreLaters-spared F at types image s now deferred redo unnamed are)
+      (AreDeferredEntries-spared F at types image s now deferred redo unnamed are)

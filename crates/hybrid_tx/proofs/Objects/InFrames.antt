@@ -25,7 +25,7 @@ use Rattle.word_transaction.proofs.Pending.{deferred_entries-redo}
 use Rattle.hybrid_tx.specs.PoolScopes.{pool_place, pool_may_name, pool_has_word, pool_scope, finished_of, ArePlacedPuddles}
 use Rattle.hybrid_tx.specs.Objects.Stores.{ByPut, ByPutBoth}
 use Rattle.hybrid_tx.specs.Objects.Transactions.{IsSaving, KeepsSaving}
-use Rattle.hybrid_tx.proofs.PoolScope.{all_there, base_below, pool_has_word-from, is_ground, place_of_word, may_name_words}
+use Rattle.hybrid_tx.proofs.PoolScope.{all_there, base_below, pool_has_word-from, is_scope, place_of_word, may_name_words}
 
 -- ---- on any content
 
@@ -96,35 +96,35 @@ module _ (F size : ℕ) (at : List (ℕ × Puddle)) (log now : OpenLog) (before 
   abbrev g : Scope
   g = pool_scope F at
 
-  Saves-puts : (write : Write) → SavesAndWrites g now s.es before write fault old new → KeepsSaving F at now before redo write fault old new
-  Saves-puts write puts = record { es = puts.entries; runs = puts.runs; defers = puts.defers ∙ s.defers }
+  KeepsSaving-puts : (write : Write) → SavesAndWrites g now s.es before write fault old new → KeepsSaving F at now before redo write fault old new
+  KeepsSaving-puts write puts = record { es = puts.entries; runs = puts.runs; defers = puts.defers ∙ s.defers }
 
   -- of one frame
-  pub Saves-put : (o word : ℕ) (e : ℕ × Puddle) (address first : ℕ) (vals : List ℕ) → slice_get at o ≡ Some e → 1 ≤ length vals → word + length vals ≤ FRAME_WORDS
+  pub KeepsSaving-put : (o word : ℕ) (e : ℕ × Puddle) (address first : ℕ) (vals : List ℕ) → slice_get at o ≡ Some e → 1 ≤ length vals → word + length vals ≤ FRAME_WORDS
       → address ≡ (e.1.base + WORD_BYTES * word) % 2 ^ 64 → first ≡ frame_at F e.0 + word
       → ((es : List Entry) → IsScope size log.gate_at g → g.may_name address (length vals) ≡ true → g.place address ≡ Some first → IsRunning g log es before old.now.words
       → SavesAndWrites g now es before (placed first vals) fault old new)
       → KeepsSaving F at now before redo (placed (frame_at F e.0 + word) vals) fault old new
-  Saves-put o word e address first vals there some few is_address is_first puts =
-      Saves-puts (placed (frame_at F e.0 + word) vals)
+  KeepsSaving-put o word e address first vals there some few is_address is_first puts =
+      KeepsSaving-puts (placed (frame_at F e.0 + word) vals)
       (subst (λ (k : ℕ). SavesAndWrites g now s.es before (placed k vals) fault old new) is_first
-      (puts s.es (is_ground F size log.gate_at at is_placed device apart) (may_name F at is_placed o word e (length vals) address there some few is_address)
+      (puts s.es (is_scope F size log.gate_at at is_placed device apart) (may_name F at is_placed o word e (length vals) address there some few is_address)
       (place_named F at is_placed o word e (length vals) address there some few is_address ∙ ap (λ k. Some k) (sym is_first)) s.running))
 
   -- and one word of another
-  pub Saves-put_both : (o word : ℕ) (e : ℕ × Puddle) (address first : ℕ) (vals : List ℕ) (p other : ℕ) (d : ℕ × Puddle) (address2 second value : ℕ)
+  pub KeepsSaving-put_both : (o word : ℕ) (e : ℕ × Puddle) (address first : ℕ) (vals : List ℕ) (p other : ℕ) (d : ℕ × Puddle) (address2 second value : ℕ)
       → slice_get at o ≡ Some e → 1 ≤ length vals → word + length vals ≤ FRAME_WORDS → address ≡ (e.1.base + WORD_BYTES * word) % 2 ^ 64 → first ≡ frame_at F e.0 + word
       → slice_get at p ≡ Some d → other < FRAME_WORDS → address2 ≡ (d.1.base + WORD_BYTES * other) % 2 ^ 64 → second ≡ frame_at F d.0 + other
       → ((es : List Entry) → IsScope size log.gate_at g → g.may_name address (length vals) ≡ true → g.place address ≡ Some first → g.may_name address2 1 ≡ true → g.place address2 ≡ Some second
       → IsRunning g log es before old.now.words → SavesAndWrites g now es before (over (placed first vals) (placed second (value ∷ []))) fault old new)
       → KeepsSaving F at now before redo (over (placed (frame_at F e.0 + word) vals) (placed (frame_at F d.0 + other) (value ∷ []))) fault old new
-  Saves-put_both o word e address first vals p other d address2 second value there some few is_address is_first also below is_other is_second puts =
+  KeepsSaving-put_both o word e address first vals p other d address2 second value there some few is_address is_first also below is_other is_second puts =
       let one : 1 ≤ 1 = omega arith in
       let single : other + 1 ≤ FRAME_WORDS = omega arith in
-      Saves-puts (over (placed (frame_at F e.0 + word) vals) (placed (frame_at F d.0 + other) (value ∷ [])))
+      KeepsSaving-puts (over (placed (frame_at F e.0 + word) vals) (placed (frame_at F d.0 + other) (value ∷ [])))
       (subst (λ (k : ℕ). SavesAndWrites g now s.es before (over (placed k vals) (placed (frame_at F d.0 + other) (value ∷ []))) fault old new) is_first
       (subst (λ (k : ℕ). SavesAndWrites g now s.es before (over (placed first vals) (placed k (value ∷ []))) fault old new) is_second
-      (puts s.es (is_ground F size log.gate_at at is_placed device apart)
+      (puts s.es (is_scope F size log.gate_at at is_placed device apart)
       (may_name F at is_placed o word e (length vals) address there some few is_address)
       (place_named F at is_placed o word e (length vals) address there some few is_address ∙ ap (λ k. Some k) (sym is_first))
       (may_name F at is_placed p other d 1 address2 also one single is_other)
@@ -139,18 +139,18 @@ PutsAt F at o word vals log behind fault old new =
 -- ---- a value of a word of a frame is deferred
 
 -- by the log behind the call, which at Ok has one entry more
-pub KeepsSaving-asked : (F size : ℕ) (at : List (ℕ × Puddle)) (word : ℕ) (e : ℕ × Puddle) (o : ℕ) (log now : OpenLog) (before : Image) (redo : List Entry) (address value : ℕ) (result : Result (Unit {0}) HostFault) (old new : State)
+pub KeepsSaving-deferred : (F size : ℕ) (at : List (ℕ × Puddle)) (word : ℕ) (e : ℕ × Puddle) (o : ℕ) (log now : OpenLog) (before : Image) (redo : List Entry) (address value : ℕ) (result : Result (Unit {0}) HostFault) (old new : State)
     → ArePlacedPuddles F at → device_words F ≤ size → log.gate_at + LOG_WORDS ≤ frames_at F → slice_get at o ≡ Some e → word < FRAME_WORDS → address ≡ (e.1.base + WORD_BYTES * word) % 2 ^ 64
     → IsSaving F at log before redo old.now.words → now.gate_at ≡ log.gate_at → IfOk result (λ _. now ≡ with_deferred_words SET_UNITS log)
     → ((es : List Entry) → IsScope size log.gate_at (pool_scope F at) → pool_may_name at address 1 ≡ true → IsRunning (pool_scope F at) log es before old.now.words
     → KeepsRunning (pool_scope F at) (with_deferred_words SET_UNITS log) (es ++ redo_entry address (value ∷ []) ∷ []) before no_write (fault_of result) old new)
     → KeepsSaving F at now before (redo ++ redo_entry (e.1.base + WORD_BYTES * word) (value ∷ []) ∷ []) no_write (fault_of result) old new
-KeepsSaving-asked F size at word e o log now before redo address value result old new is_placed device apart there below is_address s same is runs =
+KeepsSaving-deferred F size at word e o log now before redo address value result old new is_placed device apart there below is_address s same is runs =
     let one : 1 ≤ 1 = omega arith in
     let single : word + 1 ≤ FRAME_WORDS = omega arith in
     KeepsSaving-behind F at (with_deferred_words SET_UNITS log) now before (redo ++ redo_entry (e.1.base + WORD_BYTES * word) (value ∷ []) ∷ []) no_write result old new same is (record {
       es = s.es ++ redo_entry address (value ∷ []) ∷ [];
-      runs = runs s.es (is_ground F size log.gate_at at is_placed device apart) (may_name F at is_placed o word e 1 address there one single is_address) s.running;
+      runs = runs s.es (is_scope F size log.gate_at at is_placed device apart) (may_name F at is_placed o word e 1 address there one single is_address) s.running;
       defers = deferred_entries-redo s.es address (value ∷ [])
           ∙ ap₂ (λ (es : List Entry) (a : ℕ). es ++ redo_entry a (value ∷ []) ∷ []) s.defers (named F at is_placed o word e 1 address there one single is_address);
     })

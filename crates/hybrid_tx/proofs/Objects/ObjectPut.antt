@@ -34,7 +34,7 @@ use Rattle.hybrid_tx.specs.Objects.Transactions.{IsSaving, IsOpenOn, KeepsSaving
 use Rattle.hybrid_tx.proofs.Objects.ObjectsMade.{new_stored}
 use Rattle.hybrid_tx.proofs.Objects.DeferredKept.{AreDeferredEntries-kept}
 use Rattle.hybrid_tx.proofs.Objects.DeferredBehind.{KeepsObjects-new, serial_of_live, KeepsPlaces-new}
-use Rattle.hybrid_tx.proofs.Objects.Opening.{RunsOn-write}
+use Rattle.hybrid_tx.proofs.Objects.Opening.{KeepsOpenOn-write}
 use Rattle.hybrid_tx.proofs.Objects.InFrames.{ByPutBoth-in_frames}
 
 -- the next serial as it is read
@@ -99,8 +99,8 @@ module _ (F : ℕ) (at : List (ℕ × Puddle)) (types : List (ℕ × ℕ)) (log 
     one_more : bumped ≡ serial + 1
     one_more = let is = is_serial in omega arith
 
-    Saves-making : IsSaving F (finished_of at) log before is_open.redo mid.now.words → KeepsSaving F (finished_of at) behind before is_open.redo (new_object_write F first.0 slot serial type_id) fault mid new
-    Saves-making saving =
+    KeepsSaving-making : IsSaving F (finished_of at) log before is_open.redo mid.now.words → KeepsSaving F (finished_of at) behind before is_open.redo (new_object_write F first.0 slot serial type_id) fault mid new
+    KeepsSaving-making saving =
         subst (λ (ws : List ℕ). KeepsSaving F (finished_of at) behind before is_open.redo
         (over (placed (frame_at F slot.frame + slot_begins slot) ws) (placed (frame_at F first.0 + NEXT_SERIAL_WORD) ((serial + 1) ∷ []))) fault mid new) are_words
         (subst (λ (n : ℕ). KeepsSaving F (finished_of at) behind before is_open.redo
@@ -112,7 +112,7 @@ module _ (F : ℕ) (at : List (ℕ × Puddle)) (types : List (ℕ × ℕ)) (log 
     MakesIn-new changes =
         let next_read = next_is F at types image first head serial read in
         let saves = subst (λ (s : State). IsSaving F (finished_of at) log before is_open.redo s.now.words → KeepsSaving F (finished_of at) behind before is_open.redo (new_object_write F first.0 slot serial type_id) fault s new) stays
-        Saves-making is_open.saving in
+        KeepsSaving-making is_open.saving in
         record {
           first = first;
           head = head;
@@ -122,14 +122,14 @@ module _ (F : ℕ) (at : List (ℕ × Puddle)) (types : List (ℕ × ℕ)) (log 
               ∙ ap (λ (n : ℕ). overwritten (new_object_write F first.0 slot n type_id) image k) next_read;
         }
 
-    pub RunsOn-new : (size m : ℕ) → ArePlacedPuddles F at → device_words F ≤ size → log.gate_at + LOG_WORDS ≤ frames_at F
+    pub KeepsOpenOn-new : (size m : ℕ) → ArePlacedPuddles F at → device_words F ≤ size → log.gate_at + LOG_WORDS ≤ frames_at F
         → place_word (stored_in F at image) (place_of_slot slot) SLOT_SERIAL_WORD ≡ 0 → map_of type_id types ≡ Some m
         → KeepsOpenOn F at types behind before graph_before (with_new (blank_object type_id m) now) deferred fault old new
-    RunsOn-new size m is_placed device apart free defined =
+    KeepsOpenOn-new size m is_placed device apart free defined =
         let next = is_serial in
         let next_read = next_is F at types image first head serial read in
-        RunsOn-write F size at types before log behind graph_before now (with_new (blank_object type_id m) now) deferred deferred is_open.redo (new_object_write F first.0 slot serial type_id) fault old mid new
-        is_placed device apart same stays is_open Saves-making
+        KeepsOpenOn-write F size at types before log behind graph_before now (with_new (blank_object type_id m) now) deferred deferred is_open.redo (new_object_write F first.0 slot serial type_id) fault old mid new
+        is_placed device apart same stays is_open KeepsSaving-making
         (new_stored types F at image is_placed first head slot of serial type_id m free next_read defined now is_open.is room)
         (AreDeferredEntries-kept F at types image (overwritten (new_object_write F first.0 slot serial type_id) image) now (with_new (blank_object type_id m) now)
         (KeepsPlaces-new types F at image is_placed first head slot of serial type_id m free next_read defined now is_open.is)

@@ -22,7 +22,7 @@ use Rattle.word_transaction.specs.Running.{IsIdle, ByTransaction, no_write, begu
 use Rattle.word_transaction.proofs.Ended.{beside_transaction}
 use Rattle.hybrid_tx.specs.PoolScopes.{pool_has_word, pool_scope, finished_of, ArePlacedPuddles}
 use Rattle.hybrid_tx.specs.Objects.Transactions.{AreDeferredEntries, IsSaving, RestsAs, IsOpenOn, KeepsSaving, KeepsOpenOn}
-use Rattle.hybrid_tx.proofs.PoolScope.{pool_has_word-from, is_ground}
+use Rattle.hybrid_tx.proofs.PoolScope.{pool_has_word-from, is_scope}
 use Rattle.hybrid_tx.proofs.FinishedPuddles.{mine_of_finished}
 use Rattle.hybrid_tx.proofs.Objects.DeferredKept.{AreDeferredEntries-stored}
 
@@ -75,11 +75,11 @@ module _ (F size : ℕ) (at : List (ℕ × Puddle)) (types : List (ℕ × ℕ)) 
       }
 
   -- words that are written make the graph that images have over which they are written, and so of the deferred values
-  pub RunsOn-saves : (log behind : OpenLog) (graph_before now next : Graph) (deferred more : List DeferredValue) (redo : List Entry) (write : Write) (fault : Option HostFault) (old new : State)
+  pub KeepsOpenOn-saves : (log behind : OpenLog) (graph_before now next : Graph) (deferred more : List DeferredValue) (redo : List Entry) (write : Write) (fault : Option HostFault) (old new : State)
       → IsScope size behind.gate_at (pool_scope F at) → IsOpenOn F at types log before graph_before now deferred old.now.words → KeepsSaving F (finished_of at) behind before redo write fault old new
       → graph_of types (stored_in F at (overwritten write (reads old.now.words))) ≡ Some next → AreDeferredEntries F at types (overwritten write (reads old.now.words)) next more redo
       → KeepsOpenOn F at types behind before graph_before next more fault old new
-  RunsOn-saves log behind graph_before now next deferred more redo write fault old new ground is_open saves graph are =
+  KeepsOpenOn-saves log behind graph_before now next deferred more redo write fault old new ground is_open saves graph are =
       let stored : fault ≡ None → stored_in F at (reads new.now.words) ≡ stored_in F at (overwritten write (reads old.now.words)) =
       λ none. stored_in-has_word F at (overwritten write (reads old.now.words)) (reads new.now.words) (λ k mine. saves.runs.now none k (ground.apart k mine)) in
       record {
@@ -93,11 +93,11 @@ module _ (F size : ℕ) (at : List (ℕ × Puddle)) (types : List (ℕ × ℕ)) 
       }
 
   -- what is saved and written, or deferred, behind calls that only read
-  pub RunsOn-write : (log behind : OpenLog) (graph_before now next : Graph) (deferred more : List DeferredValue) (redo : List Entry) (write : Write) (fault : Option HostFault) (old mid new : State)
+  pub KeepsOpenOn-write : (log behind : OpenLog) (graph_before now next : Graph) (deferred more : List DeferredValue) (redo : List Entry) (write : Write) (fault : Option HostFault) (old mid new : State)
       → ArePlacedPuddles F at → device_words F ≤ size → log.gate_at + LOG_WORDS ≤ frames_at F → behind.gate_at ≡ log.gate_at → mid ≡ old → (is_open : IsOpenOn F at types log before graph_before now deferred old.now.words)
       → (IsSaving F (finished_of at) log before is_open.redo mid.now.words → KeepsSaving F (finished_of at) behind before redo write fault mid new)
       → graph_of types (stored_in F at (overwritten write (reads old.now.words))) ≡ Some next → AreDeferredEntries F at types (overwritten write (reads old.now.words)) next more redo
       → KeepsOpenOn F at types behind before graph_before next more fault old new
-  RunsOn-write log behind graph_before now next deferred more redo write fault old mid new is_placed device apart same stays is_open saves graph are =
-      RunsOn-saves log behind graph_before now next deferred more redo write fault old new (is_ground F size behind.gate_at at is_placed device (omega arith)) is_open
+  KeepsOpenOn-write log behind graph_before now next deferred more redo write fault old mid new is_placed device apart same stays is_open saves graph are =
+      KeepsOpenOn-saves log behind graph_before now next deferred more redo write fault old new (is_scope F size behind.gate_at at is_placed device (omega arith)) is_open
       (subst (λ (m : State). IsSaving F (finished_of at) log before is_open.redo m.now.words → KeepsSaving F (finished_of at) behind before redo write fault m new) stays saves is_open.saving) graph are

@@ -24,11 +24,11 @@ use Rattle.word_transaction.proofs.Pending.{defers-none, pending-in_turn}
 use Rattle.word_transaction.proofs.Ended.{CommitsTransaction-idle, AbortsTransaction-idle}
 use Rattle.hybrid_tx.specs.PoolScopes.{pool_place, pool_has_word, pool_scope, finished_of, ArePlacedPuddles}
 use Rattle.hybrid_tx.specs.Objects.Transactions.{RestsAs, IsOpenOn, IsAtRest, AbortsOnPool, CommitsOnPool}
-use Rattle.hybrid_tx.proofs.PoolScope.{is_ground}
+use Rattle.hybrid_tx.proofs.PoolScope.{is_scope}
 use Rattle.hybrid_tx.proofs.FinishedPuddles.{finished_placed}
 use Rattle.hybrid_tx.proofs.Objects.Opening.{stored_in-has_word, RestsAs-behind}
 use Rattle.hybrid_tx.proofs.Objects.DeferredKept.{AreDeferredEntries-none}
-use Rattle.hybrid_tx.proofs.Objects.DeferredApplied.{laters_applied}
+use Rattle.hybrid_tx.proofs.Objects.DeferredApplied.{deferred_applied}
 use Rattle.hybrid_tx.proofs.Open.OwnEntries.{new_value_own}
 
 -- where only own words get values, a word that is none of them gets none
@@ -45,7 +45,7 @@ module _ (F size : ℕ) (at : List (ℕ × Puddle)) (types : List (ℕ × ℕ)) 
   after = overwritten (pending (pool_place F (finished_of at)) is_open.saving.es) (reads old.now.words)
 
   own_ground : IsScope size log.gate_at own
-  own_ground = is_ground F size log.gate_at (finished_of at) (finished_placed F at is_placed) device apart
+  own_ground = is_scope F size log.gate_at (finished_of at) (finished_placed F at is_placed) device apart
 
   -- the deferred values are those of the redo entries in turn
   in_turn : after ≡ written_in_turn (pool_place F (finished_of at)) is_open.redo (reads old.now.words)
@@ -61,7 +61,7 @@ module _ (F size : ℕ) (at : List (ℕ × Puddle)) (types : List (ℕ × ℕ)) 
 
   -- the words of the puddles that are not finished are as they were
   rests_behind : Changes (ByTransaction own log.gate_at) fault old new → RestsAs F at before new.now.words
-  rests_behind c = RestsAs-behind F size at log.gate_at before fault old new (is_ground F size log.gate_at at is_placed device apart) c is_open.rests
+  rests_behind c = RestsAs-behind F size at log.gate_at before fault old new (is_scope F size log.gate_at at is_placed device apart) c is_open.rests
 
   after_beside : (k : ℕ) → pool_has_word F at k ≡ true → pool_has_word F (finished_of at) k ≡ false → after k ≡ before k
   after_beside k mine other =
@@ -69,10 +69,10 @@ module _ (F size : ℕ) (at : List (ℕ × Puddle)) (types : List (ℕ × ℕ)) 
       off_own (pending (pool_place F (finished_of at)) s.es k) (pool_has_word F (finished_of at) k) (λ v is. pending_is_mine size log.gate_at own s.es k v own_ground s.running.own is) other (reads old.now.words k)
       ∙ HasOnly-newest (old.now.words k) (before k) (is_open.rests.each k mine other)
 
-  pub EndsOn-ends : (deferred ≢ [] → CanRedo (pool_scope F (finished_of at)) F log.gate_at old.now.words)
+  pub CommitsOnPool-ends : (deferred ≢ [] → CanRedo (pool_scope F (finished_of at)) F log.gate_at old.now.words)
       → ((g : Scope) (es : List Entry) (b : Image) → IsScope size log.gate_at g → IsRunning g log es b old.now.words → (defers es ≡ true → CanRedo g F log.gate_at old.now.words)
       → CommitsTransaction g log.gate_at b (overwritten (pending g.place es) (reads old.now.words)) fault old new) → CommitsOnPool F at types log.gate_at before graph_before (with_deferred_set deferred now) fault old new
-  EndsOn-ends can ends =
+  CommitsOnPool-ends can ends =
       let s = is_open.saving in
       let its = ends own s.es before own_ground s.running (λ asked_some. can (some_asked asked_some)) in
       record {
@@ -81,12 +81,12 @@ module _ (F size : ℕ) (at : List (ℕ × Puddle)) (types : List (ℕ × ℕ)) 
         beside = after_beside;
         rests = λ none. rests_behind its.changes;
         was = is_open.was;
-        is = ap (λ (i : Image). graph_of types (stored_in F at i)) in_turn ∙ laters_applied F at types is_placed deferred is_open.redo (reads old.now.words) now is_open.is is_open.are;
+        is = ap (λ (i : Image). graph_of types (stored_in F at i)) in_turn ∙ deferred_applied F at types is_placed deferred is_open.redo (reads old.now.words) now is_open.is is_open.are;
       }
 
-  pub ClosesOn-closes : ((es : List Entry) → IsScope size log.gate_at (pool_scope F (finished_of at)) → IsRunning (pool_scope F (finished_of at)) log es before old.now.words
+  pub AbortsOnPool-closes : ((es : List Entry) → IsScope size log.gate_at (pool_scope F (finished_of at)) → IsRunning (pool_scope F (finished_of at)) log es before old.now.words
       → AbortsTransaction (pool_scope F (finished_of at)) log.gate_at before fault old new) → AbortsOnPool F at types log.gate_at before graph_before fault old new
-  ClosesOn-closes closes =
+  AbortsOnPool-closes closes =
       let its = closes is_open.saving.es own_ground is_open.saving.running in
       record { closes = its; rests = λ none. rests_behind its.changes; was = is_open.was }
 

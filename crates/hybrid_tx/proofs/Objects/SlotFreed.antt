@@ -29,11 +29,11 @@ use Rattle.hybrid_tx.proofs.FinishedPuddles.{finished_placed, finished_there}
 use Rattle.hybrid_tx.specs.Objects.Stores.{address_at}
 use Rattle.hybrid_tx.specs.Objects.Transactions.{MayFree, IsSaving, IsOpenOn, KeepsSaving, KeepsOpenOn}
 use Rattle.hybrid_tx.proofs.Objects.Putting.{ByPut-written}
-use Rattle.hybrid_tx.proofs.Objects.InFrames.{ByPut-in_frame, Saves-put}
+use Rattle.hybrid_tx.proofs.Objects.InFrames.{ByPut-in_frame, KeepsSaving-put}
 use Rattle.hybrid_tx.proofs.Objects.FieldPut.{slot_address-read}
 use Rattle.hybrid_tx.proofs.Objects.ObjectsFreed.{free_stored}
-use Rattle.hybrid_tx.proofs.Objects.DeferredSpared.{AreLaters-freed}
-use Rattle.hybrid_tx.proofs.Objects.Opening.{RunsOn-write}
+use Rattle.hybrid_tx.proofs.Objects.DeferredSpared.{AreDeferredEntries-freed}
+use Rattle.hybrid_tx.proofs.Objects.Opening.{KeepsOpenOn-write}
 
 -- what frees a slot, as a word that is given its value
 cleared : (F : ℕ) (slot : Slot) (first : ℕ) (fault : Option HostFault) (b c : State) → first ≡ serial_word_at F slot → Writes (only (serial_word_at F slot) 0) fault b c → Writes (placed first (0 ∷ [])) fault b c
@@ -72,17 +72,17 @@ module _ (F size : ℕ) (at : List (ℕ × Puddle)) (slot : Slot) (of : IsSlotOf
       let some : 1 ≤ 1 = omega arith in
       let word : slot_begins slot ≡ slot_begins slot + SLOT_SERIAL_WORD = omega arith in
       let there = finished_there F at slot.ordinal (slot.frame, of.puddle) of.there (rewritten.each (slot.frame, of.puddle) of.there) in
-      Saves-put F size (finished_of at) log now before redo fault a c (finished_placed F at is_placed) device apart saving
+      KeepsSaving-put F size (finished_of at) log now before redo fault a c (finished_placed F at is_placed) device apart saving
       there.0 (slot_begins slot + SLOT_SERIAL_WORD) (slot.frame, of.puddle) address first (0 ∷ []) there.1 some (in_frame at slot of)
       (is_address ∙ sym (slot_address-read at slot of (slot.frame, of.puddle) refl is_placed.legal) ∙ ap (λ (k : ℕ). (of.puddle.base + WORD_BYTES * k) % 2 ^ 64) word) is_first puts
 
   -- it could not be
-  pub Saves-unfreed : (fault : HostFault) (b : State) → IsKept (Some fault) b → KeepsSaving F (finished_of at) now before redo (placed (serial_word_at F slot) (0 ∷ [])) (Some fault) a b
-  Saves-unfreed fault b keeps =
+  pub KeepsSaving-unfreed : (fault : HostFault) (b : State) → IsKept (Some fault) b → KeepsSaving F (finished_of at) now before redo (placed (serial_word_at F slot) (0 ∷ [])) (Some fault) a b
+  KeepsSaving-unfreed fault b keeps =
       saves (Some fault) b (λ es ground may place r. SavesAndWrites-unkept g now now es before (IsOneOf first 1) (placed first (0 ∷ [])) fault a b refl (keeps es ground may place r))
 
-  pub Saves-freed : (fault : Option HostFault) (b c : State) → IsKept None b → Writes (only (serial_word_at F slot) 0) fault b c → KeepsSaving F (finished_of at) now before redo (placed (serial_word_at F slot) (0 ∷ [])) fault a c
-  Saves-freed fault b c keeps writes =
+  pub KeepsSaving-freed : (fault : Option HostFault) (b c : State) → IsKept None b → Writes (only (serial_word_at F slot) 0) fault b c → KeepsSaving F (finished_of at) now before redo (placed (serial_word_at F slot) (0 ∷ [])) fault a c
+  KeepsSaving-freed fault b c keeps writes =
       saves fault c (λ es ground may place r.
       SavesAndWrites-written g now es before (IsOneOf first 1) (placed first (0 ∷ [])) fault a b c (keeps es ground may place r) (WritesKept-placed size log.gate_at g address first (0 ∷ []) ground may place)
       (λ entries running covered.
@@ -92,14 +92,14 @@ module _ (F size : ℕ) (at : List (ℕ × Puddle)) (slot : Slot) (of : IsSlotOf
 
 module _ (F : ℕ) (at : List (ℕ × Puddle)) (types : List (ℕ × ℕ)) (log behind : OpenLog) (before : Image) (graph_before now : Graph) (deferred : List DeferredValue) (old : State)
     (is_open : IsOpenOn F at types log before graph_before now deferred old.now.words) where
-  pub RunsOn-free : (size s : ℕ) (slot : Slot) (fault : Option HostFault) (mid new : State) → MayFree now s → deferred_set_names s deferred ≡ false → ArePlacedPuddles F at → device_words F ≤ size → log.gate_at + LOG_WORDS ≤ frames_at F
+  pub KeepsOpenOn-free : (size s : ℕ) (slot : Slot) (fault : Option HostFault) (mid new : State) → MayFree now s → deferred_set_names s deferred ≡ false → ArePlacedPuddles F at → device_words F ≤ size → log.gate_at + LOG_WORDS ≤ frames_at F
       → behind.gate_at ≡ log.gate_at → mid ≡ old → IsSlotOf at slot → place_in_pool F at (reads old.now.words) s ≡ Some (place_of_slot slot)
       → ((redo : List Entry) → IsSaving F (finished_of at) log before redo mid.now.words → KeepsSaving F (finished_of at) behind before redo (placed (serial_word_at F slot) (0 ∷ [])) fault mid new)
       → KeepsOpenOn F at types behind before graph_before (without_object s now) deferred fault old new
-  RunsOn-free size s slot fault mid new may unnamed is_placed device apart same stays of found saves =
+  KeepsOpenOn-free size s slot fault mid new may unnamed is_placed device apart same stays of found saves =
       let image = reads old.now.words in
       let redo = is_open.redo in
-      RunsOn-write F size at types before log behind graph_before now (without_object s now) deferred deferred redo (placed (serial_word_at F slot) (0 ∷ [])) fault old mid new
+      KeepsOpenOn-write F size at types before log behind graph_before now (without_object s now) deferred deferred redo (placed (serial_word_at F slot) (0 ∷ [])) fault old mid new
       is_placed device apart same stays is_open (saves redo)
       (free_stored types F at image now is_open.is is_placed s slot of found may.spared)
-      (AreLaters-freed types F at image now is_open.is is_placed s slot of found deferred redo unnamed is_open.are)
+      (AreDeferredEntries-freed types F at image now is_open.is is_placed s slot of found deferred redo unnamed is_open.are)

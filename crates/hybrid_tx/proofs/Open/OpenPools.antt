@@ -22,7 +22,7 @@ use Rattle.hybrid_tx.specs.PoolScopes.{pool_scope, ArePlacedPuddles, finished_of
 use Rattle.hybrid_tx.specs.Open.Masks.{OpenPool, is_in_pool_record, is_in_space_record, is_in_puddle_record, is_open_record, ArePuddlesOf, IsOpenPool}
 use Rattle.hybrid_tx.proofs.Open.OpenSettled.{GivesOwn}
 use Rattle.hybrid_tx.proofs.Open.OwnEntries.{new_value_placed, new_value_own}
-use Rattle.hybrid_tx.proofs.PoolScope.{all_there, element_passes, is_ground}
+use Rattle.hybrid_tx.proofs.PoolScope.{all_there, element_passes, is_scope}
 use Rattle.hybrid_tx.proofs.Open.PoolPlaces.{ArePuddlesOf-same, on_device_of_puddles, placed_of_puddles, places_of_puddles, placed_in_turn}
 use Rattle.hybrid_tx.proofs.Open.Rights.{MayWritePool, own_log_allowed}
 
@@ -95,7 +95,7 @@ module _ (F : ℕ) (p : OpenPool) (before image : Image) (opened : IsOpenPool F 
         (places_of_puddles next (tables_of F image) sound p.slot (finished_of p.puddles) open_puddles)
 
     open_ground : IsScope (device_words F) (log_number_at F p.log_number) (pool_scope F (finished_of p.puddles))
-    open_ground = let few = opened.known in is_ground F (device_words F) (log_number_at F p.log_number) (finished_of p.puddles) open_placed (omega arith) (omega arith)
+    open_ground = let few = opened.known in is_scope F (device_words F) (log_number_at F p.log_number) (finished_of p.puddles) open_placed (omega arith) (omega arith)
 
     -- where it recovers to the values from the beginning, its log is allowed and gives them
     pub gives_own : RecoversTo (pool_scope F (finished_of p.puddles)) (log_number_at F p.log_number) before image → GivesOwn F p before image

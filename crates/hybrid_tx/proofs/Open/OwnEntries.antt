@@ -11,7 +11,7 @@ use Rattle.pud_defs.specs.Logging.Replay.{AddressMap, is_in_range, given_by, und
 use Rattle.pud_defs.proofs.Logging.Replay.{undo_value-first, redo_value-first, given_by-out, or_none, new_value-of}
 use Rattle.word_transaction.specs.Scope.{Scope, IsScope, IsInScope}
 use Rattle.word_transaction.specs.Running.{HasPlaces}
-use Rattle.word_transaction.proofs.Saved.{undone_is_mine, redone_is_mine}
+use Rattle.word_transaction.proofs.Saved.{undo_value_in_scope, redone_is_mine}
 use Rattle.word_transaction.proofs.Growing.{undo_value-places, redo_value-places}
 
 -- ---- entries in range alone count
@@ -87,5 +87,5 @@ new_value_own size at g log ground w v es are own is =
     let all = counted_own g log es own in
     elim (either_of (redo_value g.place log counts w) (undo_value g.place log counts w) v (sym (new_value-counted g.place log es w are) ∙ is)) [
       | inl later ↦ redone_is_mine size at g log counts w v ground all later
-      | inr first ↦ undone_is_mine size at g log counts w v ground all first
+      | inr first ↦ undo_value_in_scope size at g log counts w v ground all first
     ]

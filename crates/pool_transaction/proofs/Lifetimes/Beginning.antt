@@ -49,7 +49,7 @@ use Rattle.hybrid_tx.specs.Open.ManyOpen.{OpenTransaction, AreLeftOpen, AreOpenP
 use Rattle.hybrid_tx.proofs.Open.OpenIdle.{unnamed_idle}
 use Rattle.hybrid_tx.proofs.Objects.Opening.{IsOpenOn-begun}
 use Rattle.hybrid_tx.proofs.Open.OpenMasks.{open_record_place, mine_behind, mask_of_others}
-use Rattle.hybrid_tx.proofs.PoolScope.{pool_has_word-each, is_ground}
+use Rattle.hybrid_tx.proofs.PoolScope.{pool_has_word-each, is_scope}
 use Rattle.hybrid_tx.proofs.Open.OpenPools.{placed_by_tables, open_on_device}
 use Rattle.hybrid_tx.proofs.Open.PoolPlaces.{are_puddles_in_turn}
 use Rattle.hybrid_tx.proofs.Open.ManyIdle.{idle_world_begun, left_more, masks_elsewhere, one_begun, opens_more, records_more}
@@ -154,7 +154,7 @@ module _ (size : ℕ) (w : World) (memory : Memory) (old : State) (ready : IsRea
   room = (header_read size w memory old ready).room
 
   ground : IsScope size gate (pool_scope n at)
-  ground = let few = known in is_ground n size gate at placed room (omega arith)
+  ground = let few = known in is_scope n size gate at placed room (omega arith)
 
   present : w.clients client ≡ Some may.who
   present = sym (ready.clients client low_client) ∙ may.owned

@@ -37,11 +37,11 @@ use Rattle.hybrid_tx.specs.Open.ManyOpen.{OpenTransaction, Opens, with_transacti
 use Rattle.hybrid_tx.specs.Objects.Transactions.{IsOpenOn, RestsAs}
 use Rattle.hybrid_tx.proofs.Open.ManyMasks.{masks_of_others, opens_apart}
 use Rattle.hybrid_tx.proofs.Open.OpenMasks.{open_record_place}
-use Rattle.hybrid_tx.proofs.Objects.DeferredKept.{KeepsObjects-same, AreLaters-wider, keeps_front}
+use Rattle.hybrid_tx.proofs.Objects.DeferredKept.{KeepsObjects-same, AreDeferredEntries-wider, keeps_front}
 use Rattle.hybrid_tx.proofs.Objects.Opening.{stored_in-has_word}
 use Rattle.hybrid_tx.proofs.Open.OpenPools.{open_on_device, placed_by_tables}
 use Rattle.hybrid_tx.proofs.Open.PoolPlaces.{placed_of_puddles}
-use Rattle.hybrid_tx.proofs.PoolScope.{pool_has_word-each, is_ground}
+use Rattle.hybrid_tx.proofs.PoolScope.{pool_has_word-each, is_scope}
 use Rattle.nesting.specs.declared.Session.{Session}
 use Rattle.pool_transaction.specs.Changing.{StaysOpen}
 use Rattle.hybrid_tx.proofs.FinishedPuddles.{finished_placed, mine_of_finished, finished_last, none_of_finished}
@@ -60,7 +60,7 @@ use Rattle.ready_daemon.proofs.PoolChanges.PoolsBeside.{puddles_still}
 -- ---- what is active
 
 -- The next world has the same of the active transaction, while its pool has one puddle more.
-pub record GrowsHeld (w next : World) (active : ActiveTransaction) : Type 0 where
+pub record GrowsActive (w next : World) (active : ActiveTransaction) : Type 0 where
   pub frames : next.stored.frames ≡ w.stored.frames
   pub types : next.stored.types ≡ w.stored.types
   pub transactions : next.transactions ≡ w.transactions
@@ -185,7 +185,7 @@ module _ (w : World) (active : ActiveTransaction) (mask : Write) (words : Words)
       ground =
           let gate = is.gate in
           let known = is.pool.known in
-          is_ground F (device_words F) active.tx.log.gate_at (finished_of is.puddles) placed_before (omega arith) (omega arith)
+          is_scope F (device_words F) active.tx.log.gate_at (finished_of is.puddles) placed_before (omega arith) (omega arith)
 
       pub running_more : IsOpenOn F at w.stored.types active.tx.log before is.graph_before is.transaction.now is.transaction.deferred words
       running_more =
@@ -203,12 +203,12 @@ module _ (w : World) (active : ActiveTransaction) (mask : Write) (words : Words)
             rests = rests_more;
             was = graph_longer w.stored.types F before is.puddles e is.graph_before some fresh_before (ap (graph_of w.stored.types) (stored_in-has_word F is.puddles is.before before pool_word) ∙ r.was);
             is = graph_longer w.stored.types F now is.puddles e is.transaction.now some fresh r.is;
-            are = AreLaters-wider F is.puddles at w.stored.types w.stored.types now now is.transaction.now is.transaction.now (keeps_front is.puddles at front) (record { each = λ id m is. is })
+            are = AreDeferredEntries-wider F is.puddles at w.stored.types w.stored.types now now is.transaction.now is.transaction.now (keeps_front is.puddles at front) (record { each = λ id m is. is })
                 (places_longer w.stored.types F now is.puddles e is.transaction.now r.is) (KeepsObjects-same is.transaction.now) is.transaction.deferred r.redo r.are;
           }
 
       -- It is active in the next world with that puddle, where its words are masked.
-      abbrev pub active_more : (next : World) → GrowsHeld w next active → (anew : Write) → ((k v : ℕ) → open_mask F q before k ≡ Some v → anew k ≡ Some v) → IsActive next active anew words
+      abbrev pub active_more : (next : World) → GrowsActive w next active → (anew : Write) → ((k v : ℕ) → open_mask F q before k ≡ Some v → anew k ≡ Some v) → IsActive next active anew words
       active_more next grows anew masks =
           let back = sym grows.frames in
           record {
@@ -316,7 +316,7 @@ module _ (w : World) (all : List (Option ActiveTransaction)) (mask : Write) (s :
 
   -- ---- the next world
 
-  module _ (some : 1 ≤ length under.is.puddles) (fresh : IsFreshFrame n e.0 e.1.number (length under.is.puddles) image) (next : World) (grows : GrowsHeld w next active)
+  module _ (some : 1 ≤ length under.is.puddles) (fresh : IsFreshFrame n e.0 e.1.number (length under.is.puddles) image) (next : World) (grows : GrowsActive w next active)
       (keeps : (m : ℕ) (g : ActiveTransaction) → m ≢ number → active_under all m ≡ Some g → KeepsOne w next g) where
     pub same_pool : StaysOpen active active
     same_pool = record { client = refl; name = refl; slot = refl; number = refl; gate = refl }

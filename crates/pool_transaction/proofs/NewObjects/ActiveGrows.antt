@@ -84,7 +84,7 @@ use Rattle.ready_daemon.proofs.PoolChanges.PoolsGrown.{off_growing, grown_read}
 use Rattle.ready_daemon.proofs.PoolsKnown.KnownKept.{HasGraphIn, KeepsPools}
 use Rattle.pud_defs.specs.RegistryTables.Puts.{member_by, with_puddle_at}
 use Rattle.pud_defs.specs.declared.records.TheConstants.{POOL_RECORDS}
-use Rattle.pool_transaction.proofs.Lifetimes.Widened.{GrowsHeld, opened_more, wide, holds_more, sessions_more, settled_more, rest_more, logs_more}
+use Rattle.pool_transaction.proofs.Lifetimes.Widened.{GrowsActive, opened_more, wide, holds_more, sessions_more, settled_more, rest_more, logs_more}
 
 -- ---- the world
 
@@ -351,7 +351,7 @@ module _ (size : ℕ) (w : World) (memory : Memory) (active : ActiveTransaction)
     rest_then : HasDurableFrames F (masked ready.mask words)
     rest_then = durable_frames_still F ready.mask old new (done.beside.single refl) ready.rest
 
-    grows_active : GrowsHeld w next active
+    grows_active : GrowsActive w next active
     grows_active =
         let p = its_pool size w memory active old number there ready in
         let more = found_more active.name w.stored p.pool p.there in

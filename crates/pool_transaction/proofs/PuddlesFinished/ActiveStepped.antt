@@ -41,8 +41,8 @@ use Rattle.hybrid_tx.specs.Open.Masks.{OpenPool, open_mask}
 use Rattle.hybrid_tx.specs.Open.ManyOpen.{OpenTransaction}
 use Rattle.hybrid_tx.specs.Objects.Transactions.{IsOpenOn, RestsAs}
 use Rattle.hybrid_tx.proofs.FinishedPuddles.{stood, finished_there, finished_placed, mine_of_finished}
-use Rattle.hybrid_tx.proofs.PoolScope.{all_there, pool_has_word-each, pool_has_word-from, is_ground}
-use Rattle.hybrid_tx.proofs.Objects.DeferredKept.{KeepsFinished, KeepsObjects-same, AreLaters-wider}
+use Rattle.hybrid_tx.proofs.PoolScope.{all_there, pool_has_word-each, pool_has_word-from, is_scope}
+use Rattle.hybrid_tx.proofs.Objects.DeferredKept.{KeepsFinished, KeepsObjects-same, AreDeferredEntries-wider}
 use Rattle.hybrid_tx.proofs.Objects.Opening.{stored_in-has_word}
 use Rattle.hybrid_tx.proofs.Open.OpenPools.{placed_by_tables}
 use Rattle.ready_daemon.specs.Memory.{ActiveTransaction}
@@ -171,7 +171,7 @@ module _ (w : World) (active : ActiveTransaction) (mask : Write) (old new : Stat
     ground =
         let gate = is.gate in
         let known = is.pool.known in
-        is_ground F (device_words F) active.tx.log.gate_at (finished_of is.puddles) placed_before (omega arith) (omega arith)
+        is_scope F (device_words F) active.tx.log.gate_at (finished_of is.puddles) placed_before (omega arith) (omega arith)
 
     -- ---- the graphs
 
@@ -249,7 +249,7 @@ module _ (w : World) (active : ActiveTransaction) (mask : Write) (old new : Stat
           rests = rests_stepped;
           was = graph_over is.before before is.graph_before frame_was over_before r.was;
           is = graph_over (reads old.now.words) now is.transaction.now (λ k low. refl) read_over r.is;
-          are = AreLaters-wider F is.puddles at w.stored.types w.stored.types (reads old.now.words) now is.transaction.now is.transaction.now (keeps F is.puddles goal o m e next) (record { each = λ id x there. there })
+          are = AreDeferredEntries-wider F is.puddles at w.stored.types w.stored.types (reads old.now.words) now is.transaction.now is.transaction.now (keeps F is.puddles goal o m e next) (record { each = λ id x there. there })
               (record { each = λ s object live. place_in_pool-spared F is.puddles at (reads old.now.words) now (batch_spares F is.puddles goal o m e old new next c frames) s }) (KeepsObjects-same is.transaction.now)
               is.transaction.deferred r.redo r.are;
         }

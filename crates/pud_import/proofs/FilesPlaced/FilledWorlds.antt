@@ -113,8 +113,8 @@ module _ (size : ℕ) (s : StoredWorld) (puddles : List NewPuddle) where
     pub not_before : (k v : ℕ) → k < frames_at F → ByFrames F puddles k v → ⊥
     not_before k v below of = let low = (frame_word_in (tables_of F (reads a.now.words)) are k of).low in absurd (omega arith)
 
-    pub IsSettled-frames : IsQuiescent size s b.now.words
-    IsSettled-frames = record {
+    pub IsQuiescent-frames : IsQuiescent size s b.now.words
+    IsQuiescent-frames = record {
       stands = λ image picked. (Leaves-now (Silently stands) [] a b (Changes-said (ByFrames F puddles) fault a b c ∙ sym (append-nil a.now.said)) Leaves-frames image picked).1;
       idle = λ v had. ⊎_elim (λ was. settled.idle v was) (λ may. absurd (not_before DAEMON_LOG v (omega arith) may)) (Changes-now (ByFrames F puddles) fault a b c DAEMON_LOG v had);
     }

@@ -50,7 +50,7 @@ use Rattle.pud_import.specs.declared.placing.PlaceFault.TheVariants as faults
 use Rattle.pud_import.specs.Places.{FramesRise}
 use Rattle.pud_import.specs.Placing.{Placement, MayImport}
 use Rattle.pud_import.proofs.FileChecks.FileParts.{exportable, contents_of_file}
-use Rattle.pud_import.proofs.FilesPlaced.FilledWorlds.{AreFree, not_before, IsSettled-frames, HasDurableTables-frames, ChangesPools-unfilled, ChangesPools-filled}
+use Rattle.pud_import.proofs.FilesPlaced.FilledWorlds.{AreFree, not_before, IsQuiescent-frames, HasDurableTables-frames, ChangesPools-unfilled, ChangesPools-filled}
 use Rattle.pud_import.proofs.FilesPlaced.PlacedPuddles.{placed_rise}
 use Rattle.pud_import.proofs.FilesPlaced.PlacedWorlds.{IsPlacedFor-same, HoldFile, graph_of-filled}
 use Rattle.pud_import.proofs.FilesPlaced.TypesWider.{defined_then}
@@ -197,7 +197,7 @@ module _ (size : ℕ) (s : StoredWorld) (name : List ℕ) (uid gid mode : ℕ) (
       kept k below = reads_kept (ByFrames F p.puddles) a b k there (λ v. not_before size s p.puddles None a b m.settled m.tables are there k v below)
 
       settled_then : IsQuiescent size s b.now.words
-      settled_then = IsSettled-frames size s p.puddles None a b m.settled m.tables are there
+      settled_then = IsQuiescent-frames size s p.puddles None a b m.settled m.tables are there
 
       still_placed : IsPlacedFor F (reads b.now.words) file.types wanted p.slot rec p.types p.puddles
       still_placed = IsPlacedFor-same F image (reads b.now.words)

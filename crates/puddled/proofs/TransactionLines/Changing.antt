@@ -55,9 +55,9 @@ module _ (judged : List (Option Known)) (slot : ℕ) (known more : Known) (is : 
   puddles_built i = known_again judged slot more (ap puddles_known is ∙ ap (λ (at : List (ℕ × Puddle)). Some at) (sym same)) i
 
   -- and what is known is so
-  pub AreJudged-built : (F : ℕ) (image : Image) → ((g : Graph) → graph_of (types_of image) (stored_in F known.puddles image) ≡ Some g → IsKnown F image known → IsKnown F image more) → AreKnownPools F judged image
+  pub AreKnownPools-built : (F : ℕ) (image : Image) → ((g : Graph) → graph_of (types_of image) (stored_in F known.puddles image) ≡ Some g → IsKnown F image known → IsKnown F image more) → AreKnownPools F judged image
       → AreKnownPools F (set judged slot (Some more)) image
-  AreJudged-built F image built are =
+  AreKnownPools-built F image built are =
       let has = are.each slot known.puddles (ap puddles_known is) in
       let graph = graph_parts F slot image known.puddles has in
       AreKnownPools-set F judged slot more image (has ∙ ap (λ (at : List (ℕ × Puddle)). Some at) (sym same)) (built graph.graph graph.stored (are.known slot known is)) are

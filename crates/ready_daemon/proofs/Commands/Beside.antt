@@ -33,12 +33,12 @@ use Rattle.hybrid_tx.proofs.Open.OpenSettled.{nothing_given}
 use Rattle.hybrid_tx.proofs.Open.OpenWorlds.{world_with_masked, none_refused_with_masked}
 use Rattle.hybrid_tx.specs.Objects.Transactions.{IsOpenOn, RestsAs}
 use Rattle.hybrid_tx.proofs.Objects.Opening.{stored_in-has_word}
-use Rattle.hybrid_tx.proofs.Objects.DeferredKept.{KeepsObjects-same, place_in_pool-stored, AreLaters-wider, keeps_front}
+use Rattle.hybrid_tx.proofs.Objects.DeferredKept.{KeepsObjects-same, place_in_pool-stored, AreDeferredEntries-wider, keeps_front}
 use Rattle.batch.specs.Tables.{HasDurableTables}
 use Rattle.nesting.specs.declared.Session.{Session}
 use Rattle.word_transaction.specs.Running.{RecoversTo, ByTransaction}
 use Rattle.word_transaction.proofs.Calls.{IsRunning-kept}
-use Rattle.word_transaction.proofs.Images.{RecoversTo-local, IsRunning-settles}
+use Rattle.word_transaction.proofs.Images.{RecoversTo-local, IsRunning-recovers}
 use Rattle.pm_model.proofs.Words.{HasOnly-newest}
 use Rattle.ready_daemon.specs.Memory.{ActiveTransaction, Memory, active_under}
 use Rattle.ready_daemon.specs.ActiveTransactions.{open_pool_of, open_transaction_of, IsActive, IsActiveUnder, AreActive, HasSessions, HasDurableFrames, ByOthers, NamesNone, StaysSingle, KeepsActive}
@@ -147,7 +147,7 @@ module _ (w : World) (active : ActiveTransaction) (mask : Write) (words : Words)
         recovers = subst (λ (n : ℕ). RecoversTo (pool_scope F (finished_of is.puddles)) n is.before image) is.gate
             (RecoversTo-local (pool_scope F (finished_of is.puddles)) active.tx.log.gate_at is.before o.before image
             (λ k inside. same k (λ v wrote. apart.log k v wrote inside)) (λ k mine. same k (λ v wrote. apart.has_word k v wrote mine))
-            (IsRunning-settles (pool_scope F (finished_of is.puddles)) active.tx.log is.running.saving.es is.before o.before words is.running.saving.running o.picked));
+            (IsRunning-recovers (pool_scope F (finished_of is.puddles)) active.tx.log is.running.saving.es is.before o.before words is.running.saving.running o.picked));
       }
 
 -- ---- the active transactions stay
@@ -183,7 +183,7 @@ module _ (w next : World) (active : ActiveTransaction) (mask anew : Write) (old 
         was = keeps.graphs (stored_in n is.puddles is.before) is.graph_before r.was;
         is = keeps.graphs (stored_in n is.puddles (reads new.now.words)) is.transaction.now
             (ap (graph_of w.stored.types) stored_still ∙ r.is);
-        are = AreLaters-wider n is.puddles is.puddles w.stored.types next.stored.types (reads old.now.words) (reads new.now.words) is.transaction.now is.transaction.now (keeps_front is.puddles is.puddles (λ o e there. there))
+        are = AreDeferredEntries-wider n is.puddles is.puddles w.stored.types next.stored.types (reads old.now.words) (reads new.now.words) is.transaction.now is.transaction.now (keeps_front is.puddles is.puddles (λ o e there. there))
             (record { each = keeps.types }) (record { each = λ s o live. place_in_pool-stored n is.puddles (reads old.now.words) (reads new.now.words) stored_still s }) (KeepsObjects-same is.transaction.now)
             is.transaction.deferred r.redo r.are;
       }

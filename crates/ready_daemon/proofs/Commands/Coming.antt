@@ -248,11 +248,11 @@ module _ (size : ℕ) (w : World) (memory : Memory) (slot : ℕ) (known : slot <
   unfolding after
   Applies-unadmitted F uid gid fault b is gates p = unclosed F (Some (owner uid gid)) fault b is gates p
 
-  pub Applies-admitted : (F uid gid : ℕ) (fault : Option HostFault) (b c : State) → F ≡ w.stored.frames → ClosesGates F slot None a b
+  pub Applies-registered : (F uid gid : ℕ) (fault : Option HostFault) (b c : State) → F ≡ w.stored.frames → ClosesGates F slot None a b
       → ClosesClientLogs size (closed w) slot None (masked_state ready.mask a) (masked_state ready.mask b) → Commits DAEMON_LOG (registration slot uid gid) fault b c
       → Registers size (closed w) slot uid gid fault (masked_state ready.mask b) (masked_state ready.mask c) → Applies size w (after w (Client slot uid gid)) memory fault a c
   unfolding after
-  Applies-admitted F uid gid fault b c is gates p k r = changed F (Some (owner uid gid)) (1 ∷ uid ∷ gid ∷ []) (omega arith) b c is gates p fault k r.table
+  Applies-registered F uid gid fault b c is gates p k r = changed F (Some (owner uid gid)) (1 ∷ uid ∷ gid ∷ []) (omega arith) b c is gates p fault k r.table
 
   -- a client was unregistered, its logs closed first
   to_gone : (fault : Option HostFault) (c : State) → Applies size w (after_this w slot None) memory fault a c → Applies size w (after w (Leave slot)) memory fault a c
@@ -262,10 +262,10 @@ module _ (size : ℕ) (w : World) (memory : Memory) (slot : ℕ) (known : slot <
       → ClosesClientLogs size (closed w) slot (Some fault) (masked_state ready.mask a) (masked_state ready.mask b) → Applies size w (after w (Leave slot)) memory (Some fault) a b
   Applies-undismissed F fault b is gates p = to_gone (Some fault) b (unclosed F None fault b is gates p)
 
-  pub Applies-dismissed : (F : ℕ) (fault : Option HostFault) (b c : State) → F ≡ w.stored.frames → ClosesGates F slot None a b
+  pub Applies-unregistered : (F : ℕ) (fault : Option HostFault) (b c : State) → F ≡ w.stored.frames → ClosesGates F slot None a b
       → ClosesClientLogs size (closed w) slot None (masked_state ready.mask a) (masked_state ready.mask b) → Commits DAEMON_LOG (unregistration slot) fault b c
       → Unregisters size (closed w) slot fault (masked_state ready.mask b) (masked_state ready.mask c) → Applies size w (after w (Leave slot)) memory fault a c
-  Applies-dismissed F fault b c is gates p k r = to_gone fault c (changed F None (0 ∷ []) (omega arith) b c is gates p fault k r.table)
+  Applies-unregistered F fault b c is gates p k r = to_gone fault c (changed F None (0 ∷ []) (omega arith) b c is gates p fault k r.table)
 
 -- the daemon log counts nothing behind the closing
 pub gate_closed : (size : ℕ) (w : World) (memory : Memory) (F slot : ℕ) (a b : State) → IsReady size w memory a → ClosesGates F slot None a b → HasIdleGate DAEMON_LOG b.now.words

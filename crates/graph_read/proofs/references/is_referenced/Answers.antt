@@ -11,11 +11,11 @@ use Rattle.graph_read.proofs.Numbers.{is_some-then_some}
 use Rattle.pm_model.proofs.Reading.{still_reads}
 use Rattle.graph_read.proofs.references.is_referenced.Goals as goal
 
-pub returns-then-is_empty-clause-held : goal.returns-then-is_empty-clause-held
-returns-then-is_empty-clause-held g c = λ t image same graph stored. absurd (none_held (types_of image) c.args.frames c.args.pool.now image graph (sym c.is_empty.ensures ∙ c.if-is_empty.true) stored)
+pub returns-then-is_empty-clause-referenced : goal.returns-then-is_empty-clause-referenced
+returns-then-is_empty-clause-referenced g c = λ t image same graph stored. absurd (none_held (types_of image) c.args.frames c.args.pool.now image graph (sym c.is_empty.ensures ∙ c.if-is_empty.true) stored)
 
-pub returns-clause-held : goal.returns-clause-held
-returns-clause-held g c = λ t image same graph stored.
+pub returns-clause-referenced : goal.returns-clause-referenced
+returns-clause-referenced g c = λ t image same graph stored.
     let at = c.args.pool.now in
     let st = stored_in c.args.frames at image in
     let serial = slice_index c.in_ok-serials.serials in

@@ -3,7 +3,7 @@ use Rattle.std.proofs.lemmas.Result.{err_from_is_err_and}
 use Rattle.log_store.specs.Store.{OpenLog}
 use Rattle.hybrid_tx.specs.PoolScopes.{pool_scope, finished_of}
 use Rattle.hybrid_tx.specs.Objects.Transactions.{IsOpenOn}
-use Rattle.hybrid_tx.proofs.PoolScope.{is_ground}
+use Rattle.hybrid_tx.proofs.PoolScope.{is_scope}
 use Rattle.hybrid_tx.proofs.FinishedPuddles.{finished_placed}
 use Rattle.hybrid_tx.proofs.Objects.Opening.{IsIdle-finished, IsOpenOn-begun}
 use Rattle.hybrid_tx.proofs.Tx.begin.Goals as goal
@@ -14,7 +14,7 @@ returns-in_err-words-clause-runs g c =
     let gate = c.log_number_at-gate.ensures in
     let few = c.requires.known in
     rw (p.1, p.2, ← gate) (λ t at before placed idle.
-    c.in_err-words.ensures.runs t _ refl (pool_scope c.args.frames (finished_of at)) before (is_ground c.args.frames _ _ (finished_of at) (finished_placed c.args.frames at placed) c.requires.device (omega arith))
+    c.in_err-words.ensures.runs t _ refl (pool_scope c.args.frames (finished_of at)) before (is_scope c.args.frames _ _ (finished_of at) (finished_placed c.args.frames at placed) c.requires.device (omega arith))
     (IsIdle-finished c.args.frames at _ before _ idle))
 
 pub returns-clause-runs : goal.returns-clause-runs
@@ -22,7 +22,7 @@ returns-clause-runs g c =
     let gate = c.log_number_at-gate.ensures in
     let few = c.requires.known in
     rw (← gate) (λ t at before placed idle.
-    c.in_ok-words.ensures.runs t _ refl (pool_scope c.args.frames (finished_of at)) before (is_ground c.args.frames _ _ (finished_of at) (finished_placed c.args.frames at placed) c.requires.device (omega arith))
+    c.in_ok-words.ensures.runs t _ refl (pool_scope c.args.frames (finished_of at)) before (is_scope c.args.frames _ _ (finished_of at) (finished_placed c.args.frames at placed) c.requires.device (omega arith))
     (IsIdle-finished c.args.frames at _ before _ idle))
 
 pub returns-clause-open : goal.returns-clause-open
@@ -31,8 +31,8 @@ returns-clause-open g c =
     let few = c.requires.known in
     let new = g.H.Host.state c.begin.new.h in
     rw (← gate) (λ t at before placed idle types k is.
-    let ground = is_ground c.args.frames (g.H.Host.counts c.args.h.now).size c.log_number_at-gate.result at placed c.requires.device (omega arith) in
+    let ground = is_scope c.args.frames (g.H.Host.counts c.args.h.now).size c.log_number_at-gate.result at placed c.requires.device (omega arith) in
     subst (λ (l : OpenLog). IsOpenOn c.args.frames at types l before k k [] new.now.words) (sym c.in_ok-words.ensures.opened)
     (IsOpenOn-begun c.args.frames _ at types before _ k _ new ground idle is
-    (c.in_ok-words.ensures.runs t _ refl (pool_scope c.args.frames (finished_of at)) before (is_ground c.args.frames _ _ (finished_of at) (finished_placed c.args.frames at placed) c.requires.device (omega arith))
+    (c.in_ok-words.ensures.runs t _ refl (pool_scope c.args.frames (finished_of at)) before (is_scope c.args.frames _ _ (finished_of at) (finished_placed c.args.frames at placed) c.requires.device (omega arith))
     (IsIdle-finished c.args.frames at _ before _ idle))))

@@ -11,7 +11,7 @@ use Rattle.word_transaction.specs.Running.{ByTransaction}
 use Rattle.hybrid_tx.specs.PoolScopes.{pool_scope, finished_of}
 use Rattle.hybrid_tx.specs.Objects.Transactions.{OpenTx}
 use Rattle.hybrid_tx.proofs.PoolScope.{all_there}
-use Rattle.hybrid_tx.proofs.Objects.SlotFreed.{Changes-freed, Saves-unfreed, Saves-freed}
+use Rattle.hybrid_tx.proofs.Objects.SlotFreed.{Changes-freed, KeepsSaving-unfreed, KeepsSaving-freed}
 use Rattle.hybrid_tx.proofs.Tx.clear.Goals as goal
 
 pub returns-in_err-save-clause-changes : goal.returns-in_err-save-clause-changes
@@ -26,7 +26,7 @@ returns-in_err-save-clause-saves g c =
     let is_first : c.frame_at.result + (c.slot_begins-serial.result + 0) ≡ serial_word_at c.args.frames at = omega (arith, c.frame_at.ensures, c.slot_begins-serial.ensures) in
     let apart = subst (λ (x : OpenTx). x.log.gate_at + LOG_WORDS ≤ frames_at c.args.frames) (sym c.self.view_is) c.requires.place in
     rw (p.1, p.2, ← c.self.view_is) (λ t is_placed rewritten before redo s.
-    Saves-unfreed c.args.frames _ c.args.pool.now at c.requires.within _ _ before redo _ _ _ is_placed c.requires.device apart (c.slot_address.ensures.address is_placed.legal) is_first rewritten s c.in_err-save.ensures.at _ _
+    KeepsSaving-unfreed c.args.frames _ c.args.pool.now at c.requires.within _ _ before redo _ _ _ is_placed c.requires.device apart (c.slot_address.ensures.address is_placed.legal) is_first rewritten s c.in_err-save.ensures.at _ _
     (λ es ground may place r. c.in_err-save.ensures.keeps t _ refl (pool_scope c.args.frames (finished_of c.args.pool.now)) es before ground may place r))
 
 pub free_slot-requires-clause-known : goal.free_slot-requires-clause-known
@@ -46,6 +46,6 @@ returns-clause-saves g c =
     let is_first : c.frame_at.result + (c.slot_begins-serial.result + 0) ≡ serial_word_at F at = omega (arith, c.frame_at.ensures, c.slot_begins-serial.ensures) in
     let apart = subst (λ (x : OpenTx). x.log.gate_at + LOG_WORDS ≤ frames_at F) (sym c.self.view_is) c.requires.place in
     rw (← c.self.view_is) (λ t is_placed rewritten before redo s.
-    Saves-freed F _ pool at c.requires.within _ _ before redo _ _ _ is_placed c.requires.device apart (c.slot_address.ensures.address is_placed.legal) is_first rewritten s c.in_ok-save.ensures.at (fault_of c.free_slot.result) _ _
+    KeepsSaving-freed F _ pool at c.requires.within _ _ before redo _ _ _ is_placed c.requires.device apart (c.slot_address.ensures.address is_placed.legal) is_first rewritten s c.in_ok-save.ensures.at (fault_of c.free_slot.result) _ _
     (λ es ground may place r. c.in_ok-save.ensures.keeps t _ refl (pool_scope F (finished_of pool)) es before ground may place r)
     (c.free_slot.ensures.writes t))

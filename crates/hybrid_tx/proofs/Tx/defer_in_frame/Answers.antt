@@ -5,7 +5,7 @@ use Rattle.pud_defs.specs.declared.records.Puddle.{Puddle}
 use Rattle.log_store.specs.Store.{OpenLog}
 use Rattle.hybrid_tx.specs.PoolScopes.{pool_scope, finished_of}
 use Rattle.hybrid_tx.proofs.FinishedPuddles.{finished_placed, finished_there}
-use Rattle.hybrid_tx.proofs.Objects.InFrames.{KeepsSaving-asked}
+use Rattle.hybrid_tx.proofs.Objects.InFrames.{KeepsSaving-deferred}
 use Rattle.hybrid_tx.proofs.Tx.defer_in_frame.Goals as goal
 
 pub returns-in_err-defer-clause-defers : goal.returns-in_err-defer-clause-defers
@@ -16,7 +16,7 @@ returns-in_err-defer-clause-defers g c =
     let within = finished_there frames c.args.pool.now c.args.ordinal e there finished in
     let log = c.self.inside.words in
     let same = get_or_from_slice_get c.args.pool.now c.args.ordinal e _ there in
-    KeepsSaving-asked frames _ own c.args.word e within.0 log _ before redo _ c.args.value (Err _) _ _
+    KeepsSaving-deferred frames _ own c.args.word e within.0 log _ before redo _ c.args.value (Err _) _ _
     (finished_placed frames c.args.pool.now placed) device apart within.1 c.requires.within (c.word_address-field.ensures ∙ ap (λ (d : ℕ × Puddle). (d.1.base + 8 * c.args.word) % 2 ^ 64) same) s
     (ap (λ (l : OpenLog). l.gate_at) c.in_err-defer.ensures.failed) tt
     (λ es ground may running. c.in_err-defer.ensures.runs t _ refl (pool_scope frames own) es before ground may running))
@@ -28,7 +28,7 @@ returns-clause-defers g c =
     let within = finished_there frames c.args.pool.now c.args.ordinal e there finished in
     let log = c.self.inside.words in
     let same = get_or_from_slice_get c.args.pool.now c.args.ordinal e _ there in
-    KeepsSaving-asked frames _ own c.args.word e within.0 log _ before redo _ c.args.value (Ok _) _ _
+    KeepsSaving-deferred frames _ own c.args.word e within.0 log _ before redo _ c.args.value (Ok _) _ _
     (finished_placed frames c.args.pool.now placed) device apart within.1 c.requires.within (c.word_address-field.ensures ∙ ap (λ (d : ℕ × Puddle). (d.1.base + 8 * c.args.word) % 2 ^ 64) same) s
     (search rules) c.in_ok-defer.ensures.asked
     (λ es ground may running. c.in_ok-defer.ensures.runs t _ refl (pool_scope frames own) es before ground may running))

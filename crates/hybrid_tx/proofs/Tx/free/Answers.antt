@@ -5,7 +5,7 @@ use Rattle.pm_model.specs.Words.{reads}
 use Rattle.pm_model.proofs.Reading.{still_reads, Changes-read}
 use Rattle.puddle_header.specs.Places.{place_of_slot}
 use Rattle.hybrid_tx.proofs.Objects.FieldsSet.{placed_if_live}
-use Rattle.hybrid_tx.proofs.Objects.FieldPut.{RunsOn-stopped}
+use Rattle.hybrid_tx.proofs.Objects.FieldPut.{KeepsOpenOn-stopped}
 use Rattle.hybrid_tx.proofs.Tx.free.Goals as goal
 
 pub returns-in_err-at-clause-changes : goal.returns-in_err-at-clause-changes
@@ -17,7 +17,7 @@ pub returns-in_err-at-clause-runs : goal.returns-in_err-at-clause-runs
 returns-in_err-at-clause-runs g c =
     let p = err_from_is_err_and c.from_residual.result c.from_residual.ensures.1 in
     rw (p.1, p.2) (λ t types before graph_before now deferred placed rewritten is_open may unnamed.
-    RunsOn-stopped _ _ types c.args.self.now.log _ before graph_before now deferred _ _ _ refl c.in_err-at.ensures.only_reads t is_open)
+    KeepsOpenOn-stopped _ _ types c.args.self.now.log _ before graph_before now deferred _ _ _ refl c.in_err-at.ensures.only_reads t is_open)
 
 pub returns-in-Some-clause-runs : goal.returns-in-Some-clause-runs
 returns-in-Some-clause-runs g c = λ t.

@@ -10,7 +10,7 @@ use Rattle.pm_model.proofs.Reading.{Changes-read}
 use Rattle.pud_defs.specs.PoolGraphs.GraphChanges.{with_new, blank_object}
 use Rattle.puddle_header.specs.Places.{place_of_slot}
 use Rattle.hybrid_tx.specs.Objects.Transactions.{IsOpenOn, KeepsOpenOn, MakesIn}
-use Rattle.hybrid_tx.proofs.Objects.FieldPut.{RunsOn-stopped}
+use Rattle.hybrid_tx.proofs.Objects.FieldPut.{KeepsOpenOn-stopped}
 use Rattle.hybrid_tx.proofs.Objects.LowestSlot.{one_lowest, lowest_is_free, one_slot, first_there}
 use Rattle.hybrid_tx.proofs.Objects.ObjectPut.{MakesIn-stopped}
 use Rattle.hybrid_tx.proofs.Tx.new.Goals as goal
@@ -35,7 +35,7 @@ returns-in-Err-Host-clause-changes g c = λ t. Changes-read (rw c.in-Err-Host.fi
 
 pub returns-in-Err-Host-clause-runs : goal.returns-in-Err-Host-clause-runs
 returns-in-Err-Host-clause-runs g c = λ t types m before graph_before now deferred placed is_open defined room root lowest some.
-    RunsOn-stopped _ _ types c.args.self.now.log _ before graph_before now deferred _ _ _ refl (rw c.in-Err-Host.field-0-is at c.in-Err-Host.ensures.only_reads) t is_open
+    KeepsOpenOn-stopped _ _ types c.args.self.now.log _ before graph_before now deferred _ _ _ refl (rw c.in-Err-Host.field-0-is at c.in-Err-Host.ensures.only_reads) t is_open
 
 -- ---- which slot it is
 

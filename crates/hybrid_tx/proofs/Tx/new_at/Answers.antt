@@ -3,9 +3,9 @@ use Rattle.std.proofs.lemmas.Option.{slice_get_within, slice_get-get_or}
 use Rattle.std.proofs.lemmas.Result.{err_from_is_err_and}
 use Rattle.pm_model.specs.Words.{reads}
 use Rattle.pm_model.proofs.Reading.{Changes-read}
-use Rattle.hybrid_tx.proofs.Objects.FieldPut.{RunsOn-stopped}
+use Rattle.hybrid_tx.proofs.Objects.FieldPut.{KeepsOpenOn-stopped}
 use Rattle.hybrid_tx.proofs.Objects.ObjectsMade.{new_object_words-length}
-use Rattle.hybrid_tx.proofs.Objects.ObjectPut.{serial_is_next, Changes-put, MakesIn-stopped, MakesIn-new, RunsOn-new}
+use Rattle.hybrid_tx.proofs.Objects.ObjectPut.{serial_is_next, Changes-put, MakesIn-stopped, MakesIn-new, KeepsOpenOn-new}
 use Rattle.hybrid_tx.proofs.Tx.new_at.Goals as goal
 
 pub returns-in_err-serial-clause-changes : goal.returns-in_err-serial-clause-changes
@@ -17,7 +17,7 @@ pub returns-in_err-serial-clause-runs : goal.returns-in_err-serial-clause-runs
 returns-in_err-serial-clause-runs g c =
     let p = err_from_is_err_and c.from_residual.result c.from_residual.ensures.1 in
     rw (p.1, p.2) (λ t types m before graph_before now deferred placed is_open defined room root rewritten free.
-    RunsOn-stopped _ _ types c.args.self.now.log _ before graph_before now deferred _ _ _ refl c.in_err-serial.ensures.only_reads t is_open)
+    KeepsOpenOn-stopped _ _ types c.args.self.now.log _ before graph_before now deferred _ _ _ refl c.in_err-serial.ensures.only_reads t is_open)
 
 pub returns-in_err-put_object-clause-changes : goal.returns-in_err-put_object-clause-changes
 returns-in_err-put_object-clause-changes g c =
@@ -33,7 +33,7 @@ returns-in_err-put_object-clause-runs g c =
     let some = slice_get_within c.args.pool.now c.args.at.now.ordinal (c.args.at.now.frame, c.requires.within.puddle) c.requires.within.there in
     let head = slice_get-get_or c.args.pool.now 0 _ (omega (arith, some)) in
     rw (p.1, p.2) (λ t types m before graph_before now deferred placed is_open defined room root rewritten free.
-    RunsOn-new c.args.frames c.args.pool.now types c.args.self.now.log before graph_before now deferred (g.H.Host.state c.args.h.now) is_open
+    KeepsOpenOn-new c.args.frames c.args.pool.now types c.args.self.now.log before graph_before now deferred (g.H.Host.state c.args.h.now) is_open
     _ _ c.args.at.now c.in_ok-serial.serial _ c.args.t _ _ _ _ c.in_err-put_object.ensures.at (c.in_ok-serial.ensures.only_reads.stays t) head c.requires.within
     (c.in_ok-serial.ensures.word t (reads (g.H.Host.state c.args.h.now).now.words) refl) room c.new_object_words-words.ensures refl (c.in_err-put_object.ensures.saves t placed _ head root rewritten)
     _ m placed c.requires.device c.requires.place free defined)
@@ -49,7 +49,7 @@ pub returns-clause-runs : goal.returns-clause-runs
 returns-clause-runs g c = λ t types m before graph_before now deferred placed is_open defined room root rewritten free.
     let some = slice_get_within c.args.pool.now c.args.at.now.ordinal (c.args.at.now.frame, c.requires.within.puddle) c.requires.within.there in
     let head = slice_get-get_or c.args.pool.now 0 _ (omega (arith, some)) in
-    RunsOn-new c.args.frames c.args.pool.now types c.args.self.now.log before graph_before now deferred (g.H.Host.state c.args.h.now) is_open
+    KeepsOpenOn-new c.args.frames c.args.pool.now types c.args.self.now.log before graph_before now deferred (g.H.Host.state c.args.h.now) is_open
     _ _ c.args.at.now c.in_ok-serial.serial _ c.args.t _ _ _ _ c.in_ok-put_object.ensures.at (c.in_ok-serial.ensures.only_reads.stays t) head c.requires.within
     (c.in_ok-serial.ensures.word t (reads (g.H.Host.state c.args.h.now).now.words) refl) room c.new_object_words-words.ensures refl (c.in_ok-put_object.ensures.saves t placed _ head root rewritten)
     _ m placed c.requires.device c.requires.place free defined

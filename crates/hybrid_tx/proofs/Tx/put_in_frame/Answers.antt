@@ -7,7 +7,7 @@ use Rattle.pud_defs.specs.Formats.Frames.{frame_at}
 use Rattle.hybrid_tx.specs.PoolScopes.{pool_scope, finished_of}
 use Rattle.hybrid_tx.specs.Objects.Stores.{ByPut}
 use Rattle.hybrid_tx.proofs.FinishedPuddles.{finished_placed, finished_there}
-use Rattle.hybrid_tx.proofs.Objects.InFrames.{ByPut-in_frame, Saves-put}
+use Rattle.hybrid_tx.proofs.Objects.InFrames.{ByPut-in_frame, KeepsSaving-put}
 use Rattle.hybrid_tx.proofs.Tx.put_in_frame.Goals as goal
 
 pub returns-clause-changes : goal.returns-clause-changes
@@ -31,7 +31,7 @@ returns-clause-saves g c = λ t placed e there finished before redo s.
     let own = finished_of c.args.pool.now in
     let within = finished_there c.args.frames c.args.pool.now c.args.ordinal e there finished in
     let same = get_or_from_slice_get c.args.pool.now c.args.ordinal e _ there in
-    Saves-put c.args.frames _ own c.args.self.now.log _ before redo (fault_of c.put.result) _ _ (finished_placed c.args.frames c.args.pool.now placed) c.requires.device c.requires.place s
+    KeepsSaving-put c.args.frames _ own c.args.self.now.log _ before redo (fault_of c.put.result) _ _ (finished_placed c.args.frames c.args.pool.now placed) c.requires.device c.requires.place s
     within.0 c.args.word e _ _ c.args.vals.now within.1 c.requires.some c.requires.within
     (c.word_address-address.ensures ∙ ap (λ (d : ℕ × Puddle). (d.1.base + 8 * c.args.word) % 2 ^ 64) same)
     (ap (λ (k : ℕ). k + c.args.word) (c.frame_at.ensures ∙ ap (λ (d : ℕ × Puddle). frame_at c.args.frames d.0) same))

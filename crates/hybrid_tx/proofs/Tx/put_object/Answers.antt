@@ -9,7 +9,7 @@ use Rattle.pud_defs.specs.Formats.Geometry.{slot_begins}
 use Rattle.hybrid_tx.specs.PoolScopes.{pool_scope, finished_of}
 use Rattle.hybrid_tx.proofs.FinishedPuddles.{finished_placed, finished_there}
 use Rattle.hybrid_tx.proofs.Objects.FieldPut.{slot_address-read}
-use Rattle.hybrid_tx.proofs.Objects.InFrames.{Saves-put_both}
+use Rattle.hybrid_tx.proofs.Objects.InFrames.{KeepsSaving-put_both}
 use Rattle.hybrid_tx.proofs.Tx.put_object.Goals as goal
 
 pub returns-clause-saves : goal.returns-clause-saves
@@ -27,7 +27,7 @@ returns-clause-saves g c = λ t placed first head root rewritten before redo s.
     let few : slot_begins at + length c.args.words.now ≤ FRAME_WORDS = omega arith in
     let next : NEXT_SERIAL_WORD < FRAME_WORDS = omega arith in
     let same = get_or_from_slice_get pool 0 first _ head in
-    Saves-put_both F _ own c.args.self.now.log _ before redo (fault_of c.put_both.result) _ _ (finished_placed F pool placed) c.requires.device c.requires.place s
+    KeepsSaving-put_both F _ own c.args.self.now.log _ before redo (fault_of c.put_both.result) _ _ (finished_placed F pool placed) c.requires.device c.requires.place s
     one.0 (slot_begins at) e _ _ c.args.words.now other.0 NEXT_SERIAL_WORD first _ _ c.args.next
     one.1 some few (c.slot_address.ensures.address placed.legal ∙ sym (slot_address-read pool at c.requires.within e refl placed.legal)) (omega (arith, c.frame_at.ensures, c.slot_begins.ensures))
     other.1 next (c.word_address-serial_address.ensures ∙ ap (λ (d : ℕ × Puddle). (d.1.base + 8 * NEXT_SERIAL_WORD) % 2 ^ 64) same)

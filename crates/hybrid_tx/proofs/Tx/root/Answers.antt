@@ -3,7 +3,7 @@ use Rattle.std.proofs.lemmas.Result.{err_from_is_err_and}
 use Rattle.pm_model.specs.Words.{reads}
 use Rattle.pm_model.proofs.Reading.{still_reads, Changes-read}
 use Rattle.hybrid_tx.proofs.Objects.FieldsSet.{word_if_named}
-use Rattle.hybrid_tx.proofs.Objects.FieldPut.{RunsOn-stopped}
+use Rattle.hybrid_tx.proofs.Objects.FieldPut.{KeepsOpenOn-stopped}
 use Rattle.hybrid_tx.proofs.Tx.root.Goals as goal
 
 pub returns-in_err-word-clause-changes : goal.returns-in_err-word-clause-changes
@@ -15,7 +15,7 @@ pub returns-in_err-word-clause-runs : goal.returns-in_err-word-clause-runs
 returns-in_err-word-clause-runs g c =
     let p = err_from_is_err_and c.from_residual.result c.from_residual.ensures.1 in
     rw (p.1, p.2) (λ t types before graph_before now deferred placed rewritten is_open may.
-    RunsOn-stopped _ _ types c.args.self.now.log _ before graph_before now deferred _ _ _ refl c.in_err-word.ensures.only_reads t is_open)
+    KeepsOpenOn-stopped _ _ types c.args.self.now.log _ before graph_before now deferred _ _ _ refl c.in_err-word.ensures.only_reads t is_open)
 
 pub returns-in-Some-clause-runs : goal.returns-in-Some-clause-runs
 returns-in-Some-clause-runs g c = λ t.

@@ -4,7 +4,7 @@ use Rattle.pm_model.specs.Words.{reads}
 use Rattle.pm_model.specs.Counts.{fault_of}
 use Rattle.graph_read.proofs.Referenced.{none_held}
 use Rattle.graph_read.proofs.Judging.{entry, positive_length}
-use Rattle.hybrid_tx.proofs.Objects.RootPut.{RunsOn-root}
+use Rattle.hybrid_tx.proofs.Objects.RootPut.{KeepsOpenOn-root}
 use Rattle.hybrid_tx.proofs.Tx.root_at.Goals as goal
 
 pub returns-then-is_empty-clause-runs : goal.returns-then-is_empty-clause-runs
@@ -18,5 +18,5 @@ returns-then-is_empty-clause-counts g c = λ t types before graph_before now def
 pub returns-clause-runs : goal.returns-clause-runs
 returns-clause-runs g c = λ t types before graph_before now deferred s placed rewritten is_open word.
     let some : 0 < length c.args.pool.now = positive_length c.args.pool.now (sym c.is_empty.ensures ∙ c.if-is_empty.false) in
-    RunsOn-root c.args.frames c.args.pool.now types c.args.self.now.log _ before graph_before now deferred (g.H.Host.state c.args.h.now) is_open _ s c.args.word (entry c.args.pool.now 0) (fault_of c.put_in_frame.result) _ _
+    KeepsOpenOn-root c.args.frames c.args.pool.now types c.args.self.now.log _ before graph_before now deferred (g.H.Host.state c.args.h.now) is_open _ s c.args.word (entry c.args.pool.now 0) (fault_of c.put_in_frame.result) _ _
     (slice_get-get_or c.args.pool.now 0 _ some) placed rewritten c.requires.device c.requires.place c.put_in_frame.ensures.at refl word (c.put_in_frame.ensures.saves t placed)

@@ -4,7 +4,7 @@ use Rattle.pm_model.specs.Words.{reads}
 use Rattle.pm_model.proofs.Reading.{still_reads, Changes-read}
 use Rattle.pud_defs.specs.declared.records.Slot.{Slot}
 use Rattle.hybrid_tx.specs.Objects.Stores.{IsPlaceAndWord}
-use Rattle.hybrid_tx.proofs.Objects.FieldPut.{found_there, RunsOn-stopped, lacks_none}
+use Rattle.hybrid_tx.proofs.Objects.FieldPut.{found_there, KeepsOpenOn-stopped, lacks_none}
 use Rattle.hybrid_tx.proofs.Tx.set.Goals as goal
 
 pub returns-in_err-at-clause-changes : goal.returns-in_err-at-clause-changes
@@ -16,7 +16,7 @@ pub returns-in_err-at-clause-runs : goal.returns-in_err-at-clause-runs
 returns-in_err-at-clause-runs g c =
     let p = err_from_is_err_and c.from_residual.result c.from_residual.ensures.1 in
     rw (p.1, p.2) (λ t types before graph_before now deferred placed rewritten is_open may.
-    RunsOn-stopped _ _ types c.args.self.now.log _ before graph_before now deferred _ _ _ refl c.in_err-at.ensures.only_reads t is_open)
+    KeepsOpenOn-stopped _ _ types c.args.self.now.log _ before graph_before now deferred _ _ _ refl c.in_err-at.ensures.only_reads t is_open)
 
 pub returns-in-Some-clause-runs : goal.returns-in-Some-clause-runs
 returns-in-Some-clause-runs g c = λ t.

@@ -4,7 +4,7 @@ use Rattle.pm_model.specs.Counts.{fault_of}
 use Rattle.pm_model.specs.Changes.{Changes}
 use Rattle.pud_defs.specs.Formats.Frames.{frame_at}
 use Rattle.hybrid_tx.specs.Objects.Stores.{ByPut}
-use Rattle.hybrid_tx.proofs.Objects.FieldPut.{RunsOn-set}
+use Rattle.hybrid_tx.proofs.Objects.FieldPut.{KeepsOpenOn-set}
 use Rattle.hybrid_tx.proofs.Tx.set_at.Goals as goal
 
 pub put_in_frame-requires-clause-there : goal.put_in_frame-requires-clause-there
@@ -12,7 +12,7 @@ put_in_frame-requires-clause-there g c = slice_get_within c.args.pool.now c.args
 
 pub returns-clause-runs : goal.returns-clause-runs
 returns-clause-runs g c = λ t types before graph_before now deferred s x placed rewritten is_open may place word.
-    RunsOn-set c.args.frames c.args.pool.now types c.args.self.now.log _ before graph_before now deferred s c.args.f x (g.H.Host.state c.args.h.now) is_open may
+    KeepsOpenOn-set c.args.frames c.args.pool.now types c.args.self.now.log _ before graph_before now deferred s c.args.f x (g.H.Host.state c.args.h.now) is_open may
     _ _ c.args.at.now c.args.word (fault_of c.put_in_frame.result) _ _ placed rewritten c.requires.device c.requires.place c.put_in_frame.ensures.at
     refl c.requires.within place word (ap (λ (k : ℕ). k + 2 + c.args.f) c.slot_begins.ensures) (c.put_in_frame.ensures.saves t placed)
 

@@ -1,5 +1,5 @@
-use Rattle.hybrid_tx.proofs.Objects.DeferredApplied.{laters_applied}
+use Rattle.hybrid_tx.proofs.Objects.DeferredApplied.{deferred_applied}
 use Rattle.hybrid_tx.proofs.laws.deferred_entries_make_the_graph.Goals as goal
 
 pub returns : goal.returns
-returns c = laters_applied
+returns c = deferred_applied

@@ -15,13 +15,13 @@ use Rattle.known_pool.proofs.KnownKept.{same_kept}
 use Rattle.known_pool.proofs.KnownPool.freed.Goals as goal
 use Rattle.known_pool.proofs.KnownPool.freed.Goals.{in-Some, in_default}
 
-pub returns-clause-lets_go : goal.returns-clause-lets_go
-returns-clause-lets_go g c = λ t image same graph stored there known.
+pub returns-clause-releases : goal.returns-clause-releases
+returns-clause-releases g c = λ t image same graph stored there known.
     let F = c.args.frames in
     let puddles : c.as_slice.result.now ≡ c.args.self.now.puddles = c.as_slice.ensures.puddles ∙ ap (λ (k : Known). k.puddles) c.self.view_is in
     let lets = subst (λ (at : List (ℕ × Puddle)). graph_of (types_of image) (stored_in F at image) ≡ Some graph → (s : ℕ) → place_in_pool F at image s ≡ Some (place_of_slot c.args.at.now)
     → ((x : Index) → c.self.inside.index ≡ Some x → IsIndexOf F at (types_of image) image x) → HasReleased (place_in_pool F at image) graph s (option_map index_entries c.release_fields.new.index))
-    puddles (c.in_ok-release_fields.ensures.lets_go t image same graph) stored c.args.s there (λ x is. known.indexed x (ap (λ (k : Known). k.index) (sym c.self.view_is) ∙ ap (option_map index_entries) is)) in
+    puddles (c.in_ok-release_fields.ensures.releases t image same graph) stored c.args.s there (λ x is. known.indexed x (ap (λ (k : Known). k.index) (sym c.self.view_is) ∙ ap (option_map index_entries) is)) in
     elim c.match-self.branch [
       | in-Some w ↦
           rw w.self-inside-is (λ x kept.

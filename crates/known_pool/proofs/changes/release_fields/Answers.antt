@@ -10,8 +10,8 @@ use Rattle.known_pool.specs.Known.{index_entries}
 use Rattle.known_pool.proofs.Releasing.{LetsFirst-start, LetsFirst-more, LetsFirst-end, lets_none}
 use Rattle.known_pool.proofs.changes.release_fields.Goals as goal
 
-pub returns-in_default-clause-lets_go : goal.returns-in_default-clause-lets_go
-returns-in_default-clause-lets_go g c = λ t image same graph stored s there is.
+pub returns-in_default-clause-releases : goal.returns-in_default-clause-releases
+returns-in_default-clause-releases g c = λ t image same graph stored s there is.
     let at = c.args.at.now in
     let pool = c.args.pool.now in
     let first = still_reads c.slot_type.ensures.only_reads t same in
@@ -36,8 +36,8 @@ loop-f-preserved g c = record {
       (c.in_ok-value.ensures.value t image before) c.retarget.ensures.follows (c.loop-f.invariant.lets t image same type is);
 }
 
-pub returns-clause-lets_go : goal.returns-clause-lets_go
-returns-clause-lets_go g c = λ t image same graph stored s there is.
+pub returns-clause-releases : goal.returns-clause-releases
+returns-clause-releases g c = λ t image same graph stored s there is.
     let at = c.args.at.now in
     let pool = c.args.pool.now in
     let first = still_reads c.slot_type.ensures.only_reads t same in

@@ -8,7 +8,7 @@ use Rattle.log_entry.specs.Reading.{entry_from}
 use Rattle.log_entry.specs.Copying.{image_of_copy}
 use Rattle.log_replay.specs.Replaying.{Anything}
 use Rattle.log_replay.proofs.Applying.{AppliesEntries-nothing, AppliesEntries-joined, AppliesEntries-cut_short, size_then, any_then}
-use Rattle.log_replay.proofs.Left.{is_first, redone-found, redo_value-end}
+use Rattle.log_replay.proofs.Left.{is_first, redo_value-found, redo_value-end}
 use Rattle.log_replay.proofs.copies.+redo.Goals as goal
 
 pub returns-in-None-clause-redoes : goal.returns-in-None-clause-redoes
@@ -22,7 +22,7 @@ returns-in_err-apply-in-Some-clause-redoes g m c =
     let image = image_of_copy c.args.copy.now in
     let f = is_first size log image c.next.result c.in-Some.entry _ c.next.new.self es c.in-Some.is c.next.ensures.left left within in
     AppliesEntries-cut_short (given_by device_word log REDO_ORDER (entry_from image c.in-Some.entry)) (redo_value device_word log f.behind) (redo_value device_word log es) _ _ _ _ refl
-    (redone-found size log image c.in-Some.entry c.next.new.self es f)
+    (redo_value-found size log image c.in-Some.entry c.next.new.self es f)
     (c.in_err-apply-in-Some.ensures.applies t size same log logged (entry_from image c.in-Some.entry) refl f.within))
 
 pub returns-in_ok-apply-in-Some-clause-redoes : goal.returns-in_ok-apply-in-Some-clause-redoes
@@ -30,7 +30,7 @@ returns-in_ok-apply-in-Some-clause-redoes g m c = λ t size same log logged es l
     let image = image_of_copy c.args.copy.now in
     let f = is_first size log image c.next.result c.in-Some.entry _ c.next.new.self es c.in-Some.is c.next.ensures.left left within in
     AppliesEntries-joined (given_by device_word log REDO_ORDER (entry_from image c.in-Some.entry)) (redo_value device_word log f.behind) (redo_value device_word log es) (fault_of c.redo.result) _ _ _ _ refl
-    (redone-found size log image c.in-Some.entry c.next.new.self es f)
+    (redo_value-found size log image c.in-Some.entry c.next.new.self es f)
     (c.in_ok-apply-in-Some.ensures.applies t size same log logged (entry_from image c.in-Some.entry) refl f.within)
     (c.redo.ensures.redoes t size (size_then size _ _ same c.in_ok-apply-in-Some.ensures.cause) log logged f.behind f.left f.others)
 

@@ -2,7 +2,7 @@ use Rattle.std.proofs.Common.{[], ◌∷◌, refl, sym, ap, ◌∙◌, arith}
 use Rattle.std.proofs.lemmas.Result.{err_from_is_err_and}
 use Rattle.pm_model.specs.Counts.{Counts}
 use Rattle.pud_defs.specs.StateMachine.World.{closed}
-use Rattle.ready_daemon.proofs.Commands.Coming.{gates_apart, record_apart, gate_closed, Applies-undismissed, Applies-dismissed, ClosesBefore-closing, ClosesBefore-freed}
+use Rattle.ready_daemon.proofs.Commands.Coming.{gates_apart, record_apart, gate_closed, Applies-undismissed, Applies-unregistered, ClosesBefore-closing, ClosesBefore-freed}
 use Rattle.ready_daemon.proofs.Commands.Keeping.{KeepsRest-changes, KeepsRest-then}
 use Rattle.puddled.proofs.clients.close_and_unregister.Goals as goal
 
@@ -20,7 +20,7 @@ returns-clause-applies g c = λ t size e w memory frames ready others.
     let gates = c.in_ok-close_logs.ensures.gates t in
     let closes = c.in_ok-close_logs.ensures.closes t size e (closed w) is ready.mask (gates_apart size w memory c.args.slot c.requires.known others _ ready c.args.frames is) ready.settled in
     let then = e ∙ sym (ap (λ (n : Counts). n.size) c.in_ok-close_logs.ensures.cause) in
-    Applies-dismissed size w memory c.args.slot c.requires.known others _ ready c.args.frames _ _ _ is gates closes
+    Applies-unregistered size w memory c.args.slot c.requires.known others _ ready c.args.frames _ _ _ is gates closes
     (c.unregister.ensures.commits t (gate_closed size w memory c.args.frames c.args.slot _ _ ready gates))
     (c.unregister.ensures.unregisters t size then (closed w) ready.mask
     (record_apart size w memory c.args.slot c.requires.known others _ ready (0 ∷ []) (omega arith)) (closes.settled refl))

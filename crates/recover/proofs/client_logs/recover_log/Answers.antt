@@ -8,7 +8,7 @@ use Rattle.log_replay.specs.Replaying.{Anything}
 use Rattle.recover.specs.Judging.{mark_judged}
 use Rattle.recover.specs.RecoveredLogs.{RecoversLog, RecoversLogAtEachMoment}
 use Rattle.recover.proofs.Accepting.{of_none, not_accepted_gives_nothing}
-use Rattle.recover.proofs.LogRecovered.{TakesTurn-still, LeavesTurn-still}
+use Rattle.recover.proofs.LogRecovered.{RecoversLog-still, RecoversLogAtEachMoment-still}
 use Rattle.recover.proofs.LogsRecovered.{RecoversLog-unread}
 use Rattle.recover.proofs.client_logs.recover_log.Goals as goal
 
@@ -20,7 +20,7 @@ returns-in_err-judged-clause-takes g c =
 pub returns-in_err-judged-clause-leaves : goal.returns-in_err-judged-clause-leaves
 returns-in_err-judged-clause-leaves g c =
     let p = err_from_is_err_and c.from_residual.result c.from_residual.ensures.1 in
-    rw (p.1, p.2) (λ t image rested is. LeavesTurn-still c.args.frames c.args.number image (g.H.Host.state c.args.h.now) is rested _ _ (c.judge_log.ensures.only_reads.stays t))
+    rw (p.1, p.2) (λ t image rested is. RecoversLogAtEachMoment-still c.args.frames c.args.number image (g.H.Host.state c.args.h.now) is rested _ _ (c.judge_log.ensures.only_reads.stays t))
 
 pub returns-in_default-clause-mark : goal.returns-in_default-clause-mark
 returns-in_default-clause-mark g c = λ t image is. sym (ap (option_map mark_judged) c.in_default.is) ∙ (c.in_ok-judged.ensures.judged t image is).verdict
@@ -28,11 +28,11 @@ returns-in_default-clause-mark g c = λ t image is. sym (ap (option_map mark_jud
 pub returns-in_default-clause-takes : goal.returns-in_default-clause-takes
 returns-in_default-clause-takes g c = λ t image is.
     let other = of_none c.args.frames c.args.number image (sym (returns-in_default-clause-mark g c t image is)) in
-    TakesTurn-still c.args.frames c.args.number image (g.H.Host.state c.args.h.now) is None _ (λ cut. absurd (let it : None ≡ Some _ = cut in cc)) (c.judge_log.ensures.only_reads.stays t)
+    RecoversLog-still c.args.frames c.args.number image (g.H.Host.state c.args.h.now) is None _ (λ cut. absurd (let it : None ≡ Some _ = cut in cc)) (c.judge_log.ensures.only_reads.stays t)
     (not_accepted_gives_nothing c.args.frames c.args.number image other) (λ none accepted. absurd (let it : false ≡ true = sym other ∙ accepted in cc))
 
 pub returns-in_default-clause-leaves : goal.returns-in_default-clause-leaves
-returns-in_default-clause-leaves g c = λ t image rested is. LeavesTurn-still c.args.frames c.args.number image (g.H.Host.state c.args.h.now) is rested None _ (c.judge_log.ensures.only_reads.stays t)
+returns-in_default-clause-leaves g c = λ t image rested is. RecoversLogAtEachMoment-still c.args.frames c.args.number image (g.H.Host.state c.args.h.now) is rested None _ (c.judge_log.ensures.only_reads.stays t)
 
 pub returns-in_err-settle_judged-clause-takes : goal.returns-in_err-settle_judged-clause-takes
 returns-in_err-settle_judged-clause-takes g c =

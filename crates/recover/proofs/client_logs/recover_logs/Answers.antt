@@ -10,7 +10,7 @@ use Rattle.log_replay.specs.Replaying.{Anything}
 use Rattle.recover.specs.declared.judge.Mark.TheVariants.{Closed}
 use Rattle.recover.specs.Verdicts.{verdict_of, mark_of}
 use Rattle.recover.specs.RecoveredLogs.{RecoversLogs}
-use Rattle.recover.proofs.LogsRecovered.{verdict_mid, RecoversLogs-start, RecoversLogsAtEachMoment-still, TakesTurns-turn, LeavesTurns-turn, RecoversLogs-failed}
+use Rattle.recover.proofs.LogsRecovered.{verdict_mid, RecoversLogs-start, RecoversLogsAtEachMoment-still, RecoversLogs-turn, RecoversLogsAtEachMoment-turn, RecoversLogs-failed}
 use Rattle.recover.proofs.client_logs.recover_logs.Goals as goal
 
 pub loop-number-init : goal.loop-number-init
@@ -45,10 +45,10 @@ loop-number-preserved g c =
             ∙ ap mark_of (c.in_ok-recover_log.ensures.mark t (reads mid.now.words) refl ∙ verdict_mid F number image old mid (omega arith) (l.invariant.takes t image is) ∙ ap (verdict_of F image) (sym here))
         | inr other ↦ get_or-set_other l.marks number k c.mark_of.result Closed other ∙ l.invariant.marks t image is k (omega arith)
       ];
-      takes = λ t image is. TakesTurns-turn F number image old mid (omega arith) (l.invariant.takes t image is) None new (c.in_ok-recover_log.ensures.takes t (reads mid.now.words) refl);
+      takes = λ t image is. RecoversLogs-turn F number image old mid (omega arith) (l.invariant.takes t image is) None new (c.in_ok-recover_log.ensures.takes t (reads mid.now.words) refl);
       leaves = λ t image rested is.
           let so_far = l.invariant.leaves t image rested is in
-          LeavesTurns-turn F number image old mid (omega arith) (l.invariant.takes t image is) None new (c.in_ok-recover_log.ensures.takes t (reads mid.now.words) refl) so_far
+          RecoversLogsAtEachMoment-turn F number image old mid (omega arith) (l.invariant.takes t image is) None new (c.in_ok-recover_log.ensures.takes t (reads mid.now.words) refl) so_far
           (c.in_ok-recover_log.ensures.leaves t (reads mid.now.words) (so_far.rested refl) refl);
       any = λ t. Changes-then Anything None old mid new (l.invariant.any t) (c.in_ok-recover_log.ensures.any t);
     }
@@ -64,7 +64,7 @@ returns-in_err-recover_log-clause-takes g c =
     let fault = c.in_err-recover_log.field-0.0 in
     rw (p.1, p.2) (λ t image is.
     RecoversLogs-failed F (number + 1) ALL_LOGS image fault old new (omega arith)
-    (TakesTurns-turn F number image old mid (omega arith) (c.loop-number.invariant.takes t image is) (Some fault) new (c.in_err-recover_log.ensures.takes t (reads mid.now.words) refl)))
+    (RecoversLogs-turn F number image old mid (omega arith) (c.loop-number.invariant.takes t image is) (Some fault) new (c.in_err-recover_log.ensures.takes t (reads mid.now.words) refl)))
 
 pub returns-in_err-recover_log-clause-leaves : goal.returns-in_err-recover_log-clause-leaves
 returns-in_err-recover_log-clause-leaves g c =
@@ -77,7 +77,7 @@ returns-in_err-recover_log-clause-leaves g c =
     let fault = c.in_err-recover_log.field-0.0 in
     rw (p.1, p.2) (λ t image rested is.
     let so_far = c.loop-number.invariant.leaves t image rested is in
-    LeavesTurns-turn F number image old mid (omega arith) (c.loop-number.invariant.takes t image is) (Some fault) new (c.in_err-recover_log.ensures.takes t (reads mid.now.words) refl) so_far
+    RecoversLogsAtEachMoment-turn F number image old mid (omega arith) (c.loop-number.invariant.takes t image is) (Some fault) new (c.in_err-recover_log.ensures.takes t (reads mid.now.words) refl) so_far
     (c.in_err-recover_log.ensures.leaves t (reads mid.now.words) (so_far.rested refl) refl))
 
 pub returns-in_err-recover_log-clause-any : goal.returns-in_err-recover_log-clause-any

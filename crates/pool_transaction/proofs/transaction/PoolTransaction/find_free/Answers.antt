@@ -35,7 +35,7 @@ returns-in-Some-refusal_to_free-clause-refusal g c = λ t size w memory its read
     sym c.in-Some-refusal_to_free.is ∙ c.refusal_to_free.ensures.refusal
     ∙ refused_to_free size w memory _ ready c.args.self.now c.args.self.now.log_number its.there _ F c.args.s c.units.result _ lent c.self.inside.tx.log c.in_ok-referenced.referenced c.in_ok-asked.asked behind
     (sym its.frames ∙ ready.frames) (same ∙ sym (active_known size w memory _ ready c.args.self.now.log_number c.args.self.now its.there c.args.pool.now.puddles (ap puddles_known its.known))) (ap (λ (h : ActiveTransaction). h.tx.log) c.self.view_is) place
-    (λ graph stored. c.in_ok-referenced.ensures.held t now (ap (λ (s : State). reads s.now.words) found) known graph (subst (λ (ps : List (ℕ × Puddle)). graph_of (types_of now) (stored_in F ps now) ≡ Some graph) same stored))
+    (λ graph stored. c.in_ok-referenced.ensures.referenced t now (ap (λ (s : State). reads s.now.words) found) known graph (subst (λ (ps : List (ℕ × Puddle)). graph_of (types_of now) (stored_in F ps now) ≡ Some graph) same stored))
     (λ placed opened. c.in_ok-asked.ensures.names t now (ap (λ (s : State). reads s.now.words) behind) _ _ _ _ placed opened (λ zero. let least = c.requires.serial in absurd (omega (arith, zero, least))) place)
     (c.units.ensures.units ∙ ap (λ (h : ActiveTransaction). h.tx.units) c.self.view_is)
 
@@ -52,6 +52,6 @@ returns-in-None-clause-refusal g c = λ t size w memory its ready.
     sym c.in-None.is ∙ c.refusal_to_free.ensures.refusal
     ∙ refused_to_free size w memory _ ready c.args.self.now c.args.self.now.log_number its.there _ F c.args.s c.units.result _ lent c.self.inside.tx.log c.in_ok-referenced.referenced c.in_ok-asked.asked behind
     (sym its.frames ∙ ready.frames) (same ∙ sym (active_known size w memory _ ready c.args.self.now.log_number c.args.self.now its.there c.args.pool.now.puddles (ap puddles_known its.known))) (ap (λ (h : ActiveTransaction). h.tx.log) c.self.view_is) place
-    (λ graph stored. c.in_ok-referenced.ensures.held t now (ap (λ (s : State). reads s.now.words) found) known graph (subst (λ (ps : List (ℕ × Puddle)). graph_of (types_of now) (stored_in F ps now) ≡ Some graph) same stored))
+    (λ graph stored. c.in_ok-referenced.ensures.referenced t now (ap (λ (s : State). reads s.now.words) found) known graph (subst (λ (ps : List (ℕ × Puddle)). graph_of (types_of now) (stored_in F ps now) ≡ Some graph) same stored))
     (λ placed opened. c.in_ok-asked.ensures.names t now (ap (λ (s : State). reads s.now.words) behind) _ _ _ _ placed opened (λ zero. let least = c.requires.serial in absurd (omega (arith, zero, least))) place)
     (c.units.ensures.units ∙ ap (λ (h : ActiveTransaction). h.tx.units) c.self.view_is)

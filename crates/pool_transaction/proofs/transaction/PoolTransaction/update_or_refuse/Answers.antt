@@ -15,7 +15,7 @@ use Rattle.ready_daemon.specs.Ready.{IsReady}
 use Rattle.ready_daemon.proofs.Commands.Applying.{Applies-stopped, Applies-refused}
 use Rattle.pool_transaction.proofs.Updates.ChangeAnswers.{change_answer}
 use Rattle.pool_transaction.proofs.Lifetimes.ActiveAlone.{known_so, known_on}
-use Rattle.pool_transaction.proofs.HeldFound.{placed_on, Applies-found}
+use Rattle.pool_transaction.proofs.Updates.ActiveFound.{placed_on, Applies-found}
 use Rattle.pool_transaction.specs.Finishing.{FinishesFor, FinishesUnless}
 use Rattle.pool_transaction.proofs.PuddlesFinished.Leading.{finishing_failed, finishing_refused}
 use Rattle.pool_transaction.proofs.transaction.PoolTransaction.update_or_refuse.Goals as goal

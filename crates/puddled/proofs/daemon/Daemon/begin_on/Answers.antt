@@ -90,7 +90,7 @@ invariant_of-self-2 g c =
     let frames = c.self.inside.frames in (
       i.0,
       i.1,
-      subst (AreActiveWithin frames) (sym c.put_transaction.ensures.held)
+      subst (AreActiveWithin frames) (sym c.put_transaction.ensures.active)
           (AreActiveWithin-set frames c.self.inside.opened c.in-Some.number _ i.2 (λ h now. subst (IsActiveWithin frames) (same_Some c.in_ok-opened.opened h now) c.in_ok-opened.ensures.within)),
       i.3,
     )
@@ -114,7 +114,7 @@ returns-clause-applies g c = λ t size e w at ready free known may.
     let new = g.H.Host.state c.begin.new.h in
     let begins = begins_in size w c.args.self.now view (g.H.Host.state c.args.h.now) mid ready c.args.client c.args.name free c.args.slot at may c.requires.shut c.requires.within
     (sym c.self.view_is) (reading.stays t) known (λ many. let no : Ok tt ≡ Err Logs = sym c.in_default-enter.is ∙ c.enter.ensures.logs.1 many in cc) number (sym c.in-Some.is ∙ c.in_ok-number.ensures.lowest t) c.requires.slot in
-    let active = c.put_transaction.ensures.held ∙ ap (λ (h : ActiveTransaction). set i.opened number (Some h)) c.in_ok-opened.ensures.opened in
+    let active = c.put_transaction.ensures.active ∙ ap (λ (h : ActiveTransaction). set i.opened number (Some h)) c.in_ok-opened.ensures.opened in
     let sessions = c.in_default-enter.ensures.entered in
     Applies-behind_reads size w _ (Begin c.args.client c.args.name) None _ _ _ begins.free (reading.stays t)
     (subst (λ (l : List (Option ActiveTransaction)). Applies size w (after w (Begin c.args.client c.args.name)) (record view { active = l; sessions = c.enter.new.self }) None mid new) (sym active)

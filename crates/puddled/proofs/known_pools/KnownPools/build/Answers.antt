@@ -2,7 +2,7 @@ use Rattle.std.proofs.Common.{List, Option, rules, refl, sym, ap, subst, ◌∙�
 use Rattle.std.proofs.lemmas.List.{set-get_or}
 use Rattle.known_pool.specs.Known.{Known}
 use Rattle.ready_daemon.specs.PoolKnowledge.{known_puddles_in, AreOnDevice, AreKnownPools}
-use Rattle.puddled.proofs.TransactionLines.Changing.{known_there, on_device_there, puddles_built, AreJudged-built}
+use Rattle.puddled.proofs.TransactionLines.Changing.{known_there, on_device_there, puddles_built, AreKnownPools-built}
 use Rattle.puddled.proofs.known_pools.KnownPools.build.Goals as goal
 use Rattle.puddled.proofs.known_pools.KnownPools.build.Goals.{in-Some, in-None}
 
@@ -17,7 +17,7 @@ returns-clause-judged g c = λ t image same before.
     let read = known_there pools c.args.slot _ c.index-self-slot.result (search rules) refl in
     let are = subst (λ (js : List (Option Known)). AreKnownPools c.args.frames js image) (sym c.self.view_is) before in
     elim c.match-self-slot.branch [
-      | in-Some b ↦ rw b.self-inside-is (AreJudged-built pools c.args.slot b.in-Some.pool b.build.new.self (read ∙ b.in-Some.is) b.build.ensures.puddles c.args.frames image (b.build.ensures.known t image same) are)
+      | in-Some b ↦ rw b.self-inside-is (AreKnownPools-built pools c.args.slot b.in-Some.pool b.build.new.self (read ∙ b.in-Some.is) b.build.ensures.puddles c.args.frames image (b.build.ensures.known t image same) are)
       | in-None b ↦ rw b.self-inside-is (subst (λ (js : List (Option Known)). AreKnownPools c.args.frames js image) (sym (set-get_or pools c.args.slot c.index-self-slot.result)) are)
     ]
 
