@@ -1,5 +1,5 @@
 -- What a verdict says of a log.
-use Rattle.std.proofs.Common.{◌≡◌, inl, inr, ℕ, ◌<◌, ◌≤◌, true, false, List, Option, Some, None, refl, sym, ◌∙◌, arith}
+use Rattle.std.proofs.Common.{◌≡◌, inl, inr, ℕ, ◌<◌, ◌≤◌, true, false, List, Option, Some, None, refl, sym, subst, ◌∙◌, arith}
 use Rattle.std.proofs.lemmas.Bool.{cases_Bool, cond-true, cond-false}
 use Rattle.std.proofs.lemmas.Option.{none-some}
 use Rattle.pud_defs.specs.Formats.Image.{Image}
@@ -11,7 +11,9 @@ use Rattle.pud_defs.specs.Logging.Allowed.{puddle_word, is_allowed_log, is_accep
 use Rattle.pud_defs.specs.Logging.Settled.{ALL_LOGS, client_of_log, log_number_at, given_by_log, is_accepted_log}
 use Rattle.pud_defs.proofs.RegistryTables.TablesOf.{frames_of_tables}
 use Rattle.pud_defs.proofs.Logging.Accepted.{gives_to-none_counts, gives_to-not_accepted, NamesFrame, accepted_entries}
-use Rattle.log_replay.specs.Replaying.{NamesApart, IsReplayable}
+use Rattle.log_entry.specs.Copying.{Copied}
+use Rattle.log_replay.specs.declared.Target.TheVariants.{Puddles}
+use Rattle.log_replay.specs.Replaying.{NamesApart, address_map_of, IsReplayable, IsPlacedCopy}
 use Rattle.recover.specs.declared.judge.Mark.{Mark}
 use Rattle.recover.specs.declared.judge.Mark.TheVariants.{Closed, Replayed, Refused}
 use Rattle.recover.specs.Verdicts.{mark_for, verdict_by, verdict_of}
@@ -110,3 +112,14 @@ may_be_replayed F number size image known room accepted =
         apart = λ k d below counts. apart_in_frame F number size image _ known room (a.each k d below counts);
       };
     }
+
+-- What holds of a log that may be replayed from its copy, as a device reads it and by the word of its gate, holds of an accepted log by its number.
+pub replayed_by_number : (F number size : ℕ) (read image : Image) (copy : Copied) → read ≡ image → number < ALL_LOGS → device_words F ≤ size → is_accepted_log F image number ≡ true
+    → IsPlacedCopy (Puddles F) (log_number_at F number) image copy → (P : ℕ → Type 0) (at : ℕ) → at ≡ log_number_at F number
+    → ((es : List Entry) → IsReplayable (address_map_of (Puddles F) read) size at es read → IsPlacedCopy (Puddles F) at read copy → P at) → P (log_number_at F number)
+replayed_by_number F number size read image copy is known room accepted placed P at there holds =
+    let may = may_be_replayed F number size image known room accepted in
+    let here = subst (λ (k : ℕ). (es : List Entry) → IsReplayable (address_map_of (Puddles F) read) size k es read → IsPlacedCopy (Puddles F) k read copy → P k) there holds in
+    here may.es
+    (subst (λ (i : Image). IsReplayable (address_map_of (Puddles F) i) size (log_number_at F number) may.es i) (sym is) may.replayable)
+    (subst (λ (i : Image). IsPlacedCopy (Puddles F) (log_number_at F number) i copy) (sym is) placed)

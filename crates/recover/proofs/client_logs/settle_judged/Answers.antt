@@ -1,12 +1,10 @@
-use Rattle.std.proofs.Common.{◌≡◌, ◌∙◌, ℕ, Some, None, true, false, refl, sym, ap, subst}
+use Rattle.std.proofs.Common.{◌≡◌, ◌∙◌, Some, None, true, false, refl, sym, ap}
 use Rattle.pm_model.specs.Words.{reads}
 use Rattle.pm_model.specs.Counts.{fault_of}
 use Rattle.pm_model.specs.Changes.{Leaves, Silently}
-use Rattle.pud_defs.specs.Formats.Image.{Image}
-use Rattle.pud_defs.specs.Logging.Settled.{log_number_at}
 use Rattle.log_replay.specs.declared.Target.TheVariants.{Puddles}
-use Rattle.log_replay.specs.Replaying.{address_map_of, IsPlacedCopy, IsReplayable, IsSettling, SettlesLog}
-use Rattle.recover.proofs.Accepting.{of_replayed, of_refused, not_accepted_gives_nothing, may_be_replayed}
+use Rattle.log_replay.specs.Replaying.{IsSettling, SettlesLog}
+use Rattle.recover.proofs.Accepting.{of_replayed, of_refused, not_accepted_gives_nothing, replayed_by_number}
 use Rattle.recover.proofs.LogRecovered.{RecoversLog-still, RecoversLogAtEachMoment-still, RecoversLog-settled, RecoversLogAtEachMoment-settled, durable_log}
 use Rattle.recover.proofs.client_logs.settle_judged.Goals as goal
 
@@ -29,40 +27,26 @@ pub returns-in-Replayed-clause-takes : goal.returns-in-Replayed-clause-takes
 returns-in-Replayed-clause-takes g c = λ t image is found judged.
     let F = c.args.frames in
     let number = c.args.number in
-    let at = log_number_at F number in
     let old = g.H.Host.state c.args.h.now in
     let new = g.H.Host.state c.settle_copy.new.h in
     let size = (g.H.Host.counts c.args.h.now).size in
     let fault = fault_of c.settle_copy.result in
     let accepted = of_replayed F number image (sym found ∙ ap Some c.in-Replayed.is) in
-    let may = may_be_replayed F number size image c.requires.known c.requires.room accepted in
-    let settles = subst (λ (k : ℕ). (i : Image) → reads old.now.words ≡ i → IsReplayable (address_map_of (Puddles F) i) size k may.es i → IsPlacedCopy (Puddles F) k i c.args.judged.now.copy → SettlesLog (Puddles F) k fault old new)
-    c.log_number_at.ensures (λ i same r placed.
-    c.settle_copy.ensures.settles t size refl (Puddles F) may.es
-    (subst (λ (x : Image). IsReplayable (address_map_of (Puddles F) x) size c.log_number_at.result may.es x) (sym same) r)
-    (subst (λ (x : Image). IsPlacedCopy (Puddles F) c.log_number_at.result x c.args.judged.now.copy) (sym same) placed)) in
-    RecoversLog-settled F number image old is fault new accepted (settles image is may.replayable (judged.placed c.in-Replayed.is))
+    let by_number = replayed_by_number F number size (reads old.now.words) image c.args.judged.now.copy is c.requires.known c.requires.room accepted (judged.placed c.in-Replayed.is) in
+    let settles = by_number (λ at. SettlesLog (Puddles F) at fault old new) c.log_number_at.result c.log_number_at.ensures (c.settle_copy.ensures.settles t size refl (Puddles F)) in
+    RecoversLog-settled F number image old is fault new accepted settles
 
 pub returns-in-Replayed-clause-leaves : goal.returns-in-Replayed-clause-leaves
 returns-in-Replayed-clause-leaves g c = λ t image rested is found judged.
     let F = c.args.frames in
     let number = c.args.number in
-    let at = log_number_at F number in
     let old = g.H.Host.state c.args.h.now in
     let new = g.H.Host.state c.settle_copy.new.h in
     let size = (g.H.Host.counts c.args.h.now).size in
     let fault = fault_of c.settle_copy.result in
     let accepted = of_replayed F number image (sym found ∙ ap Some c.in-Replayed.is) in
-    let may = may_be_replayed F number size image c.requires.known c.requires.room accepted in
-    let settles = subst (λ (k : ℕ). (i : Image) → reads old.now.words ≡ i → IsReplayable (address_map_of (Puddles F) i) size k may.es i → IsPlacedCopy (Puddles F) k i c.args.judged.now.copy → SettlesLog (Puddles F) k fault old new)
-    c.log_number_at.ensures (λ i same r placed.
-    c.settle_copy.ensures.settles t size refl (Puddles F) may.es
-    (subst (λ (x : Image). IsReplayable (address_map_of (Puddles F) x) size c.log_number_at.result may.es x) (sym same) r)
-    (subst (λ (x : Image). IsPlacedCopy (Puddles F) c.log_number_at.result x c.args.judged.now.copy) (sym same) placed)) in
-    let moments = subst (λ (k : ℕ). (i : Image) → reads old.now.words ≡ i → IsReplayable (address_map_of (Puddles F) i) size k may.es i → IsPlacedCopy (Puddles F) k i c.args.judged.now.copy
-    → Leaves (Silently (IsSettling (Puddles F) k old.now.words)) old new)
-    c.log_number_at.ensures (λ i same r placed.
-    c.settle_copy.ensures.moments t size refl (Puddles F) may.es
-    (subst (λ (x : Image). IsReplayable (address_map_of (Puddles F) x) size c.log_number_at.result may.es x) (sym same) r)
-    (subst (λ (x : Image). IsPlacedCopy (Puddles F) c.log_number_at.result x c.args.judged.now.copy) (sym same) placed) (durable_log (Puddles F) c.log_number_at.result old.now.words rested)) in
-    RecoversLogAtEachMoment-settled F number image old is fault new accepted (settles image is may.replayable (judged.placed c.in-Replayed.is)) rested (moments image is may.replayable (judged.placed c.in-Replayed.is))
+    let by_number = replayed_by_number F number size (reads old.now.words) image c.args.judged.now.copy is c.requires.known c.requires.room accepted (judged.placed c.in-Replayed.is) in
+    let settles = by_number (λ at. SettlesLog (Puddles F) at fault old new) c.log_number_at.result c.log_number_at.ensures (c.settle_copy.ensures.settles t size refl (Puddles F)) in
+    let moments = by_number (λ at. Leaves (Silently (IsSettling (Puddles F) at old.now.words)) old new) c.log_number_at.result c.log_number_at.ensures
+    (λ es replayable placed. c.settle_copy.ensures.moments t size refl (Puddles F) es replayable placed (durable_log (Puddles F) c.log_number_at.result old.now.words rested)) in
+    RecoversLogAtEachMoment-settled F number image old is fault new accepted settles rested moments
