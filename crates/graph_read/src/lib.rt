@@ -1,5 +1,5 @@
 //! The graph of a pool, read from the words of its frames: where an object stands, where a pointer leads, what a field
-//! holds, and what its objects come to. No memory is taken.
+//! holds, and what its objects come to. No memory is taken but for an index.
 //!
 //! Each call takes the number of the device's frames, at most 1,024, on a device that has the words which so many frames
 //! need, and the pool: the frames and the records of its puddles by their ordinals, at most 16. It answers on every content

@@ -32,7 +32,7 @@ struct Object {
 
 /// A deferred value, which comes at the commit.
 #[derive(Clone, Copy)]
-struct Later {
+struct DeferredValue {
     serial: u64,
     f: u8,
     x: Value,
@@ -44,7 +44,7 @@ struct Open {
     client: u8,
     depth: u8,
     units: u16,
-    laters: Vec<Later>,
+    deferred: Vec<DeferredValue>,
     /// The objects and the root as it began.
     objects: Vec<Object>,
     root: u64,
@@ -99,7 +99,7 @@ impl Object {
     }
 }
 
-impl Later {
+impl DeferredValue {
     /// Whether it is one of a field of the object of this serial, or a pointer to it.
     fn names(&self, serial: u64) -> bool {
         match self.x {
@@ -222,12 +222,12 @@ impl Pool {
     }
 
     /// Whether the root or a pointer of an object references the object, or a deferred value names it.
-    fn is_held(&self, serial: u64) -> bool {
+    fn is_referenced(&self, serial: u64) -> bool {
         if self.objects.iter().any(|object| object.names(serial)) {
             return true;
         }
         match &self.open {
-            Some(open) if open.laters.iter().any(|later| later.names(serial)) => true,
+            Some(open) if open.deferred.iter().any(|value| value.names(serial)) => true,
             _ => self.root == serial,
         }
     }
@@ -236,7 +236,7 @@ impl Pool {
         if self.object(serial).is_none() {
             return Some("object");
         }
-        if self.is_held(serial) {
+        if self.is_referenced(serial) {
             return Some("held");
         }
         self.refusal_by_units()
@@ -271,9 +271,9 @@ impl Pool {
         }
     }
 
-    fn ask_later(&mut self, rt: &impl Abort, later: Later) {
+    fn defer(&mut self, rt: &impl Abort, value: DeferredValue) {
         if let Some(open) = &mut self.open {
-            open.laters.push(later).expect(rt, "memory");
+            open.deferred.push(value).expect(rt, "memory");
         }
     }
 
@@ -293,7 +293,7 @@ impl Pool {
                     client,
                     depth: 1,
                     units: 0,
-                    laters: Vec::new(alloc),
+                    deferred: Vec::new(alloc),
                     objects,
                     root: self.root,
                 });
@@ -311,8 +311,8 @@ impl Pool {
     /// The deferred values come, in order, and the transaction ends.
     fn end(&mut self) {
         if let Some(open) = self.open.take() {
-            for later in open.laters.iter() {
-                self.set(later.serial, later.f, later.x);
+            for value in open.deferred.iter() {
+                self.set(value.serial, value.f, value.x);
             }
         }
     }
@@ -348,7 +348,7 @@ impl Pool {
     fn change(&mut self, rt: &impl Abort, ask: Ask) {
         match ask {
             Ask::Set(serial, f, x) => self.set(serial, f, x),
-            Ask::Later(serial, f, x) => self.ask_later(rt, Later { serial, f, x }),
+            Ask::Later(serial, f, x) => self.defer(rt, DeferredValue { serial, f, x }),
             Ask::Root(serial) => self.root = serial,
             Ask::Free(serial) => self.free(serial),
             _ => return,
