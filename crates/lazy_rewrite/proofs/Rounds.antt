@@ -1,18 +1,23 @@
 -- The batches of one puddle: from where to where each goes.
-use Rattle.std.proofs.Common.{◌≡◌, ℕ, ◌+◌, ◌-◌, ◌*◌, ◌<◌, ◌≤◌, min, List, length, Some, sym, ap, ◌∙◌, subst, arith}
+use Rattle.std.proofs.Common.{◌≡◌, ℕ, ◌+◌, ◌-◌, ◌*◌, ◌<◌, ◌≤◌, min, List, length, Option, Some, None, refl, sym, ap, ◌∙◌, subst, arith}
 use Rattle.std.specs.Prelude.{slice_get, slice_index_or}
 use Rattle.std.proofs.lemmas.List.{length-set}
-use Rattle.std.proofs.lemmas.Option.{slice_get_within, get_or_from_slice_get}
+use Rattle.std.proofs.lemmas.Option.{slice_get_within, slice_get-get_or, get_or_from_slice_get}
+use Rattle.pm_model.specs.declared.host.HostFault.{HostFault}
+use Rattle.pm_model.specs.Moments.{State}
+use Rattle.pud_defs.specs.declared.layout.TheConstants.{DAEMON_LOG}
 use Rattle.pud_defs.specs.declared.space.TheConstants.{LAST_FRONTIER}
 use Rattle.pud_defs.specs.declared.records.Puddle.{Puddle}
 use Rattle.pud_defs.specs.RegistryTables.Puddles.{moved_to}
 use Rattle.graph_laws.specs.Steps.{with_steps}
 use Rattle.graph_read.proofs.Pointed.{no_puddle}
+use Rattle.batch.specs.Batches.{HasIdleGate}
 use Rattle.lazy_rewrite.specs.declared.batches.TheConstants.{BATCH_STEPS}
 use Rattle.lazy_rewrite.specs.Entries.{HasLowBases}
 use Rattle.lazy_rewrite.specs.Frontiers.{steps_left, frontier_after, stepped_at, frontier_at}
-use Rattle.lazy_rewrite.specs.Batches.{AreNextSteps}
+use Rattle.lazy_rewrite.specs.Batches.{AreNextSteps, RewritesOnce, Rewrites}
 use Rattle.lazy_rewrite.proofs.Moved.{with_steps-none, with_steps-twice, with_steps-there, stepped_at-there, frontier_at-there, low_bases-steps}
+use Rattle.lazy_rewrite.proofs.Turns.{Rewrites-more, Rewrites-idle}
 
 -- how many steps are left of a puddle, as it was read of the pool that was lent
 pub left_read : (at lent : List (ℕ × Puddle)) (o left : ℕ) (e : ℕ × Puddle) → lent ≡ at → slice_get at o ≡ Some e → left ≡ steps_left (slice_index_or lent o no_puddle).1 → left ≡ steps_left e.1
@@ -81,3 +86,21 @@ module _ (at : List (ℕ × Puddle)) (o n : ℕ) (e : ℕ × Puddle) (here : sli
             ∙ ap (with_steps o to_next current) (pool ∙ ap (λ k. with_steps o k e at) (sym from_is))
             ∙ with_steps-twice at o e here from_now to_next
             ∙ ap (λ k. with_steps o k e at) to_is
+
+-- the batches before a round, and then its own, whether or not it fails
+pub rewrites_round : (F : ℕ) (at lent now later : List (ℕ × Puddle)) (o n left steps round top : ℕ) (fault : Option HostFault) (old mid new : State)
+    → o < length at → lent ≡ at → left ≡ steps_left (slice_index_or lent o no_puddle).1 → steps ≡ min left n → BATCH_STEPS * round < steps → top ≡ min steps (BATCH_STEPS * (round + 1))
+    → ((e : ℕ × Puddle) → slice_get at o ≡ Some e → now ≡ with_steps o (e.1.frontier + min (BATCH_STEPS * round) steps) e at)
+    → HasIdleGate DAEMON_LOG old.now.words → HasLowBases at → Rewrites F (frontier_at o (stepped_at o n at)) at now None old mid
+    → (HasIdleGate DAEMON_LOG mid.now.words → HasLowBases now → (goal : ℕ → ℕ) (e : ℕ × Puddle) → e.1.frontier ≡ LAST_FRONTIER - left + BATCH_STEPS * round
+    → AreNextSteps now goal o (LAST_FRONTIER - left + top) e → RewritesOnce F goal now later fault mid new)
+    → Rewrites F (frontier_at o (stepped_at o n at)) at later fault old new
+rewrites_round F at lent now later o n left steps round top fault old mid new within same left_read_is steps_is below top_is reaches idle low so_far batch =
+    let e = slice_index_or at o no_puddle in
+    let here = slice_get-get_or at o no_puddle within in
+    let left_is = left_read at lent o left e same here left_read_is in
+    let pool = reaches e here in
+    let goal = frontier_at o (stepped_at o n at) in
+    Rewrites-more F goal at now later fault old mid new so_far
+    (batch (Rewrites-idle F goal at now old mid so_far idle) (low_now at o n e here left steps left_is steps_is round now pool F low) goal
+    (current at o n e here left steps left_is steps_is round now pool below) refl (next_steps at o n e here left steps left_is steps_is round now pool below top top_is))

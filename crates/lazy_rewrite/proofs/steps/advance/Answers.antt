@@ -8,8 +8,8 @@ use Rattle.graph_read.proofs.Pointed.{no_puddle}
 use Rattle.log_replay.specs.Replaying.{Anything}
 use Rattle.lazy_rewrite.specs.declared.batches.TheConstants.{BATCH_STEPS}
 use Rattle.lazy_rewrite.specs.Frontiers.{stepped_at, frontier_at}
-use Rattle.lazy_rewrite.proofs.Turns.{Rewrites-none, Rewrites-more, Rewrites-idle}
-use Rattle.lazy_rewrite.proofs.Rounds.{left_read, reached-start, reached-end, within_now, low_now, current, here_now, next_steps, pool_next}
+use Rattle.lazy_rewrite.proofs.Turns.{Rewrites-none}
+use Rattle.lazy_rewrite.proofs.Rounds.{left_read, reached-start, reached-end, within_now, current, here_now, pool_next, rewrites_round}
 use Rattle.lazy_rewrite.proofs.steps.advance.Goals as goal
 
 pub loop-round-init : goal.loop-round-init
@@ -35,26 +35,10 @@ pub returns-in_err-rewrite_batch-clause-rewrites : goal.returns-in_err-rewrite_b
 returns-in_err-rewrite_batch-clause-rewrites g c =
     let p = err_from_is_err_and c.from_residual.result c.from_residual.ensures.1 in
     rw (p.1, p.2) (λ t size same idle low.
-    let pool = c.args.pool.now in
-    let o = c.args.ordinal in
-    let e = slice_index_or pool o no_puddle in
-    let here = slice_get-get_or pool o no_puddle c.requires.within in
-    let left_is = left_read c.args.pool.now c.as_slice.result.now c.args.ordinal c.steps_left-left.result e c.as_slice.ensures.puddles here c.steps_left-left.ensures in
-    let now = c.loop-round.pool in
-    let round = c.loop-round.round in
-    let is = c.loop-round.invariant.pool e here in
-    let below : BATCH_STEPS * round < c.min-steps.result = omega (arith, c.div_ceil-round-end.ensures) in
-    let aims = frontier_at o (stepped_at o c.args.n pool) in
-    let left = c.steps_left-left.result in
-    let steps = c.min-steps.result in
-    let a = g.H.Host.state c.args.h.now in
-    let b = g.H.Host.state c.loop-round.h in
-    let so_far = c.loop-round.invariant.rewrites t size same idle low in
-    Rewrites-more c.args.frames aims pool now c.rewrite_batch.new.pool (Some c.in_err-rewrite_batch.field-0.0) a b (g.H.Host.state c.rewrite_batch.new.h) so_far
-    (c.in_err-rewrite_batch.ensures.rewrites t size (same ∙ ap (λ (x : Counts). x.size) (sym c.loop-round.invariant.cause)) (Rewrites-idle c.args.frames aims pool now a b so_far idle)
-    (low_now pool o c.args.n e here left steps left_is c.min-steps.ensures round now is c.args.frames low) aims
-    (current pool o c.args.n e here left steps left_is c.min-steps.ensures round now is below) refl
-    (next_steps pool o c.args.n e here left steps left_is c.min-steps.ensures round now is below c.min.result c.min.ensures)))
+    rewrites_round c.args.frames c.args.pool.now c.as_slice.result.now c.loop-round.pool c.rewrite_batch.new.pool c.args.ordinal c.args.n c.steps_left-left.result c.min-steps.result c.loop-round.round c.min.result
+    (Some c.in_err-rewrite_batch.field-0.0) (g.H.Host.state c.args.h.now) (g.H.Host.state c.loop-round.h) (g.H.Host.state c.rewrite_batch.new.h)
+    c.requires.within c.as_slice.ensures.puddles c.steps_left-left.ensures c.min-steps.ensures (omega (arith, c.div_ceil-round-end.ensures)) c.min.ensures c.loop-round.invariant.pool
+    idle low (c.loop-round.invariant.rewrites t size same idle low) (c.in_err-rewrite_batch.ensures.rewrites t size (same ∙ ap (λ (x : Counts). x.size) (sym c.loop-round.invariant.cause))))
 
 pub returns-in_err-rewrite_batch-clause-any : goal.returns-in_err-rewrite_batch-clause-any
 returns-in_err-rewrite_batch-clause-any g c =
@@ -79,26 +63,10 @@ loop-round-preserved g c = record {
       pool_next pool o c.args.n e here left steps left_is c.min-steps.ensures round now is below c.min.result c.min.ensures c.rewrite_batch.new.pool
       (c.in_ok-rewrite_batch.ensures.pool (current pool o c.args.n e here left steps left_is c.min-steps.ensures round now is below) (here_now pool o c.args.n e here left steps left_is c.min-steps.ensures round now is below));
   rewrites = λ t size same idle low.
-      let pool = c.args.pool.now in
-      let o = c.args.ordinal in
-      let e = slice_index_or pool o no_puddle in
-      let here = slice_get-get_or pool o no_puddle c.requires.within in
-      let left_is = left_read c.args.pool.now c.as_slice.result.now c.args.ordinal c.steps_left-left.result e c.as_slice.ensures.puddles here c.steps_left-left.ensures in
-      let now = c.loop-round.pool in
-      let round = c.loop-round.round in
-      let is = c.loop-round.invariant.pool e here in
-      let below : BATCH_STEPS * round < c.min-steps.result = omega (arith, c.div_ceil-round-end.ensures) in
-      let aims = frontier_at o (stepped_at o c.args.n pool) in
-      let left = c.steps_left-left.result in
-      let steps = c.min-steps.result in
-      let a = g.H.Host.state c.args.h.now in
-      let b = g.H.Host.state c.loop-round.h in
-      let so_far = c.loop-round.invariant.rewrites t size same idle low in
-      Rewrites-more c.args.frames aims pool now c.rewrite_batch.new.pool None a b (g.H.Host.state c.rewrite_batch.new.h) so_far
-      (c.in_ok-rewrite_batch.ensures.rewrites t size (same ∙ ap (λ (x : Counts). x.size) (sym c.loop-round.invariant.cause)) (Rewrites-idle c.args.frames aims pool now a b so_far idle)
-      (low_now pool o c.args.n e here left steps left_is c.min-steps.ensures round now is c.args.frames low) aims
-      (current pool o c.args.n e here left steps left_is c.min-steps.ensures round now is below) refl
-      (next_steps pool o c.args.n e here left steps left_is c.min-steps.ensures round now is below c.min.result c.min.ensures));
+      rewrites_round c.args.frames c.args.pool.now c.as_slice.result.now c.loop-round.pool c.rewrite_batch.new.pool c.args.ordinal c.args.n c.steps_left-left.result c.min-steps.result c.loop-round.round c.min.result
+      None (g.H.Host.state c.args.h.now) (g.H.Host.state c.loop-round.h) (g.H.Host.state c.rewrite_batch.new.h)
+      c.requires.within c.as_slice.ensures.puddles c.steps_left-left.ensures c.min-steps.ensures (omega (arith, c.div_ceil-round-end.ensures)) c.min.ensures c.loop-round.invariant.pool
+      idle low (c.loop-round.invariant.rewrites t size same idle low) (c.in_ok-rewrite_batch.ensures.rewrites t size (same ∙ ap (λ (x : Counts). x.size) (sym c.loop-round.invariant.cause)));
 }
 
 pub returns-clause-steps : goal.returns-clause-steps
