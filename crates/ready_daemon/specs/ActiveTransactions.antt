@@ -66,10 +66,10 @@ pub record IsActiveUnder (w : World) (opens : Opens) (mask : Write) (words : Wor
   pub opened : opens number ≡ Some (open_transaction_of active is.puddles is.rec is.who is.before)
 
 -- one is active on the pool of the name
-pub record IsOpenUnder (active : List (Option ActiveTransaction)) (name : List ℕ) : Type 0 where
+pub record IsOpenUnder (all : List (Option ActiveTransaction)) (name : List ℕ) : Type 0 where
   pub number : ℕ
   pub active : ActiveTransaction
-  pub is : active_under active number ≡ Some active
+  pub is : active_under all number ≡ Some active
   pub name_is : active.name ≡ name
 
 -- The active transactions, each under the number of its log, are those that are open in the world, each on a pool of its own, and the words of all are
@@ -84,9 +84,9 @@ pub record AreActive (w : World) (active : List (Option ActiveTransaction)) (mas
   pub names : (n m : ℕ) (h g : ActiveTransaction) → active_under active n ≡ Some h → active_under active m ≡ Some g → h.name ≡ g.name → n ≡ m
 
 -- one is active under the number, on the pool whose record has this slot
-pub record IsActiveOn (active : List (Option ActiveTransaction)) (slot number : ℕ) : Type 0 where
+pub record IsActiveOn (all : List (Option ActiveTransaction)) (slot number : ℕ) : Type 0 where
   pub active : ActiveTransaction
-  pub is : active_under active number ≡ Some active
+  pub is : active_under all number ≡ Some active
   pub slot_is : active.slot ≡ slot
 
 -- the session of a transaction with the log of a number
@@ -112,9 +112,9 @@ pub record AreActiveWithin (F : ℕ) (active : List (Option ActiveTransaction)) 
   pub each : (number : ℕ) (h : ActiveTransaction) → active_under active number ≡ Some h → IsActiveWithin F h
 
 -- the client's own transaction is open on the pool of the name, and active under this number
-pub record IsOwnTransaction (client : ℕ) (name : List ℕ) (number : ℕ) (active : List (Option ActiveTransaction)) : Type 0 where
+pub record IsOwnTransaction (client : ℕ) (name : List ℕ) (number : ℕ) (all : List (Option ActiveTransaction)) : Type 0 where
   pub active : ActiveTransaction
-  pub is : active_under active number ≡ Some active
+  pub is : active_under all number ≡ Some active
   pub whose : active.client ≡ client
   pub pool : active.name ≡ name
 

@@ -56,7 +56,7 @@ module _ (active : List (Option ActiveTransaction)) (number : ℕ) (h later : Ac
   ]
 
   pub open_under_later : (name : List ℕ) → IsOpenUnder active name → IsOpenUnder next name
-  open_under_later name o = let still = still_active o.log_number o.active o.is in record { number = o.log_number; active = still.one; is = still.there; name_is = sym still.name ∙ o.name_is }
+  open_under_later name o = let still = still_active o.number o.active o.is in record { number = o.number; active = still.one; is = still.there; name_is = sym still.name ∙ o.name_is }
 
   active_on_later : (slot n : ℕ) → IsActiveOn active slot n → IsActiveOn next slot n
   active_on_later slot n o = let still = still_active n o.active o.is in record { active = still.one; is = still.there; slot_is = sym still.slot ∙ o.slot_is }

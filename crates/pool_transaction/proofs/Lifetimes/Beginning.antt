@@ -294,7 +294,7 @@ module _ (size : ℕ) (w : World) (memory : Memory) (old : State) (ready : IsRea
       let a = others_apart w h ready.mask old.now.words is in
       record {
         log = λ k v wrote inside. a.log k v (off k v wrote) inside;
-        has_word = λ k v wrote mine. a.active k v (off k v wrote) mine;
+        has_word = λ k v wrote mine. a.has_word k v (off k v wrote) mine;
         records = λ k v wrote of. a.records k v (off k v wrote) of;
       }
 
@@ -491,7 +491,7 @@ module _ (size : ℕ) (w : World) (memory : Memory) (old : State) (ready : IsRea
     unfolding after
     begun_world =
         let graph : graph_at_begin w name ≡ may.graph = ap (λ (o : Option Graph). unwrap_or o empty_graph) pool_graph in
-        ap₂ (λ (x : Graph) (o : Option Transaction). record w { transactions = with_open name (transactions.begun client x o) w.transactions }) graph vacant.shut
+        ap₂ (λ (x : Graph) (o : Option Transaction). record w { transactions = with_open name (transactions.open_after_begin client x o) w.transactions }) graph vacant.shut
 
     pub Applies-begun : (fault ≡ None → number < length memory.active) → Applies size w (after w (commands.Begin client name)) (with_begun (begins_as client name slot n number) memory) fault old new
     Applies-begun placed_there =
@@ -518,8 +518,8 @@ Applies-begins size w memory F client name slot number fault old new on below fe
     let high = of.high in
     let n = w.stored.frames in
     let same : n ≡ F = sym ready.frames ∙ on in
-    let may : MayBegin n client name (reads old.now.words) slot m.puddles = subst (λ (k : ℕ). MayBegin k client name (reads old.now.words) slot m.puddles) ready.frames m.may in
-    let vacant : IsVacant w memory client name slot number m.puddles = record {
+    let may : MayBegin n client name (reads old.now.words) slot m.at = subst (λ (k : ℕ). MayBegin k client name (reads old.now.words) slot m.at) ready.frames m.may in
+    let vacant : IsVacant w memory client name slot number m.at = record {
       slot_below = below;
       known = omega arith;
       whose = (let e : number / CLIENT_LOGS ≡ client = omega arith in e);
@@ -535,6 +535,6 @@ Applies-begins size w memory F client name slot number fault old new on below fe
     → KeepsRunning (pool_scope k (finished_of pool)) (begun_log (log_number_at k number)) [] before no_write fault old new)
     → Applies size w (after w (commands.Begin client name)) (with_begun (begins_as client name slot k number) memory) fault old new) same
     (λ persists runs.
-    Applies-begun size w memory old ready client name slot number m.puddles vacant may fault new persists
-    (runs m.puddles (reads old.now.words) (placed size w memory old ready client name slot number m.puddles vacant may) (idle size w memory old ready client name slot number m.puddles vacant may)) place)
+    Applies-begun size w memory old ready client name slot number m.at vacant may fault new persists
+    (runs m.at (reads old.now.words) (placed size w memory old ready client name slot number m.at vacant may) (idle size w memory old ready client name slot number m.at vacant may)) place)
     persists runs

@@ -99,7 +99,7 @@ module _ (F : ℕ) (own at : List (ℕ × Puddle)) (later : FinishesMore own at)
 
   pub wider_ground : ArePlacedPuddles F (finished_of own) → ArePlacedPuddles F (finished_of at) → IsWider (pool_scope F (finished_of own)) (pool_scope F (finished_of at))
   wider_ground was placed = record {
-    may_name = λ address count may.
+    may = λ address count may.
         let n = pool_may_name-named (finished_of own) address count may in
         let to = later.each n.ordinal n.puddle n.there in
         pool_may_name-from (finished_of at) address count (record { ordinal = to.0; puddle = n.puddle; there = to.1; low = n.low; high = n.high; aligned = n.aligned; some = n.some });

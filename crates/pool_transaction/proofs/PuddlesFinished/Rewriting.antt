@@ -265,12 +265,12 @@ module _ (size : ℕ) (w : World) (slot : ℕ) (low : slot < POOL_RECORDS) (goal
         Applies-shut size w memory slot kept old new ready is_kept goal o m e next used.0 low used.1 c shut
     | inl on ↦
         let active = on.1 in
-        let is = active_is w memory.active ready.mask old.now.words ready.active on.0.number active.active active.is in
+        let is = active_is w memory.active ready.mask old.now.words ready.active on.0.log_number active.active active.is in
         let here : known_pool_in memory.judged active.active.slot ≡ Some kept = ap (known_pool_in memory.judged) active.slot_is ∙ is_kept in
-        let same : kept.puddles ≡ is.puddles = sym (active_known size w memory old ready on.0.number active.active active.is kept.puddles (ap puddles_known here)) in
+        let same : kept.puddles ≡ is.puddles = sym (active_known size w memory old ready on.0.log_number active.active active.is kept.puddles (ap puddles_known here)) in
         subst (λ (ps : List (ℕ × Puddle)). AppliesBy Led size w w (knowing memory (with_puddles (with_steps o m e ps) kept)) None old new) (sym same)
         (subst (λ (i : ℕ). AppliesBy (MovesTo (led_in i (upto goal))) size w w (record memory { judged = set memory.judged i (Some (with_puddles (with_steps o m e is.puddles) kept)) }) None old new) active.slot_is
-        (Applies-active size w memory old new ready on.0.number active.active active.is kept here goal o m e
+        (Applies-active size w memory old new ready on.0.log_number active.active active.is kept here goal o m e
         (subst (λ (ps : List (ℕ × Puddle)). AreNextSteps ps goal o m e) same next) (subst (λ (ps : List (ℕ × Puddle)). CommitsSteps w.stored.frames ps o m e None old new) same c)))
   ]
 

@@ -151,12 +151,12 @@ module _ (size : ℕ) (w : World) (memory : Memory) (slot : ℕ) (at : List (ℕ
         (known_graph.graph, ap (λ (ts : List (ℕ × ℕ)). graph_of ts (stored_in F at (reads under))) types_masked ∙ ap (graph_of (types_of image)) (stored_in-has_word F at image (reads under) (shut_word shut)) ∙ known_graph.stored)
     | inl on ↦
         let active = on.1 in
-        let is = active_is w memory.active mask old.now.words ready.active on.0.number active.active active.is in
-        let same : is.puddles ≡ at = active_known size w memory old ready on.0.number active.active active.is at (ap (known_puddles_in memory.judged) active.slot_is ∙ known) in (
+        let is = active_is w memory.active mask old.now.words ready.active on.0.log_number active.active active.is in
+        let same : is.puddles ≡ at = active_known size w memory old ready on.0.log_number active.active active.is at (ap (known_puddles_in memory.judged) active.slot_is ∙ known) in (
           is.graph_before,
           ap (λ (ts : List (ℕ × ℕ)). graph_of ts (stored_in F at (reads under))) (types_masked ∙ (types_read size w memory old ready).types)
               ∙ ap (λ (ps : List (ℕ × Puddle)). graph_of w.stored.types (stored_in F ps (reads under))) (sym same)
-              ∙ ap (graph_of w.stored.types) (stored_in-has_word F is.puddles is.before (reads under) (active_word on.0.number active.active active.is))
+              ∙ ap (graph_of w.stored.types) (stored_in-has_word F is.puddles is.before (reads under) (active_word on.0.log_number active.active active.is))
               ∙ is.running.was,
         )
   ]

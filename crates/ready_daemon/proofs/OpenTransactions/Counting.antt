@@ -90,7 +90,7 @@ module _ (size : ℕ) (w : World) (memory : Memory) (s : State) (ready : IsReady
   free_slot slot None free e = refl
   free_slot slot (Some x) free e =
       let on = ready.sessions.only slot x e in
-      let pool = active_pool w memory.active ready.mask s.now.words ready.active x.number on.active on.is in
+      let pool = active_pool w memory.active ready.mask s.now.words ready.active x.log_number on.active on.is in
       absurd (none-some pool.rec (sym free ∙ ap t.pools (sym on.slot_is) ∙ pool.used))
 
   each_slot : (slot : ℕ) (r : Option PoolRecord) → t.pools slot ≡ r → worth name_cmp counts (entry_of hold (puddles_of t slot) r) ≡ number_of (is_of_client client (session slot))

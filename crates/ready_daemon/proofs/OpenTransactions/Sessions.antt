@@ -28,9 +28,9 @@ use Rattle.ready_daemon.proofs.PoolChanges.PoolsBeside.{used_still}
 use Rattle.ready_daemon.proofs.PoolChanges.TablesBeside.{sound_read}
 
 -- The session in the slot is that of a transaction on the pool of the name, which is active under its number.
-pub record IsSessionOf (w : World) (active : List (Option ActiveTransaction)) (name : List ℕ) (slot : ℕ) (session : Session) : Type 0 where
+pub record IsSessionOf (w : World) (all : List (Option ActiveTransaction)) (name : List ℕ) (slot : ℕ) (session : Session) : Type 0 where
   pub active : ActiveTransaction
-  pub is : active_under active session.log_number ≡ Some active
+  pub is : active_under all session.log_number ≡ Some active
   pub slot_is : active.slot ≡ slot
   pub name_is : active.name ≡ name
   pub transaction : Transaction

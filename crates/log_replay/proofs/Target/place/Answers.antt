@@ -1,4 +1,4 @@
-use Rattle.std.proofs.Common.{◌≡◌, sym, ap, subst, ◌∙◌}
+use Rattle.std.proofs.Common.{◌≡◌, sym, ap, subst}
 use Rattle.std.specs.Prelude.{IfOk}
 use Rattle.log_entry.specs.Copying.{log_copied}
 use Rattle.log_replay.specs.declared.Target.{Target}

@@ -63,7 +63,7 @@ returns-clause-within g c =
     record {
       slot = was.slot;
       client = was.client;
-      number = was.log_number;
+      number = was.number;
       gate = c.carry_out-done.ensures.at ∙ was.gate;
       units = omega (arith, counted, few);
     }

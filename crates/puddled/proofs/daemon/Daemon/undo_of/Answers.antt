@@ -16,7 +16,7 @@ loop-number-init g c =
       frames = refl;
       rest = λ t. KeepsRest-still _ _ refl;
       none = record { each = λ number low high. absurd (omega arith) };
-      graph_before = λ t size e w ready. IsUndone-start size w c.args.client c.args.self.now (g.H.Host.state c.args.h.now) ready;
+      undone = λ t size e w ready. IsUndone-start size w c.args.client c.args.self.now (g.H.Host.state c.args.h.now) ready;
     }
 
 pub loop-number-preserved : goal.loop-number-preserved
@@ -29,13 +29,13 @@ loop-number-preserved g c =
       frames = u.frames ∙ before.frames;
       rest = λ t. KeepsRest-then _ _ _ (before.rest t) (u.rest t);
       none = AreUndone-more c.args.client l.number l.self.active c.undo.new.self.active u.active before.none;
-      graph_before = λ t size e w ready.
+      undone = λ t size e w ready.
           let from = c.from-first.ensures in
           let low = l.auto.number in
           let high = c.loop-number-test.true in
           let own : client_of_log l.number ≡ c.args.client = omega arith in
           let same = e ∙ sym (ap (λ (n : Counts). n.size) before.counts) in
-          let so_far = before.graph_before t size e w ready in
+          let so_far = before.undone t size e w ready in
           let then = so_far.applies.ready refl in
           IsUndone-more size w c.args.client l.number l.self c.undo.new.self (g.H.Host.state c.args.h.now) (g.H.Host.state l.h) (g.H.Host.state c.undo.new.h) so_far own
           (u.applies t size same _ then) (u.behind t size same _ then);
@@ -47,7 +47,7 @@ returns-in_err-undo-clause-applies g c =
     rw (p.1, p.2) (λ t size e w ready.
     let l = c.loop-number in
     let same = e ∙ sym (ap (λ (n : Counts). n.size) l.invariant.counts) in
-    let so_far = l.invariant.graph_before t size e w ready in
+    let so_far = l.invariant.undone t size e w ready in
     Applies-interrupted size w c.args.client l.number l.self c.undo.new.self (g.H.Host.state c.args.h.now) (g.H.Host.state l.h) (g.H.Host.state c.undo.new.h) so_far c.in_err-undo.field-0.0
     (c.in_err-undo.ensures.applies t size same _ (so_far.applies.ready refl)))
 
@@ -57,7 +57,7 @@ returns-in_err-undo-clause-behind g c =
     rw (p.1, p.2) (λ t size e w ready.
     let l = c.loop-number in
     let same = e ∙ sym (ap (λ (n : Counts). n.size) l.invariant.counts) in
-    let so_far = l.invariant.graph_before t size e w ready in
+    let so_far = l.invariant.undone t size e w ready in
     Changes-then (BehindTables w.stored.frames) (Some c.in_err-undo.field-0.0) (g.H.Host.state c.args.h.now) (g.H.Host.state l.h) (g.H.Host.state c.undo.new.h) so_far.behind
     (c.in_err-undo.ensures.behind t size same _ (so_far.applies.ready refl)))
 
@@ -66,8 +66,8 @@ returns-clause-applies g c = λ t size e w ready.
     let l = c.loop-number in
     let from = c.from-first.ensures in
     let past = c.loop-number-test.false in
-    Applies-all size w c.args.client l.self (g.H.Host.state c.args.h.now) (g.H.Host.state l.h) (l.invariant.graph_before t size e w ready)
+    Applies-all size w c.args.client l.self (g.H.Host.state c.args.h.now) (g.H.Host.state l.h) (l.invariant.undone t size e w ready)
     (record { each = λ number low high. l.invariant.none.each number low (omega arith) })
 
 pub returns-clause-behind : goal.returns-clause-behind
-returns-clause-behind g c = λ t size e w ready. (c.loop-number.invariant.graph_before t size e w ready).behind
+returns-clause-behind g c = λ t size e w ready. (c.loop-number.invariant.undone t size e w ready).behind

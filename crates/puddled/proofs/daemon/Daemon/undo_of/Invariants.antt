@@ -10,6 +10,6 @@ invariant-loop-number g l = record {
   frames : l.self.frames ≡ l.initial.self.frames;
   rest : g.H.Host.tells → KeepsRest (g.H.Host.state l.initial.h) (g.H.Host.state l.h);
   none : AreUndone l.client l.number l.self.active;
-  graph_before : g.H.Host.tells → (size : ℕ) → size ≡ (g.H.Host.counts l.initial.h).size → (w : World) → IsReady size w l.initial.self (g.H.Host.state l.initial.h)
+  undone : g.H.Host.tells → (size : ℕ) → size ≡ (g.H.Host.counts l.initial.h).size → (w : World) → IsReady size w l.initial.self (g.H.Host.state l.initial.h)
       → IsUndone size w l.client l.self (g.H.Host.state l.initial.h) (g.H.Host.state l.h);
 }
