@@ -287,9 +287,9 @@ module _ (w : World) (client : ℕ) (name file : List ℕ) where
 
   pub exported_step : (contents : FileContents) (bytes : List ℕ) → refusal_of w exports ≡ None → contents_of_pool w.stored.types (pool_named name w.stored) ≡ Some contents → file_graph bytes ≡ Some contents
       → StepBy w (Some exports) (of_reply replies.Ok) (record w { shelf = with_file (name_text file) bytes w.shelf })
-  exported_step contents bytes free active cause_holds =
+  exported_step contents bytes free held holds =
       let shelf = with_file (name_text file) bytes w.shelf in
-      let given : Exports w name (name_text file) shelf = record { contents = contents; active = active; bytes = bytes; holds = cause_holds; given = refl } in
+      let given : Exports w name (name_text file) shelf = record { contents = contents; held = held; bytes = bytes; holds = holds; given = refl } in
       inl (record {
         answered = sym (answer_is_ok w exports refl refl free);
         gives = record {

@@ -30,9 +30,9 @@ returns-after-judged-own-clause-reply g c = λ t size e w sessions client name r
     elim c.match-judged-own.branch [
       | in-Some-pools b ↦
           let known = read ∙ b.in-Some-pools.is in
-          rw b.result-is (subst (λ (x : Command). IfOk b.change.result (λ reply. of_reply reply ≡ answer_by w (Some x)))
+          rw b.result-is (subst (λ (x : Command). IfOk b.carry_out_change.result (λ reply. of_reply reply ≡ answer_by w (Some x)))
           (asked size w c.args.frames c.args.all.now sessions c.args.judged.now _ ready client name c.args.own.slot c.args.own.log_number own mine there b.in-Some-pools.pool known c.args.change)
-          (b.change.ensures.reply t size e w _ (active_in size w c.args.frames c.args.all.now sessions c.args.judged.now _ ready client name c.args.own.slot c.args.own.log_number own mine there b.in-Some-pools.pool known) ready))
+          (b.carry_out_change.ensures.reply t size e w _ (active_in size w c.args.frames c.args.all.now sessions c.args.judged.now _ ready client name c.args.own.slot c.args.own.log_number own mine there b.in-Some-pools.pool known) ready))
       | in-None-pools b ↦ absurd (is_known size w c.args.frames c.args.all.now sessions c.args.judged.now _ ready client name c.args.own.slot c.args.own.log_number own (read ∙ b.in-None-pools.is))
     ]
 
@@ -49,15 +49,15 @@ returns-after-judged-own-clause-applies g c = λ t size e w sessions client name
           let known = read ∙ b.in-Some-pools.is in
           rw (b.result-is, b.all-is, b.judged-inside-is, b.h-is)
           (Applies-changed size w c.args.frames c.args.all.now sessions pools s then client name c.args.own.slot c.args.own.log_number own mine there b.in-Some-pools.pool known c.args.change
-          b.change.new.self b.change.new.pool (fault_of b.change.result) _
-          (b.change.ensures.applies t size e w _ (active_in size w c.args.frames c.args.all.now sessions pools s then client name c.args.own.slot c.args.own.log_number own mine there b.in-Some-pools.pool known) then))
+          b.carry_out_change.new.self b.carry_out_change.new.pool (fault_of b.carry_out_change.result) _
+          (b.carry_out_change.ensures.applies t size e w _ (active_in size w c.args.frames c.args.all.now sessions pools s then client name c.args.own.slot c.args.own.log_number own mine there b.in-Some-pools.pool known) then))
       | in-None-pools b ↦ absurd (is_known size w c.args.frames c.args.all.now sessions pools s then client name c.args.own.slot c.args.own.log_number own (read ∙ b.in-None-pools.is))
     ]
 
 pub returns-after-judged-own-clause-within : goal.returns-after-judged-own-clause-within
 returns-after-judged-own-clause-within g c = elim c.match-judged-own.branch [
   | in-Some-pools b ↦
-      rw b.all-is (AreActiveWithin-set _ _ _ (Some b.change.new.self) c.requires.within (λ h now. subst (IsActiveWithin c.args.frames) (same_Some b.change.new.self h now) b.change.ensures.within))
+      rw b.all-is (AreActiveWithin-set _ _ _ (Some b.carry_out_change.new.self) c.requires.within (λ h now. subst (IsActiveWithin c.args.frames) (same_Some b.carry_out_change.new.self h now) b.carry_out_change.ensures.within))
   | in-None-pools b ↦
       let within = read_within _ _ _ _ _ c.in-Some.opened c.requires.within (search rules) refl c.in-Some.is in
       rw b.all-is (AreActiveWithin-set _ _ _ (Some c.in-Some.opened) c.requires.within (λ h now. subst (IsActiveWithin c.args.frames) (same_Some c.in-Some.opened h now) within))

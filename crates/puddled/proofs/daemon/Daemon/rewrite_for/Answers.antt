@@ -97,7 +97,7 @@ returns-in_err-_done-clause-applies g c =
     let stays = k.only_reads.stays t ∙ same in
     let start = ready_read size w now _ _ (sym same) then in
     let pool = is_there (known_pool_in i.judged c.in-Some.slot) known in
-    let it : (at : List (ℕ × Puddle)) × (known_puddles_in i.judged c.in-Some.slot ≡ Some at) = (pool.0.at, ap puddles_known pool.1) in
+    let it : (at : List (ℕ × Puddle)) × (known_puddles_in i.judged c.in-Some.slot ≡ Some at) = (pool.0.puddles, ap puddles_known pool.1) in
     AppliesAs-rewrite size w now (record now { judged = c.step_in.new.judged }) c.args.name c.args.n c.in-Some.slot it.0 (Some c.in_err-_done.field-0.0) (g.H.Host.state c.args.h.now) (g.H.Host.state c.step_in.new.h) start (search rules) it.1 free
     (world_of_rewrite w c.args.name c.args.n free) (slot_is size w _ _ ready 0 c.args.name c.in-Some.slot c.in-Some.field-0-1 there) (λ done. absurd (none-some c.in_err-_done.field-0.0 (sym done)))
     (subst (λ (v : World). AppliesBy (MovesTo (led_in c.in-Some.slot (frontiers_of (steps_from c.args.n it.0)))) size w v (record now { judged = c.step_in.new.judged }) (Some c.in_err-_done.field-0.0) (g.H.Host.state c.args.h.now) (g.H.Host.state c.step_in.new.h)) (sym (world_of_rewrite w c.args.name c.args.n free))
@@ -128,7 +128,7 @@ returns-clause-applies g c = λ t size e w ready.
     let stays = k.only_reads.stays t ∙ same in
     let start = ready_read size w now _ _ (sym same) then in
     let pool = is_there (known_pool_in i.judged c.in-Some.slot) known in
-    let it : (at : List (ℕ × Puddle)) × (known_puddles_in i.judged c.in-Some.slot ≡ Some at) = (pool.0.at, ap puddles_known pool.1) in
+    let it : (at : List (ℕ × Puddle)) × (known_puddles_in i.judged c.in-Some.slot ≡ Some at) = (pool.0.puddles, ap puddles_known pool.1) in
     AppliesAs-rewrite size w now (record now { judged = c.step_in.new.judged }) c.args.name c.args.n c.in-Some.slot it.0 None (g.H.Host.state c.args.h.now) (g.H.Host.state c.step_in.new.h) start (search rules) it.1 free
     (world_of_rewrite w c.args.name c.args.n free) (slot_is size w _ _ ready 0 c.args.name c.in-Some.slot c.in-Some.field-0-1 there) (λ done. stepped_known i.judged c.step_in.new.judged c.in-Some.slot it.0 (with_puddles (steps_from c.args.n it.0) pool.0) it.1 (c.in_ok-_done.ensures.moves pool.0 pool.1))
     (subst (λ (v : World). AppliesBy (MovesTo (led_in c.in-Some.slot (frontiers_of (steps_from c.args.n it.0)))) size w v (record now { judged = c.step_in.new.judged }) None (g.H.Host.state c.args.h.now) (g.H.Host.state c.step_in.new.h)) (sym (world_of_rewrite w c.args.name c.args.n free))
@@ -162,7 +162,7 @@ returns-clause-moves g c = λ t size e w ready free.
     let then = subst (λ (m : Memory). IsReady size w m (g.H.Host.state c.find.new.h)) (sym c.self.view_is) (k.ready t size w (ready_read size w _ _ _ same ready)) in
     let stays = k.only_reads.stays t ∙ same in
     let pool = is_there (known_pool_in i.judged c.in-Some.slot) known in
-    let at : (ps : List (ℕ × Puddle)) × (known_puddles_in i.judged c.in-Some.slot ≡ Some ps) = (pool.0.at, ap puddles_known pool.1) in
+    let at : (ps : List (ℕ × Puddle)) × (known_puddles_in i.judged c.in-Some.slot ≡ Some ps) = (pool.0.puddles, ap puddles_known pool.1) in
     let done = c.in_ok-_done.ensures.applies t size (still_size k.only_reads (still_size c.in_ok-slot.ensures.only_reads e)) at.0 at.1 w i.opened i.sessions (ready_read size w now _ _ (k.only_reads.stays t) then) in
     DoesSteps-stepped size w i.frames i.opened i.sessions i.judged (g.H.Host.state c.args.h.now) (ready_read size w now _ _ (sym same) then) c.in-Some.slot (search rules) pool.0 pool.1 c.args.name c.args.n c.step_in.new.judged
     (g.H.Host.state c.step_in.new.h) (slot_is size w _ _ ready 0 c.args.name c.in-Some.slot c.in-Some.field-0-1 there) (c.in_ok-_done.ensures.moves pool.0 pool.1) (done.ready refl)
