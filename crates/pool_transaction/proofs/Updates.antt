@@ -5,4 +5,6 @@ pub mod ActiveSets
 pub mod ActiveUpdates
 pub mod ActiveRefusals
 pub mod ChangeAnswers
+pub mod SerialsSpared
+pub mod KnownFollows
 pub mod ActiveFound

@@ -1,5 +1,5 @@
 -- What a line changes in an active transaction, and what stays of it while it keeps running; why an object is not made in it, and what making one leaves.
-use Rattle.std.specs.Prelude.{◌≡◌, ◌≢◌, ◌⊎◌, ℕ, Bool, ◌+◌, ◌<◌, ◌≤◌, false, nat_le, nat_lt, cond, List, length, set, Option, Some, None, is_none}
+use Rattle.std.specs.Prelude.{◌≡◌, ◌≢◌, ◌⊎◌, ℕ, Bool, ◌+◌, ◌<◌, ◌≤◌, true, false, nat_le, nat_lt, cond, List, length, set, Option, Some, None, is_none}
 use Rattle.pm_model.specs.declared.host.HostFault.{HostFault}
 use Rattle.pm_model.specs.Moments.{State}
 use Rattle.pud_defs.specs.declared.layout.TheConstants.{LOG_ENTRY_WORDS, MAX_FIELDS, SET_UNITS, NEW_UNITS, NUMBER_LIMIT, NEXT_NUMBER_WORD}
@@ -11,6 +11,9 @@ use Rattle.pud_defs.specs.declared.objects.FieldValue.{FieldValue}
 use Rattle.pud_defs.specs.declared.objects.FieldValue.TheVariants.{Ref}
 use Rattle.pud_defs.specs.declared.records.Puddle.{Puddle}
 use Rattle.pud_defs.specs.declared.records.Slot.{Slot}
+use Rattle.pud_defs.specs.declared.space.TheConstants.{SLOT_SERIAL_WORD}
+use Rattle.pud_defs.specs.PoolGraphs.Graph.{Graph, object_in}
+use Rattle.pud_defs.specs.PoolGraphs.Stored.{stored_in, place_word}
 use Rattle.pud_defs.specs.PoolGraphs.GraphChanges.{with_field, with_root, without_object, with_new}
 use Rattle.pud_defs.specs.Formats.Image.{Image}
 use Rattle.pud_defs.specs.PoolGraphs.DeferredValues.{deferred_set_names}
@@ -22,8 +25,10 @@ use Rattle.pud_defs.specs.RegistryTables.Types.{map_of}
 use Rattle.pud_defs.specs.StateMachine.World.{Transaction, World, open_on}
 use Rattle.registry.specs.declared.adding.NewPuddle.{NewPuddle}
 use Rattle.registry.specs.Growth.{grow_refusal, IsGrowthFor}
-use Rattle.puddle_header.specs.Places.{place_of_slot, IsSlotOf}
-use Rattle.graph_read.specs.Reading.{place_in_pool}
+use Rattle.puddle_header.specs.Places.{place_of_slot, places_in, IsSlotOf}
+use Rattle.graph_read.specs.declared.fields.FieldRead.{FieldRead}
+use Rattle.graph_read.specs.declared.fields.FieldRead.TheVariants.{NoObject, NoField, Value}
+use Rattle.graph_read.specs.Reading.{place_in_pool, read_by}
 use Rattle.lazy_rewrite.specs.Frontiers.{finished_at, frontiers_of}
 use Rattle.lazy_rewrite.specs.Batches.{Rewrites}
 use Rattle.hybrid_tx.specs.Objects.Stores.{word_for, IsPlaceAndWord}
@@ -35,6 +40,7 @@ use Rattle.pool_transaction.specs.declared.changing.Update.TheVariants.{Set, Lat
 use Rattle.pool_transaction.specs.declared.changing.FoundUpdate.{FoundUpdate}
 use Rattle.pool_transaction.specs.declared.changing.FoundUpdate.TheVariants as founds
 use Rattle.known_pool.specs.Known.{Known, by_puddles}
+use Rattle.known_pool.specs.Indexes.{Follows, after_move}
 use Rattle.ready_daemon.specs.PoolKnowledge.{known_pool_in, KnowsAlone}
 use Rattle.ready_daemon.specs.Memory.{ActiveTransaction, Memory, active_under}
 
@@ -126,21 +132,64 @@ pub record IsObjectFound (F : ℕ) (at : List (ℕ × Puddle)) (image : Image) (
 
 -- what was found is so of the change
 abbrev pub IsFoundBy : ℕ → List (ℕ × Puddle) → Image → Update → FoundUpdate → Type 0
-IsFoundBy F at image change (founds.Field slot f word later) = IsFieldFound F at image change slot f word later
+IsFoundBy F at image change (founds.Field slot f word read x later) = IsFieldFound F at image change slot f word later
 IsFoundBy F at image change (founds.Root word) = IsRootFound F at image change word
 IsFoundBy F at image change (founds.Object slot) = IsObjectFound F at image change slot
 
 -- the ordinal of the puddle that it writes
 abbrev pub ordinal_written : FoundUpdate → ℕ
-ordinal_written (founds.Field slot f word later) = slot.ordinal
+ordinal_written (founds.Field slot f word read x later) = slot.ordinal
 ordinal_written (founds.Root word) = 0
 ordinal_written (founds.Object slot) = slot.ordinal
 
 -- its slot is one of these puddles, and its field one that an object may have
 abbrev pub IsFoundWithin : List (ℕ × Puddle) → FoundUpdate → Type 0
-IsFoundWithin at (founds.Field slot f word later) = IsSlotOf at slot × (f < MAX_FIELDS)
+IsFoundWithin at (founds.Field slot f word read x later) = IsSlotOf at slot × (f < MAX_FIELDS)
 IsFoundWithin at (founds.Root word) = Unit {0}
 IsFoundWithin at (founds.Object slot) = IsSlotOf at slot
+
+-- This was read of the field that is set, or whose value is deferred, and it is what the field holds by the graph.
+pub record IsFieldRead (g : Graph) (change : Update) (f : ℕ) (read : FieldRead) (x : FieldValue) (later : Bool) : Type 0 where
+  pub s : ℕ
+  pub is : change ≡ field_change later s f x
+  pub holds : read ≡ read_by (object_in s g) f
+
+-- so it is of what was found
+abbrev pub IsReadOf : Graph → Update → FoundUpdate → Type 0
+IsReadOf g change (founds.Field slot f word read x later) = IsFieldRead g change f read x later
+IsReadOf g change (founds.Root word) = Unit {0}
+IsReadOf g change (founds.Object slot) = Unit {0}
+
+-- ---- what is kept of the pool
+
+-- each slot has the serial that it had, where a field is set or its value deferred
+abbrev pub SparesSerials : (F : ℕ) → List (ℕ × Puddle) → FoundUpdate → (before after : Image) → Type 0
+SparesSerials F at (founds.Field slot f word read x later) before after = (p : ℕ) → p < places_in at → place_word (stored_in F at after) p SLOT_SERIAL_WORD ≡ place_word (stored_in F at before) p SLOT_SERIAL_WORD
+SparesSerials F at (founds.Root word) before after = Unit {0}
+SparesSerials F at (founds.Object slot) before after = Unit {0}
+
+-- It goes the way of a field that held the one value and holds the other.
+pub record FollowsMove (was now : FieldValue) (old new : Known) : Type 0 where
+  pub puddles : new.puddles ≡ old.puddles
+  pub index : Follows (after_move was now) old.index new.index
+  pub full : new.full_below ≡ old.full_below
+
+-- of a field of which this was read: the puddles alone are left where that was no value
+abbrev pub FollowsValue : FieldRead → FieldValue → (old new : Known) → Type 0
+FollowsValue NoObject x old new = new ≡ by_puddles old.puddles
+FollowsValue NoField x old new = new ≡ by_puddles old.puddles
+FollowsValue (Value was) x old new = FollowsMove was x old new
+
+-- which is set, or whose value is deferred
+abbrev pub FollowsField : (later : Bool) → FieldRead → FieldValue → (old new : Known) → Type 0
+FollowsField true read x old new = new ≡ old
+FollowsField false read x old new = FollowsValue read x old new
+
+-- of what was found; the puddles alone are left where the root is set or an object freed
+abbrev pub FollowsUpdate : FoundUpdate → (old new : Known) → Type 0
+FollowsUpdate (founds.Field slot f word read x later) old new = FollowsField later read x old new
+FollowsUpdate (founds.Root word) old new = new ≡ by_puddles old.puddles
+FollowsUpdate (founds.Object slot) old new = new ≡ by_puddles old.puddles
 
 -- ---- a transaction keeps running
 

@@ -11,7 +11,7 @@ ghost use Rattle.pud_defs.specs.Formats.Image.{Image};
 ghost use Rattle.pud_defs.specs.Formats.Layout.{device_words, frames_at};
 ghost use Rattle.pud_defs.specs.RegistryTables.Types.{map_of, types_of};
 ghost use Rattle.pud_defs.specs.PoolGraphs.Stored.{IsOnDevice, stored_in};
-ghost use Rattle.pud_defs.specs.PoolGraphs.Graph.{Graph, next_serial_of};
+ghost use Rattle.pud_defs.specs.PoolGraphs.Graph.{Graph, graph_of, next_serial_of};
 ghost use Rattle.pud_defs.specs.PoolGraphs.DeferredValues.{DeferredValue};
 ghost use Rattle.pud_defs.specs.StateMachine.PoolChanges.{pool_named};
 ghost use Rattle.pud_defs.specs.StateMachine.Step.{refusal_of, after, graph_seen, next_in, grows, answer_by, world_by};
@@ -26,16 +26,18 @@ ghost use Rattle.lazy_rewrite.specs.Batches.{Rewrites};
 ghost use Rattle.word_transaction.specs.Running.{ByTransaction};
 ghost use Rattle.hybrid_tx.specs.PoolScopes.{pool_scope, ArePlacedPuddles, IsRewrittenAt};
 ghost use Rattle.hybrid_tx.specs.Objects.Transactions.{IsOpenOn, KeepsOpenOn};
+ghost use Rattle.known_pool.specs.Known.{Known, IsKnown, with_puddles};
 ghost use Rattle.ready_daemon.specs.Memory.{Memory};
 ghost use Rattle.ready_daemon.specs.ActiveTransactions.{IsActiveWithin};
 ghost use Rattle.registry.specs.Adding.{IsAddedWithin};
 ghost use Rattle.registry.specs.Places.{refusal_in};
-ghost use Rattle.pool_transaction.specs.Changing.{IsActiveIn, IsActiveWith, with_opened, with_known, command_of_change, command_of_update, changed_by, IsLegalChange, IsLegalUpdate, ordinal_written, IsFoundWithin, IsFoundBy, MayChange, StaysOpen, refusal_to_make, refusal_by_tables, GrowsBy, refusal_by_world, with_puddle_added, with_made, both_finished, MakesBehind};
+ghost use Rattle.pool_transaction.specs.Changing.{IsActiveIn, IsActiveWith, with_opened, with_known, command_of_change, command_of_update, changed_by, IsLegalChange, IsLegalUpdate, ordinal_written, IsFoundWithin, IsFoundBy, IsReadOf, SparesSerials, FollowsUpdate, MayChange, StaysOpen, refusal_to_make, refusal_by_tables, GrowsBy, refusal_by_world, with_puddle_added, with_made, both_finished, MakesBehind};
 ghost use Rattle.pool_transaction.specs.Finishing.{end_of, FinishesFor, FinishesLowest, FinishesTaken, Finishes, FinishesUnless, IsLonger, AppliesTo, AppliesFinishing};
 ghost use Rattle.ready_daemon.specs.Moves.{led_in};
 ghost use Rattle.ready_daemon.specs.Ready.{KeepsRest, IsReady, Applies};
 
 use crate::transaction::PoolTransaction;
+use graph_read::FieldRead;
 use hybrid_tx::Tx;
 use known_pool::KnownPool;
 use lazy_rewrite::finish;
@@ -75,11 +77,13 @@ pub enum Update {
 /// An update that may be made, with what was found of the objects that its line names.
 #[derive(Clone, Copy)]
 pub(crate) enum FoundUpdate {
-    /// Field `f` of the object in the slot gets the word of the value: at once, or at the commit.
+    /// Field `f` of the object in the slot, of which this was read, gets the word of the value: at once, or at the commit.
     Field {
         at: Slot,
         f: u32,
         word: u64,
+        read: FieldRead,
+        x: FieldValue,
         later: bool,
     },
     /// The root gets the word of the object, or 0.
@@ -154,12 +158,19 @@ fn carry_out<H: Host>(
         → IsOpenOn frames pool.now types (tx.old).log before graph_before t.now t.deferred (H.state h.old).now.words → MayChange types t update
         → IsFoundBy frames pool.now (reads (H.state h.old).now.words) update found
         → KeepsOpenOn frames pool.now types (tx.new).log before graph_before (changed_by update t).now (changed_by update t).deferred (fault_of result) (H.state h.old) (H.state h.new) }
+    ensures serials { H.tells → fault_of result ≡ Option.None → SparesSerials frames pool.now found (reads (H.state h.old).now.words) (reads (H.state h.new).now.words) }
     ensures counts { H.tells → (types : List (ℕ × ℕ)) (before : Image) (graph_before : Graph) (now : Graph) (deferred : List DeferredValue)
         → IsOpenOn frames pool.now types (tx.old).log before graph_before now deferred (H.state h.old).now.words → IfOk result (λ _. (tx.new).units ≡ (tx.old).units + SET_UNITS) }
     ensures cause { H.counts h.new ≡ after_fault (fault_of result) (H.counts h.old) }
 {
     match found {
-        FoundUpdate::Field { at, f, word, later } => {
+        FoundUpdate::Field {
+            at,
+            f,
+            word,
+            later,
+            ..
+        } => {
             if later {
                 tx.later_at(h, frames, pool, &at, f, word)
             } else {
@@ -168,6 +179,26 @@ fn carry_out<H: Host>(
         }
         FoundUpdate::Root { word } => tx.root_at(h, frames, pool, word),
         FoundUpdate::Object { at } => tx.free_at(h, frames, pool, &at),
+    }
+}
+
+/// What is kept of the pool goes the way of the update that was made: where a field was set, the pointer that it held is counted no more, and the one
+/// that it holds is. Where the root was set, or an object freed, the puddles alone are left.
+fn follow(pool: &mut KnownPool, found: FoundUpdate)
+    ensures follows { FollowsUpdate found pool.old pool.new }
+    ensures puddles { pool.new.puddles ≡ pool.old.puddles }
+{
+    match found {
+        FoundUpdate::Field { read, x, later, .. } => {
+            if later {
+                return;
+            }
+            match read {
+                FieldRead::Value(was) => pool.moved(was, x),
+                FieldRead::NoObject | FieldRead::NoField => pool.forget(),
+            }
+        }
+        FoundUpdate::Root { .. } | FoundUpdate::Object { .. } => pool.forget(),
     }
 }
 
@@ -215,6 +246,12 @@ impl PoolTransaction {
             → IsReady size w memory (H.state h.old) → refusal_of w (command_of_update update (self.old).client (self.old).name) ≡ Option.None
             → IsFoundBy frames pool.old (reads (H.state h.old).now.words) update found
             → AppliesTo (led_in (self.old).slot (end_of (ordinal_written found))) size w (after w (command_of_update update (self.old).client (self.old).name)) (with_opened (self.old).log_number (self.old).slot self.new pool.new memory) (fault_of result) (H.state h.old) (H.state h.new) }
+        // What is known of the pool is so behind it, where it goes the way of the update.
+        ensures keeps { H.tells → (update : Update) → (size : ℕ) → size ≡ (H.counts h.old).size → (w : World) → (memory : Memory) → IsActiveIn frames self.old pool.old memory
+            → IsReady size w memory (H.state h.old) → refusal_of w (command_of_update update (self.old).client (self.old).name) ≡ Option.None
+            → IsFoundBy frames pool.old (reads (H.state h.old).now.words) update found → (g : Graph) → graph_of (types_of (reads (H.state h.old).now.words)) (stored_in frames pool.old (reads (H.state h.old).now.words)) ≡ Option.Some g
+            → IsReadOf g update found → (known : Known) → known.puddles ≡ pool.old → IsKnown frames (reads (H.state h.old).now.words) known → (next : Known) → FollowsUpdate found (with_puddles pool.new known) next
+            → fault_of result ≡ Option.None → IsKnown frames (reads (H.state h.new).now.words) next }
         ensures pool { IfOk result (λ _. pool.new ≡ finished_at (ordinal_written found) pool.old) }
         ensures within { IsActiveWithin frames self.new }
         ensures known { IsOnDevice frames pool.new }
@@ -263,8 +300,8 @@ impl PoolTransaction {
             Ok(found) => found,
             Err(refusal) => return Ok(Reply::No(refusal)),
         };
-        pool.forget();
         self.update(h, frames, &mut pool.puddles, found)?;
+        follow(pool, found);
         Ok(Reply::Ok)
     }
 

@@ -1,5 +1,5 @@
 //! A transaction begins on a pool, and ends there: it is committed or undone.
-ghost use Rattle.std.specs.Prelude.{length, ◌≡◌, ◌<◌, ◌≤◌, ℕ, Option, IfOk};
+ghost use Rattle.std.specs.Prelude.{length, ◌≡◌, ◌<◌, ◌≤◌, ℕ, false, Option, IfOk};
 ghost use Rattle.pm_model.specs.Words.{IsRested, reads};
 ghost use Rattle.pm_model.specs.Counts.{after_fault, fault_of};
 ghost use Rattle.pm_model.specs.Changes.{Changes};
@@ -12,8 +12,10 @@ ghost use Rattle.pud_defs.specs.StateMachine.World.{World};
 ghost use Rattle.log_space.specs.FreeLogs.{IsLogOf};
 ghost use Rattle.nesting.specs.Sessions.{depth_in};
 ghost use Rattle.pool_transaction.specs.Lifetime.{MayBeginIn, with_begun, with_ended};
+ghost use Rattle.known_pool.specs.Known.{Known, IsKnown};
 ghost use Rattle.ready_daemon.specs.Beginning.{begins_as};
 ghost use Rattle.ready_daemon.specs.ActiveTransactions.{IsActiveWithin};
+ghost use Rattle.ready_daemon.specs.PoolKnowledge.{known_pool_in};
 ghost use Rattle.ready_daemon.specs.Leaving.{BehindTables, world_without_log};
 ghost use Rattle.ready_daemon.specs.Memory.{Memory, active_under};
 ghost use Rattle.ready_daemon.specs.Ready.{KeepsRest, IsReady, Applies};
@@ -70,6 +72,10 @@ impl PoolTransaction {
         ensures applies { H.tells → (size : ℕ) → size ≡ (H.counts h.old).size → (w : World) → (memory : Memory) → (number : ℕ) → memory.frames ≡ frames → active_under memory.active number ≡ Option.Some self
             → IsReady size w memory (H.state h.old) → depth_in memory.sessions self.slot ≤ 1
             → Applies size w (after w (commands.Commit self.client self.name)) (with_ended number self memory) (fault_of result) (H.state h.old) (H.state h.new) }
+        // What is known of its pool is so still, where nothing was asked for later.
+        ensures keeps { H.tells → (size : ℕ) → size ≡ (H.counts h.old).size → (w : World) → (memory : Memory) → (number : ℕ) → memory.frames ≡ frames → active_under memory.active number ≡ Option.Some self
+            → IsReady size w memory (H.state h.old) → self.tx.log.defers ≡ false → (known : Known) → known_pool_in memory.judged self.slot ≡ Option.Some known → fault_of result ≡ Option.None
+            → IsKnown frames (reads (H.state h.new).now.words) known }
         ensures rest { H.tells → KeepsRest (H.state h.old) (H.state h.new) }
         ensures rests { H.tells → fault_of result ≡ Option.Some HostFault.Cut → IsRested (H.state h.new).now.words }
         ensures cause { H.counts h.new ≡ after_fault (fault_of result) (H.counts h.old) }

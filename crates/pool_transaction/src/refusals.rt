@@ -1,33 +1,39 @@
 //! Why a line in an open transaction is refused. Nothing is written.
-ghost use Rattle.std.specs.Prelude.{◌≡◌, ◌+◌, ◌<◌, ◌≤◌, ℕ, true, false, Option, Result, IfOk, IfNone};
+ghost use Rattle.std.specs.Prelude.{◌≡◌, ◌+◌, ◌<◌, ◌≤◌, ℕ, true, false, All, Option, Result, IfOk, IfSome, IfNone};
 ghost use Rattle.pm_model.specs.Words.{reads};
 ghost use Rattle.pm_model.specs.Counts.{fault_of};
 ghost use Rattle.pm_model.specs.Reads.{OnlyReads};
 ghost use Rattle.pud_defs.specs.declared.layout.TheConstants.{LOG_ENTRY_WORDS, MAX_FRAMES, MAX_FIELDS, SET_UNITS};
 ghost use Rattle.pud_defs.specs.declared.machine.Command.TheVariants as commands;
+ghost use Rattle.pud_defs.specs.Formats.Bases.{is_legal_base};
 ghost use Rattle.pud_defs.specs.Formats.Image.{Image};
 ghost use Rattle.pud_defs.specs.Formats.Layout.{device_words};
-ghost use Rattle.pud_defs.specs.PoolGraphs.Stored.{IsOnDevice};
+ghost use Rattle.pud_defs.specs.PoolGraphs.Graph.{Graph, graph_of};
+ghost use Rattle.pud_defs.specs.PoolGraphs.Stored.{IsOnDevice, stored_in};
+ghost use Rattle.pud_defs.specs.RegistryTables.Types.{types_of};
 ghost use Rattle.pud_defs.specs.StateMachine.World.{World};
 ghost use Rattle.pud_defs.specs.StateMachine.Step.{differ_in_kind, refusal_of};
 ghost use Rattle.ready_daemon.specs.Memory.{Memory};
 ghost use Rattle.ready_daemon.specs.ActiveTransactions.{IsActiveWithin};
+ghost use Rattle.puddle_header.specs.Places.{IsSlotOf};
 ghost use Rattle.hybrid_tx.specs.PoolScopes.{ArePlacedPuddles};
+ghost use Rattle.hybrid_tx.specs.Objects.Stores.{word_for, IsPlaceAndWord, LacksPlaceOrWord};
 ghost use Rattle.known_pool.specs.Known.{IsKnown};
 ghost use Rattle.registry.specs.Places.{refusal_in};
-ghost use Rattle.pool_transaction.specs.Changing.{IsActiveWith, command_of_update, field_change, IsLegalUpdate, IsFoundWithin, IsFoundBy};
+ghost use Rattle.pool_transaction.specs.Changing.{IsActiveWith, command_of_update, field_change, IsLegalUpdate, IsFoundWithin, IsFoundBy, IsReadOf};
 ghost use Rattle.pool_transaction.specs.Refusing.{room_refusal, field_refusal, refusal_to_free};
 ghost use Rattle.ready_daemon.specs.Ready.{IsReady};
 
 use crate::changing::{FoundUpdate, Update};
 use crate::transaction::PoolTransaction;
 use graph_read::{FieldRead, field_at};
-use hybrid_tx::{place_and_word, word_for};
+use hybrid_tx::slot_address;
 use known_pool::KnownPool;
 use pm_model::{Host, HostFault};
 use pud_defs::layout::{LOG_ENTRY_WORDS, SET_UNITS};
 use pud_defs::machine::Refusal;
 use pud_defs::objects::FieldValue;
+use pud_defs::records::Slot;
 
 /// Whether one is a number and the other a reference.
 fn differ_in_kind(was: FieldValue, x: FieldValue) -> bool
@@ -84,9 +90,66 @@ fn refusal_to_free(referenced: bool, asked: bool, units: u32) -> Option<Refusal>
     room_refusal(units)
 }
 
+/// The word that stands for a value in the pool of which this is known: the number, 0 for null, or the address of the serial's object, None exactly where
+/// there is none. Where an index of the pool is kept, nothing is read.
+fn word_known<H: Host>(
+    h: &mut H,
+    frames: u32,
+    pool: &KnownPool,
+    x: FieldValue,
+) -> Result<Option<u64>, HostFault>
+    requires few { frames ≤ MAX_FRAMES }
+    requires room { device_words frames ≤ (H.counts h.old).size }
+    requires known { IsOnDevice frames pool.now.puddles }
+    ensures word { H.tells → All (λ e. is_legal_base e.1.base ≡ true) pool.now.puddles → (image : Image) → reads (H.state h.old).now.words ≡ image → IsKnown frames image pool.now
+        → IfOk result (λ word. word ≡ word_for frames pool.now.puddles image x) }
+    ensures only_reads { OnlyReads H.tells H.state H.counts (fault_of result) h.old h.new }
+{
+    match x {
+        FieldValue::Num(v) => Ok(Some(v)),
+        FieldValue::Ref(r) => {
+            if r == 0 {
+                return Ok(Some(0));
+            }
+            match pool.find(h, frames, r)? {
+                Some(at) => Ok(Some(slot_address(pool.as_slice(), &at))),
+                None => Ok(None),
+            }
+        }
+    }
+}
+
+/// The slot of the object of serial `s`, and the word that stands for the value, in the pool of which this is known; None exactly where there is no such
+/// object, or none that the value is to name. The value is looked up first, and each of the two once.
+fn place_known<H: Host>(
+    h: &mut H,
+    frames: u32,
+    pool: &KnownPool,
+    s: u64,
+    x: FieldValue,
+) -> Result<Option<(Slot, u64)>, HostFault>
+    requires few { frames ≤ MAX_FRAMES }
+    requires room { device_words frames ≤ (H.counts h.old).size }
+    requires known { IsOnDevice frames pool.now.puddles }
+    ensures found { H.tells → All (λ e. is_legal_base e.1.base ≡ true) pool.now.puddles → (image : Image) → reads (H.state h.old).now.words ≡ image → IsKnown frames image pool.now
+        → IfOk result (λ found. IfSome found (IsPlaceAndWord frames pool.now.puddles image s x)) }
+    ensures none { H.tells → All (λ e. is_legal_base e.1.base ≡ true) pool.now.puddles → (image : Image) → reads (H.state h.old).now.words ≡ image → IsKnown frames image pool.now
+        → IfOk result (λ found. found ≡ Option.None → LacksPlaceOrWord frames pool.now.puddles image s x) }
+    ensures within { IfOk result (λ found. IfSome found (λ at. IsSlotOf pool.now.puddles at.0)) }
+    ensures only_reads { OnlyReads H.tells H.state H.counts (fault_of result) h.old h.new }
+{
+    let Some(word) = word_known(h, frames, pool, x)? else {
+        return Ok(None);
+    };
+    match pool.find(h, frames, s)? {
+        Some(at) => Ok(Some((at, word))),
+        None => Ok(None),
+    }
+}
+
 impl PoolTransaction {
     /// The slot of the object of serial `s` and the word of the value, by which its field `f`, 0 to 29, is set, or its value deferred; or why
-    /// it may not be. The device has so many frames. Each object is looked up once.
+    /// it may not be. The device has so many frames. Each object is looked up once, by the index where one is kept.
     ///
     /// The only errors are the host's own, and nothing changes.
     fn find_field<H: Host>(
@@ -108,18 +171,26 @@ impl PoolTransaction {
             → IfOk result (λ found. refusal_in found ≡ refusal_of w (commands.Set (self.now).client (self.now).name s f x)) }
         ensures found { H.tells → (image : Image) → reads (H.state h.old).now.words ≡ image → IsKnown frames image pool.now → ArePlacedPuddles frames pool.now.puddles
             → IfOk result (λ found. IfOk found (IsFoundBy frames pool.now.puddles image (field_change later s f x))) }
+        ensures read { H.tells → (image : Image) → reads (H.state h.old).now.words ≡ image → IsKnown frames image pool.now → ArePlacedPuddles frames pool.now.puddles → (g : Graph) → graph_of (types_of image) (stored_in frames pool.now.puddles image) ≡ Option.Some g
+            → IfOk result (λ found. IfOk found (IsReadOf g (field_change later s f x))) }
         ensures within { IfOk result (λ found. IfOk found (IsFoundWithin pool.now.puddles)) }
         ensures room { IfOk result (λ found. IfOk found (λ _. (self.now).tx.units + SET_UNITS ≤ LOG_ENTRY_WORDS)) }
         ensures only_reads { OnlyReads H.tells H.state H.counts (fault_of result) h.old h.new }
     {
-        let puddles = pool.as_slice();
-        let Some((at, word)) = place_and_word(h, frames, puddles, s, x)? else {
+        let Some((at, word)) = place_known(h, frames, pool, s, x)? else {
             return Ok(Err(Refusal::Object));
         };
-        let read = field_at(h, frames, puddles, &at, f)?;
+        let read = field_at(h, frames, pool.as_slice(), &at, f)?;
         match field_refusal(read, x, self.tx.units()) {
             Some(refusal) => Ok(Err(refusal)),
-            None => Ok(Ok(FoundUpdate::Field { at, f, word, later })),
+            None => Ok(Ok(FoundUpdate::Field {
+                at,
+                f,
+                word,
+                read,
+                x,
+                later,
+            })),
         }
     }
 
@@ -142,11 +213,13 @@ impl PoolTransaction {
             → IfOk result (λ found. refusal_in found ≡ refusal_of w (commands.Root (self.now).client (self.now).name s)) }
         ensures found { H.tells → (image : Image) → reads (H.state h.old).now.words ≡ image → IsKnown frames image pool.now → ArePlacedPuddles frames pool.now.puddles
             → IfOk result (λ found. IfOk found (IsFoundBy frames pool.now.puddles image (Update.Root s))) }
+        ensures read { H.tells → (image : Image) → reads (H.state h.old).now.words ≡ image → IsKnown frames image pool.now → ArePlacedPuddles frames pool.now.puddles → (g : Graph) → graph_of (types_of image) (stored_in frames pool.now.puddles image) ≡ Option.Some g
+            → IfOk result (λ found. IfOk found (IsReadOf g (Update.Root s))) }
         ensures within { IfOk result (λ found. IfOk found (IsFoundWithin pool.now.puddles)) }
         ensures room { IfOk result (λ found. IfOk found (λ _. (self.now).tx.units + SET_UNITS ≤ LOG_ENTRY_WORDS)) }
         ensures only_reads { OnlyReads H.tells H.state H.counts (fault_of result) h.old h.new }
     {
-        let Some(word) = word_for(h, frames, pool.as_slice(), FieldValue::Ref(s))? else {
+        let Some(word) = word_known(h, frames, pool, FieldValue::Ref(s))? else {
             return Ok(Err(Refusal::Object));
         };
         match room_refusal(self.tx.units()) {
@@ -175,6 +248,8 @@ impl PoolTransaction {
             → IfOk result (λ found. refusal_in found ≡ refusal_of w (commands.Free (self.now).client (self.now).name s)) }
         ensures found { H.tells → (image : Image) → reads (H.state h.old).now.words ≡ image → IsKnown frames image pool.now → ArePlacedPuddles frames pool.now.puddles
             → IfOk result (λ found. IfOk found (IsFoundBy frames pool.now.puddles image (Update.Free s))) }
+        ensures read { H.tells → (image : Image) → reads (H.state h.old).now.words ≡ image → IsKnown frames image pool.now → ArePlacedPuddles frames pool.now.puddles → (g : Graph) → graph_of (types_of image) (stored_in frames pool.now.puddles image) ≡ Option.Some g
+            → IfOk result (λ found. IfOk found (IsReadOf g (Update.Free s))) }
         ensures within { IfOk result (λ found. IfOk found (IsFoundWithin pool.now.puddles)) }
         ensures room { IfOk result (λ found. IfOk found (λ _. (self.now).tx.units + SET_UNITS ≤ LOG_ENTRY_WORDS)) }
         ensures only_reads { OnlyReads H.tells H.state H.counts (fault_of result) h.old h.new }
@@ -211,6 +286,8 @@ impl PoolTransaction {
             → IfOk result (λ found. refusal_in found ≡ refusal_of w (command_of_update update (self.now).client (self.now).name)) }
         ensures found { H.tells → (image : Image) → reads (H.state h.old).now.words ≡ image → IsKnown frames image pool.now → ArePlacedPuddles frames pool.now.puddles
             → IfOk result (λ found. IfOk found (IsFoundBy frames pool.now.puddles image update)) }
+        ensures read { H.tells → (image : Image) → reads (H.state h.old).now.words ≡ image → IsKnown frames image pool.now → ArePlacedPuddles frames pool.now.puddles → (g : Graph) → graph_of (types_of image) (stored_in frames pool.now.puddles image) ≡ Option.Some g
+            → IfOk result (λ found. IfOk found (IsReadOf g update)) }
         ensures within { IfOk result (λ found. IfOk found (IsFoundWithin pool.now.puddles)) }
         ensures room { IfOk result (λ found. IfOk found (λ _. (self.now).tx.units + SET_UNITS ≤ LOG_ENTRY_WORDS)) }
         ensures only_reads { OnlyReads H.tells H.state H.counts (fault_of result) h.old h.new }

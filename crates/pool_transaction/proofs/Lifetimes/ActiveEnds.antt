@@ -4,6 +4,7 @@ use Rattle.std.specs.Prelude.{unwrap_or}
 use Rattle.std.specs.FinMap.Entries.{find, put}
 use Rattle.std.proofs.lemmas.Bool.{cond-true, cond-false, le-leb, cases_Bool}
 use Rattle.std.proofs.lemmas.List.{set-get_or}
+use Rattle.std.proofs.lemmas.Option.{none-some}
 use Rattle.pm_model.specs.declared.host.HostFault.{HostFault}
 use Rattle.pm_model.specs.Words.{reads, Picks}
 use Rattle.pm_model.specs.Moments.{State}
@@ -20,7 +21,7 @@ use Rattle.pud_defs.specs.PoolGraphs.Graph.{Graph, graph_of}
 use Rattle.pud_defs.specs.PoolGraphs.DeferredValues.{DeferredValue, with_deferred_set}
 use Rattle.pud_defs.specs.Formats.Image.{Image}
 use Rattle.pud_defs.specs.Formats.Layout.{tables_end, frames_at, device_words}
-use Rattle.pud_defs.specs.Logging.Entries.{is_idle_gate}
+use Rattle.pud_defs.specs.Logging.Entries.{Entry, is_idle_gate}
 use Rattle.pud_defs.specs.Formats.Names.{name_cmp}
 use Rattle.pud_defs.specs.StateMachine.PoolChanges.{pool_named, changed_pool}
 use Rattle.pud_defs.specs.StateMachine.Step.{after}
@@ -32,9 +33,9 @@ use Rattle.pud_defs.specs.declared.log_words.TheConstants.{CLOSED_GATE}
 use Rattle.pud_defs.specs.Logging.Replay.{is_in_log}
 use Rattle.pud_defs.specs.Logging.Settled.{log_number_at}
 use Rattle.pud_defs.proofs.RegistryTables.TablesOf.{tables_of-same}
-use Rattle.log_store.specs.Store.{OpenLog}
+use Rattle.log_store.specs.Store.{OpenLog, IsOpen, defers}
 use Rattle.nesting.specs.Sessions.{session_depth, depth_in}
-use Rattle.word_transaction.specs.Running.{ByTransaction, HasPlaces, HasOneTable, CanRedo}
+use Rattle.word_transaction.specs.Running.{ByTransaction, ByCommit, HasPlaces, HasOneTable, CanRedo}
 use Rattle.hybrid_tx.specs.PoolScopes.{pool_has_word, pool_scope, ArePlacedPuddles, finished_of}
 use Rattle.hybrid_tx.specs.Open.Masks.{OpenPool, is_open_record, open_mask}
 use Rattle.hybrid_tx.specs.Open.ManyOpen.{open_masks}
@@ -44,7 +45,11 @@ use Rattle.hybrid_tx.proofs.Objects.Opening.{stored_in-has_word}
 use Rattle.hybrid_tx.proofs.Open.OpenMasks.{mask_of_mine}
 use Rattle.hybrid_tx.proofs.PoolScope.{pool_has_word-each}
 use Rattle.hybrid_tx.proofs.FinishedPuddles.{none_of_finished}
+use Rattle.known_pool.specs.Known.{Known, IsKnown}
 use Rattle.ready_daemon.proofs.PoolChanges.RestBeside.{rest_unmasked}
+use Rattle.ready_daemon.specs.PoolKnowledge.{puddles_known, known_pool_in}
+use Rattle.ready_daemon.proofs.PoolsKnown.KnownKept.{graph_parts}
+use Rattle.ready_daemon.proofs.PoolsKnown.KnownOpen.{KeepsPools-gate}
 use Rattle.ready_daemon.specs.Memory.{ActiveTransaction, Memory, active_under, with_active}
 use Rattle.ready_daemon.specs.Leaving.{BehindTables, world_without_log}
 use Rattle.ready_daemon.specs.ActiveTransactions.{open_pool_of, IsActive, IsOwnTransaction}
@@ -94,6 +99,10 @@ Commits F sz log fault old new =
     (pool : List (ℕ × Puddle)) (types : List (ℕ × ℕ)) (before : Image) (graph_before : Graph) (seen : Graph) (deferred : List DeferredValue) → ArePlacedPuddles F pool → device_words F ≤ sz → log.gate_at + LOG_WORDS ≤ frames_at F
     → IsOpenOn F pool types log before graph_before seen deferred old.now.words → (deferred ≢ [] → CanRedo (pool_scope F (finished_of pool)) F log.gate_at old.now.words)
     → CommitsOnPool F pool types log.gate_at before graph_before (with_deferred_set deferred seen) fault old new
+
+-- where no entry of its log asks for values, its gate alone is written
+abbrev pub ClosesAlone : OpenLog → Option HostFault → State → State → Type 0
+ClosesAlone log fault old new = (es : List Entry) → IsOpen log es old.now.words → defers es ≡ false → Changes (ByCommit log) fault old new
 
 -- a transaction writes no word in front of the clients' logs
 behind_tables : (F number : ℕ) (at : List (ℕ × Puddle)) (k v : ℕ) → ByTransaction (pool_scope F at) (log_number_at F number) k v → BehindTables F k v
@@ -249,6 +258,16 @@ module _ (size : ℕ) (w : World) (memory : Memory) (number : ℕ) (active : Act
         subst (λ (v : World). Applies size w v (with_ended number active memory) fault old new) (sym committed_world)
         (Applies-ended size w memory number active old ready there (values e.after e.is e.beside) (values_beside e.after e.is e.beside) (pools_after e.after e.is e.beside) (stands_after e.after e.is e.beside) (pools_beside e.after e.is e.beside) made
         (graph_after e.after e.is e.beside) fault new (EndsBy-ends (pool_scope n (finished_of is.puddles)) active.tx.log.gate_at is.before e.after fault old new e.ends))
+
+  -- what is known of its pool is so still, where nothing was asked for later
+  pub Known-committed : (F : ℕ) → F ≡ n → (fault : Option HostFault) (new : State) → active.tx.log.defers ≡ false → ClosesAlone active.tx.log fault old new → (known : Known) → known_pool_in memory.judged active.slot ≡ Some known → fault ≡ None
+      → IsKnown F (reads new.now.words) known
+  Known-committed F on fault new quiet alone known is_known none =
+      let saving = is.running.saving in
+      let c = subst (λ (f : Option HostFault). Changes (ByCommit active.tx.log) f old new) none (alone saving.es saving.running.opened (sym saving.running.opened.defers_is ∙ quiet)) in
+      let keeps = KeepsPools-gate n active.log_number (ByCommit active.tx.log) old new is.pool.known (λ k v may. may.gate ∙ is.gate) c in
+      subst (λ (m : ℕ). IsKnown m (reads new.now.words) known) (sym on)
+      (keeps.known active.slot known (λ no. none-some active.slot no) (graph_parts n active.slot now known.puddles (ready.knows.judged.each active.slot known.puddles (ap puddles_known is_known))) (ready.knows.judged.known active.slot known is_known))
 
 -- the client's own is undone
 aborted_world : (w : World) (client : ℕ) (name : List ℕ) (number : ℕ) (active : List (Option ActiveTransaction)) → IsOwnTransaction client name number active → world_without_log (active_under active number) w ≡ after w (Abort client name)

@@ -111,7 +111,7 @@ finishes_field F at image false s f x goal so = so
 -- the puddle that it writes is that of its object, or of the root
 pub finishes_found : (F : ℕ) (at : List (ℕ × Puddle)) (image : Image) (update : Update) (found : FoundUpdate) → IsFoundWithin at found → IsFoundBy F at image update found
     → FinishesFor F at image update (end_of (ordinal_written found))
-finishes_found F at image update (Field slot f word later) within by =
+finishes_found F at image update (Field slot f word read x later) within by =
     subst (λ (u : Update). FinishesFor F at image u (end_of slot.ordinal)) (sym by.is) (finishes_field F at image later by.s f by.x (end_of slot.ordinal) (finishes_object F at image by.s slot within.0 by.found.0))
 finishes_found F at image update (Root word) within by = subst (λ (u : Update). FinishesFor F at image u (end_of 0)) (sym by.is) refl
 finishes_found F at image update (Object slot) within by =

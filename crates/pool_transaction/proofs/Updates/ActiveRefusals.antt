@@ -79,7 +79,7 @@ module _ (size : ℕ) (w : World) (memory : Memory) (s : State) (ready : IsReady
   own_active = own_is_open w memory.active ready.mask s.now.words active.client active.name number ready.active (record { active = active; is = there; whose = refl; pool = refl })
 
   -- its puddles have the graph that its client sees
-  graph_active : (frames : ℕ) → frames ≡ w.stored.frames → graph_of (types_of image) (stored_in frames is.puddles image) ≡ Some is.transaction.now
+  pub graph_active : (frames : ℕ) → frames ≡ w.stored.frames → graph_of (types_of image) (stored_in frames is.puddles image) ≡ Some is.transaction.now
   graph_active frames on = (λ p. graph_of ((types_read size w memory s ready).types p) (stored_in (on p) is.puddles image)) ∙ is.running.is
 
   -- and lie as those of a scope

@@ -31,7 +31,7 @@ used_more (Ok x) units now old told none = told
 used_more (Err fault) units now old told none = absurd (let no : Some fault ≡ None = none in cc)
 
 -- what a line makes of the world
-after_line : (w : World) (client : ℕ) (name : List ℕ) (change : Update) → after w (command_of_update change client name) ≡ record w { transactions = with_changed name (changed_by change) w.transactions }
+pub after_line : (w : World) (client : ℕ) (name : List ℕ) (change : Update) → after w (command_of_update change client name) ≡ record w { transactions = with_changed name (changed_by change) w.transactions }
 unfolding after
 after_line w client name (Set s f x) = refl
 after_line w client name (Later s f x) = refl

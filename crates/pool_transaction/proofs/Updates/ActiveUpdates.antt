@@ -1,16 +1,19 @@
 -- A line that updates an active transaction: the puddle that it writes is rewritten to its end, and then the update is made.
 use Rattle.std.proofs.Common.{◌≡◌, ℕ, ◌+◌, List, set, Option, Some, None, Result, sym, ap, subst, ◌∙◌}
 use Rattle.std.specs.Prelude.{IfOk}
+use Rattle.std.proofs.lemmas.Option.{same_Some}
 use Rattle.pm_model.specs.declared.host.HostFault.{HostFault}
 use Rattle.pm_model.specs.Counts.{fault_of}
 use Rattle.pm_model.specs.Words.{reads}
 use Rattle.pm_model.specs.Moments.{State}
 use Rattle.pud_defs.specs.declared.layout.TheConstants.{DAEMON_LOG, SET_UNITS}
 use Rattle.pud_defs.specs.declared.records.Puddle.{Puddle}
-use Rattle.pud_defs.specs.PoolGraphs.Graph.{Graph}
+use Rattle.pud_defs.specs.PoolGraphs.Graph.{Graph, graph_of}
 use Rattle.pud_defs.specs.Formats.Image.{Image}
 use Rattle.pud_defs.specs.PoolGraphs.DeferredValues.{DeferredValue}
 use Rattle.pud_defs.specs.StateMachine.Step.{refusal_of, after}
+use Rattle.pud_defs.specs.PoolGraphs.Stored.{stored_in}
+use Rattle.pud_defs.specs.RegistryTables.Types.{types_of}
 use Rattle.pud_defs.specs.StateMachine.World.{Transaction, World}
 use Rattle.log_store.specs.Store.{OpenLog}
 use Rattle.batch.specs.Batches.{HasIdleGate}
@@ -21,7 +24,7 @@ use Rattle.hybrid_tx.specs.PoolScopes.{ArePlacedPuddles, IsRewrittenAt}
 use Rattle.hybrid_tx.specs.Objects.Transactions.{OpenTx, IsOpenOn, KeepsOpenOn}
 use Rattle.pool_transaction.specs.declared.changing.FoundUpdate.{FoundUpdate}
 use Rattle.pool_transaction.specs.declared.changing.Update.{Update}
-use Rattle.pool_transaction.specs.Changing.{IsActiveIn, with_opened, command_of_update, changed_by, MayChange, IsFoundBy, ordinal_written}
+use Rattle.pool_transaction.specs.Changing.{IsActiveIn, with_opened, command_of_update, changed_by, MayChange, IsFoundBy, IsReadOf, SparesSerials, FollowsUpdate, ordinal_written}
 use Rattle.ready_daemon.specs.PoolKnowledge.{puddles_known, KnowsAlone}
 use Rattle.ready_daemon.specs.Memory.{ActiveTransaction, Memory}
 use Rattle.ready_daemon.specs.ActiveTransactions.{IsActive}
@@ -29,14 +32,18 @@ use Rattle.ready_daemon.specs.Moves.{led_in}
 use Rattle.ready_daemon.specs.Ready.{IsReady}
 use Rattle.ready_daemon.proofs.OpenTransactions.ActiveUnder.{active_same}
 use Rattle.ready_daemon.proofs.PoolChanges.InTurn.{active_known}
+use Rattle.ready_daemon.proofs.PoolChanges.TablesBeside.{types_read}
+use Rattle.pool_transaction.proofs.Updates.FieldsTyped.{may_change_unrefused}
+use Rattle.pool_transaction.proofs.Updates.KnownFollows.{IsKnown-followed}
 use Rattle.pool_transaction.specs.Finishing.{end_of, AppliesTo}
 use Rattle.pool_transaction.proofs.PuddlesFinished.Arriving.{AreEnds}
 use Rattle.pool_transaction.proofs.PuddlesFinished.Leading.{ends_finished}
 use Rattle.pool_transaction.proofs.PuddlesFinished.StepsMoved.{upto}
-use Rattle.known_pool.specs.Known.{by_puddles}
+use Rattle.known_pool.specs.Known.{Known, IsKnown, by_puddles, with_puddles}
+use Rattle.known_pool.proofs.KnownKept.{KeepsSerials, IsKnown-kept}
 use Rattle.pool_transaction.proofs.NewObjects.ActiveLines.{known_same}
 use Rattle.pool_transaction.proofs.Lifetimes.ActiveRuns.{with_tx, is_active}
-use Rattle.pool_transaction.proofs.Updates.ActiveSets.{same_stored, Applies-line}
+use Rattle.pool_transaction.proofs.Updates.ActiveSets.{after_line, same_stored, owed, Applies-line}
 use Rattle.pool_transaction.proofs.PuddlesFinished.FinishedPools.{IsRewrittenAt-finished}
 use Rattle.pool_transaction.proofs.PuddlesFinished.FoundBehind.{found_behind}
 use Rattle.pool_transaction.proofs.PuddlesFinished.ActiveFinishes.{its_frontiers, Applies-unfinished, ready_finished, known_finished, spared_finished, Applies-behind}
@@ -118,3 +125,36 @@ module _ (size : ℕ) (w : World) (memory : Memory) (active : ActiveTransaction)
         (Applies-line size w then active mid active.log_number its.there still_ready F lent on listed tx new gate (subst (KnowsAlone then.judged active.slot) (sym same) known_then) update done free
         (λ may placed running. runs w.stored.types one.before one.graph_before one.transaction update placed rewritten_lent running may (found_lent by))
         (λ placed running. counts w.stored.types one.before one.graph_before one.transaction.now one.transaction.deferred running)))
+
+    -- what is known of the pool is so then, where it went the way of the update
+    pub Known-updated : (tx : OpenTx) (new : State) → tx.log.gate_at ≡ active.tx.log.gate_at → (done : Result Unit HostFault) → refusal_of w (command_of_update update active.client active.name) ≡ None
+        → IsFoundBy F at (reads old.now.words) update found → CarriesOut F lent found active.tx.log tx.log (fault_of done) mid new → CountsOut F lent active.tx tx done mid
+        → (fault_of done ≡ None → SparesSerials F lent found (reads mid.now.words) (reads new.now.words)) → (g : Graph) → graph_of (types_of (reads old.now.words)) (stored_in F at (reads old.now.words)) ≡ Some g
+        → IsReadOf g update found → (known : Known) → known.puddles ≡ at → IsKnown F (reads old.now.words) known → (more : Known) → FollowsUpdate found (with_puddles later known) more → fault_of done ≡ None
+        → IsKnown F (reads new.now.words) more
+    Known-updated tx new gate done free by runs counts serials g stored read known puddles so more follows none =
+        let ready_new = (Applies-update tx new gate done free by runs counts).applies.ready none in
+        let one : IsActive w active still_ready.mask mid.now.words = is_active size w then active mid active.log_number its.there still_ready in
+        let was : IsActive w active ready.mask old.now.words = is_active size w memory active old active.log_number its.there ready in
+        let same_mid : later ≡ one.puddles = sym (active_known size w then mid still_ready active.log_number active its.there later (ap puddles_known known_then)) in
+        let same_old : known.puddles ≡ was.puddles = puddles ∙ sym (active_known size w memory old ready active.log_number active its.there at (ap puddles_known its.known)) in
+        let types_mid = (types_read size w then mid still_ready).types in
+        let types_old = (types_read size w memory old ready).types in
+        let types_new = (types_read size next (with_opened active.log_number active.slot (with_tx tx active) later memory) new ready_new).types ∙ ap (λ (v : World). v.stored.types) (after_line w active.client active.name update) in
+        let graph_mid : graph_of (types_of (reads mid.now.words)) (stored_in F later (reads mid.now.words)) ≡ Some one.transaction.now =
+        (λ p. graph_of (types_mid p) (stored_in (on p) (same_mid p) (reads mid.now.words))) ∙ one.running.is in
+        let graph_old : graph_of (types_of (reads old.now.words)) (stored_in F known.puddles (reads old.now.words)) ≡ Some was.transaction.now =
+        (λ p. graph_of (types_old p) (stored_in (on p) (same_old p) (reads old.now.words))) ∙ was.running.is in
+        let its_graph : was.transaction.now ≡ g = same_Some was.transaction.now g (sym graph_old ∙ ap (λ (ps : List (ℕ × Puddle)). graph_of (types_of (reads old.now.words)) (stored_in F ps (reads old.now.words))) puddles ∙ stored) in
+        let one_graph : one.transaction.now ≡ g = ap (λ (t : Transaction). t.now) (same_Some one.transaction was.transaction (sym one.is ∙ was.is)) ∙ its_graph in
+        let spares = spared_finished size w memory active old active.log_number its.there ready F on at its.known goal later mid finishes in
+        let kept : KeepsSerials F known.puddles later (reads old.now.words) (reads mid.now.words) =
+        subst (λ (ps : List (ℕ × Puddle)). KeepsSerials F ps later (reads old.now.words) (reads mid.now.words)) (sym puddles) (record { count = spares.moved.count; each = spares.serials }) in
+        let known_mid = IsKnown-kept F known later (reads old.now.words) (reads mid.now.words) g (graph_old ∙ ap (λ (k : Graph). Some k) its_graph) (graph_mid ∙ ap (λ (k : Graph). Some k) one_graph) kept so in
+        let may = may_change_unrefused w active.client active.name update (stored_in w.stored.frames one.puddles (reads mid.now.words)) one.transaction one.is one.running.is free in
+        let ran = owed size w then active mid active.log_number its.there still_ready F lent on (same ∙ same_mid) tx new gate (changed_by update) (fault_of done)
+        (λ placed running. runs w.stored.types one.before one.graph_before one.transaction update placed rewritten_lent running may (found_lent by)) in
+        let after_then : graph_of (types_of (reads mid.now.words)) (stored_in F later (reads new.now.words)) ≡ Some (changed_by update one.transaction).now =
+        (λ p. graph_of (types_mid p) (stored_in (on p) (same_mid p) (reads new.now.words))) ∙ ran.is none in
+        IsKnown-followed F (with_puddles later known) (reads mid.now.words) (reads new.now.words) g (graph_mid ∙ ap (λ (k : Graph). Some k) one_graph) (types_new ∙ sym types_mid) known_mid update one.transaction one_graph after_then more found read
+        (subst (λ (ps : List (ℕ × Puddle)). SparesSerials F ps found (reads mid.now.words) (reads new.now.words)) same (serials none)) follows

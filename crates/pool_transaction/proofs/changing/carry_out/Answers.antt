@@ -1,9 +1,21 @@
 use Rattle.std.proofs.Common.{inl}
+use Rattle.pm_model.specs.Counts.{fault_of}
 use Rattle.pm_model.proofs.Changes.{Changes-wider}
 use Rattle.log_store.specs.Store.{InLog}
 use Rattle.word_transaction.specs.Running.{ByTransaction}
 use Rattle.hybrid_tx.specs.PoolScopes.{pool_scope}
+use Rattle.pool_transaction.proofs.Updates.SerialsSpared.{serials_beside, serials_put}
 use Rattle.pool_transaction.proofs.changing.carry_out.Goals as goal
 
 pub returns-then-later-clause-changes : goal.returns-then-later-clause-changes
 returns-then-later-clause-changes g c = λ t. Changes-wider (InLog c.args.tx.now.log.gate_at) (ByTransaction (pool_scope c.args.frames c.args.pool.now) c.args.tx.now.log.gate_at) _ _ _ (λ k v inside. inl inside) (c.later_at.ensures.changes t)
+
+pub returns-then-later-clause-serials : goal.returns-then-later-clause-serials
+returns-then-later-clause-serials g c = rw c.in-Field.is (λ t none.
+    serials_beside c.args.frames c.args.pool.now (g.H.Host.state c.args.h.now) (g.H.Host.state c.later_at.new.h) c.args.tx.now.log.gate_at c.requires.place (fault_of c.later_at.result) none (c.later_at.ensures.changes t))
+
+pub returns-else-later-clause-serials : goal.returns-else-later-clause-serials
+returns-else-later-clause-serials g c = rw c.in-Field.is (λ t none.
+    let within = rw c.in-Field.is at c.requires.within in
+    serials_put c.args.frames c.args.pool.now (g.H.Host.state c.args.h.now) (g.H.Host.state c.set_at.new.h) c.args.tx.now.log.gate_at c.requires.place c.in-Field.at within.0 c.in-Field.f c.in-Field.word within.1
+    (fault_of c.set_at.result) none (c.set_at.ensures.puts t))

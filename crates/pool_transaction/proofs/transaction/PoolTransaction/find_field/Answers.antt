@@ -1,44 +1,67 @@
-use Rattle.std.proofs.Common.{ℕ, List, Option, IfSome, refl, sym, ap, subst, ◌∙◌}
+use Rattle.std.proofs.Common.{◌≡◌, ℕ, List, Option, Some, option_map, IfSome, refl, sym, ap, subst, ◌∙◌}
+use Rattle.pm_model.specs.Words.{reads}
 use Rattle.pm_model.proofs.Reading.{still_reads}
 use Rattle.pud_defs.specs.declared.records.Puddle.{Puddle}
 use Rattle.pud_defs.specs.declared.records.Slot.{Slot}
-use Rattle.hybrid_tx.specs.PoolScopes.{ArePlacedPuddles}
+use Rattle.pud_defs.specs.PoolGraphs.Graph.{Object, object_at}
+use Rattle.puddle_header.specs.Places.{place_of_slot}
+use Rattle.graph_read.specs.Reading.{table_in, read_by}
+use Rattle.graph_read.proofs.Found.{object_in-place}
 use Rattle.hybrid_tx.specs.Objects.Stores.{IsPlaceAndWord}
 use Rattle.ready_daemon.specs.Memory.{ActiveTransaction}
 use Rattle.ready_daemon.proofs.PoolChanges.InTurn.{active_known}
+use Rattle.pool_transaction.proofs.Lifetimes.ActiveAlone.{known_so}
 use Rattle.pool_transaction.proofs.Updates.ActiveRefusals.{refused_unfound, refused_to_set}
 use Rattle.ready_daemon.specs.PoolKnowledge.{puddles_known}
 use Rattle.pool_transaction.proofs.transaction.PoolTransaction.find_field.Goals as goal
 
 pub returns-in_default-clause-refusal : goal.returns-in_default-clause-refusal
 returns-in_default-clause-refusal g c = λ t size w memory its ready.
-    refused_unfound size w memory _ ready c.args.self.now c.args.self.now.log_number its.there c.args.frames c.as_slice-puddles.result.now (sym its.frames ∙ ready.frames)
-    (c.as_slice-puddles.ensures.puddles ∙ sym (active_known size w memory _ ready c.args.self.now.log_number c.args.self.now its.there c.args.pool.now.puddles (ap puddles_known its.known)))
-    c.args.s c.args.f c.args.x (λ placed. c.in_ok-at.ensures.none t placed.legal _ refl c.in_default.is)
+    let known = known_so c.args.frames c.args.self.now c.args.pool.now memory its size w (g.H.Host.state c.args.h.now) ready in
+    refused_unfound size w memory _ ready c.args.self.now c.args.self.now.log_number its.there c.args.frames c.args.pool.now.puddles (sym its.frames ∙ ready.frames)
+    (sym (active_known size w memory _ ready c.args.self.now.log_number c.args.self.now its.there c.args.pool.now.puddles (ap puddles_known its.known)))
+    c.args.s c.args.f c.args.x (λ placed. c.in_ok-at.ensures.none t placed.legal _ refl known c.in_default.is)
 
 pub returns-in-Some-field_refusal-clause-refusal : goal.returns-in-Some-field_refusal-clause-refusal
 returns-in-Some-field_refusal-clause-refusal g c = λ t size w memory its ready.
+    let now = reads (g.H.Host.state c.args.h.now).now.words in
+    let known = known_so c.args.frames c.args.self.now c.args.pool.now memory its size w (g.H.Host.state c.args.h.now) ready in
     sym c.in-Some-field_refusal.is ∙ c.field_refusal.ensures.refusal
-    ∙ refused_to_set size w memory _ ready c.args.self.now c.args.self.now.log_number its.there c.args.frames c.as_slice-puddles.result.now (sym its.frames ∙ ready.frames)
-    (c.as_slice-puddles.ensures.puddles ∙ sym (active_known size w memory _ ready c.args.self.now.log_number c.args.self.now its.there c.args.pool.now.puddles (ap puddles_known its.known)))
-    c.args.s c.args.f c.units.result c.args.x c.in-Some.at c.in-Some.word c.in_ok-read.read _ c.in-Some.is (λ placed. c.in_ok-at.ensures.found t placed.legal _ refl)
-    (c.in_ok-read.ensures.read t _ (still_reads c.in_ok-at.ensures.only_reads t refl)) (c.units.ensures.units ∙ ap (λ (h : ActiveTransaction). h.tx.units) c.self.view_is)
+    ∙ refused_to_set size w memory _ ready c.args.self.now c.args.self.now.log_number its.there c.args.frames c.args.pool.now.puddles (sym its.frames ∙ ready.frames)
+    (sym (active_known size w memory _ ready c.args.self.now.log_number c.args.self.now its.there c.args.pool.now.puddles (ap puddles_known its.known)))
+    c.args.s c.args.f c.units.result c.args.x c.in-Some.at c.in-Some.word c.in_ok-read.read _ c.in-Some.is (λ placed. c.in_ok-at.ensures.found t placed.legal _ refl known)
+    (subst (λ (ps : List (ℕ × Puddle)). c.in_ok-read.read ≡ read_by (Some (object_at (table_in c.args.frames ps now) (place_of_slot c.in-Some.at))) c.args.f) c.as_slice.ensures.puddles
+    (c.in_ok-read.ensures.read t now (still_reads c.in_ok-at.ensures.only_reads t refl))) (c.units.ensures.units ∙ ap (λ (h : ActiveTransaction). h.tx.units) c.self.view_is)
 
 pub returns-in-None-clause-refusal : goal.returns-in-None-clause-refusal
 returns-in-None-clause-refusal g c = λ t size w memory its ready.
+    let now = reads (g.H.Host.state c.args.h.now).now.words in
+    let known = known_so c.args.frames c.args.self.now c.args.pool.now memory its size w (g.H.Host.state c.args.h.now) ready in
     sym c.in-None.is ∙ c.field_refusal.ensures.refusal
-    ∙ refused_to_set size w memory _ ready c.args.self.now c.args.self.now.log_number its.there c.args.frames c.as_slice-puddles.result.now (sym its.frames ∙ ready.frames)
-    (c.as_slice-puddles.ensures.puddles ∙ sym (active_known size w memory _ ready c.args.self.now.log_number c.args.self.now its.there c.args.pool.now.puddles (ap puddles_known its.known)))
-    c.args.s c.args.f c.units.result c.args.x c.in-Some.at c.in-Some.word c.in_ok-read.read _ c.in-Some.is (λ placed. c.in_ok-at.ensures.found t placed.legal _ refl)
-    (c.in_ok-read.ensures.read t _ (still_reads c.in_ok-at.ensures.only_reads t refl)) (c.units.ensures.units ∙ ap (λ (h : ActiveTransaction). h.tx.units) c.self.view_is)
+    ∙ refused_to_set size w memory _ ready c.args.self.now c.args.self.now.log_number its.there c.args.frames c.args.pool.now.puddles (sym its.frames ∙ ready.frames)
+    (sym (active_known size w memory _ ready c.args.self.now.log_number c.args.self.now its.there c.args.pool.now.puddles (ap puddles_known its.known)))
+    c.args.s c.args.f c.units.result c.args.x c.in-Some.at c.in-Some.word c.in_ok-read.read _ c.in-Some.is (λ placed. c.in_ok-at.ensures.found t placed.legal _ refl known)
+    (subst (λ (ps : List (ℕ × Puddle)). c.in_ok-read.read ≡ read_by (Some (object_at (table_in c.args.frames ps now) (place_of_slot c.in-Some.at))) c.args.f) c.as_slice.ensures.puddles
+    (c.in_ok-read.ensures.read t now (still_reads c.in_ok-at.ensures.only_reads t refl))) (c.units.ensures.units ∙ ap (λ (h : ActiveTransaction). h.tx.units) c.self.view_is)
 
 pub returns-in-None-clause-found : goal.returns-in-None-clause-found
 returns-in-None-clause-found g c = λ t image same known placed.
-    let lent = subst (ArePlacedPuddles c.args.frames) (sym c.as_slice-puddles.ensures.puddles) placed in
     record {
       s = c.args.s;
       x = c.args.x;
       is = refl;
-      found = subst (λ (ps : List (ℕ × Puddle)). IsPlaceAndWord c.args.frames ps image c.args.s c.args.x (c.in-Some.at, c.in-Some.word)) c.as_slice-puddles.ensures.puddles
-          (subst (λ (o : Option (Slot × ℕ)). IfSome o (IsPlaceAndWord c.args.frames c.as_slice-puddles.result.now image c.args.s c.args.x)) c.in-Some.is (c.in_ok-at.ensures.found t lent.legal image same));
+      found = subst (λ (o : Option (Slot × ℕ)). IfSome o (IsPlaceAndWord c.args.frames c.args.pool.now.puddles image c.args.s c.args.x)) c.in-Some.is (c.in_ok-at.ensures.found t placed.legal image same known);
+    }
+
+pub returns-in-None-clause-read : goal.returns-in-None-clause-read
+returns-in-None-clause-read g c = λ t image same known placed graph stored.
+    let F = c.args.frames in
+    let at = c.args.pool.now.puddles in
+    let there = subst (λ (o : Option (Slot × ℕ)). IfSome o (IsPlaceAndWord F at image c.args.s c.args.x)) c.in-Some.is (c.in_ok-at.ensures.found t placed.legal image same known) in
+    record {
+      s = c.args.s;
+      is = refl;
+      holds = subst (λ (ps : List (ℕ × Puddle)). c.in_ok-read.read ≡ read_by (Some (object_at (table_in F ps image) (place_of_slot c.in-Some.at))) c.args.f) c.as_slice.ensures.puddles
+          (c.in_ok-read.ensures.read t image (still_reads c.in_ok-at.ensures.only_reads t same))
+          ∙ sym (ap (λ (o : Option Object). read_by o c.args.f) (object_in-place F at image graph c.args.s stored ∙ ap (option_map (object_at (table_in F at image))) there.0));
     }

@@ -2,7 +2,7 @@ use Rattle.std.proofs.Common.{◌≡◌, IfOk, sym, subst}
 use Rattle.pud_defs.specs.StateMachine.Step.{refusal_of}
 use Rattle.registry.specs.Places.{refusal_in}
 use Rattle.pool_transaction.specs.declared.changing.Update.{Update}
-use Rattle.pool_transaction.specs.Changing.{command_of_update, IsFoundBy}
+use Rattle.pool_transaction.specs.Changing.{command_of_update, IsFoundBy, IsReadOf}
 use Rattle.pool_transaction.proofs.Updates.TransactionRefusals.{refusal_of-later}
 use Rattle.pool_transaction.proofs.transaction.PoolTransaction.find_update.Goals as goal
 
@@ -42,3 +42,19 @@ returns-in-Free-clause-refusal g c = λ t size w memory its ready.
 pub returns-in-Free-clause-found : goal.returns-in-Free-clause-found
 returns-in-Free-clause-found g c = λ t image same known placed.
     subst (λ (update : Update). IfOk c.find_free.result (λ found. IfOk found (IsFoundBy c.args.frames c.args.pool.now.puddles image update))) (sym c.in-Free.is) (c.find_free.ensures.found t image same known placed)
+
+pub returns-in-Set-clause-read : goal.returns-in-Set-clause-read
+returns-in-Set-clause-read g c = λ t image same known placed graph stored.
+    subst (λ (update : Update). IfOk c.find_field.result (λ found. IfOk found (IsReadOf graph update))) (sym c.in-Set.is) (c.find_field.ensures.read t image same known placed graph stored)
+
+pub returns-in-Later-clause-read : goal.returns-in-Later-clause-read
+returns-in-Later-clause-read g c = λ t image same known placed graph stored.
+    subst (λ (update : Update). IfOk c.find_field-in-Later.result (λ found. IfOk found (IsReadOf graph update))) (sym c.in-Later.is) (c.find_field-in-Later.ensures.read t image same known placed graph stored)
+
+pub returns-in-Root-clause-read : goal.returns-in-Root-clause-read
+returns-in-Root-clause-read g c = λ t image same known placed graph stored.
+    subst (λ (update : Update). IfOk c.find_root.result (λ found. IfOk found (IsReadOf graph update))) (sym c.in-Root.is) (c.find_root.ensures.read t image same known placed graph stored)
+
+pub returns-in-Free-clause-read : goal.returns-in-Free-clause-read
+returns-in-Free-clause-read g c = λ t image same known placed graph stored.
+    subst (λ (update : Update). IfOk c.find_free.result (λ found. IfOk found (IsReadOf graph update))) (sym c.in-Free.is) (c.find_free.ensures.read t image same known placed graph stored)

@@ -1,9 +1,11 @@
 use Rattle.std.proofs.Common.{◌≡◌, ℕ, List, None, sym, ◌∙◌, subst, arith}
 use Rattle.std.proofs.lemmas.Result.{err_from_is_err_and}
 use Rattle.pm_model.specs.Counts.{fault_of}
+use Rattle.pm_model.specs.Words.{reads}
 use Rattle.pud_defs.specs.declared.records.Puddle.{Puddle}
 use Rattle.pud_defs.specs.PoolGraphs.Stored.{IsOnDevice}
 use Rattle.pud_defs.specs.StateMachine.Step.{refusal_of, after}
+use Rattle.known_pool.specs.Known.{IsKnown}
 use Rattle.lazy_rewrite.proofs.Spared.{HaveMoved}
 use Rattle.pool_transaction.specs.Changing.{IsActiveIn, with_opened, command_of_update}
 use Rattle.ready_daemon.specs.Memory.{ActiveTransaction}
@@ -12,7 +14,7 @@ use Rattle.ready_daemon.proofs.Commands.Keeping.{KeepsRest-changes, KeepsRest-th
 use Rattle.pool_transaction.proofs.Lifetimes.ActiveRuns.{with_tx}
 use Rattle.pool_transaction.proofs.PuddlesFinished.FinishedPools.{HaveMoved-finished}
 use Rattle.pool_transaction.proofs.PuddlesFinished.FoundBehind.{found_within_behind}
-use Rattle.pool_transaction.proofs.Updates.ActiveUpdates.{Applies-unfinished_update, Applies-update}
+use Rattle.pool_transaction.proofs.Updates.ActiveUpdates.{Applies-unfinished_update, Applies-update, Known-updated}
 use Rattle.ready_daemon.specs.Moves.{led_in}
 use Rattle.pool_transaction.specs.Finishing.{end_of, AppliesTo}
 use Rattle.pool_transaction.specs.Changing.{ordinal_written}
@@ -53,6 +55,23 @@ returns-clause-applies g c = λ t update size e w memory its ready free found.
     (λ its free.
     Applies-update size w memory active old c.args.frames at its ready update o later (g.H.Host.state c.finish.new.h) c.args.found c.ordinal_written.ensures c.in_ok-finish.ensures.pool (c.in_ok-finish.ensures.rewrites t size e)
     c.as_slice.result.now c.as_slice.ensures.puddles c.carry_out-done.new.tx new c.carry_out-done.ensures.at c.carry_out-done.result free found (c.carry_out-done.ensures.runs t) (c.carry_out-done.ensures.counts t))
+    its free
+
+pub returns-clause-keeps : goal.returns-clause-keeps
+returns-clause-keeps g c = λ t update size e w memory its ready free found graph stored read known puddles so next follows.
+    let i = c.self.inside in
+    let active : ActiveTransaction = record { client = i.client; name = i.name; slot = i.slot; log_number = i.log_number; tx = i.tx } in
+    let at = c.args.pool.now in
+    let o = c.ordinal_written.result in
+    let later = c.finish.new.pool in
+    let old = g.H.Host.state c.args.h.now in
+    let new = g.H.Host.state c.carry_out-done.new.h in
+    subst (λ (h : ActiveTransaction). IsActiveIn c.args.frames h at memory → refusal_of w (command_of_update update h.client h.name) ≡ None → fault_of c.carry_out-done.result ≡ None → IsKnown c.args.frames (reads new.now.words) next)
+    c.self.view_is
+    (λ its free none.
+    Known-updated size w memory active old c.args.frames at its ready update o later (g.H.Host.state c.finish.new.h) c.args.found c.ordinal_written.ensures c.in_ok-finish.ensures.pool (c.in_ok-finish.ensures.rewrites t size e)
+    c.as_slice.result.now c.as_slice.ensures.puddles c.carry_out-done.new.tx new c.carry_out-done.ensures.at c.carry_out-done.result free found (c.carry_out-done.ensures.runs t) (c.carry_out-done.ensures.counts t)
+    (c.carry_out-done.ensures.serials t) graph stored read known puddles so next follows none)
     its free
 
 pub returns-clause-within : goal.returns-clause-within

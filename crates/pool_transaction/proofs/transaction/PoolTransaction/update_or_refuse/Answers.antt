@@ -5,17 +5,17 @@ use Rattle.pm_model.proofs.Reading.{still_size}
 use Rattle.pm_model.specs.Words.{reads}
 use Rattle.pud_defs.specs.declared.records.Puddle.{Puddle}
 use Rattle.pud_defs.specs.StateMachine.Step.{refusal_of, world_by}
+use Rattle.pud_defs.specs.PoolGraphs.Stored.{IsOnDevice}
 use Rattle.pud_defs.proofs.StateMachine.Steps.{refused_answer}
-use Rattle.known_pool.specs.Known.{Known, IsKnown, with_puddles}
-use Rattle.known_pool.proofs.KnownKept.{IsKnown-puddles}
+use Rattle.known_pool.specs.Known.{Known, with_puddles}
 use Rattle.registry.specs.Places.{refusal_in}
-use Rattle.pool_transaction.specs.Changing.{with_known, command_of_update, IsFoundWithin}
+use Rattle.pool_transaction.specs.Changing.{with_known, command_of_update, IsFoundWithin, FollowsUpdate}
 use Rattle.ready_daemon.specs.Memory.{Memory}
 use Rattle.ready_daemon.specs.Ready.{IsReady}
 use Rattle.ready_daemon.proofs.Commands.Applying.{Applies-stopped, Applies-refused}
 use Rattle.pool_transaction.proofs.Updates.ChangeAnswers.{change_answer}
 use Rattle.pool_transaction.proofs.Lifetimes.ActiveAlone.{known_so, known_on}
-use Rattle.pool_transaction.proofs.Updates.ActiveFound.{placed_on, Applies-found}
+use Rattle.pool_transaction.proofs.Updates.ActiveFound.{placed_on, seen_on, stored_on, Applies-found, Applies-followed}
 use Rattle.pool_transaction.specs.Finishing.{FinishesFor, FinishesUnless}
 use Rattle.pool_transaction.proofs.PuddlesFinished.Leading.{finishing_failed, finishing_refused}
 use Rattle.pool_transaction.proofs.transaction.PoolTransaction.update_or_refuse.Goals as goal
@@ -46,8 +46,11 @@ returns-in-Err-clause-applies g c = λ t size e w memory its ready.
 
 pub update-requires-clause-found : goal.update-requires-clause-found
 update-requires-clause-found g c =
-    let puddles : c.pool.inside.puddles ≡ c.args.pool.now.puddles = ap (λ (k : Known). k.puddles) (c.pool.view_is ∙ c.forget.ensures) in
+    let puddles : c.pool.inside.puddles ≡ c.args.pool.now.puddles = ap (λ (k : Known). k.puddles) c.pool.view_is in
     subst (λ (at : List (ℕ × Puddle)). IsFoundWithin at c.in-Ok.found) (sym puddles) (rw c.in-Ok.is at c.in_ok-found.ensures.within)
+
+pub returns-clause-known : goal.returns-clause-known
+returns-clause-known g c = subst (IsOnDevice c.args.frames) (sym c.follow.ensures.puddles) c.in_ok-update.ensures.known
 
 pub returns-clause-reply : goal.returns-clause-reply
 returns-clause-reply g c = λ t size w memory its ready.
@@ -62,12 +65,11 @@ returns-in_err-update-clause-applies g c =
     let known = c.args.pool.now in
     let F = c.args.frames in
     let old = g.H.Host.state c.args.h.now in
-    let view = c.pool.view_is ∙ c.forget.ensures in
     let k = c.in_ok-found.ensures in
     let free = sym (k.refusal t size w memory its ready) ∙ ap refusal_in c.in-Ok.is in
     let by = rw c.in-Ok.is at (k.found t (reads old.now.words) refl (known_so F active known memory its size w old ready) (placed_on F active known memory its size w old ready)) in
     Applies-found F active known memory its size w old ready c.args.update c.in-Ok.found free (rw c.in-Ok.is at k.within) by c.pool.inside.puddles c.update.new.pool c.update.new.self _ (Some c.in_err-update.field-0.0) _ _
-    (ap (λ (x : Known). x.puddles) view) refl (k.only_reads.stays t) (c.in_err-update.ensures.applies t c.args.update size (still_size k.only_reads e) w) (λ none. absurd (none-some _ (sym none))))
+    (ap (λ (x : Known). x.puddles) c.pool.view_is) refl (k.only_reads.stays t) (c.in_err-update.ensures.applies t c.args.update size (still_size k.only_reads e) w) (λ none. absurd (none-some _ (sym none))))
 
 pub returns-clause-applies : goal.returns-clause-applies
 returns-clause-applies g c = λ t size e w memory its ready.
@@ -75,10 +77,14 @@ returns-clause-applies g c = λ t size e w memory its ready.
     let known = c.args.pool.now in
     let F = c.args.frames in
     let old = g.H.Host.state c.args.h.now in
-    let view = c.pool.view_is ∙ c.forget.ensures in
     let k = c.in_ok-found.ensures in
+    let u = c.in_ok-update.ensures in
+    let same = still_size k.only_reads e in
+    let placed = placed_on F active known memory its size w old ready in
     let free = sym (k.refusal t size w memory its ready) ∙ ap refusal_in c.in-Ok.is in
-    let by = rw c.in-Ok.is at (k.found t (reads old.now.words) refl (known_so F active known memory its size w old ready) (placed_on F active known memory its size w old ready)) in
-    Applies-found F active known memory its size w old ready c.args.update c.in-Ok.found free (rw c.in-Ok.is at k.within) by c.pool.inside.puddles c.update.new.pool c.update.new.self _ None _ _
-    (ap (λ (x : Known). x.puddles) view) refl (k.only_reads.stays t) (c.in_ok-update.ensures.applies t c.args.update size (still_size k.only_reads e) w)
-    (λ none. subst (IsKnown F _) (sym (ap (with_puddles c.update.new.pool) view)) (IsKnown-puddles F c.update.new.pool _))
+    let by = rw c.in-Ok.is at (k.found t (reads old.now.words) refl (known_so F active known memory its size w old ready) placed) in
+    let read = rw c.in-Ok.is at (k.read t (reads old.now.words) refl (known_so F active known memory its size w old ready) placed (seen_on F active known memory its size w old ready) (stored_on F active known memory its size w old ready)) in
+    Applies-followed F active known memory its size w old ready c.args.update c.in-Ok.found free (rw c.in-Ok.is at k.within) by c.pool.inside.puddles c.update.new.pool c.update.new.self c.follow.new.pool None _ _
+    (ap (λ (x : Known). x.puddles) c.pool.view_is) c.follow.ensures.puddles (k.only_reads.stays t) (u.applies t c.args.update size same w)
+    (u.keeps t c.args.update size same w) read
+    (subst (λ (x : Known). FollowsUpdate c.in-Ok.found x c.follow.new.pool) (ap (with_puddles c.update.new.pool) c.pool.view_is) c.follow.ensures.follows)
