@@ -1,5 +1,5 @@
 -- What is left in memory, and of the world, once transactions have ended.
-use Rattle.std.specs.Prelude.{ℕ, ◌≤◌, List, set, Option, Some, None}
+use Rattle.std.specs.Prelude.{ℕ, ◌≤◌, Bool, ◌||◌, cond, List, set, Option, Some, None}
 use Rattle.pm_model.specs.Changes.{Footprint}
 use Rattle.pud_defs.specs.Formats.Layout.{tables_end}
 use Rattle.pud_defs.specs.StateMachine.Transactions.{with_open, without_client}
@@ -18,6 +18,11 @@ sessions_behind (Some active) sessions = set sessions active.slot None
 abbrev pub judged_behind : Option ActiveTransaction → List (Option Known) → List (Option Known)
 judged_behind None judged = judged
 judged_behind (Some active) judged = alone_in active.slot judged
+
+-- what is known of pools once it was let go: of its own the puddles alone, where it was undone, or gave values that were asked for
+abbrev pub judged_after : (undone : Bool) → Option ActiveTransaction → List (Option Known) → List (Option Known)
+judged_after undone None judged = judged
+judged_after undone (Some active) judged = cond (undone || active.tx.log.defers) (alone_in active.slot judged) judged
 
 -- the world in which this one is not open
 abbrev pub world_without_log : Option ActiveTransaction → World → World

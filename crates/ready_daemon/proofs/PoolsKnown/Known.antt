@@ -64,7 +64,7 @@ pub alone_in-known : (judged : List (Option Known)) (slot : ℕ) (at : List (ℕ
 alone_in-known judged slot at is = ap (set judged slot) (alone_by (known_pool_in judged slot) at is)
 
 -- what is known of a pool's puddles is known of the pool
-pool_of_known : (judged : List (Option Known)) (slot : ℕ) (at : List (ℕ × Puddle)) → known_puddles_in judged slot ≡ Some at → (known : Known) × ((known_pool_in judged slot ≡ Some known) × (known.puddles ≡ at))
+pub pool_of_known : (judged : List (Option Known)) (slot : ℕ) (at : List (ℕ × Puddle)) → known_puddles_in judged slot ≡ Some at → (known : Known) × ((known_pool_in judged slot ≡ Some known) × (known.puddles ≡ at))
 pool_of_known judged slot at is = let of = option_map_parts (λ (k : Known). k.puddles) (known_pool_in judged slot) at is in (of.value, (of.is, of.gives))
 
 -- the same of its puddles alone
