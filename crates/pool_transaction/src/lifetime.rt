@@ -72,7 +72,7 @@ impl PoolTransaction {
         ensures applies { H.tells → (size : ℕ) → size ≡ (H.counts h.old).size → (w : World) → (memory : Memory) → (number : ℕ) → memory.frames ≡ frames → active_under memory.active number ≡ Option.Some self
             → IsReady size w memory (H.state h.old) → depth_in memory.sessions self.slot ≤ 1
             → Applies size w (after w (commands.Commit self.client self.name)) (with_ended number self memory) (fault_of result) (H.state h.old) (H.state h.new) }
-        // What is known of its pool is so still, where nothing was asked for later.
+        // What is known of its pool is so still, where nothing was deferred.
         ensures keeps { H.tells → (size : ℕ) → size ≡ (H.counts h.old).size → (w : World) → (memory : Memory) → (number : ℕ) → memory.frames ≡ frames → active_under memory.active number ≡ Option.Some self
             → IsReady size w memory (H.state h.old) → self.tx.log.defers ≡ false → (known : Known) → known_pool_in memory.judged self.slot ≡ Option.Some known → fault_of result ≡ Option.None
             → IsKnown frames (reads (H.state h.new).now.words) known }

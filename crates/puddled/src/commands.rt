@@ -1,11 +1,13 @@
 //! The calls that answer the commands of a transaction: it is begun, committed and undone, an object is made or freed in it, a field or the root is
 //! set, and a field's value deferred.
 ghost use Rattle.std.specs.Prelude.{◌≡◌, ◌<◌, ◌≤◌, ℕ, List, Option, IfOk};
-ghost use Rattle.pm_model.specs.Words.{IsRested};
+ghost use Rattle.pm_model.specs.Words.{IsRested, reads};
 ghost use Rattle.pm_model.specs.Counts.{after_fault, fault_of};
+ghost use Rattle.pm_model.specs.Reads.{OnlyReads};
 ghost use Rattle.pud_defs.specs.declared.layout.TheConstants.{CLIENTS, MAX_FRAMES};
 ghost use Rattle.pud_defs.specs.declared.records.TheConstants.{POOL_RECORDS};
 ghost use Rattle.pud_defs.specs.declared.machine.Command.TheVariants as commands;
+ghost use Rattle.pud_defs.specs.Formats.Image.{Image};
 ghost use Rattle.pud_defs.specs.Formats.Layout.{device_words};
 ghost use Rattle.pud_defs.specs.Logging.Settled.{ALL_LOGS};
 ghost use Rattle.pud_defs.specs.StateMachine.Step.{answer_by, world_by};
@@ -16,7 +18,7 @@ ghost use Rattle.puddled.specs.LineAnswers.{as_line_answer};
 ghost use Rattle.pool_transaction.specs.Changing.{command_of_change, IsLegalChange};
 ghost use Rattle.ready_daemon.specs.ActiveTransactions.{AreActiveWithin};
 ghost use Rattle.ready_daemon.specs.OwnOnPool.{IsOwnTransactionOn};
-ghost use Rattle.ready_daemon.specs.PoolKnowledge.{AreOnDevice};
+ghost use Rattle.ready_daemon.specs.PoolKnowledge.{known_puddles_in, AreOnDevice, AreKnownPools};
 ghost use Rattle.ready_daemon.specs.Ready.{KeepsRest, IsReady};
 ghost use Rattle.puddled.specs.Frontiers.{AppliesAs};
 ghost use Rattle.puddled.specs.Daemon.{CarriesOut};
@@ -28,6 +30,33 @@ use pm_model::{Host, HostFault};
 use pool_transaction::{Change, PoolTransactions};
 use pud_defs::machine::{Refusal, Reply};
 use pud_defs::records::Name;
+use std::alloc::Global;
+
+/// Builds an index of the pool that is known in the slot, where an object of it is to be updated and none is kept.
+///
+/// The device has so many frames. The only errors are the host's own.
+fn index_for<H: Host>(
+    alloc: Global,
+    h: &mut H,
+    frames: u32,
+    judged: &mut KnownPools,
+    slot: u32,
+    change: Change,
+) -> Result<(), HostFault>
+    requires few { frames ≤ MAX_FRAMES }
+    requires room { device_words frames ≤ (H.counts h.old).size }
+    requires slot { slot < POOL_RECORDS }
+    requires known { AreOnDevice frames judged.old }
+    ensures judged { H.tells → (image : Image) → reads (H.state h.old).now.words ≡ image → AreKnownPools frames judged.old image → AreKnownPools frames judged.new image }
+    ensures puddles { (i : ℕ) → known_puddles_in judged.new i ≡ known_puddles_in judged.old i }
+    ensures known { AreOnDevice frames judged.new }
+    ensures only_reads { OnlyReads H.tells H.state H.counts (fault_of result) h.old h.new }
+{
+    match change {
+        Change::New { .. } => Ok(()),
+        Change::Update(_) => judged.build(alloc, h, frames, slot),
+    }
+}
 
 /// Makes the change in the transaction that is active under the log number, on the pool that is known in the slot.
 ///
@@ -183,6 +212,7 @@ impl Daemon {
     /// stood for before the call or for what the line gives, and the daemon is to be stopped, and to start anew.
     pub(crate) fn change_own<H: Host>(
         &mut self,
+        alloc: Global,
         h: &mut H,
         client: u8,
         name: Name,
@@ -203,6 +233,7 @@ impl Daemon {
             Ok(own) => own,
         };
         let frames = self.frames;
+        index_for(alloc, h, frames, &mut self.judged, own.slot, change)?;
         change_in(h, frames, &mut self.opened, &mut self.judged, own, change)
     }
 }

@@ -219,7 +219,7 @@ fn apply<H: Host>(
         Command::Commit { client, name } => with_reply(daemon.commit(h, client, name)),
         Command::Abort { client, name } => with_reply(daemon.abort(h, client, name)),
         Command::New { client, name, t } => {
-            with_reply(daemon.change_own(h, client, name, Change::New { t }))
+            with_reply(daemon.change_own(alloc, h, client, name, Change::New { t }))
         }
         Command::Set {
             client,
@@ -228,6 +228,7 @@ fn apply<H: Host>(
             f,
             x,
         } => with_reply(daemon.change_own(
+            alloc,
             h,
             client,
             name,
@@ -240,16 +241,29 @@ fn apply<H: Host>(
             f,
             x,
         } => with_reply(daemon.change_own(
+            alloc,
             h,
             client,
             name,
             Change::Update(Update::Later { s, f, x }),
         )),
         Command::Root { client, name, s } => {
-            with_reply(daemon.change_own(h, client, name, Change::Update(Update::Root { s })))
+            with_reply(daemon.change_own(
+                alloc,
+                h,
+                client,
+                name,
+                Change::Update(Update::Root { s }),
+            ))
         }
         Command::Free { client, name, s } => {
-            with_reply(daemon.change_own(h, client, name, Change::Update(Update::Free { s })))
+            with_reply(daemon.change_own(
+                alloc,
+                h,
+                client,
+                name,
+                Change::Update(Update::Free { s }),
+            ))
         }
         Command::Dump { client, name } => daemon.dump_for(alloc, h, client, name),
         Command::Export { client, name, file } => {

@@ -1,5 +1,5 @@
 //! Which pools are known to have a graph, and what else is known of them.
-ghost use Rattle.std.specs.Prelude.{◌≡◌, ◌≢◌, ◌<◌, ◌≤◌, ℕ, List, true, false, replicate, set, is_some, unwrap_or, [], Option, IfOk, IfSome};
+ghost use Rattle.std.specs.Prelude.{◌≡◌, ◌≢◌, ◌<◌, ◌≤◌, ℕ, List, true, false, cond, replicate, set, is_some, unwrap_or, [], Option, IfOk, IfSome};
 ghost use Rattle.pm_model.specs.Words.{reads};
 ghost use Rattle.pm_model.specs.Counts.{fault_of};
 ghost use Rattle.pm_model.specs.Reads.{OnlyReads};
@@ -150,11 +150,14 @@ impl KnownPools {
         self.pools[slot as usize] = Some(KnownPool::new(puddles));
     }
 
-    /// Forgets all but the puddles of the pool in this slot, where they are known.
-    pub(crate) fn leave_puddles(&mut self, slot: u32)
+    /// Forgets, where so, all but the puddles of the pool in this slot, where they are known.
+    pub(crate) fn leave_puddles(&mut self, slot: u32, so: bool)
         requires { slot < POOL_RECORDS }
-        ensures { self.new ≡ alone_in slot self.old }
+        ensures { self.new ≡ cond so (alone_in slot self.old) self.old }
     {
+        if !so {
+            return;
+        }
         if let Some(pool) = &mut self.pools[slot as usize] {
             pool.forget();
         }

@@ -19,7 +19,7 @@ ghost use Rattle.ready_daemon.specs.OwnOnPool.{IsOwnTransactionOn};
 ghost use Rattle.ready_daemon.specs.PoolKnowledge.{known_puddles_in};
 ghost use Rattle.ready_daemon.specs.Beginning.{MayBegin};
 ghost use Rattle.ready_daemon.specs.ActiveTransactions.{IsActiveWithin};
-ghost use Rattle.ready_daemon.specs.Leaving.{BehindTables, sessions_behind, judged_behind, world_without, world_without_log};
+ghost use Rattle.ready_daemon.specs.Leaving.{BehindTables, sessions_behind, judged_after, world_without, world_without_log};
 ghost use Rattle.ready_daemon.specs.Ready.{KeepsRest, IsReady, Applies};
 ghost use Rattle.puddled.specs.declared.finding.Need.TheVariants as needs;
 ghost use Rattle.puddled.specs.Finding.{refusal_to};
@@ -102,20 +102,22 @@ impl Daemon {
         Ok(Reply::Ok)
     }
 
-    /// Takes out the transaction that is active under the log number, where one is: its session ends. Of its pool the puddles alone are known still.
-    fn take_transaction(&mut self, number: u32) -> Option<PoolTransaction>
+    /// Takes out the transaction that is active under the log number, where one is: its session ends. Of its pool the puddles alone are known still, where
+    /// it is undone, or gives deferred values.
+    fn take_transaction(&mut self, number: u32, undone: bool) -> Option<PoolTransaction>
         requires { number < ALL_LOGS }
         ensures opened { result ≡ active_under (self.old).active number }
         ensures within { IfSome result (IsActiveWithin (self.old).frames) }
         ensures active { (self.new).active ≡ set (self.old).active number Option.None }
         ensures sessions { (self.new).sessions ≡ sessions_behind (active_under (self.old).active number) (self.old).sessions }
-        ensures judged { (self.new).judged ≡ judged_behind (active_under (self.old).active number) (self.old).judged }
+        ensures judged { (self.new).judged ≡ judged_after undone (active_under (self.old).active number) (self.old).judged }
         ensures frames { (self.new).frames ≡ (self.old).frames }
     {
         let opened = self.opened[number as usize].take();
         if let Some(opened) = &opened {
             self.sessions.end(opened.slot);
-            self.judged.leave_puddles(opened.slot);
+            self.judged
+                .leave_puddles(opened.slot, undone | opened.tx.defers());
         }
         opened
     }
@@ -147,7 +149,7 @@ impl Daemon {
             return Ok(());
         }
         let frames = self.frames;
-        match self.take_transaction(own.log_number) {
+        match self.take_transaction(own.log_number, false) {
             Some(opened) => opened.commit(h, frames),
             None => Ok(()),
         }
@@ -169,7 +171,7 @@ impl Daemon {
         ensures cause { H.counts h.new ≡ after_fault (fault_of result) (H.counts h.old) }
     {
         let frames = self.frames;
-        match self.take_transaction(number) {
+        match self.take_transaction(number, true) {
             Some(opened) => opened.abort(h, frames),
             None => Ok(()),
         }

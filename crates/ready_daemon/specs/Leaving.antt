@@ -19,7 +19,7 @@ abbrev pub judged_behind : Option ActiveTransaction → List (Option Known) → 
 judged_behind None judged = judged
 judged_behind (Some active) judged = alone_in active.slot judged
 
--- what is known of pools once it was let go: of its own the puddles alone, where it was undone, or gave values that were asked for
+-- what is known of pools once it was let go: of its own the puddles alone, where it was undone, or gave deferred values
 abbrev pub judged_after : (undone : Bool) → Option ActiveTransaction → List (Option Known) → List (Option Known)
 judged_after undone None judged = judged
 judged_after undone (Some active) judged = cond (undone || active.tx.log.defers) (alone_in active.slot judged) judged

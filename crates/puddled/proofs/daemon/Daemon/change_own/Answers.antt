@@ -1,12 +1,14 @@
-use Rattle.std.proofs.Common.{List, Option, sym, ap, subst, ◌∙◌}
+use Rattle.std.proofs.Common.{List, Option, Some, refl, sym, ap, subst, ◌∙◌}
 use Rattle.std.proofs.lemmas.Result.{err_from_is_err_and}
 use Rattle.pm_model.proofs.Reading.{still_size}
+use Rattle.pm_model.specs.Counts.{after_fault}
 use Rattle.pool_transaction.specs.Changing.{command_of_change}
 use Rattle.ready_daemon.specs.OwnOnPool.{IsOwnTransactionOn}
 use Rattle.ready_daemon.specs.Memory.{ActiveTransaction, Memory}
 use Rattle.ready_daemon.specs.Owning.{refusal_found}
 use Rattle.ready_daemon.specs.Ready.{IsReady}
 use Rattle.puddled.proofs.TransactionLines.Changing.{refused_line}
+use Rattle.puddled.proofs.PoolLines.Readable.{ready_built}
 use Rattle.puddled.proofs.TransactionLines.Commanding.{ready_read, CarriesOut-refused, CarriesOut-unread, CarriesOut-replied, change_is_plain}
 use Rattle.puddled.proofs.daemon.Daemon.change_own.Goals as goal
 
@@ -30,18 +32,42 @@ returns-in-Err-clause-carries g c = λ t size e w ready.
 pub invariant_of-self : goal.invariant_of-self
 invariant_of-self g c =
     let i = c.self.invariant in
+    (i.0, i.1, i.2, c.in_err-index_for.ensures.known)
+
+pub invariant_of-self-2 : goal.invariant_of-self-2
+invariant_of-self-2 g c =
+    let i = c.self.invariant in
     (i.0, i.1, c.change_in.ensures.within, c.change_in.ensures.known)
+
+pub returns-in_err-index_for-clause-carries : goal.returns-in_err-index_for-clause-carries
+returns-in_err-index_for-clause-carries g c =
+    let p = err_from_is_err_and c.from_residual-in_err-index_for.result c.from_residual-in_err-index_for.ensures.1 in
+    rw (p.1, p.2) (λ t size e w ready.
+    let k = c.in_ok-refusal.ensures in
+    let b = c.in_err-index_for.ensures in
+    let i = c.self.inside in
+    let view : Memory = record { frames = i.frames; active = i.opened; sessions = i.sessions; judged = i.judged } in
+    let before = subst (λ (m : Memory). IsReady size w m (g.H.Host.state c.args.h.now)) (sym c.self.view_is) (k.ready t size w ready) in
+    let stays = b.only_reads.stays t ∙ k.only_reads.stays t in
+    let built = ready_built size w view c.index_for.new.judged _ _ (k.only_reads.stays t) before (b.judged t _ refl) b.puddles in
+    CarriesOut-unread size w (record view { judged = c.index_for.new.judged }) _ _ _ _ (command_of_change c.args.change c.args.client c.args.name) (change_is_plain c.args.client c.args.name c.args.change) stays
+    (ready_read size w (record view { judged = c.index_for.new.judged }) _ _ stays built) c.in_err-index_for.field-0.0 b.only_reads.never_cut
+    (b.only_reads.cause ∙ ap (after_fault (Some c.in_err-index_for.field-0.0)) k.only_reads.cause))
 
 pub returns-clause-carries : goal.returns-clause-carries
 returns-clause-carries g c = λ t size e w ready.
     let k = c.in_ok-refusal.ensures in
+    let b = c.in_ok-index_for.ensures in
     let i = c.self.inside in
-    let read = ready_read size w c.find_own.new.self _ _ (k.only_reads.stays t) (k.ready t size w ready) in
-    let then = subst (λ (m : Memory). IsReady size w m (g.H.Host.state c.find_own.new.h)) (sym c.self.view_is) read in
+    let view : Memory = record { frames = i.frames; active = i.opened; sessions = i.sessions; judged = i.judged } in
+    let before = subst (λ (m : Memory). IsReady size w m (g.H.Host.state c.args.h.now)) (sym c.self.view_is) (k.ready t size w ready) in
+    let stays = b.only_reads.stays t ∙ k.only_reads.stays t in
+    let built = ready_built size w view c.index_for.new.judged _ _ (k.only_reads.stays t) before (b.judged t _ refl) b.puddles in
+    let then = ready_read size w (record view { judged = c.index_for.new.judged }) _ _ stays built in
     let found = rw c.in-Ok.is at (k.own t size w ready) in
     let own = subst (λ (active : List (Option ActiveTransaction)). IsOwnTransactionOn c.args.client c.args.name c.in-Ok.own.slot c.in-Ok.own.log_number active) (sym (ap (λ (m : Memory). m.active) c.self.view_is ∙ k.active)) found in
     let n = c.change_in.ensures in
-    let same = still_size k.only_reads e in
+    let same = still_size b.only_reads (still_size k.only_reads e) in
     CarriesOut-replied size w (record { frames = i.frames; active = c.change_in.new.all; sessions = i.sessions; judged = c.change_in.new.judged }) _ _ _ _ _ _ (command_of_change c.args.change c.args.client c.args.name)
-    (change_is_plain c.args.client c.args.name c.args.change) (k.only_reads.stays t) k.only_reads.cause (n.rest t) c.change_in.result
+    (change_is_plain c.args.client c.args.name c.args.change) stays (b.only_reads.cause ∙ k.only_reads.cause) (n.rest t) c.change_in.result
     (n.reply t size same w i.sessions c.args.client c.args.name then own) (n.applies t size same w i.sessions c.args.client c.args.name then own) n.cause

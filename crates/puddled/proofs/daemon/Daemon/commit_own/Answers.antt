@@ -1,11 +1,16 @@
-use Rattle.std.proofs.Common.{List, Option, sym, ap, ◌∙◌, arith}
+use Rattle.std.proofs.Common.{ℕ, List, Option, refl, sym, ap, subst, ◌∙◌, arith}
 use Rattle.std.proofs.lemmas.Option.{none-some}
 use Rattle.pm_model.specs.Counts.{fault_of}
+use Rattle.pm_model.specs.Words.{reads}
+use Rattle.pud_defs.specs.declared.machine.Command.TheVariants.{Commit}
+use Rattle.pud_defs.specs.StateMachine.Step.{after}
+use Rattle.known_pool.specs.Known.{IsKnown}
 use Rattle.nesting.specs.declared.Session.{Session}
 use Rattle.nesting.specs.Sessions.{depth_in, left}
-use Rattle.ready_daemon.specs.Memory.{Memory}
+use Rattle.ready_daemon.specs.Leaving.{judged_behind}
+use Rattle.ready_daemon.specs.Memory.{Memory, active_under}
 use Rattle.puddled.proofs.TransactionLines.Depth.{Applies-rises}
-use Rattle.puddled.proofs.TransactionLines.TransactionTaken.{IsReleased, Applies-own_ended}
+use Rattle.puddled.proofs.TransactionLines.TransactionTaken.{IsReleased, Applies-own_ended, Applies-kept}
 use Rattle.puddled.proofs.daemon.Daemon.commit_own.Goals as goal
 
 pub returns-then-depth-gt1-clause-applies : goal.returns-then-depth-gt1-clause-applies
@@ -25,10 +30,17 @@ returns-in-Some-clause-applies g c = λ t size e w name ready own.
     let is = c.depth.ensures.depth in
     let last = c.if-depth-gt1.false in
     let r = c.take_transaction.ensures in
-    let released : IsReleased c.args.own.log_number c.args.self.now c.take_transaction.new.self = record { active = r.active; sessions = r.sessions; judged = r.judged; frames = r.frames } in
+    let number = c.args.own.log_number in
+    let mine = c.in-Some.opened in
+    let behind = c.take_transaction.new.self in
+    let alone : Memory = record behind { judged = judged_behind (active_under c.args.self.now.active number) c.args.self.now.judged } in
+    let released : IsReleased number c.args.self.now alone = record { active = r.active; sessions = r.sessions; judged = refl; frames = r.frames } in
     let there = sym r.opened ∙ c.in-Some.is in
-    Applies-own_ended c.args.own.log_number c.args.self.now c.take_transaction.new.self released size w (fault_of c.commit.result) _ _ c.in-Some.opened c.args.client name c.args.own.slot there own (omega (arith, depth, is, last))
-    (c.commit.ensures.applies t size e w c.args.self.now c.args.own.log_number (ap (λ (m : Memory). m.frames) (sym c.self.view_is)) there ready)
+    let frames = ap (λ (m : Memory). m.frames) (sym c.self.view_is) in
+    Applies-kept number c.args.self.now behind size w (after w (Commit c.args.client name)) (fault_of c.commit.result) _ _ ready mine there r.frames r.judged
+    (λ known quiet is none. subst (λ (F : ℕ). IsKnown F (reads (g.H.Host.state c.commit.new.h).now.words) known) (sym frames) (c.commit.ensures.keeps t size e w c.args.self.now number frames there ready quiet known is none))
+    (Applies-own_ended number c.args.self.now alone released size w (fault_of c.commit.result) _ _ mine c.args.client name c.args.own.slot there own (omega (arith, depth, is, last))
+    (c.commit.ensures.applies t size e w c.args.self.now number frames there ready))
 
 -- the client's own is active
 pub returns-in-None-clause-applies : goal.returns-in-None-clause-applies

@@ -3,7 +3,7 @@ use Rattle.std.proofs.lemmas.Option.{none-some}
 use Rattle.ready_daemon.specs.PoolKnowledge.{AreOnDevice}
 use Rattle.ready_daemon.specs.Memory.{ActiveTransaction}
 use Rattle.ready_daemon.proofs.OpenTransactions.ActiveUnder.{AreActiveWithin-set, read_within}
-use Rattle.ready_daemon.proofs.PoolsKnown.Known.{AreOnDevice-alone}
+use Rattle.puddled.proofs.TransactionLines.TransactionTaken.{on_device_left}
 use Rattle.puddled.proofs.daemon.Daemon.take_transaction.Goals as goal
 
 pub end-requires : goal.end-requires
@@ -21,4 +21,4 @@ leave_puddles-requires c =
 pub invariant_of-self : goal.invariant_of-self
 invariant_of-self c =
     let i = c.self.invariant in
-    (i.0, i.1, AreActiveWithin-set _ _ _ _ i.2 (λ h now. absurd (none-some h (sym c.take-opened.ensures.after ∙ now))), subst (AreOnDevice c.self.inside.frames) (sym c.leave_puddles.ensures) (AreOnDevice-alone _ _ _ i.3))
+    (i.0, i.1, AreActiveWithin-set _ _ _ _ i.2 (λ h now. absurd (none-some h (sym c.take-opened.ensures.after ∙ now))), subst (AreOnDevice c.self.inside.frames) (sym c.leave_puddles.ensures) (on_device_left _ _ _ _ i.3))
