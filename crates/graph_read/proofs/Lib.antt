@@ -11,4 +11,5 @@ pub mod Passing
 pub mod Pointed
 pub mod Retargets
 pub mod SerialsRead
+pub mod SlotAddresses
 pub mod SortedSerials

@@ -1,3 +1,4 @@
+pub mod Bases
 pub mod Checking
 pub mod Index
 pub mod Indexed

@@ -76,7 +76,7 @@ impl Index {
     }
 
     /// Counts the references that the fields of the slot at a place are, by the map of its type. At most 30 fields are read.
-    fn hold_fields<H: Loads>(
+    fn retain_fields<H: Loads>(
         &mut self,
         h: &mut H,
         frames: u32,
@@ -103,7 +103,7 @@ impl Index {
     }
 
     /// Counts the references that the slot at a place has, where it is live.
-    fn hold_place<H: Loads>(
+    fn retain_place<H: Loads>(
         &mut self,
         h: &mut H,
         frames: u32,
@@ -126,13 +126,13 @@ impl Index {
         }
         let id = type_at(h, frames, pool, place)?;
         match find(h, id)? {
-            Some(type_map) => self.hold_fields(h, frames, pool, serials, place, type_map),
+            Some(type_map) => self.retain_fields(h, frames, pool, serials, place, type_map),
             None => Ok(()),
         }
     }
 
     /// Counts the references that the slots of a pool have.
-    fn hold_all<H: Loads>(
+    fn retain_all<H: Loads>(
         &mut self,
         h: &mut H,
         frames: u32,
@@ -149,7 +149,7 @@ impl Index {
         ensures only_reads { OnlyReads H.tells H.state H.counts (fault_of result) h.old h.new }
     {
         for place in 0..places_among(pool.len() as u32) {
-            self.hold_place(h, frames, pool, serials, place)?;
+            self.retain_place(h, frames, pool, serials, place)?;
         }
         Ok(())
     }
@@ -182,7 +182,7 @@ impl Index {
         let Some(mut index) = Index::list_all(alloc, &serials, count) else {
             return Ok(None);
         };
-        index.hold_all(h, frames, pool, &serials)?;
+        index.retain_all(h, frames, pool, &serials)?;
         index.retain(named(&serials, read_pointer(pool, 0, 0, root)));
         Ok(Some(index))
     }

@@ -6,6 +6,7 @@
 //! of the device. Nothing changes, and the only errors are the host's own.
 #![tactic(auto)]
 
+mod addresses;
 mod checking;
 mod fields;
 mod index;
@@ -16,6 +17,7 @@ mod pointers;
 mod references;
 mod serials;
 
+pub use addresses::address_of;
 pub use checking::{field_word, type_at};
 pub use fields::{FieldRead, field_at, read_field, serial_behind, value_at};
 pub use index::{Index, Kept};

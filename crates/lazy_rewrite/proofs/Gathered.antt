@@ -22,9 +22,10 @@ use Rattle.graph_laws.specs.Rewriting.{rewritten, passes_slot, passes_root}
 use Rattle.graph_laws.specs.Steps.{pointer_by, slot_pointer, passed_word}
 use Rattle.graph_laws.proofs.SameReads.Words.{few_fields}
 use Rattle.graph_laws.proofs.RewritingSteps.PassedWords.{passed-header, passed-slot}
+use Rattle.graph_read.specs.Bases.{HasLowBases}
 use Rattle.batch.specs.Batches.{batch_entry, word_count_of}
 use Rattle.lazy_rewrite.specs.declared.batches.TheConstants.{BATCH_STEPS}
-use Rattle.lazy_rewrite.specs.Entries.{word_entry, words_batch, HasLowBases, IsToRewrite, rewritten_words, first_slot, steps_batch}
+use Rattle.lazy_rewrite.specs.Entries.{word_entry, words_batch, IsToRewrite, rewritten_words, first_slot, steps_batch}
 
 -- ---- entries of words in a row
 

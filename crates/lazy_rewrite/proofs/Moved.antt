@@ -11,7 +11,7 @@ use Rattle.pud_defs.specs.RegistryTables.Puddles.{moved_to}
 use Rattle.pud_defs.specs.PoolGraphs.Stored.{IsOnDevice}
 use Rattle.graph_laws.specs.Steps.{with_steps}
 use Rattle.graph_laws.proofs.RewritingSteps.Rewritten.{slice_get-set_there}
-use Rattle.lazy_rewrite.specs.Entries.{HasLowBases}
+use Rattle.graph_read.specs.Bases.{HasLowBases}
 use Rattle.lazy_rewrite.proofs.Gathered.{frame_below}
 use Rattle.lazy_rewrite.specs.Frontiers.{steps_left, frontier_after, left_among, steps_from, moved_at, stepped_at, frontier_in, frontier_at}
 

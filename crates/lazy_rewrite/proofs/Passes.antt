@@ -8,7 +8,7 @@ use Rattle.pm_model.specs.Moments.{State}
 use Rattle.pud_defs.specs.declared.records.Puddle.{Puddle}
 use Rattle.pud_defs.specs.RegistryTables.Puddles.{moved_to}
 use Rattle.graph_laws.specs.Steps.{with_steps}
-use Rattle.lazy_rewrite.specs.Entries.{HasLowBases}
+use Rattle.graph_read.specs.Bases.{HasLowBases}
 use Rattle.lazy_rewrite.specs.Frontiers.{steps_left, frontier_after, left_among, steps_from, stepped_at, frontier_in, frontiers_of, frontier_at}
 use Rattle.lazy_rewrite.specs.Batches.{Rewrites}
 use Rattle.lazy_rewrite.proofs.Moved.{stepped_at-there, frontier_at-there, low_bases-steps, steps_behind, left_behind, steps_behind-next, steps_behind-there, left_behind-next}

@@ -11,9 +11,9 @@ use Rattle.pud_defs.specs.declared.records.Puddle.{Puddle}
 use Rattle.pud_defs.specs.RegistryTables.Puddles.{moved_to}
 use Rattle.graph_laws.specs.Steps.{with_steps}
 use Rattle.graph_read.proofs.Pointed.{no_puddle}
+use Rattle.graph_read.specs.Bases.{HasLowBases}
 use Rattle.batch.specs.Batches.{HasIdleGate}
 use Rattle.lazy_rewrite.specs.declared.batches.TheConstants.{BATCH_STEPS}
-use Rattle.lazy_rewrite.specs.Entries.{HasLowBases}
 use Rattle.lazy_rewrite.specs.Frontiers.{steps_left, frontier_after, stepped_at, frontier_at}
 use Rattle.lazy_rewrite.specs.Batches.{AreNextSteps, RewritesOnce, Rewrites}
 use Rattle.lazy_rewrite.proofs.Moved.{with_steps-none, with_steps-twice, with_steps-there, stepped_at-there, frontier_at-there, low_bases-steps}

@@ -1,6 +1,6 @@
 -- Words as the entries of a batch, each word an entry of its own.
-use Rattle.std.specs.Prelude.{◌≡◌, ℕ, zero, suc, ◌+◌, ◌-◌, ◌*◌, ◌^◌, ◌≤◌, List, [], ◌∷◌, ◌++◌, map, slice_get, All, Option, Some, None}
-use Rattle.pud_defs.specs.declared.space.TheConstants.{RANGE_BYTES, FRAME_HEADER_WORDS}
+use Rattle.std.specs.Prelude.{◌≡◌, ℕ, zero, suc, ◌+◌, ◌-◌, ◌*◌, ◌≤◌, List, [], ◌∷◌, ◌++◌, map, slice_get, Option, Some, None}
+use Rattle.pud_defs.specs.declared.space.TheConstants.{FRAME_HEADER_WORDS}
 use Rattle.pud_defs.specs.declared.records.Puddle.{Puddle}
 use Rattle.pud_defs.specs.Formats.Geometry.{puddle_slot_words, puddle_slot_at}
 use Rattle.pud_defs.specs.Formats.Image.{Image}
@@ -10,6 +10,7 @@ use Rattle.pud_defs.specs.Logging.Entries.{Entry}
 use Rattle.pud_defs.specs.RegistryTables.Types.{types_of}
 use Rattle.pud_defs.specs.PoolGraphs.Stored.{stored_in}
 use Rattle.graph_laws.specs.Steps.{passed_word}
+use Rattle.graph_read.specs.Bases.{HasLowBases}
 use Rattle.batch.specs.Batches.{batch_entry}
 
 -- the entry of a word, where it gets a value
@@ -21,10 +22,6 @@ word_entry w (Some v) = batch_entry w (v ∷ []) ∷ []
 unfoldable pub words_batch : (at : ℕ) → (ℕ → Option ℕ) → (from count : ℕ) → List Entry
 words_batch at new from zero = []
 words_batch at new from (suc count) = word_entry (at + from) (new from) ++ words_batch at new (from + 1) count
-
--- each base is so low that each address of its range is one of 64 bits, as legal bases are
-pub record HasLowBases (at : List (ℕ × Puddle)) : Type 0 where
-  pub low : All (λ e. e.1.base + RANGE_BYTES ≤ 2 ^ 64) at
 
 -- The pointers at a step of the puddle of an ordinal stand over the old bases, and the pool's bases are low.
 pub record IsToRewrite (at : List (ℕ × Puddle)) (o step : ℕ) : Type 0 where

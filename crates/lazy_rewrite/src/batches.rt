@@ -20,8 +20,9 @@ ghost use Rattle.pud_defs.specs.RegistryTables.Types.{types_of};
 ghost use Rattle.puddle_header.specs.Places.{IsSlotOf};
 ghost use Rattle.graph_laws.specs.Rewriting.{rewritten};
 ghost use Rattle.graph_laws.specs.Steps.{pointer_by, slot_pointer, with_steps};
+ghost use Rattle.graph_read.specs.Bases.{HasLowBases};
 ghost use Rattle.batch.specs.Batches.{word_count_of, batch_entry, HasIdleGate};
-ghost use Rattle.lazy_rewrite.specs.Entries.{word_entry, words_batch, HasLowBases, IsToRewrite, rewritten_words, first_slot, steps_batch};
+ghost use Rattle.lazy_rewrite.specs.Entries.{word_entry, words_batch, IsToRewrite, rewritten_words, first_slot, steps_batch};
 ghost use Rattle.lazy_rewrite.specs.Batches.{AreNextSteps, pool_behind, RewritesOnce};
 
 use crate::pointers::over_bases;

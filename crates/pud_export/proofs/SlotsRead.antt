@@ -1,43 +1,23 @@
 -- What is written of a slot, word by word.
-use Rattle.std.proofs.Common.{◌≡◌, ◌≢◌, ℕ, true, ◌&&◌, eqb, leb, ltb, suc, ◌+◌, ◌-◌, ◌*◌, ◌%◌, ◌^◌, ◌<◌, ◌≤◌, List, [], ◌∷◌, ◌++◌, map, length, get_or, set, replicate, Option, Some, option_map, sym, ap, ap₂, ◌∙◌, arith, append_assoc, eq-eqb, ne_eqb}
-use Rattle.std.specs.Prelude.{slice_get}
+use Rattle.std.proofs.Common.{◌≡◌, ◌≢◌, ℕ, true, ◌&&◌, eqb, leb, ltb, suc, ◌+◌, ◌-◌, ◌%◌, ◌^◌, ◌<◌, ◌≤◌, List, [], ◌∷◌, ◌++◌, map, set, replicate, Option, Some, sym, ap, ap₂, ◌∙◌, arith, append_assoc, eq-eqb, ne_eqb}
 use Rattle.std.specs.List.{range_with_len}
-use Rattle.std.proofs.Math.Nat.{mod-eq_of_lt}
 use Rattle.std.proofs.Math.Seq.{set-append_seam}
 use Rattle.std.proofs.lemmas.Bool.{cond-true, cond-false, and_parts, ltb-true}
-use Rattle.std.proofs.lemmas.List.Elements.{All-get_or, All-weaker}
+use Rattle.std.proofs.lemmas.List.Elements.{All-weaker}
 use Rattle.std.proofs.lemmas.List.Folds.{list_all-map}
 use Rattle.std.proofs.lemmas.List.Sums.{AllPass-from_list_all}
 use Rattle.std.proofs.lemmas.List.FromFn.{map-range_with_len_more, length-map-range_with_len}
-use Rattle.std.proofs.lemmas.Option.{slice_get-map, slice_get-get_or}
 use Rattle.pud_defs.specs.declared.records.Puddle.{Puddle}
-use Rattle.pud_defs.specs.declared.space.TheConstants.{SPACE_START, SPACE_BYTES, WORD_BYTES, RANGE_BYTES, SLOT_SERIAL_WORD, SLOT_TYPE_WORD, SLOT_FIELDS_WORD}
+use Rattle.pud_defs.specs.declared.space.TheConstants.{SPACE_START, SPACE_BYTES, RANGE_BYTES, SLOT_SERIAL_WORD, SLOT_TYPE_WORD, SLOT_FIELDS_WORD}
 use Rattle.pud_defs.specs.Formats.Bases.{is_legal_base}
 use Rattle.pud_defs.specs.PoolGraphs.ExportFile.{are_file_bases}
-use Rattle.pud_defs.specs.Formats.Geometry.{puddle_slots, slot_at, place_at}
-use Rattle.pud_defs.specs.PoolGraphs.Graph.{At, slot_address, field_count}
+use Rattle.pud_defs.specs.PoolGraphs.Graph.{field_count}
 use Rattle.pud_defs.specs.RegistryTables.Types.{map_of}
 use Rattle.pud_defs.specs.PoolGraphs.Stored.{Stored, place_words, place_word}
-use Rattle.pud_defs.specs.PoolGraphs.Exported.{address_in, address_of, exported_field, exported_object, exported_slot}
-use Rattle.puddle_header.proofs.Placed.{place_ordinal, place_slot}
-use Rattle.pud_export.specs.Exporting.{HasLowBases}
+use Rattle.pud_defs.specs.PoolGraphs.Exported.{exported_field, exported_object, exported_slot}
+use Rattle.graph_read.specs.Bases.{HasLowBases}
 
--- ---- addresses
-
--- the address of a slot of a pool's puddle
-pub address_at : (at : List (ℕ × Puddle)) (o s v : ℕ) (e : ℕ × Puddle) → HasLowBases at → o < length at → s < puddle_slots
-    → ((get_or at o e).1.base + RANGE_BYTES ≤ 2 ^ 64 → v ≡ slot_address (get_or at o e).1 s) → v ≡ address_of (map (λ e. e.1) at) (At (place_at o s))
-address_at at o s v e low within below is =
-    let there : slice_get (map (λ (e : ℕ × Puddle). e.1) at) o ≡ Some (get_or at o e).1 =
-    slice_get-map (λ (e : ℕ × Puddle). e.1) at o ∙ ap (option_map (λ (e : ℕ × Puddle). e.1)) (slice_get-get_or at o e within) in
-    is (All-get_or (λ (e : ℕ × Puddle). e.1.base + RANGE_BYTES ≤ 2 ^ 64) at o e within low.low)
-    ∙ sym (ap₂ (λ (i j : ℕ). address_in (slice_get (map (λ (e : ℕ × Puddle). e.1) at) i) j) (place_ordinal o s below) (place_slot o s below)
-    ∙ ap (λ (d : Option Puddle). address_in d s) there)
-
--- an address that does not wrap around
-pub low_address : (d : Puddle) (s word v : ℕ) → s < puddle_slots → word ≡ slot_at d s → v ≡ (d.base + WORD_BYTES * word) % 2 ^ 64 → d.base + RANGE_BYTES ≤ 2 ^ 64 → v ≡ slot_address d s
-low_address d s word v below is wrapped low =
-    wrapped ∙ ap (λ (w : ℕ). (d.base + WORD_BYTES * w) % 2 ^ 64) is ∙ mod-eq_of_lt {n = d.base + WORD_BYTES * slot_at d s} {m = 2 ^ 64} (omega arith)
+-- ---- bases
 
 -- legal bases are low
 low_base : (b : ℕ) → is_legal_base b ≡ true → b + RANGE_BYTES ≤ 2 ^ 64

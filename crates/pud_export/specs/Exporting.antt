@@ -1,12 +1,12 @@
 -- What is read of a pool to write it into a file.
-use Rattle.std.specs.Prelude.{ℕ, ◌+◌, ◌≤◌, ◌^◌, Bool, ◌==◌, cond, List, [], ◌∷◌, ◌++◌, length, map, flat_map, Option, Some, None, Result, Ok, Err, All}
+use Rattle.std.specs.Prelude.{ℕ, ◌+◌, Bool, ◌==◌, cond, List, [], ◌∷◌, ◌++◌, length, map, flat_map, Option, Some, None, Result, Ok, Err}
 use Rattle.std.specs.List.{list_any, filter_map, range_with_len}
 use Rattle.std.specs.Ordering.{nat_cmp}
 use Rattle.std.specs.FinMap.Entries.{where_key}
 use Rattle.pm_model.specs.declared.host.HostFault.{HostFault}
 use Rattle.pud_defs.specs.declared.files.TheConstants.{FILE_MAGIC, FILE_VERSION}
 use Rattle.pud_defs.specs.declared.records.Puddle.{Puddle}
-use Rattle.pud_defs.specs.declared.space.TheConstants.{RANGE_BYTES, SLOT_SERIAL_WORD, SLOT_TYPE_WORD}
+use Rattle.pud_defs.specs.declared.space.TheConstants.{SLOT_SERIAL_WORD, SLOT_TYPE_WORD}
 use Rattle.pud_defs.specs.PoolGraphs.Exported.{type_words, exported_slot}
 use Rattle.pud_defs.specs.Formats.Geometry.{place_at}
 use Rattle.pud_defs.specs.PoolGraphs.Stored.{Stored, places_of, place_word, slot_state}
@@ -18,10 +18,6 @@ abbrev pub fault_in : {A : Type 0} → Result A ExportFault → Option HostFault
 fault_in (Ok x) = None
 fault_in (Err faults.Memory) = None
 fault_in (Err (faults.Host fault)) = Some fault
-
--- each base is so low that each address of its range is one of 64 bits, as legal bases are
-pub record HasLowBases (at : List (ℕ × Puddle)) : Type 0 where
-  pub low : All (λ e. e.1.base + RANGE_BYTES ≤ 2 ^ 64) at
 
 -- ---- the file
 

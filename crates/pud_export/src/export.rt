@@ -11,7 +11,8 @@ ghost use Rattle.pud_defs.specs.Formats.Image.{Image};
 ghost use Rattle.pud_defs.specs.Formats.Layout.{device_words};
 ghost use Rattle.pud_defs.specs.PoolGraphs.Stored.{IsOnDevice, stored_in};
 ghost use Rattle.pud_defs.specs.RegistryTables.Types.{types_of};
-ghost use Rattle.pud_export.specs.Exporting.{HasLowBases, fault_in};
+ghost use Rattle.graph_read.specs.Bases.{HasLowBases};
+ghost use Rattle.pud_export.specs.Exporting.{fault_in};
 
 use crate::faults::ExportFault;
 use crate::frames::push_frames;

@@ -10,12 +10,13 @@ ghost use Rattle.pud_defs.specs.Formats.Geometry.{puddle_slots};
 ghost use Rattle.pud_defs.specs.Formats.Image.{Image};
 ghost use Rattle.pud_defs.specs.Formats.Layout.{device_words};
 ghost use Rattle.pud_defs.specs.PoolGraphs.Stored.{IsOnDevice, stored_in};
-ghost use Rattle.pud_export.specs.Exporting.{HasLowBases, fault_in, slots_to};
+ghost use Rattle.graph_read.specs.Bases.{HasLowBases};
+ghost use Rattle.pud_export.specs.Exporting.{fault_in, slots_to};
 
 use crate::faults::ExportFault;
-use crate::slots::{address_of, read_slot};
+use crate::slots::read_slot;
 use crate::words::WordBytes;
-use graph_read::read_pointer;
+use graph_read::{address_of, read_pointer};
 use pm_model::{Host, HostFault};
 use pud_defs::layout::MAX_FRAMES;
 use pud_defs::records::Puddle;

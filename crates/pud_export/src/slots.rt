@@ -1,29 +1,24 @@
 //! The slots of a pool, as an export file has them.
 
-ghost use Rattle.std.specs.Prelude.{◌≡◌, ◌<◌, ◌≤◌, length, map, Option, IfOk, IfSome};
+ghost use Rattle.std.specs.Prelude.{◌≡◌, ◌<◌, ◌≤◌, length, map, Option, IfOk};
 ghost use Rattle.pm_model.specs.Words.{reads};
 ghost use Rattle.pm_model.specs.Counts.{fault_of};
 ghost use Rattle.pm_model.specs.Reads.{OnlyReads};
-ghost use Rattle.pud_defs.specs.PoolGraphs.Exported.{address_of, exported_value, exported_object, exported_slot};
-ghost use Rattle.pud_defs.specs.Formats.Geometry.{puddle_slots, place_at};
-ghost use Rattle.pud_defs.specs.PoolGraphs.Graph.{At};
+ghost use Rattle.pud_defs.specs.PoolGraphs.Exported.{exported_value, exported_object, exported_slot};
 ghost use Rattle.pud_defs.specs.Formats.Image.{Image};
 ghost use Rattle.pud_defs.specs.Formats.Layout.{device_words};
 ghost use Rattle.pud_defs.specs.PoolGraphs.Stored.{IsOnDevice, stored_in, place_word};
 ghost use Rattle.puddle_header.specs.Places.{places_in};
-ghost use Rattle.graph_read.specs.Checking.{content_of};
-ghost use Rattle.graph_read.specs.Reading.{LeadsWithin};
-ghost use Rattle.pud_export.specs.Exporting.{HasLowBases};
+ghost use Rattle.graph_read.specs.Bases.{HasLowBases};
 
 use crate::types::map_of;
-use graph_read::{field_word, read_pointer, type_at};
+use graph_read::{address_of, field_word, read_pointer, type_at};
 use pm_model::{Host, HostFault};
 use pud_defs::layout::{MAX_FIELDS, MAX_FRAMES};
-use pud_defs::objects::{Pointee, is_free};
+use pud_defs::objects::is_free;
 use pud_defs::records::{MAX_PUDDLES, Puddle};
 use pud_defs::space::{
-    MAX_SLOT_WORDS, SLOT_FIELDS_WORD, SLOT_SERIAL_WORD, SLOT_TYPE_WORD, ordinal_of, slot_at,
-    slot_of, word_address,
+    MAX_SLOT_WORDS, SLOT_FIELDS_WORD, SLOT_SERIAL_WORD, SLOT_TYPE_WORD, ordinal_of, slot_of,
 };
 use pud_defs::type_map::{map_fields, map_is_pointer};
 use puddle_header::serial_at;
@@ -33,38 +28,6 @@ pub(crate) const SLOT: usize = MAX_SLOT_WORDS as usize;
 
 /// The words of a slot.
 pub(crate) type SlotWords = [u64; SLOT];
-
-/// The address of a slot of the puddle of an ordinal, where the bases are low. Else it may wrap around.
-fn place_address(pool: &[(u32, Puddle)], ordinal: u32, slot: u32) -> u64
-    requires puddle { ordinal < length pool.now }
-    requires within { slot < puddle_slots }
-    ensures { HasLowBases pool.now → result ≡ address_of (map (λ e. e.1) pool.now) (At (place_at ordinal slot)) }
-{
-    let (_, puddle) = pool[ordinal as usize];
-    word_address(puddle.base, slot_at(&puddle, slot))
-}
-
-/// The word that stands over the pool's bases for nothing or for a slot.
-fn pointee_address(pool: &[(u32, Puddle)], pointee: Pointee) -> u64
-    requires { LeadsWithin (length pool.now) pointee }
-    ensures { HasLowBases pool.now → result ≡ address_of (map (λ e. e.1) pool.now) (content_of (Option.Some pointee)) }
-{
-    match pointee {
-        Pointee::Null => 0,
-        Pointee::At { ordinal, slot } => place_address(pool, ordinal, slot),
-    }
-}
-
-/// The word that stands over the pool's bases for what a pointer leads to: 0 where it leads to nothing or nowhere.
-pub(crate) fn address_of(pool: &[(u32, Puddle)], pointee: Option<Pointee>) -> u64
-    requires { IfSome pointee (LeadsWithin (length pool.now)) }
-    ensures { HasLowBases pool.now → result ≡ address_of (map (λ e. e.1) pool.now) (content_of pointee) }
-{
-    match pointee {
-        Some(pointee) => pointee_address(pool, pointee),
-        None => 0,
-    }
-}
 
 /// What a file has for field `f` of the slot at a place, by its word and the map of the slot's type: a pointer over the pool's
 /// bases, whichever it stands over here, and a number as it is.

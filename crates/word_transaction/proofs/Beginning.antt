@@ -35,7 +35,7 @@ log_of-begun_log at image gate =
     log_of-is image (begun_log at) [] [] (record { lo_fits = omega arith; hi_fits = omega arith; used_within = omega arith }) gate
     (words_from-none image (at + LOG_HEADER_WORDS) 0 refl) (entries_in-nothing [] refl)
 
-module _ (size at : ℕ) (g : Scope) (before : Image) (fault : Option HostFault) (s t : State) (ground : IsScope size at g) (idle : IsIdle g at before s.now.words)
+module _ (size at : ℕ) (g : Scope) (before : Image) (fault : Option HostFault) (s t : State) (scope : IsScope size at g) (idle : IsIdle g at before s.now.words)
     (p : Persists (only at RUNNING_GATE) fault s t) where
   in_log : IsInLog at at
   in_log = record { low = omega arith; high = omega arith }
@@ -47,7 +47,7 @@ module _ (size at : ℕ) (g : Scope) (before : Image) (fault : Option HostFault)
   gate_alone k out v may = other k out (only_at at RUNNING_GATE k v may)
 
   single : (k : ℕ) → g.has_word k ≡ true → HasOnly (t.now.words k) (before k)
-  single k mine = HasOnly-kept (written (only at RUNNING_GATE)) fault s t k (before k) p.changes (gate_alone k (ground.apart k mine)) (idle.single k mine)
+  single k mine = HasOnly-kept (written (only at RUNNING_GATE)) fault s t k (before k) p.changes (gate_alone k (scope.apart k mine)) (idle.single k mine)
 
   moment : (was image : Image) → Picks s.now.words was → IsFrom (written (only at RUNNING_GATE)) was image → RecoversTo g at before image
   moment was image picked from =
@@ -55,7 +55,7 @@ module _ (size at : ℕ) (g : Scope) (before : Image) (fault : Option HostFault)
       elim (one_word at RUNNING_GATE was image from) [
         | inl still ↦ RecoversTo-closed g at before image (ap (λ (i : Image). is_closed_log i at) still ∙ idle.closed was picked) (λ k mine. ap (λ (i : Image). i k) still ∙ same k mine)
         | inr runs ↦ RecoversTo-running g (begun_log at) [] before image refl refl (All-nil (IsInScope g)) (log_of-begun_log at image runs.there)
-            (λ k v mine is. nothing_saved g before k v is) (λ k mine none. runs.others k (other k (ground.apart k mine)) ∙ same k mine)
+            (λ k v mine is. nothing_saved g before k v is) (λ k mine none. runs.others k (other k (scope.apart k mine)) ∙ same k mine)
       ]
 
   running : fault ≡ None → IsRunning g (begun_log at) [] before t.now.words
@@ -70,8 +70,8 @@ module _ (size at : ℕ) (g : Scope) (before : Image) (fault : Option HostFault)
         marked = λ k mine. inr (HasOnly-own (t.now.words k) (before k) (single k mine));
       }
 
-  pub Runs-begun : KeepsRunning g (begun_log at) [] before no_write fault s t
-  Runs-begun =
+  pub KeepsRunning-begun : KeepsRunning g (begun_log at) [] before no_write fault s t
+  KeepsRunning-begun =
       record {
         changes = Changes-wider (written (only at RUNNING_GATE)) (ByTransaction g at) fault s t
             (λ k v may. inl (let here = only_at at RUNNING_GATE k v may in record { low = omega arith; high = omega arith })) p.changes;

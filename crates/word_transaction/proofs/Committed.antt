@@ -30,7 +30,7 @@ use Rattle.word_transaction.proofs.Ended.{reads_beside}
 
 -- no own word is the gate
 pub mine_apart : (size at : ℕ) (g : Scope) (k : ℕ) → IsScope size at g → g.has_word k ≡ true → k ≡ at → ⊥
-mine_apart size at g k ground mine here = absurd (not_inside at k (ground.apart k mine) (record { low = omega arith; high = omega arith }))
+mine_apart size at g k scope mine here = absurd (not_inside at k (scope.apart k mine) (record { low = omega arith; high = omega arith }))
 
 -- a value that the gate gets is one that a word of the log gets
 pub gate_by : (g : Scope) (at gate k v : ℕ) → written (only at gate) k v → ByTransaction g at k v
@@ -56,23 +56,23 @@ pub record Shuts (g : Scope) (at was : ℕ) (values : Image) (fault : Option Hos
 
 -- ---- the log of words that each have one value is closed
 
-module _ (size at : ℕ) (g : Scope) (ground : IsScope size at g) (values : Image) (fault : Option HostFault) (c d : State)
+module _ (size at : ℕ) (g : Scope) (scope : IsScope size at g) (values : Image) (fault : Option HostFault) (c d : State)
     (recovers : (image : Image) → Picks c.now.words image → RecoversTo g at values image) (single : (k : ℕ) → g.has_word k ≡ true → HasOnly (c.now.words k) (values k))
     (p : Persists (only at CLOSED_GATE) fault c d) where
   shut_image : (before image : Image) → Picks c.now.words before → IsFrom (written (only at CLOSED_GATE)) before image → RecoversTo g at values image
   shut_image before image picked from = elim (one_word at CLOSED_GATE before image from) [
     | inl same ↦ subst (λ (i : Image). RecoversTo g at values i) (sym same) (recovers before picked)
     | inr shut ↦ RecoversTo-idle g at values image (ap is_idle_gate shut.there)
-        (λ k mine. shut.others k (mine_apart size at g k ground mine) ∙ (single k mine).each (before k) (picked.each k))
+        (λ k mine. shut.others k (mine_apart size at g k scope mine) ∙ (single k mine).each (before k) (picked.each k))
   ]
 
-  pub Closes-shut : AbortsTransaction g at values fault c d
-  Closes-shut =
+  pub AbortsTransaction-shut : AbortsTransaction g at values fault c d
+  AbortsTransaction-shut =
       record {
         changes = Changes-wider (written (only at CLOSED_GATE)) (ByTransaction g at) fault c d (gate_by g at CLOSED_GATE) p.changes;
         moments = Leaves-changes (RecoversTo g at values) (written (only at CLOSED_GATE)) fault c d shut_image p.changes;
         durable = λ none k mine.
-            HasOnly-kept (written (only at CLOSED_GATE)) fault c d k (values k) p.changes (λ x new. mine_apart size at g k ground mine (only_at at CLOSED_GATE k x new)) (single k mine);
+            HasOnly-kept (written (only at CLOSED_GATE)) fault c d k (values k) p.changes (λ x new. mine_apart size at g k scope mine (only_at at CLOSED_GATE k x new)) (single k mine);
         closed = λ none. p.durable none at CLOSED_GATE (only_here at CLOSED_GATE);
       }
 
@@ -87,7 +87,7 @@ module _ (size at : ℕ) (g : Scope) (ground : IsScope size at g) (values : Imag
     pub Shuts-shut : Shuts g at was values fault c d
     Shuts-shut =
         record {
-          closes = Closes-shut;
+          closes = AbortsTransaction-shut;
           moments = Leaves-changes (IsShut g at was values) (written (only at CLOSED_GATE)) fault c d
               (λ before image picked from. record { recovers = shut_image before image picked from; gate = shut_gate before image picked from }) p.changes;
         }
@@ -126,7 +126,7 @@ gate_closes log fault a b c d m p =
 
 -- ---- the moments of an open transaction
 
-module _ (size : ℕ) (log : OpenLog) (es : List Entry) (g : Scope) (before : Image) (a : State) (ground : IsScope size log.gate_at g) (r : IsRunning g log es before a.now.words) where
+module _ (size : ℕ) (log : OpenLog) (es : List Entry) (g : Scope) (before : Image) (a : State) (scope : IsScope size log.gate_at g) (r : IsRunning g log es before a.now.words) where
   -- what its own words hold at the end: what they hold now, and over it the deferred values
   abbrev after : Image
   after = overwritten (pending g.place es) (reads a.now.words)
@@ -177,7 +177,7 @@ module _ (size : ℕ) (log : OpenLog) (es : List Entry) (g : Scope) (before : Im
       → (k : ℕ) → g.has_word k ≡ true → image k ≡ reads a.now.words k
   moved_own b c fault m was image picked from k mine = elim (from.each k) [
     | inl same ↦ same ∙ (fence_single b m.fence k mine).each (was k) (picked.each k)
-    | inr new ↦ absurd (mine_apart size log.gate_at g k ground mine (only_at log.gate_at (moved_gate log) k (image k) new))
+    | inr new ↦ absurd (mine_apart size log.gate_at g k scope mine (only_at log.gate_at (moved_gate log) k (image k) new))
   ]
 
   moved_image : (b c : State) (fault : Option HostFault) (m : Moves log fault a b c) (was image : Image) → Picks b.now.words was
@@ -204,7 +204,7 @@ module _ (size : ℕ) (log : OpenLog) (es : List Entry) (g : Scope) (before : Im
   pub moved_single : (b c : State) (m : Moves log None a b c) → (k : ℕ) → g.has_word k ≡ true → HasOnly (c.now.words k) (reads a.now.words k)
   moved_single b c m k mine =
       HasOnly-kept (written (only log.gate_at (moved_gate log))) None b c k (reads a.now.words k) m.move.changes
-      (λ x new. mine_apart size log.gate_at g k ground mine (only_at log.gate_at (moved_gate log) k x new)) (fence_single b m.fence k mine)
+      (λ x new. mine_apart size log.gate_at g k scope mine (only_at log.gate_at (moved_gate log) k x new)) (fence_single b m.fence k mine)
 
   pub moved_open : (b c : State) (m : Moves log None a b c) → IsOpen (committing log) es c.now.words
   moved_open b c m = IsOpen-moved COMMITTING_LO COMMITTING_HI log es b c (omega arith) (omega arith) (fence_open b m.fence) m.move
@@ -220,8 +220,8 @@ module _ (size : ℕ) (log : OpenLog) (es : List Entry) (g : Scope) (before : Im
   own_gate : (k v : ℕ) → ByCommit log k v → ByTransaction g log.gate_at k v
   own_gate k v by = let here = by.gate in inl (record { low = omega arith; high = omega arith })
 
-  pub Ends-fence : (fault : HostFault) (b : State) → Steps after_fence (Some fault) a b → CommitsTransaction g log.gate_at before after (Some fault) a b
-  Ends-fence fault b step =
+  pub CommitsTransaction-fence : (fault : HostFault) (b : State) → Steps after_fence (Some fault) a b → CommitsTransaction g log.gate_at before after (Some fault) a b
+  CommitsTransaction-fence fault b step =
       record {
         changes = Changes-fence (ByTransaction g log.gate_at) (Some fault) a b step;
         moments = fence_left (Some fault) b step;
@@ -231,8 +231,8 @@ module _ (size : ℕ) (log : OpenLog) (es : List Entry) (g : Scope) (before : Im
         stays = λ e. absurd (some_fault fault e);
       }
 
-  pub Ends-move : (fault : HostFault) (b c : State) → Moves log (Some fault) a b c → CommitsTransaction g log.gate_at before after (Some fault) a c
-  Ends-move fault b c m =
+  pub CommitsTransaction-move : (fault : HostFault) (b c : State) → Moves log (Some fault) a b c → CommitsTransaction g log.gate_at before after (Some fault) a c
+  CommitsTransaction-move fault b c m =
       record {
         changes = Changes-wider (ByCommit log) (ByTransaction g log.gate_at) (Some fault) a c own_gate (gate_moves log (Some fault) a b c m);
         moments = moved_left b c (Some fault) m;
@@ -256,8 +256,8 @@ module _ (size : ℕ) (log : OpenLog) (es : List Entry) (g : Scope) (before : Im
       }
 
   -- its log is closed, with all words as they are at the end
-  pub Ends-closes : (fault : Option HostFault) (b c d : State) → Moves log None a b c → Shuts g log.gate_at (moved_gate log) after fault c d → CommitsTransaction g log.gate_at before after fault a d
-  Ends-closes fault b c d m shuts =
+  pub CommitsTransaction-closes : (fault : Option HostFault) (b c d : State) → Moves log None a b c → Shuts g log.gate_at (moved_gate log) after fault c d → CommitsTransaction g log.gate_at before after fault a d
+  CommitsTransaction-closes fault b c d m shuts =
       let closes = shuts.closes in
       let moves = gate_moves log None a b c m in
       let changes = Changes-then (ByTransaction g log.gate_at) fault a c d (Changes-wider (ByCommit log) (ByTransaction g log.gate_at) None a c own_gate moves) closes.changes in
@@ -272,9 +272,9 @@ module _ (size : ℕ) (log : OpenLog) (es : List Entry) (g : Scope) (before : Im
       }
 
   -- at once where nothing is deferred
-  pub Ends-close : (fault : Option HostFault) (b c d : State) → defers es ≡ false → Moves log None a b c → Persists (only log.gate_at CLOSED_GATE) fault c d → CommitsTransaction g log.gate_at before after fault a d
-  Ends-close fault b c d none m p =
-      Ends-closes fault b c d m
-      (Shuts-shut size log.gate_at g ground after fault c d (moved_settles b c m)
+  pub CommitsTransaction-close : (fault : Option HostFault) (b c d : State) → defers es ≡ false → Moves log None a b c → Persists (only log.gate_at CLOSED_GATE) fault c d → CommitsTransaction g log.gate_at before after fault a d
+  CommitsTransaction-close fault b c d none m p =
+      CommitsTransaction-closes fault b c d m
+      (Shuts-shut size log.gate_at g scope after fault c d (moved_settles b c m)
       (λ k mine. subst (λ (v : ℕ). HasOnly (c.now.words k) v) (sym (overwritten-stays (pending g.place es) (reads a.now.words) k (pending-none g.place es k none))) (moved_single b c m k mine)) p
       (moved_gate log) (moved_open b c m).gate)

@@ -41,9 +41,9 @@ counts g e own order = elim own.kind [
 -- an entry that covers an address has a value of the word that the address names
 given_there : (size at : ℕ) (g : Scope) (e : Entry) (address k : ℕ) → IsScope size at g → IsInScope g e → covers address e ≡ true → g.place address ≡ Some k
     → given_by g.place running_range UNDO_ORDER e k ≡ None → ⊥
-given_there size at g e address k ground own told place none =
+given_there size at g e address k scope own told place none =
     let w = word_of address e told in
-    let spans = ground.named e.address (length e.vals) own.may in
+    let spans = scope.named e.address (length e.vals) own.may in
     let same : Some (spans.first + w.i) ≡ Some k = sym (spans.each w.i w.below) ∙ ap g.place w.is ∙ place in
     let here : spans.first + w.i ≡ k = cc in
     let value : value_in g.place e k ≡ Some (get_or e.vals w.i 0) = ap (λ (o : Option ℕ). value_from o e.vals k) spans.placed ∙ placed_at spans.first w.i k e.vals (sym here) w.below in
@@ -53,19 +53,19 @@ given_there size at g e address k ground own told place none =
 -- a word whose address is covered is saved
 pub covered_is_saved : (size at : ℕ) (g : Scope) (es : List Entry) (address k : ℕ) → IsScope size at g → All (IsInScope g) es → is_covered es address ≡ true → g.place address ≡ Some k
     → saved g.place es k ≡ None → ⊥
-covered_is_saved size at g [] address k ground own told place none = absurd (cc)
-covered_is_saved size at g (e ∷ es) address k ground own told place none =
+covered_is_saved size at g [] address k scope own told place none = absurd (cc)
+covered_is_saved size at g (e ∷ es) address k scope own told place none =
     let either = sym (undo_value-first g.place running_range e es k) ∙ none in
     elim (or_cases (covers address e) (is_covered es address) told) [
-      | inl here ↦ given_there size at g e address k ground (All-head (IsInScope g) e es own) here place (or_first_none _ _ either)
-      | inr later ↦ covered_is_saved size at g es address k ground (All-tail (IsInScope g) e es own) later place (or_second_none _ _ either)
+      | inl here ↦ given_there size at g e address k scope (All-head (IsInScope g) e es own) here place (or_first_none _ _ either)
+      | inr later ↦ covered_is_saved size at g es address k scope (All-tail (IsInScope g) e es own) later place (or_second_none _ _ either)
     ]
 
 -- so is each of words all of which are covered
 pub covered_are_saved : (size at : ℕ) (g : Scope) (es : List Entry) (address first count k : ℕ) → IsScope size at g → All (IsInScope g) es → g.may_name address count ≡ true → g.place address ≡ Some first
     → are_covered es address count ≡ true → IsOneOf first count k → saved g.place es k ≡ None → ⊥
-covered_are_saved size at g es address first count k ground own may place told one none =
-    let spans = ground.named address count may in
+covered_are_saved size at g es address first count k scope own may place told one none =
+    let spans = scope.named address count may in
     let same : Some spans.first ≡ Some first = sym spans.placed ∙ place in
     let is_first : spans.first ≡ first = cc in
     let low = one.0 in
@@ -73,10 +73,10 @@ covered_are_saved size at g es address first count k ground own may place told o
     let i = k - first in
     let below : i < count = omega arith in
     let here : spans.first + i ≡ k = omega arith in
-    covered_is_saved size at g es (address + WORD_BYTES * i) k ground own (all_below-each count (λ j. is_covered es (address + WORD_BYTES * j)) told i below) (spans.each i below ∙ ap Some here) none
+    covered_is_saved size at g es (address + WORD_BYTES * i) k scope own (all_below-each count (λ j. is_covered es (address + WORD_BYTES * j)) told i below) (spans.each i below ∙ ap Some here) none
 
 -- the one word of an address is
 pub covered_one_is_saved : (size at : ℕ) (g : Scope) (es : List Entry) (address first k : ℕ) → IsScope size at g → All (IsInScope g) es → g.may_name address 1 ≡ true → g.place address ≡ Some first
     → are_covered es address 1 ≡ true → k ≡ first → saved g.place es k ≡ None → ⊥
-covered_one_is_saved size at g es address first k ground own may place told is none =
-    covered_are_saved size at g es address first 1 k ground own may place told (omega arith, omega arith) none
+covered_one_is_saved size at g es address first k scope own may place told is none =
+    covered_are_saved size at g es address first 1 k scope own may place told (omega arith, omega arith) none

@@ -40,13 +40,13 @@ settles_beside g log es before may fault old new c in_log own r =
 -- they matter on its own words alone
 pub IsRunning-values : (size : ℕ) (g : Scope) (log : OpenLog) (es : List Entry) (before values : Image) (words : Words) → IsScope size log.gate_at g → ((k : ℕ) → g.has_word k ≡ true → before k ≡ values k)
     → IsRunning g log es before words → IsRunning g log es values words
-IsRunning-values size g log es before values words ground same r =
+IsRunning-values size g log es before values words scope same r =
     record {
       opened = r.opened;
       lo = r.lo;
       hi = r.hi;
       own = r.own;
-      saves = λ k v is. r.saves k v is ∙ same k (saved_is_mine size log.gate_at g es k v ground r.own is);
+      saves = λ k v is. r.saves k v is ∙ same k (saved_is_mine size log.gate_at g es k v scope r.own is);
       single = λ k mine none. subst (λ (v : ℕ). HasOnly (words k) v) (same k mine) (r.single k mine none);
       marked = r.marked;
     }

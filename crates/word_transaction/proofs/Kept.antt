@@ -53,8 +53,8 @@ pub SavesWords-appended : (size : ℕ) (g : Scope) (log now : OpenLog) (es : Lis
     → IfOk result (λ _. now ≡ with_entries count more log) → OnErr result (now ≡ log)
     → (IsRunning g log es before b.now.words → MayAppend g es before more → KeepsRunning g (with_entries count more log) (es ++ more) before no_write (fault_of result) b t)
     → SavesWords g now es before which (fault_of result) s t
-SavesWords-appended size g log now es before which count more result s b t ground r same read none saves ok err appends =
-    let runs = appends (subst (λ (x : State). IsRunning g log es before x.now.words) (sym same) r) (MayAppend-read size g log es more before s.now.words ground r read) in
+SavesWords-appended size g log now es before which count more result s b t scope r same read none saves ok err appends =
+    let runs = appends (subst (λ (x : State). IsRunning g log es before x.now.words) (sym same) r) (MayAppend-read size g log es more before s.now.words scope r read) in
     record {
       entries = es ++ more;
       runs = subst (λ (x : State). KeepsRunning g now (es ++ more) before no_write (fault_of result) x t) same (KeepsRunning-now g log (with_entries count more log) now (es ++ more) before result b t refl ok err runs);
@@ -91,8 +91,8 @@ pub record WritesKept (g : Scope) (which : ℕ → Type 0) (write : Write) : Typ
 -- values placed from the word of an address on, where its words are saved
 pub WritesKept-placed : (size at : ℕ) (g : Scope) (address first : ℕ) (vals : List ℕ) → IsScope size at g → g.may_name address (length vals) ≡ true → g.place address ≡ Some first
     → WritesKept g (IsOneOf first (length vals)) (placed first vals)
-WritesKept-placed size at g address first vals ground may place =
-    let spans = ground.named address (length vals) may in
+WritesKept-placed size at g address first vals scope may place =
+    let spans = scope.named address (length vals) may in
     let here : Some spans.first ≡ Some first = sym spans.placed ∙ place in
     let same : spans.first ≡ first = cc in
     record {

@@ -21,7 +21,7 @@ use Rattle.word_transaction.specs.Running.{IsRunning, ByCommit, CommitsTransacti
 use Rattle.word_transaction.proofs.Saved.{pending_is_mine}
 use Rattle.word_transaction.proofs.Growing.{redo_value-places}
 use Rattle.word_transaction.proofs.Pending.{new_value-committing}
-use Rattle.word_transaction.proofs.Committed.{Moves, gate_moves, moved_single, moved_open, Ends-closes}
+use Rattle.word_transaction.proofs.Committed.{Moves, gate_moves, moved_single, moved_open, CommitsTransaction-closes}
 use Rattle.word_transaction.proofs.Settled.{Gives, replayable, durable_log, Shuts-settled}
 
 -- ---- the puddle table, while the gate changes
@@ -42,7 +42,7 @@ module _ (F : ℕ) (g : Scope) (log : OpenLog) (a c : State) (changes : Changes 
 
 -- ---- the replay
 
-module _ (size : ℕ) (log : OpenLog) (es : List Entry) (g : Scope) (before : Image) (a : State) (ground : IsScope size log.gate_at g) (r : IsRunning g log es before a.now.words) where
+module _ (size : ℕ) (log : OpenLog) (es : List Entry) (g : Scope) (before : Image) (a : State) (scope : IsScope size log.gate_at g) (r : IsRunning g log es before a.now.words) where
   abbrev write : ℕ → Option ℕ
   write = pending g.place es
 
@@ -53,29 +53,29 @@ module _ (size : ℕ) (log : OpenLog) (es : List Entry) (g : Scope) (before : Im
   gives : (b c : State) → Moves log None a b c → Gives g (committing log) es write after c.now.words
   gives b c m =
       record {
-        opened = moved_open size log es g before a ground r b c m;
+        opened = moved_open size log es g before a scope r b c m;
         own = r.own;
         given = λ place same k. new_value-committing g place (saying (committing log) es) es k refl refl refl r.own ∙ redo_value-places g.place place committing_range es k same;
-        has_word = λ k v is. pending_is_mine size log.gate_at g es k v ground r.own is;
+        has_word = λ k v is. pending_is_mine size log.gate_at g es k v scope r.own is;
         saves = λ k v is. sym (overwritten-there write (reads a.now.words) k v is);
         single = λ k mine none.
-            subst (λ (v : ℕ). HasOnly (c.now.words k) v) (sym (overwritten-stays write (reads a.now.words) k none)) (moved_single size log es g before a ground r b c m k mine);
+            subst (λ (v : ℕ). HasOnly (c.now.words k) v) (sym (overwritten-stays write (reads a.now.words) k none)) (moved_single size log es g before a scope r b c m k mine);
       }
 
-  pub Ends-redone : (F at : ℕ) (fault : Option HostFault) (b c d : State) → at ≡ log.gate_at → CanRedo g F log.gate_at a.now.words → Moves log None a b c
+  pub CommitsTransaction-redone : (F at : ℕ) (fault : Option HostFault) (b c d : State) → at ≡ log.gate_at → CanRedo g F log.gate_at a.now.words → Moves log None a b c
       → (IsReplayable (address_map_of (Puddles F) (reads c.now.words)) size at es (reads c.now.words) → SettlesLog (Puddles F) at fault c d)
       → (IsReplayable (address_map_of (Puddles F) (reads c.now.words)) size at es (reads c.now.words) → HasDurableLog (Puddles F) at c.now.words
       → Leaves (Silently (IsSettling (Puddles F) at c.now.words)) c d)
       → CommitsTransaction g log.gate_at before after fault a d
-  Ends-redone F at fault b c d here can m recovers moments =
+  CommitsTransaction-redone F at fault b c d here can m recovers moments =
       let changes = gate_moves log None a b c m in
       let table = one_table F g log a c changes can in
       let places = places_there F g log a c changes can in
       let given = gives b c m in
-      let may = replayable size F g (committing log) es write after c ground given places table in
-      let durable = durable_log size F g (committing log) es write after c ground given places table in
+      let may = replayable size F g (committing log) es write after c scope given places table in
+      let durable = durable_log size F g (committing log) es write after c scope given places table in
       let settled = subst (λ (k : ℕ). IsReplayable (address_map_of (Puddles F) (reads c.now.words)) size k es (reads c.now.words) → SettlesLog (Puddles F) k fault c d) here recovers in
       let left = subst (λ (k : ℕ). IsReplayable (address_map_of (Puddles F) (reads c.now.words)) size k es (reads c.now.words) → HasDurableLog (Puddles F) k c.now.words
       → Leaves (Silently (IsSettling (Puddles F) k c.now.words)) c d) here moments in
-      Ends-closes size log es g before a ground r fault b c d m
-      (Shuts-settled size F g (committing log) es write after c ground given places table fault d (settled may) (left may durable))
+      CommitsTransaction-closes size log es g before a scope r fault b c d m
+      (Shuts-settled size F g (committing log) es write after c scope given places table fault d (settled may) (left may durable))

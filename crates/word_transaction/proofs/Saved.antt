@@ -63,8 +63,8 @@ value_of_given place log order e k v is = elim (cases_Bool (is_in_range log e &&
 
 -- a word that an entry of the transaction names is one of its own
 named_is_mine : (size at : ℕ) (g : Scope) (e : Entry) (k v : ℕ) → IsScope size at g → IsInScope g e → value_in g.place e k ≡ Some v → g.has_word k ≡ true
-named_is_mine size at g e k v ground own is =
-    let spans = ground.named e.address (length e.vals) own.may in
+named_is_mine size at g e k v scope own is =
+    let spans = scope.named e.address (length e.vals) own.may in
     let within = placed_within spans.first k v e.vals (sym (ap (λ (o : Option ℕ). value_from o e.vals k) spans.placed) ∙ is) in
     spans.own k within.0 within.1
 
@@ -75,27 +75,27 @@ either_some (Some x) b v is = inl is
 
 -- a word to which a log gives a value by undo entries is one of the transaction's own
 pub undo_value_in_scope : (size at : ℕ) (g : Scope) (log : Log) (es : List Entry) (k v : ℕ) → IsScope size at g → All (IsInScope g) es → undo_value g.place log es k ≡ Some v → g.has_word k ≡ true
-undo_value_in_scope size at g log [] k v ground own is = absurd (some_not_none _ v is (undo_value-none g.place log k))
-undo_value_in_scope size at g log (e ∷ es) k v ground own is =
+undo_value_in_scope size at g log [] k v scope own is = absurd (some_not_none _ v is (undo_value-none g.place log k))
+undo_value_in_scope size at g log (e ∷ es) k v scope own is =
     elim (either_some (given_by g.place log UNDO_ORDER e k) (undo_value g.place log es k) v (sym (undo_value-first g.place log e es k) ∙ is)) [
-      | inl first ↦ named_is_mine size at g e k v ground (All-head (IsInScope g) e es own) (value_of_given g.place log UNDO_ORDER e k v first)
-      | inr later ↦ undo_value_in_scope size at g log es k v ground (All-tail (IsInScope g) e es own) later.1
+      | inl first ↦ named_is_mine size at g e k v scope (All-head (IsInScope g) e es own) (value_of_given g.place log UNDO_ORDER e k v first)
+      | inr later ↦ undo_value_in_scope size at g log es k v scope (All-tail (IsInScope g) e es own) later.1
     ]
 
 -- and so is one to which it gives a value by redo entries
 pub redone_is_mine : (size at : ℕ) (g : Scope) (log : Log) (es : List Entry) (k v : ℕ) → IsScope size at g → All (IsInScope g) es → redo_value g.place log es k ≡ Some v → g.has_word k ≡ true
-redone_is_mine size at g log [] k v ground own is = absurd (some_not_none _ v is (redo_value-none g.place log k))
-redone_is_mine size at g log (e ∷ es) k v ground own is =
+redone_is_mine size at g log [] k v scope own is = absurd (some_not_none _ v is (redo_value-none g.place log k))
+redone_is_mine size at g log (e ∷ es) k v scope own is =
     elim (either_some (redo_value g.place log es k) (given_by g.place log REDO_ORDER e k) v (sym (redo_value-first g.place log e es k) ∙ is)) [
-      | inl later ↦ redone_is_mine size at g log es k v ground (All-tail (IsInScope g) e es own) later
-      | inr here ↦ named_is_mine size at g e k v ground (All-head (IsInScope g) e es own) (value_of_given g.place log REDO_ORDER e k v here.1)
+      | inl later ↦ redone_is_mine size at g log es k v scope (All-tail (IsInScope g) e es own) later
+      | inr here ↦ named_is_mine size at g e k v scope (All-head (IsInScope g) e es own) (value_of_given g.place log REDO_ORDER e k v here.1)
     ]
 
 pub saved_is_mine : (size at : ℕ) (g : Scope) (es : List Entry) (k v : ℕ) → IsScope size at g → All (IsInScope g) es → saved g.place es k ≡ Some v → g.has_word k ≡ true
-saved_is_mine size at g es k v ground own is = undo_value_in_scope size at g running_range es k v ground own is
+saved_is_mine size at g es k v scope own is = undo_value_in_scope size at g running_range es k v scope own is
 
 pub pending_is_mine : (size at : ℕ) (g : Scope) (es : List Entry) (k v : ℕ) → IsScope size at g → All (IsInScope g) es → pending g.place es k ≡ Some v → g.has_word k ≡ true
-pending_is_mine size at g es k v ground own is = redone_is_mine size at g committing_range es k v ground own is
+pending_is_mine size at g es k v scope own is = redone_is_mine size at g committing_range es k v scope own is
 
 -- ---- behind others
 

@@ -28,7 +28,7 @@ use Rattle.word_transaction.proofs.Calls.{some_fault, marked_still}
 -- ---- entries that may be appended
 
 module _ (size : ℕ) (g : Scope) (log : OpenLog) (es : List Entry) (before : Image) (count : ℕ) (more : List Entry) (s : State)
-    (ground : IsScope size log.gate_at g) (r : IsRunning g log es before s.now.words) (may : MayAppend g es before more) where
+    (scope : IsScope size log.gate_at g) (r : IsRunning g log es before s.now.words) (may : MayAppend g es before more) where
   abbrev longer_log : OpenLog
   longer_log = with_entries count more log
 
@@ -40,7 +40,7 @@ module _ (size : ℕ) (g : Scope) (log : OpenLog) (es : List Entry) (before : Im
   moment image grown =
       let was : log_of grown.before log.gate_at ≡ saying log es = IsOpen-log log es s.now.words grown.before r.opened grown.picked in
       let same : (k : ℕ) → g.has_word k ≡ true → saved g.place es k ≡ None → image k ≡ before k = λ k mine none.
-      grown.outside k (not_inside log.gate_at k (ground.apart k mine)) ∙ (r.single k mine none).each (grown.before k) (grown.picked.each k) in
+      grown.outside k (not_inside log.gate_at k (scope.apart k mine)) ∙ (r.single k mine none).each (grown.before k) (grown.picked.each k) in
       elim grown.log [
         | inl still ↦ RecoversTo-running g log es before image r.lo r.hi r.own (still ∙ was) (λ k v mine is. r.saves k v is) same
         | inr grew ↦ RecoversTo-running g log (es ++ more) before image r.lo r.hi own_more (grew ∙ ap (with_last more) was)
@@ -48,7 +48,7 @@ module _ (size : ℕ) (g : Scope) (log : OpenLog) (es : List Entry) (before : Im
       ]
 
   outside : (k : ℕ) → g.has_word k ≡ true → (v : ℕ) → InLog log.gate_at k v → ⊥
-  outside k mine v inside = not_inside log.gate_at k (ground.apart k mine) inside
+  outside k mine v inside = not_inside log.gate_at k (scope.apart k mine) inside
 
   running : (t : State) → Changes (InLog log.gate_at) None s t → IsOpen longer_log (es ++ more) t.now.words → IsRunning g longer_log (es ++ more) before t.now.words
   running t changes opened =
@@ -69,9 +69,9 @@ module _ (size : ℕ) (g : Scope) (log : OpenLog) (es : List Entry) (before : Im
   by_log fault t changes = Changes-wider (InLog log.gate_at) (ByTransaction g log.gate_at) fault s t (λ k v inside. inl inside) changes
 
   -- they were not appended
-  pub Runs-unappended : (fault : HostFault) (t : State) → Changes (InLog log.gate_at) (Some fault) s t → Appends log es count more (Err (Host fault)) s t
+  pub KeepsRunning-unappended : (fault : HostFault) (t : State) → Changes (InLog log.gate_at) (Some fault) s t → Appends log es count more (Err (Host fault)) s t
       → KeepsRunning g longer_log (es ++ more) before no_write (Some fault) s t
-  Runs-unappended fault t changes a =
+  KeepsRunning-unappended fault t changes a =
       record {
         changes = by_log (Some fault) t changes;
         moments = grown_left t a.moments;
@@ -80,8 +80,8 @@ module _ (size : ℕ) (g : Scope) (log : OpenLog) (es : List Entry) (before : Im
       }
 
   -- they were
-  pub Runs-appended : (t : State) → Changes (InLog log.gate_at) None s t → Appends log es count more (Ok tt) s t → KeepsRunning g longer_log (es ++ more) before no_write None s t
-  Runs-appended t changes a =
+  pub KeepsRunning-appended : (t : State) → Changes (InLog log.gate_at) None s t → Appends log es count more (Ok tt) s t → KeepsRunning g longer_log (es ++ more) before no_write None s t
+  KeepsRunning-appended t changes a =
       record {
         changes = by_log None t changes;
         moments = grown_left t a.moments;
@@ -92,9 +92,9 @@ module _ (size : ℕ) (g : Scope) (log : OpenLog) (es : List Entry) (before : Im
 pub KeepsRunning-append : (size : ℕ) (g : Scope) (log : OpenLog) (es : List Entry) (before : Image) (count : ℕ) (more : List Entry) (result : Result (Unit {0}) AppendFault) (s t : State)
     → IsScope size log.gate_at g → IsRunning g log es before s.now.words → MayAppend g es before more → (result ≡ Err TooBig → ⊥)
     → Changes (InLog log.gate_at) (append_fault result) s t → Appends log es count more result s t → KeepsRunning g (with_entries count more log) (es ++ more) before no_write (append_fault result) s t
-KeepsRunning-append size g log es before count more (Ok tt) s t ground r may room changes a = Runs-appended size g log es before count more s ground r may t changes a
-KeepsRunning-append size g log es before count more (Err TooBig) s t ground r may room changes a = absurd (room refl)
-KeepsRunning-append size g log es before count more (Err (Host fault)) s t ground r may room changes a = Runs-unappended size g log es before count more s ground r may fault t changes a
+KeepsRunning-append size g log es before count more (Ok tt) s t scope r may room changes a = KeepsRunning-appended size g log es before count more s scope r may t changes a
+KeepsRunning-append size g log es before count more (Err TooBig) s t scope r may room changes a = absurd (room refl)
+KeepsRunning-append size g log es before count more (Err (Host fault)) s t scope r may room changes a = KeepsRunning-unappended size g log es before count more s scope r may fault t changes a
 
 -- ---- what words hold
 
@@ -142,14 +142,14 @@ saved-read g image (e ∷ more) k v read is =
 -- a word that is saved only now has its value from the beginning
 pub MayAppend-read : (size : ℕ) (g : Scope) (log : OpenLog) (es more : List Entry) (before : Image) (words : Words) → IsScope size log.gate_at g → IsRunning g log es before words
     → All (IsRead g (reads words)) more → MayAppend g es before more
-MayAppend-read size g log es more before words ground r read =
+MayAppend-read size g log es more before words scope r read =
     let own : All (IsInScope g) more = λ n d below. IsRead-own g (reads words) _ (read n d below) in
     record {
       own = own;
       saves = λ k v is. elim (either_some (saved g.place es k) (saved g.place more k) v (sym (saved-append g.place es more k) ∙ is)) [
         | inl first_time ↦ r.saves k v first_time
         | inr here ↦
-            let mine = saved_is_mine size log.gate_at g (es ++ more) k v ground (All-append (IsInScope g) es more r.own own) is in
+            let mine = saved_is_mine size log.gate_at g (es ++ more) k v scope (All-append (IsInScope g) es more r.own own) is in
             saved-read g (reads words) more k v read here.1 ∙ (r.single k mine here.0).each (reads words k) (inl refl)
       ];
     }

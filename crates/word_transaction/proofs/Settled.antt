@@ -63,7 +63,7 @@ durable_by (Some v) c b saves some none = subst (λ (x : ℕ). HasOnly c x) (sav
 
 -- ---- replayed and closed
 
-module _ (size F : ℕ) (g : Scope) (log : OpenLog) (es : List Entry) (write : Write) (values : Image) (a : State) (ground : IsScope size log.gate_at g) (r : Gives g log es write values a.now.words)
+module _ (size F : ℕ) (g : Scope) (log : OpenLog) (es : List Entry) (write : Write) (values : Image) (a : State) (scope : IsScope size log.gate_at g) (r : Gives g log es write values a.now.words)
     (places : HasPlaces g (puddle_word (tables_of F (reads a.now.words)))) (table : HasOneTable F a.now.words) where
   abbrev place : AddressMap
   place = puddle_word (tables_of F (reads a.now.words))
@@ -73,12 +73,12 @@ module _ (size F : ℕ) (g : Scope) (log : OpenLog) (es : List Entry) (write : W
 
   names_apart : (e : Entry) → IsInScope g e → NamesApart place size log.gate_at e
   names_apart e own =
-      let s = ground.named e.address (length e.vals) own.may in
+      let s = scope.named e.address (length e.vals) own.may in
       record {
         first = s.first;
         placed = places.each e.address (length e.vals) own.may ∙ s.placed;
         within = s.within;
-        apart = stands_beside s.first (length e.vals) log.gate_at s.some (λ k low high. ground.apart k (s.own k low high));
+        apart = stands_beside s.first (length e.vals) log.gate_at s.some (λ k low high. scope.apart k (s.own k low high));
       }
 
   pub replayable : IsReplayable (address_map_of (Puddles F) (reads a.now.words)) size log.gate_at es (reads a.now.words)
@@ -112,7 +112,7 @@ module _ (size F : ℕ) (g : Scope) (log : OpenLog) (es : List Entry) (write : W
 
     -- a word that is given none is as it was
     not_given : (k : ℕ) → g.has_word k ≡ true → write k ≡ None → image k ≡ values k
-    not_given k mine none = p.closing.stays k (mine_apart size log.gate_at g k ground mine) (gives_before k ∙ none) ∙ (r.single k mine none).each (p.before k) (p.picked.each k)
+    not_given k mine none = p.closing.stays k (mine_apart size log.gate_at g k scope mine) (gives_before k ∙ none) ∙ (r.single k mine none).each (p.before k) (p.picked.each k)
 
     -- with its gate as it was the log says what it said
     says_still : image log.gate_at ≡ p.before log.gate_at → log_of image log.gate_at ≡ saying log es
@@ -138,9 +138,9 @@ module _ (size F : ℕ) (g : Scope) (log : OpenLog) (es : List Entry) (write : W
       gate = elim p.closing.gate [ inl gate ↦ inl (gate ∙ r.opened.gate.each (p.before log.gate_at) (p.picked.each log.gate_at)) | inr closed ↦ inr closed.0 ];
     }
 
-  pub Closes-settled : (fault : Option HostFault) (b : State) → SettlesLog (Puddles F) log.gate_at fault a b → Leaves (Silently (IsSettling (Puddles F) log.gate_at a.now.words)) a b
+  pub AbortsTransaction-settled : (fault : Option HostFault) (b : State) → SettlesLog (Puddles F) log.gate_at fault a b → Leaves (Silently (IsSettling (Puddles F) log.gate_at a.now.words)) a b
       → AbortsTransaction g log.gate_at values fault a b
-  Closes-settled fault b s moments =
+  AbortsTransaction-settled fault b s moments =
       record {
         changes = Changes-wider (ByLog log.gate_at given_now) (ByTransaction g log.gate_at) fault a b (λ k v by. elim by [
           | inl here ↦ inl (record { low = omega arith; high = omega arith })
@@ -151,7 +151,7 @@ module _ (size F : ℕ) (g : Scope) (log : OpenLog) (es : List Entry) (write : W
             (λ v is. s.durable none k v (gives k ∙ is))
             (λ free. HasOnly-kept (ByLog log.gate_at given_now) fault a b k (values k) s.changes
             (λ x by. elim by [
-              | inl here ↦ mine_apart size log.gate_at g k ground mine here
+              | inl here ↦ mine_apart size log.gate_at g k scope mine here
               | inr named ↦ absurd (let it : None ≡ Some named.value = sym (gives k ∙ free) ∙ named.is in cc)
             ]) (r.single k mine free));
         closed = s.closed;
@@ -161,7 +161,7 @@ module _ (size F : ℕ) (g : Scope) (log : OpenLog) (es : List Entry) (write : W
       → Shuts g log.gate_at (gate_word log.lo log.hi log.used) values fault a b
   Shuts-settled fault b s moments =
       record {
-        closes = Closes-settled fault b s moments;
+        closes = AbortsTransaction-settled fault b s moments;
         moments = Leaves-weaker (Silently (IsSettling (Puddles F) log.gate_at a.now.words)) (Silently (IsShut g log.gate_at (gate_word log.lo log.hi log.used) values)) a b
             (λ bytes image p. (p.0, shut image p.1)) moments;
       }

@@ -21,10 +21,10 @@ use Rattle.word_transaction.proofs.Calls.{not_cut, marked_still}
 -- ---- words that are covered are written
 
 module _ (size : ℕ) (g : Scope) (log : OpenLog) (es : List Entry) (before : Image) (write : Write) (fault : Option HostFault) (s t : State)
-    (ground : IsScope size log.gate_at g) (r : IsRunning g log es before s.now.words) (covered : IsCovered g es write) (w : Writes write fault s t) where
+    (scope : IsScope size log.gate_at g) (r : IsRunning g log es before s.now.words) (covered : IsCovered g es write) (w : Writes write fault s t) where
   -- none is of the log
   beside_log : (k v : ℕ) → IsInLog log.gate_at k → written write k v → ⊥
-  beside_log k v inside may = not_inside log.gate_at k (ground.apart k (covered.has_word k v may)) inside
+  beside_log k v inside may = not_inside log.gate_at k (scope.apart k (covered.has_word k v may)) inside
 
   none_comes : (k : ℕ) → write k ≡ None → (v : ℕ) → written write k v → ⊥
   none_comes k none v may = some_not_none (write k) v may none
@@ -61,8 +61,8 @@ module _ (size : ℕ) (g : Scope) (log : OpenLog) (es : List Entry) (before : Im
   now_by none k (Some v) is = w.newest none k v is ∙ sym (overwritten-there write (reads s.now.words) k v is)
   now_by none k None is = (w.changes.keeps (not_cut fault none) k (none_comes k is)).newest ∙ sym (overwritten-stays write (reads s.now.words) k is)
 
-  pub Runs-written : KeepsRunning g log es before write fault s t
-  Runs-written =
+  pub KeepsRunning-written : KeepsRunning g log es before write fault s t
+  KeepsRunning-written =
       record {
         changes = Changes-wider (written write) (ByTransaction g log.gate_at) fault s t (λ k v may. inr (covered.has_word k v may)) w.changes;
         moments = Leaves-changes (RecoversTo g log.gate_at before) (written write) fault s t moment w.changes;

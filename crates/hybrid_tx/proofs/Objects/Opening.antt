@@ -37,11 +37,11 @@ stored_in-has_word F at i j same =
 -- a call that writes own words and those of the log leaves the words of the puddles that are not finished as they are
 pub RestsAs-behind : (F size : ℕ) (at : List (ℕ × Puddle)) (log : ℕ) (before : Image) (fault : Option HostFault) (old new : State) → IsScope size log (pool_scope F at)
     → Changes (ByTransaction (pool_scope F (finished_of at)) log) fault old new → RestsAs F at before old.now.words → RestsAs F at before new.now.words
-RestsAs-behind F size at log before fault old new ground c rests =
+RestsAs-behind F size at log before fault old new scope c rests =
     let own = pool_scope F (finished_of at) in
     record {
       each = λ k mine other.
-          HasOnly-kept (ByTransaction own log) fault old new k (before k) c (λ x by. beside_transaction own log k x (ground.apart k mine) other by) (rests.each k mine other);
+          HasOnly-kept (ByTransaction own log) fault old new k (before k) c (λ x by. beside_transaction own log k x (scope.apart k mine) other by) (rests.each k mine other);
     }
 
 -- where each of the pool's words has one value, those of its finished puddles do
@@ -63,14 +63,14 @@ KeepsOpenOn-open F at types log before graph_before next deferred old new r =
 module _ (F size : ℕ) (at : List (ℕ × Puddle)) (types : List (ℕ × ℕ)) (before : Image) where
   pub IsOpenOn-begun : (log : ℕ) (g : Graph) (old new : State) → IsScope size log (pool_scope F at) → IsIdle (pool_scope F at) log before old.now.words → graph_of types (stored_in F at before) ≡ Some g
       → KeepsRunning (pool_scope F (finished_of at)) (begun_log log) [] before no_write None old new → IsOpenOn F at types (begun_log log) before g g [] new.now.words
-  IsOpenOn-begun log g old new ground idle was runs =
+  IsOpenOn-begun log g old new scope idle was runs =
       record {
         redo = [];
         saving = record { es = []; running = runs.running refl; defers = refl };
-        rests = RestsAs-behind F size at log before None old new ground runs.changes (record { each = λ k mine other. idle.single k mine });
+        rests = RestsAs-behind F size at log before None old new scope runs.changes (record { each = λ k mine other. idle.single k mine });
         was = was;
         is = ap (graph_of types) (stored_in-has_word F at before (reads new.now.words)
-            (λ k mine. runs.now refl k (ground.apart k mine) ∙ (idle.single k mine).each (reads old.now.words k) (inl refl))) ∙ was;
+            (λ k mine. runs.now refl k (scope.apart k mine) ∙ (idle.single k mine).each (reads old.now.words k) (inl refl))) ∙ was;
         are = tt;
       }
 
@@ -79,14 +79,14 @@ module _ (F size : ℕ) (at : List (ℕ × Puddle)) (types : List (ℕ × ℕ)) 
       → IsScope size behind.gate_at (pool_scope F at) → IsOpenOn F at types log before graph_before now deferred old.now.words → KeepsSaving F (finished_of at) behind before redo write fault old new
       → graph_of types (stored_in F at (overwritten write (reads old.now.words))) ≡ Some next → AreDeferredEntries F at types (overwritten write (reads old.now.words)) next more redo
       → KeepsOpenOn F at types behind before graph_before next more fault old new
-  KeepsOpenOn-saves log behind graph_before now next deferred more redo write fault old new ground is_open saves graph are =
+  KeepsOpenOn-saves log behind graph_before now next deferred more redo write fault old new scope is_open saves graph are =
       let stored : fault ≡ None → stored_in F at (reads new.now.words) ≡ stored_in F at (overwritten write (reads old.now.words)) =
-      λ none. stored_in-has_word F at (overwritten write (reads old.now.words)) (reads new.now.words) (λ k mine. saves.runs.now none k (ground.apart k mine)) in
+      λ none. stored_in-has_word F at (overwritten write (reads old.now.words)) (reads new.now.words) (λ k mine. saves.runs.now none k (scope.apart k mine)) in
       record {
         write = write;
         redo = redo;
         saves = saves;
-        rests = λ none. RestsAs-behind F size at behind.gate_at before fault old new ground saves.runs.changes is_open.rests;
+        rests = λ none. RestsAs-behind F size at behind.gate_at before fault old new scope saves.runs.changes is_open.rests;
         was = is_open.was;
         is = λ none. ap (graph_of types) (stored none) ∙ graph;
         are = λ none. AreDeferredEntries-stored F at types (overwritten write (reads old.now.words)) (reads new.now.words) next (stored none) more redo are;

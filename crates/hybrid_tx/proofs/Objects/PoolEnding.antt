@@ -102,11 +102,11 @@ module _ (F : ℕ) (at : List (ℕ × Puddle)) (types : List (ℕ × ℕ)) where
   pub settled_graph : (size log : ℕ) (values image : Image) (g : Graph) → IsScope size log (pool_scope F (finished_of at)) → RecoversTo (pool_scope F (finished_of at)) log values image
       → ((k : ℕ) → pool_has_word F at k ≡ true → pool_has_word F (finished_of at) k ≡ false → image k ≡ values k)
       → graph_of types (stored_in F at values) ≡ Some g → graph_of types (stored_in F at (replayed (pool_place F (finished_of at)) (log_of image log) image)) ≡ Some g
-  settled_graph size log values image g ground s rests is =
+  settled_graph size log values image g scope s rests is =
       let own = pool_scope F (finished_of at) in
       let behind = replayed (pool_place F (finished_of at)) (log_of image log) image in
       let kept = λ (k : ℕ) (other : pool_has_word F (finished_of at) k ≡ false).
-      off_own (new_value (pool_place F (finished_of at)) (log_of image log) k) (pool_has_word F (finished_of at) k) (λ v is. new_value_own size log own (log_of image log) ground k v s.es s.spells s.own is) other (image k) in
+      off_own (new_value (pool_place F (finished_of at)) (log_of image log) k) (pool_has_word F (finished_of at) k) (λ v is. new_value_own size log own (log_of image log) scope k v s.es s.spells s.own is) other (image k) in
       ap (graph_of types) (stored_in-has_word F at values behind (each_mine (λ k. behind k ≡ values k) s.settled (λ k mine other. kept k other ∙ rests k mine other))) ∙ is
 
   -- words that have one value each have the values that are read

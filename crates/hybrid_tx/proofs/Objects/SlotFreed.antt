@@ -22,7 +22,7 @@ use Rattle.object_alloc.specs.Alloc.{serial_word_at}
 use Rattle.object_alloc.proofs.Freed.{placed-single}
 use Rattle.word_transaction.specs.Scope.{Scope, IsScope}
 use Rattle.word_transaction.specs.Running.{IsRunning, IsOneOf, ByTransaction, SavesWords, SavesAndWrites}
-use Rattle.word_transaction.proofs.Writing.{Runs-written}
+use Rattle.word_transaction.proofs.Writing.{KeepsRunning-written}
 use Rattle.word_transaction.proofs.Kept.{WritesKept-placed, SavesAndWrites-unkept, SavesAndWrites-written}
 use Rattle.hybrid_tx.specs.PoolScopes.{pool_scope, finished_of, ArePlacedPuddles, IsRewrittenAt}
 use Rattle.hybrid_tx.proofs.FinishedPuddles.{finished_placed, finished_there}
@@ -79,14 +79,14 @@ module _ (F size : ℕ) (at : List (ℕ × Puddle)) (slot : Slot) (of : IsSlotOf
   -- it could not be
   pub KeepsSaving-unfreed : (fault : HostFault) (b : State) → IsKept (Some fault) b → KeepsSaving F (finished_of at) now before redo (placed (serial_word_at F slot) (0 ∷ [])) (Some fault) a b
   KeepsSaving-unfreed fault b keeps =
-      saves (Some fault) b (λ es ground may place r. SavesAndWrites-unkept g now now es before (IsOneOf first 1) (placed first (0 ∷ [])) fault a b refl (keeps es ground may place r))
+      saves (Some fault) b (λ es scope may place r. SavesAndWrites-unkept g now now es before (IsOneOf first 1) (placed first (0 ∷ [])) fault a b refl (keeps es scope may place r))
 
   pub KeepsSaving-freed : (fault : Option HostFault) (b c : State) → IsKept None b → Writes (only (serial_word_at F slot) 0) fault b c → KeepsSaving F (finished_of at) now before redo (placed (serial_word_at F slot) (0 ∷ [])) fault a c
   KeepsSaving-freed fault b c keeps writes =
-      saves fault c (λ es ground may place r.
-      SavesAndWrites-written g now es before (IsOneOf first 1) (placed first (0 ∷ [])) fault a b c (keeps es ground may place r) (WritesKept-placed size log.gate_at g address first (0 ∷ []) ground may place)
+      saves fault c (λ es scope may place r.
+      SavesAndWrites-written g now es before (IsOneOf first 1) (placed first (0 ∷ [])) fault a b c (keeps es scope may place r) (WritesKept-placed size log.gate_at g address first (0 ∷ []) scope may place)
       (λ entries running covered.
-      Runs-written size g now entries before (placed first (0 ∷ [])) fault b c (subst (λ (k : ℕ). IsScope size k g) (sym same) ground) running covered (cleared F slot first fault b c is_first writes)))
+      KeepsRunning-written size g now entries before (placed first (0 ∷ [])) fault b c (subst (λ (k : ℕ). IsScope size k g) (sym same) scope) running covered (cleared F slot first fault b c is_first writes)))
 
 -- ---- the graph
 

@@ -82,10 +82,10 @@ either_of (Some x) b v is = inl is
 
 -- it gives values to own words alone
 pub new_value_own : (size at : ℕ) (g : Scope) (log : Log) → IsScope size at g → (w v : ℕ) (es : List Entry) → log.entries ≡ Some es → All (IsOwnInRange g log) es → new_value g.place log w ≡ Some v → g.has_word w ≡ true
-new_value_own size at g log ground w v es are own is =
+new_value_own size at g log scope w v es are own is =
     let counts = counted log es in
     let all = counted_own g log es own in
     elim (either_of (redo_value g.place log counts w) (undo_value g.place log counts w) v (sym (new_value-counted g.place log es w are) ∙ is)) [
-      | inl later ↦ redone_is_mine size at g log counts w v ground all later
-      | inr first ↦ undo_value_in_scope size at g log counts w v ground all first
+      | inl later ↦ redone_is_mine size at g log counts w v scope all later
+      | inr first ↦ undo_value_in_scope size at g log counts w v scope all first
     ]

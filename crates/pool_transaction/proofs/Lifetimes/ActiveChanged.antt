@@ -16,7 +16,7 @@ use Rattle.ready_daemon.proofs.OpenTransactions.ActiveUnder.{active_within, acti
 use Rattle.ready_daemon.proofs.OpenTransactions.OpenNames.{WereOpen}
 
 -- One on the pool of this one is active under the log number.
-pub record HoldsSame (active : List (Option ActiveTransaction)) (number : ℕ) (now : ActiveTransaction) : Type 0 where
+pub record HasSameActive (active : List (Option ActiveTransaction)) (number : ℕ) (now : ActiveTransaction) : Type 0 where
   pub one : ActiveTransaction
   pub there : active_under active number ≡ Some one
   pub name : now.name ≡ one.name
@@ -36,8 +36,8 @@ module _ (active : List (Option ActiveTransaction)) (number : ℕ) (h later : Ac
     | inr still ↦ others n g still.0 still.1
   ]
 
-  pub was_active : (n : ℕ) (g : ActiveTransaction) → active_under next n ≡ Some g → HoldsSame active n g
-  was_active = each_later (HoldsSame active) (record { one = h; there = there; name = stays.name; slot = stays.slot }) (λ n g apart is. record { one = g; there = is; name = refl; slot = refl })
+  pub was_active : (n : ℕ) (g : ActiveTransaction) → active_under next n ≡ Some g → HasSameActive active n g
+  was_active = each_later (HasSameActive active) (record { one = h; there = there; name = stays.name; slot = stays.slot }) (λ n g apart is. record { one = g; there = is; name = refl; slot = refl })
 
   -- none is active but where none was
   pub none_later : (n : ℕ) → active_under next n ≡ None → (n ≢ number) × (active_under active n ≡ None)
@@ -47,7 +47,7 @@ module _ (active : List (Option ActiveTransaction)) (number : ℕ) (h later : Ac
   ]
 
   -- what was active there, under the log number or another, is active there still, on the same pool
-  pub still_active : (n : ℕ) (g : ActiveTransaction) → active_under active n ≡ Some g → HoldsSame next n g
+  pub still_active : (n : ℕ) (g : ActiveTransaction) → active_under active n ≡ Some g → HasSameActive next n g
   still_active n g is = elim (cases_eq n number) [
     | inl same ↦
         let one : h ≡ g = same_Some h g (sym there ∙ ap (active_under active) (sym same) ∙ is) in

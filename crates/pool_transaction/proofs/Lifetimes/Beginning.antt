@@ -153,8 +153,8 @@ module _ (size : ℕ) (w : World) (memory : Memory) (old : State) (ready : IsRea
   room : device_words n ≤ size
   room = (header_read size w memory old ready).room
 
-  ground : IsScope size gate (pool_scope n at)
-  ground = let few = known in is_scope n size gate at placed room (omega arith)
+  scope : IsScope size gate (pool_scope n at)
+  scope = let few = known in is_scope n size gate at placed room (omega arith)
 
   present : w.clients client ≡ Some may.who
   present = sym (ready.clients client low_client) ∙ may.owned
@@ -444,7 +444,7 @@ module _ (size : ℕ) (w : World) (memory : Memory) (old : State) (ready : IsRea
         stored = pool_graph;
         pool = opened;
         records = λ k of. let place = open_record_place n p k within known on_device of in kept k (before_logs k place.high);
-        running = IsOpenOn-begun n size at w.stored.types now gate may.graph old new ground idle graph_now (subst (λ (f : Option HostFault). KeepsRunning g (begun_log gate) [] now no_write f old new) done runs);
+        running = IsOpenOn-begun n size at w.stored.types now gate may.graph old new scope idle graph_now (subst (λ (f : Option HostFault). KeepsRunning g (begun_log gate) [] now no_write f old new) done runs);
         masked = masks_then.has number o more.here;
       }
 

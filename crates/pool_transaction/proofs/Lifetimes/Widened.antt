@@ -181,8 +181,8 @@ module _ (w : World) (active : ActiveTransaction) (mask : Write) (words : Words)
         ];
       }
 
-      ground : IsScope (device_words F) active.tx.log.gate_at (pool_scope F (finished_of is.puddles))
-      ground =
+      scope : IsScope (device_words F) active.tx.log.gate_at (pool_scope F (finished_of is.puddles))
+      scope =
           let gate = is.gate in
           let known = is.pool.known in
           is_scope F (device_words F) active.tx.log.gate_at (finished_of is.puddles) placed_before (omega arith) (omega arith)
@@ -197,7 +197,7 @@ module _ (w : World) (active : ActiveTransaction) (mask : Write) (words : Words)
             saving = record {
               es = r.saving.es;
               running = IsRunning-wider g (pool_scope F (finished_of at)) active.tx.log r.saving.es before words wider fresh_word
-                  (IsRunning-values (device_words F) g active.tx.log r.saving.es is.before before words ground (λ k own. sym (own_begun F is.puddles is.before now k own)) r.saving.running);
+                  (IsRunning-values (device_words F) g active.tx.log r.saving.es is.before before words scope (λ k own. sym (own_begun F is.puddles is.before now k own)) r.saving.running);
               defers = r.saving.defers;
             };
             rests = rests_more;

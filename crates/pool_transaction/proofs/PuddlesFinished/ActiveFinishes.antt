@@ -23,8 +23,8 @@ use Rattle.pud_defs.proofs.RegistryTables.PoolMembers.{HasMembers, members_in_tu
 use Rattle.pud_defs.proofs.RegistryTables.SoundChanged.{legal_puddle}
 use Rattle.graph_laws.specs.Slots.{IsLowestFreeSlot}
 use Rattle.puddle_header.specs.Places.{place_of_slot}
+use Rattle.graph_read.specs.Bases.{HasLowBases}
 use Rattle.batch.specs.Batches.{HasIdleGate}
-use Rattle.lazy_rewrite.specs.Entries.{HasLowBases}
 use Rattle.lazy_rewrite.specs.Frontiers.{frontiers_of}
 use Rattle.lazy_rewrite.specs.Batches.{Rewrites}
 use Rattle.lazy_rewrite.proofs.Gathered.{frame_below}

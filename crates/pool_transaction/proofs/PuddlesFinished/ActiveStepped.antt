@@ -167,8 +167,8 @@ module _ (w : World) (active : ActiveTransaction) (mask : Write) (old new : Stat
           ]);
     }
 
-    ground : IsScope (device_words F) active.tx.log.gate_at (pool_scope F (finished_of is.puddles))
-    ground =
+    scope : IsScope (device_words F) active.tx.log.gate_at (pool_scope F (finished_of is.puddles))
+    scope =
         let gate = is.gate in
         let known = is.pool.known in
         is_scope F (device_words F) active.tx.log.gate_at (finished_of is.puddles) placed_before (omega arith) (omega arith)
@@ -241,7 +241,7 @@ module _ (w : World) (active : ActiveTransaction) (mask : Write) (old new : Stat
           saving = record {
             es = r.saving.es;
             running = IsRunning-wider g (pool_scope F (finished_of at)) active.tx.log r.saving.es before new.now.words wider fresh_word
-                (IsRunning-values (device_words F) g active.tx.log r.saving.es is.before before new.now.words ground (λ k own. sym (own_word k own))
+                (IsRunning-values (device_words F) g active.tx.log r.saving.es is.before before new.now.words scope (λ k own. sym (own_word k own))
                 (IsRunning-kept g active.tx.log r.saving.es is.before (ByOthers mask) None old new beside (λ k v inside none. log_masked w active mask old.now.words is k inside none)
                 (λ k v own none. own_masked w active mask old.now.words is k own none) r.saving.running));
             defers = r.saving.defers;

@@ -13,8 +13,8 @@ use Rattle.pud_defs.specs.Formats.Geometry.{steps_of}
 use Rattle.pud_defs.specs.RegistryTables.Puddles.{moved_to}
 use Rattle.graph_laws.proofs.RewritingSteps.Rewritten.{slice_get-set_there, slice_get-set_other}
 use Rattle.puddle_header.specs.Places.{IsSlotOf}
+use Rattle.graph_read.specs.Bases.{HasLowBases}
 use Rattle.batch.specs.Batches.{HasIdleGate}
-use Rattle.lazy_rewrite.specs.Entries.{HasLowBases}
 use Rattle.lazy_rewrite.specs.Frontiers.{steps_left, moved_at, finished_at, frontier_in, frontiers_of, frontier_at}
 use Rattle.lazy_rewrite.specs.Batches.{RewritesInTurn, Rewrites}
 use Rattle.lazy_rewrite.proofs.Moved.{with_steps-none, low_bases-steps}

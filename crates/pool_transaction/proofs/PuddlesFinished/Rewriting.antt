@@ -49,7 +49,7 @@ use Rattle.ready_daemon.proofs.PoolChanges.RestBeside.{active_graph, rest_beside
 use Rattle.ready_daemon.proofs.PoolChanges.TablesBeside.{types_read, sound_read}
 use Rattle.pool_transaction.proofs.Lifetimes.ActiveAnew.{opens_anew, was_one, then_one, wide, holds_anew, settled_anew, rest_anew, logs_anew}
 use Rattle.pool_transaction.proofs.PuddlesFinished.ActiveStepped.{before, comes_stepped, active_stepped}
-use Rattle.pool_transaction.proofs.PuddlesFinished.StepsBeside.{IsShutIn, cases_active, known_placed, steps_apply}
+use Rattle.pool_transaction.proofs.PuddlesFinished.StepsBeside.{IsClosedIn, cases_active, known_placed, steps_apply}
 use Rattle.pool_transaction.proofs.Lifetimes.OwnMore.{OpensAnew}
 use Rattle.pool_transaction.proofs.PuddlesFinished.Arriving.{pool_used}
 use Rattle.pool_transaction.proofs.PuddlesFinished.StepsMoved.{upto, LeavesPuddles-steps}
@@ -111,7 +111,7 @@ module _ (size : ℕ) (w : World) (memory : Memory) (slot : ℕ) (kept : Known) 
 
     -- ---- none is active on the pool
 
-    Applies-shut : IsShutIn memory.active slot → AppliesBy (MovesTo (led_in slot (upto goal))) size w w behind None old new
+    Applies-shut : IsClosedIn memory.active slot → AppliesBy (MovesTo (led_in slot (upto goal))) size w w behind None old new
     Applies-shut shut =
         let keeps = KeepsPools-steps size w memory slot at old new ready known goal o m e next c in
         Applies-beside size w w memory None old new ready (keeps_world w memory.active) done (MovesTo (led_in slot (upto goal)))

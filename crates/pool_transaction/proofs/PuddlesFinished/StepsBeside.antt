@@ -57,7 +57,7 @@ use Rattle.ready_daemon.proofs.PoolChanges.RestBeside.{rest_unmasked}
 use Rattle.ready_daemon.proofs.PoolChanges.TablesBeside.{tables_read, read_beside, under_durable, types_read, sound_read}
 
 -- none is active on the pool in the slot
-pub record IsShutIn (active : List (Option ActiveTransaction)) (slot : ℕ) : Type 0 where
+pub record IsClosedIn (active : List (Option ActiveTransaction)) (slot : ℕ) : Type 0 where
   pub each : (number : ℕ) (h : ActiveTransaction) → active_under active number ≡ Some h → h.slot ≢ slot
 
 -- the goal of these steps alone
@@ -98,7 +98,7 @@ module _ (size : ℕ) (w : World) (memory : Memory) (slot : ℕ) (at : List (ℕ
   member o e there = member_of_pool F slot at image turn o e there
 
   -- whether one is active on it
-  active_or_shut : (session : Option Session) → session_in memory.sessions slot ≡ session → ((s : Session) × IsActiveOn memory.active slot s.log_number) ⊎ IsShutIn memory.active slot
+  active_or_shut : (session : Option Session) → session_in memory.sessions slot ≡ session → ((s : Session) × IsActiveOn memory.active slot s.log_number) ⊎ IsClosedIn memory.active slot
   active_or_shut None none = inr (record {
     each = λ number h there same.
         let is = active_is w memory.active mask old.now.words ready.active number h there in
@@ -107,7 +107,7 @@ module _ (size : ℕ) (w : World) (memory : Memory) (slot : ℕ) (at : List (ℕ
   })
   active_or_shut (Some s) some = inl (s, ready.sessions.only slot s some)
 
-  pub cases_active : ((s : Session) × IsActiveOn memory.active slot s.log_number) ⊎ IsShutIn memory.active slot
+  pub cases_active : ((s : Session) × IsActiveOn memory.active slot s.log_number) ⊎ IsClosedIn memory.active slot
   cases_active = active_or_shut (session_in memory.sessions slot) refl
 
   -- ---- its graph, masked
@@ -116,7 +116,7 @@ module _ (size : ℕ) (w : World) (memory : Memory) (slot : ℕ) (at : List (ℕ
   types_masked = types_of-same image (reads under) (λ k low high. read_beside size w memory old ready k (omega arith))
 
   -- where none is active on it, each word of its frames is read as it is
-  shut_word : IsShutIn memory.active slot → (k : ℕ) → pool_has_word F at k ≡ true → reads under k ≡ image k
+  shut_word : IsClosedIn memory.active slot → (k : ℕ) → pool_has_word F at k ≡ true → reads under k ≡ image k
   shut_word shut k mine =
       let own = pool_has_word-each F at k mine in
       let from = own.low in

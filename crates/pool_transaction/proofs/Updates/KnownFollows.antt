@@ -1,8 +1,7 @@
 -- What is known of a pool is so behind an update of it, where it went the way of the update.
-use Rattle.std.proofs.Common.{◌≡◌, ◌<◌, ℕ, Bool, true, false, List, Option, Some, None, refl, sym, ap, subst, ◌∙◌}
+use Rattle.std.proofs.Common.{◌≡◌, ℕ, Bool, true, false, List, Option, Some, None, refl, sym, ap, subst, ◌∙◌}
 use Rattle.std.specs.Prelude.{slice_get}
 use Rattle.pud_defs.specs.declared.objects.FieldValue.{FieldValue}
-use Rattle.pud_defs.specs.declared.records.Puddle.{Puddle}
 use Rattle.pud_defs.specs.PoolGraphs.Graph.{Graph, Object, object_in, graph_of}
 use Rattle.pud_defs.specs.PoolGraphs.GraphChanges.{with_field}
 use Rattle.pud_defs.specs.Formats.Image.{Image}

@@ -16,7 +16,6 @@ use Rattle.pud_defs.specs.StateMachine.Step.{graph_in, refusal_of, cause_holds, 
 use Rattle.pud_defs.specs.StateMachine.World.{World}
 use Rattle.pud_defs.proofs.StateMachine.Steps.{done_world}
 use Rattle.batch.specs.Batches.{HasIdleGate}
-use Rattle.lazy_rewrite.specs.Entries.{HasLowBases}
 use Rattle.lazy_rewrite.specs.Batches.{Rewrites}
 use Rattle.lazy_rewrite.specs.Frontiers.{steps_from, left_among}
 use Rattle.nesting.specs.declared.Session.{Session}
@@ -32,6 +31,7 @@ use Rattle.ready_daemon.proofs.Commands.Applying.{AppliesBy-weaker}
 use Rattle.ready_daemon.proofs.PoolChanges.Goals.{led_further}
 use Rattle.pud_defs.specs.declared.machine.Reply.{Reply}
 use Rattle.pud_defs.specs.Formats.Image.{Image}
+use Rattle.graph_read.specs.Bases.{HasLowBases}
 use Rattle.puddled.specs.declared.answers.LineAnswer.{LineAnswer}
 use Rattle.puddled.specs.LineAnswers.{as_line_answer}
 use Rattle.puddled.specs.Rewriting.{DoesSteps}

@@ -7,4 +7,4 @@ use Rattle.hybrid_tx.proofs.Tx.abort.Goals as goal
 pub returns-clause-closes : goal.returns-clause-closes
 returns-clause-closes g c = rw (← c.self.view_is) (λ t pool types before graph_before now deferred placed device apart is_open places one.
     AbortsOnPool-closes c.args.frames _ pool types _ before graph_before now deferred (fault_of c.abort.result) _ _ placed device apart is_open
-    (λ es ground r. c.abort.ensures.closes t _ refl (pool_scope c.args.frames (finished_of pool)) es before ground r places one))
+    (λ es scope r. c.abort.ensures.closes t _ refl (pool_scope c.args.frames (finished_of pool)) es before scope r places one))

@@ -31,8 +31,8 @@ returns-clause-open g c =
     let few = c.requires.known in
     let new = g.H.Host.state c.begin.new.h in
     rw (← gate) (λ t at before placed idle types k is.
-    let ground = is_scope c.args.frames (g.H.Host.counts c.args.h.now).size c.log_number_at-gate.result at placed c.requires.device (omega arith) in
+    let scope = is_scope c.args.frames (g.H.Host.counts c.args.h.now).size c.log_number_at-gate.result at placed c.requires.device (omega arith) in
     subst (λ (l : OpenLog). IsOpenOn c.args.frames at types l before k k [] new.now.words) (sym c.in_ok-words.ensures.opened)
-    (IsOpenOn-begun c.args.frames _ at types before _ k _ new ground idle is
+    (IsOpenOn-begun c.args.frames _ at types before _ k _ new scope idle is
     (c.in_ok-words.ensures.runs t _ refl (pool_scope c.args.frames (finished_of at)) before (is_scope c.args.frames _ _ (finished_of at) (finished_placed c.args.frames at placed) c.requires.device (omega arith))
     (IsIdle-finished c.args.frames at _ before _ idle))))

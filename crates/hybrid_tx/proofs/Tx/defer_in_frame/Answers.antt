@@ -19,7 +19,7 @@ returns-in_err-defer-clause-defers g c =
     KeepsSaving-deferred frames _ own c.args.word e within.0 log _ before redo _ c.args.value (Err _) _ _
     (finished_placed frames c.args.pool.now placed) device apart within.1 c.requires.within (c.word_address-field.ensures ∙ ap (λ (d : ℕ × Puddle). (d.1.base + 8 * c.args.word) % 2 ^ 64) same) s
     (ap (λ (l : OpenLog). l.gate_at) c.in_err-defer.ensures.failed) tt
-    (λ es ground may running. c.in_err-defer.ensures.runs t _ refl (pool_scope frames own) es before ground may running))
+    (λ es scope may running. c.in_err-defer.ensures.runs t _ refl (pool_scope frames own) es before scope may running))
 
 pub returns-clause-defers : goal.returns-clause-defers
 returns-clause-defers g c =
@@ -31,4 +31,4 @@ returns-clause-defers g c =
     KeepsSaving-deferred frames _ own c.args.word e within.0 log _ before redo _ c.args.value (Ok _) _ _
     (finished_placed frames c.args.pool.now placed) device apart within.1 c.requires.within (c.word_address-field.ensures ∙ ap (λ (d : ℕ × Puddle). (d.1.base + 8 * c.args.word) % 2 ^ 64) same) s
     (search rules) c.in_ok-defer.ensures.asked
-    (λ es ground may running. c.in_ok-defer.ensures.runs t _ refl (pool_scope frames own) es before ground may running))
+    (λ es scope may running. c.in_ok-defer.ensures.runs t _ refl (pool_scope frames own) es before scope may running))

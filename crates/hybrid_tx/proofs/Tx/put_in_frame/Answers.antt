@@ -35,4 +35,4 @@ returns-clause-saves g c = λ t placed e there finished before redo s.
     within.0 c.args.word e _ _ c.args.vals.now within.1 c.requires.some c.requires.within
     (c.word_address-address.ensures ∙ ap (λ (d : ℕ × Puddle). (d.1.base + 8 * c.args.word) % 2 ^ 64) same)
     (ap (λ (k : ℕ). k + c.args.word) (c.frame_at.ensures ∙ ap (λ (d : ℕ × Puddle). frame_at c.args.frames d.0) same))
-    (λ es ground may place running. c.put.ensures.puts t _ refl (pool_scope c.args.frames own) es before ground may place running)
+    (λ es scope may place running. c.put.ensures.puts t _ refl (pool_scope c.args.frames own) es before scope may place running)

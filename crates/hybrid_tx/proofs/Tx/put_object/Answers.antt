@@ -32,4 +32,4 @@ returns-clause-saves g c = λ t placed first head root rewritten before redo s.
     one.1 some few (c.slot_address.ensures.address placed.legal ∙ sym (slot_address-read pool at c.requires.within e refl placed.legal)) (omega (arith, c.frame_at.ensures, c.slot_begins.ensures))
     other.1 next (c.word_address-serial_address.ensures ∙ ap (λ (d : ℕ × Puddle). (d.1.base + 8 * NEXT_SERIAL_WORD) % 2 ^ 64) same)
     (ap (λ (k : ℕ). k + NEXT_SERIAL_WORD) (c.frame_at-serial.ensures ∙ ap (λ (d : ℕ × Puddle). frame_at F d.0) same))
-    (λ es ground may place may2 place2 running. c.put_both.ensures.puts t _ refl (pool_scope F own) es before ground may place may2 place2 running)
+    (λ es scope may place may2 place2 running. c.put_both.ensures.puts t _ refl (pool_scope F own) es before scope may place may2 place2 running)

@@ -5,10 +5,10 @@ use Rattle.pud_defs.specs.declared.layout.TheConstants.{DAEMON_LOG}
 use Rattle.pud_defs.specs.declared.records.Puddle.{Puddle}
 use Rattle.pud_defs.specs.PoolGraphs.Stored.{IsOnDevice}
 use Rattle.graph_laws.specs.Steps.{with_steps}
+use Rattle.graph_read.specs.Bases.{HasLowBases}
 use Rattle.log_replay.specs.Replaying.{Anything}
 use Rattle.batch.specs.Batches.{HasIdleGate}
 use Rattle.lazy_rewrite.specs.declared.batches.TheConstants.{BATCH_STEPS}
-use Rattle.lazy_rewrite.specs.Entries.{HasLowBases}
 use Rattle.lazy_rewrite.specs.Frontiers.{stepped_at, frontier_at}
 use Rattle.lazy_rewrite.specs.Batches.{Rewrites}
 use Rattle.lazy_rewrite.proofs.steps.advance.Given as goal

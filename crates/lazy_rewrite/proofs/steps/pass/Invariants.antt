@@ -2,9 +2,9 @@ use Rattle.std.proofs.Common.{◌≡◌, ℕ, ◌+◌, ◌-◌, ◌≤◌, min, 
 use Rattle.pm_model.specs.Changes.{Changes}
 use Rattle.pud_defs.specs.declared.layout.TheConstants.{DAEMON_LOG}
 use Rattle.pud_defs.specs.PoolGraphs.Stored.{IsOnDevice}
+use Rattle.graph_read.specs.Bases.{HasLowBases}
 use Rattle.log_replay.specs.Replaying.{Anything}
 use Rattle.batch.specs.Batches.{HasIdleGate}
-use Rattle.lazy_rewrite.specs.Entries.{HasLowBases}
 use Rattle.lazy_rewrite.specs.Frontiers.{left_among, steps_from, frontiers_of}
 use Rattle.lazy_rewrite.specs.Batches.{Rewrites}
 use Rattle.lazy_rewrite.proofs.Moved.{steps_behind, left_behind}

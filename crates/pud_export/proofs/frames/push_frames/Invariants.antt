@@ -5,7 +5,7 @@ use Rattle.pm_model.specs.Words.{reads}
 use Rattle.pud_defs.specs.PoolGraphs.Exported.{exported_frame}
 use Rattle.pud_defs.specs.Formats.Image.{Image}
 use Rattle.pud_defs.specs.PoolGraphs.Stored.{stored_in}
-use Rattle.pud_export.specs.Exporting.{HasLowBases}
+use Rattle.graph_read.specs.Bases.{HasLowBases}
 use Rattle.pm_model.specs.Reads.{OnlyReads}
 use Rattle.pud_export.proofs.frames.push_frames.Given as goal
 

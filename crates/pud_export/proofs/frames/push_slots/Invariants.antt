@@ -2,7 +2,8 @@ use Rattle.std.proofs.Common.{None, ◌≡◌, ◌++◌}
 use Rattle.pm_model.specs.Words.{reads}
 use Rattle.pud_defs.specs.Formats.Image.{Image}
 use Rattle.pud_defs.specs.PoolGraphs.Stored.{stored_in}
-use Rattle.pud_export.specs.Exporting.{HasLowBases, slots_to}
+use Rattle.graph_read.specs.Bases.{HasLowBases}
+use Rattle.pud_export.specs.Exporting.{slots_to}
 use Rattle.pm_model.specs.Reads.{OnlyReads}
 use Rattle.pud_export.proofs.frames.push_slots.Given as goal
 

@@ -3,7 +3,7 @@ use Rattle.pm_model.specs.Words.{reads}
 use Rattle.pud_defs.specs.Formats.Image.{Image}
 use Rattle.pud_defs.specs.PoolGraphs.Stored.{stored_in}
 use Rattle.pud_export.specs.declared.slots.TheConstants.{SLOT}
-use Rattle.pud_export.specs.Exporting.{HasLowBases}
+use Rattle.graph_read.specs.Bases.{HasLowBases}
 use Rattle.pud_export.proofs.SlotsRead.{object_so_far}
 use Rattle.pm_model.specs.Reads.{OnlyReads}
 use Rattle.pud_export.proofs.slots.read_object.Given as goal

@@ -7,13 +7,13 @@ use Rattle.log_replay.specs.Replaying.{address_map_of, IsReplayable, HasDurableL
 use Rattle.log_replay.proofs.Applying.{any_wider}
 use Rattle.word_transaction.specs.Scope.{saved}
 use Rattle.word_transaction.proofs.Undone.{AbortsTransaction-empty, Gives-running}
-use Rattle.word_transaction.proofs.Settled.{replayable, durable_log, Closes-settled}
+use Rattle.word_transaction.proofs.Settled.{replayable, durable_log, AbortsTransaction-settled}
 use Rattle.word_transaction.proofs.WordTransaction.abort.Goals as goal
 
 pub returns-then-used-eq0-clause-closes : goal.returns-then-used-eq0-clause-closes
 returns-then-used-eq0-clause-closes g c =
-    rw (← c.self.view_is) (λ t size same ground es before is r places table.
-    AbortsTransaction-empty size _ es ground before (fault_of c.close.result) _ _ is r (sym c.used-used.ensures.used ∙ c.if-used-eq0.true) (c.close.ensures.persists t))
+    rw (← c.self.view_is) (λ t size same scope es before is r places table.
+    AbortsTransaction-empty size _ es scope before (fault_of c.close.result) _ _ is r (sym c.used-used.ensures.used ∙ c.if-used-eq0.true) (c.close.ensures.persists t))
 
 pub returns-then-used-eq0-clause-any : goal.returns-then-used-eq0-clause-any
 returns-then-used-eq0-clause-any g c = λ t. any_wider _ (fault_of c.close.result) _ _ (c.close.ensures.persists t).changes
@@ -26,11 +26,11 @@ returns-clause-closes g c =
     let new = g.H.Host.state c.settle_log.new.h in
     let fault = fault_of c.settle_log.result in
     let here = c.at.ensures in
-    rw (← c.self.view_is) (λ t size same ground es before is r places table.
-    let gives = Gives-running size ground log es before old.now.words is r in
-    let write = saved ground.place es in
-    let may = subst (λ (k : ℕ). IsReplayable (address_map_of (Puddles F) (reads old.now.words)) size k es (reads old.now.words)) (sym here) (replayable size F ground log es write before old is gives places table) in
-    let durable = subst (λ (k : ℕ). HasDurableLog (Puddles F) k old.now.words) (sym here) (durable_log size F ground log es write before old is gives places table) in
+    rw (← c.self.view_is) (λ t size same scope es before is r places table.
+    let gives = Gives-running size scope log es before old.now.words is r in
+    let write = saved scope.place es in
+    let may = subst (λ (k : ℕ). IsReplayable (address_map_of (Puddles F) (reads old.now.words)) size k es (reads old.now.words)) (sym here) (replayable size F scope log es write before old is gives places table) in
+    let durable = subst (λ (k : ℕ). HasDurableLog (Puddles F) k old.now.words) (sym here) (durable_log size F scope log es write before old is gives places table) in
     let recovers = subst (λ (k : ℕ). SettlesLog (Puddles F) k fault old new) here (c.settle_log.ensures.settles t size same es may) in
     let moments = subst (λ (k : ℕ). Leaves (Silently (IsSettling (Puddles F) k old.now.words)) old new) here (c.settle_log.ensures.moments t size same es may durable) in
-    Closes-settled size F ground log es write before old is gives places table fault new recovers moments)
+    AbortsTransaction-settled size F scope log es write before old is gives places table fault new recovers moments)

@@ -16,5 +16,5 @@ returns-clause-runs g c =
       | in-Ok w ↦ λ big. absurd (let it = sym w.in-Ok.is ∙ big in cc)
       | in-Err-Host w ↦ λ big. absurd (let it = ap Err (sym w.in-Err-Host.field-0-is) ∙ sym w.in-Err-Host.is ∙ big in cc)
     ] in
-    rw (← fault, ← c.self.view_is) (λ t size is ground es before stands running may.
-    KeepsRunning-append size ground _ es before _ _ _ _ _ stands running may room (c.append_two.ensures.changes t) (c.append_two.ensures.appends t es running.opened))
+    rw (← fault, ← c.self.view_is) (λ t size is scope es before stands running may.
+    KeepsRunning-append size scope _ es before _ _ _ _ _ stands running may room (c.append_two.ensures.changes t) (c.append_two.ensures.appends t es running.opened))

@@ -8,8 +8,8 @@ use Rattle.log_store.specs.Store.{OpenLog}
 use Rattle.log_replay.specs.Replaying.{Anything}
 use Rattle.log_replay.proofs.Applying.{any_then, any_wider}
 use Rattle.word_transaction.specs.Running.{ByCommit}
-use Rattle.word_transaction.proofs.Committed.{gate_moves, gate_closes, Ends-fence, Ends-move, Ends-close}
-use Rattle.word_transaction.proofs.Redone.{Ends-redone}
+use Rattle.word_transaction.proofs.Committed.{gate_moves, gate_closes, CommitsTransaction-fence, CommitsTransaction-move, CommitsTransaction-close}
+use Rattle.word_transaction.proofs.Redone.{CommitsTransaction-redone}
 use Rattle.word_transaction.proofs.WordTransaction.commit.Goals as goal
 
 -- ---- the fence failed
@@ -17,7 +17,7 @@ use Rattle.word_transaction.proofs.WordTransaction.commit.Goals as goal
 pub returns-in_err-fence-clause-ends : goal.returns-in_err-fence-clause-ends
 returns-in_err-fence-clause-ends g c =
     let p = err_from_is_err_and c.from_residual.result c.from_residual.ensures.1 in
-    rw (p.1, p.2) (λ t size same ground es before is r can. Ends-fence size c.args.self es ground before _ is r _ _ (c.in_err-fence.ensures.state t))
+    rw (p.1, p.2) (λ t size same scope es before is r can. CommitsTransaction-fence size c.args.self es scope before _ is r _ _ (c.in_err-fence.ensures.state t))
 
 pub returns-in_err-fence-clause-gate : goal.returns-in_err-fence-clause-gate
 returns-in_err-fence-clause-gate g c =
@@ -34,8 +34,8 @@ returns-in_err-fence-clause-any g c =
 pub returns-in_err-to_committing-clause-ends : goal.returns-in_err-to_committing-clause-ends
 returns-in_err-to_committing-clause-ends g c =
     let p = err_from_is_err_and c.from_residual-in_err-to_committing.result c.from_residual-in_err-to_committing.ensures.1 in
-    rw (p.1, p.2, ← c.self.view_is) (λ t size same ground es before is r can.
-    Ends-move size _ es ground before _ is r _ _ _ (record { fence = c.in_ok-fence.ensures.state t; move = c.in_err-to_committing.ensures.persists t }))
+    rw (p.1, p.2, ← c.self.view_is) (λ t size same scope es before is r can.
+    CommitsTransaction-move size _ es scope before _ is r _ _ _ (record { fence = c.in_ok-fence.ensures.state t; move = c.in_err-to_committing.ensures.persists t }))
 
 pub returns-in_err-to_committing-clause-gate : goal.returns-in_err-to_committing-clause-gate
 returns-in_err-to_committing-clause-gate g c =
@@ -57,9 +57,9 @@ returns-then-asked-clause-ends g c =
     let old = g.H.Host.state c.args.h.now in
     let fault = fault_of c.settle_log.result in
     let size_now = ap (λ (n : Counts). n.size) (c.in_ok-to_committing.ensures.cause ∙ c.in_ok-fence.ensures.cause) in
-    rw (← c.self.view_is) (λ t size same ground es before is r can.
+    rw (← c.self.view_is) (λ t size same scope es before is r can.
     let some = sym (c.defers-asked.ensures ∙ r.opened.defers_is) ∙ c.if-asked.true in
-    Ends-redone size _ es ground before old is r c.args.frames c.at-at.result fault _ _ _ c.at-at.ensures (can some)
+    CommitsTransaction-redone size _ es scope before old is r c.args.frames c.at-at.result fault _ _ _ c.at-at.ensures (can some)
     (record { fence = c.in_ok-fence.ensures.state t; move = c.in_ok-to_committing.ensures.persists t })
     (λ may. c.settle_log.ensures.settles t size (same ∙ sym size_now) es may) (λ may durable. c.settle_log.ensures.moments t size (same ∙ sym size_now) es may durable))
 
@@ -81,10 +81,10 @@ returns-then-asked-clause-any g c = λ t.
 pub returns-clause-ends : goal.returns-clause-ends
 returns-clause-ends g c =
     let fault = fault_of c.close.result in
-    rw (← c.self.view_is) (λ t size same ground es before is r can.
+    rw (← c.self.view_is) (λ t size same scope es before is r can.
     let none = sym (c.defers-asked.ensures ∙ r.opened.defers_is) ∙ c.if-asked.false in
     let close = subst (λ (l : OpenLog). Persists (only l.gate_at CLOSED_GATE) fault (g.H.Host.state c.to_committing.new.h) (g.H.Host.state c.close.new.h)) c.in_ok-to_committing.ensures.moved (c.close.ensures.persists t) in
-    Ends-close size _ es ground before _ is r fault _ _ _ none (record { fence = c.in_ok-fence.ensures.state t; move = c.in_ok-to_committing.ensures.persists t }) close)
+    CommitsTransaction-close size _ es scope before _ is r fault _ _ _ none (record { fence = c.in_ok-fence.ensures.state t; move = c.in_ok-to_committing.ensures.persists t }) close)
 
 pub returns-clause-gate : goal.returns-clause-gate
 returns-clause-gate g c =

@@ -18,19 +18,19 @@ pub returns-in_err-are_covered-clause-keeps : goal.returns-in_err-are_covered-cl
 returns-in_err-are_covered-clause-keeps g c =
     let p = err_from_is_err_and c.from_residual.result c.from_residual.ensures.1 in
     let reading = c.in_err-are_covered.ensures.only_reads in
-    rw (p.1, p.2) (λ t size is ground es before stands may place running.
-    SavesWords-still ground _ es before _ _ _ _ reading.never_cut (reading.stays t) running (λ none. absurd (some_fault _ none)))
+    rw (p.1, p.2) (λ t size is scope es before stands may place running.
+    SavesWords-still scope _ es before _ _ _ _ reading.never_cut (reading.stays t) running (λ none. absurd (some_fault _ none)))
 
 pub returns-then-branch-clause-keeps : goal.returns-then-branch-clause-keeps
-returns-then-branch-clause-keeps g c = λ t size is ground es before stands may place running.
+returns-then-branch-clause-keeps g c = λ t size is scope es before stands may place running.
     let reading = c.in_ok-are_covered.ensures.only_reads in
     let entries = ap (entries_of (reads (g.H.Host.state c.args.h.now).now.words)) c.at.ensures ∙ ap (λ (l : Log). l.entries) running.opened.says in
     let told = sym (c.in_ok-are_covered.ensures.covered t _ (λ _. reads (g.H.Host.state c.args.h.now).now.words) es entries (stands.named c.args.address c.args.count may).fits) ∙ c.if-branch.true in
-    SavesWords-still ground _ es before (IsOneOf c.args.first c.args.count) _ _ _ reading.never_cut (reading.stays t) running
-    (λ none k one. covered_are_saved size c.args.self.now.gate_at ground es c.args.address c.args.first c.args.count k stands running.own may place told one)
+    SavesWords-still scope _ es before (IsOneOf c.args.first c.args.count) _ _ _ reading.never_cut (reading.stays t) running
+    (λ none k one. covered_are_saved size c.args.self.now.gate_at scope es c.args.address c.args.first c.args.count k stands running.own may place told one)
 
 pub returns-clause-keeps : goal.returns-clause-keeps
-returns-clause-keeps g c = λ t size is ground es before stands may place running.
+returns-clause-keeps g c = λ t size is scope es before stands may place running.
     let reading = c.in_ok-are_covered.ensures.only_reads in
-    SavesWords-from ground _ _ es before (IsOneOf c.args.first c.args.count) _ _ _ _ (reading.stays t) running
-    (λ runs. c.append_held.ensures.keeps t size (still_size reading is) ground es before stands may place runs)
+    SavesWords-from scope _ _ es before (IsOneOf c.args.first c.args.count) _ _ _ _ (reading.stays t) running
+    (λ runs. c.append_held.ensures.keeps t size (still_size reading is) scope es before stands may place runs)

@@ -18,7 +18,7 @@ returns-clause-built g c = λ t image same graph stored.
     let some : 0 < length at = positive_length at (sym c.is_empty.ensures ∙ c.if-is_empty.false) in
     let second = still_reads c.root_value.ensures.only_reads t same in
     let third = still_reads c.read_serials.ensures.only_reads t second in
-    index_built c.args.frames at (types_of image) image graph serial c.places_among-count.result c.named.result c.in-Some.index c.hold_all.new.self c.retain.new.self stored (c.in_ok-serials.ensures.serials t image second)
+    index_built c.args.frames at (types_of image) image graph serial c.places_among-count.result c.named.result c.in-Some.index c.retain_all.new.self c.retain.new.self stored (c.in_ok-serials.ensures.serials t image second)
     c.places_among-count.ensures
     (c.named.ensures ∙ ap (λ p. named_by serial (content_of p)) c.read_pointer.ensures.pointee ∙ ap (named_by serial) (root_read c.args.frames at image c.in_ok-root.root some (c.in_ok-root.ensures.word t image same)))
-    c.in-Some.ensures (c.in_ok-hold_all.ensures.holds t image third) c.retain.ensures
+    c.in-Some.ensures (c.in_ok-retain_all.ensures.holds t image third) c.retain.ensures

@@ -8,7 +8,7 @@ use Rattle.graph_read.specs.Indexed.{Gains}
 use Rattle.graph_read.proofs.IndexBuilt.{Gains-then, HasAtMost-held, fields_name, fields_name-more}
 use Rattle.graph_read.proofs.Numbers.{field_content}
 use Rattle.graph_read.proofs.Passing.{field_count-least}
-use Rattle.graph_read.proofs.index.Index.hold_fields.Goals as goal
+use Rattle.graph_read.proofs.index.Index.retain_fields.Goals as goal
 
 pub loop-f-preserved : goal.loop-f-preserved
 loop-f-preserved g c = record {

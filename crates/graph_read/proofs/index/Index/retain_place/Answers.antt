@@ -8,7 +8,7 @@ use Rattle.pud_defs.specs.RegistryTables.Types.{types_of, map_of}
 use Rattle.graph_read.specs.Checking.{with_serials}
 use Rattle.graph_read.specs.Indexed.{Gains, contents_name, place_names}
 use Rattle.graph_read.proofs.IndexBuilt.{Gains-none, place_names-live}
-use Rattle.graph_read.proofs.index.Index.hold_place.Goals as goal
+use Rattle.graph_read.proofs.index.Index.retain_place.Goals as goal
 
 pub returns-in-Some-clause-holds : goal.returns-in-Some-clause-holds
 returns-in-Some-clause-holds g c = λ t image same.
@@ -23,7 +23,7 @@ returns-in-Some-clause-holds g c = λ t image same.
     let live : table.serial c.args.place ≢ 0 = eqb-false _ 0 (sym c.is_free.ensures ∙ c.if-is_free.false) in
     let whole : (q : ℕ) → contents_name serial (slot_contents st c.args.place (Some c.in-Some.type_map)) q ≡ place_names table c.args.place q =
     λ q. sym (place_names-live table c.args.place q live ∙ ap (λ m. contents_name serial (slot_contents st c.args.place m) q) map) in
-    subst (λ (f : ℕ → ℕ). OnOk c.hold_fields.result (Gains f c.args.self.now c.hold_fields.new.self)) (λ i q. whole q i) (c.hold_fields.ensures.holds t image third)
+    subst (λ (f : ℕ → ℕ). OnOk c.retain_fields.result (Gains f c.args.self.now c.retain_fields.new.self)) (λ i q. whole q i) (c.retain_fields.ensures.holds t image third)
 
 pub returns-in-None-clause-holds : goal.returns-in-None-clause-holds
 returns-in-None-clause-holds g c = λ t image same.

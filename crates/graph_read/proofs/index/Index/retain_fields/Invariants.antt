@@ -6,7 +6,7 @@ use Rattle.pud_defs.specs.Formats.Image.{Image}
 use Rattle.pud_defs.specs.PoolGraphs.Stored.{stored_in}
 use Rattle.graph_read.specs.Indexed.{Gains, HasAtMost}
 use Rattle.graph_read.proofs.IndexBuilt.{fields_name}
-use Rattle.graph_read.proofs.index.Index.hold_fields.Given as goal
+use Rattle.graph_read.proofs.index.Index.retain_fields.Given as goal
 
 abbrev pub invariant-loop-f : goal.invariant-loop-f
 invariant-loop-f g l = record {

@@ -6,7 +6,7 @@ use Rattle.pud_defs.specs.Formats.Image.{Image}
 use Rattle.graph_read.specs.Checking.{with_serials}
 use Rattle.graph_read.specs.Indexed.{Gains, HasAtMost, places_name}
 use Rattle.graph_read.specs.Reading.{table_in}
-use Rattle.graph_read.proofs.index.Index.hold_all.Given as goal
+use Rattle.graph_read.proofs.index.Index.retain_all.Given as goal
 
 abbrev pub invariant-loop-place : goal.invariant-loop-place
 invariant-loop-place g l = record {

@@ -1,0 +1,46 @@
+//! The addresses of a pool's slots over its bases.
+
+ghost use Rattle.std.specs.Prelude.{◌≡◌, ◌<◌, length, map, Option, IfSome};
+ghost use Rattle.pud_defs.specs.Formats.Geometry.{puddle_slots, place_at};
+ghost use Rattle.pud_defs.specs.PoolGraphs.Graph.{At};
+ghost use Rattle.pud_defs.specs.PoolGraphs.Exported.{address_of};
+ghost use Rattle.graph_read.specs.Bases.{HasLowBases};
+ghost use Rattle.graph_read.specs.Checking.{content_of};
+ghost use Rattle.graph_read.specs.Reading.{LeadsWithin};
+
+use pud_defs::objects::Pointee;
+use pud_defs::records::Puddle;
+use pud_defs::space::{slot_at, word_address};
+
+/// The address of a slot of the puddle of an ordinal, where the bases are low. Else it may wrap around.
+fn place_address(pool: &[(u32, Puddle)], ordinal: u32, slot: u32) -> u64
+    requires puddle { ordinal < length pool.now }
+    requires within { slot < puddle_slots }
+    ensures { HasLowBases pool.now → result ≡ address_of (map (λ e. e.1) pool.now) (At (place_at ordinal slot)) }
+{
+    let (_, puddle) = pool[ordinal as usize];
+    word_address(puddle.base, slot_at(&puddle, slot))
+}
+
+/// The word that stands over the pool's bases for nothing or for a slot.
+fn pointee_address(pool: &[(u32, Puddle)], pointee: Pointee) -> u64
+    requires { LeadsWithin (length pool.now) pointee }
+    ensures { HasLowBases pool.now → result ≡ address_of (map (λ e. e.1) pool.now) (content_of (Option.Some pointee)) }
+{
+    match pointee {
+        Pointee::Null => 0,
+        Pointee::At { ordinal, slot } => place_address(pool, ordinal, slot),
+    }
+}
+
+/// The word that stands over the pool's bases for what a pointer leads to: 0 where it leads to nothing or nowhere. It is the
+/// address of the slot where the bases are low. Else it may wrap around.
+pub fn address_of(pool: &[(u32, Puddle)], pointee: Option<Pointee>) -> u64
+    requires { IfSome pointee (LeadsWithin (length pool.now)) }
+    ensures { HasLowBases pool.now → result ≡ address_of (map (λ e. e.1) pool.now) (content_of pointee) }
+{
+    match pointee {
+        Some(pointee) => pointee_address(pool, pointee),
+        None => 0,
+    }
+}
