@@ -11,7 +11,7 @@ ghost use Rattle.pud_defs.specs.Formats.Image.{Image};
 ghost use Rattle.pud_defs.specs.Formats.Layout.{device_words, frames_at};
 ghost use Rattle.pud_defs.specs.Formats.Bases.{is_legal_base};
 ghost use Rattle.pud_defs.specs.RegistryTables.Types.{map_of};
-ghost use Rattle.pud_defs.specs.declared.space.TheConstants.{NEXT_SERIAL_WORD};
+ghost use Rattle.pud_defs.specs.declared.space.TheConstants.{NEXT_SERIAL_WORD, ROOT_WORD};
 ghost use Rattle.pud_defs.specs.Formats.Frames.{frame_at};
 ghost use Rattle.pud_defs.specs.Formats.Geometry.{slot_begins};
 ghost use Rattle.pud_defs.specs.Logging.Entries.{Entry};
@@ -339,6 +339,7 @@ impl Tx {
         ensures at { (self.new).log.gate_at ≡ (self.old).log.gate_at }
         ensures counts { IfOk result (λ _. (self.new).units ≡ (self.old).units + SET_UNITS) }
         ensures changes { H.tells → Changes (ByTransaction (pool_scope frames pool.now) (self.old).log.gate_at) (fault_of result) (H.state h.old) (H.state h.new) }
+        ensures puts { H.tells → Changes (ByPut (self.old).log.gate_at (serial_word_at frames at) (0 ∷ [])) (fault_of result) (H.state h.old) (H.state h.new) }
         ensures saves { H.tells → ArePlacedPuddles frames pool.now → IsRewrittenAt pool.now at.ordinal → (before : Image) (redo : List Entry)
             → IsSaving frames (finished_of pool.now) (self.old).log before redo (H.state h.old).now.words
             → KeepsSaving frames (finished_of pool.now) (self.new).log before redo (placed (serial_word_at frames at) (0 ∷ [])) (fault_of result) (H.state h.old) (H.state h.new) }
@@ -370,6 +371,8 @@ impl Tx {
         requires room { (self.old).units + SET_UNITS ≤ LOG_ENTRY_WORDS }
         ensures at { (self.new).log.gate_at ≡ (self.old).log.gate_at }
         ensures changes { H.tells → Changes (ByTransaction (pool_scope frames pool.now) (self.old).log.gate_at) (fault_of result) (H.state h.old) (H.state h.new) }
+        // Words of the log, and the serial's, are written alone.
+        ensures puts { H.tells → Changes (ByPut (self.old).log.gate_at (serial_word_at frames at.now) (0 ∷ [])) (fault_of result) (H.state h.old) (H.state h.new) }
         ensures runs { H.tells → (types : List (ℕ × ℕ)) (before : Image) (graph_before : Graph) (now : Graph) (deferred : List DeferredValue) (s : ℕ) → ArePlacedPuddles frames pool.now
             → IsRewrittenFor frames pool.now (reads (H.state h.old).now.words) s → IsOpenOn frames pool.now types (self.old).log before graph_before now deferred (H.state h.old).now.words → MayFree now s → deferred_set_names s deferred ≡ false
             → place_in_pool frames pool.now (reads (H.state h.old).now.words) s ≡ Option.Some (place_of_slot at.now)
@@ -471,6 +474,9 @@ impl Tx {
         requires room { (self.old).units + SET_UNITS ≤ LOG_ENTRY_WORDS }
         ensures at { (self.new).log.gate_at ≡ (self.old).log.gate_at }
         ensures changes { H.tells → Changes (ByTransaction (pool_scope frames pool.now) (self.old).log.gate_at) (fault_of result) (H.state h.old) (H.state h.new) }
+        // Words of the log, and that of the root, are written alone.
+        ensures puts { H.tells → (e : ℕ × Puddle) → slice_get pool.now 0 ≡ Option.Some e
+            → Changes (ByPut (self.old).log.gate_at (frame_at frames e.0 + ROOT_WORD) (word ∷ [])) (fault_of result) (H.state h.old) (H.state h.new) }
         ensures runs { H.tells → (types : List (ℕ × ℕ)) (before : Image) (graph_before : Graph) (now : Graph) (deferred : List DeferredValue) (s : ℕ) → ArePlacedPuddles frames pool.now
             → IsRewrittenAt pool.now 0 → IsOpenOn frames pool.now types (self.old).log before graph_before now deferred (H.state h.old).now.words
             → word_for frames pool.now (reads (H.state h.old).now.words) (FieldValue.Ref s) ≡ Option.Some word

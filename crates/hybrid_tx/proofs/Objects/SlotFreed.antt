@@ -26,7 +26,7 @@ use Rattle.word_transaction.proofs.Writing.{KeepsRunning-written}
 use Rattle.word_transaction.proofs.Kept.{WritesKept-placed, SavesAndWrites-unkept, SavesAndWrites-written}
 use Rattle.hybrid_tx.specs.PoolScopes.{pool_scope, finished_of, ArePlacedPuddles, IsRewrittenAt}
 use Rattle.hybrid_tx.proofs.FinishedPuddles.{finished_placed, finished_there}
-use Rattle.hybrid_tx.specs.Objects.Stores.{address_at}
+use Rattle.hybrid_tx.specs.Objects.Stores.{address_at, ByPut}
 use Rattle.hybrid_tx.specs.Objects.Transactions.{MayFree, IsSaving, IsOpenOn, KeepsSaving, KeepsOpenOn}
 use Rattle.hybrid_tx.proofs.Objects.Putting.{ByPut-written}
 use Rattle.hybrid_tx.proofs.Objects.InFrames.{ByPut-in_frame, KeepsSaving-put}
@@ -47,10 +47,13 @@ in_frame at slot of = let slots = of.below in omega arith
 -- ---- on any content
 
 module _ (F : ℕ) (at : List (ℕ × Puddle)) (slot : Slot) (of : IsSlotOf at slot) (log : ℕ) where
+  pub ByPut-cleared : (fault : Option HostFault) (a b c : State) → Changes (InLog log) None a b → Writes (only (serial_word_at F slot) 0) fault b c → Changes (ByPut log (serial_word_at F slot) (0 ∷ [])) fault a c
+  ByPut-cleared fault a b c p q = ByPut-written log (serial_word_at F slot) (0 ∷ []) fault a b c p (cleared F slot (serial_word_at F slot) fault b c refl q)
+
   pub Changes-freed : (fault : Option HostFault) (a b c : State) → Changes (InLog log) None a b → Writes (only (serial_word_at F slot) 0) fault b c → Changes (ByTransaction (pool_scope F at) log) fault a c
   Changes-freed fault a b c p q =
       ByPut-in_frame F at slot.ordinal (slot_begins slot + SLOT_SERIAL_WORD) log (slot.frame, of.puddle) (0 ∷ []) fault a c of.there (in_frame at slot of)
-      (ByPut-written log (serial_word_at F slot) (0 ∷ []) fault a b c p (cleared F slot (serial_word_at F slot) fault b c refl q))
+      (ByPut-cleared fault a b c p q)
 
 -- ---- kept and cleared
 

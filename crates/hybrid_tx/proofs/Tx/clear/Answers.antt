@@ -1,4 +1,4 @@
-use Rattle.std.proofs.Common.{◌≡◌, inl, ℕ, ◌+◌, ◌<◌, ◌≤◌, refl, sym, subst, arith}
+use Rattle.std.proofs.Common.{◌≡◌, inl, ℕ, ◌+◌, ◌<◌, ◌≤◌, [], ◌∷◌, refl, sym, subst, arith}
 use Rattle.std.proofs.lemmas.Result.{err_from_is_err_and}
 use Rattle.pm_model.specs.Counts.{fault_of}
 use Rattle.pm_model.proofs.Changes.{Changes-wider}
@@ -9,15 +9,21 @@ use Rattle.log_store.specs.Store.{InLog}
 use Rattle.object_alloc.specs.Alloc.{serial_word_at}
 use Rattle.word_transaction.specs.Running.{ByTransaction}
 use Rattle.hybrid_tx.specs.PoolScopes.{pool_scope, finished_of}
+use Rattle.hybrid_tx.specs.Objects.Stores.{ByPut}
 use Rattle.hybrid_tx.specs.Objects.Transactions.{OpenTx}
 use Rattle.hybrid_tx.proofs.PoolScope.{all_there}
-use Rattle.hybrid_tx.proofs.Objects.SlotFreed.{Changes-freed, KeepsSaving-unfreed, KeepsSaving-freed}
+use Rattle.hybrid_tx.proofs.Objects.SlotFreed.{ByPut-cleared, Changes-freed, KeepsSaving-unfreed, KeepsSaving-freed}
 use Rattle.hybrid_tx.proofs.Tx.clear.Goals as goal
 
 pub returns-in_err-save-clause-changes : goal.returns-in_err-save-clause-changes
 returns-in_err-save-clause-changes g c =
     let p = err_from_is_err_and c.from_residual.result c.from_residual.ensures.1 in
     rw (p.1, p.2, ← c.self.view_is) (λ t. Changes-wider (InLog _) (ByTransaction (pool_scope c.args.frames c.args.pool.now) _) _ _ _ (λ k v may. inl may) (c.in_err-save.ensures.changes t))
+
+pub returns-in_err-save-clause-puts : goal.returns-in_err-save-clause-puts
+returns-in_err-save-clause-puts g c =
+    let p = err_from_is_err_and c.from_residual.result c.from_residual.ensures.1 in
+    rw (p.1, p.2, ← c.self.view_is) (λ t. Changes-wider (InLog _) (ByPut _ (serial_word_at c.args.frames c.args.at) (0 ∷ [])) _ _ _ (λ k v may. inl may) (c.in_err-save.ensures.changes t))
 
 pub returns-in_err-save-clause-saves : goal.returns-in_err-save-clause-saves
 returns-in_err-save-clause-saves g c =
@@ -37,6 +43,11 @@ pub returns-clause-changes : goal.returns-clause-changes
 returns-clause-changes g c =
     rw (← c.self.view_is) (λ t.
     Changes-freed c.args.frames c.args.pool.now c.args.at c.requires.within _ (fault_of c.free_slot.result) _ _ _ (c.in_ok-save.ensures.changes t) (c.free_slot.ensures.writes t))
+
+pub returns-clause-puts : goal.returns-clause-puts
+returns-clause-puts g c =
+    rw (← c.self.view_is) (λ t.
+    ByPut-cleared c.args.frames c.args.pool.now c.args.at c.requires.within _ (fault_of c.free_slot.result) _ _ _ (c.in_ok-save.ensures.changes t) (c.free_slot.ensures.writes t))
 
 pub returns-clause-saves : goal.returns-clause-saves
 returns-clause-saves g c =
