@@ -340,6 +340,7 @@ impl Tx {
         ensures counts { IfOk result (λ _. (self.new).units ≡ (self.old).units + SET_UNITS) }
         ensures changes { H.tells → Changes (ByTransaction (pool_scope frames pool.now) (self.old).log.gate_at) (fault_of result) (H.state h.old) (H.state h.new) }
         ensures puts { H.tells → Changes (ByPut (self.old).log.gate_at (serial_word_at frames at) (0 ∷ [])) (fault_of result) (H.state h.old) (H.state h.new) }
+        ensures frees { H.tells → fault_of result ≡ Option.None → reads (H.state h.new).now.words (serial_word_at frames at) ≡ 0 }
         ensures saves { H.tells → ArePlacedPuddles frames pool.now → IsRewrittenAt pool.now at.ordinal → (before : Image) (redo : List Entry)
             → IsSaving frames (finished_of pool.now) (self.old).log before redo (H.state h.old).now.words
             → KeepsSaving frames (finished_of pool.now) (self.new).log before redo (placed (serial_word_at frames at) (0 ∷ [])) (fault_of result) (H.state h.old) (H.state h.new) }
@@ -373,6 +374,7 @@ impl Tx {
         ensures changes { H.tells → Changes (ByTransaction (pool_scope frames pool.now) (self.old).log.gate_at) (fault_of result) (H.state h.old) (H.state h.new) }
         // Words of the log, and the serial's, are written alone.
         ensures puts { H.tells → Changes (ByPut (self.old).log.gate_at (serial_word_at frames at.now) (0 ∷ [])) (fault_of result) (H.state h.old) (H.state h.new) }
+        ensures frees { H.tells → fault_of result ≡ Option.None → reads (H.state h.new).now.words (serial_word_at frames at.now) ≡ 0 }
         ensures runs { H.tells → (types : List (ℕ × ℕ)) (before : Image) (graph_before : Graph) (now : Graph) (deferred : List DeferredValue) (s : ℕ) → ArePlacedPuddles frames pool.now
             → IsRewrittenFor frames pool.now (reads (H.state h.old).now.words) s → IsOpenOn frames pool.now types (self.old).log before graph_before now deferred (H.state h.old).now.words → MayFree now s → deferred_set_names s deferred ≡ false
             → place_in_pool frames pool.now (reads (H.state h.old).now.words) s ≡ Option.Some (place_of_slot at.now)

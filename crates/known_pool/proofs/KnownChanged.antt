@@ -1,7 +1,8 @@
 -- What is known of a pool is so behind a change of it, where the index went the same way.
-use Rattle.std.proofs.Common.{◌≡◌, ℕ, ◌+◌, ◌<◌, ◌≤◌, List, Some, None, sym, subst, ◌∙◌, arith, inl, inr}
+use Rattle.std.proofs.Common.{◌≡◌, ℕ, ◌+◌, ◌<◌, ◌≤◌, List, Some, sym, subst, ◌∙◌, arith, inl, inr}
 use Rattle.std.specs.Prelude.{slice_get}
 use Rattle.std.proofs.lemmas.Bool.{cases_eq}
+use Rattle.std.proofs.lemmas.List.{length-map}
 use Rattle.pud_defs.specs.declared.records.Puddle.{Puddle}
 use Rattle.pud_defs.specs.declared.records.Slot.{Slot}
 use Rattle.pud_defs.specs.declared.objects.FieldValue.{FieldValue}
@@ -13,15 +14,16 @@ use Rattle.pud_defs.specs.RegistryTables.Types.{types_of}
 use Rattle.pud_defs.specs.PoolGraphs.Graph.{Object, Graph, graph_of, object_in}
 use Rattle.pud_defs.specs.PoolGraphs.GraphChanges.{blank_object, with_field, with_new, without_object, with_root}
 use Rattle.graph_laws.specs.Slots.{IsLowestFreeSlot}
-use Rattle.puddle_header.specs.Places.{place_of_slot}
+use Rattle.puddle_header.specs.Places.{place_of_slot, places_in}
 use Rattle.graph_read.specs.declared.index.Index.{Index}
 use Rattle.graph_read.specs.Indexed.{IsIndexOf}
 use Rattle.graph_read.specs.Reading.{place_in_pool}
 use Rattle.graph_read.proofs.IndexKept.{index_set, index_rooted, index_made, index_freed}
 use Rattle.object_alloc.specs.Alloc.{AreLiveBefore}
-use Rattle.known_pool.specs.Known.{Known, IsKnown, index_entries}
+use Rattle.known_pool.specs.Known.{Known, IsKnown, index_entries, with_puddles}
 use Rattle.known_pool.specs.Indexes.{Follows, after_move, after_made, Releases}
-use Rattle.known_pool.proofs.KnownKept.{serial_in, KeepsSerials, place_kept, live_within}
+use Rattle.known_pool.proofs.KnownKept.{serial_in, KeepsSerials, place_kept, live_within, IsKnown-placed}
+use Rattle.known_pool.proofs.Slots.{KeepsFront, place_front, freed_gone, freed_others, made_there, made_others, made_live}
 use Rattle.known_pool.proofs.Bounded.{next_unnamed, slot_at_slot}
 
 -- what is kept then of the same pool
@@ -64,27 +66,39 @@ module _ (F : ℕ) (known next : Known) (image later : Image) (g : Graph) (puddl
 
   -- an object was made in the lowest free slot
   pub IsKnown-made : (type_id m : ℕ) (slot : Slot) → graph_of (types_of image) (stored_in F at later) ≡ Some (with_new (blank_object type_id m) g) → IsLowestFreeSlot (stored_in F at image) (place_of_slot slot)
-      → place_in_pool F at later g.next_serial ≡ Some (place_of_slot slot) → ((q : ℕ) → (q ≡ g.next_serial → ⊥) → place_in_pool F at later q ≡ place_in_pool F at image q)
-      → ((p : ℕ) → (p ≡ place_of_slot slot → ⊥) → serial_in F at later p ≡ serial_in F at image p) → IsLivePlace (stored_in F at later) (place_of_slot slot)
+      → serial_in F at later (place_of_slot slot) ≡ g.next_serial → ((p : ℕ) → (p ≡ place_of_slot slot → ⊥) → serial_in F at later p ≡ serial_in F at image p)
       → Follows (after_made g.next_serial slot) known.index next.index → next.full_below ≡ place_of_slot slot + 1 → slot.slot < puddle_slots → IsKnown F later next
-  IsKnown-made type_id m slot after lowest there others serials live follows full below = record {
-    indexed = λ y kept.
-        let from = follows.each y kept in
-        indexed_then y (index_made F at (types_of image) image g stored from.before (k.indexed from.before from.was) later type_id m (place_of_slot slot) y after (next_unnamed (types_of image) (stored_in F at image) g stored) there others
-        (slot_at_slot from.before y g.next_serial slot below from.each));
-    full = full_then (λ p low. elim (cases_eq p (place_of_slot slot)) [
-      | inl here ↦ subst (IsLivePlace (stored_in F at later)) (sym here) live
-      | inr other ↦ λ free. lowest.live_before p (omega (arith, low, full, other)) (sym (serials p other) ∙ free)
-    ]);
-  }
+  IsKnown-made type_id m slot after lowest made serials follows full below =
+      let low = lowest.within in
+      let many = length-map at (λ (e : ℕ × Puddle). e.1) in
+      let within : place_of_slot slot < places_in at = omega (arith, low, many) in
+      record {
+        indexed = λ y kept.
+            let from = follows.each y kept in
+            indexed_then y (index_made F at (types_of image) image g stored from.before (k.indexed from.before from.was) later type_id m (place_of_slot slot) y after (next_unnamed (types_of image) (stored_in F at image) g stored)
+            (made_there F at image later g stored (place_of_slot slot) serials within lowest.free made) (made_others F at image later g stored (place_of_slot slot) serials within lowest.free made)
+            (slot_at_slot from.before y g.next_serial slot below from.each));
+        full = full_then (λ p low. elim (cases_eq p (place_of_slot slot)) [
+          | inl here ↦ subst (IsLivePlace (stored_in F at later)) (sym here) (made_live F at image later g stored (place_of_slot slot) serials within lowest.free made)
+          | inr other ↦ λ free. lowest.live_before p (omega (arith, low, full, other)) (sym (serials p other) ∙ free)
+        ]);
+      }
 
   -- an object was freed
-  pub IsKnown-freed : (s : ℕ) (slot : Slot) → graph_of (types_of image) (stored_in F at later) ≡ Some (without_object s g) → place_in_pool F at later s ≡ None
-      → ((q : ℕ) → (q ≡ s → ⊥) → place_in_pool F at later q ≡ place_in_pool F at image q) → ((p : ℕ) → (p ≡ place_of_slot slot → ⊥) → serial_in F at later p ≡ serial_in F at image p)
+  pub IsKnown-freed : (s : ℕ) (slot : Slot) → graph_of (types_of image) (stored_in F at later) ≡ Some (without_object s g) → place_in_pool F at image s ≡ Some (place_of_slot slot)
+      → serial_in F at later (place_of_slot slot) ≡ 0 → ((p : ℕ) → (p ≡ place_of_slot slot → ⊥) → serial_in F at later p ≡ serial_in F at image p)
       → ((x : Index) → next.index ≡ Some (index_entries x) → Releases (place_in_pool F at image) g s x) → next.full_below ≤ known.full_below → next.full_below ≤ place_of_slot slot → IsKnown F later next
-  IsKnown-freed s slot after gone others serials lets fewer before = record {
+  IsKnown-freed s slot after there freed serials lets fewer before = record {
     indexed = λ y kept.
-        let let_go = lets y kept in
-        indexed_then y (index_freed F at (types_of image) image later g s let_go.before y after gone others let_go.gone let_go.left);
+        let released = lets y kept in
+        indexed_then y (index_freed F at (types_of image) image later g s released.before y after (freed_gone F at image later g stored (place_of_slot slot) serials s there freed)
+        (freed_others F at image later g stored (place_of_slot slot) serials s there freed) released.gone released.left);
     full = full_then (λ p low free. k.full.each p (omega (arith, low, fewer)) (sym (serials p (λ same. absurd (omega (arith, low, before, same)))) ∙ free));
   }
+
+-- puddles came behind the others, and the graph stays
+pub IsKnown-grown : (F : ℕ) (known : Known) (later : List (ℕ × Puddle)) (before after : Image) (g : Graph) → graph_of (types_of before) (stored_in F known.puddles before) ≡ Some g → graph_of (types_of after) (stored_in F later after) ≡ Some g
+    → KeepsFront F known.puddles later before after → IsKnown F before known → IsKnown F after (with_puddles later known)
+IsKnown-grown F known later before after g was is keeps k =
+    IsKnown-placed F known later before after g was is (place_front F known.puddles later before after keeps g was is)
+    (λ p below live free. live (sym (keeps.each p (live_within F known.puddles before p live)) ∙ free)) k

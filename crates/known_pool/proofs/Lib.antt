@@ -1,5 +1,6 @@
 pub mod KnownKept
 pub mod KnownChanged
+pub mod Slots
 pub mod Bounded
 mod Asking
 mod Releasing

@@ -18,11 +18,11 @@ ghost use Rattle.graph_read.specs.Reading.{place_in_pool, field_in, read_by};
 ghost use Rattle.known_pool.specs.Known.{IsKnown, index_entries};
 
 use crate::{KnownPool, SCANS_BETWEEN};
-use graph_read::{FieldRead, Index, field_at, find_serial, is_referenced};
+use graph_read::{FieldRead, Index, field_at, find_serial, is_referenced, serial_behind};
 use pm_model::{HostFault, Loads};
 use pud_defs::records::{Puddle, Slot};
 use pud_defs::space::{FRAME_SLOTS, place_at, places_among};
-use puddle_header::slot_at_place;
+use puddle_header::{root_value, slot_at_place};
 use std::alloc::Global;
 
 /// The slot of the pool that has this ordinal and this number, where it has one.
@@ -111,6 +111,26 @@ impl KnownPool {
             }
         }
         is_referenced(h, frames, self.puddles.as_slice(), s)
+    }
+
+    /// The serial of the pool's root, 0 where it has none, where the pool stores a graph. Two words are read at most.
+    ///
+    /// The only errors are the host's own.
+    pub fn root<H: Loads>(&self, h: &mut H, frames: u32) -> Result<u64, HostFault>
+        requires few { frames ≤ MAX_FRAMES }
+        requires room { device_words frames ≤ (H.counts h.old).size }
+        requires known { IsOnDevice frames self.now.puddles }
+        ensures root { H.tells → (image : Image) → reads (H.state h.old).now.words ≡ image → (g : Graph)
+            → graph_of (types_of image) (stored_in frames self.now.puddles image) ≡ Option.Some g → IfOk result (λ s. s ≡ g.root) }
+        ensures only_reads { OnlyReads H.tells H.state H.counts (fault_of result) h.old h.new }
+    {
+        let pool = self.as_slice();
+        if pool.is_empty() {
+            return Ok(0);
+        }
+        let (first, _) = pool[0];
+        let root = root_value(h, frames, first)?;
+        serial_behind(h, frames, pool, 0, 0, root)
     }
 
     /// What is read of field `f`, 0 to 29, of the object of serial `s`: `NoObject` exactly where the pool's graph has no object of

@@ -1,4 +1,6 @@
 use Rattle.std.proofs.Common.{◌≡◌, inl, ℕ, ◌+◌, ◌<◌, ◌≤◌, [], ◌∷◌, refl, sym, subst, arith}
+use Rattle.std.proofs.lemmas.Bool.{cond-true, eq-eqb}
+use Rattle.std.proofs.lemmas.Option.{none-some}
 use Rattle.std.proofs.lemmas.Result.{err_from_is_err_and}
 use Rattle.pm_model.specs.Counts.{fault_of}
 use Rattle.pm_model.proofs.Changes.{Changes-wider}
@@ -25,6 +27,11 @@ returns-in_err-save-clause-puts g c =
     let p = err_from_is_err_and c.from_residual.result c.from_residual.ensures.1 in
     rw (p.1, p.2, ← c.self.view_is) (λ t. Changes-wider (InLog _) (ByPut _ (serial_word_at c.args.frames c.args.at) (0 ∷ [])) _ _ _ (λ k v may. inl may) (c.in_err-save.ensures.changes t))
 
+pub returns-in_err-save-clause-frees : goal.returns-in_err-save-clause-frees
+returns-in_err-save-clause-frees g c =
+    let p = err_from_is_err_and c.from_residual.result c.from_residual.ensures.1 in
+    rw (p.1, p.2) (λ t none. absurd (none-some c.in_err-save.field-0.0 (sym none)))
+
 pub returns-in_err-save-clause-saves : goal.returns-in_err-save-clause-saves
 returns-in_err-save-clause-saves g c =
     let p = err_from_is_err_and c.from_residual.result c.from_residual.ensures.1 in
@@ -48,6 +55,9 @@ pub returns-clause-puts : goal.returns-clause-puts
 returns-clause-puts g c =
     rw (← c.self.view_is) (λ t.
     ByPut-cleared c.args.frames c.args.pool.now c.args.at c.requires.within _ (fault_of c.free_slot.result) _ _ _ (c.in_ok-save.ensures.changes t) (c.free_slot.ensures.writes t))
+
+pub returns-clause-frees : goal.returns-clause-frees
+returns-clause-frees g c = λ t none. (c.free_slot.ensures.writes t).newest none (serial_word_at c.args.frames c.args.at) 0 (cond-true _ _ _ (eq-eqb (serial_word_at c.args.frames c.args.at) (serial_word_at c.args.frames c.args.at) refl))
 
 pub returns-clause-saves : goal.returns-clause-saves
 returns-clause-saves g c =
