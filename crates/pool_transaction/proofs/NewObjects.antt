@@ -4,3 +4,4 @@ pub mod ActiveMakes
 pub mod ActiveGrows
 pub mod ActiveNew
 pub mod ActiveLines
+pub mod MadeKept

@@ -9,3 +9,4 @@ pub mod FinishedPools
 pub mod Leading
 pub mod FoundBehind
 pub mod ActiveFinishes
+pub mod KnownFinished

@@ -1,11 +1,13 @@
 -- What a line changes in an active transaction, and what stays of it while it keeps running; why an object is not made in it, and what making one leaves.
-use Rattle.std.specs.Prelude.{◌≡◌, ◌≢◌, ◌⊎◌, ℕ, Bool, ◌+◌, ◌<◌, ◌≤◌, true, false, nat_le, nat_lt, cond, List, length, set, Option, Some, None, is_none}
+use Rattle.std.specs.Prelude.{◌≡◌, ◌≢◌, ◌⊎◌, ℕ, Bool, ◌+◌, ◌<◌, ◌≤◌, min, true, false, nat_le, nat_lt, cond, List, length, set, Option, Some, None, is_none, Result, Ok, Err}
 use Rattle.pm_model.specs.declared.host.HostFault.{HostFault}
 use Rattle.pm_model.specs.Moments.{State}
 use Rattle.pud_defs.specs.declared.layout.TheConstants.{LOG_ENTRY_WORDS, MAX_FIELDS, SET_UNITS, NEW_UNITS, NUMBER_LIMIT, NEXT_NUMBER_WORD}
 use Rattle.pud_defs.specs.declared.machine.Command.{Command}
 use Rattle.pud_defs.specs.declared.machine.Command.TheVariants as commands
 use Rattle.pud_defs.specs.declared.machine.Refusal.{Refusal}
+use Rattle.pud_defs.specs.declared.machine.Reply.{Reply}
+use Rattle.pud_defs.specs.declared.machine.Reply.TheVariants as replies
 use Rattle.pud_defs.specs.declared.machine.Refusal.TheVariants as refusals
 use Rattle.pud_defs.specs.declared.objects.FieldValue.{FieldValue}
 use Rattle.pud_defs.specs.declared.objects.FieldValue.TheVariants.{Ref}
@@ -39,8 +41,10 @@ use Rattle.pool_transaction.specs.declared.changing.Update.{Update}
 use Rattle.pool_transaction.specs.declared.changing.Update.TheVariants.{Set, Later, Root, Free}
 use Rattle.pool_transaction.specs.declared.changing.FoundUpdate.{FoundUpdate}
 use Rattle.pool_transaction.specs.declared.changing.FoundUpdate.TheVariants as founds
-use Rattle.known_pool.specs.Known.{Known, by_puddles}
-use Rattle.known_pool.specs.Indexes.{Follows, after_move}
+use Rattle.pool_transaction.specs.declared.changing.Made.{Made}
+use Rattle.graph_read.specs.declared.index.Index.{Index}
+use Rattle.known_pool.specs.Known.{Known, by_puddles, index_entries}
+use Rattle.known_pool.specs.Indexes.{Follows, after_move, after_made, Releases}
 use Rattle.ready_daemon.specs.PoolKnowledge.{known_pool_in, KnowsAlone}
 use Rattle.ready_daemon.specs.Memory.{ActiveTransaction, Memory, active_under}
 
@@ -133,20 +137,20 @@ pub record IsObjectFound (F : ℕ) (at : List (ℕ × Puddle)) (image : Image) (
 -- what was found is so of the change
 abbrev pub IsFoundBy : ℕ → List (ℕ × Puddle) → Image → Update → FoundUpdate → Type 0
 IsFoundBy F at image change (founds.Field slot f word read x later) = IsFieldFound F at image change slot f word later
-IsFoundBy F at image change (founds.Root word) = IsRootFound F at image change word
-IsFoundBy F at image change (founds.Object slot) = IsObjectFound F at image change slot
+IsFoundBy F at image change (founds.Root word was s) = IsRootFound F at image change word
+IsFoundBy F at image change (founds.Object slot s) = IsObjectFound F at image change slot
 
 -- the ordinal of the puddle that it writes
 abbrev pub ordinal_written : FoundUpdate → ℕ
 ordinal_written (founds.Field slot f word read x later) = slot.ordinal
-ordinal_written (founds.Root word) = 0
-ordinal_written (founds.Object slot) = slot.ordinal
+ordinal_written (founds.Root word was s) = 0
+ordinal_written (founds.Object slot s) = slot.ordinal
 
 -- its slot is one of these puddles, and its field one that an object may have
 abbrev pub IsFoundWithin : List (ℕ × Puddle) → FoundUpdate → Type 0
 IsFoundWithin at (founds.Field slot f word read x later) = IsSlotOf at slot × (f < MAX_FIELDS)
-IsFoundWithin at (founds.Root word) = Unit {0}
-IsFoundWithin at (founds.Object slot) = IsSlotOf at slot
+IsFoundWithin at (founds.Root word was s) = Unit {0}
+IsFoundWithin at (founds.Object slot s) = IsSlotOf at slot
 
 -- This was read of the field that is set, or whose value is deferred, and it is what the field holds by the graph.
 pub record IsFieldRead (g : Graph) (change : Update) (f : ℕ) (read : FieldRead) (x : FieldValue) (later : Bool) : Type 0 where
@@ -154,19 +158,33 @@ pub record IsFieldRead (g : Graph) (change : Update) (f : ℕ) (read : FieldRead
   pub is : change ≡ field_change later s f x
   pub holds : read ≡ read_by (object_in s g) f
 
+-- The root of the graph was this one, and is to be the object of that serial.
+pub record IsRootRead (g : Graph) (change : Update) (was s : ℕ) : Type 0 where
+  pub is : change ≡ Root s
+  pub holds : was ≡ g.root
+
 -- so it is of what was found
 abbrev pub IsReadOf : Graph → Update → FoundUpdate → Type 0
 IsReadOf g change (founds.Field slot f word read x later) = IsFieldRead g change f read x later
-IsReadOf g change (founds.Root word) = Unit {0}
-IsReadOf g change (founds.Object slot) = Unit {0}
+IsReadOf g change (founds.Root word was s) = IsRootRead g change was s
+IsReadOf g change (founds.Object slot s) = change ≡ Free s
 
 -- ---- what is kept of the pool
 
--- each slot has the serial that it had, where a field is set or its value deferred
+-- The slot is free, and each other has the serial that it had.
+pub record FreesSlot (F : ℕ) (at : List (ℕ × Puddle)) (slot : Slot) (before after : Image) : Type 0 where
+  pub free : place_word (stored_in F at after) (place_of_slot slot) SLOT_SERIAL_WORD ≡ 0
+  pub others : (p : ℕ) → (p ≡ place_of_slot slot → ⊥) → place_word (stored_in F at after) p SLOT_SERIAL_WORD ≡ place_word (stored_in F at before) p SLOT_SERIAL_WORD
+
+-- each slot has the serial that it had
+abbrev pub SparesEach : (F : ℕ) → List (ℕ × Puddle) → (before after : Image) → Type 0
+SparesEach F at before after = (p : ℕ) → p < places_in at → place_word (stored_in F at after) p SLOT_SERIAL_WORD ≡ place_word (stored_in F at before) p SLOT_SERIAL_WORD
+
+-- but for that of an object that is freed
 abbrev pub SparesSerials : (F : ℕ) → List (ℕ × Puddle) → FoundUpdate → (before after : Image) → Type 0
-SparesSerials F at (founds.Field slot f word read x later) before after = (p : ℕ) → p < places_in at → place_word (stored_in F at after) p SLOT_SERIAL_WORD ≡ place_word (stored_in F at before) p SLOT_SERIAL_WORD
-SparesSerials F at (founds.Root word) before after = Unit {0}
-SparesSerials F at (founds.Object slot) before after = Unit {0}
+SparesSerials F at (founds.Field slot f word read x later) before after = SparesEach F at before after
+SparesSerials F at (founds.Root word was s) before after = SparesEach F at before after
+SparesSerials F at (founds.Object slot s) before after = FreesSlot F at slot before after
 
 -- It goes the way of a field that held the one value and holds the other.
 pub record FollowsMove (was now : FieldValue) (old new : Known) : Type 0 where
@@ -185,11 +203,17 @@ abbrev pub FollowsField : (later : Bool) → FieldRead → FieldValue → (old n
 FollowsField true read x old new = new ≡ old
 FollowsField false read x old new = FollowsValue read x old new
 
--- of what was found; the puddles alone are left where the root is set or an object freed
-abbrev pub FollowsUpdate : FoundUpdate → (old new : Known) → Type 0
-FollowsUpdate (founds.Field slot f word read x later) old new = FollowsField later read x old new
-FollowsUpdate (founds.Root word) old new = new ≡ by_puddles old.puddles
-FollowsUpdate (founds.Object slot) old new = new ≡ by_puddles old.puddles
+-- It releases what the object of the serial in the slot names by the graph, and then the object, on the pool of these puddles.
+pub record FollowsFree (F : ℕ) (at : List (ℕ × Puddle)) (image : Image) (g : Graph) (slot : Slot) (s : ℕ) (old new : Known) : Type 0 where
+  pub puddles : new.puddles ≡ old.puddles
+  pub index : (x : Index) → new.index ≡ Some (index_entries x) → Releases (place_in_pool F at image) g s x
+  pub full : new.full_below ≡ min old.full_below (place_of_slot slot)
+
+-- of what was found, by the image and the graph of the pool before
+abbrev pub FollowsUpdate : (F : ℕ) → List (ℕ × Puddle) → Image → Graph → FoundUpdate → (old new : Known) → Type 0
+FollowsUpdate F at image g (founds.Field slot f word read x later) old new = FollowsField later read x old new
+FollowsUpdate F at image g (founds.Root word was s) old new = FollowsMove (Ref was) (Ref s) old new
+FollowsUpdate F at image g (founds.Object slot s) old new = FollowsFree F at image g slot s old new
 
 -- ---- a transaction keeps running
 
@@ -239,3 +263,19 @@ pub record MakesBehind (F : ℕ) (at later : List (ℕ × Puddle)) (gate : ℕ) 
   pub first : Option HostFault
   pub finishes : Rewrites F (frontiers_of (both_finished slot.ordinal at)) at later first old mid
   pub makes : ((fault ≡ first) × ((first ≢ None) × (new ≡ mid))) ⊎ MakesIn F later gate slot id fault mid new
+
+-- the reply to the line that makes it: its serial, or why none is made
+abbrev pub reply_of_making : Result Made Refusal → Reply
+reply_of_making (Ok made) = replies.Ref made.serial
+reply_of_making (Err why) = replies.No why
+
+-- What is kept has the object of the serial in the slot too, before which each slot is live.
+pub record FollowsMade (serial : ℕ) (slot : Slot) (old new : Known) : Type 0 where
+  pub puddles : new.puddles ≡ old.puddles
+  pub index : Follows (after_made serial slot) old.index new.index
+  pub full : new.full_below ≡ place_of_slot slot + 1
+
+-- where one was made, and else it stays
+abbrev pub FollowsMaking : Result Made Refusal → (old new : Known) → Type 0
+FollowsMaking (Ok made) old new = FollowsMade made.serial made.at old new
+FollowsMaking (Err why) old new = new ≡ old

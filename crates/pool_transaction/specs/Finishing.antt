@@ -6,14 +6,15 @@ use Rattle.pm_model.specs.Words.{reads}
 use Rattle.pm_model.specs.Moments.{State}
 use Rattle.pud_defs.specs.declared.machine.Refusal.{Refusal}
 use Rattle.pud_defs.specs.declared.records.Puddle.{Puddle}
-use Rattle.pud_defs.specs.declared.space.TheConstants.{LAST_FRONTIER}
+use Rattle.pud_defs.specs.declared.space.TheConstants.{LAST_FRONTIER, SLOT_SERIAL_WORD}
 use Rattle.pud_defs.specs.Formats.Geometry.{ordinal_of}
 use Rattle.pud_defs.specs.Formats.Image.{Image}
 use Rattle.pud_defs.specs.RegistryTables.Puddles.{Member, member_moved}
-use Rattle.pud_defs.specs.PoolGraphs.Stored.{stored_in, places_of, IsLivePlace}
+use Rattle.pud_defs.specs.PoolGraphs.Stored.{stored_in, place_word}
 use Rattle.pud_defs.specs.RegistryTables.Tables.{tables_of}
 use Rattle.pud_defs.specs.StateMachine.World.{World}
 use Rattle.graph_laws.specs.Slots.{AreAllLive, IsLowestFreeSlot}
+use Rattle.puddle_header.specs.Places.{places_in}
 use Rattle.graph_read.specs.Reading.{place_in_pool}
 use Rattle.pool_transaction.specs.declared.changing.Change.{Change}
 use Rattle.pool_transaction.specs.declared.changing.Change.TheVariants as changes
@@ -73,10 +74,10 @@ FinishesUnless (Some why) finishes goal = goal ≡ no_end
 
 -- ---- a pool grows
 
--- It has a puddle more, and an object lives in each slot in which one lived.
+-- It has a puddle more, and each slot that it had has the serial that it had.
 pub record IsLonger (F : ℕ) (at later : List (ℕ × Puddle)) (before after : Image) : Type 0 where
   pub count : length later ≡ length at + 1
-  pub live : (p : ℕ) → p < places_of (stored_in F at before) → IsLivePlace (stored_in F at before) p → IsLivePlace (stored_in F later after) p
+  pub each : (p : ℕ) → p < places_in at → place_word (stored_in F later after) p SLOT_SERIAL_WORD ≡ place_word (stored_in F at before) p SLOT_SERIAL_WORD
 
 -- ---- they are reached
 

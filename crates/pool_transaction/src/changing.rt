@@ -1,11 +1,11 @@
 //! What a transaction that is open changes of its pool: a field or the root is set, or a field's value deferred, and an object is freed or made.
-ghost use Rattle.std.specs.Prelude.{◌≡◌, ◌+◌, ◌<◌, ◌≤◌, ℕ, List, true, false, Option, IfOk, IfNone};
+ghost use Rattle.std.specs.Prelude.{◌≡◌, ◌+◌, ◌<◌, ◌≤◌, ℕ, List, length, true, Option, IfOk, IfSome, IfNone};
 ghost use Rattle.pm_model.specs.Words.{IsRested, reads};
 ghost use Rattle.pm_model.specs.Counts.{after_fault, fault_of};
 ghost use Rattle.pm_model.specs.Reads.{OnlyReads};
 ghost use Rattle.pm_model.specs.Changes.{Changes};
 ghost use Rattle.pud_defs.specs.declared.layout.TheConstants.{DAEMON_LOG, LOG_WORDS, LOG_ENTRY_WORDS, MAX_FRAMES, SET_UNITS, NEW_UNITS};
-ghost use Rattle.pud_defs.specs.declared.records.Slot.{Slot};
+ghost use Rattle.pud_defs.specs.declared.records.TheConstants.{MAX_PUDDLES};
 ghost use Rattle.pud_defs.specs.declared.machine.Command.TheVariants as commands;
 ghost use Rattle.pud_defs.specs.Formats.Image.{Image};
 ghost use Rattle.pud_defs.specs.Formats.Layout.{device_words, frames_at};
@@ -17,7 +17,8 @@ ghost use Rattle.pud_defs.specs.StateMachine.PoolChanges.{pool_named};
 ghost use Rattle.pud_defs.specs.StateMachine.Step.{refusal_of, after, graph_seen, next_in, grows, answer_by, world_by};
 ghost use Rattle.pud_defs.specs.StateMachine.Step.Answer.{of_reply};
 ghost use Rattle.pud_defs.specs.StateMachine.World.{Transaction, World, open_on};
-ghost use Rattle.graph_laws.specs.Slots.{IsLowestFreeSlot};
+ghost use Rattle.graph_laws.specs.Slots.{AreAllLive, IsLowestFreeSlot};
+ghost use Rattle.object_alloc.specs.Alloc.{AreLiveBefore};
 ghost use Rattle.puddle_header.specs.Places.{place_of_slot, IsSlotOf};
 ghost use Rattle.graph_read.specs.Bases.{HasLowBases};
 ghost use Rattle.batch.specs.Batches.{HasIdleGate};
@@ -31,7 +32,7 @@ ghost use Rattle.ready_daemon.specs.Memory.{Memory};
 ghost use Rattle.ready_daemon.specs.ActiveTransactions.{IsActiveWithin};
 ghost use Rattle.registry.specs.Adding.{IsAddedWithin};
 ghost use Rattle.registry.specs.Places.{refusal_in};
-ghost use Rattle.pool_transaction.specs.Changing.{IsActiveIn, IsActiveWith, with_opened, with_known, command_of_change, command_of_update, changed_by, IsLegalChange, IsLegalUpdate, ordinal_written, IsFoundWithin, IsFoundBy, IsReadOf, SparesSerials, FollowsUpdate, MayChange, StaysOpen, refusal_to_make, refusal_by_tables, GrowsBy, refusal_by_world, with_puddle_added, with_made, both_finished, MakesBehind};
+ghost use Rattle.pool_transaction.specs.Changing.{IsActiveIn, IsActiveWith, with_opened, with_known, command_of_change, command_of_update, changed_by, IsLegalChange, IsLegalUpdate, ordinal_written, IsFoundWithin, IsFoundBy, IsReadOf, SparesSerials, FollowsUpdate, MayChange, StaysOpen, refusal_to_make, refusal_by_tables, GrowsBy, refusal_by_world, with_puddle_added, with_made, both_finished, MakesBehind, FollowsMade, FollowsMaking, reply_of_making};
 ghost use Rattle.pool_transaction.specs.Finishing.{end_of, FinishesFor, FinishesLowest, FinishesTaken, Finishes, FinishesUnless, IsLonger, AppliesTo, AppliesFinishing};
 ghost use Rattle.ready_daemon.specs.Moves.{led_in};
 ghost use Rattle.ready_daemon.specs.Ready.{KeepsRest, IsReady, Applies};
@@ -41,12 +42,13 @@ use graph_read::FieldRead;
 use hybrid_tx::Tx;
 use known_pool::KnownPool;
 use lazy_rewrite::finish;
-use object_alloc::{AllocFault, alloc_slot};
-use pm_model::{Host, HostFault};
+use object_alloc::{AllocFault, alloc_slot_from};
+use pm_model::{Host, HostFault, Loads};
 use pud_defs::layout::{LOG_ENTRY_WORDS, NEW_UNITS, NUMBER_LIMIT};
 use pud_defs::machine::{Refusal, Reply};
 use pud_defs::objects::FieldValue;
 use pud_defs::records::{Puddle, Slot};
+use pud_defs::space::places_among;
 use puddle_header::next_serial;
 use puddle_table::{Puddles, find_puddles};
 use registry::{NewPuddle, grow_pool};
@@ -86,14 +88,34 @@ pub(crate) enum FoundUpdate {
         x: FieldValue,
         later: bool,
     },
-    /// The root gets the word of the object, or 0.
+    /// The root, which was the object of one serial, gets the word of that of the other; a serial may be 0, and then the word is.
     Root {
         word: u64,
+        was: u64,
+        s: u64,
     },
-    /// The object in the slot is freed.
+    /// The object in the slot, which has this serial, is freed.
     Object {
         at: Slot,
+        s: u64,
     },
+}
+
+/// An object that was made: its serial, and its slot.
+#[derive(Clone, Copy)]
+pub(crate) struct Made {
+    pub serial: u64,
+    pub at: Slot,
+}
+
+/// The reply to a line that makes an object: its serial, or why none is made.
+fn reply_of_making(made: Result<Made, Refusal>) -> Reply
+    ensures { result ≡ reply_of_making made }
+{
+    match made {
+        Ok(made) => Reply::Ref(made.serial),
+        Err(refusal) => Reply::No(refusal),
+    }
 }
 
 /// The next serial of the pool of these puddles, 0 where there are none.
@@ -133,7 +155,7 @@ fn ordinal_written(found: FoundUpdate) -> u32
     ensures { result ≡ ordinal_written found }
 {
     match found {
-        FoundUpdate::Field { at, .. } | FoundUpdate::Object { at } => at.ordinal,
+        FoundUpdate::Field { at, .. } | FoundUpdate::Object { at, .. } => at.ordinal,
         FoundUpdate::Root { .. } => 0,
     }
 }
@@ -158,7 +180,7 @@ fn carry_out<H: Host>(
         → IsOpenOn frames pool.now types (tx.old).log before graph_before t.now t.deferred (H.state h.old).now.words → MayChange types t update
         → IsFoundBy frames pool.now (reads (H.state h.old).now.words) update found
         → KeepsOpenOn frames pool.now types (tx.new).log before graph_before (changed_by update t).now (changed_by update t).deferred (fault_of result) (H.state h.old) (H.state h.new) }
-    ensures serials { H.tells → fault_of result ≡ Option.None → SparesSerials frames pool.now found (reads (H.state h.old).now.words) (reads (H.state h.new).now.words) }
+    ensures serials { H.tells → fault_of result ≡ Option.None → ArePlacedPuddles frames pool.now → SparesSerials frames pool.now found (reads (H.state h.old).now.words) (reads (H.state h.new).now.words) }
     ensures counts { H.tells → (types : List (ℕ × ℕ)) (before : Image) (graph_before : Graph) (now : Graph) (deferred : List DeferredValue)
         → IsOpenOn frames pool.now types (tx.old).log before graph_before now deferred (H.state h.old).now.words → IfOk result (λ _. (tx.new).units ≡ (tx.old).units + SET_UNITS) }
     ensures cause { H.counts h.new ≡ after_fault (fault_of result) (H.counts h.old) }
@@ -177,28 +199,84 @@ fn carry_out<H: Host>(
                 tx.set_at(h, frames, pool, &at, f, word)
             }
         }
-        FoundUpdate::Root { word } => tx.root_at(h, frames, pool, word),
-        FoundUpdate::Object { at } => tx.free_at(h, frames, pool, &at),
+        FoundUpdate::Root { word, .. } => tx.root_at(h, frames, pool, word),
+        FoundUpdate::Object { at, .. } => tx.free_at(h, frames, pool, &at),
     }
 }
 
-/// What is kept of the pool goes the way of the update that was made: where a field was set, the pointer that it held is counted no more, and the one
-/// that it holds is. Where the root was set, or an object freed, the puddles alone are left.
-fn follow(pool: &mut KnownPool, found: FoundUpdate)
-    ensures follows { FollowsUpdate found pool.old pool.new }
+/// What is kept of the pool goes the way of the update that was found, before it is made: where a field or the root is to be set, the pointer that it
+/// holds is counted no more, and the one that it will hold is; an object that is to be freed releases what it names, and is kept no more. Of an
+/// object alone the fields are read.
+///
+/// The only errors are the host's own.
+fn follow<H: Loads>(
+    pool: &mut KnownPool,
+    h: &mut H,
+    frames: u32,
+    found: FoundUpdate,
+) -> Result<(), HostFault>
+    requires few { frames ≤ MAX_FRAMES }
+    requires room { device_words frames ≤ (H.counts h.old).size }
+    requires known { IsOnDevice frames pool.old.puddles }
+    requires within { IsFoundWithin pool.old.puddles found }
+    ensures follows { H.tells → (image : Image) → reads (H.state h.old).now.words ≡ image → (update : Update) → (g : Graph)
+        → graph_of (types_of image) (stored_in frames pool.old.puddles image) ≡ Option.Some g → IsKnown frames image pool.old → IsFoundBy frames pool.old.puddles image update found → IsReadOf g update found
+        → IfOk result (λ _. FollowsUpdate frames pool.old.puddles image g found pool.old pool.new) }
     ensures puddles { pool.new.puddles ≡ pool.old.puddles }
+    ensures only_reads { OnlyReads H.tells H.state H.counts (fault_of result) h.old h.new }
 {
     match found {
         FoundUpdate::Field { read, x, later, .. } => {
             if later {
-                return;
+                return Ok(());
             }
             match read {
                 FieldRead::Value(was) => pool.moved(was, x),
                 FieldRead::NoObject | FieldRead::NoField => pool.forget(),
             }
+            Ok(())
         }
-        FoundUpdate::Root { .. } | FoundUpdate::Object { .. } => pool.forget(),
+        FoundUpdate::Root { was, s, .. } => {
+            pool.moved(FieldValue::Ref(was), FieldValue::Ref(s));
+            Ok(())
+        }
+        FoundUpdate::Object { at, s } => pool.freed(h, frames, s, &at),
+    }
+}
+
+/// What is kept of the pool has the object that was made too. Where none was made it stays.
+fn follow_making(pool: &mut KnownPool, made: Result<Made, Refusal>)
+    requires few { length pool.old.puddles ≤ MAX_PUDDLES }
+    requires within { IfOk made (λ m. IsSlotOf pool.old.puddles m.at) }
+    ensures follows { FollowsMaking made pool.old pool.new }
+    ensures puddles { pool.new.puddles ≡ pool.old.puddles }
+{
+    if let Ok(made) = made {
+        pool.made(made.serial, &made.at);
+    }
+}
+
+/// The lowest free slot of the pool, or None where each slot is live. It is looked for from one place on: each place before that is live.
+fn free_slot<H: Host>(
+    h: &mut H,
+    frames: u32,
+    pool: &[(u32, Puddle)],
+    from: u32,
+) -> Result<Option<Slot>, HostFault>
+    requires few { frames ≤ MAX_FRAMES }
+    requires room { device_words frames ≤ (H.counts h.old).size }
+    requires known { IsOnDevice frames pool.now }
+    ensures free { H.tells → (image : Image) → reads (H.state h.old).now.words ≡ image → AreLiveBefore (stored_in frames pool.now image) from
+        → IfOk result (λ found. IfSome found (λ at. IsLowestFreeSlot (stored_in frames pool.now image) (place_of_slot at))) }
+    ensures full { H.tells → (image : Image) → reads (H.state h.old).now.words ≡ image → AreLiveBefore (stored_in frames pool.now image) from
+        → IfOk result (λ found. IfNone found (AreAllLive (stored_in frames pool.now image))) }
+    ensures within { IfOk result (λ found. IfSome found (IsSlotOf pool.now)) }
+    ensures only_reads { OnlyReads H.tells H.state H.counts (fault_of result) h.old h.new }
+{
+    match alloc_slot_from(h, frames, pool, from) {
+        Ok(at) => Ok(Some(at)),
+        Err(AllocFault::Full) => Ok(None),
+        Err(AllocFault::Host(fault)) => Err(fault),
     }
 }
 
@@ -250,8 +328,9 @@ impl PoolTransaction {
         ensures keeps { H.tells → (update : Update) → (size : ℕ) → size ≡ (H.counts h.old).size → (w : World) → (memory : Memory) → IsActiveIn frames self.old pool.old memory
             → IsReady size w memory (H.state h.old) → refusal_of w (command_of_update update (self.old).client (self.old).name) ≡ Option.None
             → IsFoundBy frames pool.old (reads (H.state h.old).now.words) update found → (g : Graph) → graph_of (types_of (reads (H.state h.old).now.words)) (stored_in frames pool.old (reads (H.state h.old).now.words)) ≡ Option.Some g
-            → IsReadOf g update found → (known : Known) → known.puddles ≡ pool.old → IsKnown frames (reads (H.state h.old).now.words) known → (next : Known) → FollowsUpdate found (with_puddles pool.new known) next
-            → fault_of result ≡ Option.None → IsKnown frames (reads (H.state h.new).now.words) next }
+            → IsReadOf g update found → (known : Known) → known.puddles ≡ pool.old → IsKnown frames (reads (H.state h.old).now.words) known
+            → (next : Known) → FollowsUpdate frames pool.old (reads (H.state h.old).now.words) g found known next
+            → fault_of result ≡ Option.None → IsKnown frames (reads (H.state h.new).now.words) (with_puddles pool.new next) }
         ensures pool { IfOk result (λ _. pool.new ≡ finished_at (ordinal_written found) pool.old) }
         ensures within { IsActiveWithin frames self.new }
         ensures known { IsOnDevice frames pool.new }
@@ -300,8 +379,8 @@ impl PoolTransaction {
             Ok(found) => found,
             Err(refusal) => return Ok(Reply::No(refusal)),
         };
+        follow(pool, h, frames, found)?;
         self.update(h, frames, &mut pool.puddles, found)?;
-        follow(pool, found);
         Ok(Reply::Ok)
     }
 
@@ -352,33 +431,39 @@ impl PoolTransaction {
         registry::find_growth(h, frames, self.slot, pool.len() as u32)
     }
 
-    /// Makes an object of type `t` in the lowest free slot, where it is not refused whatever slots there are. The answer is its serial, or 0 where
-    /// each slot is live, and then nothing is done. The puddles that it writes are rewritten to their ends first: that of the slot, and the first one,
-    /// which has the next serial.
+    /// Makes an object of type `t` in a free slot, where it is not refused whatever slots there are. The answer is its serial. The puddles that it
+    /// writes are rewritten to their ends first: that of the slot, and the first one, which has the next serial.
     ///
-    /// The device has so many frames, and 37 units are left. At most two fences, and those of the batches of steps that are left of these puddles.
+    /// The device has so many frames, and 37 units are left. What is said holds of the lowest free slot. At most two fences, and those of the batches of
+    /// steps that are left of these puddles.
     fn make_object<H: Host>(
         &mut self,
         h: &mut H,
         frames: u32,
         pool: &mut Puddles,
+        at: &Slot,
         t: u32,
     ) -> Result<u64, HostFault>
         requires few { frames ≤ MAX_FRAMES }
         requires room { device_words frames ≤ (H.counts h.old).size }
         requires within { IsActiveWithin frames self.old }
         requires known { IsOnDevice frames pool.old }
+        requires slot { IsSlotOf pool.old at.now }
         requires units { (self.old).tx.units + NEW_UNITS ≤ LOG_ENTRY_WORDS }
-        ensures makes { H.tells → (size : ℕ) → (w : World) → (memory : Memory) → IsActiveIn frames self.old pool.old memory → IsReady size w memory (H.state h.old) → refusal_by_world w self.old t ≡ Option.None → grows w (self.old).name ≡ false
+        ensures makes { H.tells → (size : ℕ) → (w : World) → (memory : Memory) → IsActiveIn frames self.old pool.old memory → IsReady size w memory (H.state h.old) → refusal_by_world w self.old t ≡ Option.None
+            → IsLowestFreeSlot (stored_in frames pool.old (reads (H.state h.old).now.words)) (place_of_slot at.now)
             → AppliesFinishing (self.old).slot (FinishesLowest frames pool.old (reads (H.state h.old).now.words)) size w (with_made (self.old).name t w) (with_opened (self.old).log_number (self.old).slot self.new pool.new memory) (fault_of result) (H.state h.old) (H.state h.new) }
-        ensures serial { H.tells → (size : ℕ) → (w : World) → (memory : Memory) → IsActiveIn frames self.old pool.old memory → IsReady size w memory (H.state h.old) → grows w (self.old).name ≡ false
+        ensures serial { H.tells → (size : ℕ) → (w : World) → (memory : Memory) → IsActiveIn frames self.old pool.old memory → IsReady size w memory (H.state h.old)
             → IfOk result (λ serial. serial ≡ next_in (graph_seen (open_on (self.old).name w) (pool_named (self.old).name w.stored))) }
-        ensures full { H.tells → (size : ℕ) → (w : World) → (memory : Memory) → IsActiveIn frames self.old pool.old memory → IsReady size w memory (H.state h.old) → grows w (self.old).name ≡ true
-            → IfOk result (λ serial. serial ≡ 0) × (H.state h.new ≡ H.state h.old) × (self.new ≡ self.old) × (pool.new ≡ pool.old) }
-        // In the lowest free slot, whatever the frontiers are.
-        ensures lowest { H.tells → (size : ℕ) → (w : World) → (memory : Memory) → IsActiveIn frames self.old pool.old memory → IsReady size w memory (H.state h.old) → refusal_by_world w self.old t ≡ Option.None
-            → (slot : Slot) → IsSlotOf pool.old slot → IsLowestFreeSlot (stored_in frames pool.old (reads (H.state h.old).now.words)) (place_of_slot slot)
-            → MakesBehind frames pool.old pool.new (self.old).tx.log.gate_at slot t (fault_of result) (H.state h.old) (H.state h.new) }
+        // In this slot, whatever the frontiers are.
+        ensures behind { H.tells → (size : ℕ) → (w : World) → (memory : Memory) → IsActiveIn frames self.old pool.old memory → IsReady size w memory (H.state h.old) → refusal_by_world w self.old t ≡ Option.None
+            → IsLowestFreeSlot (stored_in frames pool.old (reads (H.state h.old).now.words)) (place_of_slot at.now)
+            → MakesBehind frames pool.old pool.new (self.old).tx.log.gate_at at.now t (fault_of result) (H.state h.old) (H.state h.new) }
+        // What is known of the pool is so behind it, where the object is kept too.
+        ensures keeps { H.tells → (size : ℕ) → (w : World) → (memory : Memory) → IsActiveIn frames self.old pool.old memory → IsReady size w memory (H.state h.old) → refusal_by_world w self.old t ≡ Option.None
+            → IsLowestFreeSlot (stored_in frames pool.old (reads (H.state h.old).now.words)) (place_of_slot at.now) → (known : Known) → known.puddles ≡ pool.old → IsKnown frames (reads (H.state h.old).now.words) known
+            → IfOk result (λ serial. (next : Known) → FollowsMade serial at.now (with_puddles pool.new known) next → IsKnown frames (reads (H.state h.new).now.words) next) }
+        ensures pool { IfOk result (λ _. pool.new ≡ both_finished at.now.ordinal pool.old) }
         ensures within { IsActiveWithin frames self.new }
         ensures known { IsOnDevice frames pool.new }
         ensures stays { StaysOpen self.old self.new }
@@ -386,13 +471,8 @@ impl PoolTransaction {
         ensures rests { H.tells → fault_of result ≡ Option.Some HostFault.Cut → IsRested (H.state h.new).now.words }
         ensures cause { H.counts h.new ≡ after_fault (fault_of result) (H.counts h.old) }
     {
-        let at = match alloc_slot(h, frames, pool.as_slice()) {
-            Ok(at) => at,
-            Err(AllocFault::Full) => return Ok(0),
-            Err(AllocFault::Host(fault)) => return Err(fault),
-        };
         finish_both(h, frames, pool, at.ordinal)?;
-        let made = self.tx.new_at(h, frames, pool.as_slice(), &at, t);
+        let made = self.tx.new_at(h, frames, pool.as_slice(), at, t);
         // As in `update`.
         let _units = self.tx.units();
         made
@@ -432,16 +512,20 @@ impl PoolTransaction {
         frames: u32,
         pool: &mut Puddles,
         t: u32,
-    ) -> Result<Reply, HostFault>
+    ) -> Result<Result<Made, Refusal>, HostFault>
         requires few { frames ≤ MAX_FRAMES }
         requires room { device_words frames ≤ (H.counts h.old).size }
         requires within { IsActiveWithin frames self.old }
         requires known { IsOnDevice frames pool.old }
         ensures reply { H.tells → (size : ℕ) → size ≡ (H.counts h.old).size → (w : World) → (memory : Memory) → IsActiveIn frames self.old pool.old memory → IsReady size w memory (H.state h.old) → refusal_by_world w self.old t ≡ Option.None → grows w (self.old).name ≡ true
-            → IfOk result (λ reply. of_reply reply ≡ answer_by w (Option.Some (commands.New (self.old).client (self.old).name t))) }
+            → IfOk result (λ made. of_reply (reply_of_making made) ≡ answer_by w (Option.Some (commands.New (self.old).client (self.old).name t))) }
         ensures applies { H.tells → (size : ℕ) → size ≡ (H.counts h.old).size → (w : World) → (memory : Memory) → IsActiveIn frames self.old pool.old memory → IsReady size w memory (H.state h.old) → refusal_by_world w self.old t ≡ Option.None → grows w (self.old).name ≡ true
             → AppliesFinishing (self.old).slot (FinishesUnless (refusal_of w (commands.New (self.old).client (self.old).name t)) (FinishesTaken frames pool.old (reads (H.state h.old).now.words))) size w (world_by w (Option.Some (commands.New (self.old).client (self.old).name t))) (with_opened (self.old).log_number (self.old).slot self.new pool.new memory) (fault_of result)
             (H.state h.old) (H.state h.new) }
+        ensures keeps { H.tells → (size : ℕ) → size ≡ (H.counts h.old).size → (w : World) → (memory : Memory) → IsActiveIn frames self.old pool.old memory → IsReady size w memory (H.state h.old) → refusal_by_world w self.old t ≡ Option.None → grows w (self.old).name ≡ true
+            → (known : Known) → known.puddles ≡ pool.old → IsKnown frames (reads (H.state h.old).now.words) known
+            → IfOk result (λ made. (next : Known) → FollowsMaking made (with_puddles pool.new known) next → IsKnown frames (reads (H.state h.new).now.words) next) }
+        ensures slot { IfOk result (λ made. IfOk made (λ m. IsSlotOf pool.new m.at)) }
         ensures within { IsActiveWithin frames self.new }
         ensures known { IsOnDevice frames pool.new }
         ensures stays { StaysOpen self.old self.new }
@@ -451,14 +535,20 @@ impl PoolTransaction {
     {
         let added = match self.find_growth(h, frames, pool.as_slice())? {
             Ok(added) => added,
-            Err(refusal) => return Ok(Reply::No(refusal)),
+            Err(refusal) => return Ok(Err(refusal)),
         };
+        let from = places_among(pool.as_slice().len() as u32);
         self.grow(h, frames, pool, added)?;
-        let serial = self.make_object(h, frames, pool, t)?;
-        Ok(Reply::Ref(serial))
+        // The puddle that came is free, so there is a slot.
+        let Some(at) = free_slot(h, frames, pool.as_slice(), from)? else {
+            return Ok(Err(Refusal::Full));
+        };
+        let serial = self.make_object(h, frames, pool, &at, t)?;
+        Ok(Ok(Made { serial, at }))
     }
 
-    /// Makes an object of type `t`, or refuses to, as the line `new` of the transaction's client does. A refused one changes nothing.
+    /// Makes an object of type `t`, or refuses to, as the line `new` of the transaction's client does. A refused one changes nothing. The slot is looked
+    /// for from one place on: each place before that is live.
     ///
     /// The device has so many frames. Where each slot is live the pool grows by a puddle first. At most two fences, and those of a batch and of a fresh
     /// frame where it grows.
@@ -467,16 +557,22 @@ impl PoolTransaction {
         h: &mut H,
         frames: u32,
         pool: &mut Puddles,
+        from: u32,
         t: u32,
-    ) -> Result<Reply, HostFault>
+    ) -> Result<Result<Made, Refusal>, HostFault>
         requires few { frames ≤ MAX_FRAMES }
         requires room { device_words frames ≤ (H.counts h.old).size }
         requires within { IsActiveWithin frames self.old }
         requires known { IsOnDevice frames pool.old }
-        ensures reply { H.tells → (size : ℕ) → size ≡ (H.counts h.old).size → (w : World) → (memory : Memory) → IsActiveIn frames self.old pool.old memory → IsReady size w memory (H.state h.old) → IfOk result (λ reply. of_reply reply ≡ answer_by w (Option.Some (commands.New (self.old).client (self.old).name t))) }
-        ensures applies { H.tells → (size : ℕ) → size ≡ (H.counts h.old).size → (w : World) → (memory : Memory) → IsActiveIn frames self.old pool.old memory → IsReady size w memory (H.state h.old)
+        ensures reply { H.tells → (size : ℕ) → size ≡ (H.counts h.old).size → (w : World) → (memory : Memory) → IsActiveIn frames self.old pool.old memory → IsReady size w memory (H.state h.old) → AreLiveBefore (stored_in frames pool.old (reads (H.state h.old).now.words)) from
+            → IfOk result (λ made. of_reply (reply_of_making made) ≡ answer_by w (Option.Some (commands.New (self.old).client (self.old).name t))) }
+        ensures applies { H.tells → (size : ℕ) → size ≡ (H.counts h.old).size → (w : World) → (memory : Memory) → IsActiveIn frames self.old pool.old memory → IsReady size w memory (H.state h.old) → AreLiveBefore (stored_in frames pool.old (reads (H.state h.old).now.words)) from
             → AppliesFinishing (self.old).slot (FinishesUnless (refusal_of w (commands.New (self.old).client (self.old).name t)) (FinishesTaken frames pool.old (reads (H.state h.old).now.words))) size w (world_by w (Option.Some (commands.New (self.old).client (self.old).name t))) (with_opened (self.old).log_number (self.old).slot self.new pool.new memory) (fault_of result)
             (H.state h.old) (H.state h.new) }
+        ensures keeps { H.tells → (size : ℕ) → size ≡ (H.counts h.old).size → (w : World) → (memory : Memory) → IsActiveIn frames self.old pool.old memory → IsReady size w memory (H.state h.old) → AreLiveBefore (stored_in frames pool.old (reads (H.state h.old).now.words)) from
+            → (known : Known) → known.puddles ≡ pool.old → IsKnown frames (reads (H.state h.old).now.words) known
+            → IfOk result (λ made. (next : Known) → FollowsMaking made (with_puddles pool.new known) next → IsKnown frames (reads (H.state h.new).now.words) next) }
+        ensures slot { IfOk result (λ made. IfOk made (λ m. IsSlotOf pool.new m.at)) }
         ensures within { IsActiveWithin frames self.new }
         ensures known { IsOnDevice frames pool.new }
         ensures stays { StaysOpen self.old self.new }
@@ -485,17 +581,19 @@ impl PoolTransaction {
         ensures cause { H.counts h.new ≡ after_fault (fault_of result) (H.counts h.old) }
     {
         if let Some(refusal) = self.find_refusal_to_make(h, frames, pool.as_slice(), t)? {
-            return Ok(Reply::No(refusal));
+            return Ok(Err(refusal));
         }
-        let serial = self.make_object(h, frames, pool, t)?;
-        if serial > 0 {
-            return Ok(Reply::Ref(serial));
+        match free_slot(h, frames, pool.as_slice(), from)? {
+            Some(at) => {
+                let serial = self.make_object(h, frames, pool, &at, t)?;
+                Ok(Ok(Made { serial, at }))
+            }
+            None => self.make_in_new_puddle(h, frames, pool, t),
         }
-        self.make_in_new_puddle(h, frames, pool, t)
     }
 
     /// Makes the change in the transaction, on the pool of which this is known, or refuses to, as its line of the transaction's client does. A refused
-    /// one changes nothing but what is kept of the pool: where an object is to be made, of that the puddles alone are left.
+    /// one changes nothing.
     ///
     /// The device has so many frames. A puddle that is written is rewritten to its end first, by four fences for each batch of its steps that are left. An
     /// update takes at most two fences, and so does an object; where each slot is live the pool grows by a puddle first, which takes those of a batch and
@@ -526,8 +624,10 @@ impl PoolTransaction {
     {
         match change {
             Change::New { t } => {
-                pool.forget();
-                self.new_object(h, frames, &mut pool.puddles, t)
+                let from = pool.full_below();
+                let made = self.new_object(h, frames, &mut pool.puddles, from, t)?;
+                follow_making(pool, made);
+                Ok(reply_of_making(made))
             }
             Change::Update(update) => self.update_or_refuse(h, frames, pool, update),
         }

@@ -194,8 +194,8 @@ impl PoolTransaction {
         }
     }
 
-    /// The word by which the object of serial `s` is made the root of the pool, or with 0 the root is taken away; or why it may not be. The device has
-    /// so many frames. The object is looked up once.
+    /// The word by which the object of serial `s` is made the root of the pool, or with 0 the root is taken away, and the serial of the root that there
+    /// is; or why it may not be. The device has so many frames. The object is looked up once.
     ///
     /// The only errors are the host's own, and nothing changes.
     fn find_root<H: Host>(
@@ -222,10 +222,11 @@ impl PoolTransaction {
         let Some(word) = word_known(h, frames, pool, FieldValue::Ref(s))? else {
             return Ok(Err(Refusal::Object));
         };
-        match room_refusal(self.tx.units()) {
-            Some(refusal) => Ok(Err(refusal)),
-            None => Ok(Ok(FoundUpdate::Root { word })),
+        if let Some(refusal) = room_refusal(self.tx.units()) {
+            return Ok(Err(refusal));
         }
+        let was = pool.root(h, frames)?;
+        Ok(Ok(FoundUpdate::Root { word, was, s }))
     }
 
     /// The slot of the object of serial `s`, at least 1, by which it is freed, or why it may not be. The device has so many frames. Where no index
@@ -263,7 +264,7 @@ impl PoolTransaction {
             .deferred_names_at(h, frames, pool.as_slice(), s, &at)?;
         match refusal_to_free(referenced, asked, self.tx.units()) {
             Some(refusal) => Ok(Err(refusal)),
-            None => Ok(Ok(FoundUpdate::Object { at })),
+            None => Ok(Ok(FoundUpdate::Object { at, s })),
         }
     }
 

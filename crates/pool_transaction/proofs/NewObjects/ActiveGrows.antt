@@ -6,7 +6,7 @@ use Rattle.std.specs.Cmp.{tied_itself}
 use Rattle.std.specs.Cmp.Lexicographic.{nat_list_cmp_total}
 use Rattle.std.specs.Ordering.{is_eq}
 use Rattle.std.proofs.lemmas.Bool.{cases_lt, cond-true}
-use Rattle.std.proofs.lemmas.List.{length_push, length-map}
+use Rattle.std.proofs.lemmas.List.{length_push}
 use Rattle.std.proofs.lemmas.Option.{none-some, same_Some, slice_get_within}
 use Rattle.pm_model.specs.declared.host.HostFault.{HostFault}
 use Rattle.pm_model.specs.declared.host.HostFault.TheVariants.{Cut}
@@ -451,12 +451,11 @@ module _ (size : ℕ) (w : World) (memory : Memory) (active : ActiveTransaction)
     word_longer : (o k : ℕ) → o < length is.puddles → (stored_in F at (reads words)).word o k ≡ (stored_in F is.puddles image).word o k
     word_longer o k low = ap (word_in_frame F (reads words) k) (slice_get-front is.puddles (e ∷ []) o low) ∙ ap (λ (st : Stored). st.word o k) stored_then
 
-    -- so each slot in which an object lived has one still
+    -- so each slot has the serial that it had
     longer : IsLonger F is.puddles at image (reads words)
     longer = record {
       count = length_push is.puddles e;
-      live = λ p low live. let below : ordinal_of p < length is.puddles = omega (arith, low, length-map is.puddles (λ (x : ℕ × Puddle). x.1)) in
-          λ none. live (sym (word_longer (ordinal_of p) (puddle_slot_at (slot_of p) + SLOT_SERIAL_WORD) below) ∙ none);
+      each = λ p low. word_longer (ordinal_of p) (puddle_slot_at (slot_of p) + SLOT_SERIAL_WORD) (omega (arith, low));
     }
 
     pub IsLonger-wide : (puddles : List (ℕ × Puddle)) → puddles ≡ puddles_in_turn t active.slot → IsLonger F is.puddles puddles image (reads words)

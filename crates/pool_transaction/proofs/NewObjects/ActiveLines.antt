@@ -1,22 +1,31 @@
 -- The line that makes an object in an active transaction, call by call.
-use Rattle.std.proofs.Common.{◌≡◌, inl, inr, ℕ, ◌<◌, ◌≤◌, true, false, List, set, Option, Some, None, refl, sym, ap, ap₂, subst, ◌∙◌, arith}
+use Rattle.std.proofs.Common.{◌≡◌, inl, inr, ℕ, true, false, List, set, Option, Some, None, refl, sym, ap, ap₂, subst, ◌∙◌, arith}
 use Rattle.std.proofs.lemmas.Bool.{cases_Bool}
 use Rattle.std.proofs.lemmas.List.{set-get_or, set-set}
+use Rattle.std.proofs.lemmas.Option.{same_Some}
 use Rattle.pm_model.specs.declared.host.HostFault.{HostFault}
 use Rattle.pm_model.specs.declared.host.HostFault.TheVariants.{Cut}
-use Rattle.pm_model.specs.Words.{IsRested, reads}
+use Rattle.pm_model.specs.Words.{reads}
 use Rattle.pm_model.specs.Moments.{State}
 use Rattle.pud_defs.specs.declared.machine.Command.{Command}
 use Rattle.pud_defs.specs.declared.machine.Command.TheVariants.{New}
 use Rattle.pud_defs.specs.declared.machine.Reply.TheVariants as replies
 use Rattle.pud_defs.specs.declared.machine.Refusal.{Refusal}
 use Rattle.pud_defs.specs.declared.records.Puddle.{Puddle}
+use Rattle.pud_defs.specs.declared.records.Slot.{Slot}
 use Rattle.pud_defs.specs.StateMachine.PoolChanges.{pool_named}
 use Rattle.pud_defs.specs.StateMachine.Step.{graph_seen, next_in, grows, refusal_of, answer_by, world_by}
 use Rattle.pud_defs.specs.StateMachine.Step.Answer.{of_reply}
-use Rattle.pud_defs.specs.StateMachine.World.{World, closed, open_on}
+use Rattle.pud_defs.specs.PoolGraphs.Graph.{Graph, graph_of}
+use Rattle.pud_defs.specs.PoolGraphs.Stored.{stored_in}
+use Rattle.pud_defs.specs.RegistryTables.Types.{types_of}
+use Rattle.pud_defs.specs.StateMachine.World.{Transaction, World, closed, open_on}
 use Rattle.pud_defs.proofs.StateMachine.Steps.{refused_answer}
-use Rattle.known_pool.specs.Known.{Known, by_puddles}
+use Rattle.graph_laws.specs.Slots.{AreAllLive, IsLowestFreeSlot}
+use Rattle.known_pool.specs.Known.{Known, IsKnown, by_puddles, with_puddles}
+use Rattle.known_pool.proofs.KnownChanged.{IsKnown-grown}
+use Rattle.known_pool.proofs.Slots.{KeepsFront}
+use Rattle.hybrid_tx.proofs.Objects.LowestSlot.{lowest_is_free}
 use Rattle.ready_daemon.specs.PoolKnowledge.{puddles_known, KnowsAlone}
 use Rattle.ready_daemon.proofs.PoolsKnown.Known.{pool_kept}
 use Rattle.ready_daemon.specs.Memory.{ActiveTransaction, Memory, active_under, with_active}
@@ -28,10 +37,19 @@ use Rattle.ready_daemon.proofs.Commands.Applying.{Applies-refused, Applies-stopp
 use Rattle.ready_daemon.proofs.PoolChanges.InTurn.{active_known}
 use Rattle.ready_daemon.proofs.PoolsKnown.KnownOpen.{known_within}
 use Rattle.ready_daemon.proofs.OpenTransactions.ActiveUnder.{active_within, active_here, active_same}
-use Rattle.pool_transaction.specs.Finishing.{FinishesUnless, AppliesTo, AppliesFinishing}
+use Rattle.pool_transaction.specs.Finishing.{FinishesLowest, FinishesUnless, AppliesTo, AppliesFinishing, IsLonger}
+use Rattle.pool_transaction.proofs.Lifetimes.ActiveRuns.{is_active}
 use Rattle.pool_transaction.proofs.NewObjects.ActiveGrows.{grown_frames}
+use Rattle.pool_transaction.proofs.NewObjects.ActiveMakes.{all_live, not_live}
+use Rattle.pool_transaction.proofs.PuddlesFinished.ActiveFinishes.{its_puddles}
+use Rattle.pool_transaction.proofs.PuddlesFinished.KnownFinished.{graph_active_there}
 use Rattle.pool_transaction.proofs.PuddlesFinished.Leading.{known_so, AppliesTo-then, finishing_failed, finishing_refused, finishing_unless, finishing_stopped}
-use Rattle.pool_transaction.proofs.NewObjects.ActiveNew.{refused_less, refused_more, answer_new, world_less, world_more, serial_is_some, grown_less, grown_refusal, grown_next}
+use Rattle.pool_transaction.proofs.NewObjects.ActiveNew.{refused_less, refused_more, answer_new, world_less, world_more, grown_less, grown_refusal, grown_next}
+
+-- what a call owes that makes an object in the slot, where that is the lowest free one of these puddles
+abbrev pub MakesAt : (F : ℕ) → ActiveTransaction → (id : ℕ) → List (ℕ × Puddle) → ActiveTransaction → List (ℕ × Puddle) → Slot → (size : ℕ) → World → Memory → Option HostFault → (old new : State) → Type 0
+MakesAt F active id at now later slot size w memory fault old new =
+    AppliesFinishing active.slot (FinishesLowest F at (reads old.now.words)) size w (with_made active.name id w) (with_opened active.log_number active.slot now later memory) fault old new
 
 -- what is known already of a pool may be kept once more
 pub known_same : (number slot : ℕ) (h : ActiveTransaction) (at : List (ℕ × Puddle)) (memory : Memory) → KnowsAlone memory.judged slot at → with_opened number slot h at memory ≡ with_active number (Some h) memory
@@ -95,29 +113,22 @@ module _ (size : ℕ) (w : World) (memory : Memory) (active : ActiveTransaction)
     reply_made serial less is =
         ap (λ (n : ℕ). of_reply (replies.Ref n)) is ∙ sym (answer_new size w memory active old number there ready id (refused_less size w memory active old number there ready id none less))
 
-    -- its making failed
-    pub new_unmade : (finishes : (ℕ → ℕ) → Type 0) (goal : ℕ → ℕ) (behind : ActiveTransaction) (at : List (ℕ × Puddle)) (fault : HostFault) (new : State)
-        → (grows w active.name ≡ false → AppliesFinishing active.slot finishes size w (with_made active.name id w) (memory_with behind at) (Some fault) old new) → (grows w active.name ≡ true → finishes goal)
-        → (grows w active.name ≡ true → new ≡ old) → (Some fault ≡ Some Cut → IsRested new.now.words) → AppliesNew finishes behind at (Some fault) new
-    new_unmade finishes goal behind at fault new makes known full rests = elim (cases_Bool (grows w active.name)) [
-      | inl more ↦
-          finishing_stopped active.slot finishes (refusal_of w line) goal (known more) size w given (memory_with behind at) fault old new
-          (Applies-stopped size w given memory (memory_with behind at) fault old new ready (full more) rests)
-      | inr less ↦ new_made finishes behind at (Some fault) new less (makes less)
-    ]
+    -- a free slot tells whether the pool is to grow
+    module _ (F : ℕ) (frames : F ≡ w.stored.frames) (at : List (ℕ × Puddle)) (known : KnowsAlone memory.judged active.slot at) where
+      listed : at ≡ (is_active size w memory active old number there ready).puddles
+      listed = its_puddles size w memory active old number there ready F frames at known
 
-    -- a serial tells whether a slot was free
-    pub was_free : (serial : ℕ) → 0 < serial → (grows w active.name ≡ true → serial ≡ 0) → grows w active.name ≡ false
-    was_free serial some full = elim (cases_Bool (grows w active.name)) [
-      | inl more ↦ let no = full more in absurd (omega arith)
-      | inr less ↦ less
-    ]
+      pub was_free : (p : ℕ) → IsLowestFreeSlot (stored_in F at (reads old.now.words)) p → grows w active.name ≡ false
+      was_free p lowest = elim (cases_Bool (grows w active.name)) [
+        | inl more ↦ absurd (lowest_is_free (stored_in F at (reads old.now.words)) p lowest (all_live size w memory active old number there ready F at frames listed more))
+        | inr less ↦ less
+      ]
 
-    pub was_full : (serial : ℕ) → serial ≤ 0 → (grows w active.name ≡ false → serial ≡ next_in (graph_seen (open_on active.name w) (pool_named active.name w.stored))) → grows w active.name ≡ true
-    was_full serial few made = elim (cases_Bool (grows w active.name)) [
-      | inl more ↦ more
-      | inr less ↦ let is = made less in let some = serial_is_some size w memory active old number there ready id in absurd (omega arith)
-    ]
+      pub was_full : AreAllLive (stored_in F at (reads old.now.words)) → grows w active.name ≡ true
+      was_full live = elim (cases_Bool (grows w active.name)) [
+        | inl more ↦ more
+        | inr less ↦ absurd (not_live size w memory active old number there ready F at frames listed less live)
+      ]
 
     -- ---- where each slot is live
 
@@ -165,8 +176,37 @@ module _ (size : ℕ) (w : World) (memory : Memory) (active : ActiveTransaction)
             known = pool_kept memory.judged active.slot (Some (by_puddles pool)) (known_within memory.judged active.slot at (ap puddles_known known));
           }
 
-          less_then : grows grown active.name ≡ false
+          pub less_then : grows grown active.name ≡ false
           less_then = grown_less size w memory active old number there ready id more
+
+          pub ready_more : IsReady size grown (memory_with active pool) mid
+          ready_more = after_growth.ready refl
+
+          pub refusal_more : refusal_by_world grown active id ≡ None
+          refusal_more = grown_refusal size w memory active old number there ready id active refl refl none
+
+          frames_then : F ≡ grown.stored.frames
+          frames_then = frames ∙ sym (grown_frames active.name w.stored)
+
+          -- not each slot is live
+          pub slot_more : AreAllLive (stored_in F pool (reads mid.now.words)) → ⊥
+          slot_more live =
+              not_live size grown (memory_with active pool) active mid active.log_number active_then.there ready_more F pool frames_then
+              (its_puddles size grown (memory_with active pool) active mid active.log_number active_then.there ready_more F frames_then pool active_then.known) less_then live
+
+          -- what is known of the pool is so
+          pub Known-more : IsLonger F at pool (reads old.now.words) (reads mid.now.words) → (kept : Known) → kept.puddles ≡ at → IsKnown F (reads old.now.words) kept → IsKnown F (reads mid.now.words) (with_puddles pool kept)
+          Known-more longer kept puddles so =
+              let one = is_active size w memory active old number there ready in
+              let two = is_active size grown (memory_with active pool) active mid active.log_number active_then.there ready_more in
+              let graph_old = graph_active_there size w memory active old number there ready F frames at known in
+              let graph_mid = graph_active_there size grown (memory_with active pool) active mid active.log_number active_then.there ready_more F frames_then pool active_then.known in
+              let one_graph : two.transaction.now ≡ one.transaction.now = ap (λ (t : Transaction). t.now) (same_Some two.transaction one.transaction (sym two.is ∙ one.is)) in
+              let count = longer.count in
+              let front : KeepsFront F at pool (reads old.now.words) (reads mid.now.words) = record { more = omega (arith, count); each = longer.each } in
+              IsKnown-grown F kept pool (reads old.now.words) (reads mid.now.words) one.transaction.now
+              (ap (λ (ps : List (ℕ × Puddle)). graph_of (types_of (reads old.now.words)) (stored_in F ps (reads old.now.words))) puddles ∙ graph_old) (graph_mid ∙ ap (λ (g : Graph). Some g) one_graph)
+              (subst (λ (ps : List (ℕ × Puddle)). KeepsFront F ps pool (reads old.now.words) (reads mid.now.words)) (sym puddles) front) so
 
           -- and another in its place, on the puddles as they are then
           instead : (behind : ActiveTransaction) (later : List (ℕ × Puddle)) → with_opened number active.slot behind later (memory_with active pool) ≡ memory_with behind later

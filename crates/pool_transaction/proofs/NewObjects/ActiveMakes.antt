@@ -1,5 +1,5 @@
 -- An object is made within an active transaction, where a slot is free.
-use Rattle.std.proofs.Common.{◌≡◌, ℕ, ◌+◌, ◌<◌, ◌≤◌, Bool, true, false, leb, ltb, cond, List, Option, Some, None, Result, is_none, refl, sym, ap, subst}
+use Rattle.std.proofs.Common.{◌≡◌, ℕ, ◌+◌, ◌<◌, ◌≤◌, Bool, true, false, leb, ltb, cond, List, Option, Some, None, Result, is_none, refl, sym, ap, subst, ◌∙◌}
 use Rattle.std.specs.Prelude.{IfOk, unwrap_or}
 use Rattle.std.proofs.lemmas.Bool.{leb-false, ltb-false}
 use Rattle.std.proofs.lemmas.Option.{none-some}
@@ -7,7 +7,7 @@ use Rattle.pm_model.specs.declared.host.HostFault.{HostFault}
 use Rattle.pm_model.specs.Counts.{fault_of}
 use Rattle.pm_model.specs.Words.{reads}
 use Rattle.pm_model.specs.Moments.{State}
-use Rattle.pud_defs.specs.declared.layout.TheConstants.{LOG_ENTRY_WORDS, NEW_UNITS, NUMBER_LIMIT}
+use Rattle.pud_defs.specs.declared.layout.TheConstants.{LOG_WORDS, LOG_ENTRY_WORDS, NEW_UNITS, NUMBER_LIMIT}
 use Rattle.pud_defs.specs.declared.machine.Refusal.{Refusal}
 use Rattle.pud_defs.specs.declared.machine.Refusal.TheVariants as refusals
 use Rattle.pud_defs.specs.declared.records.Puddle.{Puddle}
@@ -17,21 +17,26 @@ use Rattle.pud_defs.specs.PoolGraphs.GraphChanges.{with_new, blank_object}
 use Rattle.pud_defs.specs.StateMachine.PoolChanges.{pool_named}
 use Rattle.pud_defs.specs.StateMachine.Step.{graph_seen, next_in, grows, object_made}
 use Rattle.pud_defs.specs.PoolGraphs.Stored.{stored_in}
+use Rattle.pud_defs.specs.Formats.Layout.{frames_at}
 use Rattle.pud_defs.specs.StateMachine.Transactions.{charged}
 use Rattle.pud_defs.specs.RegistryTables.Types.{map_of}
 use Rattle.pud_defs.specs.StateMachine.World.{Transaction, World, open_on}
-use Rattle.graph_laws.specs.Slots.{AreAllLive}
+use Rattle.graph_laws.specs.Slots.{AreAllLive, IsLowestFreeSlot}
+use Rattle.puddle_header.specs.Places.{place_of_slot, IsSlotOf}
+use Rattle.known_pool.specs.Known.{Known, IsKnown}
 use Rattle.hybrid_tx.specs.PoolScopes.{ArePlacedPuddles}
 use Rattle.hybrid_tx.specs.Objects.Transactions.{OpenTx, IsOpenOn, KeepsOpenOn, MakesIn}
 use Rattle.ready_daemon.specs.PoolKnowledge.{KnowsAlone}
 use Rattle.ready_daemon.specs.Memory.{ActiveTransaction, Memory, active_under, with_active}
 use Rattle.ready_daemon.specs.ActiveTransactions.{IsActive}
-use Rattle.pool_transaction.specs.Changing.{refusal_to_make, refusal_by_world, with_made}
+use Rattle.pool_transaction.specs.Changing.{refusal_to_make, refusal_by_world, with_made, FollowsMade}
 use Rattle.ready_daemon.specs.Ready.{IsReady, Applies}
 use Rattle.pool_transaction.proofs.Lifetimes.ActiveRuns.{with_tx, is_active, active_placed, Applies-runs}
 use Rattle.pool_transaction.proofs.Updates.ActiveSets.{used_more, OwesRuns, told, owed}
 use Rattle.ready_daemon.proofs.OpenTransactions.OpenNames.{Charges-charged}
+use Rattle.ready_daemon.proofs.PoolChanges.TablesBeside.{types_read}
 use Rattle.pool_transaction.proofs.NewObjects.ActivePools.{grows_live, grows_not}
+use Rattle.pool_transaction.proofs.NewObjects.MadeKept.{Known-made}
 
 -- ---- what is not refused
 
@@ -127,3 +132,23 @@ module _ (size : ℕ) (w : World) (memory : Memory) (active : ActiveTransaction)
           Applies-runs size w memory active old number there ready (subst (KnowsAlone memory.judged active.slot) listed known) tx NEW_UNITS (charged NEW_UNITS (with_new (object_made w id))) (Charges-charged NEW_UNITS (with_new (object_made w id))) (fault_of done) new gate
           (used_more done NEW_UNITS tx.units active.tx.units used)
           (subst (λ (change : Graph → Graph). KeepsOpenOn w.stored.frames is.puddles w.stored.types tx.log is.before is.graph_before (change is.transaction.now) is.transaction.deferred (fault_of done) old new) the_object at_first)
+
+      -- what is known of the pool is so then, where the object is kept too
+      pub Known-active : KnowsAlone memory.judged active.slot at → (done : Result ℕ HostFault)
+          → ((m : ℕ) → map_of id w.stored.types ≡ Some m → is.transaction.now.next_serial < NUMBER_LIMIT
+          → OwesRuns size w memory active old number there ready F at same listed tx new gate F at (charged NEW_UNITS (with_new (blank_object id m))) (fault_of done))
+          → IfOk done (λ _. tx.units ≡ active.tx.units + NEW_UNITS) → fault_of done ≡ None → (slot : Slot) → IsSlotOf at slot → active.tx.log.gate_at + LOG_WORDS ≤ frames_at F
+          → IsLowestFreeSlot (stored_in F at (reads old.now.words)) (place_of_slot slot) → MakesIn F at active.tx.log.gate_at slot id None old new → (kept : Known) → kept.puddles ≡ at → IsKnown F (reads old.now.words) kept
+          → (serial : ℕ) → serial ≡ next_in (graph_seen (open_on active.name w) (pool_named active.name w.stored)) → (next : Known) → FollowsMade serial slot kept next → IsKnown F (reads new.now.words) next
+      Known-active known done runs used none_failed slot of apart lowest makes kept puddles so serial is_serial next follows =
+          let left = subst (λ (n : ℕ). n < NUMBER_LIMIT) next_serial may.left in
+          let ran = owed size w memory active old number there ready F at same listed tx new gate (charged NEW_UNITS (with_new (blank_object id may.is))) (fault_of done) (runs may.is may.defined left) in
+          let ready_new = (Applies-made known done runs used).ready none_failed in
+          let placed = subst (ArePlacedPuddles F) (sym listed) (subst (λ (n : ℕ). ArePlacedPuddles n is.puddles) (sym same) (active_placed size w memory active old number there ready)) in
+          Known-made w.stored.types F at active.tx.log.gate_at slot of id may.is old new placed apart makes lowest may.defined kept puddles so
+          (types_read size w memory old ready).types
+          (types_read size (with_made active.name id w) (with_active number (Some (with_tx tx active)) memory) new ready_new).types
+          is.transaction.now
+          ((λ i. graph_of w.stored.types (stored_in (same i) (listed i) (reads old.now.words))) ∙ is.running.is)
+          ((λ i. graph_of w.stored.types (stored_in (same i) (listed i) (reads new.now.words))) ∙ ran.is none_failed)
+          serial (is_serial ∙ next_serial) next follows

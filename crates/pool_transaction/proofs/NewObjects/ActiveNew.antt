@@ -1,7 +1,7 @@
 -- The line that makes an object in an active transaction: why it is refused, by what is read, and the world that it gives.
 use Rattle.std.proofs.Common.{◌≡◌, inl, inr, ℕ, ◌+◌, ◌≤◌, Bool, true, false, not, ◌&&◌, ◌||◌, leb, ltb, ◌==◌, cond, List, length, Option, Some, None, is_none, sum_by, refl, sym, ap, ap₂, ◌∙◌, arith, eqb-true, eq-eqb, ne_eqb}
 use Rattle.std.specs.Option.{option_or}
-use Rattle.std.proofs.lemmas.Bool.{cases_lt, and_parts, leb-true, le-leb, lt-leb, lt-ltb, le-ltb}
+use Rattle.std.proofs.lemmas.Bool.{cases_lt, le-leb, lt-leb, lt-ltb, le-ltb}
 use Rattle.pm_model.specs.Words.{reads}
 use Rattle.pm_model.specs.Moments.{State}
 use Rattle.pm_model.specs.Masks.{masked}
@@ -197,15 +197,6 @@ module _ (size : ℕ) (w : World) (memory : Memory) (active : ActiveTransaction)
   pub world_more : refusal_of w line ≡ None → grows w active.name ≡ true → world_by w (Some line) ≡ with_made active.name id (with_puddle_added active.name w)
   unfolding after with_grown_pool
   world_more none more = done_world w line none ∙ ap given more
-
-  -- there is a next serial
-  pub serial_is_some : 1 ≤ next_in (graph_seen (open_on active.name w) (pool_named active.name w.stored))
-  serial_is_some =
-      let has = graph_of-each w.stored.types (stored_in F is.puddles image) is.transaction.now is.running.is in
-      let n = next_serial_of (stored_in F is.puddles image) in
-      let legal = leb-true 1 n (and_parts (leb 1 n) (leb n NUMBER_LIMIT) has.graph.legal).0 in
-      let same = ap (λ (g : Graph). g.next_serial) has.is in
-      omega (arith, legal, same, next_serial size w memory active s number there ready)
 
   -- ---- the pool grew
 

@@ -21,8 +21,8 @@ use Rattle.pool_transaction.proofs.PuddlesFinished.FinishedPools.{IsSlotOf-moved
 -- what was found lies within the puddles still
 pub found_within_behind : (at later : List (ℕ × Puddle)) (found : FoundUpdate) → HaveMoved at later → IsFoundWithin at found → IsFoundWithin later found
 found_within_behind at later (Field slot f word read x deferred) moved within = (IsSlotOf-moved at later slot moved within.0, within.1)
-found_within_behind at later (Root word) moved within = within
-found_within_behind at later (Object slot) moved within = IsSlotOf-moved at later slot moved within
+found_within_behind at later (Root word was s) moved within = within
+found_within_behind at later (Object slot s) moved within = IsSlotOf-moved at later slot moved within
 
 address_by : (at later : List (ℕ × Puddle)) (o s : ℕ) (d : Option (ℕ × Puddle)) → HaveMoved at later → slice_get at o ≡ d → address_in (option_map (λ (e : ℕ × Puddle). e.1) (slice_get later o)) s ≡ address_in (option_map (λ (e : ℕ × Puddle). e.1) d) s
 address_by at later o s None moved there = elim (cases_lt o (length at)) [
@@ -50,5 +50,5 @@ module _ (F : ℕ) (at later : List (ℕ × Puddle)) (i j : Image) (spares : Spa
   -- what was found is so of the update still
   pub found_behind : (update : Update) (found : FoundUpdate) → IsFoundBy F at i update found → IsFoundBy F later j update found
   found_behind update (Field slot f word read x deferred) by = record { s = by.s; x = by.x; is = by.is; found = (place_in_pool-spared F at later i j spares by.s ∙ by.found.0, word_behind by.x ∙ by.found.1) }
-  found_behind update (Root word) by = record { s = by.s; is = by.is; found = word_behind (Ref by.s) ∙ by.found }
-  found_behind update (Object slot) by = record { s = by.s; is = by.is; found = place_in_pool-spared F at later i j spares by.s ∙ by.found }
+  found_behind update (Root word was s) by = record { s = by.s; is = by.is; found = word_behind (Ref by.s) ∙ by.found }
+  found_behind update (Object slot s) by = record { s = by.s; is = by.is; found = place_in_pool-spared F at later i j spares by.s ∙ by.found }

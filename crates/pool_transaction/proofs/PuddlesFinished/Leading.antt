@@ -1,5 +1,5 @@
 -- Lines that lead frontiers of a pool to goals, call by call.
-use Rattle.std.proofs.Common.{◌≡◌, inl, inr, ℕ, ◌+◌, ◌≤◌, Bool, true, false, cond, eqb, List, length, Option, Some, None, refl, sym, ap, subst, ◌∙◌, arith, eq-eqb, ne_eqb}
+use Rattle.std.proofs.Common.{◌≡◌, inl, inr, ℕ, ◌+◌, ◌<◌, ◌≤◌, Bool, true, false, cond, eqb, List, length, Option, Some, None, refl, sym, ap, subst, ◌∙◌, arith, eq-eqb, ne_eqb}
 use Rattle.std.specs.Prelude.{max, slice_get}
 use Rattle.std.proofs.lemmas.Bool.{cases_eq, cases_lt, cond-true, cond-false}
 use Rattle.std.proofs.lemmas.List.{length-map}
@@ -24,7 +24,8 @@ use Rattle.pud_defs.specs.StateMachine.World.{World, closed}
 use Rattle.pud_defs.proofs.StateMachine.Steps.{done_world}
 use Rattle.graph_laws.specs.Slots.{AreAllLive, IsLowestFreeSlot}
 use Rattle.graph_read.specs.Reading.{place_in_pool}
-use Rattle.puddle_header.specs.Places.{place_of_slot, IsSlotOf}
+use Rattle.puddle_header.specs.Places.{place_of_slot, places_in, IsSlotOf}
+use Rattle.object_alloc.specs.Alloc.{AreLiveBefore}
 use Rattle.puddle_header.proofs.Placed.{place_ordinal}
 use Rattle.lazy_rewrite.specs.Frontiers.{frontier_in, frontiers_of, frontier_at, finished_at}
 use Rattle.lazy_rewrite.proofs.Spared.{HaveMoved-same}
@@ -113,8 +114,8 @@ pub finishes_found : (F : ℕ) (at : List (ℕ × Puddle)) (image : Image) (upda
     → FinishesFor F at image update (end_of (ordinal_written found))
 finishes_found F at image update (Field slot f word read x later) within by =
     subst (λ (u : Update). FinishesFor F at image u (end_of slot.ordinal)) (sym by.is) (finishes_field F at image later by.s f by.x (end_of slot.ordinal) (finishes_object F at image by.s slot within.0 by.found.0))
-finishes_found F at image update (Root word) within by = subst (λ (u : Update). FinishesFor F at image u (end_of 0)) (sym by.is) refl
-finishes_found F at image update (Object slot) within by =
+finishes_found F at image update (Root word was s) within by = subst (λ (u : Update). FinishesFor F at image u (end_of 0)) (sym by.is) refl
+finishes_found F at image update (Object slot s) within by =
     subst (λ (u : Update). FinishesFor F at image u (end_of slot.ordinal)) (sym by.is) (finishes_object F at image by.s slot within by.found)
 
 -- an object is made in the lowest free slot
@@ -127,11 +128,21 @@ finishes_lowest F at image slot of lowest =
 pub finishes_more : (F : ℕ) (at : List (ℕ × Puddle)) (image : Image) → AreAllLive (stored_in F at image) → FinishesTaken F at image (end_of_both (length at))
 finishes_more F at image live = inr (live, refl)
 
+-- each slot that it had is live then
+pub live_grown : (F : ℕ) (at later : List (ℕ × Puddle)) (before after : Image) → IsLonger F at later before after → AreAllLive (stored_in F at before) → (n : ℕ) → n ≡ places_in at → AreLiveBefore (stored_in F later after) n
+live_grown F at later before after longer live n is = record {
+  each = λ p below free.
+      let within : p < places_in at = omega (arith, below, is) in
+      live.each p (omega (arith, within, length-map at (λ (e : ℕ × Puddle). e.1))) (sym (longer.each p within) ∙ free);
+}
+
 -- then the lowest free slot lies in the puddle that came
 pub finishes_grown : (F : ℕ) (at later : List (ℕ × Puddle)) (before after : Image) → IsLonger F at later before after → AreAllLive (stored_in F at before) → (goal : ℕ → ℕ) → FinishesLowest F later after goal
     → FinishesTaken F at before goal
 finishes_grown F at later before after longer live goal so = elim (cases_lt so.place (places_of (stored_in F at before))) [
-  | inl old ↦ absurd (longer.live so.place old (live.each so.place old) so.lowest.free)
+  | inl old ↦
+      let below : so.place < places_in at = omega (arith, old, length-map at (λ (e : ℕ × Puddle). e.1)) in
+      absurd (live.each so.place old (sym (longer.each so.place below) ∙ so.lowest.free))
   | inr past ↦
       let count = longer.count in
       let within = so.lowest.within in

@@ -44,7 +44,7 @@ abbrev pub LeavesKnown : (F : ℕ) → ActiveTransaction → (at later : List (�
 LeavesKnown F active at later update found size w fault old new =
     (memory : Memory) → IsActiveIn F active at memory → IsReady size w memory old → refusal_of w (command_of_update update active.client active.name) ≡ None → IsFoundBy F at (reads old.now.words) update found → (g : Graph)
     → graph_of (types_of (reads old.now.words)) (stored_in F at (reads old.now.words)) ≡ Some g → IsReadOf g update found → (known : Known) → known.puddles ≡ at → IsKnown F (reads old.now.words) known → (next : Known)
-    → FollowsUpdate found (with_puddles later known) next → fault ≡ None → IsKnown F (reads new.now.words) next
+    → FollowsUpdate F at (reads old.now.words) g found known next → fault ≡ None → IsKnown F (reads new.now.words) (with_puddles later next)
 
 module _ (F : ℕ) (active : ActiveTransaction) (known : Known) (memory : Memory) (its : IsActiveWith F active known memory) (size : ℕ) (w : World) (old : State) (ready : IsReady size w memory old) where
   -- its puddles lie as those of a scope
@@ -92,6 +92,17 @@ module _ (F : ℕ) (active : ActiveTransaction) (known : Known) (memory : Memory
       arrives = a.arrives;
     }
 
+  -- a line that is carried out on the puddles alone keeps what is known
+  pub Applies-known : (finishes : (ℕ → ℕ) → Type 0) (next : World) (now : ActiveTransaction) (later : List (ℕ × Puddle)) (more : Known) → more.puddles ≡ later → (fault : Option HostFault) (new : State) → (fault ≡ None → IsKnown F (reads new.now.words) more)
+      → AppliesFinishing active.slot finishes size w next (with_opened active.log_number active.slot now later (memory_alone active.slot known.puddles memory)) fault old new
+      → AppliesFinishing active.slot finishes size w next (with_known active.log_number active.slot now more memory) fault old new
+  Applies-known finishes next now later more puddles fault new so a = record {
+    goal = a.goal;
+    finishing = a.finishing;
+    applies = AppliesTo-more (led_in active.slot a.goal) next now later more puddles fault old new so
+        (subst (λ (m : Memory). AppliesTo (led_in active.slot a.goal) size w next m fault old new) (opened_alone active.log_number active.slot now known.puddles later memory) a.applies);
+  }
+
   -- the line is carried out
   module _ (update : Update) (found : FoundUpdate) (free : refusal_of w (command_of_update update active.client active.name) ≡ None) (within : IsFoundWithin known.puddles found) (by : IsFoundBy F known.puddles (reads old.now.words) update found) where
     abbrev line : Command
@@ -114,13 +125,14 @@ module _ (F : ℕ) (active : ActiveTransaction) (known : Known) (memory : Memory
         (subst (λ (m : Memory). AppliesTo (led_in active.slot led) size w (after w line) m fault mid new) (opened_alone active.log_number active.slot now known.puddles later memory) (updates behind its_alone then free by_lent))))
 
     -- what is kept of the pool goes the way of the update
-    pub Applies-followed : (lent later : List (ℕ × Puddle)) (now : ActiveTransaction) (more : Known) (fault : Option HostFault) (mid new : State) → lent ≡ known.puddles → more.puddles ≡ later → mid ≡ old
-        → Updates F active now lent later update found size w fault mid new → LeavesKnown F active lent later update found size w fault mid new → IsReadOf seen_on update found → FollowsUpdate found (with_puddles later known) more
+    pub Applies-followed : (lent later : List (ℕ × Puddle)) (now : ActiveTransaction) (followed more : Known) (fault : Option HostFault) (mid new : State) → lent ≡ known.puddles → more ≡ with_puddles later followed → mid ≡ old
+        → Updates F active now lent later update found size w fault mid new → LeavesKnown F active lent later update found size w fault mid new → IsReadOf seen_on update found
+        → FollowsUpdate F known.puddles (reads old.now.words) seen_on found known followed
         → AppliesFinishing active.slot (FinishesUnless (refusal_of w line) (FinishesFor F known.puddles (reads old.now.words) update)) size w (world_by w (Some line)) (with_known active.log_number active.slot now more memory) fault old new
-    Applies-followed lent later now more fault mid new same puddles still updates keeps read follows =
+    Applies-followed lent later now followed more fault mid new same is still updates keeps read follows =
         let behind = memory_alone active.slot known.puddles memory in
         let its_alone = active_alone F active known memory its in
         let then = ready_alone F active known memory its size w old ready in
         let kept = subst (λ (s : State). LeavesKnown F active known.puddles later update found size w fault s new) still (subst (λ (ps : List (ℕ × Puddle)). LeavesKnown F active ps later update found size w fault mid new) same keeps) in
-        Applies-found lent later now more fault mid new same puddles still updates
-        (kept behind its_alone then free by seen_on stored_on read known refl (known_so F active known memory its size w old ready) more follows)
+        Applies-found lent later now more fault mid new same (ap (λ (k : Known). k.puddles) is) still updates
+        (λ none. subst (IsKnown F (reads new.now.words)) (sym is) (kept behind its_alone then free by seen_on stored_on read known refl (known_so F active known memory its size w old ready) followed follows none))

@@ -18,6 +18,7 @@ use Rattle.pud_defs.specs.StateMachine.World.{Transaction, World}
 use Rattle.log_store.specs.Store.{OpenLog}
 use Rattle.graph_read.specs.Bases.{HasLowBases}
 use Rattle.batch.specs.Batches.{HasIdleGate}
+use Rattle.lazy_rewrite.proofs.Spared.{place_in_pool-spared}
 use Rattle.lazy_rewrite.specs.Batches.{Rewrites}
 use Rattle.lazy_rewrite.specs.Frontiers.{finished_at, frontier_at}
 use Rattle.hybrid_tx.specs.PoolScopes.{ArePlacedPuddles, IsRewrittenAt}
@@ -34,7 +35,7 @@ use Rattle.ready_daemon.proofs.OpenTransactions.ActiveUnder.{active_same}
 use Rattle.ready_daemon.proofs.PoolChanges.InTurn.{active_known}
 use Rattle.ready_daemon.proofs.PoolChanges.TablesBeside.{types_read}
 use Rattle.pool_transaction.proofs.Updates.FieldsTyped.{may_change_unrefused}
-use Rattle.pool_transaction.proofs.Updates.KnownFollows.{IsKnown-followed}
+use Rattle.pool_transaction.proofs.Updates.KnownFollows.{IsKnown-followed, followed_behind}
 use Rattle.pool_transaction.specs.Finishing.{end_of, AppliesTo}
 use Rattle.pool_transaction.proofs.PuddlesFinished.Arriving.{AreEnds}
 use Rattle.pool_transaction.proofs.PuddlesFinished.Leading.{ends_finished}
@@ -46,7 +47,7 @@ use Rattle.pool_transaction.proofs.Lifetimes.ActiveRuns.{with_tx, is_active}
 use Rattle.pool_transaction.proofs.Updates.ActiveSets.{after_line, same_stored, owed, Applies-line}
 use Rattle.pool_transaction.proofs.PuddlesFinished.FinishedPools.{IsRewrittenAt-finished}
 use Rattle.pool_transaction.proofs.PuddlesFinished.FoundBehind.{found_behind}
-use Rattle.pool_transaction.proofs.PuddlesFinished.ActiveFinishes.{its_frontiers, Applies-unfinished, ready_finished, known_finished, spared_finished, Applies-behind}
+use Rattle.pool_transaction.proofs.PuddlesFinished.ActiveFinishes.{its_placed, its_frontiers, Applies-unfinished, ready_finished, known_finished, spared_finished, Applies-behind}
 
 -- what the call owes that makes the update which was found
 abbrev pub CarriesOut : (F : ℕ) → List (ℕ × Puddle) → FoundUpdate → (log now : OpenLog) → Option HostFault → State → State → Type 0
@@ -129,9 +130,9 @@ module _ (size : ℕ) (w : World) (memory : Memory) (active : ActiveTransaction)
     -- what is known of the pool is so then, where it went the way of the update
     pub Known-updated : (tx : OpenTx) (new : State) → tx.log.gate_at ≡ active.tx.log.gate_at → (done : Result Unit HostFault) → refusal_of w (command_of_update update active.client active.name) ≡ None
         → IsFoundBy F at (reads old.now.words) update found → CarriesOut F lent found active.tx.log tx.log (fault_of done) mid new → CountsOut F lent active.tx tx done mid
-        → (fault_of done ≡ None → SparesSerials F lent found (reads mid.now.words) (reads new.now.words)) → (g : Graph) → graph_of (types_of (reads old.now.words)) (stored_in F at (reads old.now.words)) ≡ Some g
-        → IsReadOf g update found → (known : Known) → known.puddles ≡ at → IsKnown F (reads old.now.words) known → (more : Known) → FollowsUpdate found (with_puddles later known) more → fault_of done ≡ None
-        → IsKnown F (reads new.now.words) more
+        → (fault_of done ≡ None → ArePlacedPuddles F lent → SparesSerials F lent found (reads mid.now.words) (reads new.now.words)) → (g : Graph) → graph_of (types_of (reads old.now.words)) (stored_in F at (reads old.now.words)) ≡ Some g
+        → IsReadOf g update found → (known : Known) → known.puddles ≡ at → IsKnown F (reads old.now.words) known → (more : Known) → FollowsUpdate F at (reads old.now.words) g found known more → fault_of done ≡ None
+        → IsKnown F (reads new.now.words) (with_puddles later more)
     Known-updated tx new gate done free by runs counts serials g stored read known puddles so more follows none =
         let ready_new = (Applies-update tx new gate done free by runs counts).applies.ready none in
         let one : IsActive w active still_ready.mask mid.now.words = is_active size w then active mid active.log_number its.there still_ready in
@@ -156,5 +157,7 @@ module _ (size : ℕ) (w : World) (memory : Memory) (active : ActiveTransaction)
         (λ placed running. runs w.stored.types one.before one.graph_before one.transaction update placed rewritten_lent running may (found_lent by)) in
         let after_then : graph_of (types_of (reads mid.now.words)) (stored_in F later (reads new.now.words)) ≡ Some (changed_by update one.transaction).now =
         (λ p. graph_of (types_mid p) (stored_in (on p) (same_mid p) (reads new.now.words))) ∙ ran.is none in
-        IsKnown-followed F (with_puddles later known) (reads mid.now.words) (reads new.now.words) g (graph_mid ∙ ap (λ (k : Graph). Some k) one_graph) (types_new ∙ sym types_mid) known_mid update one.transaction one_graph after_then more found read
-        (subst (λ (ps : List (ℕ × Puddle)). SparesSerials F ps found (reads mid.now.words) (reads new.now.words)) same (serials none)) follows
+        IsKnown-followed F (with_puddles later known) (reads mid.now.words) (reads new.now.words) g (graph_mid ∙ ap (λ (k : Graph). Some k) one_graph) (types_new ∙ sym types_mid) known_mid update one.transaction one_graph after_then (with_puddles later more) found read
+        (found_behind F at later (reads old.now.words) (reads mid.now.words) spares update found by)
+        (subst (λ (ps : List (ℕ × Puddle)). SparesSerials F ps found (reads mid.now.words) (reads new.now.words)) same (serials none (subst (ArePlacedPuddles F) (sym same) (its_placed size w then active mid active.log_number its.there still_ready F on later known_then))))
+        (followed_behind F at later (reads old.now.words) (reads mid.now.words) g (place_in_pool-spared F at later (reads old.now.words) (reads mid.now.words) spares) known more found follows)

@@ -1,23 +1,29 @@
 -- What is known of a pool is so behind an update of it, where it went the way of the update.
-use Rattle.std.proofs.Common.{◌≡◌, ℕ, Bool, true, false, List, Option, Some, None, refl, sym, ap, subst, ◌∙◌}
+use Rattle.std.proofs.Common.{◌≡◌, ℕ, Bool, true, false, List, Option, Some, None, refl, sym, ap, subst, ◌∙◌, arith}
 use Rattle.std.specs.Prelude.{slice_get}
 use Rattle.pud_defs.specs.declared.objects.FieldValue.{FieldValue}
+use Rattle.pud_defs.specs.declared.objects.FieldValue.TheVariants.{Ref}
+use Rattle.pud_defs.specs.declared.records.Puddle.{Puddle}
+use Rattle.pud_defs.specs.declared.records.Slot.{Slot}
 use Rattle.pud_defs.specs.PoolGraphs.Graph.{Graph, Object, object_in, graph_of}
-use Rattle.pud_defs.specs.PoolGraphs.GraphChanges.{with_field}
+use Rattle.pud_defs.specs.PoolGraphs.GraphChanges.{with_field, with_root, without_object}
 use Rattle.pud_defs.specs.Formats.Image.{Image}
 use Rattle.pud_defs.specs.PoolGraphs.Stored.{stored_in}
 use Rattle.pud_defs.specs.RegistryTables.Types.{types_of}
 use Rattle.pud_defs.specs.StateMachine.World.{Transaction}
 use Rattle.graph_read.specs.declared.fields.FieldRead.{FieldRead}
 use Rattle.graph_read.specs.declared.fields.FieldRead.TheVariants.{NoObject, NoField, Value}
-use Rattle.graph_read.specs.Reading.{read_value, read_by}
-use Rattle.known_pool.specs.Known.{Known, IsKnown, by_puddles}
+use Rattle.puddle_header.specs.Places.{place_of_slot}
+use Rattle.graph_read.specs.Reading.{place_in_pool, read_value, read_by}
+use Rattle.known_pool.specs.Known.{Known, IsKnown, by_puddles, with_puddles}
+use Rattle.known_pool.specs.Indexes.{Follows, after_move, Releases}
 use Rattle.known_pool.proofs.KnownKept.{KeepsSerials, IsKnown-puddles, IsKnown-kept}
-use Rattle.known_pool.proofs.KnownChanged.{IsKnown-set}
+use Rattle.known_pool.proofs.KnownChanged.{IsKnown-set, IsKnown-rooted, IsKnown-freed}
 use Rattle.pool_transaction.specs.declared.changing.FoundUpdate.{FoundUpdate}
 use Rattle.pool_transaction.specs.declared.changing.FoundUpdate.TheVariants.{Field, Root, Object as Freed}
 use Rattle.pool_transaction.specs.declared.changing.Update.{Update}
-use Rattle.pool_transaction.specs.Changing.{changed_by, IsFieldRead, IsReadOf, SparesSerials, FollowsField, FollowsUpdate}
+use Rattle.pool_transaction.specs.declared.changing.Update.TheVariants.{Set, Later, Root as SetRoot, Free}
+use Rattle.pool_transaction.specs.Changing.{changed_by, IsObjectFound, IsFoundBy, IsFieldRead, IsRootRead, IsReadOf, FreesSlot, SparesSerials, FollowsMove, FollowsField, FollowsFree, FollowsUpdate}
 
 -- the object that holds a value that was read, in its field
 record HoldsValue (o : Option Object) (f : ℕ) (was : FieldValue) : Type 0 where
@@ -33,7 +39,15 @@ holds_read : (o : Option Object) (f : ℕ) (was : FieldValue) → Value was ≡ 
 holds_read None f was none = absurd (let it : Value was ≡ NoObject = none in cc)
 holds_read (Some o) f was is = value_there o (slice_get o.fields f) f was refl is
 
+-- the serial of what is freed
+abbrev pub freed_serial : Update → ℕ
+freed_serial (Set s f x) = 0
+freed_serial (Later s f x) = 0
+freed_serial (SetRoot s) = 0
+freed_serial (Free s) = s
+
 module _ (F : ℕ) (known : Known) (image later : Image) (g : Graph) (stored : graph_of (types_of image) (stored_in F known.puddles image) ≡ Some g) (types : types_of later ≡ types_of image) (is : IsKnown F image known) where
+  -- the puddles alone are left
   alone : (next : Known) → next ≡ by_puddles known.puddles → IsKnown F later next
   alone next same = subst (IsKnown F later) (sym same) (IsKnown-puddles F known.puddles later)
 
@@ -52,7 +66,43 @@ module _ (F : ℕ) (known : Known) (image later : Image) (g : Graph) (stored : g
         let graph : graph_of (types_of image) (stored_in F known.puddles later) ≡ Some (with_field r.s f x t.now) = after ∙ ap (λ (u : Update). Some (changed_by u t).now) r.is in
         IsKnown-set F known next image later g follows.puddles types stored is r.s f x was o.object o.there o.field (graph ∙ ap (λ (k : Graph). Some (with_field r.s f x k)) same) keeps follows.index follows.full
 
-    pub IsKnown-followed : (found : FoundUpdate) → IsReadOf g update found → SparesSerials F known.puddles found image later → FollowsUpdate found known next → IsKnown F later next
-    IsKnown-followed (Field slot f word read x later_is) r spares follows = by_field later_is f read x r (record { count = refl; each = spares }) follows
-    IsKnown-followed (Root word) r spares follows = alone next follows
-    IsKnown-followed (Freed slot) r spares follows = alone next follows
+    -- the root was set
+    by_root : (was s : ℕ) → IsRootRead g update was s → KeepsSerials F known.puddles known.puddles image later → FollowsMove (Ref was) (Ref s) known next → IsKnown F later next
+    by_root was s r keeps follows =
+        let graph : graph_of (types_of image) (stored_in F known.puddles later) ≡ Some (with_root s g) =
+        after ∙ ap (λ (u : Update). Some (changed_by u t).now) r.is ∙ ap (λ (k : Graph). Some (with_root s k)) same in
+        IsKnown-rooted F known next image later g follows.puddles types stored is s graph keeps (subst (λ (root : ℕ). Follows (after_move (Ref root) (Ref s)) known.index next.index) r.holds follows.index) follows.full
+
+    -- an object was freed
+    by_free : (slot : Slot) (s : ℕ) → update ≡ Free s → IsObjectFound F known.puddles image update slot → FreesSlot F known.puddles slot image later → FollowsFree F known.puddles image g slot s known next → IsKnown F later next
+    by_free slot s is_free found frees follows =
+        let graph : graph_of (types_of image) (stored_in F known.puddles later) ≡ Some (without_object s g) =
+        after ∙ ap (λ (u : Update). Some (changed_by u t).now) is_free ∙ ap (λ (k : Graph). Some (without_object s k)) same in
+        let serial : found.s ≡ s = ap freed_serial (sym found.is ∙ is_free) in
+        let full = follows.full in
+        IsKnown-freed F known next image later g follows.puddles types stored is s slot graph (subst (λ (n : ℕ). place_in_pool F known.puddles image n ≡ Some (place_of_slot slot)) serial found.found) frees.free frees.others
+        follows.index (omega (arith, full)) (omega (arith, full))
+
+    pub IsKnown-followed : (found : FoundUpdate) → IsReadOf g update found → IsFoundBy F known.puddles image update found → SparesSerials F known.puddles found image later → FollowsUpdate F known.puddles image g found known next → IsKnown F later next
+    IsKnown-followed (Field slot f word read x later_is) r by spares follows = by_field later_is f read x r (record { count = refl; each = spares }) follows
+    IsKnown-followed (Root word was s) r by spares follows = by_root was s r (record { count = refl; each = spares }) follows
+    IsKnown-followed (Freed slot s) r by spares follows = by_free slot s r by spares follows
+
+-- ---- the puddles were rewritten on the way
+
+module _ (F : ℕ) (at later : List (ℕ × Puddle)) (image mid : Image) (g : Graph) (places : (s : ℕ) → place_in_pool F later mid s ≡ place_in_pool F at image s) (known next : Known) where
+  field_behind : (later_is : Bool) (read : FieldRead) (x : FieldValue) → FollowsField later_is read x known next → FollowsField later_is read x (with_puddles later known) (with_puddles later next)
+  field_behind true read x follows = ap (with_puddles later) follows
+  field_behind false NoObject x follows = ap (with_puddles later) follows
+  field_behind false NoField x follows = ap (with_puddles later) follows
+  field_behind false (Value was) x follows = record { puddles = refl; index = follows.index; full = follows.full }
+
+  -- what is kept goes the same way then
+  pub followed_behind : (found : FoundUpdate) → FollowsUpdate F at image g found known next → FollowsUpdate F later mid g found (with_puddles later known) (with_puddles later next)
+  followed_behind (Field slot f word read x later_is) follows = field_behind later_is read x follows
+  followed_behind (Root word was s) follows = record { puddles = refl; index = follows.index; full = follows.full }
+  followed_behind (Freed slot s) follows = record {
+    puddles = refl;
+    index = λ x kept. subst (λ (place : ℕ → Option ℕ). Releases place g s x) (λ q s. sym (places s) q) (follows.index x kept);
+    full = follows.full;
+  }

@@ -4,18 +4,29 @@ use Rattle.pm_model.proofs.Changes.{Changes-wider}
 use Rattle.log_store.specs.Store.{InLog}
 use Rattle.word_transaction.specs.Running.{ByTransaction}
 use Rattle.hybrid_tx.specs.PoolScopes.{pool_scope}
-use Rattle.pool_transaction.proofs.Updates.SerialsSpared.{serials_beside, serials_put}
+use Rattle.pool_transaction.proofs.Updates.SerialsSpared.{serials_beside, serials_put, serials_rooted, serials_freed}
 use Rattle.pool_transaction.proofs.changing.carry_out.Goals as goal
 
 pub returns-then-later-clause-changes : goal.returns-then-later-clause-changes
 returns-then-later-clause-changes g c = λ t. Changes-wider (InLog c.args.tx.now.log.gate_at) (ByTransaction (pool_scope c.args.frames c.args.pool.now) c.args.tx.now.log.gate_at) _ _ _ (λ k v inside. inl inside) (c.later_at.ensures.changes t)
 
 pub returns-then-later-clause-serials : goal.returns-then-later-clause-serials
-returns-then-later-clause-serials g c = rw c.in-Field.is (λ t none.
+returns-then-later-clause-serials g c = rw c.in-Field.is (λ t none placed.
     serials_beside c.args.frames c.args.pool.now (g.H.Host.state c.args.h.now) (g.H.Host.state c.later_at.new.h) c.args.tx.now.log.gate_at c.requires.place (fault_of c.later_at.result) none (c.later_at.ensures.changes t))
 
 pub returns-else-later-clause-serials : goal.returns-else-later-clause-serials
-returns-else-later-clause-serials g c = rw c.in-Field.is (λ t none.
+returns-else-later-clause-serials g c = rw c.in-Field.is (λ t none placed.
     let within = rw c.in-Field.is at c.requires.within in
     serials_put c.args.frames c.args.pool.now (g.H.Host.state c.args.h.now) (g.H.Host.state c.set_at.new.h) c.args.tx.now.log.gate_at c.requires.place c.in-Field.at within.0 c.in-Field.f c.in-Field.word within.1
     (fault_of c.set_at.result) none (c.set_at.ensures.puts t))
+
+pub returns-in-Root-clause-serials : goal.returns-in-Root-clause-serials
+returns-in-Root-clause-serials g c = rw c.in-Root.is (λ t none placed.
+    serials_rooted c.args.frames c.args.pool.now (g.H.Host.state c.args.h.now) (g.H.Host.state c.root_at.new.h) c.args.tx.now.log.gate_at c.requires.place c.in-Root.word (fault_of c.root_at.result) none
+    (c.root_at.ensures.puts t) (λ empty. (c.root_at.ensures.nothing empty).0))
+
+pub returns-in-Object-clause-serials : goal.returns-in-Object-clause-serials
+returns-in-Object-clause-serials g c = rw c.in-Object.is (λ t none placed.
+    let within = rw c.in-Object.is at c.requires.within in
+    serials_freed c.args.frames c.args.pool.now (g.H.Host.state c.args.h.now) (g.H.Host.state c.free_at.new.h) c.args.tx.now.log.gate_at c.requires.place c.in-Object.at within placed.frames (fault_of c.free_at.result) none
+    (c.free_at.ensures.puts t) (c.free_at.ensures.frees t none))

@@ -1,49 +1,90 @@
-use Rattle.std.proofs.Common.{◌≡◌, ℕ, List, Some, IfOk, sym, ap, subst, ◌∙◌}
+use Rattle.std.proofs.Common.{◌≡◌, ℕ, List, Some, None, option_map, IfOk, refl, sym, ap, subst, ◌∙◌}
+use Rattle.std.proofs.lemmas.Option.{none-some}
+use Rattle.std.proofs.lemmas.Result.{err_from_is_err_and}
 use Rattle.pm_model.specs.Counts.{fault_of}
 use Rattle.pm_model.specs.Words.{reads}
 use Rattle.pud_defs.specs.declared.machine.Command.TheVariants.{New}
 use Rattle.pud_defs.specs.declared.records.Puddle.{Puddle}
+use Rattle.pud_defs.specs.PoolGraphs.Stored.{stored_in}
+use Rattle.object_alloc.specs.Alloc.{AreLiveBefore}
 use Rattle.pud_defs.specs.StateMachine.Step.{refusal_of, answer_by, world_by}
 use Rattle.pud_defs.specs.StateMachine.Step.Answer.{of_reply}
-use Rattle.known_pool.specs.Known.{Known, with_puddles}
-use Rattle.ready_daemon.specs.Memory.{Memory}
+use Rattle.known_pool.specs.Known.{Known, with_puddles, index_entries}
 use Rattle.pool_transaction.specs.declared.changing.Change.{Change}
-use Rattle.pool_transaction.specs.Changing.{IsActiveIn, with_known, with_opened, command_of_change}
+use Rattle.pool_transaction.specs.Changing.{IsActiveIn, with_known, with_opened, command_of_change, FollowsMaking}
 use Rattle.pool_transaction.specs.Finishing.{Finishes, FinishesTaken, FinishesUnless, AppliesFinishing}
-use Rattle.pool_transaction.proofs.Lifetimes.ActiveAlone.{memory_alone, active_alone, ready_alone, opened_alone}
+use Rattle.pool_transaction.proofs.Lifetimes.ActiveAlone.{memory_alone, known_so, active_alone, ready_alone}
+use Rattle.pool_transaction.proofs.Updates.ActiveFound.{Applies-known}
 use Rattle.pool_transaction.proofs.transaction.PoolTransaction.carry_out_change.Goals as goal
 
-pub returns-in-New-clause-reply : goal.returns-in-New-clause-reply
-returns-in-New-clause-reply g c = λ t size e w memory its ready.
+-- the pool is lent with its puddles alone
+pub returns-in_err-made-in-New-clause-applies : goal.returns-in_err-made-in-New-clause-applies
+returns-in_err-made-in-New-clause-applies g c =
+    let p = err_from_is_err_and c.from_residual.result c.from_residual.ensures.1 in
+    rw (p.1, p.2) (λ t size e w memory its ready.
     let active = c.args.self.now in
     let known = c.args.pool.now in
-    let puddles : c.pool.inside.puddles ≡ known.puddles = ap (λ (k : Known). k.puddles) (c.pool.view_is ∙ c.forget.ensures) in
-    subst (λ (change : Change). IfOk c.new_object.result (λ reply. of_reply reply ≡ answer_by w (Some (command_of_change change active.client active.name)))) (sym c.in-New.is)
-    (c.new_object.ensures.reply t size e w (memory_alone active.slot known.puddles memory)
-    (subst (λ (ps : List (ℕ × Puddle)). IsActiveIn c.args.frames active ps (memory_alone active.slot known.puddles memory)) (sym puddles) (active_alone c.args.frames active known memory its))
-    (ready_alone c.args.frames active known memory its size w (g.H.Host.state c.args.h.now) ready))
-
-pub returns-in-New-clause-applies : goal.returns-in-New-clause-applies
-returns-in-New-clause-applies g c = λ t size e w memory its ready.
-    let active = c.args.self.now in
-    let known = c.args.pool.now in
-    let now = c.new_object.new.self in
-    let later = c.new_object.new.pool in
-    let view = c.pool.view_is ∙ c.forget.ensures in
-    let puddles : c.pool.inside.puddles ≡ known.puddles = ap (λ (k : Known). k.puddles) view in
+    let F = c.args.frames in
     let old = g.H.Host.state c.args.h.now in
-    let new = g.H.Host.state c.new_object.new.h in
     let behind = memory_alone active.slot known.puddles memory in
+    let view = c.pool.view_is in
+    let puddles : c.pool.inside.puddles ≡ known.puddles = ap (λ (k : Known). k.puddles) view in
+    let so = known_so F active known memory its size w old ready in
+    let alone = subst (λ (ps : List (ℕ × Puddle)). IsActiveIn F active ps behind) (sym puddles) (active_alone F active known memory its) in
+    let then = ready_alone F active known memory its size w old ready in
+    let before = subst (λ (ps : List (ℕ × Puddle)). AreLiveBefore (stored_in F ps (reads old.now.words)) c.full_below-from.result) (sym puddles) (subst (AreLiveBefore (stored_in F known.puddles (reads old.now.words))) (sym c.full_below-from.ensures) so.full) in
     let line = New active.client active.name c.in-New.t in
-    let alone = subst (λ (ps : List (ℕ × Puddle)). IsActiveIn c.args.frames active ps behind) (sym puddles) (active_alone c.args.frames active known memory its) in
-    let made = c.new_object.ensures.applies t size e w behind alone (ready_alone c.args.frames active known memory its size w old ready) in
-    let on = subst (λ (ps : List (ℕ × Puddle)). AppliesFinishing active.slot (FinishesUnless (refusal_of w line) (FinishesTaken c.args.frames ps (reads old.now.words))) size w (world_by w (Some line))
-    (with_opened active.log_number active.slot now later behind) (fault_of c.new_object.result) old new) puddles made in
-    let asked = command_of_change c.args.change active.client active.name in
-    let by_change = subst (λ (change : Change). AppliesFinishing active.slot (FinishesUnless (refusal_of w (command_of_change change active.client active.name)) (Finishes c.args.frames known.puddles (reads old.now.words) change)) size w
-    (world_by w (Some (command_of_change change active.client active.name))) (with_opened active.log_number active.slot now later behind) (fault_of c.new_object.result) old new) (sym c.in-New.is) on in
-    subst (λ (m : Memory). AppliesFinishing active.slot (FinishesUnless (refusal_of w asked) (Finishes c.args.frames known.puddles (reads old.now.words) c.args.change)) size w (world_by w (Some asked)) m (fault_of c.new_object.result) old new)
-    (opened_alone active.log_number active.slot now known.puddles later memory ∙ ap (λ (k : Known). with_known active.log_number active.slot now k memory) (sym (ap (with_puddles later) view))) by_change
+    let left : Known = record { puddles = c.new_object.new.pool; index = option_map index_entries c.pool.inside.index; full_below = c.pool.inside.full_below } in
+    let made = c.in_err-made-in-New.ensures.applies t size e w behind alone then before in
+    subst (λ (change : Change). AppliesFinishing active.slot (FinishesUnless (refusal_of w (command_of_change change active.client active.name)) (Finishes F known.puddles (reads old.now.words) change)) size w
+    (world_by w (Some (command_of_change change active.client active.name))) (with_known active.log_number active.slot c.new_object.new.self left memory) (Some c.in_err-made-in-New.field-0.0) old (g.H.Host.state c.new_object.new.h)) (sym c.in-New.is)
+    (Applies-known F active known memory its size w old ready (FinishesUnless (refusal_of w line) (FinishesTaken F known.puddles (reads old.now.words))) (world_by w (Some line)) c.new_object.new.self c.new_object.new.pool left refl
+    (Some c.in_err-made-in-New.field-0.0) (g.H.Host.state c.new_object.new.h) (λ none. absurd (none-some _ (sym none)))
+    (subst (λ (ps : List (ℕ × Puddle)). AppliesFinishing active.slot (FinishesUnless (refusal_of w line) (FinishesTaken F ps (reads old.now.words))) size w (world_by w (Some line))
+    (with_opened active.log_number active.slot c.new_object.new.self c.new_object.new.pool behind) (Some c.in_err-made-in-New.field-0.0) old (g.H.Host.state c.new_object.new.h)) puddles made)))
+
+pub returns-in_ok-made-in-New-clause-reply : goal.returns-in_ok-made-in-New-clause-reply
+returns-in_ok-made-in-New-clause-reply g c = λ t size e w memory its ready.
+    let active = c.args.self.now in
+    let known = c.args.pool.now in
+    let F = c.args.frames in
+    let old = g.H.Host.state c.args.h.now in
+    let behind = memory_alone active.slot known.puddles memory in
+    let view = c.pool.view_is in
+    let puddles : c.pool.inside.puddles ≡ known.puddles = ap (λ (k : Known). k.puddles) view in
+    let so = known_so F active known memory its size w old ready in
+    let alone = subst (λ (ps : List (ℕ × Puddle)). IsActiveIn F active ps behind) (sym puddles) (active_alone F active known memory its) in
+    let then = ready_alone F active known memory its size w old ready in
+    let before = subst (λ (ps : List (ℕ × Puddle)). AreLiveBefore (stored_in F ps (reads old.now.words)) c.full_below-from.result) (sym puddles) (subst (AreLiveBefore (stored_in F known.puddles (reads old.now.words))) (sym c.full_below-from.ensures) so.full) in
+    let line = New active.client active.name c.in-New.t in
+    subst (λ (change : Change). of_reply c.reply_of_making.result ≡ answer_by w (Some (command_of_change change active.client active.name))) (sym c.in-New.is)
+    (ap of_reply c.reply_of_making.ensures ∙ c.in_ok-made-in-New.ensures.reply t size e w behind alone then before)
+
+pub returns-in_ok-made-in-New-clause-applies : goal.returns-in_ok-made-in-New-clause-applies
+returns-in_ok-made-in-New-clause-applies g c = λ t size e w memory its ready.
+    let active = c.args.self.now in
+    let known = c.args.pool.now in
+    let F = c.args.frames in
+    let old = g.H.Host.state c.args.h.now in
+    let behind = memory_alone active.slot known.puddles memory in
+    let view = c.pool.view_is in
+    let puddles : c.pool.inside.puddles ≡ known.puddles = ap (λ (k : Known). k.puddles) view in
+    let so = known_so F active known memory its size w old ready in
+    let alone = subst (λ (ps : List (ℕ × Puddle)). IsActiveIn F active ps behind) (sym puddles) (active_alone F active known memory its) in
+    let then = ready_alone F active known memory its size w old ready in
+    let before = subst (λ (ps : List (ℕ × Puddle)). AreLiveBefore (stored_in F ps (reads old.now.words)) c.full_below-from.result) (sym puddles) (subst (AreLiveBefore (stored_in F known.puddles (reads old.now.words))) (sym c.full_below-from.ensures) so.full) in
+    let line = New active.client active.name c.in-New.t in
+    let made = c.in_ok-made-in-New.ensures.applies t size e w behind alone then before in
+    let more = c.follow_making.new.pool in
+    let later = c.new_object.new.pool in
+    let follows = subst (λ (k : Known). FollowsMaking c.in_ok-made-in-New.made (with_puddles later k) more) view c.follow_making.ensures.follows in
+    let keeps = c.in_ok-made-in-New.ensures.keeps t size e w behind alone then before known (sym puddles) so more follows in
+    subst (λ (change : Change). AppliesFinishing active.slot (FinishesUnless (refusal_of w (command_of_change change active.client active.name)) (Finishes F known.puddles (reads old.now.words) change)) size w
+    (world_by w (Some (command_of_change change active.client active.name))) (with_known active.log_number active.slot c.new_object.new.self more memory) None old (g.H.Host.state c.new_object.new.h)) (sym c.in-New.is)
+    (Applies-known F active known memory its size w old ready (FinishesUnless (refusal_of w line) (FinishesTaken F known.puddles (reads old.now.words))) (world_by w (Some line)) c.new_object.new.self later more c.follow_making.ensures.puddles
+    None (g.H.Host.state c.new_object.new.h) (λ none. keeps)
+    (subst (λ (ps : List (ℕ × Puddle)). AppliesFinishing active.slot (FinishesUnless (refusal_of w line) (FinishesTaken F ps (reads old.now.words))) size w (world_by w (Some line))
+    (with_opened active.log_number active.slot c.new_object.new.self later behind) None old (g.H.Host.state c.new_object.new.h)) puddles made))
 
 pub returns-in-Update-clause-reply : goal.returns-in-Update-clause-reply
 returns-in-Update-clause-reply g c = λ t size e w memory its ready.

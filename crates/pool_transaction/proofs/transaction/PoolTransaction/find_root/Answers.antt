@@ -1,4 +1,5 @@
 use Rattle.std.proofs.Common.{refl, sym, ap, ◌∙◌}
+use Rattle.pm_model.proofs.Reading.{still_reads}
 use Rattle.ready_daemon.specs.Memory.{ActiveTransaction}
 use Rattle.ready_daemon.proofs.PoolChanges.InTurn.{active_known}
 use Rattle.pool_transaction.proofs.Lifetimes.ActiveAlone.{known_so}
@@ -19,13 +20,17 @@ returns-in-Some-room_refusal-clause-refusal g c = λ t size w memory its ready.
     (sym (active_known size w memory _ ready c.args.self.now.log_number c.args.self.now its.there c.args.pool.now.puddles (ap puddles_known its.known)))
     c.args.s c.units.result c.in-Some.word (λ placed. sym (c.in_ok-word.ensures.word t placed.legal _ refl (known_so c.args.frames c.args.self.now c.args.pool.now memory its size w (g.H.Host.state c.args.h.now) ready)) ∙ c.in-Some.is) (c.units.ensures.units ∙ ap (λ (h : ActiveTransaction). h.tx.units) c.self.view_is)
 
-pub returns-in-None-clause-refusal : goal.returns-in-None-clause-refusal
-returns-in-None-clause-refusal g c = λ t size w memory its ready.
-    sym c.in-None.is ∙ c.room_refusal.ensures.refusal
+pub returns-clause-refusal : goal.returns-clause-refusal
+returns-clause-refusal g c = λ t size w memory its ready.
+    sym c.in_default-room_refusal.is ∙ c.room_refusal.ensures.refusal
     ∙ refused_to_root size w memory _ ready c.args.self.now c.args.self.now.log_number its.there c.args.frames c.args.pool.now.puddles (sym its.frames ∙ ready.frames)
     (sym (active_known size w memory _ ready c.args.self.now.log_number c.args.self.now its.there c.args.pool.now.puddles (ap puddles_known its.known)))
     c.args.s c.units.result c.in-Some.word (λ placed. sym (c.in_ok-word.ensures.word t placed.legal _ refl (known_so c.args.frames c.args.self.now c.args.pool.now memory its size w (g.H.Host.state c.args.h.now) ready)) ∙ c.in-Some.is) (c.units.ensures.units ∙ ap (λ (h : ActiveTransaction). h.tx.units) c.self.view_is)
 
-pub returns-in-None-clause-found : goal.returns-in-None-clause-found
-returns-in-None-clause-found g c = λ t image same known placed.
+pub returns-clause-found : goal.returns-clause-found
+returns-clause-found g c = λ t image same known placed.
     record { s = c.args.s; is = refl; found = sym (c.in_ok-word.ensures.word t placed.legal image same known) ∙ c.in-Some.is }
+
+pub returns-clause-read : goal.returns-clause-read
+returns-clause-read g c = λ t image same known placed graph stored.
+    record { is = refl; holds = c.in_ok-was.ensures.root t image (still_reads c.word_known.ensures.only_reads t same) graph stored }

@@ -5,7 +5,7 @@ use Rattle.pm_model.specs.Words.{reads}
 use Rattle.pud_defs.specs.declared.records.Puddle.{Puddle}
 use Rattle.pud_defs.specs.PoolGraphs.Stored.{IsOnDevice}
 use Rattle.pud_defs.specs.StateMachine.Step.{refusal_of, after}
-use Rattle.known_pool.specs.Known.{IsKnown}
+use Rattle.known_pool.specs.Known.{IsKnown, with_puddles}
 use Rattle.lazy_rewrite.proofs.Spared.{HaveMoved}
 use Rattle.pool_transaction.specs.Changing.{IsActiveIn, with_opened, command_of_update}
 use Rattle.ready_daemon.specs.Memory.{ActiveTransaction}
@@ -66,7 +66,7 @@ returns-clause-keeps g c = λ t update size e w memory its ready free found grap
     let later = c.finish.new.pool in
     let old = g.H.Host.state c.args.h.now in
     let new = g.H.Host.state c.carry_out-done.new.h in
-    subst (λ (h : ActiveTransaction). IsActiveIn c.args.frames h at memory → refusal_of w (command_of_update update h.client h.name) ≡ None → fault_of c.carry_out-done.result ≡ None → IsKnown c.args.frames (reads new.now.words) next)
+    subst (λ (h : ActiveTransaction). IsActiveIn c.args.frames h at memory → refusal_of w (command_of_update update h.client h.name) ≡ None → fault_of c.carry_out-done.result ≡ None → IsKnown c.args.frames (reads new.now.words) (with_puddles later next))
     c.self.view_is
     (λ its free none.
     Known-updated size w memory active old c.args.frames at its ready update o later (g.H.Host.state c.finish.new.h) c.args.found c.ordinal_written.ensures c.in_ok-finish.ensures.pool (c.in_ok-finish.ensures.rewrites t size e)

@@ -3,13 +3,13 @@ use Rattle.std.proofs.lemmas.Option.{none-some}
 use Rattle.std.proofs.lemmas.Result.{err_from_is_err_and}
 use Rattle.pm_model.proofs.Reading.{still_size}
 use Rattle.pm_model.specs.Words.{reads}
+use Rattle.pm_model.specs.Moments.{State}
 use Rattle.pud_defs.specs.declared.records.Puddle.{Puddle}
 use Rattle.pud_defs.specs.StateMachine.Step.{refusal_of, world_by}
-use Rattle.pud_defs.specs.PoolGraphs.Stored.{IsOnDevice}
 use Rattle.pud_defs.proofs.StateMachine.Steps.{refused_answer}
 use Rattle.known_pool.specs.Known.{Known, with_puddles}
 use Rattle.registry.specs.Places.{refusal_in}
-use Rattle.pool_transaction.specs.Changing.{with_known, command_of_update, IsFoundWithin, FollowsUpdate}
+use Rattle.pool_transaction.specs.Changing.{with_known, command_of_update, IsFoundWithin}
 use Rattle.ready_daemon.specs.Memory.{Memory}
 use Rattle.ready_daemon.specs.Ready.{IsReady}
 use Rattle.ready_daemon.proofs.Commands.Applying.{Applies-stopped, Applies-refused}
@@ -44,18 +44,28 @@ returns-in-Err-clause-applies g c = λ t size e w memory its ready.
     (subst (λ (m : Memory). IsReady size w m (g.H.Host.state c.args.h.now)) (sym (known_on c.args.frames active c.args.pool.now memory its)) ready)
     refused (c.in_ok-found.ensures.only_reads.stays t))
 
+pub follow-requires-clause-within : goal.follow-requires-clause-within
+follow-requires-clause-within g c = rw c.in-Ok.is at c.in_ok-found.ensures.within
+
 pub update-requires-clause-found : goal.update-requires-clause-found
 update-requires-clause-found g c =
-    let puddles : c.pool.inside.puddles ≡ c.args.pool.now.puddles = ap (λ (k : Known). k.puddles) c.pool.view_is in
+    let puddles : c.pool.inside.puddles ≡ c.args.pool.now.puddles = ap (λ (k : Known). k.puddles) c.pool.view_is ∙ c.in_ok-follow.ensures.puddles in
     subst (λ (at : List (ℕ × Puddle)). IsFoundWithin at c.in-Ok.found) (sym puddles) (rw c.in-Ok.is at c.in_ok-found.ensures.within)
-
-pub returns-clause-known : goal.returns-clause-known
-returns-clause-known g c = subst (IsOnDevice c.args.frames) (sym c.follow.ensures.puddles) c.in_ok-update.ensures.known
 
 pub returns-clause-reply : goal.returns-clause-reply
 returns-clause-reply g c = λ t size w memory its ready.
     let active = c.args.self.now in
     change_answer active.client active.name w c.args.update (sym (c.in_ok-found.ensures.refusal t size w memory its ready) ∙ ap refusal_in c.in-Ok.is)
+
+pub returns-in_err-follow-clause-applies : goal.returns-in_err-follow-clause-applies
+returns-in_err-follow-clause-applies g c =
+    let p = err_from_is_err_and c.from_residual-in_err-follow.result c.from_residual-in_err-follow.ensures.1 in
+    rw (p.1, p.2) (λ t size e w memory its ready.
+    let active = c.args.self.now in
+    let k = c.in_err-follow.ensures.only_reads in
+    finishing_failed active.slot (FinishesUnless (refusal_of w (command_of_update c.args.update active.client active.name)) (FinishesFor c.args.frames c.args.pool.now.puddles (reads (g.H.Host.state c.args.h.now).now.words) c.args.update)) size w _ _ _ _ _ k.never_cut
+    (Applies-stopped size w (world_by w (Some (command_of_update c.args.update active.client active.name))) memory (with_known active.log_number active.slot active c.follow.new.pool memory) c.in_err-follow.field-0.0 _ _
+    ready (k.stays t ∙ c.in_ok-found.ensures.only_reads.stays t) (λ cut. absurd (k.never_cut cut))))
 
 pub returns-in_err-update-clause-applies : goal.returns-in_err-update-clause-applies
 returns-in_err-update-clause-applies g c =
@@ -66,10 +76,12 @@ returns-in_err-update-clause-applies g c =
     let F = c.args.frames in
     let old = g.H.Host.state c.args.h.now in
     let k = c.in_ok-found.ensures in
+    let f = c.in_ok-follow.ensures in
     let free = sym (k.refusal t size w memory its ready) ∙ ap refusal_in c.in-Ok.is in
     let by = rw c.in-Ok.is at (k.found t (reads old.now.words) refl (known_so F active known memory its size w old ready) (placed_on F active known memory its size w old ready)) in
     Applies-found F active known memory its size w old ready c.args.update c.in-Ok.found free (rw c.in-Ok.is at k.within) by c.pool.inside.puddles c.update.new.pool c.update.new.self _ (Some c.in_err-update.field-0.0) _ _
-    (ap (λ (x : Known). x.puddles) c.pool.view_is) refl (k.only_reads.stays t) (c.in_err-update.ensures.applies t c.args.update size (still_size k.only_reads e) w) (λ none. absurd (none-some _ (sym none))))
+    (ap (λ (x : Known). x.puddles) c.pool.view_is ∙ f.puddles) refl (f.only_reads.stays t ∙ k.only_reads.stays t)
+    (c.in_err-update.ensures.applies t c.args.update size (still_size f.only_reads (still_size k.only_reads e)) w) (λ none. absurd (none-some _ (sym none))))
 
 pub returns-clause-applies : goal.returns-clause-applies
 returns-clause-applies g c = λ t size e w memory its ready.
@@ -78,13 +90,18 @@ returns-clause-applies g c = λ t size e w memory its ready.
     let F = c.args.frames in
     let old = g.H.Host.state c.args.h.now in
     let k = c.in_ok-found.ensures in
+    let f = c.in_ok-follow.ensures in
     let u = c.in_ok-update.ensures in
-    let same = still_size k.only_reads e in
+    let same = still_size f.only_reads (still_size k.only_reads e) in
     let placed = placed_on F active known memory its size w old ready in
+    let so = known_so F active known memory its size w old ready in
+    let seen = seen_on F active known memory its size w old ready in
+    let stored = stored_on F active known memory its size w old ready in
     let free = sym (k.refusal t size w memory its ready) ∙ ap refusal_in c.in-Ok.is in
-    let by = rw c.in-Ok.is at (k.found t (reads old.now.words) refl (known_so F active known memory its size w old ready) placed) in
-    let read = rw c.in-Ok.is at (k.read t (reads old.now.words) refl (known_so F active known memory its size w old ready) placed (seen_on F active known memory its size w old ready) (stored_on F active known memory its size w old ready)) in
-    Applies-followed F active known memory its size w old ready c.args.update c.in-Ok.found free (rw c.in-Ok.is at k.within) by c.pool.inside.puddles c.update.new.pool c.update.new.self c.follow.new.pool None _ _
-    (ap (λ (x : Known). x.puddles) c.pool.view_is) c.follow.ensures.puddles (k.only_reads.stays t) (u.applies t c.args.update size same w)
+    let by = rw c.in-Ok.is at (k.found t (reads old.now.words) refl so placed) in
+    let read = rw c.in-Ok.is at (k.read t (reads old.now.words) refl so placed seen stored) in
+    Applies-followed F active known memory its size w old ready c.args.update c.in-Ok.found free (rw c.in-Ok.is at k.within) by c.pool.inside.puddles c.update.new.pool c.update.new.self c.follow.new.pool
+    _ None _ _
+    (ap (λ (x : Known). x.puddles) c.pool.view_is ∙ f.puddles) (ap (with_puddles c.update.new.pool) c.pool.view_is) (f.only_reads.stays t ∙ k.only_reads.stays t) (u.applies t c.args.update size same w)
     (u.keeps t c.args.update size same w) read
-    (subst (λ (x : Known). FollowsUpdate c.in-Ok.found x c.follow.new.pool) (ap (with_puddles c.update.new.pool) c.pool.view_is) c.follow.ensures.follows)
+    (f.follows t (reads old.now.words) (ap (λ (s : State). reads s.now.words) (k.only_reads.stays t)) c.args.update seen stored so by read)

@@ -1,0 +1,95 @@
+-- What is known of a pool is so behind an object that is made in its lowest free slot, and behind a puddle that comes.
+use Rattle.std.proofs.Common.{◌≡◌, ℕ, ◌+◌, ◌≤◌, List, Some, None, Result, Ok, Err, refl, sym, ap, subst, ◌∙◌, arith}
+use Rattle.std.specs.Prelude.{IfOk}
+use Rattle.std.proofs.lemmas.List.{length-map}
+use Rattle.pm_model.specs.declared.host.HostFault.{HostFault}
+use Rattle.pm_model.specs.Words.{reads}
+use Rattle.pm_model.specs.Moments.{State}
+use Rattle.pud_defs.specs.declared.layout.TheConstants.{LOG_WORDS}
+use Rattle.pud_defs.specs.declared.records.Puddle.{Puddle}
+use Rattle.pud_defs.specs.declared.records.Slot.{Slot}
+use Rattle.pud_defs.specs.declared.space.TheConstants.{SLOT_SERIAL_WORD}
+use Rattle.pud_defs.specs.Formats.Geometry.{ordinal_of, slot_of, puddle_slot_at}
+use Rattle.pud_defs.specs.Formats.Image.{Image}
+use Rattle.pud_defs.specs.Formats.Layout.{device_words, frames_at}
+use Rattle.pud_defs.specs.Logging.Replay.{overwritten}
+use Rattle.pud_defs.specs.PoolGraphs.Graph.{Graph, graph_of, next_serial_of}
+use Rattle.pud_defs.specs.PoolGraphs.GraphChanges.{blank_object, with_new}
+use Rattle.pud_defs.specs.PoolGraphs.Stored.{Stored, stored_in, place_word}
+use Rattle.pud_defs.specs.RegistryTables.Types.{map_of, types_of}
+use Rattle.pud_defs.proofs.PoolGraphs.Graphs.{graph_of-each}
+use Rattle.graph_laws.specs.Changes.{IsMade}
+use Rattle.graph_laws.specs.Slots.{IsLowestFreeSlot}
+use Rattle.puddle_header.specs.Places.{place_of_slot, IsSlotOf}
+use Rattle.hybrid_tx.specs.PoolScopes.{ArePlacedPuddles}
+use Rattle.hybrid_tx.specs.Objects.Stores.{new_object_write}
+use Rattle.hybrid_tx.specs.Objects.Transactions.{MakesIn}
+use Rattle.hybrid_tx.proofs.PoolScope.{is_scope}
+use Rattle.hybrid_tx.proofs.Objects.ObjectsMade.{made}
+use Rattle.hybrid_tx.proofs.Objects.Opening.{stored_in-has_word}
+use Rattle.known_pool.specs.Known.{Known, IsKnown}
+use Rattle.known_pool.proofs.KnownChanged.{IsKnown-made}
+use Rattle.known_pool.proofs.KnownKept.{KeepsSerials}
+use Rattle.pool_transaction.specs.Changing.{FollowsMade}
+
+-- what a call owes of its result holds where it holds of each
+pub ok_there : {X : Type 0} (done : Result X HostFault) (P : X → Type 0) → ((x : X) → done ≡ Ok x → P x) → IfOk done P
+ok_there (Ok x) P told = told x refl
+ok_there (Err fault) P told = tt
+
+-- the lowest free slot is the same where each slot has the serial that it had
+pub lowest_kept : (F : ℕ) (at later : List (ℕ × Puddle)) (before after : Image) → KeepsSerials F at later before after → (p : ℕ) → IsLowestFreeSlot (stored_in F at before) p → IsLowestFreeSlot (stored_in F later after) p
+lowest_kept F at later before after keeps p lowest =
+    let low = lowest.within in
+    let many = length-map at (λ (e : ℕ × Puddle). e.1) in
+    let later_many = length-map later (λ (e : ℕ × Puddle). e.1) in
+    let count = keeps.count in
+    record {
+      within = omega (arith, low, many, later_many, count);
+      free = keeps.each p (omega (arith, low, many)) ∙ lowest.free;
+      live_before = λ q below free. lowest.live_before q below (sym (keeps.each q (omega (arith, below, low, many))) ∙ free);
+    }
+
+module _ (types : List (ℕ × ℕ)) (F : ℕ) (at : List (ℕ × Puddle)) (log : ℕ) (slot : Slot) (of : IsSlotOf at slot) (type_id m : ℕ) (old new : State) (placed : ArePlacedPuddles F at) (apart : log + LOG_WORDS ≤ frames_at F)
+    (makes : MakesIn F at log slot type_id None old new) (lowest : IsLowestFreeSlot (stored_in F at (reads old.now.words)) (place_of_slot slot)) (defined : map_of type_id types ≡ Some m) where
+  abbrev image : Image
+  image = reads old.now.words
+
+  abbrev st : Stored
+  st = stored_in F at image
+
+  abbrev p : ℕ
+  p = place_of_slot slot
+
+  abbrev after : Image
+  after = overwritten (new_object_write F makes.first.0 slot (next_serial_of st) type_id) image
+
+  same_stored : stored_in F at (reads new.now.words) ≡ stored_in F at after
+  same_stored = stored_in-has_word F at after (reads new.now.words) (λ k mine. makes.now refl k ((is_scope F (device_words F) log at placed (omega arith) apart).apart k mine))
+
+  its : IsMade types st (stored_in F at after).word p type_id m
+  its = made types F at image placed makes.first makes.head slot of (next_serial_of st) type_id m lowest.free refl defined
+
+  serial_there : place_word (stored_in F at (reads new.now.words)) p SLOT_SERIAL_WORD ≡ next_serial_of st
+  serial_there = ap (λ (s : Stored). place_word s p SLOT_SERIAL_WORD) same_stored ∙ its.serial_word
+
+  serials_stay : (q : ℕ) → (q ≡ p → ⊥) → place_word (stored_in F at (reads new.now.words)) q SLOT_SERIAL_WORD ≡ place_word st q SLOT_SERIAL_WORD
+  serials_stay q other =
+      ap (λ (s : Stored). place_word s q SLOT_SERIAL_WORD) same_stored
+      ∙ its.others (ordinal_of q) (puddle_slot_at (slot_of q) + SLOT_SERIAL_WORD)
+      (λ ordinal low high. other (omega (arith, ordinal, low, high))) (λ first next. absurd (omega (arith, next)))
+
+  -- what is known of the pool is so then, where the object is kept too
+  pub Known-made : (known : Known) → known.puddles ≡ at → IsKnown F image known → types_of image ≡ types → types_of (reads new.now.words) ≡ types → (g : Graph) → graph_of types st ≡ Some g
+      → graph_of types (stored_in F at (reads new.now.words)) ≡ Some (with_new (blank_object type_id m) g) → (serial : ℕ) → serial ≡ g.next_serial → (next : Known) → FollowsMade serial slot known next → IsKnown F (reads new.now.words) next
+  Known-made known puddles so types_old types_new g stored grown serial is next follows =
+      let same_next : next_serial_of st ≡ g.next_serial = ap (λ (k : Graph). k.next_serial) (graph_of-each types st g stored).is in
+      let lent : at ≡ known.puddles = sym puddles in
+      let stored_old : graph_of (types_of image) (stored_in F known.puddles image) ≡ Some g = (λ i. graph_of (types_old i) (stored_in F (puddles i) image)) ∙ stored in
+      let grown_old : graph_of (types_of image) (stored_in F known.puddles (reads new.now.words)) ≡ Some (with_new (blank_object type_id m) g) = (λ i. graph_of (types_old i) (stored_in F (puddles i) (reads new.now.words))) ∙ grown in
+      let below = of.below in
+      IsKnown-made F known next image (reads new.now.words) g follows.puddles (types_new ∙ sym types_old) stored_old so type_id m slot grown_old
+      (subst (λ (ps : List (ℕ × Puddle)). IsLowestFreeSlot (stored_in F ps image) p) lent lowest)
+      (ap (λ (ps : List (ℕ × Puddle)). place_word (stored_in F ps (reads new.now.words)) p SLOT_SERIAL_WORD) puddles ∙ serial_there ∙ same_next)
+      (λ q other. ap (λ (ps : List (ℕ × Puddle)). place_word (stored_in F ps (reads new.now.words)) q SLOT_SERIAL_WORD) puddles ∙ serials_stay q other ∙ sym (ap (λ (ps : List (ℕ × Puddle)). place_word (stored_in F ps image) q SLOT_SERIAL_WORD) puddles))
+      (subst (λ (n : ℕ). FollowsMade n slot known next) is follows).index follows.full below
