@@ -265,9 +265,9 @@ pub record MakesBehind (F : ℕ) (at later : List (ℕ × Puddle)) (gate : ℕ) 
   pub makes : ((fault ≡ first) × ((first ≢ None) × (new ≡ mid))) ⊎ MakesIn F later gate slot id fault mid new
 
 -- the reply to the line that makes it: its serial, or why none is made
-abbrev pub reply_of_making : Result Made Refusal → Reply
-reply_of_making (Ok made) = replies.Ref made.serial
-reply_of_making (Err why) = replies.No why
+abbrev pub reply_of_new_object : Result Made Refusal → Reply
+reply_of_new_object (Ok made) = replies.Ref made.serial
+reply_of_new_object (Err why) = replies.No why
 
 -- What is kept has the object of the serial in the slot too, before which each slot is live.
 pub record FollowsMade (serial : ℕ) (slot : Slot) (old new : Known) : Type 0 where

@@ -32,7 +32,7 @@ ghost use Rattle.ready_daemon.specs.Memory.{Memory};
 ghost use Rattle.ready_daemon.specs.ActiveTransactions.{IsActiveWithin};
 ghost use Rattle.registry.specs.Adding.{IsAddedWithin};
 ghost use Rattle.registry.specs.Places.{refusal_in};
-ghost use Rattle.pool_transaction.specs.Changing.{IsActiveIn, IsActiveWith, with_opened, with_known, command_of_change, command_of_update, changed_by, IsLegalChange, IsLegalUpdate, ordinal_written, IsFoundWithin, IsFoundBy, IsReadOf, SparesSerials, FollowsUpdate, MayChange, StaysOpen, refusal_to_make, refusal_by_tables, GrowsBy, refusal_by_world, with_puddle_added, with_made, both_finished, MakesBehind, FollowsMade, FollowsMaking, reply_of_making};
+ghost use Rattle.pool_transaction.specs.Changing.{IsActiveIn, IsActiveWith, with_opened, with_known, command_of_change, command_of_update, changed_by, IsLegalChange, IsLegalUpdate, ordinal_written, IsFoundWithin, IsFoundBy, IsReadOf, SparesSerials, FollowsUpdate, MayChange, StaysOpen, refusal_to_make, refusal_by_tables, GrowsBy, refusal_by_world, with_puddle_added, with_made, both_finished, MakesBehind, FollowsMade, FollowsMaking, reply_of_new_object};
 ghost use Rattle.pool_transaction.specs.Finishing.{end_of, FinishesFor, FinishesLowest, FinishesTaken, Finishes, FinishesUnless, IsLonger, AppliesTo, AppliesFinishing};
 ghost use Rattle.ready_daemon.specs.Moves.{led_in};
 ghost use Rattle.ready_daemon.specs.Ready.{KeepsRest, IsReady, Applies};
@@ -109,8 +109,8 @@ pub(crate) struct Made {
 }
 
 /// The reply to a line that makes an object: its serial, or why none is made.
-fn reply_of_making(made: Result<Made, Refusal>) -> Reply
-    ensures { result ≡ reply_of_making made }
+fn reply_of_new_object(made: Result<Made, Refusal>) -> Reply
+    ensures { result ≡ reply_of_new_object made }
 {
     match made {
         Ok(made) => Reply::Ref(made.serial),
@@ -257,7 +257,7 @@ fn follow_making(pool: &mut KnownPool, made: Result<Made, Refusal>)
 }
 
 /// The lowest free slot of the pool, or None where each slot is live. It is looked for from one place on: each place before that is live.
-fn free_slot<H: Host>(
+fn find_free_slot<H: Host>(
     h: &mut H,
     frames: u32,
     pool: &[(u32, Puddle)],
@@ -518,7 +518,7 @@ impl PoolTransaction {
         requires within { IsActiveWithin frames self.old }
         requires known { IsOnDevice frames pool.old }
         ensures reply { H.tells → (size : ℕ) → size ≡ (H.counts h.old).size → (w : World) → (memory : Memory) → IsActiveIn frames self.old pool.old memory → IsReady size w memory (H.state h.old) → refusal_by_world w self.old t ≡ Option.None → grows w (self.old).name ≡ true
-            → IfOk result (λ made. of_reply (reply_of_making made) ≡ answer_by w (Option.Some (commands.New (self.old).client (self.old).name t))) }
+            → IfOk result (λ made. of_reply (reply_of_new_object made) ≡ answer_by w (Option.Some (commands.New (self.old).client (self.old).name t))) }
         ensures applies { H.tells → (size : ℕ) → size ≡ (H.counts h.old).size → (w : World) → (memory : Memory) → IsActiveIn frames self.old pool.old memory → IsReady size w memory (H.state h.old) → refusal_by_world w self.old t ≡ Option.None → grows w (self.old).name ≡ true
             → AppliesFinishing (self.old).slot (FinishesUnless (refusal_of w (commands.New (self.old).client (self.old).name t)) (FinishesTaken frames pool.old (reads (H.state h.old).now.words))) size w (world_by w (Option.Some (commands.New (self.old).client (self.old).name t))) (with_opened (self.old).log_number (self.old).slot self.new pool.new memory) (fault_of result)
             (H.state h.old) (H.state h.new) }
@@ -540,7 +540,7 @@ impl PoolTransaction {
         let from = places_among(pool.as_slice().len() as u32);
         self.grow(h, frames, pool, added)?;
         // The puddle that came is free, so there is a slot.
-        let Some(at) = free_slot(h, frames, pool.as_slice(), from)? else {
+        let Some(at) = find_free_slot(h, frames, pool.as_slice(), from)? else {
             return Ok(Err(Refusal::Full));
         };
         let serial = self.make_object(h, frames, pool, &at, t)?;
@@ -565,7 +565,7 @@ impl PoolTransaction {
         requires within { IsActiveWithin frames self.old }
         requires known { IsOnDevice frames pool.old }
         ensures reply { H.tells → (size : ℕ) → size ≡ (H.counts h.old).size → (w : World) → (memory : Memory) → IsActiveIn frames self.old pool.old memory → IsReady size w memory (H.state h.old) → AreLiveBefore (stored_in frames pool.old (reads (H.state h.old).now.words)) from
-            → IfOk result (λ made. of_reply (reply_of_making made) ≡ answer_by w (Option.Some (commands.New (self.old).client (self.old).name t))) }
+            → IfOk result (λ made. of_reply (reply_of_new_object made) ≡ answer_by w (Option.Some (commands.New (self.old).client (self.old).name t))) }
         ensures applies { H.tells → (size : ℕ) → size ≡ (H.counts h.old).size → (w : World) → (memory : Memory) → IsActiveIn frames self.old pool.old memory → IsReady size w memory (H.state h.old) → AreLiveBefore (stored_in frames pool.old (reads (H.state h.old).now.words)) from
             → AppliesFinishing (self.old).slot (FinishesUnless (refusal_of w (commands.New (self.old).client (self.old).name t)) (FinishesTaken frames pool.old (reads (H.state h.old).now.words))) size w (world_by w (Option.Some (commands.New (self.old).client (self.old).name t))) (with_opened (self.old).log_number (self.old).slot self.new pool.new memory) (fault_of result)
             (H.state h.old) (H.state h.new) }
@@ -583,7 +583,7 @@ impl PoolTransaction {
         if let Some(refusal) = self.find_refusal_to_make(h, frames, pool.as_slice(), t)? {
             return Ok(Err(refusal));
         }
-        match free_slot(h, frames, pool.as_slice(), from)? {
+        match find_free_slot(h, frames, pool.as_slice(), from)? {
             Some(at) => {
                 let serial = self.make_object(h, frames, pool, &at, t)?;
                 Ok(Ok(Made { serial, at }))
@@ -627,7 +627,7 @@ impl PoolTransaction {
                 let from = pool.full_below();
                 let made = self.new_object(h, frames, &mut pool.puddles, from, t)?;
                 follow_making(pool, made);
-                Ok(reply_of_making(made))
+                Ok(reply_of_new_object(made))
             }
             Change::Update(update) => self.update_or_refuse(h, frames, pool, update),
         }

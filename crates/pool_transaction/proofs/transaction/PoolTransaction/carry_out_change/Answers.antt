@@ -57,8 +57,8 @@ returns-in_ok-made-in-New-clause-reply g c = λ t size e w memory its ready.
     let then = ready_alone F active known memory its size w old ready in
     let before = subst (λ (ps : List (ℕ × Puddle)). AreLiveBefore (stored_in F ps (reads old.now.words)) c.full_below-from.result) (sym puddles) (subst (AreLiveBefore (stored_in F known.puddles (reads old.now.words))) (sym c.full_below-from.ensures) so.full) in
     let line = New active.client active.name c.in-New.t in
-    subst (λ (change : Change). of_reply c.reply_of_making.result ≡ answer_by w (Some (command_of_change change active.client active.name))) (sym c.in-New.is)
-    (ap of_reply c.reply_of_making.ensures ∙ c.in_ok-made-in-New.ensures.reply t size e w behind alone then before)
+    subst (λ (change : Change). of_reply c.reply_of_new_object.result ≡ answer_by w (Some (command_of_change change active.client active.name))) (sym c.in-New.is)
+    (ap of_reply c.reply_of_new_object.ensures ∙ c.in_ok-made-in-New.ensures.reply t size e w behind alone then before)
 
 pub returns-in_ok-made-in-New-clause-applies : goal.returns-in_ok-made-in-New-clause-applies
 returns-in_ok-made-in-New-clause-applies g c = λ t size e w memory its ready.

@@ -63,8 +63,8 @@ returns-in_err-grow-clause-applies g c =
     (end_of_both (length c.args.pool.now)) (finishes_more c.args.frames c.args.pool.now (reads old.now.words) live) c.grow.new.pool c.in_err-grow.field-0.0 _ _
     (c.in_ok-added.ensures.only_reads.stays t) (λ ready_then may. c.in_err-grow.ensures.grows t size same w memory its ready_then may))
 
-pub free_slot-requires-clause-known : goal.free_slot-requires-clause-known
-free_slot-requires-clause-known g c = subst (IsOnDevice c.args.frames) (sym c.as_slice-3.ensures.puddles) c.in_ok-grow.ensures.known
+pub find_free_slot-requires-clause-known : goal.find_free_slot-requires-clause-known
+find_free_slot-requires-clause-known g c = subst (IsOnDevice c.args.frames) (sym c.as_slice-3.ensures.puddles) c.in_ok-grow.ensures.known
 
 pub returns-in_err-at-clause-applies : goal.returns-in_err-at-clause-applies
 returns-in_err-at-clause-applies g c =

@@ -53,8 +53,8 @@ returns-in-Some-clause-keeps g c = λ t size e w memory its ready before kept pu
     subst (IsKnown c.args.frames (reads (g.H.Host.state c.find_refusal_to_make.new.h).now.words)) (sym (follows ∙ ap (λ (ps : List (ℕ × Puddle)). with_puddles ps kept) (sym puddles)))
     (subst (λ (s : State). IsKnown c.args.frames (reads s.now.words) kept) (sym (c.in_ok-refusal.ensures.only_reads.stays t)) so)
 
-pub free_slot-requires-clause-known : goal.free_slot-requires-clause-known
-free_slot-requires-clause-known g c = subst (IsOnDevice c.args.frames) (sym c.as_slice-2.ensures.puddles) c.requires.known
+pub find_free_slot-requires-clause-known : goal.find_free_slot-requires-clause-known
+find_free_slot-requires-clause-known g c = subst (IsOnDevice c.args.frames) (sym c.as_slice-2.ensures.puddles) c.requires.known
 
 pub make_object-requires-clause-slot : goal.make_object-requires-clause-slot
 make_object-requires-clause-slot g c =
@@ -82,7 +82,7 @@ returns-in_err-serial-in-Some-2-clause-applies g c =
     refusal_found size w memory active old active.log_number its.there ready c.args.t F frames c.as_slice.result.now (c.as_slice.ensures.puddles ∙ sym (active_known size w memory _ ready active.log_number active its.there at (ap puddles_known its.known))) c.in_ok-refusal.field-0 None (c.in_ok-refusal.ensures.refusal t (reads old.now.words) refl) c.in_default.is in
     let before_then = subst (λ (ps : List (ℕ × Puddle)). AreLiveBefore (stored_in F ps (reads start.now.words)) c.args.from) (sym c.as_slice-2.ensures.puddles) (subst (λ (s : State). AreLiveBefore (stored_in F at (reads s.now.words)) c.args.from) (sym still) before) in
     let read = c.in_ok-at.ensures.only_reads.stays t in
-    let begin = g.H.Host.state c.free_slot.new.h in
+    let begin = g.H.Host.state c.find_free_slot.new.h in
     let then = subst (λ (s : State). IsReady size w memory s) (sym (read ∙ still)) ready in
     let lowest = subst (λ (ps : List (ℕ × Puddle)). IsLowestFreeSlot (stored_in F ps (reads start.now.words)) (place_of_slot c.in-Some-2.at)) c.as_slice-2.ensures.puddles
     (subst (λ found. IfSome found (λ slot. IsLowestFreeSlot (stored_in F c.as_slice-2.result.now (reads start.now.words)) (place_of_slot slot))) c.in-Some-2.is (c.in_ok-at.ensures.free t (reads start.now.words) refl before_then)) in
@@ -105,7 +105,7 @@ returns-in_ok-serial-in-Some-2-clause-reply g c = λ t size e w memory its ready
     refusal_found size w memory active old active.log_number its.there ready c.args.t F frames c.as_slice.result.now (c.as_slice.ensures.puddles ∙ sym (active_known size w memory _ ready active.log_number active its.there at (ap puddles_known its.known))) c.in_ok-refusal.field-0 None (c.in_ok-refusal.ensures.refusal t (reads old.now.words) refl) c.in_default.is in
     let before_then = subst (λ (ps : List (ℕ × Puddle)). AreLiveBefore (stored_in F ps (reads start.now.words)) c.args.from) (sym c.as_slice-2.ensures.puddles) (subst (λ (s : State). AreLiveBefore (stored_in F at (reads s.now.words)) c.args.from) (sym still) before) in
     let read = c.in_ok-at.ensures.only_reads.stays t in
-    let begin = g.H.Host.state c.free_slot.new.h in
+    let begin = g.H.Host.state c.find_free_slot.new.h in
     let then = subst (λ (s : State). IsReady size w memory s) (sym (read ∙ still)) ready in
     let lowest = subst (λ (ps : List (ℕ × Puddle)). IsLowestFreeSlot (stored_in F ps (reads start.now.words)) (place_of_slot c.in-Some-2.at)) c.as_slice-2.ensures.puddles
     (subst (λ found. IfSome found (λ slot. IsLowestFreeSlot (stored_in F c.as_slice-2.result.now (reads start.now.words)) (place_of_slot slot))) c.in-Some-2.is (c.in_ok-at.ensures.free t (reads start.now.words) refl before_then)) in
@@ -126,7 +126,7 @@ returns-in_ok-serial-in-Some-2-clause-applies g c = λ t size e w memory its rea
     refusal_found size w memory active old active.log_number its.there ready c.args.t F frames c.as_slice.result.now (c.as_slice.ensures.puddles ∙ sym (active_known size w memory _ ready active.log_number active its.there at (ap puddles_known its.known))) c.in_ok-refusal.field-0 None (c.in_ok-refusal.ensures.refusal t (reads old.now.words) refl) c.in_default.is in
     let before_then = subst (λ (ps : List (ℕ × Puddle)). AreLiveBefore (stored_in F ps (reads start.now.words)) c.args.from) (sym c.as_slice-2.ensures.puddles) (subst (λ (s : State). AreLiveBefore (stored_in F at (reads s.now.words)) c.args.from) (sym still) before) in
     let read = c.in_ok-at.ensures.only_reads.stays t in
-    let begin = g.H.Host.state c.free_slot.new.h in
+    let begin = g.H.Host.state c.find_free_slot.new.h in
     let then = subst (λ (s : State). IsReady size w memory s) (sym (read ∙ still)) ready in
     let lowest = subst (λ (ps : List (ℕ × Puddle)). IsLowestFreeSlot (stored_in F ps (reads start.now.words)) (place_of_slot c.in-Some-2.at)) c.as_slice-2.ensures.puddles
     (subst (λ found. IfSome found (λ slot. IsLowestFreeSlot (stored_in F c.as_slice-2.result.now (reads start.now.words)) (place_of_slot slot))) c.in-Some-2.is (c.in_ok-at.ensures.free t (reads start.now.words) refl before_then)) in
@@ -149,7 +149,7 @@ returns-in_ok-serial-in-Some-2-clause-keeps g c = λ t size e w memory its ready
     refusal_found size w memory active old active.log_number its.there ready c.args.t F frames c.as_slice.result.now (c.as_slice.ensures.puddles ∙ sym (active_known size w memory _ ready active.log_number active its.there at (ap puddles_known its.known))) c.in_ok-refusal.field-0 None (c.in_ok-refusal.ensures.refusal t (reads old.now.words) refl) c.in_default.is in
     let before_then = subst (λ (ps : List (ℕ × Puddle)). AreLiveBefore (stored_in F ps (reads start.now.words)) c.args.from) (sym c.as_slice-2.ensures.puddles) (subst (λ (s : State). AreLiveBefore (stored_in F at (reads s.now.words)) c.args.from) (sym still) before) in
     let read = c.in_ok-at.ensures.only_reads.stays t in
-    let begin = g.H.Host.state c.free_slot.new.h in
+    let begin = g.H.Host.state c.find_free_slot.new.h in
     let then = subst (λ (s : State). IsReady size w memory s) (sym (read ∙ still)) ready in
     let lowest = subst (λ (ps : List (ℕ × Puddle)). IsLowestFreeSlot (stored_in F ps (reads start.now.words)) (place_of_slot c.in-Some-2.at)) c.as_slice-2.ensures.puddles
     (subst (λ found. IfSome found (λ slot. IsLowestFreeSlot (stored_in F c.as_slice-2.result.now (reads start.now.words)) (place_of_slot slot))) c.in-Some-2.is (c.in_ok-at.ensures.free t (reads start.now.words) refl before_then)) in
@@ -170,13 +170,13 @@ returns-in-None-clause-reply g c = λ t size e w memory its ready before.
     refusal_found size w memory active old active.log_number its.there ready c.args.t F frames c.as_slice.result.now (c.as_slice.ensures.puddles ∙ sym (active_known size w memory _ ready active.log_number active its.there at (ap puddles_known its.known))) c.in_ok-refusal.field-0 None (c.in_ok-refusal.ensures.refusal t (reads old.now.words) refl) c.in_default.is in
     let before_then = subst (λ (ps : List (ℕ × Puddle)). AreLiveBefore (stored_in F ps (reads start.now.words)) c.args.from) (sym c.as_slice-2.ensures.puddles) (subst (λ (s : State). AreLiveBefore (stored_in F at (reads s.now.words)) c.args.from) (sym still) before) in
     let read = c.in_ok-at.ensures.only_reads.stays t in
-    let begin = g.H.Host.state c.free_slot.new.h in
+    let begin = g.H.Host.state c.find_free_slot.new.h in
     let then = subst (λ (s : State). IsReady size w memory s) (sym (read ∙ still)) ready in
     let full = subst (λ (ps : List (ℕ × Puddle)). AreAllLive (stored_in F ps (reads start.now.words))) c.as_slice-2.ensures.puddles
     (subst (λ found. IfNone found (AreAllLive (stored_in F c.as_slice-2.result.now (reads start.now.words)))) c.in-None.is (c.in_ok-at.ensures.full t (reads start.now.words) refl before_then)) in
     let full_then = subst (λ (s : State). AreAllLive (stored_in F at (reads s.now.words))) (sym read) full in
     let more = was_full size w memory active begin active.log_number its.there then c.args.t none F frames at its.known full_then in
-    let same : size ≡ (g.H.Host.counts c.free_slot.new.h).size = still_size c.in_ok-at.ensures.only_reads (still_size c.in_ok-refusal.ensures.only_reads e) in
+    let same : size ≡ (g.H.Host.counts c.find_free_slot.new.h).size = still_size c.in_ok-at.ensures.only_reads (still_size c.in_ok-refusal.ensures.only_reads e) in
     c.make_in_new_puddle.ensures.reply t size same w memory its then none more
 
 pub returns-in-None-clause-applies : goal.returns-in-None-clause-applies
@@ -192,13 +192,13 @@ returns-in-None-clause-applies g c = λ t size e w memory its ready before.
     refusal_found size w memory active old active.log_number its.there ready c.args.t F frames c.as_slice.result.now (c.as_slice.ensures.puddles ∙ sym (active_known size w memory _ ready active.log_number active its.there at (ap puddles_known its.known))) c.in_ok-refusal.field-0 None (c.in_ok-refusal.ensures.refusal t (reads old.now.words) refl) c.in_default.is in
     let before_then = subst (λ (ps : List (ℕ × Puddle)). AreLiveBefore (stored_in F ps (reads start.now.words)) c.args.from) (sym c.as_slice-2.ensures.puddles) (subst (λ (s : State). AreLiveBefore (stored_in F at (reads s.now.words)) c.args.from) (sym still) before) in
     let read = c.in_ok-at.ensures.only_reads.stays t in
-    let begin = g.H.Host.state c.free_slot.new.h in
+    let begin = g.H.Host.state c.find_free_slot.new.h in
     let then = subst (λ (s : State). IsReady size w memory s) (sym (read ∙ still)) ready in
     let full = subst (λ (ps : List (ℕ × Puddle)). AreAllLive (stored_in F ps (reads start.now.words))) c.as_slice-2.ensures.puddles
     (subst (λ found. IfNone found (AreAllLive (stored_in F c.as_slice-2.result.now (reads start.now.words)))) c.in-None.is (c.in_ok-at.ensures.full t (reads start.now.words) refl before_then)) in
     let full_then = subst (λ (s : State). AreAllLive (stored_in F at (reads s.now.words))) (sym read) full in
     let more = was_full size w memory active begin active.log_number its.there then c.args.t none F frames at its.known full_then in
-    let same : size ≡ (g.H.Host.counts c.free_slot.new.h).size = still_size c.in_ok-at.ensures.only_reads (still_size c.in_ok-refusal.ensures.only_reads e) in
+    let same : size ≡ (g.H.Host.counts c.find_free_slot.new.h).size = still_size c.in_ok-at.ensures.only_reads (still_size c.in_ok-refusal.ensures.only_reads e) in
     subst (λ (s : State). AppliesFinishing active.slot (FinishesUnless (refusal_of w (New active.client active.name c.args.t)) (FinishesTaken F at (reads s.now.words))) size w (world_by w (Some (New active.client active.name c.args.t))) (with_opened active.log_number active.slot c.make_in_new_puddle.new.self c.make_in_new_puddle.new.pool memory) (fault_of c.make_in_new_puddle.result) s (g.H.Host.state c.make_in_new_puddle.new.h)) (read ∙ still)
     (c.make_in_new_puddle.ensures.applies t size same w memory its then none more)
 
@@ -215,13 +215,13 @@ returns-in-None-clause-keeps g c = λ t size e w memory its ready before kept pu
     refusal_found size w memory active old active.log_number its.there ready c.args.t F frames c.as_slice.result.now (c.as_slice.ensures.puddles ∙ sym (active_known size w memory _ ready active.log_number active its.there at (ap puddles_known its.known))) c.in_ok-refusal.field-0 None (c.in_ok-refusal.ensures.refusal t (reads old.now.words) refl) c.in_default.is in
     let before_then = subst (λ (ps : List (ℕ × Puddle)). AreLiveBefore (stored_in F ps (reads start.now.words)) c.args.from) (sym c.as_slice-2.ensures.puddles) (subst (λ (s : State). AreLiveBefore (stored_in F at (reads s.now.words)) c.args.from) (sym still) before) in
     let read = c.in_ok-at.ensures.only_reads.stays t in
-    let begin = g.H.Host.state c.free_slot.new.h in
+    let begin = g.H.Host.state c.find_free_slot.new.h in
     let then = subst (λ (s : State). IsReady size w memory s) (sym (read ∙ still)) ready in
     let full = subst (λ (ps : List (ℕ × Puddle)). AreAllLive (stored_in F ps (reads start.now.words))) c.as_slice-2.ensures.puddles
     (subst (λ found. IfNone found (AreAllLive (stored_in F c.as_slice-2.result.now (reads start.now.words)))) c.in-None.is (c.in_ok-at.ensures.full t (reads start.now.words) refl before_then)) in
     let full_then = subst (λ (s : State). AreAllLive (stored_in F at (reads s.now.words))) (sym read) full in
     let more = was_full size w memory active begin active.log_number its.there then c.args.t none F frames at its.known full_then in
-    let same : size ≡ (g.H.Host.counts c.free_slot.new.h).size = still_size c.in_ok-at.ensures.only_reads (still_size c.in_ok-refusal.ensures.only_reads e) in
+    let same : size ≡ (g.H.Host.counts c.find_free_slot.new.h).size = still_size c.in_ok-at.ensures.only_reads (still_size c.in_ok-refusal.ensures.only_reads e) in
     c.make_in_new_puddle.ensures.keeps t size same w memory its then none more kept puddles (subst (λ (s : State). IsKnown F (reads s.now.words) kept) (sym (read ∙ still)) so)
 
 pub returns-in_ok-serial-in-Some-2-clause-slot : goal.returns-in_ok-serial-in-Some-2-clause-slot
