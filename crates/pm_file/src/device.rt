@@ -17,8 +17,9 @@ use std::os::unix::fs::FileExt;
 pub(crate) struct Device<F> {
     file: DeviceFile<F>,
     pub(crate) words: DeviceWords,
-    /// Whether the file may hold something else than the durable words in the unsettled lines.
-    pub(crate) is_behind: bool,
+    /// Whether a write or a sync of the file failed. After that no fence succeeds: the system may count bytes as written that never
+    /// reached the disk, and a later sync that succeeds does not tell.
+    pub(crate) has_failed: bool,
     pub(crate) armed: Option<Armed>,
     /// Whether a power loss could not be written, which the next device call answers.
     pub(crate) owes_fault: bool,
@@ -35,7 +36,7 @@ impl<F: FileExt + OpenFile> Device<F> {
         Device {
             file,
             words,
-            is_behind: false,
+            has_failed: false,
             armed: None,
             owes_fault: false,
             tally: Tally::new(),
@@ -50,6 +51,7 @@ impl<F: FileExt + OpenFile> Device<F> {
         ensures words { self.new.words ≡ self.old.words }
         ensures armed { self.new.armed ≡ self.old.armed }
         ensures owed { self.new.owes_fault ≡ self.old.owes_fault }
+        ensures lasting { self.new.has_failed ≡ self.old.has_failed }
     {
         self.tally.fault()
     }
@@ -68,6 +70,7 @@ impl<F: FileExt + OpenFile> Device<F> {
             ≡ slice_index self.old.words.rows.newest.items word) }
         ensures words { self.new.words ≡ self.old.words }
         ensures armed { self.new.armed ≡ self.old.armed }
+        ensures lasting { self.new.has_failed ≡ self.old.has_failed }
     {
         self.pay_fault()?;
         Ok(self.words.load(word))
@@ -87,6 +90,7 @@ impl<F: FileExt + OpenFile> Device<F> {
         ensures stopped { Stops (fault_of result) self.old.armed self.old.words self.new.words }
         ensures stored { fault_of result ≡ Option.None → TakesWord word value
             self.old.words.rows.newest.items self.new.words.rows.newest.items }
+        ensures lasting { self.old.has_failed ≡ true → self.new.has_failed ≡ true }
     {
         self.begin_step()?;
         if self.words.store(word, value).is_err() {
@@ -110,6 +114,7 @@ impl<F: FileExt + OpenFile> Device<F> {
         ensures marked { fault_of result ≡ Option.None → TakesLine line
             self.old.words.rows.newest.items
             self.old.words.rows.marked.items self.new.words.rows.marked.items }
+        ensures lasting { self.old.has_failed ≡ true → self.new.has_failed ≡ true }
     {
         self.begin_step()?;
         self.words.flush(line);
@@ -121,7 +126,7 @@ impl<F: FileExt + OpenFile> Device<F> {
     ///
     /// # Errors
     ///
-    /// Those of `store`, and `Failed` where the file could not be written or synced: the next fence writes it again.
+    /// Those of `store`, and `Failed` if the file could not be written or synced, in this call or in an earlier one.
     pub(crate) fn fence(&mut self) -> Result<(), HostFault>
         ensures cause { counts_of (8 * self.new.words.lines) self.new.tally
             ≡ after_fault (fault_of result) (counts_of (8 * self.old.words.lines) self.old.tally) }
@@ -129,6 +134,8 @@ impl<F: FileExt + OpenFile> Device<F> {
         ensures stopped { Stops (fault_of result) self.old.armed self.old.words self.new.words }
         ensures durable { fault_of result ≡ Option.None
             → AreSame self.new.words.rows.durable.items self.old.words.rows.marked.items }
+        ensures whole { fault_of result ≡ Option.None → self.new.has_failed ≡ false }
+        ensures lasting { self.old.has_failed ≡ true → self.new.has_failed ≡ true }
     {
         self.begin_step()?;
         if !self.settle() {
@@ -144,6 +151,7 @@ impl<F: FileExt + OpenFile> Device<F> {
             ≡ after_loss_of pick (counts_of (8 * self.old.words.lines) self.old.tally) }
         ensures armed { self.new.armed ≡ self.old.armed }
         ensures lost { LosesWords pick self.old.words self.new.words }
+        ensures lasting { self.old.has_failed ≡ true → self.new.has_failed ≡ true }
     {
         self.lose(pick);
         self.tally.loss(pick);
@@ -155,6 +163,7 @@ impl<F: FileExt + OpenFile> Device<F> {
             ≡ after_arm steps pick (counts_of (8 * self.old.words.lines) self.old.tally) }
         ensures armed { self.new.armed ≡ Option.Some (record { steps = steps; pick = pick }) }
         ensures words { self.new.words ≡ self.old.words }
+        ensures lasting { self.new.has_failed ≡ self.old.has_failed }
     {
         self.armed = Some(Armed { steps, pick });
         self.tally.arm(steps, pick);
@@ -169,6 +178,7 @@ impl<F: FileExt + OpenFile> Device<F> {
         ensures paid { self.new.owes_fault ≡ false }
         ensures words { self.new.words ≡ self.old.words }
         ensures armed { self.new.armed ≡ self.old.armed }
+        ensures lasting { self.new.has_failed ≡ self.old.has_failed }
     {
         if self.owes_fault {
             self.owes_fault = false;
@@ -187,6 +197,7 @@ impl<F: FileExt + OpenFile> Device<F> {
         ensures fires { fault_of result ≡ Option.Some HostFault.Cut → self.new.armed ≡ Option.None }
         ensures kept { fault_of result ≡ Option.None → self.new.words ≡ self.old.words }
         ensures stopped { Stops (fault_of result) self.old.armed self.old.words self.new.words }
+        ensures lasting { self.old.has_failed ≡ true → self.new.has_failed ≡ true }
     {
         self.pay_fault()?;
         match self.armed {
@@ -204,6 +215,7 @@ impl<F: FileExt + OpenFile> Device<F> {
         ensures words { self.new.words ≡ self.old.words }
         ensures tally { self.new.tally ≡ self.old.tally }
         ensures armed { self.new.armed ≡ counted_down self.old.armed }
+        ensures lasting { self.new.has_failed ≡ self.old.has_failed }
     {
         if self.armed.is_some() {
             self.armed = counted_down(self.armed);
@@ -216,6 +228,7 @@ impl<F: FileExt + OpenFile> Device<F> {
         ensures tally { self.new.tally ≡ self.old.tally }
         ensures armed { self.new.armed ≡ self.old.armed }
         ensures lost { LosesWords pick self.old.words self.new.words }
+        ensures lasting { self.old.has_failed ≡ true → self.new.has_failed ≡ true }
     {
         self.words.rows.choose(pick);
         if !self.settle() {
@@ -224,7 +237,7 @@ impl<F: FileExt + OpenFile> Device<F> {
         }
     }
 
-    // Makes what is marked durable once the file has it, or nothing where the file failed, and says which.
+    // Makes what is marked durable once the file has it, or nothing if the file failed, now or earlier, and says which.
     fn settle(&mut self) -> bool
         ensures size { self.new.words.lines ≡ self.old.words.lines }
         ensures tally { self.new.tally ≡ self.old.tally }
@@ -235,7 +248,8 @@ impl<F: FileExt + OpenFile> Device<F> {
             → AreSame self.new.words.rows.durable.items self.old.words.rows.marked.items }
         ensures unwritten { result ≡ false
             → self.new.words.rows.durable ≡ self.old.words.rows.durable }
-        ensures behind { self.new.is_behind ≡ not result }
+        ensures failed { self.new.has_failed ≡ not result }
+        ensures lasting { self.old.has_failed ≡ true → self.new.has_failed ≡ true }
     {
         let is_written = self.write();
         if is_written {
@@ -245,7 +259,7 @@ impl<F: FileExt + OpenFile> Device<F> {
         is_written
     }
 
-    // Writes the marked words of the unsettled lines, and says whether the file surely has them.
+    // Writes the marked words of the unsettled lines, and says whether the file surely has them. After a failure it writes no more.
     fn write(&mut self) -> bool
         ensures size { self.new.words.lines ≡ self.old.words.lines }
         ensures tally { self.new.tally ≡ self.old.tally }
@@ -253,12 +267,14 @@ impl<F: FileExt + OpenFile> Device<F> {
         ensures durable { self.new.words.rows.durable ≡ self.old.words.rows.durable }
         ensures marked { self.new.words.rows.marked ≡ self.old.words.rows.marked }
         ensures newest { self.new.words.rows.newest ≡ self.old.words.rows.newest }
-        ensures behind { self.new.is_behind ≡ not result }
+        ensures failed { self.new.has_failed ≡ not result }
+        ensures lasting { self.old.has_failed ≡ true → self.new.has_failed ≡ true }
     {
         self.words.rows.sort_unsettled();
-        let is_written = self.file.write_due(&self.words, self.is_behind).is_ok();
-        self.is_behind = !is_written;
-        is_written
+        if !self.has_failed {
+            self.has_failed = self.file.write_due(&self.words).is_err();
+        }
+        !self.has_failed
     }
 }
 

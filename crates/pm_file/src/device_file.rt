@@ -1,12 +1,13 @@
 //! The file that keeps the device's durable words, each as eight bytes with the lowest first.
-ghost use Rattle.std.specs.Prelude.{◌≡◌, ◌*◌, ◌≤◌, vec_len, IfOk};
+ghost use Rattle.std.specs.Prelude.{◌≡◌, ◌*◌, ◌<◌, ◌≤◌, vec_len, IfOk};
 ghost use Rattle.pm_file.specs.Spelling.{ReadsWords};
 
 use crate::device_words::DeviceWords;
+use crate::folder;
 use crate::line_run::{LINE_BYTES, LineRun};
 use crate::reading::read_words;
 use crate::storage_fault::StorageFault;
-use pm_rows::LINE_WORDS;
+use pm_rows::{DeviceRows, LINE_WORDS};
 use std::fs::{File, OpenFile};
 use std::io;
 use std::io::{ErrorKind, Read};
@@ -19,6 +20,8 @@ pub(crate) struct DeviceFile<F> {
     pub(crate) file: F,
     /// Whether it is shorter than the device. The first write makes it as long.
     is_short: bool,
+    /// The lines up to which it has no hole. Zeroes that were never written need no room on the disk, until a later word is written.
+    filled: u32,
     /// Room for lines that are written together: made once, since its bytes are many and a fence has few lines.
     run: LineRun,
 }
@@ -31,6 +34,7 @@ impl<F> DeviceFile<F> {
         DeviceFile {
             file,
             is_short,
+            filled: 0,
             run: LineRun::new(),
         }
     }
@@ -42,8 +46,8 @@ impl<F> DeviceFile<F> {
 ///
 /// # Errors
 ///
-/// `Memory` where memory for the words was refused, `Failed` where the file could not be opened, made, locked, read or
-/// synced: it may be locked since it is open as a device already.
+/// `Memory` if memory for the words was refused, `Failed` if the file could not be opened, made, locked or read, or is no plain
+/// file: it may be locked since it is open as a device already.
 pub(crate) fn open<R: Files<File = File>>(
     runtime: &R,
     path: &str,
@@ -54,11 +58,8 @@ pub(crate) fn open<R: Files<File = File>>(
     ensures { vec_len words.new ≤ 8 * lines }
 {
     match File::options().read(true).write(true).open(runtime, path) {
-        Ok(file) => {
-            file.try_lock()?;
-            read_durable(file, lines, words)
-        }
-        Err(error) if error.kind() == ErrorKind::NotFound => Ok(make(runtime, path, lines)?),
+        Ok(file) => read_device(hold(file)?, lines, words),
+        Err(error) if error.kind() == ErrorKind::NotFound => make(runtime, path, lines),
         Err(error) => Err(StorageFault::from(error)),
     }
 }
@@ -68,11 +69,18 @@ fn make<R: Files<File = File>>(
     runtime: &R,
     path: &str,
     lines: u32,
-) -> io::Result<DeviceFile<File>> {
-    let file = File::create_new(runtime, path)?;
-    file.try_lock()?;
+) -> Result<DeviceFile<File>, StorageFault> {
+    let file = hold(folder::make_file(runtime, path)?)?;
     file.set_len(device_bytes(lines))?;
     Ok(DeviceFile::new(file, false))
+}
+
+// Locks the file, and keeps a second handle of it alone. A file that is opened gets the lowest descriptor that is free: if a standard
+// stream is closed, that of the stream, and then replies would be written into the device. A second handle never gets one of these.
+fn hold(opened: File) -> Result<File, StorageFault> {
+    let file = opened.try_clone()?;
+    file.try_lock()?;
+    Ok(file)
 }
 
 // The bytes of a device of so many lines.
@@ -82,8 +90,8 @@ fn device_bytes(lines: u32) -> u64
     u64::from(lines) * LINE_BYTES as u64
 }
 
-// Reads the words of the file, and then has it synced: another process may have written them and ended before its sync.
-fn read_durable<F: Read + OpenFile + Drop>(
+// Reads the words of the file, which has to be a plain one: a pipe has no end and no places.
+fn read_device<F: Read + OpenFile + Drop>(
     mut file: F,
     lines: u32,
     words: &mut Vec<u64>,
@@ -93,34 +101,86 @@ fn read_durable<F: Read + OpenFile + Drop>(
         (F.remaining file) (F.remaining read.file) words.new.items) }
     ensures len { vec_len words.new ≤ 8 * lines }
 {
+    let about = file.metadata()?;
+    if !about.is_file() {
+        return Err(StorageFault::Failed);
+    }
     read_words(&mut file, lines as usize * LINE_WORDS, words)?;
-    let is_short = file.metadata()?.len() < device_bytes(lines);
-    file.sync_data()?;
-    Ok(DeviceFile::new(file, is_short))
+    Ok(DeviceFile::new(file, about.len() < device_bytes(lines)))
 }
 
 impl<F: FileExt + OpenFile> DeviceFile<F> {
-    /// Writes the marked words of each unsettled line that is due, or of each of them where the file is behind, neighbours
-    /// together, and syncs the file's data. Where there is none it does nothing.
+    /// Writes each word of the device again, as it was read, and syncs the file's data. What is read of a file need not be on the disk: if
+    /// an earlier sync failed, the system may keep the bytes in memory and count them as written, so that the next sync succeeds and
+    /// writes nothing. Only what is written before a sync that succeeds is durable.
+    ///
+    /// # Errors
+    ///
+    /// A write or the sync failed.
+    pub(crate) fn write_again(&mut self, words: &DeviceWords) -> io::Result<()> {
+        let length = self.file.metadata()?.len();
+        self.run.clear();
+        self.fill(&words.rows, words.rows.lines)?;
+        self.run.write(&self.file)?;
+        self.write_zeroes(words.rows.lines, words.lines, length)?;
+        self.file.sync_data()
+    }
+
+    // Makes the bytes zero from a line on, to the end of the device. The file is cut off there and gets the length again that it had, so
+    // that zeroes that were never written need no room on the disk. If bytes stand past the device, these are kept, and the zeroes are written.
+    fn write_zeroes(&mut self, first: u32, lines: u32, length: u64) -> io::Result<()> {
+        if length <= device_bytes(lines) {
+            self.file.set_len(device_bytes(first))?;
+            return self.file.set_len(length);
+        }
+        for line in first..lines {
+            self.run.put(&self.file, line, &[0; LINE_WORDS])?;
+        }
+        self.run.write(&self.file)
+    }
+
+    /// Writes the marked words of each unsettled line that is due, neighbours together, and syncs the file's data. If no line is due
+    /// it does nothing. Holes before a line are filled with it: so a start, which writes all of them, wants no room that this call had not.
     ///
     /// # Errors
     ///
     /// A write or the sync failed: each of the lines may hold its marked words or not.
-    pub(crate) fn write_due(&mut self, words: &DeviceWords, is_behind: bool) -> io::Result<()> {
+    pub(crate) fn write_due(&mut self, words: &DeviceWords) -> io::Result<()> {
         let rows = &words.rows;
-        let run = &mut self.run;
-        run.clear();
+        self.run.clear();
         let mut is_written = false;
         for line in rows.unsettled.as_slice() {
-            if is_behind || rows.is_due(*line) {
-                run.put(&self.file, *line, &rows.marked_line(*line))?;
+            if rows.is_due(*line) {
+                self.put_filled(rows, *line)?;
                 is_written = true;
             }
         }
         if is_written {
-            run.write(&self.file)?;
+            self.run.write(&self.file)?;
             self.finish(words.lines)?;
         }
+        Ok(())
+    }
+
+    // Has a line wait to be written, and before it those that are not filled.
+    fn put_filled(&mut self, rows: &DeviceRows, line: u32) -> io::Result<()>
+        requires { line < rows.now.lines }
+    {
+        if line < self.filled {
+            self.run.put(&self.file, line, &rows.marked_line(line))
+        } else {
+            self.fill(rows, line + 1)
+        }
+    }
+
+    // Has the lines wait to be written that are not filled, up to this end.
+    fn fill(&mut self, rows: &DeviceRows, end: u32) -> io::Result<()>
+        requires { end ≤ rows.now.lines }
+    {
+        for line in self.filled..end {
+            self.run.put(&self.file, line, &rows.marked_line(line))?;
+        }
+        self.filled = end;
         Ok(())
     }
 

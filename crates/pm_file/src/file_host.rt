@@ -7,7 +7,7 @@ use crate::device::Device;
 use crate::device_words::DeviceWords;
 use crate::script::Script;
 use crate::storage_fault::StorageFault;
-use crate::{device_file, shelf};
+use crate::{device_file, folder, shelf};
 use pm_model::{FileFault, Host, HostFault};
 use pm_rows::LINE_WORDS;
 use std::alloc::Global;
@@ -35,7 +35,7 @@ impl<R: Files<File = File> + Input + Print + Clone + Drop> FileHost<R> {
     ///
     /// # Errors
     ///
-    /// `Memory` where memory was refused, `Host(Failed)` where the file could not be opened, made, locked, read or synced,
+    /// `Memory` if memory was refused, `Host(Failed)` if the file could not be opened, made, locked, read, written or synced,
     /// as where it is open as a device already.
     pub fn open(runtime: &R, alloc: Global) -> Result<FileHost<R>, FileFault>
         ensures fresh { IfOk result (λ host. ⟦<FileHost<R> as Host>⟧.counts host ≡ fresh_counts 2139648) }
@@ -55,8 +55,10 @@ impl<R: Files<File = File> + Input + Print + Clone + Drop> FileHost<R> {
     {
         let runtime = runtime.clone()?;
         let mut words = Vec::with_capacity(alloc, DEVICE_LINES as usize * LINE_WORDS)?;
-        let file = device_file::open(&runtime, DEVICE_PATH, DEVICE_LINES, &mut words)?;
+        let mut file = device_file::open(&runtime, DEVICE_PATH, DEVICE_LINES, &mut words)?;
+        folder::sync(&runtime)?;
         let words = DeviceWords::new(alloc, DEVICE_LINES, words)?;
+        file.write_again(&words)?;
         let script = Script::new(alloc, runtime.reader())?;
         Ok(FileHost {
             runtime,

@@ -8,6 +8,7 @@ mod device_words;
 #[cfg(test)]
 mod fake_file;
 mod file_host;
+mod folder;
 mod line_run;
 mod reading;
 mod script;

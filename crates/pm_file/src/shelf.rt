@@ -1,6 +1,7 @@
 //! The shelf: the files `<name>.pud` of the current folder.
 ghost use Rattle.std.specs.Prelude.{◌≤◌, vec_len, IfOk, IfSome};
 
+use crate::folder;
 use crate::reading::read_once;
 use crate::storage_fault::StorageFault;
 use pm_model::FILE_READ_LIMIT;
@@ -35,13 +36,15 @@ pub(crate) fn get<R: Files>(
     }
 }
 
-/// Replaces the whole file of that name: the bytes are written and synced under a name of their own, `<name>.pud.new`, and then renamed. So where
-/// power is lost meanwhile the file has its old bytes or the new ones.
+/// Replaces the whole file of that name. The bytes are written and synced under another name, `<name>.pud.new`, the new file is renamed, and the
+/// folder is synced: at `Ok` the file has the new bytes durably, and if power is lost before that, it has its old bytes or the new ones. What has
+/// the other name already, as a run that was killed leaves it, is removed first.
 ///
 /// # Errors
 ///
-/// `Memory` where memory was refused, `Failed` where the bytes could not be written, synced or renamed, which may leave the file of the other name
-/// behind, or where the name is none of a file in the folder. All leave the file as it was.
+/// `Memory` if memory was refused. `Failed` if the name is none of a file in the folder, or if the bytes could not be written, synced or renamed:
+/// the file is as it was, and one of the other name may be left. `Failed` also if the folder could not be synced: the file has the new bytes, but
+/// perhaps not durably.
 pub(crate) fn put<R: Files>(
     runtime: &R,
     alloc: Global,
@@ -53,10 +56,11 @@ pub(crate) fn put<R: Files>(
     }
     let path = format!(in alloc; "{name}.pud")?;
     let fresh = format!(in alloc; "{name}.pud.new")?;
-    let mut file = fs::create(runtime, fresh.as_str())?;
+    let mut file = folder::remake_file(runtime, fresh.as_str())?;
     file.write_all(bytes)?;
     file.sync_data()?;
     fs::rename(runtime, fresh.as_str(), path.as_str())?;
+    folder::sync(runtime)?;
     Ok(())
 }
 

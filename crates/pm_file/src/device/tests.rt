@@ -1,7 +1,7 @@
 use super::Device;
 use crate::device_file::DeviceFile;
 use crate::device_words::DeviceWords;
-use crate::fake_file::{BYTES, FakeFile};
+use crate::fake_file::{BYTES, FakeFile, NEVER_WRITTEN};
 use pm_model::HostFault;
 use std::alloc::Global;
 use std::fs::OpenFile;
@@ -26,6 +26,8 @@ enum Call {
     RefuseSync(bool),
     /// Looks at a byte of the file.
     Byte(usize),
+    /// Looks at a byte of the disk that the file is on.
+    Disk(usize),
 }
 
 /// The answer of a call that gives nothing.
@@ -90,6 +92,10 @@ fn answer(rt: &impl Abort, device: &mut Device<FakeFile>, call: Call) -> u64 {
             assert!(rt; at < BYTES);
             u64::from(device.file.file.bytes.get()[at])
         }
+        Call::Disk(at) => {
+            assert!(rt; at < BYTES);
+            u64::from(device.file.file.disk.get()[at])
+        }
     }
 }
 
@@ -104,22 +110,28 @@ fn answers(rt: &impl Abort, alloc: Global, rows: &[(Call, u64)]) {
     }
 }
 
-// A fence that fails may have written some lines, so the next one writes them again, also with the old values.
+// A sync that fails leaves it open what is on the disk, and one that succeeds after it does not tell.
 #[test]
-fn a_fence_writes_again_what_a_failed_one_left_unsure(rt: HostRuntime) {
-    let rows = [
-        (Call::Put(0, 1), DONE),
-        (Call::Put(8, 2), DONE),
-        (Call::RefuseSync(true), DONE),
-        (Call::Fence, FAILED),
-        (Call::Byte(64), 2),
-        (Call::Put(8, 0), DONE),
-        (Call::RefuseSync(false), DONE),
-        (Call::Fence, DONE),
-        (Call::Byte(0), 1),
-        (Call::Byte(64), 0),
-    ];
-    answers(&rt, rt.alloc(), &rows);
+fn no_fence_succeeds_after_one_that_failed(rt: HostRuntime) {
+    for refuses_sync in [false, true] {
+        let rows = [
+            (Call::Put(0, 1), DONE),
+            (Call::RefuseSync(refuses_sync), DONE),
+            (Call::RefuseWrite(!refuses_sync), DONE),
+            (Call::Fence, FAILED),
+            (Call::RefuseSync(false), DONE),
+            (Call::RefuseWrite(false), DONE),
+            (Call::Fence, FAILED),
+            (Call::Put(8, 2), DONE),
+            (Call::Fence, FAILED),
+            (Call::Byte(64), 0),
+            (Call::Cut(0), DONE),
+            (Call::Load(0), FAILED),
+            (Call::Load(0), 0),
+            (Call::Fence, FAILED),
+        ];
+        answers(&rt, rt.alloc(), &rows);
+    }
 }
 
 #[test]
@@ -132,8 +144,8 @@ fn a_cut_that_is_not_written_fails_the_next_call(rt: HostRuntime) {
         (Call::Load(0), 1),
         (Call::RefuseWrite(false), DONE),
         (Call::Byte(0), 0),
-        (Call::Fence, DONE),
-        (Call::Byte(0), 1),
+        (Call::Fence, FAILED),
+        (Call::Byte(0), 0),
     ];
     answers(&rt, rt.alloc(), &rows);
 }
@@ -175,6 +187,22 @@ fn a_cut_keeps_values_by_its_pick(rt: HostRuntime) {
         ];
         answers(&rt, rt.alloc(), &rows);
     }
+}
+
+// What was never written before a word is written with it, and what comes after is not.
+#[test]
+fn a_fence_leaves_no_hole_before_what_it_writes(rt: HostRuntime) {
+    let never = u64::from(NEVER_WRITTEN);
+    let rows = [
+        (Call::Put(40, 3), DONE),
+        (Call::Disk(0), never),
+        (Call::Fence, DONE),
+        (Call::Disk(0), 0),
+        (Call::Disk(319), 0),
+        (Call::Disk(320), 3),
+        (Call::Disk(384), never),
+    ];
+    answers(&rt, rt.alloc(), &rows);
 }
 
 #[test]

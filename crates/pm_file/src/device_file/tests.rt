@@ -1,5 +1,6 @@
-use super::read_durable;
-use crate::fake_file::{BYTES, FakeFile};
+use super::{DeviceFile, read_device};
+use crate::device_words::DeviceWords;
+use crate::fake_file::{BYTES, FakeFile, NEVER_WRITTEN};
 use crate::storage_fault::StorageFault;
 use std::alloc::Global;
 use std::process::Abort;
@@ -17,7 +18,7 @@ fn written_file() -> FakeFile {
 fn are_read(rt: &impl Abort, alloc: Global, lines: u32, want: &[u64], is_short: bool) {
     let mut words = Vec::new(alloc);
     assert!(rt; words.is_empty());
-    match read_durable(written_file(), lines, &mut words) {
+    match read_device(written_file(), lines, &mut words) {
         Ok(file) => assert!(rt; file.is_short == is_short, "{lines} lines"),
         Err(_) => assert!(rt; false, "{lines} lines"),
     }
@@ -45,21 +46,61 @@ fn words_are_read_up_to_the_last_that_is_not_zero(rt: HostRuntime) {
     are_read(&rt, rt.alloc(), 2_000, &all, true);
 }
 
-// Its words count as durable, so they have to be synced.
+/// What a start makes of a file that is the device of so many lines, at most 2,000.
+fn started(
+    alloc: Global,
+    file: FakeFile,
+    lines: u32,
+) -> Result<DeviceFile<FakeFile>, StorageFault> {
+    let lines = lines.min(2_000);
+    let mut first = Vec::new(alloc);
+    if !first.is_empty() {
+        return Err(StorageFault::Failed);
+    }
+    let mut file = read_device(file, lines, &mut first)?;
+    let words = DeviceWords::new(alloc, lines, first)?;
+    file.write_again(&words)?;
+    Ok(file)
+}
+
+/// The disk has the file's bytes up to this one, and was not written from there on.
+fn are_on_disk(rt: &impl Abort, file: &FakeFile, end: usize) {
+    let bytes = file.bytes.get();
+    let disk = file.disk.get();
+    for at in 0..BYTES {
+        let want = if at < end { bytes[at] } else { NEVER_WRITTEN };
+        assert!(rt; disk[at] == want, "byte {at} of {end}");
+    }
+}
+
+// No sync has told of any byte of the file, and so each of the device's has to reach the disk. What stands past it stays.
 #[test]
-fn a_file_that_is_not_read_or_synced_is_refused(rt: HostRuntime) {
-    for refuses_sync in [false, true] {
+fn what_is_read_reaches_the_disk(rt: HostRuntime) {
+    for (lines, end) in [(1, 64), (2, 128), (8, 512), (16, BYTES), (17, BYTES)] {
+        match started(rt.alloc(), written_file(), lines) {
+            Ok(file) => {
+                assert!(&rt;
+                    file.file.bytes.get() == written_file().bytes.get(),
+                    "{lines} lines"
+                );
+                are_on_disk(&rt, &file.file, end);
+            }
+            Err(_) => assert!(&rt; false, "{lines} lines"),
+        }
+    }
+}
+
+// Its words count as durable, so they have to be read, written and synced.
+#[test]
+fn a_file_that_does_not_take_its_words_is_refused(rt: HostRuntime) {
+    for refused in 0..3 {
         let mut file = written_file();
-        file.refuses_sync = refuses_sync;
-        file.refuses_read = !refuses_sync;
-        let mut words = Vec::new(rt.alloc());
-        assert!(&rt; words.is_empty());
+        file.refuses_read = refused == 0;
+        file.refuses_write = refused == 1;
+        file.refuses_sync = refused == 2;
         assert!(&rt;
-            matches!(
-                read_durable(file, 16, &mut words),
-                Err(StorageFault::Failed)
-            ),
-            "refuses to sync: {refuses_sync}"
+            matches!(started(rt.alloc(), file, 16), Err(StorageFault::Failed)),
+            "refuses {refused}"
         );
     }
 }
